@@ -1,0 +1,5 @@
+pub mod ProcSet
+pub mod OutOfMemory
+pub mod Number
+pub mod ListText
+pub mod Laws

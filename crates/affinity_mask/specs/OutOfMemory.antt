@@ -1,0 +1,6 @@
+-- Want of memory. What a reader must believe: there is one such answer, and it says nothing more.
+use Rattle.affinity_mask.specs.declared.out_of_memory.OutOfMemory.{OutOfMemory}
+
+-- the one value of the type
+abbrev pub out_of_memory : OutOfMemory
+out_of_memory = record {}

@@ -1,0 +1,166 @@
+-- Small histories, followed by hand: what they change, order and give computes to the values that a reader expects.
+use Rattle.std.proofs.Common.{◌≡◌, ℕ, List, [], ◌∷◌, map, length, Option, Some, None, refl}
+use Rattle.std.specs.List.{range_with_len}
+use Rattle.task_set.specs.TaskSet.{SetData, TaskData}
+use Rattle.task_set.specs.declared.context.Context.{Context}
+use Rattle.task_set.specs.declared.event.Event.{Event}
+use Rattle.task_set.specs.declared.event.Event.TheVariants.{Arrive, Depart, Tick}
+use Rattle.task_set.specs.declared.order.Order.{Order}
+use Rattle.task_set.specs.declared.order.Order.TheVariants.{Release, Take, Run, Stop}
+use Rattle.link_table.specs.declared.reply.Reply.{Reply}
+use Rattle.link_table.specs.declared.reply.Reply.TheVariants.{Placed, Displaced, Waits, Freed, Left, Ticked, AlreadyReady, NotReady}
+use Rattle.link_table.specs.declared.reply.Entry.{Entry}
+use Rattle.link_table.specs.State.{start_of}
+use Rattle.link_table.specs.History.{state_after}
+use Rattle.link_table.specs.Dispatch.{closed_orders_of, context_of}
+
+-- a task without a name, which plays no part here; a mask is written as the number whose ones are its processors
+abbrev pub task : ℕ → ℕ → TaskData
+task priority mask = record { name = []; priority = priority; mask = mask }
+
+abbrev pub entry : Event → Reply → Entry
+entry event reply = record { caller = 0; event = event; reply = reply }
+
+abbrev pub context : ℕ → ℕ → ℕ → ℕ → Option ℕ → ℕ → Context
+context t units stints moves last trail = record { task = t; units = units; stints = stints; moves = moves; last = last; trail = trail }
+
+-- what a history leads to: the links, the orders of each processor up to its stop, and the context of each task
+pub record Gives (set : SetData) (history : List Entry) (links : List (Option ℕ)) (orders : List (List Order)) (contexts : List Context) : Type 0 where
+  pub links_are : (state_after (start_of set) history).on ≡ links
+  pub orders_are : map (closed_orders_of (start_of set) history) (range_with_len 0 set.processors) ≡ orders
+  pub contexts_are : map (context_of (start_of set) history) (range_with_len 0 (length set.tasks)) ≡ contexts
+
+-- ---- the second task may run on processor 0 alone, so the first one moves on to 1
+abbrev pub first_shift_set : SetData
+first_shift_set = record { processors = 2; tasks = task 1 3 ∷ task 2 1 ∷ [] }
+
+abbrev pub first_shift : List Entry
+first_shift =
+    entry (Arrive 0) (Placed (0 ∷ []))
+    ∷ entry (Arrive 1) (Placed (0 ∷ 1 ∷ []))
+    ∷ []
+
+first_shift_gives : Gives first_shift_set first_shift
+    (Some 1 ∷ Some 0 ∷ [])
+    (
+    (Take 0 0 ∷ Release 0 ∷ Take 1 0 ∷ Release 1 ∷ Stop ∷ [])
+    ∷ (Take 0 1 ∷ Release 0 ∷ Stop ∷ [])
+    ∷ []
+    )
+    (context 0 0 2 1 (Some 1) 0 ∷ context 1 0 1 0 (Some 0) 1 ∷ [])
+first_shift_gives = record { links_are = refl; orders_are = refl; contexts_are = refl }
+
+-- ---- the least urgent task, at the end of a chain of three processors, has to go
+abbrev pub displaced_at_the_end_of_a_chain_set : SetData
+displaced_at_the_end_of_a_chain_set = record { processors = 3; tasks = task 2 3 ∷ task 3 6 ∷ task 9 4 ∷ task 1 1 ∷ [] }
+
+abbrev pub displaced_at_the_end_of_a_chain : List Entry
+displaced_at_the_end_of_a_chain =
+    entry (Arrive 0) (Placed (0 ∷ []))
+    ∷ entry (Arrive 1) (Placed (1 ∷ []))
+    ∷ entry (Arrive 2) (Placed (2 ∷ []))
+    ∷ entry (Arrive 3) (Displaced (0 ∷ 1 ∷ 2 ∷ []) 2 7)
+    ∷ entry (Tick 10) Ticked
+    ∷ []
+
+displaced_at_the_end_of_a_chain_gives : Gives displaced_at_the_end_of_a_chain_set displaced_at_the_end_of_a_chain
+    (Some 3 ∷ Some 0 ∷ Some 1 ∷ [])
+    (
+    (Take 0 0 ∷ Release 0 ∷ Take 3 0 ∷ Run 10 ∷ Release 3 ∷ Stop ∷ [])
+    ∷ (Take 1 0 ∷ Release 1 ∷ Take 0 1 ∷ Run 10 ∷ Release 0 ∷ Stop ∷ [])
+    ∷ (Take 2 0 ∷ Release 2 ∷ Take 1 1 ∷ Run 10 ∷ Release 1 ∷ Stop ∷ [])
+    ∷ []
+    )
+    (
+    context 0 10 2 1 (Some 1) 641
+    ∷ context 1 10 2 1 (Some 2) 6364136223846793647
+    ∷ context 2 0 1 0 (Some 2) 2
+    ∷ context 3 10 1 0 (Some 0) 645664597830828039
+    ∷ []
+    )
+displaced_at_the_end_of_a_chain_gives = record { links_are = refl; orders_are = refl; contexts_are = refl }
+
+-- ---- the last task may run on processor 0 alone, but reaches all three, which run more urgent tasks
+abbrev pub waits_with_a_reach_wider_than_its_mask_set : SetData
+waits_with_a_reach_wider_than_its_mask_set = record { processors = 3; tasks = task 2 3 ∷ task 3 6 ∷ task 4 4 ∷ task 9 1 ∷ [] }
+
+abbrev pub waits_with_a_reach_wider_than_its_mask : List Entry
+waits_with_a_reach_wider_than_its_mask =
+    entry (Arrive 0) (Placed (0 ∷ []))
+    ∷ entry (Arrive 1) (Placed (1 ∷ []))
+    ∷ entry (Arrive 2) (Placed (2 ∷ []))
+    ∷ entry (Arrive 3) (Waits 7)
+    ∷ []
+
+waits_with_a_reach_wider_than_its_mask_gives : Gives waits_with_a_reach_wider_than_its_mask_set waits_with_a_reach_wider_than_its_mask
+    (Some 0 ∷ Some 1 ∷ Some 2 ∷ [])
+    (
+    (Take 0 0 ∷ Release 0 ∷ Stop ∷ [])
+    ∷ (Take 1 0 ∷ Release 1 ∷ Stop ∷ [])
+    ∷ (Take 2 0 ∷ Release 2 ∷ Stop ∷ [])
+    ∷ []
+    )
+    (context 0 0 1 0 (Some 0) 0 ∷ context 1 0 1 0 (Some 1) 1 ∷ context 2 0 1 0 (Some 2) 2 ∷ context 3 0 0 0 None 3 ∷ [])
+waits_with_a_reach_wider_than_its_mask_gives = record { links_are = refl; orders_are = refl; contexts_are = refl }
+
+-- ---- processor 0 becomes free; of the two that wait, the more urgent one may run on 1 alone, and comes in through it
+abbrev pub enters_through_a_back_chain_set : SetData
+enters_through_a_back_chain_set = record { processors = 2; tasks = task 1 1 ∷ task 2 3 ∷ task 3 2 ∷ task 5 1 ∷ [] }
+
+abbrev pub enters_through_a_back_chain : List Entry
+enters_through_a_back_chain =
+    entry (Arrive 0) (Placed (0 ∷ []))
+    ∷ entry (Arrive 1) (Placed (1 ∷ []))
+    ∷ entry (Arrive 2) (Waits 3)
+    ∷ entry (Arrive 3) (Waits 1)
+    ∷ entry (Depart 0) (Freed (Some 2) (0 ∷ 1 ∷ []) 3)
+    ∷ []
+
+enters_through_a_back_chain_gives : Gives enters_through_a_back_chain_set enters_through_a_back_chain
+    (Some 1 ∷ Some 2 ∷ [])
+    (
+    (Take 0 0 ∷ Release 0 ∷ Take 1 1 ∷ Release 1 ∷ Stop ∷ [])
+    ∷ (Take 1 0 ∷ Release 1 ∷ Take 2 0 ∷ Release 2 ∷ Stop ∷ [])
+    ∷ []
+    )
+    (context 0 0 1 0 (Some 0) 0 ∷ context 1 0 2 1 (Some 0) 1 ∷ context 2 0 1 0 (Some 1) 2 ∷ context 3 0 0 0 None 3 ∷ [])
+enters_through_a_back_chain_gives = record { links_are = refl; orders_are = refl; contexts_are = refl }
+
+-- ---- an event that changes nothing stands in the history all the same
+abbrev pub refused_events_stand_in_the_history_set : SetData
+refused_events_stand_in_the_history_set = record { processors = 1; tasks = task 1 1 ∷ task 2 1 ∷ [] }
+
+abbrev pub refused_events_stand_in_the_history : List Entry
+refused_events_stand_in_the_history =
+    entry (Arrive 0) (Placed (0 ∷ []))
+    ∷ entry (Arrive 0) AlreadyReady
+    ∷ entry (Arrive 1) (Waits 1)
+    ∷ entry (Depart 1) Left
+    ∷ entry (Depart 1) NotReady
+    ∷ entry (Tick 3) Ticked
+    ∷ []
+
+refused_events_stand_in_the_history_gives : Gives refused_events_stand_in_the_history_set refused_events_stand_in_the_history
+    (Some 0 ∷ [])
+    ((Take 0 0 ∷ Run 3 ∷ Release 0 ∷ Stop ∷ []) ∷ [])
+    (context 0 3 1 0 (Some 0) 192 ∷ context 1 0 0 0 None 1 ∷ [])
+refused_events_stand_in_the_history_gives = record { links_are = refl; orders_are = refl; contexts_are = refl }
+
+-- ---- a task that comes back to its last processor is taken again and has not moved
+abbrev pub back_on_the_same_processor_set : SetData
+back_on_the_same_processor_set = record { processors = 1; tasks = task 1 1 ∷ [] }
+
+abbrev pub back_on_the_same_processor : List Entry
+back_on_the_same_processor =
+    entry (Arrive 0) (Placed (0 ∷ []))
+    ∷ entry (Tick 1) Ticked
+    ∷ entry (Depart 0) (Freed None (0 ∷ []) 1)
+    ∷ entry (Arrive 0) (Placed (0 ∷ []))
+    ∷ entry (Tick 2) Ticked
+    ∷ []
+
+back_on_the_same_processor_gives : Gives back_on_the_same_processor_set back_on_the_same_processor
+    (Some 0 ∷ [])
+    ((Take 0 0 ∷ Run 1 ∷ Release 0 ∷ Take 0 1 ∷ Run 2 ∷ Release 0 ∷ Stop ∷ []) ∷ [])
+    (context 0 3 2 0 (Some 0) 1476348704584616896 ∷ [])
+back_on_the_same_processor_gives = record { links_are = refl; orders_are = refl; contexts_are = refl }

@@ -1,0 +1,74 @@
+use Rattle.std.proofs.Common.{◌≡◌, ℕ, ◌+◌, take, take_all, get_or, ◌++◌, ◌∷◌, [], refl, ap, ◌∙◌, subst, arith}
+use Rattle.std.proofs.lemmas.List.{take_more}
+use Rattle.std.proofs.lemmas.Option.{get_or_from_slice_get}
+use Rattle.link_table.specs.State.{State, IsState}
+use Rattle.link_table.specs.Chain.{state_after_shift}
+use Rattle.link_table.specs.LinksView.{links_view}
+use Rattle.link_table.proofs.Simple.{Avoids-take}
+use Rattle.link_table.proofs.Shifts.{IsState-state_after_shift, chain_below, handed_on-end, handed_on-read, place_in_table, table_after-nothing, table_after-push}
+use Rattle.link_table.proofs.links.Links.shift.Goals as goal
+
+pub loop-i-init : goal.loop-i-init
+loop-i-init c =
+    let ok = rw c.self.view_is at c.self.invariant in
+    record {
+      table = ap (λ (s : State). s.on) c.self.view_is ∙ table_after-nothing c.args.self.now c.args.t ok.on_count;
+      guest = refl;
+      processors = ap (λ (s : State). s.processors) c.self.view_is;
+      priorities = ap (λ (s : State). s.priorities) c.self.view_is;
+      masks = ap (λ (s : State). s.masks) c.self.view_is;
+      online = ap (λ (s : State). s.online) c.self.view_is;
+      ready = ap (λ (s : State). s.ready) c.self.view_is;
+    }
+
+pub index-occupant-requires : goal.index-occupant-requires
+index-occupant-requires c =
+    let ok = rw c.self.view_is at c.self.invariant in
+    let in_table = place_in_table c.args.self.now ok c.args.t c.args.chain.now c.requires.chain.0 c.requires.chain.1 c.loop-i.i c.at-p.result _ (omega arith) c.at-p.ensures.value c.loop-i.invariant.table in
+    omega (arith, in_table, c.loop-i.self-inside.on.ok.0)
+
+pub index_mut-requires : goal.index_mut-requires
+index_mut-requires c =
+    let ok = rw c.self.view_is at c.self.invariant in
+    let in_table = place_in_table c.args.self.now ok c.args.t c.args.chain.now c.requires.chain.0 c.requires.chain.1 c.loop-i.i c.at-p.result _ (omega arith) c.at-p.ensures.value c.loop-i.invariant.table in
+    omega (arith, in_table, c.loop-i.self-inside.on.ok.0)
+
+pub loop-i-preserved : goal.loop-i-preserved
+loop-i-preserved c =
+    let i = c.loop-i.invariant in
+    let s = c.args.self.now in
+    let chain = c.args.chain.now in
+    let ok = rw c.self.view_is at c.self.invariant in
+    let here : get_or chain c.loop-i.i 0 ≡ c.at-p.result = get_or_from_slice_get chain c.loop-i.i c.at-p.result 0 c.at-p.ensures.value in
+    let more : take (c.loop-i.i + 1) chain ≡ take c.loop-i.i chain ++ c.at-p.result ∷ [] = take_more chain c.loop-i.i 0 (omega arith) ∙ ap (λ (x : ℕ). take c.loop-i.i chain ++ x ∷ []) here in
+    let fits = rw here at (chain_below s ok c.args.t chain c.requires.chain.0 c.requires.chain.1 c.loop-i.i (omega arith)) in
+    let simple = rw more at (Avoids-take chain (c.loop-i.i + 1) c.requires.simple) in
+    record {
+      table = rw (more, i.table, i.guest) (table_after-push s c.args.t (take c.loop-i.i chain) c.at-p.result simple fits);
+      guest = rw more (handed_on-read s c.args.t (take c.loop-i.i chain) c.at-p.result _ _ simple fits i.table c.index-occupant.ensures);
+      processors = i.processors;
+      priorities = i.priorities;
+      masks = i.masks;
+      online = i.online;
+      ready = i.ready;
+    }
+
+-- after the loop the columns are those of the state after the shift
+shifted_columns : (c : goal.After-loop-i) → state_after_shift c.args.self.now c.args.t c.args.chain.now ≡ links_view c.loop-i.self-inside
+shifted_columns c =
+    let i = c.loop-i.invariant in
+    let whole = take_all c.loop-i.i c.args.chain.now (omega arith) in
+    rw (i.processors, i.priorities, i.masks, i.online, i.ready, i.table, whole) refl
+
+pub invariant_of-self : goal.invariant_of-self
+invariant_of-self c =
+    let ok = rw c.self.view_is at c.self.invariant in
+    subst IsState (shifted_columns c) (IsState-state_after_shift c.args.self.now ok c.args.t c.args.chain.now c.requires.chain.0 c.requires.waits c.requires.chain.1 c.requires.simple)
+
+pub returns-clause-out : goal.returns-clause-out
+returns-clause-out c =
+    let whole = take_all c.loop-i.i c.args.chain.now (omega arith) in
+    c.loop-i.invariant.guest ∙ rw whole (handed_on-end c.args.self.now c.args.t c.args.chain.now c.requires.chain.0 c.requires.chain.1)
+
+pub returns-clause-valid : goal.returns-clause-valid
+returns-clause-valid c = invariant_of-self c

@@ -1,0 +1,92 @@
+-- What the scheduler does at an event. What a reader must believe: an arriving task is shifted along its least chain to
+-- an idle processor, else along its least chain to the least urgent task that it reaches where that one is less urgent,
+-- else it waits; when a task leaves a processor, the most urgent waiting task that can be shifted there comes in, along
+-- its least back chain. The reply says which case it was. Each relation goes by cases on the reply.
+use Rattle.std.specs.Prelude.{◌≡◌, ℕ, ◌<◌, ◌≤◌, true, false, List, [], ◌∷◌, reverse, IsTrue, Option, Some, None}
+use Rattle.affinity_mask.specs.ProcSet.{has}
+use Rattle.task_set.specs.declared.event.Event.{Event}
+use Rattle.task_set.specs.declared.event.Event.TheVariants.{Arrive, Depart, Tick}
+use Rattle.link_table.specs.declared.reply.Reply.{Reply}
+use Rattle.link_table.specs.declared.reply.Reply.TheVariants.{Placed, Displaced, Waits, Freed, Left, Ticked, AlreadyReady, NotReady}
+use Rattle.link_table.specs.State.{State, task_on, task_count, is_ready, priority_of, IsWaiting, IsMoreUrgent, state_with_ready, state_with_absent, state_after_leaving}
+use Rattle.link_table.specs.Chain.{IsReach, IsBackReach, IsLeastSuch, EndsIdle, EndsOnTask, EntersBy, CanEnterAt, Shifted}
+
+-- each processor of the set is occupied
+abbrev pub IsOccupied : State → ℕ → Type 0
+IsOccupied s set = (p : ℕ) → IsTrue (has set p) → (u : ℕ) × (task_on s p ≡ Some u)
+
+-- d is the least urgent occupant of the set
+pub record IsLeastUrgentOn (s : State) (set d : ℕ) : Type 0 where
+  pub there : (p : ℕ) × IsTrue (has set p) × (task_on s p ≡ Some d)
+  pub least_urgent : (p u : ℕ) → IsTrue (has set p) → task_on s p ≡ Some u → priority_of s u ≤ priority_of s d
+
+-- t arrives and reaches an idle processor: it is shifted along the least of all its chains to idle processors
+pub record ArrivePlaced (s : State) (t : ℕ) (chain : List ℕ) (new : State) : Type 0 where
+  pub absent : is_ready s t ≡ false
+  pub least : IsLeastSuch (EndsIdle s t) chain
+  pub shifted : Shifted (state_with_ready s t) t chain new
+
+-- t arrives and reaches no idle processor, but less urgent tasks: it is shifted along its least chain to the least
+-- urgent of them, which waits then
+pub record ArriveDisplaced (s : State) (t : ℕ) (chain : List ℕ) (out reach : ℕ) (new : State) : Type 0 where
+  pub absent : is_ready s t ≡ false
+  pub reached : IsReach s t reach
+  pub occupied : IsOccupied s reach
+  pub out_there : IsLeastUrgentOn s reach out
+  pub out_less_urgent : IsMoreUrgent s t out
+  pub least : IsLeastSuch (EndsOnTask s t out) chain
+  pub shifted : Shifted (state_with_ready s t) t chain new
+
+-- t arrives and reaches more urgent tasks alone: it waits
+pub record ArriveWaits (s : State) (t reach : ℕ) (new : State) : Type 0 where
+  pub absent : is_ready s t ≡ false
+  pub reached : IsReach s t reach
+  pub more_urgent : (p : ℕ) → IsTrue (has reach p) → (u : ℕ) × (task_on s p ≡ Some u) × IsMoreUrgent s u t
+  pub waits : new ≡ state_with_ready s t
+
+-- t arrives, with this reply
+abbrev pub ArriveStep : State → ℕ → Reply → State → Type 0
+ArriveStep s t AlreadyReady new = (is_ready s t ≡ true) × (new ≡ s)
+ArriveStep s t (Placed chain) new = ArrivePlaced s t chain new
+ArriveStep s t (Displaced chain out reach) new = ArriveDisplaced s t chain out reach new
+ArriveStep s t (Waits reach) new = ArriveWaits s t reach new
+ArriveStep s t (Freed entered chain back) new = ⊥
+ArriveStep s t Left new = ⊥
+ArriveStep s t Ticked new = ⊥
+ArriveStep s t NotReady new = ⊥
+
+-- w is the most urgent waiting task that can enter at a processor of the set
+pub record IsMostUrgentInto (s : State) (back w : ℕ) : Type 0 where
+  pub waits : IsWaiting s w
+  pub there : (p : ℕ) × IsTrue (has back p) × CanEnterAt s w p
+  pub most_urgent : (v p : ℕ) → IsWaiting s v → IsTrue (has back p) → CanEnterAt s v p → priority_of s w ≤ priority_of s v
+
+-- who comes in, where p has become idle in the state s: the most urgent waiting task that can, along its least back
+-- chain, or nobody, and then the chain is p alone
+abbrev pub EnterStep : State → ℕ → Option ℕ → List ℕ → ℕ → State → Type 0
+EnterStep s p None chain back new = ((v q : ℕ) → IsWaiting s v → IsTrue (has back q) → CanEnterAt s v q → ⊥) × (chain ≡ p ∷ []) × (new ≡ s)
+EnterStep s p (Some w) chain back new = IsMostUrgentInto s back w × IsLeastSuch (EntersBy s p w) chain × Shifted s w (reverse chain) new
+
+-- t departs from a processor
+pub record DepartFreed (s : State) (t : ℕ) (entered : Option ℕ) (chain : List ℕ) (back : ℕ) (new : State) : Type 0 where
+  pub place : ℕ
+  pub linked : task_on s place ≡ Some t
+  pub reached : IsBackReach (state_after_leaving s t) place back
+  pub enters : EnterStep (state_after_leaving s t) place entered chain back new
+
+-- t departs, with this reply
+abbrev pub DepartStep : State → ℕ → Reply → State → Type 0
+DepartStep s t NotReady new = (is_ready s t ≡ false) × (new ≡ s)
+DepartStep s t Left new = IsWaiting s t × (new ≡ state_with_absent s t)
+DepartStep s t (Freed entered chain back) new = DepartFreed s t entered chain back new
+DepartStep s t (Placed chain) new = ⊥
+DepartStep s t (Displaced chain out reach) new = ⊥
+DepartStep s t (Waits reach) new = ⊥
+DepartStep s t Ticked new = ⊥
+DepartStep s t AlreadyReady new = ⊥
+
+-- the scheduler's step at an event of one of the tasks; a tick changes nothing
+abbrev pub SchedulerStep : State → Event → Reply → State → Type 0
+SchedulerStep s (Arrive t) reply new = (t < task_count s) × ArriveStep s t reply new
+SchedulerStep s (Depart t) reply new = (t < task_count s) × DepartStep s t reply new
+SchedulerStep s (Tick units) reply new = (reply ≡ Ticked) × (new ≡ s)

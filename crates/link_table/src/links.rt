@@ -1,0 +1,180 @@
+//! The table of links.
+ghost use Rattle.std.specs.Prelude.{◌≡◌, ℕ, ◌<◌, ◌≤◌, ◌↔◌, IsTrue, IsNone, IfOk, IfSome, is_some, Some, true, false};
+ghost use Rattle.affinity_mask.specs.ProcSet.{has};
+
+use crate::chain::Chain;
+use affinity_mask::{OutOfMemory, ProcSet};
+use std::alloc::Global;
+use std::marker::Model;
+use task_set::TaskSet;
+
+/// What is known of each task of a set, which tasks are ready, and which task is linked to which processor.
+/// The number of a task is its number in the set.
+#[derive(Drop)]
+pub struct Links {
+    processors: u8,
+    priorities: Vec<u32>,
+    masks: Vec<ProcSet>,
+    online: ProcSet,
+    ready: Vec<bool>,
+    on: Vec<Option<u32>>,
+}
+
+impl Model for Links {
+    ghost use Rattle.link_table.specs.State.{State};
+
+    ghost Value = { State };
+
+    ghost use Rattle.link_table.specs.LinksView.{links_view, IsStored};
+
+    ghost view = { links_view };
+
+    ghost invariant = { IsStored };
+}
+
+impl Links {
+    ghost use Rattle.link_table.specs.State.{State, IsState, task_count, priority_of, mask_of, is_ready, is_linked, task_on, IsWaiting, start_of, state_with_ready};
+    ghost use Rattle.link_table.specs.Chain.{IsChainOf, IsSimple, Shifted, task_put_out};
+
+    /// Every task of the set is absent, and every processor is idle.
+    pub fn new(alloc: Global, set: &TaskSet) -> Result<Links, OutOfMemory>
+        ensures { IfOk result (λ links. links ≡ start_of set.now) }
+    {
+        let processors = set.processors();
+        let mut priorities = Vec::new(alloc);
+        let mut masks = Vec::new(alloc);
+        let mut ready = Vec::new(alloc);
+        for t in 0..set.len() {
+            priorities.push(set.priority(t))?;
+            masks.push(set.mask(t))?;
+            ready.push(false)?;
+        }
+        let mut on = Vec::new(alloc);
+        for _p in 0..processors {
+            on.push(None)?;
+        }
+        Ok(Links {
+            processors,
+            priorities,
+            masks,
+            online: ProcSet::first(processors),
+            ready,
+            on,
+        })
+    }
+
+    /// How many processors there are, on line or not.
+    pub fn processors(&self) -> u8
+        ensures value { result ≡ self.now.processors }
+        ensures valid { IsState self.now }
+    {
+        self.processors
+    }
+
+    /// How many tasks there are, ready or not.
+    pub fn len(&self) -> u32
+        ensures value { result ≡ task_count self.now }
+        ensures valid { IsState self.now }
+    {
+        self.priorities.len() as u32
+    }
+
+    /// Whether the set has no tasks.
+    pub fn is_empty(&self) -> bool
+        ensures { IsTrue result ↔ (task_count self.now ≡ 0) }
+    {
+        self.priorities.is_empty()
+    }
+
+    /// The priority of a task. The lower number is more urgent.
+    pub fn priority(&self, t: u32) -> u32
+        requires { t < task_count self.now }
+        ensures { result ≡ priority_of self.now t }
+    {
+        self.priorities[t as usize]
+    }
+
+    /// The affinity mask of a task.
+    pub fn mask(&self, t: u32) -> ProcSet
+        requires { t < task_count self.now }
+        ensures { result ≡ mask_of self.now t }
+    {
+        self.masks[t as usize]
+    }
+
+    /// Whether a task is ready, linked or waiting. It is absent otherwise.
+    pub fn is_ready(&self, t: u32) -> bool
+        requires { t < task_count self.now }
+        ensures value { result ≡ is_ready self.now t }
+        ensures valid { IsState self.now }
+    {
+        self.ready[t as usize]
+    }
+
+    /// The task that is linked to a processor.
+    pub fn on(&self, p: u8) -> Option<u32>
+        requires { p < self.now.processors }
+        ensures value { result ≡ task_on self.now p }
+        ensures valid { IsState self.now }
+    {
+        self.on[p as usize]
+    }
+
+    /// The processor that a task is linked to.
+    pub fn of(&self, t: u32) -> Option<u8>
+        requires { t < task_count self.now }
+        ensures place { IfSome result (λ p. task_on self.now p ≡ Some t) }
+        ensures none { IsNone result ↔ (is_linked self.now t ≡ false) }
+    {
+        for p in 0..self.processors {
+            if self.on[p as usize] == Some(t) {
+                return Some(p);
+            }
+        }
+        None
+    }
+
+    /// The occupied processors.
+    pub fn linked(&self) -> ProcSet
+        ensures { (p : ℕ) → has result p ≡ is_some (task_on self.now p) }
+    {
+        let mut occupied = ProcSet::empty();
+        for p in 0..self.processors {
+            if self.on[p as usize].is_some() {
+                occupied = occupied.with(p);
+            }
+        }
+        occupied
+    }
+
+    /// An absent task becomes ready, and waits.
+    pub fn make_ready(&mut self, t: u32)
+        requires number { t < task_count self.old }
+        requires absent { is_ready self.old t ≡ false }
+        ensures ready { self.new ≡ state_with_ready self.old t }
+        ensures waits { IsWaiting self.new t }
+        ensures valid { IsState self.new }
+    {
+        self.ready[t as usize] = true;
+    }
+
+    /// Shifts a waiting task along one of its chains, and answers the task that this puts out, which waits then.
+    pub fn shift(&mut self, t: u32, chain: &Chain) -> Option<u32>
+        requires number { t < task_count self.old }
+        requires waits { IsWaiting self.old t }
+        requires chain { (q : ℕ) × IsChainOf self.old t chain.now q }
+        requires simple { IsSimple chain.now }
+        ensures links { Shifted self.old t chain.now self.new }
+        ensures out { result ≡ task_put_out self.old chain.now }
+        ensures valid { IsState self.new }
+    {
+        let mut guest = Some(t);
+        for i in 0..chain.len() {
+            let p = chain.at(i) as usize;
+            let occupant = self.on[p];
+            self.on[p] = guest;
+            guest = occupant;
+        }
+        guest
+    }
+}

@@ -1,0 +1,95 @@
+//! What the scheduler answers, and what a history keeps.
+ghost use Rattle.std.specs.Prelude.{◌≡◌};
+
+use crate::chain::Chain;
+use affinity_mask::ProcSet;
+use task_set::Event;
+
+/// What the scheduler did at an event.
+#[derive(Debug, Drop, PartialEq)]
+pub enum Reply {
+    /// The task that arrived was shifted along this chain, which ends on a processor that was idle.
+    Placed {
+        chain: Chain,
+    },
+    /// The task that arrived was shifted along this chain, and the task `out`, which was on its last processor, waits.
+    /// `reach` has the processors that the arriving task reached before the shift.
+    Displaced {
+        chain: Chain,
+        out: u32,
+        reach: ProcSet,
+    },
+    /// The task that arrived waits: the processors that it reaches, `reach`, all run more urgent tasks.
+    Waits {
+        reach: ProcSet,
+    },
+    /// The task that departed was linked to the first processor of the chain. Along the chain, from its last
+    /// processor to its first, the waiting task `entered` was shifted, if there was one. `back` has the processors
+    /// from which a chain of shifts led to the freed processor.
+    Freed {
+        entered: Option<u32>,
+        chain: Chain,
+        back: ProcSet,
+    },
+    /// The task that departed had waited.
+    Left,
+    /// Each linked task ran on its processor.
+    Ticked,
+    /// The task that arrived was ready before, and nothing changed.
+    AlreadyReady,
+    /// The task that departed was absent before, and nothing changed.
+    NotReady,
+}
+
+impl Reply {
+    /// An equal reply, for which no memory is taken.
+    pub fn copy(&self) -> Reply
+        ensures { result ≡ self.now }
+    {
+        match self {
+            Reply::Placed { chain } => Reply::Placed {
+                chain: chain.copy(),
+            },
+            Reply::Displaced { chain, out, reach } => Reply::Displaced {
+                chain: chain.copy(),
+                out: *out,
+                reach: *reach,
+            },
+            Reply::Waits { reach } => Reply::Waits { reach: *reach },
+            Reply::Freed {
+                entered,
+                chain,
+                back,
+            } => Reply::Freed {
+                entered: *entered,
+                chain: chain.copy(),
+                back: *back,
+            },
+            Reply::Left => Reply::Left,
+            Reply::Ticked => Reply::Ticked,
+            Reply::AlreadyReady => Reply::AlreadyReady,
+            Reply::NotReady => Reply::NotReady,
+        }
+    }
+}
+
+/// One event of a history: who posted it, what happened, and what the scheduler did.
+#[derive(Debug, Drop, PartialEq)]
+pub struct Entry {
+    pub caller: u32,
+    pub event: Event,
+    pub reply: Reply,
+}
+
+impl Entry {
+    /// An equal entry, for which no memory is taken.
+    pub fn copy(&self) -> Entry
+        ensures { result ≡ self.now }
+    {
+        Entry {
+            caller: self.caller,
+            event: self.event,
+            reply: self.reply.copy(),
+        }
+    }
+}

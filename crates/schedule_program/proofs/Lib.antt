@@ -1,0 +1,7 @@
+mod Fields
+mod Lines
+mod OneArrival
+mod Singles
+mod TaskColumns
+mod Written
+mod Words

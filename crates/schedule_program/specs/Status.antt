@@ -1,0 +1,38 @@
+-- The answers of the program, as numbers and as lines.
+use Rattle.std.specs.Prelude.{ℕ, List, [], ◌++◌, codes}
+use Rattle.affinity_mask.specs.Number.{canonical_number}
+use Rattle.schedule_program.specs.declared.status.Status.{Status}
+use Rattle.schedule_program.specs.declared.status.Status.TheVariants.{Done, Invalid, Usage, Input, TooLong, ReadFault, WriteFault, OutOfMemory}
+
+-- the exit status that tells an answer
+abbrev pub exit_status_of : Status → ℕ
+exit_status_of Done = 0
+exit_status_of (Invalid line defect) = 1
+exit_status_of Usage = 2
+exit_status_of (Input line kind) = 3
+exit_status_of TooLong = 3
+exit_status_of ReadFault = 4
+exit_status_of WriteFault = 5
+exit_status_of OutOfMemory = 6
+
+-- the line that tells an answer, without its line feed
+abbrev pub status_text : Status → List ℕ
+status_text Done = []
+status_text (Invalid line defect) = codes "invalid: line " ++ canonical_number line ++ codes ", defect " ++ canonical_number defect
+status_text Usage = codes "usage: run, check, make n p t e, large n p t e"
+status_text (Input line kind) = codes "input: line " ++ canonical_number line ++ codes ", kind " ++ canonical_number kind
+status_text TooLong = codes "input: more than 16777216 bytes"
+status_text ReadFault = codes "read fault"
+status_text WriteFault = codes "write fault"
+status_text OutOfMemory = codes "out of memory"
+
+-- P holds at each answer that comes before anything is put
+abbrev pub BeforePut : Status → Type 0 → Type 0
+BeforePut Done P = Unit {0}
+BeforePut WriteFault P = Unit {0}
+BeforePut (Invalid line defect) P = P
+BeforePut Usage P = P
+BeforePut (Input line kind) P = P
+BeforePut TooLong P = P
+BeforePut ReadFault P = P
+BeforePut OutOfMemory P = P

@@ -1,0 +1,42 @@
+//! The strong APA scheduler as a program: from the bytes read to the schedule text.
+#![tactic(auto)]
+
+mod arrivals;
+mod first_text;
+mod posted;
+mod reader;
+mod run;
+mod schedule_text;
+mod status;
+#[cfg(test)]
+mod tests;
+
+use run::run;
+use shift_io::{StdSink, StdSource};
+use status::{Status, exit_status};
+use std::process::ExitCode;
+use std::rt::Env;
+use std::{env, io};
+
+fn main(rt: HostRuntime) -> ExitCode {
+    let status = match words_of(&rt) {
+        Ok(words) => {
+            let mut source = StdSource::new(rt.reader());
+            let mut sink = StdSink::new(io::writer(&rt));
+            run(rt.alloc(), &words, &mut source, &mut sink)
+        }
+        Err(error) if error.kind() == io::ErrorKind::OutOfMemory => Status::OutOfMemory,
+        Err(_) => Status::Usage,
+    };
+    if status != Status::Done {
+        // Where standard error is closed, the exit status alone tells.
+        let _ = eprintln!(rt; "{status}");
+    }
+    ExitCode::from(exit_status(&status))
+}
+
+/// The words of the command line, without the program's own name. Words that are no text are an error as a whole.
+fn words_of<R: Env + AllocGlobal>(rt: &R) -> io::Result<Vec<String>> {
+    let words = env::args(rt)?.skip(1).collect(rt.alloc())?;
+    Ok(words)
+}

@@ -1,0 +1,61 @@
+//! The answers of the program.
+ghost use Rattle.schedule_program.specs.Status.{exit_status_of, status_text};
+ghost use Rattle.std.specs.Prelude.{◌≡◌, Some};
+
+use std::fmt;
+
+/// What became of a call of the program.
+#[derive(Clone, Copy, Debug, PartialEq, Eq)]
+pub enum Status {
+    /// The text of the answer was put whole.
+    Done,
+    /// The schedule that was checked is wrong: its first line with a defect, from 1, and the defect's number.
+    Invalid { line: u64, defect: u8 },
+    /// The words are no command.
+    Usage,
+    /// The input is refused: its first faulty line, from 1, and the fault's number. Both are 0 where it is not served yet.
+    Input { line: u64, kind: u8 },
+    /// There are more bytes than the program reads.
+    TooLong,
+    /// The source failed.
+    ReadFault,
+    /// The sink failed.
+    WriteFault,
+    /// There was no memory.
+    OutOfMemory,
+}
+
+/// The line that tells a status, without its line feed. There is none for `Done`.
+impl fmt::Display for Status {
+    ghost use Rattle.schedule_program.specs.Status.{status_text};
+
+    ghost output = { λ status. Some (status_text status) };
+
+    fn fmt<W: fmt::Write>(&self, f: &mut fmt::Formatter<W>) -> fmt::Result {
+        match *self {
+            Status::Done => Ok(()),
+            Status::Invalid { line, defect } => write!(f, "invalid: line {line}, defect {defect}"),
+            Status::Usage => write!(f, "usage: run, check, make n p t e, large n p t e"),
+            Status::Input { line, kind } => write!(f, "input: line {line}, kind {kind}"),
+            Status::TooLong => write!(f, "input: more than 16777216 bytes"),
+            Status::ReadFault => write!(f, "read fault"),
+            Status::WriteFault => write!(f, "write fault"),
+            Status::OutOfMemory => write!(f, "out of memory"),
+        }
+    }
+}
+
+/// The exit status of the process.
+pub fn exit_status(status: &Status) -> u8
+    ensures { result ≡ exit_status_of status.now }
+{
+    match status {
+        Status::Done => 0,
+        Status::Invalid { .. } => 1,
+        Status::Usage => 2,
+        Status::Input { .. } | Status::TooLong => 3,
+        Status::ReadFault => 4,
+        Status::WriteFault => 5,
+        Status::OutOfMemory => 6,
+    }
+}

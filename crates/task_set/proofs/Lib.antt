@@ -1,0 +1,9 @@
+mod Entries
+mod Lists
+mod Rows
+mod Outside
+pub mod Added
+pub mod Refusals
+pub mod Obeyable
+pub mod Stints
+pub mod Carried

@@ -1,0 +1,7 @@
+pub mod Name
+pub mod TaskSet
+pub mod Refusal
+pub mod SetView
+pub mod Orders
+pub mod Context
+pub mod Laws

@@ -1,0 +1,18 @@
+-- What contracts see of the fields of a set of tasks: each entry of the map is a task.
+use Rattle.std.specs.Prelude.{map, String, string_bytes}
+use Rattle.std.specs.declared.alloc.Global.{Global}
+use Rattle.task_set.specs.TaskSet.{TaskData, SetData, IsTaskSet}
+use Rattle.task_set.specs.declared.set.TaskSet.TheInside.{Inside}
+use Rattle.task_set.specs.declared.set.Details.{Details}
+
+-- the task of an entry
+abbrev pub task_of : String Global × Details → TaskData
+task_of entry = record { name = string_bytes entry.0; priority = entry.1.priority; mask = entry.1.mask }
+
+-- the tasks in the order of the map
+abbrev pub set_view : Inside → SetData
+set_view s = record { processors = s.processors; tasks = map task_of s.tasks.entries }
+
+-- the invariant of the fields
+abbrev pub IsStored : Inside → Type 0
+IsStored s = IsTaskSet (set_view s)
