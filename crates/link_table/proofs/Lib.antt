@@ -2,6 +2,7 @@ pub mod BestOnce
 pub mod Contexts
 pub mod Ends
 pub mod Histories
+pub mod Idling
 pub mod Least
 pub mod Leaving
 pub mod Linked

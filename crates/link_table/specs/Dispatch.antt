@@ -88,11 +88,15 @@ change_count xs = count_by (λ pair. not (pair.0 == pair.1)) (zip xs (drop 1 xs)
 abbrev pub last_of : List ℕ → Option ℕ
 last_of xs = slice_get xs (length xs - 1)
 
--- a trail after runs: each of them multiplies it, and adds its units and its processor
-abbrev pub trail_after : ℕ → List (ℕ × ℕ) → ℕ
-trail_after trail runs = fold (λ trail run. (trail * 6364136223846793005 + 64 * run.1 + run.0) % 2 ^ 64) trail runs
+-- the multiplier of Knuth's MMIX generator, by which a trail depends on the order of the runs
+abbrev pub trail_multiplier : ℕ
+trail_multiplier = 6364136223846793005
 
--- the context that runs and takes give a task
+-- a trail after runs: each of them multiplies it, and adds its units and its processor, modulo 2^64
+abbrev pub trail_after : ℕ → List (ℕ × ℕ) → ℕ
+trail_after trail runs = fold (λ trail run. (trail * trail_multiplier + 64 * run.1 + run.0) % 2 ^ 64) trail runs
+
+-- the context that runs and takes give a task: counts modulo 2^64, and a move where a take is on another processor
 abbrev pub context_from : ℕ → List (ℕ × ℕ) → List ℕ → Context
 context_from t runs taken = record {
   task = t;

@@ -94,6 +94,10 @@ state_with_ready s t = record s { ready = set s.ready t true }
 abbrev pub state_with_absent : State → ℕ → State
 state_with_absent s t = record s { ready = set s.ready t false }
 
+-- no task is linked to p, and all else stays
+abbrev pub state_with_idle : State → ℕ → State
+state_with_idle s p = record s { on = set s.on p None }
+
 -- the occupant, where it is not t
 abbrev pub occupant_but : ℕ → Option ℕ → Option ℕ
 occupant_but t occupant = if is_task t occupant then None else occupant

@@ -33,10 +33,10 @@ impl Model for Links {
 }
 
 impl Links {
-    ghost use Rattle.link_table.specs.State.{State, IsState, task_count, priority_of, mask_of, is_ready, is_linked, task_on, IsWaiting, start_of, state_with_ready};
+    ghost use Rattle.link_table.specs.State.{State, IsState, task_count, priority_of, mask_of, is_ready, is_linked, task_on, IsWaiting, start_of, state_with_ready, state_with_absent, state_with_idle};
     ghost use Rattle.link_table.specs.Chain.{IsChainOf, IsSimple, Shifted, task_put_out};
 
-    /// Every task of the set is absent, and every processor is idle.
+    /// Every task of the set is absent, and every processor is idle. Refused only for want of memory.
     pub fn new(alloc: Global, set: &TaskSet) -> Result<Links, OutOfMemory>
         ensures { IfOk result (λ links. links ≡ start_of set.now) }
     {
@@ -176,5 +176,31 @@ impl Links {
             guest = occupant;
         }
         guest
+    }
+
+    /// A waiting task becomes absent. All else stays.
+    pub fn make_absent(&mut self, t: u32)
+        requires number { t < task_count self.old }
+        requires waits { IsWaiting self.old t }
+        ensures absent { self.new ≡ state_with_absent self.old t }
+        ensures valid { IsState self.new }
+    {
+        self.ready[t as usize] = false;
+    }
+
+    /// Unlinks the task of an occupied processor, and answers it. The task waits then, and the processor is idle.
+    pub fn unlink(&mut self, p: u8) -> u32
+        requires processor { p < self.old.processors }
+        requires occupied { (t : ℕ) × (task_on self.old p ≡ Some t) }
+        ensures task { task_on self.old p ≡ Some result }
+        ensures idle { self.new ≡ state_with_idle self.old p }
+        ensures waits { IsWaiting self.new result }
+        ensures valid { IsState self.new }
+    {
+        let Some(t) = self.on[p as usize] else {
+            unreachable!()
+        };
+        self.on[p as usize] = None;
+        t
     }
 }

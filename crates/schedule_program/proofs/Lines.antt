@@ -3,7 +3,7 @@ use Rattle.std.proofs.Common.{◌≡◌, ℕ, ◌<◌, ◌≤◌, List, [], ◌�
 use Rattle.std.specs.Prelude.{codes}
 use Rattle.std.specs.List.{flat_map}
 use Rattle.std.proofs.lemmas.List.{flat_map_more, length-map}
-use Rattle.std.proofs.lemmas.List.Elements.{All-push}
+use Rattle.std.proofs.lemmas.List.Elements.{All-push, All-weaker}
 use Rattle.std.proofs.lemmas.Option.{slice_get_within}
 use Rattle.std.proofs.lemmas.Fmt.{decimal_digit}
 use Rattle.affinity_mask.specs.ProcSet.{has}
@@ -17,7 +17,7 @@ use Rattle.schedule_program.specs.declared.posted.Posted.{Posted}
 use Rattle.schedule_program.specs.EventText.{line, processors_line, name_of, event_text, task_line}
 use Rattle.schedule_program.specs.InputText.{event_line, canonical_input_text}
 use Rattle.schedule_program.specs.FirstText.{IsSingle, IsFirstEvent, IsFirstText}
-use Rattle.schedule_program.specs.Reading.{ReadsHead, ReadsTask, ReadsTasks, ReadsEvents}
+use Rattle.schedule_program.specs.Reading.{ReadsHead, IsServedTask, ReadsTask, ReadsTasks, ReadsEvents}
 use Rattle.schedule_program.proofs.TaskColumns.{name_of-get}
 
 -- what is left behind a line is shorter
@@ -42,7 +42,7 @@ tasks_more start mid new first before after done more =
     let joined : flat_map task_line before.tasks ++ (task_line more.task ++ new) ≡ flat_map task_line (before.tasks ++ more.task ∷ []) ++ new = sym (append_assoc (flat_map task_line before.tasks) (task_line more.task) new) ∙ ap (λ (ys : List ℕ). ys ++ new) (flat_map_more task_line [] before.tasks more.task) in
     record {
       text = done.text ∙ ap (λ (ys : List ℕ). flat_map task_line before.tasks ++ ys) more.text ∙ rw more.added joined;
-      single = rw more.added (All-push (λ (task : TaskData). IsSingle task.mask) before.tasks more.task done.single more.single);
+      served = rw more.added (All-push IsServedTask before.tasks more.task done.served more.served);
       processors = rw more.added done.processors;
     }
 
@@ -81,10 +81,11 @@ whole_text bytes r1 r2 r3 r4 first set events lawful head tasks lines end nothin
     let joined : r1 ≡ flat_map task_line set.tasks ++ (flat_map (event_line set) events ++ line (codes "end")) = rw (tasks.text, lines.text, end, nothing) refl in
     let same : line (codes "apa 1") ++ processors_line first ≡ line (codes "apa 1") ++ processors_line set = rw tasks.processors refl in
     record {
-      text = head.1 ∙ ap (λ (ys : List ℕ). line (codes "apa 1") ++ processors_line first ++ ys) joined
+      text = head.text ∙ ap (λ (ys : List ℕ). line (codes "apa 1") ++ processors_line first ++ ys) joined
           ∙ ap (λ (front : List ℕ). front ++ (flat_map task_line set.tasks ++ (flat_map (event_line set) events ++ line (codes "end")))) same ∙ (text_pieces (line (codes "apa 1") ++ processors_line set) (flat_map task_line set.tasks) (flat_map (event_line set) events) (line (codes "end")));
       lawful = lawful;
-      single = tasks.single;
+      priorities = λ k d within. (tasks.served k d within).priority;
+      single = All-weaker IsServedTask (λ (task : TaskData). IsSingle task.mask) (λ task served. served.single) set.tasks tasks.served;
       arrivals = lines.arrivals;
       few = lines.few;
     }

@@ -2,7 +2,9 @@ pub mod EventText
 pub mod InputText
 pub mod FirstText
 pub mod ScheduleText
+pub mod Pinned
 pub mod Reading
 pub mod Served
 pub mod Status
+pub mod Merge
 pub mod Run

@@ -1,13 +1,18 @@
 -- What a run of the program did. What a reader must believe: the bytes read are the text of one input that is served,
--- and the bytes put are the schedule text of a history with an entry for each of its events, in their order.
-use Rattle.std.specs.Prelude.{◌≡◌, ℕ, ◌≤◌, List, [], ◌∷◌, length, codes, Option}
+-- and the bytes put are the schedule text of one history, which is a legal merge of its events, keeps the best set
+-- linked after every entry, and gives the contexts that are printed.
+use Rattle.std.specs.Prelude.{◌≡◌, ℕ, ◌≤◌, List, [], ◌∷◌, length, map, codes, Option, Some}
+use Rattle.std.specs.List.{range_with_len}
 use Rattle.shift_io.specs.Stream.{TakesAll}
 use Rattle.task_set.specs.TaskSet.{SetData}
 use Rattle.task_set.specs.declared.context.Context.{Context}
 use Rattle.link_table.specs.declared.reply.Entry.{Entry}
+use Rattle.link_table.specs.State.{start_of}
+use Rattle.link_table.specs.History.{IsLegal, IsBestThroughout}
+use Rattle.link_table.specs.Dispatch.{context_of}
 use Rattle.schedule_program.specs.declared.posted.Posted.{Posted}
-use Rattle.schedule_program.specs.FirstText.{IsFirstText}
-use Rattle.schedule_program.specs.Served.{Schedules}
+use Rattle.schedule_program.specs.FirstText.{IsFirstText, IsNoInput}
+use Rattle.schedule_program.specs.Merge.{IsMerge}
 use Rattle.schedule_program.specs.ScheduleText.{schedule_text}
 
 -- the most bytes that are read
@@ -18,19 +23,35 @@ byte_limit = 16777216
 abbrev pub IsCommand : List (List ℕ) → Type 0
 IsCommand words = words ≡ codes "run" ∷ []
 
--- from the bytes read to the schedule text
-pub record Replays (read text : List ℕ) : Type 0 where
+-- the headline: from the bytes read to the bytes put, by one history
+pub record Replays (read put : List ℕ) : Type 0 where
   pub set : SetData
   pub events : List Posted
-  pub entries : List Entry
-  pub contexts : List Context
+  pub history : List Entry
+  pub printed : List Context
   pub input : IsFirstText read set events
-  pub schedule : Schedules set events entries contexts
-  pub whole : text ≡ schedule_text set entries contexts
+  pub text : put ≡ schedule_text set history printed
+  pub merge : IsMerge events history
+  pub legal : IsLegal set history
+  pub best : IsBestThroughout set history
+  pub contexts : printed ≡ map (context_of (start_of set) history) (range_with_len 0 (length set.tasks))
 
 -- all that was left of a source was read, and this is the text of its schedule
-pub record ReadsAndReplays (old new : Option (List ℕ)) (text : List ℕ) : Type 0 where
+pub record ReadsAndReplays (old new : Option (List ℕ)) (put : List ℕ) : Type 0 where
   pub read : List ℕ
   pub all : TakesAll old new read
   pub within : length read ≤ byte_limit
-  pub replayed : Replays read text
+  pub replayed : Replays read put
+
+-- all that was left of a source was read, and it is the text of no input that is served
+pub record ReadsNoInput (old new : Option (List ℕ)) : Type 0 where
+  pub read : List ℕ
+  pub all : TakesAll old new read
+  pub within : length read ≤ byte_limit
+  pub refused : IsNoInput read
+
+-- the words are the command, and the source tells what it has left, which is no more than is read
+pub record IsToRead (words : List (List ℕ)) (left : Option (List ℕ)) (read : List ℕ) : Type 0 where
+  pub command : IsCommand words
+  pub told : left ≡ Some read
+  pub within : length read ≤ byte_limit

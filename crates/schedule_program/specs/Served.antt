@@ -1,4 +1,5 @@
--- The histories that are served so far: arrivals of tasks whose affinity masks have one processor.
+-- The histories that are served so far. What a reader must believe: each entry is the arrival of a task whose affinity
+-- mask has one processor, and the history is legal.
 use Rattle.std.specs.Prelude.{◌≡◌, ℕ, ◌<◌, List, [], ◌∷◌, length, map, All}
 use Rattle.std.specs.List.{range_with_len}
 use Rattle.task_set.specs.TaskSet.{TaskData, SetData}
@@ -7,6 +8,9 @@ use Rattle.task_set.specs.declared.context.Context.{Context}
 use Rattle.link_table.specs.declared.reply.Reply.{Reply}
 use Rattle.link_table.specs.declared.reply.Reply.TheVariants.{Placed, Displaced, Waits, Freed, Left, Ticked, AlreadyReady, NotReady}
 use Rattle.link_table.specs.declared.reply.Entry.{Entry}
+use Rattle.link_table.specs.State.{start_of}
+use Rattle.link_table.specs.History.{IsLegal}
+use Rattle.link_table.specs.Dispatch.{context_of}
 use Rattle.schedule_program.specs.declared.posted.Posted.{Posted}
 use Rattle.schedule_program.specs.FirstText.{IsSingle}
 
@@ -39,8 +43,10 @@ pub record IsServedEntry (set : SetData) (entry : Entry) : Type 0 where
 abbrev pub posted_of : Entry → Posted
 posted_of entry = record { stream = entry.caller; event = entry.event }
 
--- the history has an entry for each event, in their order, and there is a context for each task, in task order
+-- the schedule of these events: the history has an entry for each event, in their order, and is legal; and the context
+-- of each task, in task order, is the one that the history gives it
 pub record Schedules (set : SetData) (events : List Posted) (entries : List Entry) (contexts : List Context) : Type 0 where
   pub each_event : map posted_of entries ≡ events
   pub each_served : All (IsServedEntry set) entries
-  pub each_task : map (λ (context : Context). context.task) contexts ≡ range_with_len 0 (length set.tasks)
+  pub legal : IsLegal set entries
+  pub each_context : contexts ≡ map (context_of (start_of set) entries) (range_with_len 0 (length set.tasks))

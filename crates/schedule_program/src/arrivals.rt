@@ -1,10 +1,12 @@
 //! The scheduler on arrivals of tasks whose affinity masks have one processor.
-ghost use Rattle.std.specs.Prelude.{◌≡◌, ℕ, ◌<◌, ◌≤◌, length, vec_len, map, IfOk, IfSome, slice_get, slice_set, All, [], ◌∷◌};
+ghost use Rattle.std.specs.Prelude.{◌≡◌, ℕ, ◌<◌, ◌≤◌, length, vec_len, map, IfOk, IfSome, slice_get, slice_set, All, MatchBool, [], ◌∷◌};
 ghost use Rattle.std.specs.List.{range_with_len};
 ghost use Rattle.task_set.specs.TaskSet.{SetData, masks};
-ghost use Rattle.task_set.specs.Context.{context_after_take};
-ghost use Rattle.task_set.specs.declared.context.Context.{Context as ContextData};
-ghost use Rattle.link_table.specs.State.{State, task_count, mask_of};
+ghost use Rattle.task_set.specs.Context.{fresh_context, context_after_take};
+ghost use Rattle.link_table.specs.State.{State, task_count, mask_of, priority_of, IsMoreUrgent};
+ghost use Rattle.link_table.specs.Step.{ArriveStep, SchedulerStep};
+ghost use Rattle.link_table.specs.History.{event_task};
+ghost use Rattle.schedule_program.specs.Pinned.{IsPinned, contexts_after_arrival};
 ghost use Rattle.schedule_program.specs.FirstText.{IsSingle, IsFirstEvent};
 ghost use Rattle.schedule_program.specs.Served.{IsServedReply, IsServedEntry, HasSingleMasks, Schedules, posted_of};
 
@@ -39,7 +41,7 @@ pub fn schedule_of(alloc: Global, set: &TaskSet, events: &[Posted]) -> Result<Sc
 
 /// A fresh context for each task.
 fn fresh_contexts(alloc: Global, count: u32) -> Result<Vec<Context>, OutOfMemory>
-    ensures { IfOk result (λ v. map (λ (c : ContextData). c.task) v.items ≡ range_with_len 0 count) }
+    ensures { IfOk result (λ v. v.items ≡ map fresh_context (range_with_len 0 count)) }
 {
     let mut contexts = Vec::new(alloc);
     for task in 0..count {
@@ -51,12 +53,14 @@ fn fresh_contexts(alloc: Global, count: u32) -> Result<Vec<Context>, OutOfMemory
 /// The entry of an arrival, which the links and the contexts follow.
 fn enter(links: &mut Links, contexts: &mut Vec<Context>, posted: Posted) -> Entry
     requires event { (t : ℕ) × (posted.event ≡ Event.Arrive t) × (t < task_count links.old) × IsSingle (mask_of links.old t) }
+    requires pinned { IsPinned links.old }
     requires contexts { vec_len contexts.old ≡ task_count links.old }
     ensures entry { posted_of result ≡ posted }
     ensures reply { IsServedReply (task_count links.old) result.reply }
+    ensures step { SchedulerStep links.old result.event result.reply links.new }
     ensures masks { links.new.masks ≡ links.old.masks }
     ensures count { task_count links.new ≡ task_count links.old }
-    ensures tasks { map (λ (c : ContextData). c.task) contexts.new.items ≡ map (λ (c : ContextData). c.task) contexts.old.items }
+    ensures contexts { contexts.new.items ≡ contexts_after_arrival contexts.old.items (event_task result.event) result.reply }
 {
     let Event::Arrive(task) = posted.event else {
         unreachable!()
@@ -88,6 +92,8 @@ fn take(contexts: &mut Vec<Context>, task: u32, p: u8)
 fn arrival(links: &mut Links, t: u32) -> Reply
     requires number { t < task_count links.old }
     requires single { IsSingle (mask_of links.old t) }
+    requires pinned { IsPinned links.old }
+    ensures step { ArriveStep links.old t result links.new }
     ensures reply { IsServedReply (task_count links.old) result }
     ensures masks { links.new.masks ≡ links.old.masks }
     ensures count { task_count links.new ≡ task_count links.old }
@@ -100,17 +106,25 @@ fn arrival(links: &mut Links, t: u32) -> Reply
     let occupant = links.on(p);
     links.make_ready(t);
     let chain = one_processor(p);
-    match occupant {
-        None => {
-            links.shift(t, &chain);
-            Reply::Placed { chain }
-        }
-        Some(out) if links.priority(t) < links.priority(out) => {
-            links.shift(t, &chain);
-            Reply::Displaced { chain, out, reach }
-        }
-        Some(_) => Reply::Waits { reach },
+    let Some(out) = occupant else {
+        links.shift(t, &chain);
+        return Reply::Placed { chain };
+    };
+    if is_more_urgent(links, t, out) {
+        links.shift(t, &chain);
+        Reply::Displaced { chain, out, reach }
+    } else {
+        Reply::Waits { reach }
     }
+}
+
+/// Whether a task is more urgent than another.
+fn is_more_urgent(links: &Links, a: u32, b: u32) -> bool
+    requires first { a < task_count links.now }
+    requires second { b < task_count links.now }
+    ensures { MatchBool result (IsMoreUrgent links.now a b) (priority_of links.now b ≤ priority_of links.now a) }
+{
+    links.priority(a) < links.priority(b)
 }
 
 /// The chain of one processor.

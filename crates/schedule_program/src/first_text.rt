@@ -1,9 +1,9 @@
 //! The reader of the canonical input text, of masks of one processor and arrivals on stream 0.
-ghost use Rattle.std.specs.Prelude.{◌≡◌, ℕ, ◌<◌, ◌≤◌, ◌∷◌, ◌++◌, [], length, codes, IfOk, OnOk, IfSome, MatchBool};
-ghost use Rattle.affinity_mask.specs.Number.{canonical_number};
+ghost use Rattle.std.specs.Prelude.{◌≡◌, ℕ, List, [], codes, IfOk, OnOk, IsErrOf, IfSome, IfNone, MatchBool};
 ghost use Rattle.task_set.specs.TaskSet.{SetData};
-ghost use Rattle.schedule_program.specs.FirstText.{IsFirstText};
-ghost use Rattle.schedule_program.specs.Reading.{ReadsHead, ReadsTask, ReadsTasks, ReadsEvent, ReadsEvents};
+ghost use Rattle.schedule_program.specs.declared.posted.Posted.{Posted};
+ghost use Rattle.schedule_program.specs.FirstText.{IsFirstText, IsNoInput};
+ghost use Rattle.schedule_program.specs.Reading.{BeginsWith, ReadsHead, RefusesHead, ReadsFields, RefusesFields, ReadsTask, ReadsNoTask, RefusesTask, ReadsTasks, IsTasksText, ReadsEvent, RefusesEvent, ReadsEvents, IsEventsText};
 
 use crate::posted::{Input, MAX_EVENTS, Posted};
 use crate::reader::Reader;
@@ -21,20 +21,30 @@ pub enum Refusal {
 }
 
 impl From<OutOfMemory> for Refusal {
+    ghost use Rattle.schedule_program.specs.declared.first_text.Refusal.TheVariants.{OutOfMemory};
+
+    ghost from_gives = { λ _ refusal. refusal ≡ OutOfMemory };
+
     fn from(_error: OutOfMemory) -> Refusal {
         Refusal::OutOfMemory
     }
 }
 
 impl From<AllocError> for Refusal {
+    ghost use Rattle.schedule_program.specs.declared.first_text.Refusal.TheVariants.{OutOfMemory};
+
+    ghost from_gives = { λ _ refusal. refusal ≡ OutOfMemory };
+
     fn from(_error: AllocError) -> Refusal {
         Refusal::OutOfMemory
     }
 }
 
-/// The input of these bytes.
+/// The input of these bytes. `Unserved` comes just where they are the text of no input that is served; want of memory may
+/// come in place of either answer.
 pub fn read_first(alloc: Global, bytes: &[u8]) -> Result<Input, Refusal>
-    ensures { IfOk result (λ input. IsFirstText bytes.now input.set input.events.items) }
+    ensures input { IfOk result (λ input. IsFirstText bytes.now input.set input.events.items) }
+    ensures refused { IsErrOf result Refusal.Unserved → IsNoInput bytes.now }
 {
     let mut reader = Reader::new(bytes);
     let mut set = read_head(alloc, &mut reader)?;
@@ -49,24 +59,31 @@ pub fn read_first(alloc: Global, bytes: &[u8]) -> Result<Input, Refusal>
 
 /// Reads the header and the processors.
 fn read_head(alloc: Global, reader: &mut Reader) -> Result<TaskSet, Refusal>
-    ensures { IfOk result (λ set. ReadsHead reader.old set reader.new) }
+    ensures read { IfOk result (λ set. ReadsHead reader.old set reader.new) }
+    ensures refused { IsErrOf result Refusal.Unserved → RefusesHead reader.old }
 {
     if !reader.take_text(b"apa 1\nprocessors ") {
         return Err(Refusal::Unserved);
     }
-    match reader.take_number(b'\n') {
-        Some(processors @ 1..=64) => match TaskSet::new(alloc, processors as u8) {
-            Ok(set) => Ok(set),
-            Err(OutOfMemory) => Err(Refusal::OutOfMemory),
-        },
-        _ => Err(Refusal::Unserved),
+    let Some(processors) = reader.take_number(b'\n') else {
+        return Err(Refusal::Unserved);
+    };
+    if processors == 0 || processors > 64 {
+        return Err(Refusal::Unserved);
+    }
+    match TaskSet::new(alloc, processors as u8) {
+        Ok(set) => Ok(set),
+        Err(OutOfMemory) => Err(Refusal::OutOfMemory),
     }
 }
 
 /// Reads all task lines that stand next.
 fn read_tasks(reader: &mut Reader, set: &mut TaskSet) -> Result<(), Refusal>
     requires { set.old.tasks ≡ [] }
-    ensures { OnOk result (ReadsTasks reader.old reader.new set.old set.new) }
+    ensures read { OnOk result (ReadsTasks reader.old reader.new set.old set.new) }
+    ensures ends { OnOk result (BeginsWith reader.new (codes "task ") → ⊥) }
+    ensures refused { IsErrOf result Refusal.Unserved
+        → (full : SetData) (tail : List ℕ) → IsTasksText reader.old set.old full tail → ⊥ }
 {
     while read_task(reader, set)? {}
     Ok(())
@@ -74,7 +91,9 @@ fn read_tasks(reader: &mut Reader, set: &mut TaskSet) -> Result<(), Refusal>
 
 /// Reads a task line, and adds its task, if one stands next.
 fn read_task(reader: &mut Reader, set: &mut TaskSet) -> Result<bool, Refusal>
-    ensures { IfOk result (λ another. MatchBool another (ReadsTask reader.old reader.new set.old set.new) ((reader.new ≡ reader.old) × (set.new ≡ set.old))) }
+    ensures read { IfOk result (λ another. MatchBool another
+        (ReadsTask reader.old reader.new set.old set.new) (ReadsNoTask reader.old reader.new set.old set.new)) }
+    ensures refused { IsErrOf result Refusal.Unserved → RefusesTask reader.old set.old }
 {
     if !reader.take_text(b"task ") {
         return Ok(false);
@@ -84,15 +103,17 @@ fn read_task(reader: &mut Reader, set: &mut TaskSet) -> Result<bool, Refusal>
     };
     match set.add(name, priority, ProcSet::one(p)) {
         Ok(_) => Ok(true),
-        Err(TaskFault::OutOfMemory) => Err(Refusal::OutOfMemory),
-        Err(_) => Err(Refusal::Unserved),
+        Err(fault) => match fault {
+            TaskFault::OutOfMemory => Err(Refusal::OutOfMemory),
+            _ => Err(Refusal::Unserved),
+        },
     }
 }
 
 /// Reads the name, the priority and the one processor of a task line.
 fn read_fields<'a>(reader: &mut Reader<'a>) -> Option<(&'a str, u32, u8)>
-    ensures text { IfSome result (λ r. reader.old ≡ r.0.now ++ codes " " ++ canonical_number r.1 ++ codes " " ++ canonical_number r.2 ++ 10 ∷ reader.new) }
-    ensures processor { IfSome result (λ r. r.2 < 64) }
+    ensures read { IfSome result (λ r. ReadsFields reader.old r.0.now r.1 r.2 reader.new) }
+    ensures refused { IfNone result (RefusesFields reader.old) }
 {
     let name = reader.take_word(b' ')?;
     let priority = u32::try_from(reader.take_number(b' ')?).ok()?;
@@ -104,7 +125,10 @@ fn read_fields<'a>(reader: &mut Reader<'a>) -> Option<(&'a str, u32, u8)>
 
 /// Reads all event lines that stand next.
 fn read_events(alloc: Global, reader: &mut Reader, set: &TaskSet) -> Result<Vec<Posted>, Refusal>
-    ensures { IfOk result (λ events. ReadsEvents set.now reader.old events.items reader.new) }
+    ensures read { IfOk result (λ events. ReadsEvents set.now reader.old events.items reader.new) }
+    ensures ends { OnOk result (BeginsWith reader.new (codes "0 arrive ") → ⊥) }
+    ensures refused { IsErrOf result Refusal.Unserved
+        → (events : List Posted) (tail : List ℕ) → IsEventsText set.now reader.old events tail → ⊥ }
 {
     let mut events = Vec::new(alloc);
     while let Some(posted) = read_event(reader, set)? {
@@ -120,7 +144,8 @@ fn read_events(alloc: Global, reader: &mut Reader, set: &TaskSet) -> Result<Vec<
 
 /// Reads the line of an arrival on stream 0, if one stands next.
 fn read_event(reader: &mut Reader, set: &TaskSet) -> Result<Option<Posted>, Refusal>
-    ensures { IfOk result (λ posted. ReadsEvent set.now reader.old posted reader.new) }
+    ensures read { IfOk result (λ posted. ReadsEvent set.now reader.old posted reader.new) }
+    ensures refused { IsErrOf result Refusal.Unserved → RefusesEvent set.now reader.old }
 {
     if !reader.take_text(b"0 arrive ") {
         return Ok(None);

@@ -21,7 +21,7 @@ impl<'a> Model for Reader<'a> {
 }
 
 impl<'a> Reader<'a> {
-    ghost use Rattle.schedule_program.specs.Reading.{TakesText, TakesField};
+    ghost use Rattle.schedule_program.specs.Reading.{TakesText, TakesField, TakesNumber, TakesWord};
 
     /// A reader of these bytes.
     pub fn new(bytes: &'a [u8]) -> Reader<'a>
@@ -62,14 +62,14 @@ impl<'a> Reader<'a> {
 
     /// Reads a canonical number and the byte behind it. Where there is none, the reader is of no use any more.
     pub fn take_number(&mut self, end: u8) -> Option<u64>
-        ensures { IfSome result (λ n. self.old ≡ canonical_number n ++ end ∷ self.new) }
+        ensures { TakesNumber end self.old result self.new }
     {
         canonical_value(self.take_field(end)?)
     }
 
     /// Reads a text and the byte behind it. Where there is none, the reader is of no use any more.
     pub fn take_word(&mut self, end: u8) -> Option<&'a str>
-        ensures { IfSome result (λ word. self.old ≡ word.now ++ end ∷ self.new) }
+        ensures { TakesWord end self.old result self.new }
     {
         str::from_utf8(self.take_field(end)?).ok()
     }

@@ -1,9 +1,12 @@
 //! The top call: from the bytes read to the schedule text.
-ghost use Rattle.std.specs.Prelude.{◌≡◌, ◌≢◌, ℕ, ◌+◌, List, ◌↔◌, map, IsTrue, IfOk, string_bytes};
+ghost use Rattle.std.specs.Prelude.{◌≡◌, ◌≢◌, ℕ, ◌+◌, List, ◌↔◌, ◌⊎◌, map, IsTrue, IfOk, IsErrOf, string_bytes};
 ghost use Rattle.std.specs.Io.KnownBytes.{Appends};
 ghost use Rattle.shift_io.specs.Causes.{Rose};
-ghost use Rattle.shift_io.specs.Stream.{TakesAll, TakesAtMost, TakesExactly, AppendsPrefix};
-ghost use Rattle.schedule_program.specs.Run.{IsCommand, byte_limit, Replays, ReadsAndReplays};
+ghost use Rattle.shift_io.specs.Stream.{TakesAtMost, TakesExactly, AppendsPrefix};
+ghost use Rattle.task_set.specs.TaskSet.{SetData};
+ghost use Rattle.schedule_program.specs.declared.posted.Posted.{Posted};
+ghost use Rattle.schedule_program.specs.FirstText.{IsFirstText, IsNoInput};
+ghost use Rattle.schedule_program.specs.Run.{IsCommand, IsToRead, byte_limit, Replays, ReadsAndReplays, ReadsNoInput};
 ghost use Rattle.schedule_program.specs.Status.{BeforePut};
 
 use crate::arrivals::schedule_of;
@@ -38,11 +41,21 @@ pub fn run<S: Source, K: Sink>(
     ensures within { result ≢ Status.TooLong →
         TakesAtMost (S.left source.old) (S.left source.new) byte_limit }
     ensures input { (line kind : ℕ) → result ≡ Status.Input line kind → (line ≡ 0) × (kind ≡ 0)
-        × ((read : List ℕ) × TakesAll (S.left source.old) (S.left source.new) read) }
+        × ReadsNoInput (S.left source.old) (S.left source.new) }
     ensures write_fault { result ≡ Status.WriteFault → Rose (K.faults sink.old) (K.faults sink.new)
         × ((text : List ℕ) × ReadsAndReplays (S.left source.old) (S.left source.new) text
         × AppendsPrefix (K.bytes sink.old) (K.bytes sink.new) text) }
     ensures never_invalid { (line defect : ℕ) → result ≢ Status.Invalid line defect }
+    // Where nothing fails, the input alone decides, but for want of memory.
+    ensures complete { (read : List ℕ) (set : SetData) (events : List Posted)
+        → IsToRead (map string_bytes words.now) (S.left source.old) read → IsFirstText read set events
+        → (Rose (S.faults source.old) (S.faults source.new) → ⊥)
+        → (Rose (K.faults sink.old) (K.faults sink.new) → ⊥)
+        → (result ≡ Status.Done) ⊎ (result ≡ Status.OutOfMemory) }
+    ensures refuses { (read : List ℕ)
+        → IsToRead (map string_bytes words.now) (S.left source.old) read → IsNoInput read
+        → (Rose (S.faults source.old) (S.faults source.new) → ⊥)
+        → (result ≡ Status.Input 0 0) ⊎ (result ≡ Status.OutOfMemory) }
     ensures unput { BeforePut result (sink.new ≡ sink.old) }
 {
     if !is_command(words) {
@@ -77,7 +90,8 @@ fn is_command(words: &[String]) -> bool
 
 /// The schedule text of the input that these bytes are.
 fn replayed_text(alloc: Global, bytes: &[u8]) -> Result<String, Refusal>
-    ensures { IfOk result (λ text. Replays bytes.now (string_bytes text)) }
+    ensures replays { IfOk result (λ text. Replays bytes.now (string_bytes text)) }
+    ensures refused { IsErrOf result Refusal.Unserved → IsNoInput bytes.now }
 {
     let input = read_first(alloc, bytes)?;
     let made = schedule_of(alloc, &input.set, &input.events)?;

@@ -1,0 +1,21 @@
+-- The best set over histories. What a reader must believe: nothing beyond what a legal history is, and what it means
+-- that a state has certificates and that the linked tasks are best throughout; masks, arrivals, departures and ticks
+-- are any that a legal history has.
+use Rattle.std.specs.Prelude.{ℕ, ◌≤◌, List, length}
+use Rattle.task_set.specs.TaskSet.{SetData, IsTaskSet}
+use Rattle.link_table.specs.declared.reply.Entry.{Entry}
+use Rattle.link_table.specs.State.{IsState}
+use Rattle.link_table.specs.History.{IsLegal, state_at, IsBestThroughout}
+use Rattle.placement_laws.specs.Certified.{HasCertificates}
+
+-- after every entry the links are a placement of ready tasks, and each waiting task has a certificate
+abbrev pub IsCertifiedThroughout : SetData → List Entry → Type 0
+IsCertifiedThroughout set history = (n : ℕ) → n ≤ length history → IsState (state_at set history n) × HasCertificates (state_at set history n)
+
+-- after every entry of a legal history each waiting task has a certificate
+abbrev pub LegalHistoryHasCertificates : Type 0
+LegalHistoryHasCertificates = (set : SetData) → IsTaskSet set → (history : List Entry) → IsLegal set history → IsCertifiedThroughout set history
+
+-- after every entry of a legal history the linked tasks are the best placeable set of the ready ones
+abbrev pub LegalHistoryIsBest : Type 0
+LegalHistoryIsBest = (set : SetData) → IsTaskSet set → (history : List Entry) → IsLegal set history → IsBestThroughout set history

@@ -1,0 +1,6 @@
+pub mod Admission
+pub mod Certified
+pub mod Laws
+pub mod Legal
+pub mod Ranks
+pub mod Search

@@ -1,0 +1,17 @@
+//! What holds of each state whose waiting tasks all have a certificate. Each law is the contract of a function that does
+//! nothing: a caller in a proof gets the law by its clause.
+ghost use Rattle.placement_laws.specs.Laws.{HoldsWhereCertified, LinkedIsBest, LinkedIsOnlyBest, LinkedIsLargest, LinkedKeepsUp, LinkedIsAsUrgent};
+
+/// The linked tasks are the best placeable set of the ready tasks, and the only best one.
+pub fn certified_is_best()
+    ensures best { HoldsWhereCertified LinkedIsBest }
+    ensures only { HoldsWhereCertified LinkedIsOnlyBest }
+{}
+
+/// No placeable set of ready tasks has more tasks than are linked, in all or up to any priority, and its k-th most
+/// urgent task is never more urgent than the k-th most urgent linked one.
+pub fn certified_is_most_urgent()
+    ensures largest { HoldsWhereCertified LinkedIsLargest }
+    ensures keeps_up { HoldsWhereCertified LinkedKeepsUp }
+    ensures rank_by_rank { HoldsWhereCertified LinkedIsAsUrgent }
+{}
