@@ -1,21 +1,22 @@
 -- A task is admitted: it waits then, with a certificate, or a shift along a chain to an idle processor links it, which
--- meets no certificate and puts nobody out.
-use Rattle.std.proofs.Common.{◌≡◌, ◌≢◌, ℕ, ◌<◌, Bool, true, false, ◌||◌, List, nat_eq, Option, Some, refl, sym, ap, ◌∙◌, inl, inr, ◌⊎◌, ne_eqb, eq-eqb, eqb-true, get_or-set_other}
+-- puts nobody out and leaves each waiting task a certificate.
+use Rattle.std.proofs.Common.{◌≡◌, ℕ, ◌<◌, Bool, true, false, ◌||◌, List, nat_eq, Some, refl, sym, ap, ◌∙◌, inl, inr, ◌⊎◌, ne_eqb, eq-eqb, eqb-true, get_or-set_other}
 use Rattle.std.proofs.Math.Bool.{or-false}
-use Rattle.std.proofs.lemmas.Bool.{cases_Bool, cases_eq, true≢false, or_cases, or_left, or_right}
+use Rattle.std.proofs.lemmas.Bool.{cases_eq, true≢false, or_cases, or_left, or_right}
 use Rattle.std.proofs.lemmas.Option.{same_Some}
 use Rattle.affinity_mask.specs.ProcSet.{empty}
 use Rattle.affinity_mask.proofs.Sets.{has-zero}
-use Rattle.link_table.specs.State.{State, IsState, IsWaiting, task_count, is_ready, is_linked, task_on, effective_mask, state_with_ready, IsMoreUrgent}
+use Rattle.link_table.specs.State.{State, IsState, IsWaiting, task_count, is_ready, is_linked, task_on, state_with_ready, IsMoreUrgent}
 use Rattle.link_table.specs.Chain.{state_after_shift}
 use Rattle.link_table.specs.Certificate.{IsCertificate}
 use Rattle.link_table.proofs.Linked.{place_in, task_on-linked, is_linked-from_on, not_on}
 use Rattle.link_table.proofs.Shifts.{occupant_from, task_on-state_after_shift}
 use Rattle.link_table.proofs.Simple.{Avoids-none}
-use Rattle.reach_certificate.proofs.Undisturbed.{chain_or_certificate, is_linked-shifted, IsCertificate-shifted}
 use Rattle.placement_laws.specs.Admission.{HasSameTasks, Admitted}
 use Rattle.placement_laws.specs.Certified.{HasCertificates}
 use Rattle.placement_laws.specs.Search.{IsWay, IsFull}
+use Rattle.placement_laws.proofs.KeptByArrivals.{others_have}
+use Rattle.placement_laws.proofs.KeptByShifts.{linked_or_out, kept_by_placing}
 
 -- two answers that follow from one another are the same
 pub same_answer : (a b : Bool) → (a ≡ true → b ≡ true) → (b ≡ true → a ≡ true) → a ≡ b
@@ -34,10 +35,6 @@ module _ (old : State) (t : ℕ) (number : t < task_count old) (absent : is_read
     | inr other ↦ get_or-set_other old.ready t u true false other ∙ rw (ne_eqb u t other) (sym (or-false (is_ready old u)))
   ]
 
-  -- another task that waits waited before
-  waited : (w : ℕ) → w ≢ t → IsWaiting s w → IsWaiting old w
-  waited w other waiting = record { ready = sym (get_or-set_other old.ready t w true false other) ∙ waiting.ready; not_linked = waiting.not_linked }
-
   same_tasks : HasSameTasks old s
   same_tasks = record { processors = refl; priorities = refl; masks = refl; online = refl }
 
@@ -53,7 +50,7 @@ module _ (old : State) (t : ℕ) (number : t < task_count old) (absent : is_read
     linked = λ u. sym (or-false (is_linked old u));
     certificates = λ w waiting. elim (cases_eq w t) [
       | inl same ↦ rw same (X, certificate)
-      | inr other ↦ let before = certificates w (waited w other waiting) in (before.0, record { within = before.1.within; occupied = before.1.occupied })
+      | inr other ↦ others_have old certificates t w waiting other
     ];
   }
     where
@@ -74,8 +71,8 @@ module _ (old : State) (t : ℕ) (number : t < task_count old) (absent : is_read
     end = way.ends_idle.0
 
     -- t and each linked task are linked then
-    linked_then : (u : ℕ) → (◌≡◌ {A = Option ℕ} (Some t) (Some u)) ⊎ ((p : ℕ) × (task_on s p ≡ Some u)) → is_linked new u ≡ true
-    linked_then u from = elim (is_linked-shifted s ok t chain end way.ends_idle.1 way.simple u from) [
+    linked_then : (u : ℕ) → (t ≡ u) ⊎ (is_linked s u ≡ true) → is_linked new u ≡ true
+    linked_then u before = elim (linked_or_out s ok t waits chain end way.ends_idle.1 way.simple u before) [
       | inl linked ↦ linked
       | inr out ↦ absurd (let e = sym way.ends_idle.2.1 ∙ out in cc)
     ]
@@ -87,8 +84,8 @@ module _ (old : State) (t : ℕ) (number : t < task_count old) (absent : is_read
           | inr there ↦ or_left (is_linked old u) _ (is_linked-from_on old there.0 u there.2)
         ])
         (λ either. elim (or_cases (is_linked old u) _ either) [
-          | inl linked ↦ linked_then u (inr (place_in u old.on, task_on-linked old u linked))
-          | inr it ↦ linked_then u (inl (ap (λ (n : ℕ). Some n) (sym (eqb-true u t it))))
+          | inl linked ↦ linked_then u (inr linked)
+          | inr it ↦ linked_then u (inl (sym (eqb-true u t it)))
         ])
 
     pub Admitted-way : Admitted old t true new
@@ -96,19 +93,5 @@ module _ (old : State) (t : ℕ) (number : t < task_count old) (absent : is_read
       tasks = record { processors = refl; priorities = refl; masks = refl; online = refl };
       ready = ready_again;
       linked = linked_either;
-      certificates = λ w waiting.
-          let other : w ≢ t = λ e. true≢false (sym (linked_then t (inl refl)) ∙ ap (is_linked new) (sym e) ∙ waiting.not_linked) in
-          let not_linked : is_linked old w ≡ false = elim (cases_Bool (is_linked old w)) [
-            | inl linked ↦ absurd (true≢false (sym (linked_either w ∙ or_left (is_linked old w) _ linked) ∙ waiting.not_linked))
-            | inr not_linked ↦ not_linked
-          ] in
-          let before = certificates w (waited w other record { ready = waiting.ready; not_linked = not_linked }) in
-          (before.0, kept w before.0 record { within = before.1.within; occupied = before.1.occupied });
+      certificates = kept_by_placing s ok t waits chain end way.ends_idle.1 way.simple (others_have old certificates t) way.ends_idle.2.1;
     }
-      where
-        -- a certificate is not met by a chain to an idle processor
-        kept : (w X : ℕ) → IsCertificate s w X → IsCertificate new w X
-        kept w X cert = elim (chain_or_certificate s w X cert (Some t) (effective_mask s t) chain end way.ends_idle.1) [
-          | inl ends ↦ absurd (let e = sym way.ends_idle.2.1 ∙ (cert.occupied end ends).1 in cc)
-          | inr alone ↦ IsCertificate-shifted s ok t chain end way.ends_idle.1 w X cert alone
-        ]

@@ -7,9 +7,10 @@ use Rattle.link_table.specs.State.{State, IsState, is_ready, is_linked, priority
 use Rattle.link_table.specs.Placement.{TaskTest, IsPlacement, IsBetter}
 use Rattle.link_table.proofs.BestOnce.{best_is_unique}
 use Rattle.link_table.proofs.Linked.{place_in, task_on-linked}
+use Rattle.link_table.proofs.Unique.{ready_number}
 use Rattle.placement_laws.specs.Laws.{HoldsWhereCertified, LinkedIsBest, LinkedIsOnlyBest, LinkedIsLargest}
 use Rattle.placement_laws.proofs.Counts.{count_below, count_below-agree, count_below-one_more}
-use Rattle.placement_laws.proofs.Fullness.{ready_number, linked_keeps_up}
+use Rattle.placement_laws.proofs.Fullness.{linked_keeps_up}
 
 -- the linked tasks stand where they are linked
 linked_placement : (s : State) → IsState s → IsPlacement s (is_linked s) (λ t. place_in t s.on)

@@ -2,25 +2,18 @@
 -- processors has a task that is as urgent, and whose mask stays inside. Take a placeable set of ready tasks. A task of
 -- it that is put on a processor inside is paired with the occupant of that processor; one that is put outside does not
 -- wait, and is paired with itself. No two are paired with one task: an occupant inside is itself put inside.
-use Rattle.std.proofs.Common.{◌≡◌, ℕ, ◌<◌, ◌≤◌, true, false, ◌&&◌, Some, refl, sym, ap, ◌∙◌, inl, inr, ◌⊎◌, IsTrue, arith, nat_le}
+use Rattle.std.proofs.Common.{◌≡◌, ℕ, ◌≤◌, true, ◌&&◌, Some, refl, sym, ap, ◌∙◌, inl, inr, ◌⊎◌, IsTrue, arith, nat_le}
 use Rattle.std.proofs.lemmas.Bool.{cases_Bool, cases_lt, true≢false, and_from, and_parts, le-leb, leb-true}
-use Rattle.std.proofs.lemmas.List.{get_or_past}
 use Rattle.std.proofs.lemmas.Option.{same_Some}
 use Rattle.affinity_mask.specs.ProcSet.{has}
 use Rattle.link_table.specs.State.{State, IsState, IsWaiting, is_ready, is_linked, task_on, effective_mask, priority_of, task_count}
 use Rattle.link_table.specs.Placement.{TaskTest, IsPlacement, IsSubset}
 use Rattle.link_table.specs.Certificate.{IsCertificate}
 use Rattle.link_table.proofs.Linked.{place_in, task_on-linked, is_linked-from_on, linked_number}
+use Rattle.link_table.proofs.Unique.{ready_number}
 use Rattle.placement_laws.specs.Certified.{HasCertificates}
 use Rattle.placement_laws.specs.Laws.{HoldsWhereCertified, LinkedKeepsUp}
 use Rattle.placement_laws.proofs.Counts.{IsInjection, count_below-injection, search_below}
-
--- a ready task is a task of the set
-pub ready_number : (s : State) → IsState s → (t : ℕ) → is_ready s t ≡ true → t < task_count s
-ready_number s ok t h = elim (cases_lt t (task_count s)) [
-  | inl lt ↦ lt
-  | inr ge ↦ absurd (true≢false (sym h ∙ get_or_past s.ready t false (rw ok.ready_count ge)))
-]
 
 pub waiting_decided : (s : State) (t : ℕ) → IsWaiting s t ⊎ (IsWaiting s t → ⊥)
 waiting_decided s t = elim (cases_Bool (is_ready s t)) [

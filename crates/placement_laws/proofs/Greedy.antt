@@ -17,6 +17,7 @@ use Rattle.placement_laws.specs.Certified.{HasCertificates}
 use Rattle.placement_laws.proofs.Admissions.{same_answer}
 use Rattle.placement_laws.proofs.Best.{linked_is_best}
 use Rattle.placement_laws.proofs.Counts.{count_below, count_below-one_more}
+use Rattle.placement_laws.proofs.Kept.{none_ready, HasCertificates-start}
 use Rattle.placement_laws.proofs.MostUrgent.{among_place}
 
 -- ---- states with the same tasks have the same best sets
@@ -64,11 +65,6 @@ pub record IsGreedy (set : SetData) (listed : List ℕ) (s : State) (best : List
   pub order : AllPairs (IsMoreUrgent s) best
   pub certificates : HasCertificates s
 
-none_ready : (n u : ℕ) → get_or (replicate n false) u false ≡ false
-none_ready zero u = refl
-none_ready (suc n) zero = refl
-none_ready (suc n) (suc u) = none_ready n u
-
 none_linked : (n u : ℕ) → list_any (is_task u) (replicate n None) ≡ false
 none_linked zero u = refl
 none_linked (suc n) u = none_linked n u
@@ -81,7 +77,7 @@ IsGreedy-start set listed = record {
   ahead = λ u v ready among absent. absurd (true≢false (sym ready ∙ none_ready (length set.tasks) u));
   linked = λ u. sym (none_linked set.processors u);
   order = λ i j d lt fits. absurd (omega arith);
-  certificates = λ w waits. absurd (true≢false (sym waits.ready ∙ none_ready (length set.tasks) w));
+  certificates = HasCertificates-start set;
 }
 
 module _ (set : SetData) (listed : List ℕ) (s : State) (ok : IsState s) (best : List ℕ) (greedy : IsGreedy set listed s best) (numbers : All (λ t. t < length set.tasks) listed) where

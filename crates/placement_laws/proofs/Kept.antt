@@ -34,7 +34,7 @@ HasCertificates-state_after s (first ∷ rest) ok certificates legal =
     legal.1
 
 -- at the start no task is ready, and so none waits
-none_ready : (n t : ℕ) → get_or (replicate n false) t false ≡ false
+pub none_ready : (n t : ℕ) → get_or (replicate n false) t false ≡ false
 none_ready zero t = refl
 none_ready (suc n) zero = refl
 none_ready (suc n) (suc t) = none_ready n t

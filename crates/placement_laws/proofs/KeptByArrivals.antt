@@ -14,20 +14,20 @@ use Rattle.placement_laws.specs.Certified.{HasCertificates}
 use Rattle.placement_laws.proofs.Closed.{IsReach-first, IsReach-closed}
 use Rattle.placement_laws.proofs.KeptByShifts.{OthersHaveCertificates, kept_by_placing, kept_by_displacing}
 
-module _ (s : State) (ok : IsState s) (certificates : HasCertificates s) (t : ℕ) (number : t < task_count s) where
-  -- once t is ready, the others have the certificates that they had
-  others_have : OthersHaveCertificates (state_with_ready s t) t
-  others_have v h other =
-      let old = certificates v record { ready = sym (get_or-set_other s.ready t v true false other) ∙ h.ready; not_linked = h.not_linked } in
-      (old.0, record { within = old.1.within; occupied = old.1.occupied })
+-- once t is ready, the others have the certificates that they had
+pub others_have : (s : State) → HasCertificates s → (t : ℕ) → OthersHaveCertificates (state_with_ready s t) t
+others_have s certificates t v h other =
+    let old = certificates v record { ready = sym (get_or-set_other s.ready t v true false other) ∙ h.ready; not_linked = h.not_linked } in
+    (old.0, record { within = old.1.within; occupied = old.1.occupied })
 
+module _ (s : State) (ok : IsState s) (certificates : HasCertificates s) (t : ℕ) (number : t < task_count s) where
   kept_by_placed : (chain : List ℕ) (new : State) → ArrivePlaced s t chain new → HasCertificates new
   kept_by_placed chain new step =
       let end = step.least.itself in
       subst HasCertificates (sym step.shifted)
       (kept_by_placing (state_with_ready s t) (IsState-state_with_ready s ok t number) t (IsWaiting-state_with_ready s ok t number step.absent)
       chain end.0 (IsChainOf-state_with_ready s t chain end.0 end.1) (least_chain_is_simple s ok t (IsIdle s) chain step.least)
-      others_have end.2.1)
+      (others_have s certificates t) end.2.1)
 
   kept_by_displaced : (chain : List ℕ) (out reach : ℕ) (new : State) → ArriveDisplaced s t chain out reach new → HasCertificates new
   kept_by_displaced chain out reach new step =
@@ -35,14 +35,14 @@ module _ (s : State) (ok : IsState s) (certificates : HasCertificates s) (t : �
       subst HasCertificates (sym step.shifted)
       (kept_by_displacing (state_with_ready s t) (IsState-state_with_ready s ok t number) t (IsWaiting-state_with_ready s ok t number step.absent)
       chain end.0 (IsChainOf-state_with_ready s t chain end.0 end.1) (least_chain_is_simple s ok t (λ q. task_on s q ≡ Some out) chain step.least)
-      others_have reach (IsReach-closed s t reach step.reached) (IsReach-first s t reach step.reached) step.occupied
+      (others_have s certificates t) reach (IsReach-closed s t reach step.reached) (IsReach-first s t reach step.reached) step.occupied
       out end.2 step.out_there.least_urgent step.out_less_urgent)
 
   -- t waits: what it reaches certifies it
   kept_by_waits : (reach : ℕ) (new : State) → ArriveWaits s t reach new → HasCertificates new
   kept_by_waits reach new step = subst HasCertificates (sym step.waits) (λ v h. elim (cases_eq v t) [
     | inl same ↦ (reach, subst (λ (z : ℕ). IsCertificate (state_with_ready s t) z reach) (sym same) certified)
-    | inr other ↦ others_have v h other
+    | inr other ↦ others_have s certificates t v h other
   ])
     where
       certified : IsCertificate (state_with_ready s t) t reach

@@ -6,10 +6,10 @@ use Rattle.std.specs.Int.{bit_at}
 use Rattle.std.proofs.lemmas.Bool.{cases_eq, cases_lt, cases_Bool, true≢false, and_parts, and_from, and_right, not-true, not_from_false}
 use Rattle.std.proofs.lemmas.Option.{same_Some}
 use Rattle.std.proofs.lemmas.Nat.Bits.{bit_at_xor, bit_at_and, bit_at-lt}
-use Rattle.affinity_mask.specs.ProcSet.{has, Within}
+use Rattle.affinity_mask.specs.ProcSet.{has}
 use Rattle.link_table.specs.declared.reply.Reply.{Reply}
 use Rattle.link_table.specs.declared.reply.Reply.TheVariants.{Placed, Displaced, Waits, Freed, Left, Ticked, AlreadyReady, NotReady}
-use Rattle.link_table.specs.State.{State, IsState, IsWaiting, IsMoreUrgent, is_ready, task_count, task_on, priority_of, effective_mask, state_with_absent, state_after_leaving}
+use Rattle.link_table.specs.State.{State, IsState, IsWaiting, IsMoreUrgent, is_ready, task_count, task_on, priority_of, state_with_absent, state_after_leaving}
 use Rattle.link_table.specs.Chain.{CanShift, IsChainOf, IsBackChain, IsBackReach, IsSimple, CanEnterAt, state_after_shift}
 use Rattle.link_table.specs.Certificate.{IsCertificate}
 use Rattle.link_table.specs.Step.{IsMostUrgentInto, EnterStep, DepartStep}
@@ -18,9 +18,10 @@ use Rattle.link_table.proofs.Leaving.{task_on-state_after_leaving, task_on-stays
 use Rattle.link_table.proofs.Linked.{not_on, not_linked-from_on}
 use Rattle.link_table.proofs.Paths.{IsPath-push, IsChainOf-reverse}
 use Rattle.link_table.proofs.Simple.{IsSimple-reverse}
+use Rattle.link_table.proofs.Unique.{ready_number}
+use Rattle.reach_certificate.specs.Held.{IsHeldAgainst}
 use Rattle.placement_laws.specs.Certified.{HasCertificates}
 use Rattle.placement_laws.proofs.Closed.{IsClosed, IsCertificate-closed, chain_inside}
-use Rattle.placement_laws.proofs.Fullness.{ready_number}
 use Rattle.placement_laws.proofs.KeptByShifts.{waited, certificate_past, full_then, certificate_joined}
 
 -- ---- the members of a set that are not in another one
@@ -121,7 +122,7 @@ module _ (s : State) (ok : IsState s) (certificates : HasCertificates s) (t : �
           closed p u inside on = IsCertificate-closed s w Y of_w p u inside (task_on-state_after_leaving s t p u on).0
 
           -- a processor of X alone is not the place, which the chain comes to
-          alone : (p : ℕ) → IsTrue (has X p) → has Y p ≡ false → (u : ℕ) × (task_on (state_after_leaving s t) p ≡ Some u) × IsMoreUrgent s u v × Within (effective_mask s u) X
+          alone : (p : ℕ) → IsTrue (has X p) → has Y p ≡ false → IsHeldAgainst (state_after_leaving s t) v X p
           alone p inside outside =
               let occupant = of_v.occupied p inside in
               let ends = chain_inside (state_after_leaving s t) Y closed w of_w.within chain place is_chain in

@@ -1,6 +1,6 @@
 -- A waiting task is shifted along a simple chain of it. Where the chain ends on an idle processor, or on one whose task
 -- then waits behind a full set, each waiting task has a certificate again.
-use Rattle.std.proofs.Common.{◌≡◌, ◌≢◌, ℕ, ◌<◌, ◌≤◌, false, List, bit_or, Some, None, refl, sym, ap, ◌∙◌, subst, inl, inr, ◌⊎◌, IsTrue, arith, le_antisymm}
+use Rattle.std.proofs.Common.{◌≡◌, ◌≢◌, ℕ, ◌<◌, ◌≤◌, true, false, List, bit_or, Some, None, sym, ap, ◌∙◌, subst, inl, inr, ◌⊎◌, IsTrue, arith, le_antisymm}
 use Rattle.std.proofs.lemmas.Bool.{cases_Bool, cases_lt, true≢false, or_left, or_right, or_cases}
 use Rattle.std.proofs.lemmas.Option.{same_Some}
 use Rattle.std.proofs.lemmas.List.FromFn.{get_or-map-range_with_len}
@@ -9,16 +9,17 @@ use Rattle.affinity_mask.proofs.Sets.{has-or}
 use Rattle.link_table.specs.State.{State, IsState, IsWaiting, IsMoreUrgent, is_linked, task_on, effective_mask, priority_of}
 use Rattle.link_table.specs.Chain.{IsChainOf, IsSimple, occupant_after_shift, state_after_shift}
 use Rattle.link_table.specs.Certificate.{IsCertificate}
-use Rattle.link_table.proofs.Linked.{place_in, task_on-linked, not_on, linked_number}
+use Rattle.link_table.proofs.Linked.{place_in, task_on-linked, is_linked-from_on, not_on, linked_number}
 use Rattle.link_table.proofs.Masks.{effective_mask_below}
 use Rattle.link_table.proofs.Shifts.{occupant_allowed, handed_on-end, task_put_out-end}
 use Rattle.link_table.proofs.Simple.{Avoids-none}
+use Rattle.reach_certificate.specs.Held.{IsHeldAgainst}
 use Rattle.placement_laws.specs.Certified.{HasCertificates}
 use Rattle.placement_laws.proofs.Closed.{IsClosed, IsCertificate-closed, chain_inside, chain_past, chain_within, chain_fills, chain_puts_out, occupant_within, still_somewhere}
 
--- each processor of the set has a task that is more urgent than v and may run only within it
+-- each processor of the set is held against v
 abbrev pub IsFullAbove : State → ℕ → ℕ → Type 0
-IsFullAbove s v R = (p : ℕ) → IsTrue (has R p) → (u : ℕ) × (task_on s p ≡ Some u) × IsMoreUrgent s u v × Within (effective_mask s u) R
+IsFullAbove s v R = (p : ℕ) → IsTrue (has R p) → IsHeldAgainst s v R p
 
 -- each waiting task but t has a certificate
 abbrev pub OthersHaveCertificates : State → ℕ → Type 0
@@ -37,27 +38,31 @@ module _ (s : State) (ok : IsState s) (t : ℕ) (waits : IsWaiting s t) (chain :
       let below : p < s.processors = effective_mask_below s ok u p (occupant_allowed s ok t chain q is_chain p u e) in
       get_or-map-range_with_len (occupant_after_shift s (Some t) chain) 0 s.processors p p None below (omega arith) ∙ e
 
+  -- t and each linked task are linked then, but for the one on which the chain ends
+  pub linked_or_out : (u : ℕ) → (t ≡ u) ⊎ (is_linked s u ≡ true) → (is_linked (state_after_shift s t chain) u ≡ true) ⊎ (task_on s q ≡ Some u)
+  linked_or_out u before = elim (still_somewhere s (λ y. ⊥) (Some t) chain u (Avoids-none chain simple) (elim before [
+    | inl it ↦ inl (ap (λ (n : ℕ). Some n) it)
+    | inr linked ↦ inr (place_in u s.on, (λ none. none), task_on-linked s u linked)
+  ])) [
+    | inl there ↦ inl (is_linked-from_on (state_after_shift s t chain) there.0 u (occupant_comes there.0 u there.2))
+    | inr out ↦ inr (sym (handed_on-end s t chain q is_chain ∙ task_put_out-end s t chain q is_chain) ∙ out)
+  ]
+
   -- who waits then is not t, and waited before or was put out
   pub waited : (v : ℕ) → IsWaiting (state_after_shift s t chain) v → (v ≢ t) × (IsWaiting s v ⊎ (task_on s q ≡ Some v))
   waited v h = (
-    (λ same. elim (comes_or_out t (inl refl)) [
-      | inl there ↦ not_on (state_after_shift s t chain) there.0 v h.not_linked (there.1 ∙ ap (λ (n : ℕ). Some n) (sym same))
-      | inr out ↦ not_on s q t waits.not_linked out
+    (λ same. elim (linked_or_out v (inl (sym same))) [
+      | inl linked ↦ true≢false (sym linked ∙ h.not_linked)
+      | inr out ↦ not_on s q t waits.not_linked (out ∙ ap (λ (n : ℕ). Some n) same)
     ]),
     elim (cases_Bool (is_linked s v)) [
-      | inl linked ↦ elim (comes_or_out v (inr (place_in v s.on, (λ n. n), task_on-linked s v linked))) [
-        | inl there ↦ absurd (not_on (state_after_shift s t chain) there.0 v h.not_linked there.1)
+      | inl linked ↦ elim (linked_or_out v (inr linked)) [
+        | inl still ↦ absurd (true≢false (sym still ∙ h.not_linked))
         | inr out ↦ inr out
       ]
       | inr not_linked ↦ inl record { ready = h.ready; not_linked = not_linked }
     ],
   )
-    where
-      comes_or_out : (u : ℕ) → (Some t ≡ Some u) ⊎ ((y : ℕ) × (⊥ → ⊥) × (task_on s y ≡ Some u)) → ((p : ℕ) × (task_on (state_after_shift s t chain) p ≡ Some u)) ⊎ (task_on s q ≡ Some u)
-      comes_or_out u before = elim (still_somewhere s (λ y. ⊥) (Some t) chain u (Avoids-none chain simple) before) [
-        | inl there ↦ inl (there.0, occupant_comes there.0 u there.2)
-        | inr out ↦ inr (sym (handed_on-end s t chain q is_chain ∙ task_put_out-end s t chain q is_chain) ∙ out)
-      ]
 
   -- a certificate in which the chain does not end stays one
   pub certificate_past : (v X : ℕ) → IsCertificate s v X → has X q ≡ false → IsCertificate (state_after_shift s t chain) v X
@@ -85,7 +90,7 @@ module _ (s : State) (ok : IsState s) (t : ℕ) (waits : IsWaiting s t) (chain :
         (u, occupant_comes p u occupant.1, stays.0, stays.1)
 
     -- with it another set certifies v, where it has the mask of v, and certified v before wherever it stands alone
-    pub certificate_joined : (v X : ℕ) → Within (effective_mask s v) X → ((p : ℕ) → IsTrue (has X p) → has R p ≡ false → (u : ℕ) × (task_on s p ≡ Some u) × IsMoreUrgent s u v × Within (effective_mask s u) X)
+    pub certificate_joined : (v X : ℕ) → Within (effective_mask s v) X → ((p : ℕ) → IsTrue (has X p) → has R p ≡ false → IsHeldAgainst s v X p)
         → IsFullAbove (state_after_shift s t chain) v R → IsCertificate (state_after_shift s t chain) v (bit_or X R)
     certificate_joined v X within alone full = record {
       within = within_first (effective_mask s v) X R within;
@@ -100,19 +105,26 @@ module _ (s : State) (ok : IsState s) (t : ℕ) (waits : IsWaiting s t) (chain :
 
   -- ---- where the others had certificates
   module _ (others : OthersHaveCertificates s t) where
-    -- the chain ends on an idle processor
-    pub kept_by_placing : task_on s q ≡ None → HasCertificates (state_after_shift s t chain)
-    kept_by_placing idle v h =
+    -- it is enough that whoever had a certificate in which the chain ends has another one then, and so the task put out
+    kept_by_shift : ((v X : ℕ) → IsCertificate s v X → IsTrue (has X q) → (set : ℕ) × IsCertificate (state_after_shift s t chain) v set) → ((v : ℕ) → task_on s q ≡ Some v → (set : ℕ) × IsCertificate (state_after_shift s t chain) v set)
+        → HasCertificates (state_after_shift s t chain)
+    kept_by_shift met put_out v h =
         let before = waited v h in
         elim before.1 [
           | inl waited_before ↦
               let old = others v waited_before before.0 in
               elim (cases_Bool (has old.0 q)) [
-                | inl ends ↦ absurd (let occupant = old.1.occupied q ends in let on = occupant.1 in cc)
+                | inl ends ↦ met v old.0 old.1 ends
                 | inr past ↦ (old.0, certificate_past v old.0 old.1 past)
               ]
-          | inr out ↦ absurd (cc)
+          | inr out ↦ put_out v out
         ]
+
+    -- the chain ends on an idle processor
+    pub kept_by_placing : task_on s q ≡ None → HasCertificates (state_after_shift s t chain)
+    kept_by_placing idle = kept_by_shift
+        (λ v X certificate ends. absurd (let occupant = certificate.occupied q ends in let on = occupant.1 in cc))
+        (λ v out. absurd (cc))
 
     -- the chain ends on the least urgent task of a closed set that is all occupied, and t is more urgent than that
     module _ (R : ℕ) (closed : IsClosed s R) (first : Within (effective_mask s t) R) (occupied : (p : ℕ) → IsTrue (has R p) → (u : ℕ) × (task_on s p ≡ Some u))
@@ -128,17 +140,9 @@ module _ (s : State) (ok : IsState s) (t : ℕ) (waits : IsWaiting s t) (chain :
           ])
 
       pub kept_by_displacing : HasCertificates (state_after_shift s t chain)
-      kept_by_displacing v h =
-          let before = waited v h in
-          elim before.1 [
-            | inl waited_before ↦
-                let old = others v waited_before before.0 in
-                elim (cases_Bool (has old.0 q)) [
-                  | inl ends ↦ (bit_or old.0 R, certificate_joined R closed first v old.0 old.1.within (λ p inside _. old.1.occupied p inside) (above v old.0 old.1 ends))
-                  | inr past ↦ (old.0, certificate_past v old.0 old.1 past)
-                ]
-            | inr out ↦ (R, subst (λ (z : ℕ). IsCertificate (state_after_shift s t chain) z R) (same_Some d v (sym end ∙ out)) d_certified)
-          ]
+      kept_by_displacing = kept_by_shift
+          (λ v X certificate ends. (bit_or X R, certificate_joined R closed first v X certificate.within (λ p inside _. certificate.occupied p inside) (above v X certificate ends)))
+          (λ v out. (R, subst (λ (z : ℕ). IsCertificate (state_after_shift s t chain) z R) (same_Some d v (sym end ∙ out)) d_certified))
         where
           d_certified : IsCertificate (state_after_shift s t chain) d R
           d_certified = record {

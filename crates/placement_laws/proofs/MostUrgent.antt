@@ -23,6 +23,15 @@ pub record IsFirstOf (s : State) (tasks : List ℕ) (n t : ℕ) : Type 0 where
   pub absent : is_ready s t ≡ false
   pub most_urgent : (k : ℕ) → k < n → is_ready s (get_or tasks k 0) ≡ false → priority_of s t ≤ priority_of s (get_or tasks k 0)
 
+-- one more task of the list, which is ready or no more urgent
+IsFirstOf-longer : (s : State) (tasks : List ℕ) (n t : ℕ) → (is_ready s (get_or tasks n 0) ≡ false → priority_of s t ≤ priority_of s (get_or tasks n 0)) → IsFirstOf s tasks n t → IsFirstOf s tasks (n + 1) t
+IsFirstOf-longer s tasks n t later h = record {
+  number = h.number;
+  among = h.among;
+  absent = h.absent;
+  most_urgent = below_more _ _ h.most_urgent later;
+}
+
 -- what was found among the first n tasks of the list
 abbrev pub IsFoundOf : State → List ℕ → ℕ → Option ℕ → Type 0
 IsFoundOf s tasks n None = (k : ℕ) → k < n → is_ready s (get_or tasks k 0) ≡ true
@@ -31,12 +40,7 @@ IsFoundOf s tasks n (Some t) = IsFirstOf s tasks n t
 -- one more task of the list, which is ready
 pub IsFoundOf-passed : (s : State) (tasks : List ℕ) (n : ℕ) (found : Option ℕ) → is_ready s (get_or tasks n 0) ≡ true → IsFoundOf s tasks n found → IsFoundOf s tasks (n + 1) found
 IsFoundOf-passed s tasks n None ready h = below_more _ _ h ready
-IsFoundOf-passed s tasks n (Some t) ready h = record {
-  number = h.number;
-  among = h.among;
-  absent = h.absent;
-  most_urgent = below_more _ _ h.most_urgent (λ absent. absurd (true≢false (sym ready ∙ absent)));
-}
+IsFoundOf-passed s tasks n (Some t) ready h = IsFirstOf-longer s tasks n t (λ absent. absurd (true≢false (sym ready ∙ absent))) h
 
 -- one more task of the list, which is absent
 pub IsFoundOf-more : (s : State) (tasks : List ℕ) (n : ℕ) (found : Option ℕ) (r : ℕ) → n < length tasks → get_or tasks n 0 < task_count s → is_ready s (get_or tasks n 0) ≡ false
@@ -55,12 +59,7 @@ IsFoundOf-more s tasks n (Some u) r fits number absent (inl it) first first_of_f
   absent = rw it absent;
   most_urgent = below_more _ _ (λ k lt absent'. (let le = h.most_urgent k lt absent' in omega arith)) (λ _. first);
 }
-IsFoundOf-more s tasks n (Some u) r fits number absent (inr found) first first_of_found h = rw (← same_Some u r found) record {
-  number = h.number;
-  among = h.among;
-  absent = h.absent;
-  most_urgent = below_more _ _ h.most_urgent (λ _. rw (same_Some u r found) first);
-}
+IsFoundOf-more s tasks n (Some u) r fits number absent (inr found) first first_of_found h = rw (← same_Some u r found) (IsFirstOf-longer s tasks n u (λ _. rw (same_Some u r found) first) h)
 
 -- the whole list was read
 pub found_in : (s : State) (tasks : List ℕ) (n : ℕ) (found : Option ℕ) → length tasks ≤ n → IsFoundOf s tasks n found → MatchOption found (IsSubset (is_among tasks) (is_ready s)) (IsMostUrgentAbsent s tasks)

@@ -71,9 +71,10 @@ pub fn best_set(alloc: Global, set: &TaskSet, ready: &[u32]) -> Result<Vec<u32>,
     let mut links = Links::new(alloc, set)?;
     let mut best = Vec::new(alloc);
     while let Some(t) = most_urgent_absent(&links, ready) {
-        if admit(&mut links, t) {
-            best.push(t)?;
+        if !admit(&mut links, t) {
+            continue;
         }
+        best.push(t)?;
     }
     Ok(best)
 }

@@ -1,5 +1,5 @@
-//! What holds of each state whose waiting tasks all have a certificate. Each law is the contract of a function that does
-//! nothing: a caller in a proof gets the law by its clause.
+//! What holds of each state whose waiting tasks all have a certificate. Each law is the contract of a function that
+//! does nothing: a caller in a proof gets the law by its clause.
 ghost use Rattle.placement_laws.specs.Laws.{HoldsWhereCertified, LinkedIsBest, LinkedIsOnlyBest, LinkedIsLargest, LinkedKeepsUp, LinkedIsAsUrgent};
 
 /// The linked tasks are the best placeable set of the ready tasks, and the only best one.

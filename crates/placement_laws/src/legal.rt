@@ -1,5 +1,5 @@
-//! What holds after every entry of every legal history, whatever masks its tasks have and whatever program made it. Each
-//! law is the contract of a function that does nothing: a caller in a proof gets the law by its clause.
+//! What holds after every entry of every legal history, whatever masks its tasks have and whatever program made it.
+//! Each law is the contract of a function that does nothing: a caller in a proof gets the law by its clause.
 ghost use Rattle.placement_laws.specs.Legal.{LegalHistoryHasCertificates, LegalHistoryIsBest};
 
 /// After every entry the links are a placement of ready tasks, and each waiting task has a certificate. So whoever

@@ -1,7 +1,7 @@
 //! What certificates say of the linked tasks.
 //!
-//! Where each waiting task has a certificate, the linked tasks are the best placeable set of the ready tasks: so say the
-//! [`laws`], of any state, and [`legal`] says it of each state of a legal history. [`all_certified`] tests sets that
+//! Where each waiting task has a certificate, the linked tasks are the best placeable set of the ready tasks: so say
+//! the [`laws`], of any state, and [`legal`] says it of each state of a legal history. [`all_certified`] tests sets that
 //! somebody gives. [`best_set`] finds the best set by a plain program of its own, for tests of schedulers.
 #![tactic(auto)]
 

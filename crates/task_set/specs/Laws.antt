@@ -1,4 +1,5 @@
--- Laws of orders, stints and carried contexts. Each is proved as the contract of a function of src/laws.rt.
+-- Laws of orders, stints and carried contexts. What a reader must believe: nothing beyond the definitions that the laws
+-- speak of; each law is proved as the contract of a function of `laws`.
 use Rattle.std.specs.Prelude.{◌≡◌, ◌≢◌, ℕ, ◌<◌, ◌≤◌, ◌==◌, List, [], ◌∷◌, ◌++◌, filter, All, AllPairs, IsPermutation}
 use Rattle.std.specs.List.{flat_map}
 use Rattle.task_set.specs.declared.order.Order.{Order}
@@ -18,7 +19,7 @@ OneMoreIsObeyable = (orders : List Order) (next : Order) → IsObeyable orders �
 abbrev pub StintsOfMoreOrders : Type 0
 StintsOfMoreOrders = (p : ℕ) (orders more : List Order) → stints_in p (orders ++ more) ≡ stints_in p orders ++ stints_from p (stint_under_way p orders) more
 
--- the orders of stints on p, one stint after another, and then more orders: these stints, then those of the other orders
+-- the orders of stints on p, one stint after another, and then more orders: these stints, then those of the others
 abbrev pub StintsReadBack : Type 0
 StintsReadBack = (p : ℕ) (stints : List Stint) (more : List Order) → All (λ stint. stint.processor ≡ p) stints → stints_in p (flat_map stint_orders stints ++ more) ≡ stints ++ stints_in p more
 
