@@ -1,5 +1,11 @@
 pub mod Sets
 pub mod Lists
+pub mod Unions
 pub mod Runs
 mod Words
 mod Rows
+pub mod Numbers
+pub mod Items
+pub mod ListTexts
+pub mod TextCases
+mod Written

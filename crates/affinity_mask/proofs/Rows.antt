@@ -1,9 +1,10 @@
--- Canonical lists, worked out by hand and computed.
-use Rattle.std.proofs.Common.{◌≡◌, refl, lit<}
+-- Canonical lists and pieces of lists, worked out by hand and computed.
+use Rattle.std.proofs.Common.{◌≡◌, refl, lit<, [], ◌∷◌}
 use Rattle.std.proofs.lemmas.Fmt.{decimal_digit}
 use Rattle.std.specs.Prelude.{codes}
 use Rattle.affinity_mask.specs.ProcSet.{has, passing_below}
 use Rattle.affinity_mask.specs.ListText.{canonical_list}
+use Rattle.affinity_mask.specs.ListFault.{pieces, place_behind}
 
 -- the processor 0
 alone : canonical_list 1 ≡ codes "0"
@@ -24,3 +25,10 @@ two_items = rw (decimal_digit 0 (lit< tt), decimal_digit 3 (lit< tt), decimal_di
 short_runs : canonical_list 178 ≡ codes "1,4-5,7"
 unfolding has passing_below
 short_runs = rw (decimal_digit 1 (lit< tt), decimal_digit 4 (lit< tt), decimal_digit 5 (lit< tt), decimal_digit 7 (lit< tt)) refl
+
+-- a text is cut at each comma, and the second and third pieces begin behind the commas
+empty_piece : pieces (codes "0,,1") ≡ codes "0" ∷ [] ∷ codes "1" ∷ []
+empty_piece = refl
+
+third_place : place_behind (codes "0" ∷ [] ∷ []) ≡ 3
+third_place = refl

@@ -1,47 +1,49 @@
 -- The canonical list of a set is a processor list of it: its runs are found from 0 upward, and each is an item.
 use Rattle.std.proofs.Common.{◌≡◌, ◌≢◌, ℕ, zero, suc, Bool, true, false, not, ◌&&◌, ◌||◌, ◌-◌, ◌<◌, ◌≤◌, ◌⊎◌, inl, inr, nat_eq, nat_lt, nat_le, refl, sym, ap, ap₂, ◌∙◌, arith, ⊎_elim, eq-eqb, ne_eqb, List, [], ◌∷◌, ◌++◌, map, All, Any, add-one}
 use Rattle.std.specs.List.{list_any, zip, join_with_byte}
-use Rattle.std.proofs.lemmas.Bool.{cases_eq, cases_Bool, true≢false, leb-true, le-leb}
+use Rattle.std.proofs.lemmas.Bool.{cases_eq, cases_Bool, true≢false}
 use Rattle.std.proofs.Math.Bool.{or_assoc, or-false, and-true, and-false}
 use Rattle.std.proofs.lemmas.List.{map-append}
-use Rattle.std.proofs.lemmas.List.Folds.{list_any-append, Any-from_list_any, list_any-from_Any}
+use Rattle.std.proofs.lemmas.List.Folds.{list_any-append}
 use Rattle.std.proofs.lemmas.List.Elements.{All-nil, All-push, All-weaker, All-map}
 use Rattle.std.proofs.lemmas.Fmt.{decimal_is_IsNumeral}
 use Rattle.affinity_mask.specs.Number.{IsNumber, number_value, canonical_number}
 use Rattle.affinity_mask.specs.ProcSet.{has, empty, all_below, Within, passing_below}
 use Rattle.affinity_mask.specs.ListText.{comma, IsItem, Item, IsLawful, IsListText, begins_run, ends_run, run_text, canonical_list}
 use Rattle.affinity_mask.proofs.Sets.{has-all_below, has-intersection, intersection-all_below, empty_from_none}
+use Rattle.affinity_mask.specs.ListSteps.{item_covers}
 use Rattle.affinity_mask.proofs.Lists.{passing_more, passing_same}
+use Rattle.affinity_mask.proofs.Unions.{Any-from_covers, covers_from_Any}
 
 -- whether the run has p
 covers : ℕ → ℕ × ℕ → Bool
 covers p run = nat_le run.0 p && nat_le p run.1
 
 -- whether one of the runs has p
-covered : List (ℕ × ℕ) → ℕ → Bool
+pub covered : List (ℕ × ℕ) → ℕ → Bool
 covered done p = list_any (covers p) done
 
 -- the ends of the run are in order, and below n
-abbrev Ascends : ℕ → ℕ × ℕ → Type 0
+abbrev pub Ascends : ℕ → ℕ × ℕ → Type 0
 Ascends n run = (run.0 ≤ run.1) × (run.1 < n)
 
 -- below n there are just these runs, and none of them goes on at n
-record IsClosed (X n : ℕ) (done : List (ℕ × ℕ)) : Type 0 where
-  starts : passing_below (begins_run X) n ≡ map (λ (run : ℕ × ℕ). run.0) done
-  ends : passing_below (ends_run X) n ≡ map (λ (run : ℕ × ℕ). run.1) done
-  ascending : All (Ascends n) done
-  same : (p : ℕ) → covered done p ≡ (has X p && nat_lt p n)
-  fresh : begins_run X n ≡ has X n
+pub record IsClosed (X n : ℕ) (done : List (ℕ × ℕ)) : Type 0 where
+  pub starts : passing_below (begins_run X) n ≡ map (λ (run : ℕ × ℕ). run.0) done
+  pub ends : passing_below (ends_run X) n ≡ map (λ (run : ℕ × ℕ). run.1) done
+  pub ascending : All (Ascends n) done
+  pub same : (p : ℕ) → covered done p ≡ (has X p && nat_lt p n)
+  pub fresh : begins_run X n ≡ has X n
 
 -- below n there are these runs, and one more that began at start and goes on at n
-record IsOpen (X n : ℕ) (done : List (ℕ × ℕ)) (start : ℕ) : Type 0 where
-  starts : passing_below (begins_run X) n ≡ map (λ (run : ℕ × ℕ). run.0) done ++ start ∷ []
-  ends : passing_below (ends_run X) n ≡ map (λ (run : ℕ × ℕ). run.1) done
-  ascending : All (Ascends n) done
-  below : start < n
-  same : (p : ℕ) → (covered done p || (nat_le start p && nat_lt p n)) ≡ (has X p && nat_lt p n)
-  member : has X n ≡ true
-  goes_on : begins_run X n ≡ false
+pub record IsOpen (X n : ℕ) (done : List (ℕ × ℕ)) (start : ℕ) : Type 0 where
+  pub starts : passing_below (begins_run X) n ≡ map (λ (run : ℕ × ℕ). run.0) done ++ start ∷ []
+  pub ends : passing_below (ends_run X) n ≡ map (λ (run : ℕ × ℕ). run.1) done
+  pub ascending : All (Ascends n) done
+  pub below : start < n
+  pub same : (p : ℕ) → (covered done p || (nat_le start p && nat_lt p n)) ≡ (has X p && nat_lt p n)
+  pub member : has X n ≡ true
+  pub goes_on : begins_run X n ≡ false
 
 begins-suc : (X n : ℕ) → begins_run X (suc n) ≡ (has X (suc n) && not (has X n))
 begins-suc X n =
@@ -49,7 +51,7 @@ begins-suc X n =
     let ne : suc n ≢ 0 = omega arith in
     rw (ne_eqb (suc n) 0 ne, e) refl
 
-ends-suc : (X n : ℕ) → ends_run X n ≡ (has X n && not (has X (suc n)))
+pub ends-suc : (X n : ℕ) → ends_run X n ≡ (has X n && not (has X (suc n)))
 ends-suc X n = rw (add-one n) refl
 
 below-suc : (p n : ℕ) → p ≢ n → nat_lt p (suc n) ≡ nat_lt p n
@@ -99,7 +101,7 @@ unfolding covered
 covered-push done run p = list_any-append (covers p) done (run ∷ []) ∙ ap (λ (b : Bool). covered done p || b) (or-false (covers p run))
 
 -- no run goes on, and n is no member
-skip : (X n : ℕ) (done : List (ℕ × ℕ)) → IsClosed X n done → has X n ≡ false → IsClosed X (suc n) done
+pub skip : (X n : ℕ) (done : List (ℕ × ℕ)) → IsClosed X n done → has X n ≡ false → IsClosed X (suc n) done
 skip X n done c out = record {
   starts = passing_same (begins_run X) n (c.fresh ∙ out) ∙ c.starts;
   ends = passing_same (ends_run X) n (rw out refl) ∙ c.ends;
@@ -109,7 +111,7 @@ skip X n done c out = record {
 }
 
 -- a run of n alone
-single : (X n : ℕ) (done : List (ℕ × ℕ)) → IsClosed X n done → has X n ≡ true → has X (suc n) ≡ false → IsClosed X (suc n) (done ++ (n, n) ∷ [])
+pub single : (X n : ℕ) (done : List (ℕ × ℕ)) → IsClosed X n done → has X n ≡ true → has X (suc n) ≡ false → IsClosed X (suc n) (done ++ (n, n) ∷ [])
 unfolding covers
 single X n done c inside next = record {
   starts =
@@ -124,7 +126,7 @@ single X n done c inside next = record {
 }
 
 -- a run begins at n and goes on
-begin : (X n : ℕ) (done : List (ℕ × ℕ)) → IsClosed X n done → has X n ≡ true → has X (suc n) ≡ true → IsOpen X (suc n) done n
+pub begin : (X n : ℕ) (done : List (ℕ × ℕ)) → IsClosed X n done → has X n ≡ true → has X (suc n) ≡ true → IsOpen X (suc n) done n
 begin X n done c inside next = record {
   starts = passing_more (begins_run X) n (c.fresh ∙ inside) ∙ ap (λ (xs : List ℕ). xs ++ n ∷ []) c.starts;
   ends = passing_same (ends_run X) n (ends-suc X n ∙ rw (inside, next) refl) ∙ c.ends;
@@ -136,7 +138,7 @@ begin X n done c inside next = record {
 }
 
 -- the run that began at start ends at n
-finish : (X n : ℕ) (done : List (ℕ × ℕ)) (start : ℕ) → IsOpen X n done start → has X (suc n) ≡ false → IsClosed X (suc n) (done ++ (start, n) ∷ [])
+pub finish : (X n : ℕ) (done : List (ℕ × ℕ)) (start : ℕ) → IsOpen X n done start → has X (suc n) ≡ false → IsClosed X (suc n) (done ++ (start, n) ∷ [])
 unfolding covers
 finish X n done start o next = record {
   starts =
@@ -156,7 +158,7 @@ finish X n done start o next = record {
 }
 
 -- the run that began at start goes on past n
-stay : (X n : ℕ) (done : List (ℕ × ℕ)) (start : ℕ) → IsOpen X n done start → has X (suc n) ≡ true → IsOpen X (suc n) done start
+pub stay : (X n : ℕ) (done : List (ℕ × ℕ)) (start : ℕ) → IsOpen X n done start → has X (suc n) ≡ true → IsOpen X (suc n) done start
 stay X n done start o next = record {
   starts = passing_same (begins_run X) n o.goes_on ∙ o.starts;
   ends = passing_same (ends_run X) n (ends-suc X n ∙ rw (o.member, next) refl) ∙ o.ends;
@@ -175,7 +177,7 @@ stay X n done start o next = record {
 RunsExist : ℕ → ℕ → Type 0
 RunsExist X n = ((done : List (ℕ × ℕ)) × IsClosed X n done) ⊎ ((done : List (ℕ × ℕ)) × (start : ℕ) × IsOpen X n done start)
 
-found_none : (X : ℕ) → IsClosed X 0 []
+pub found_none : (X : ℕ) → IsClosed X 0 []
 unfolding passing_below covered
 found_none X = record {
   starts = refl;
@@ -208,7 +210,7 @@ found X (suc n) = found_more X n (found X n)
 
 -- ---- from runs to items
 
-zip_back : (done : List (ℕ × ℕ)) → zip (map (λ (run : ℕ × ℕ). run.0) done) (map (λ (run : ℕ × ℕ). run.1) done) ≡ done
+pub zip_back : (done : List (ℕ × ℕ)) → zip (map (λ (run : ℕ × ℕ). run.0) done) (map (λ (run : ℕ × ℕ). run.1) done) ≡ done
 zip_back [] = refl
 zip_back (run ∷ done) = ap (λ (rest : List (ℕ × ℕ)). run ∷ rest) (zip_back done)
 
@@ -220,7 +222,7 @@ texts_of_items : (done : List (ℕ × ℕ)) → map (λ (item : Item). item.text
 texts_of_items [] = refl
 texts_of_items (run ∷ done) = ap (λ (rest : List (List ℕ)). run_text run ∷ rest) (texts_of_items done)
 
-number_of : (n : ℕ) → n < 64 → IsNumber (canonical_number n) × (number_value (canonical_number n) ≡ n)
+pub number_of : (n : ℕ) → n < 64 → IsNumber (canonical_number n) × (number_value (canonical_number n) ≡ n)
 number_of n below = decimal_is_IsNumeral n (omega arith)
 
 item_form : (low high : ℕ) → low < 64 → high < 64 → IsItem (run_text (low, high)) low high
@@ -238,34 +240,17 @@ item_lawful run h = record {
   small = omega (arith, h.1);
 }
 
-item_covers : ℕ → Item → Bool
-item_covers p item = nat_le item.low p && nat_le p item.high
-
 covered-items : (done : List (ℕ × ℕ)) (p : ℕ) → list_any (item_covers p) (map item_of done) ≡ covered done p
-unfolding covered covers item_covers
+unfolding covered covers
 covered-items [] p = refl
 covered-items (run ∷ done) p = ap (λ (rest : Bool). covers p run || rest) (covered-items done p)
 
-and_left : (a b : Bool) → (a && b) ≡ true → a ≡ true
-and_left a b e = grind arith
-
-and_right : (a b : Bool) → (a && b) ≡ true → b ≡ true
-and_right a b e = grind arith
-
 -- a run that has p is an item that has p, and the other way round
 covered-Any : (done : List (ℕ × ℕ)) (p : ℕ) → covered done p ≡ true → Any (λ (item : Item). (item.low ≤ p) × (p ≤ item.high)) (map item_of done)
-unfolding item_covers
-covered-Any done p e =
-    let found : Any (λ (item : Item). item_covers p item ≡ true) (map item_of done) =
-    Any-from_list_any (item_covers p) (map item_of done) (covered-items done p ∙ e) in
-    (found.0, found.1, found.2, found.3, (leb-true _ _ (and_left _ _ found.4), leb-true _ _ (and_right _ _ found.4)))
+covered-Any done p e = Any-from_covers p (map item_of done) (covered-items done p ∙ e)
 
 Any-covered : (done : List (ℕ × ℕ)) (p : ℕ) → Any (λ (item : Item). (item.low ≤ p) × (p ≤ item.high)) (map item_of done) → covered done p ≡ true
-unfolding item_covers
-Any-covered done p any =
-    sym (covered-items done p)
-    ∙ list_any-from_Any (item_covers p) (map item_of done)
-    (any.0, any.1, any.2, any.3, rw (le-leb _ _ (any.4.0), le-leb _ _ (any.4.1)) refl)
+Any-covered done p any = sym (covered-items done p) ∙ covers_from_Any p (map item_of done) any
 
 -- a set of processors has no member but those below 64
 all_inside : (X p : ℕ) → Within X (all_below 64) → (has X p && nat_lt p 64) ≡ has X p

@@ -1,7 +1,8 @@
 -- What `has` answers on sets and on the words that stand for them, and that two sets with the same members are equal.
-use Rattle.std.proofs.Common.{◌≡◌, ℕ, Bool, true, false, not, ◌&&◌, ◌||◌, ◌-◌, ◌/◌, ◌^◌, ◌<◌, ◌≤◌, min, max, nat_eq, nat_lt, bit_and, bit_or, IsTrue, refl, sym, ◌∙◌, arith, ⊎_elim, eq-eqb, ne_eqb, w64, eqb-true}
+use Rattle.std.proofs.Common.{◌≡◌, ℕ, Bool, true, false, not, ◌&&◌, ◌||◌, ◌-◌, ◌/◌, ◌^◌, ◌<◌, ◌≤◌, min, max, nat_eq, nat_lt, bit_and, bit_or, IsTrue, refl, sym, ap, ◌+◌, add-one, ◌∙◌, arith, ⊎_elim, eq-eqb, ne_eqb, w64, eqb-true}
 use Rattle.std.proofs.lemmas.Bool.{cases_eq, cases_lt, true≢false, lt-ltb}
 use Rattle.std.proofs.Math.Pow.{pow-lt}
+use Rattle.std.proofs.Math.Nat.{div-div-eq-div-mul, pow-succ', mul_comm}
 use Rattle.std.specs.Int.{bit_at}
 use Rattle.std.proofs.lemmas.Nat.Bits.{bit_at_and, bit_at_or, bit_at-lt, bit_at-pow_same, bit_at-pow_other, bit_at-zero, same_from_bits, bit_at_not, bit_at_above, shr_and_one, bit_at_ones, bit_at_ones_above}
 use Rattle.affinity_mask.specs.ProcSet.{has, empty, all_below, intersection, Within}
@@ -115,3 +116,13 @@ within-and_not X Y p q e n h =
 pub and_not-within : (X Y : ℕ) → X < 2 ^ 64 → Y < 2 ^ 64 → Within X Y → IsTrue (nat_eq (bit_and X (2 ^ 64 - 1 - Y)) 0)
 and_not-within X Y p q w =
     eq-eqb _ 0 (same_set _ 0 (λ n. rw (has-minus X Y n p q, has-zero n) (and_none _ _ (w n))))
+
+is_zero : (x : ℕ) → x < 2 → nat_eq x 0 ≡ not (nat_eq x 1)
+is_zero x p = grind arith
+
+-- the test `(n >> p >> 1) & 1 == 0`
+pub has-next : (X p : ℕ) → nat_eq (bit_and (X / 2 ^ p / 2) 1) 0 ≡ not (has X (p + 1))
+unfolding has
+has-next X p =
+    let next : X / 2 ^ p / 2 ≡ X / 2 ^ (p + 1) = div-div-eq-div-mul X (2 ^ p) 2 ∙ ap (λ (n : ℕ). X / n) (mul_comm (2 ^ p) 2 ∙ sym (pow-succ' 2 p) ∙ ap (λ (n : ℕ). 2 ^ n) (sym (add-one p))) in
+    rw (next, shr_and_one X (p + 1)) (is_zero _ (bit_at-lt X (p + 1)))

@@ -2,6 +2,7 @@
 
 ghost use Rattle.std.specs.Prelude.{◌≡◌, ℕ, ◌<◌, ◌≤◌, ◌==◌, ◌||◌, ◌&&◌, not, nat_lt, IsTrue, ◌↔◌, IsNone, IfSome, length};
 ghost use Rattle.affinity_mask.specs.ProcSet.{has, empty, all_below, intersection, Within, IsLeastMember, members};
+ghost use Rattle.affinity_mask.specs.ListText.{begins_run, ends_run};
 
 use std::marker::Model;
 
@@ -146,5 +147,21 @@ impl ProcSet {
         } else {
             Some(self.bits.trailing_zeros() as u8)
         }
+    }
+
+    /// Whether a longest run of consecutive members begins at a processor.
+    pub(crate) fn begins_run(&self, p: u8) -> bool
+        requires { p < 64 }
+        ensures { result ≡ begins_run self.now p }
+    {
+        self.has(p) && (p == 0 || !self.has(p - 1))
+    }
+
+    /// Whether a longest run of consecutive members ends at a processor.
+    pub(crate) fn ends_run(&self, p: u8) -> bool
+        requires { p < 64 }
+        ensures { result ≡ ends_run self.now p }
+    {
+        self.has(p) && (self.bits >> p >> 1) & 1 == 0
     }
 }

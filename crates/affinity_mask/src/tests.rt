@@ -1,5 +1,6 @@
-use crate::{OutOfMemory, ProcSet};
+use crate::{MaskFault, OutOfMemory, ProcSet};
 use std::alloc::AllocError;
+use std::test::Fail;
 
 /// Whether every call that reads a set answers as for these processors, which ascend.
 fn has_just(set: &ProcSet, members: &[u8]) -> bool {
@@ -58,4 +59,140 @@ fn want_of_memory(rt: HostRuntime) {
     assert_eq!(rt; refused(), Err(OutOfMemory));
     let text = format!(in rt.alloc(); "{OutOfMemory}").expect(&rt, "memory");
     assert_eq!(rt; text.as_str(), "out of memory");
+}
+
+/// Texts: for each what is written for its set, or why it is no processor list.
+const LIST_TEXTS: [(&str, Result<&str, MaskFault>); 53] = [
+    ("0-3,8", Ok("0-3,8")),
+    ("0-0,0", Ok("0")),
+    ("5,3,4", Ok("3-5")),
+    ("007", Ok("7")),
+    ("0-63", Ok("0-63")),
+    ("0,1", Ok("0-1")),
+    ("63", Ok("63")),
+    ("62-63,0", Ok("0,62-63")),
+    ("9-10,8,11-12", Ok("8-12")),
+    ("1,4-5,7", Ok("1,4-5,7")),
+    ("5-9,0-20,7", Ok("0-20")),
+    ("00000000000000000000000063", Ok("63")),
+    ("000-00000000000000000000001", Ok("0-1")),
+    (
+        "00000000000000000000000005-00000000000000000000000005",
+        Ok("5"),
+    ),
+    ("2-4,6-8,10-12", Ok("2-4,6-8,10-12")),
+    ("63,61,59", Ok("59,61,63")),
+    ("0,2-63", Ok("0,2-63")),
+    ("0-62", Ok("0-62")),
+    ("1-63", Ok("1-63")),
+    ("00-63", Ok("0-63")),
+    ("", Err(MaskFault::Empty)),
+    ("3-1", Err(MaskFault::Backward { place: 0 })),
+    ("64", Err(MaskFault::Large { place: 0 })),
+    ("0,,1", Err(MaskFault::BadItem { place: 2 })),
+    ("0-1-2", Err(MaskFault::BadItem { place: 0 })),
+    ("1,70-65", Err(MaskFault::Backward { place: 2 })),
+    (",", Err(MaskFault::BadItem { place: 0 })),
+    ("1,", Err(MaskFault::BadItem { place: 2 })),
+    (",1", Err(MaskFault::BadItem { place: 0 })),
+    ("0-3,8,", Err(MaskFault::BadItem { place: 6 })),
+    ("-", Err(MaskFault::BadItem { place: 0 })),
+    ("1-", Err(MaskFault::BadItem { place: 0 })),
+    ("-1", Err(MaskFault::BadItem { place: 0 })),
+    ("5--6", Err(MaskFault::BadItem { place: 0 })),
+    ("+5", Err(MaskFault::BadItem { place: 0 })),
+    (" 5", Err(MaskFault::BadItem { place: 0 })),
+    ("5 ", Err(MaskFault::BadItem { place: 0 })),
+    ("0x5", Err(MaskFault::BadItem { place: 0 })),
+    ("1;2", Err(MaskFault::BadItem { place: 0 })),
+    ("7,a", Err(MaskFault::BadItem { place: 2 })),
+    ("12-13,14-", Err(MaskFault::BadItem { place: 6 })),
+    ("64,3-1", Err(MaskFault::Large { place: 0 })),
+    ("3-1,64", Err(MaskFault::Backward { place: 0 })),
+    ("5,3-1,x", Err(MaskFault::Backward { place: 2 })),
+    ("0-64", Err(MaskFault::Large { place: 0 })),
+    ("64-64", Err(MaskFault::Large { place: 0 })),
+    ("63-64", Err(MaskFault::Large { place: 0 })),
+    ("10,11,12-164", Err(MaskFault::Large { place: 6 })),
+    (
+        "99999999999999999999-1",
+        Err(MaskFault::Backward { place: 0 }),
+    ),
+    ("1-99999999999999999999", Err(MaskFault::Large { place: 0 })),
+    (
+        "99999999999999999999999-99999999999999999999998",
+        Err(MaskFault::Backward { place: 0 }),
+    ),
+    (
+        "99999999999999999999998-99999999999999999999999",
+        Err(MaskFault::Large { place: 0 }),
+    ),
+    (
+        "0000000000000000000002-1,18446744073709551616",
+        Err(MaskFault::Backward { place: 0 }),
+    ),
+];
+
+#[test]
+fn list_texts(rt: HostRuntime) -> Result<(), Fail> {
+    let mut written = Vec::new(rt.alloc());
+    for (row, (text, want)) in LIST_TEXTS.iter().enumerate() {
+        match (ProcSet::read_list(text.as_bytes()), want) {
+            (Ok(set), Ok(want)) => {
+                written.clear();
+                set.write_list(&mut written)?;
+                assert_eq!(rt; written.as_slice(), want.as_bytes(), "row {row}");
+                assert_eq!(rt;
+                    ProcSet::read_list(written.as_slice()),
+                    Ok(set),
+                    "row {row}"
+                );
+            }
+            (Err(fault), Err(want)) => assert_eq!(rt; fault, *want, "row {row}"),
+            _ => panic!(rt; "row {row}"),
+        }
+    }
+    Ok(())
+}
+
+#[test]
+fn lists_are_appended(rt: HostRuntime) -> Result<(), Fail> {
+    let mut into = Vec::from_slice(rt.alloc(), b"mask ")?;
+    ProcSet::empty().write_list(&mut into)?;
+    assert_eq!(rt; into.as_slice(), b"mask ".as_slice());
+    ProcSet::first(64).without(9).write_list(&mut into)?;
+    assert_eq!(rt; into.as_slice(), b"mask 0-8,10-63".as_slice());
+    Ok(())
+}
+
+#[test]
+fn each_processor_an_item(rt: HostRuntime) {
+    let text =
+        b"0,1,2,3,4,5,6,7,8,9,10,11,12,13,14,15,16,17,18,19,20,21,22,23,24,25,26,27,28,29,30,31,\
+        32,33,34,35,36,37,38,39,40,41,42,43,44,45,46,47,48,49,50,51,52,53,54,55,56,57,58,59,60,61,62,63";
+    assert_eq!(rt; ProcSet::read_list(text), Ok(ProcSet::first(64)));
+}
+
+#[test]
+fn faults_as_sentences(rt: HostRuntime) -> Result<(), Fail> {
+    let rows = [
+        (MaskFault::Empty, "the processor list has no bytes"),
+        (
+            MaskFault::BadItem { place: 2 },
+            "at 2 stands no number and no range of numbers",
+        ),
+        (
+            MaskFault::Backward { place: 0 },
+            "the range at 0 begins above its end",
+        ),
+        (
+            MaskFault::Large { place: 7 },
+            "the item at 7 has a number above 63",
+        ),
+    ];
+    for (row, (fault, want)) in rows.iter().enumerate() {
+        let text = format!(in rt.alloc(); "{fault}")?;
+        assert_eq!(rt; text.as_str(), *want, "row {row}");
+    }
+    Ok(())
 }

@@ -3,8 +3,8 @@ use Rattle.std.proofs.Common.{◌≡◌, ℕ, ◌==◌, Bool, true, false, cond,
 use Rattle.std.proofs.lemmas.List.{length-map, get_or-map}
 use Rattle.task_set.specs.declared.event.Event.{Event}
 use Rattle.link_table.specs.declared.reply.Entry.{Entry}
-use Rattle.schedule_program.specs.declared.posted.Posted.{Posted}
-use Rattle.schedule_program.specs.Served.{posted_of}
+use Rattle.trace_reader.specs.declared.posted.Posted.{Posted}
+use Rattle.schedule_program.specs.Replay.{posted_of}
 use Rattle.schedule_program.specs.Merge.{events_of_stream, events_of_caller, streams_of, IsMerge}
 
 event_first : (b : Bool) (entry : Entry) (history : List Entry) (events : List Posted) → map (λ (e : Entry). e.event) history ≡ map (λ (p : Posted). p.event) events → map (λ (e : Entry). e.event) (cond b (entry ∷ history) history) ≡ map (λ (p : Posted). p.event) (cond b (posted_of entry ∷ events) events)

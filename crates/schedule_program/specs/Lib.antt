@@ -1,10 +1,5 @@
-pub mod EventText
-pub mod InputText
-pub mod FirstText
-pub mod ScheduleText
-pub mod Pinned
-pub mod Reading
-pub mod Served
-pub mod Status
+pub mod Contexts
 pub mod Merge
+pub mod Replay
 pub mod Run
+pub mod Status

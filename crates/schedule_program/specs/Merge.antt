@@ -3,7 +3,7 @@
 use Rattle.std.specs.Prelude.{◌≡◌, ℕ, ◌==◌, List, map, filter, All, Contains}
 use Rattle.task_set.specs.declared.event.Event.{Event}
 use Rattle.link_table.specs.declared.reply.Entry.{Entry}
-use Rattle.schedule_program.specs.declared.posted.Posted.{Posted}
+use Rattle.trace_reader.specs.declared.posted.Posted.{Posted}
 
 -- the events of a stream, in their order
 abbrev pub events_of_stream : ℕ → List Posted → List Event

@@ -1,7 +1,6 @@
--- What a run of the program did. What a reader must believe: the bytes read are the text of one input that is served,
--- and the bytes put are the schedule text of one history, which is a legal merge of its events, keeps the best set
+-- What a run of the program did. What a reader must believe: the bytes read are the text of one input, and the bytes put are the schedule text of one history, which is a legal merge of its events, keeps the best set
 -- linked after every entry, and gives the contexts that are printed.
-use Rattle.std.specs.Prelude.{◌≡◌, ℕ, ◌≤◌, List, [], ◌∷◌, length, map, codes, Option, Some}
+use Rattle.std.specs.Prelude.{◌≡◌, ◌⊎◌, ℕ, ◌≤◌, List, [], ◌∷◌, length, map, codes, Option, Some}
 use Rattle.std.specs.List.{range_with_len}
 use Rattle.shift_io.specs.Stream.{TakesAll}
 use Rattle.task_set.specs.TaskSet.{SetData}
@@ -10,10 +9,14 @@ use Rattle.link_table.specs.declared.reply.Entry.{Entry}
 use Rattle.link_table.specs.State.{start_of}
 use Rattle.link_table.specs.History.{IsLegal, IsBestThroughout}
 use Rattle.link_table.specs.Dispatch.{context_of}
-use Rattle.schedule_program.specs.declared.posted.Posted.{Posted}
-use Rattle.schedule_program.specs.FirstText.{IsFirstText, IsNoInput}
+use Rattle.trace_reader.specs.declared.posted.Posted.{Posted}
+use Rattle.trace_reader.specs.declared.fault.InputKind.{InputKind}
+use Rattle.trace_reader.specs.InputText.{IsInputText}
+use Rattle.trace_reader.specs.InputFault.{IsInputRefused, kind_number}
 use Rattle.schedule_program.specs.Merge.{IsMerge}
-use Rattle.schedule_program.specs.ScheduleText.{schedule_text}
+use Rattle.schedule_program.specs.declared.status.Status.{Status}
+use Rattle.schedule_program.specs.declared.status.Status.TheVariants.{Input, OutOfMemory}
+use Rattle.schedule_text.specs.ScheduleText.{schedule_text}
 
 -- the most bytes that are read
 abbrev pub byte_limit : ℕ
@@ -29,7 +32,7 @@ pub record Replays (read put : List ℕ) : Type 0 where
   pub events : List Posted
   pub history : List Entry
   pub printed : List Context
-  pub input : IsFirstText read set events
+  pub input : IsInputText read set events
   pub text : put ≡ schedule_text set history printed
   pub merge : IsMerge events history
   pub legal : IsLegal set history
@@ -43,15 +46,25 @@ pub record ReadsAndReplays (old new : Option (List ℕ)) (put : List ℕ) : Type
   pub within : length read ≤ byte_limit
   pub replayed : Replays read put
 
--- all that was left of a source was read, and it is the text of no input that is served
-pub record ReadsNoInput (old new : Option (List ℕ)) : Type 0 where
+-- the bytes are refused at this line, with a kind of this number
+pub record RefusesInput (bytes : List ℕ) (line kind : ℕ) : Type 0 where
+  pub cause : InputKind
+  pub refused : IsInputRefused bytes line cause
+  pub number : kind_number cause ≡ Some kind
+
+-- all that was left of a source was read, and it is refused at this line, with a kind of this number
+pub record ReadsRefused (old new : Option (List ℕ)) (line kind : ℕ) : Type 0 where
   pub read : List ℕ
   pub all : TakesAll old new read
   pub within : length read ≤ byte_limit
-  pub refused : IsNoInput read
+  pub refused : RefusesInput read line kind
 
 -- the words are the command, and the source tells what it has left, which is no more than is read
 pub record IsToRead (words : List (List ℕ)) (left : Option (List ℕ)) (read : List ℕ) : Type 0 where
   pub command : IsCommand words
   pub told : left ≡ Some read
   pub within : length read ≤ byte_limit
+
+-- the status of bytes that are refused: the line and the kind, or want of memory
+abbrev pub IsRefusalOf : List ℕ → Status → Type 0
+IsRefusalOf bytes status = ((line : ℕ) × (kind : ℕ) × (status ≡ Input line kind) × RefusesInput bytes line kind) ⊎ (status ≡ OutOfMemory)

@@ -1,5 +1,8 @@
--- The answers of the program, as numbers and as lines.
-use Rattle.std.specs.Prelude.{ℕ, List, [], ◌++◌, codes}
+-- The answers of the program, as numbers and as lines. What a reader must believe: each answer has the exit status and
+-- the line that are fixed for it here, and Done has no line.
+use Rattle.std.specs.Prelude.{ℕ, List, [], ◌++◌, codes, Option, None, Some}
+use Rattle.trace_reader.specs.declared.fault.InputFault.{InputFault}
+use Rattle.trace_reader.specs.InputFault.{kind_number}
 use Rattle.affinity_mask.specs.Number.{canonical_number}
 use Rattle.schedule_program.specs.declared.status.Status.{Status}
 use Rattle.schedule_program.specs.declared.status.Status.TheVariants.{Done, Invalid, Usage, Input, TooLong, ReadFault, WriteFault, OutOfMemory}
@@ -36,3 +39,11 @@ BeforePut (Input line kind) P = P
 BeforePut TooLong P = P
 BeforePut ReadFault P = P
 BeforePut OutOfMemory P = P
+
+-- the status of a fault of the input: its line and the number of its kind, and want of memory has none
+abbrev pub status_of_number : ℕ → Option ℕ → Status
+status_of_number line None = OutOfMemory
+status_of_number line (Some kind) = Input line kind
+
+abbrev pub status_of_fault : InputFault → Status
+status_of_fault fault = status_of_number fault.line (kind_number fault.kind)

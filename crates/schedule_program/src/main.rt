@@ -1,12 +1,11 @@
 //! The strong APA scheduler as a program: from the bytes read to the schedule text.
 #![tactic(auto)]
 
-mod arrivals;
-mod first_text;
-mod posted;
-mod reader;
+mod contexts;
+#[cfg(test)]
+mod histories;
+mod replay;
 mod run;
-mod schedule_text;
 mod status;
 #[cfg(test)]
 mod tests;

@@ -2,7 +2,9 @@
 ghost use Rattle.schedule_program.specs.Status.{exit_status_of, status_text};
 ghost use Rattle.std.specs.Prelude.{◌≡◌, Some};
 
+use affinity_mask::OutOfMemory;
 use std::fmt;
+use trace_reader::InputFault;
 
 /// What became of a call of the program.
 #[derive(Clone, Copy, Debug, PartialEq, Eq)]
@@ -13,7 +15,7 @@ pub enum Status {
     Invalid { line: u64, defect: u8 },
     /// The words are no command.
     Usage,
-    /// The input is refused: its first faulty line, from 1, and the fault's number. Both are 0 where it is not served yet.
+    /// The input is refused: its first faulty line, from 1, and the number of the fault's kind.
     Input { line: u64, kind: u8 },
     /// There are more bytes than the program reads.
     TooLong,
@@ -57,5 +59,31 @@ pub fn exit_status(status: &Status) -> u8
         Status::ReadFault => 4,
         Status::WriteFault => 5,
         Status::OutOfMemory => 6,
+    }
+}
+
+impl From<InputFault> for Status {
+    ghost use Rattle.schedule_program.specs.Status.{status_of_fault};
+
+    ghost from_gives = { λ fault status. status ≡ status_of_fault fault };
+
+    fn from(fault: InputFault) -> Status {
+        match fault.kind.number() {
+            Some(kind) => Status::Input {
+                line: fault.line,
+                kind,
+            },
+            None => Status::OutOfMemory,
+        }
+    }
+}
+
+impl From<OutOfMemory> for Status {
+    ghost use Rattle.schedule_program.specs.declared.status.Status.TheVariants.{OutOfMemory};
+
+    ghost from_gives = { λ _ status. status ≡ OutOfMemory };
+
+    fn from(_refused: OutOfMemory) -> Status {
+        Status::OutOfMemory
     }
 }

@@ -1,6 +1,7 @@
 //! Whole runs, from the bytes of an input to the bytes of its schedule.
 ghost use Rattle.std.specs.Prelude.{◌<◌};
 
+use crate::histories::{HISTORIES, History};
 use crate::run::run;
 use crate::status::{Status, exit_status};
 use shift_io::{MemSink, MemSource, Sink, Source, StdSink, StdSource};
@@ -13,15 +14,6 @@ const SMALLEST_INPUT: &str = "apa 1\nprocessors 1\ntask a 5 0\n0 arrive a\nend\n
 const SMALLEST_SCHEDULE: &str =
     "schedule 1\nprocessors 1\ntask a 5 0\nhistory 1\n0 arrive a placed 0\n\
 contexts 1\na units 0 stints 1 moves 0 last 0 trail 0\nend\n";
-
-const ONE_PROCESSOR_INPUT: &str = "apa 1\nprocessors 1\ntask a 5 0\ntask b 2 0\ntask c 9 0\n\
-0 arrive a\n0 arrive b\n0 arrive c\n0 arrive a\nend\n";
-
-const ONE_PROCESSOR_SCHEDULE: &str =
-    "schedule 1\nprocessors 1\ntask a 5 0\ntask b 2 0\ntask c 9 0\nhistory 4\n\
-0 arrive a placed 0\n0 arrive b displaced 0 out a reach 0\n0 arrive c waits 0\n0 arrive a already\ncontexts 3\n\
-a units 0 stints 1 moves 0 last 0 trail 0\nb units 0 stints 1 moves 0 last 0 trail 1\n\
-c units 0 stints 0 moves 0 last - trail 2\nend\n";
 
 fn source_of(alloc: Global, text: &str, most: usize, fails: &[u64]) -> Result<MemSource, AllocError>
     requires { 0 < most }
@@ -54,10 +46,28 @@ fn run_words<S: Source, K: Sink>(
 
 /// The status of a run over memory, and the text that it put.
 fn replay(alloc: Global, words: &[&str], input: &str) -> Result<(Status, Vec<u8>), AllocError> {
-    let mut source = source_of(alloc, input, 4096, &[])?;
-    let mut sink = sink_of(alloc, 4096, 4096, &[])?;
+    let mut source = source_of(alloc, input, 1_000_000, &[])?;
+    let mut sink = sink_of(alloc, 16_384, 4096, &[])?;
     let status = run_words(alloc, words, &mut source, &mut sink)?;
     Ok((status, Vec::from_slice(alloc, sink.bytes())?))
+}
+
+/// The input of a history, and its schedule.
+fn texts_of(alloc: Global, history: &History) -> Result<(String, String), AllocError> {
+    let mut input = format!(in alloc; "apa 1\n{}", history.head)?;
+    let mut schedule = format!(in alloc; "schedule 1\n{}", history.head)?;
+    writeln!(schedule, "history {}", history.entries.len())?;
+    for (event, reply) in history.entries {
+        writeln!(input, "{event}")?;
+        writeln!(schedule, "{event} {reply}")?;
+    }
+    writeln!(input, "end")?;
+    writeln!(schedule, "contexts {}", history.contexts.len())?;
+    for context in history.contexts {
+        writeln!(schedule, "{context}")?;
+    }
+    writeln!(schedule, "end")?;
+    Ok((input, schedule))
 }
 
 #[test]
@@ -81,32 +91,149 @@ fn smallest_history_over_std_streams(rt: HostRuntime) -> Result<(), Fail> {
 }
 
 #[test]
-fn one_processor_arrivals(rt: HostRuntime) -> Result<(), Fail> {
-    let (status, put) = replay(rt.alloc(), &["run"], ONE_PROCESSOR_INPUT)?;
-    assert_eq!(rt; status, Status::Done);
-    assert_eq!(rt; str::from_utf8(&put), Ok(ONE_PROCESSOR_SCHEDULE));
+fn worked_histories(rt: HostRuntime) -> Result<(), Fail> {
+    for history in &HISTORIES {
+        let (input, schedule) = texts_of(rt.alloc(), history)?;
+        let (status, put) = replay(rt.alloc(), &["run"], &input)?;
+        assert_eq!(rt; status, Status::Done, "in {}", history.name);
+        assert_eq!(rt;
+            str::from_utf8(&put),
+            Ok(schedule.as_str()),
+            "in {}",
+            history.name
+        );
+    }
     Ok(())
 }
 
 #[test]
-fn refused_words_and_inputs(rt: HostRuntime) -> Result<(), Fail> {
-    let refused = Status::Input { line: 0, kind: 0 };
-    let without_end = "apa 1\nprocessors 1\ntask a 5 0\n0 arrive a\n";
-    let same_priority = "apa 1\nprocessors 1\ntask a 1 0\ntask b 1 0\nend\n";
-    let cases: [(&[&str], &str, Status, u8); 6] = [
-        (&[], SMALLEST_INPUT, Status::Usage, 2),
-        (&["run", "x"], SMALLEST_INPUT, Status::Usage, 2),
-        (&["runs"], SMALLEST_INPUT, Status::Usage, 2),
-        (&["run"], "", refused, 3),
-        (&["run"], without_end, refused, 3),
-        (&["run"], same_priority, refused, 3),
-    ];
-    for (words, input, want, exit) in cases {
-        let (status, put) = replay(rt.alloc(), words, input)?;
-        assert_eq!(rt; status, want, "at {input:?}");
-        assert_eq!(rt; exit_status(&status), exit);
+fn longest_chain(rt: HostRuntime) -> Result<(), Fail> {
+    let alloc = rt.alloc();
+    let mut head = format!(in alloc; "processors 64\n")?;
+    let mut events = String::new(alloc);
+    let mut entries = String::new(alloc);
+    let mut chain = format!(in alloc; "0")?;
+    let mut contexts = String::new(alloc);
+    for i in 0u32..63 {
+        writeln!(head, "task c{i} {} {i}-{}", i + 1, i + 1)?;
+        writeln!(events, "0 arrive c{i}")?;
+        writeln!(entries, "0 arrive c{i} placed {i}")?;
+        write!(chain, ">{}", i + 1)?;
+        writeln!(
+            contexts,
+            "c{i} units 0 stints 2 moves 1 last {} trail {i}",
+            i + 1
+        )?;
+    }
+    writeln!(head, "task z 100 0")?;
+    let input = format!(in alloc; "apa 1\n{head}{events}0 arrive z\nend\n")?;
+    let schedule = format!(in alloc;
+        "schedule 1\n{head}history 64\n{entries}0 arrive z placed {chain}\n\
+contexts 64\n{contexts}z units 0 stints 1 moves 0 last 0 trail 63\nend\n"
+    )?;
+    let (status, put) = replay(alloc, &["run"], &input)?;
+    assert_eq!(rt; status, Status::Done);
+    assert_eq!(rt; str::from_utf8(&put), Ok(schedule.as_str()));
+    Ok(())
+}
+
+#[test]
+fn refused_words(rt: HostRuntime) -> Result<(), Fail> {
+    let cases: [&[&str]; 3] = [&[], &["run", "x"], &["runs"]];
+    for words in cases {
+        let (status, put) = replay(rt.alloc(), words, SMALLEST_INPUT)?;
+        assert_eq!(rt; status, Status::Usage);
+        assert_eq!(rt; exit_status(&status), 2);
         assert!(rt; put.is_empty());
     }
+    Ok(())
+}
+
+/// Whether an input is refused with this line and kind, and nothing is put.
+fn is_refused(alloc: Global, input: &str, line: u64, kind: u8) -> Result<bool, AllocError> {
+    let (status, put) = replay(alloc, &["run"], input)?;
+    Ok(status == Status::Input { line, kind } && exit_status(&status) == 3 && put.is_empty())
+}
+
+#[test]
+fn limits_and_clashes(rt: HostRuntime) -> Result<(), Fail> {
+    let rows = [
+        ("apa 2\n", 1, 3),
+        ("apa 1\nprocessors 65\n", 2, 4),
+        ("apa 1\nprocessors 1\ntask a 4294967296 0\nend\n", 3, 5),
+        ("apa 1\nprocessors 1\ntask a 1 0,,1\nend\n", 3, 6),
+        ("apa 1\nprocessors 2\ntask a 1 0-2\nend\n", 3, 7),
+        ("apa 1\nprocessors 1\ntask a 1 0\ntask b 1 0\nend\n", 4, 7),
+        ("apa 1\nprocessors 1\ntask a 1 0\n0 tick 0\nend\n", 4, 8),
+        (
+            "apa 1\nprocessors 1\ntask a 1 0\n0 tick 1000001\nend\n",
+            4,
+            8,
+        ),
+        ("apa 1\nprocessors 1\ntask a 1 0\n0 arrive q\nend\n", 4, 9),
+    ];
+    for (input, line, kind) in rows {
+        assert!(rt; is_refused(rt.alloc(), input, line, kind)?, "at {input:?}");
+    }
+
+    let mut tasks = format!(in rt.alloc(); "apa 1\nprocessors 1\n")?;
+    for i in 0u32..1025 {
+        writeln!(tasks, "task t{i} {i} 0")?;
+    }
+    assert!(rt; is_refused(rt.alloc(), &tasks, 1027, 7)?);
+
+    let mut ticks = format!(in rt.alloc(); "apa 1\nprocessors 1\ntask a 1 0\n")?;
+    for _ in 0u32..20_001 {
+        writeln!(ticks, "0 tick 1")?;
+    }
+    assert!(rt; is_refused(rt.alloc(), &ticks, 20_004, 10)?);
+    Ok(())
+}
+
+#[test]
+fn ends_and_bytes(rt: HostRuntime) -> Result<(), Fail> {
+    let without_end = "apa 1\nprocessors 1\ntask a 5 0\n0 arrive a\n";
+    let mut spaces = String::new(rt.alloc());
+    for _ in 0u32..4096 {
+        write!(spaces, " ")?;
+    }
+    let event_behind = format!(in rt.alloc(); "{SMALLEST_INPUT}0 tick 1\n")?;
+    let long_line = format!(in rt.alloc(); "{spaces} \n{SMALLEST_INPUT}")?;
+    let rows = [
+        ("", 1, 12),
+        (without_end, 5, 12),
+        (event_behind.as_str(), 6, 11),
+        ("apa 1\r\n", 1, 1),
+        (long_line.as_str(), 1, 2),
+    ];
+    for (input, line, kind) in rows {
+        assert!(rt;
+            is_refused(rt.alloc(), input, line, kind)?,
+            "in line {line}"
+        );
+    }
+
+    let commented = [
+        format!(in rt.alloc(); "{spaces}\n{SMALLEST_INPUT}")?,
+        format!(in rt.alloc(); "{SMALLEST_INPUT}\n# done\n")?,
+    ];
+    for input in &commented {
+        let (status, put) = replay(rt.alloc(), &["run"], input)?;
+        assert_eq!(rt; status, Status::Done);
+        assert_eq!(rt; str::from_utf8(&put), Ok(SMALLEST_SCHEDULE));
+    }
+    Ok(())
+}
+
+#[test]
+fn sixteen_million_line_feeds(rt: HostRuntime) -> Result<(), Fail> {
+    let bytes = vec![in rt.alloc(); b'\n'; 16_777_217]?;
+    let mut source = MemSource::new(bytes, 16_777_217, Vec::new(rt.alloc()));
+    let mut sink = sink_of(rt.alloc(), 16, 16, &[])?;
+    let status = run_words(rt.alloc(), &["run"], &mut source, &mut sink)?;
+    assert_eq!(rt; status, Status::TooLong);
+    assert_eq!(rt; exit_status(&status), 3);
+    assert!(rt; sink.bytes().is_empty());
     Ok(())
 }
 

@@ -1,23 +1,39 @@
+use Rattle.std.proofs.Common.{inr, rules}
 use Rattle.std.proofs.lemmas.Result.{err_from_is_err_and}
+use Rattle.schedule_text.proofs.LegalEntries.{legal_entries}
 use Rattle.schedule_program.proofs.Headline.{headline}
-use Rattle.schedule_program.proofs.Wants.{no_refusal}
+use Rattle.schedule_program.proofs.Known.{known_events, about_entries}
+use Rattle.schedule_program.proofs.Refusals.{memory_of_fault, status_of_refused}
 use Rattle.schedule_program.proofs.Running.{contexts_known}
 use Rattle.schedule_program.proofs.run.replayed_text.Goals as goal
 
+pub returns-in_err-input-clause-accepts : goal.returns-in_err-input-clause-accepts
+returns-in_err-input-clause-accepts c = λ set events text.
+    let p = err_from_is_err_and c.from_residual.result c.from_residual.ensures.1 in
+    rw (p.1, p.2) (memory_of_fault c.in_err-input.field-0.0 (c.in_err-input.ensures.accepts set events text))
+
+pub returns-in_err-input-clause-refuses : goal.returns-in_err-input-clause-refuses
+returns-in_err-input-clause-refuses c = λ line kind why.
+    let p = err_from_is_err_and c.from_residual.result c.from_residual.ensures.1 in
+    rw (p.1, p.2) (status_of_refused c.args.bytes.now line kind c.in_err-input.field-0.0 why (c.in_err-input.ensures.refuses line why.cause why.refused))
+
+pub write_schedule-requires-clause-entries : goal.write_schedule-requires-clause-entries
+write_schedule-requires-clause-entries c =
+    let valid = c.set.ensures.valid in
+    let schedule = rw (c.set.ensures.value, c.events.ensures.value) at c.in_ok-made.ensures in
+    rw (c.set-2.ensures.value, c.history.ensures.value) (legal_entries c.in_ok-input.input.set c.in_ok-made.made.core.history valid.lawful schedule.legal
+    (about_entries c.in_ok-input.input.set c.in_ok-input.input.events c.in_ok-made.made.core.history valid.each_event schedule.each_event))
+
 pub write_schedule-requires-clause-contexts : goal.write_schedule-requires-clause-contexts
-write_schedule-requires-clause-contexts c = rw c.deref-3.ensures.value (contexts_known c.in_ok-input.input.set c.in_ok-made.made.entries.items _ _ c.in_ok-made.ensures.each_context)
-
-pub returns-in_err-made-clause-refused : goal.returns-in_err-made-clause-refused
-returns-in_err-made-clause-refused c =
-    let p = err_from_is_err_and c.from_residual-in_err-made.result c.from_residual-in_err-made.ensures.1 in
-    λ e. absurd (no_refusal c.from_residual-in_err-made.result p.0 p.1 p.2 e)
-
-pub returns-in_err-text-clause-refused : goal.returns-in_err-text-clause-refused
-returns-in_err-text-clause-refused c =
-    let p = err_from_is_err_and c.from_residual-in_err-text.result c.from_residual-in_err-text.ensures.1 in
-    λ e. absurd (no_refusal c.from_residual-in_err-text.result p.0 p.1 p.2 e)
+write_schedule-requires-clause-contexts c =
+    let schedule = rw (c.set.ensures.value, c.events.ensures.value) at c.in_ok-made.ensures in
+    rw (c.set-2.ensures.value, c.deref.ensures.value) (contexts_known c.in_ok-input.input.set c.in_ok-made.made.core.history _ _ schedule.each_context)
 
 pub returns-clause-replays : goal.returns-clause-replays
 returns-clause-replays c =
-    headline c.args.bytes.now _ c.in_ok-input.input.set c.in_ok-input.input.events.items c.in_ok-made.made.entries.items c.in_ok-made.made.contexts.items
-    c.in_ok-input.ensures.input (rw c.deref.ensures.value at c.in_ok-made.ensures) (rw (c.deref-2.ensures.value, c.deref-3.ensures.value) at c.in_ok-text.ensures)
+    headline c.args.bytes.now _ c.in_ok-input.input.set c.in_ok-input.input.events c.in_ok-made.made.core.history c.in_ok-made.made.contexts.items
+    c.in_ok-input.ensures.input (rw (c.set.ensures.value, c.events.ensures.value) at c.in_ok-made.ensures)
+    (rw (c.set-2.ensures.value, c.history.ensures.value, c.deref.ensures.value) at c.in_ok-text.ensures)
+
+pub returns-clause-refuses : goal.returns-clause-refuses
+returns-clause-refuses c = λ line kind why. c.in_ok-input.ensures.refuses line why.cause why.refused

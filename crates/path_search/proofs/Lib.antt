@@ -1,0 +1,5 @@
+pub mod ChainPaths
+pub mod Closures
+pub mod LeastPaths
+pub mod Moves
+pub mod Rests

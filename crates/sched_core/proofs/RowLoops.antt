@@ -1,0 +1,160 @@
+-- The rows of orders, as a loop goes over them one by one.
+use Rattle.std.proofs.Common.{◌≡◌, ◌≢◌, ℕ, zero, suc, ◌+◌, ◌<◌, ◌≤◌, ◌^◌, Bool, true, false, not, ◌&&◌, cond, List, [], ◌∷◌, ◌++◌, length, get_or, map, filter, set, Option, Some, None, refl, sym, ap, ◌∙◌, subst, inl, inr, arith, if◌then◌else◌}
+use Rattle.std.specs.List.{range_with_len}
+use Rattle.std.proofs.lemmas.Bool.{cases_Bool, cases_lt, cases_eq}
+use Rattle.std.proofs.lemmas.List.{map-id, length-append, length-set, get_or-set_same, get_or-set_other}
+use Rattle.std.proofs.lemmas.List.FromFn.{filter_of_map_range_with_len_more}
+use Rattle.task_set.specs.declared.event.Event.{Event}
+use Rattle.task_set.specs.declared.order.Order.{Order}
+use Rattle.link_table.specs.State.{State, IsState, task_on, task_count, is_task}
+use Rattle.link_table.specs.Dispatch.{change_orders, tick_orders, take_of, release_of, is_same_occupant}
+use Rattle.link_table.proofs.Linked.{is_task-same, is_task-true}
+use Rattle.sched_core.specs.CoreRows.{RowData, row_at, empty_row, OnlyGrew, RowsOnlyGrew, HasRoomInEach, RowFollows, RowsFollow, RowCloses, RowsClose, NumbersBecome, came, came_below}
+
+-- the rows below n became what they have to, and the others are as they were
+pub record RowsDone (Becomes : ℕ → RowData → RowData → Type 0) (old : List RowData) (n : ℕ) (now : List RowData) : Type 0 where
+  pub count : length now ≡ length old
+  pub done : (p : ℕ) → p < n → p < length old → Becomes p (row_at old p) (row_at now p)
+  pub rest : (p : ℕ) → n ≤ p → row_at now p ≡ row_at old p
+
+pub rows_done-none : (Becomes : ℕ → RowData → RowData → Type 0) (old : List RowData) → RowsDone Becomes old 0 old
+rows_done-none Becomes old = record {
+  count = refl;
+  done = λ p below fits. absurd (let no : ⊥ = omega arith in no);
+  rest = λ p above. refl;
+}
+
+-- one row more
+pub rows_done-more : (Becomes : ℕ → RowData → RowData → Type 0) (old : List RowData) (n : ℕ) (now : List RowData) (row : RowData) → n < length old → RowsDone Becomes old n now → Becomes n (row_at now n) row → RowsDone Becomes old (n + 1) (set now n row)
+rows_done-more Becomes old n now row fits so_far here = record {
+  count = length-set now n row ∙ so_far.count;
+  done = λ p below inside. elim (cases_eq p n) [
+    | inl same ↦ rw (same, get_or-set_same now n row empty_row (rw so_far.count fits), ← so_far.rest n (omega arith)) here
+    | inr other ↦ rw (get_or-set_other now n p row empty_row other) (so_far.done p (omega arith) inside)
+  ];
+  rest = λ p above. get_or-set_other now n p row empty_row (λ e. absurd (let no : ⊥ = omega arith in no)) ∙ so_far.rest p (omega arith);
+}
+
+-- ---- rows that only grow
+pub grew-same : (row : RowData) → OnlyGrew row row
+grew-same row = record { orders = refl; held = refl; room = omega arith }
+
+-- the rows gone over have the room, and all only grew
+abbrev pub GrewWithRoom : ℕ → ℕ → RowData → RowData → Type 0
+GrewWithRoom room p old new = OnlyGrew old new × (room ≤ new.room)
+
+module _ (room : ℕ) (old : List RowData) (n : ℕ) (now : List RowData) (so_far : RowsDone (GrewWithRoom room) old n now) where
+  pub rows_grew : RowsOnlyGrew old now
+  rows_grew = record {
+    count = so_far.count;
+    each = λ p fits. elim (cases_lt p n) [
+      | inl below ↦ (so_far.done p below fits).0
+      | inr above ↦ rw (so_far.rest p above) (grew-same (row_at old p))
+    ];
+  }
+
+  -- the row at n has grown as well, with enough room or not
+  pub rows_grew-more : (row : RowData) → n < length old → OnlyGrew (row_at now n) row → RowsOnlyGrew old (set now n row)
+  rows_grew-more row inside here = record {
+    count = length-set now n row ∙ so_far.count;
+    each = λ p fits. elim (cases_eq p n) [
+      | inl same ↦ rw (same, get_or-set_same now n row empty_row (rw so_far.count inside), ← so_far.rest n (omega arith)) here
+      | inr other ↦ rw (get_or-set_other now n p row empty_row other) (rows_grew.each p fits)
+    ];
+  }
+
+  pub rows_have_room : length old ≤ n → HasRoomInEach room now
+  rows_have_room whole p fits = let inside : p < length old = rw so_far.count at fits in (so_far.done p (omega arith) inside).1
+
+-- ---- the numbers below n that pass a test
+filter_more : (test : ℕ → Bool) (n : ℕ) → filter test (range_with_len 0 (n + 1)) ≡ filter test (range_with_len 0 n) ++ cond (test n) (n ∷ []) []
+filter_more test n =
+    ap (filter test) (sym (map-id (range_with_len 0 (n + 1))))
+    ∙ filter_of_map_range_with_len_more test (λ k. k) 0 n n (omega arith)
+    ∙ ap (λ (xs : List ℕ). filter test xs ++ cond (test n) (n ∷ []) []) (map-id (range_with_len 0 n))
+
+pub filtered_count-more : (test : ℕ → Bool) (n : ℕ) → length (filter test (range_with_len 0 (n + 1))) ≡ length (filter test (range_with_len 0 n)) + cond (test n) 1 0
+filtered_count-more test n = ap length (filter_more test n) ∙ length-append (filter test (range_with_len 0 n)) (cond (test n) (n ∷ []) []) ∙ last (test n)
+  where
+    last : (b : Bool) → length (filter test (range_with_len 0 n)) + length (cond b (n ∷ []) []) ≡ length (filter test (range_with_len 0 n)) + cond b 1 0
+    last true = refl
+    last false = refl
+
+filtered_count-suc : (test : ℕ → Bool) (n : ℕ) → length (filter test (range_with_len 0 (suc n))) ≡ length (filter test (range_with_len 0 n)) + cond (test n) 1 0
+filtered_count-suc test n =
+    let e : n + 1 ≡ suc n = omega arith in
+    subst (λ k. length (filter test (range_with_len 0 k)) ≡ length (filter test (range_with_len 0 n)) + cond (test n) 1 0) e (filtered_count-more test n)
+
+-- at most n of the first n numbers pass
+pub filtered_count-bound : (test : ℕ → Bool) (n : ℕ) → length (filter test (range_with_len 0 n)) ≤ n
+filtered_count-bound test zero = let e : length (filter test (range_with_len 0 0)) ≡ 0 = refl in omega (arith, e)
+filtered_count-bound test (suc n) =
+    bound (test n) (filtered_count-suc test n) (filtered_count-bound test n)
+  where
+    bound : (b : Bool) → length (filter test (range_with_len 0 (suc n))) ≡ length (filter test (range_with_len 0 n)) + cond b 1 0 → length (filter test (range_with_len 0 n)) ≤ n → length (filter test (range_with_len 0 (suc n))) ≤ suc n
+    bound true e before = omega (arith, e, before)
+    bound false e before = omega (arith, e, before)
+
+-- tests that agree below n count the same numbers
+pub filtered_count-same : (test other : ℕ → Bool) (n : ℕ) → ((p : ℕ) → p < n → test p ≡ other p) → length (filter test (range_with_len 0 n)) ≡ length (filter other (range_with_len 0 n))
+filtered_count-same test other zero same = refl
+filtered_count-same test other (suc n) same =
+    let before = filtered_count-same test other n (λ p below. same p (omega arith)) in
+    filtered_count-suc test n ∙ rw (before, same n (omega arith)) (sym (filtered_count-suc other n))
+
+-- where no number below n passes, none is counted
+pub filtered_count-none : (test : ℕ → Bool) (n : ℕ) → ((p : ℕ) → p < n → test p ≡ false) → length (filter test (range_with_len 0 n)) ≡ 0
+filtered_count-none test zero none = refl
+filtered_count-none test (suc n) none =
+    let more = filtered_count-suc test n in
+    let before = filtered_count-none test n (λ p below. none p (omega arith)) in
+    let one : ℕ = 1 in
+    let here : cond (test n) one 0 ≡ 0 = rw (none n (omega arith)) refl in
+    omega (arith, more, before, here)
+
+-- ---- how often each task was taken
+-- before any processor
+pub numbers-none : (rows : List RowData) (links : State) (takes : List ℕ) → NumbersBecome (λ t n. n + length (came_below rows links 0 t)) takes takes
+numbers-none rows links takes = record { count = refl; each = λ t d fits. omega arith }
+
+-- one processor more
+pub numbers-more : (rows : List RowData) (links : State) (n : ℕ) (old takes new : List ℕ) (held : Option ℕ) → (row_at rows n).held ≡ held → NumbersBecome (λ t k. k + length (came_below rows links n t)) old takes
+    → NumbersBecome (λ t k. if came t held (task_on links n) then k + 1 else k) takes new
+    → NumbersBecome (λ t k. k + length (came_below rows links (n + 1) t)) old new
+numbers-more rows links n old takes new held same so_far here = record {
+  count = here.count ∙ so_far.count;
+  each = λ t d fits.
+      let before = so_far.each t d fits in
+      let now = here.each t d (rw so_far.count fits) in
+      let more = filtered_count-more (λ p. came t (row_at rows p).held (task_on links p)) n in
+      now ∙ counted t (came t held (task_on links n)) (get_or takes t d) (get_or old t d) before (rw same at more);
+}
+  where
+    counted : (t : ℕ) (b : Bool) (k k₀ : ℕ) → k ≡ k₀ + length (came_below rows links n t) → length (came_below rows links (n + 1) t) ≡ length (came_below rows links n t) + cond b 1 0 → (if b then k + 1 else k) ≡ k₀ + length (came_below rows links (n + 1) t)
+    counted t true k k₀ before more = omega (arith, before, more)
+    counted t false k k₀ before more = omega (arith, before, more)
+
+-- no task came to a processor below the one that it is on
+pub none_came : (rows : List RowData) (links : State) (n t : ℕ) → IsState links → task_on links n ≡ Some t → length (came_below rows links n t) ≡ 0
+none_came rows links n t ok on = filtered_count-none (λ p. came t (row_at rows p).held (task_on links p)) n (λ p below. elim (cases_Bool (is_task t (task_on links p))) [
+  | inl there ↦ let same = ok.once p n t (is_task-true t (task_on links p) there) on in absurd (let no : ⊥ = omega (arith, same, below) in no)
+  | inr other ↦ rw other refl
+])
+
+-- the orders at a change name the take of the occupant alone
+pub change_orders-same_number : (takes others : ℕ → ℕ) (held occupant : Option ℕ) → ((t : ℕ) → occupant ≡ Some t → takes t ≡ others t) → change_orders takes held occupant ≡ change_orders others held occupant
+change_orders-same_number takes others held None same = refl
+change_orders-same_number takes others held (Some t) same = rw (same t refl) refl
+
+-- ---- a row follows, with the numbers of the takes before the event
+pub row_follows : (rows : List RowData) (links : State) (n : ℕ) (old takes : List ℕ) (row new : RowData) (event : Event) → IsState links → task_count links ≡ length old → ((t : ℕ) → task_on links n ≡ Some t → t < length old)
+    → NumbersBecome (λ t k. k + length (came_below rows links n t)) old takes
+    → RowFollows row (λ t. get_or takes t 0) (task_on links n) event new → RowFollows row (λ t. get_or old t 0) (task_on links n) event new
+row_follows rows links n old takes row new event ok count known so_far follows = record {
+  orders = follows.orders ∙ ap (λ (xs : List Order). row.orders ++ xs ++ tick_orders event row.held) (change_orders-same_number (λ t. get_or takes t 0) (λ t. get_or old t 0) row.held (task_on links n) (λ t on.
+      let number = so_far.each t 0 (known t on) in
+      let none = none_came rows links n t ok on in
+      omega (arith, number, none)));
+  held = follows.held;
+  room = follows.room;
+}

@@ -1,0 +1,55 @@
+//! What holds of every legal history and its orders, and of the scheduler's step, whatever program takes it. Each law
+//! is the contract of a function that does nothing: a caller in a proof gets the law by its clause.
+ghost use Rattle.sched_core.specs.ImprovingLaw.{LegalHistoryHasNoImprovingChain};
+ghost use Rattle.sched_core.specs.OrderLaws.{OrdersObeyable, OrdersCount, OrdersNameTasks, TakeNumbersSmall};
+ghost use Rattle.sched_core.specs.StepLaws.{StepExists, LegalHistoryExists, LegalHistoryIsUnique};
+ghost use Rattle.sched_core.specs.StintLaw.{StintsGiveContext, StintsAreTakes};
+
+/// Each processor can obey its orders, before the close and after it. Before it, a processor holds its occupant.
+pub fn orders_are_obeyable()
+    ensures { OrdersObeyable }
+{}
+
+/// A processor gets at most two orders for each event, and at most two more at the close.
+pub fn orders_are_few()
+    ensures { OrdersCount }
+{}
+
+/// Each order that names a task names one of the set.
+pub fn orders_name_tasks()
+    ensures { OrdersNameTasks }
+{}
+
+/// The number of each take is less than the number of events.
+pub fn take_numbers_are_small()
+    ensures { TakeNumbersSmall }
+{}
+
+/// In every state the scheduler has a reply to every event of one of the tasks, and a state to go to.
+pub fn step_exists()
+    ensures { StepExists }
+{}
+
+/// Events of tasks of a set have just one legal history.
+pub fn events_have_one_history()
+    ensures exists { LegalHistoryExists }
+    ensures unique { LegalHistoryIsUnique }
+{}
+
+/// After every entry of a legal history no task waits that could be shifted to an idle processor, or onto the processor
+/// of a less urgent task.
+pub fn legal_history_has_no_improving_chain()
+    ensures { LegalHistoryHasNoImprovingChain }
+{}
+
+/// The context that a task carries through the stints that its history ordered, on whatever processors, in the order
+/// of their numbers, is the one that the history gives it.
+pub fn stints_give_context()
+    ensures { StintsGiveContext }
+{}
+
+/// The stints of a task, in the order of their numbers, are numbered from 0 on, and stand on the processors on which the
+/// history takes the task, in the order in which it does.
+pub fn stints_are_takes()
+    ensures { StintsAreTakes }
+{}

@@ -1,0 +1,184 @@
+//! The scheduler on one thread.
+ghost use Rattle.std.specs.Prelude.{◌≡◌, ◌≢◌, ℕ, ◌+◌, ◌<◌, ◌≤◌, ◌↔◌, IsTrue, IfOk, Ok, Err, true, false, [], length};
+ghost use Rattle.std.specs.Result.{OnOk, OnErr, IsOk};
+ghost use Rattle.task_set.specs.declared.event.Event.{Event};
+ghost use Rattle.sched_core.specs.declared.fault.CoreFault.{CoreFault};
+ghost use Rattle.sched_core.specs.declared.fault.CoreFault.TheVariants.{Closed, Full};
+ghost use Rattle.link_table.specs.State.{task_count, start_of};
+ghost use Rattle.link_table.specs.Step.{SchedulerStep};
+ghost use Rattle.sched_core.specs.CoreData.{CoreData, IsCore, IsOfTask, Applied, OnlyMadeRoom, core_orders, max_entries};
+
+use crate::fault::CoreFault;
+use crate::order_row::OrderRow;
+use crate::order_rows::{close_rows, empty_rows, follow_links, no_takes, reserve_rows};
+use affinity_mask::OutOfMemory;
+use link_table::{Entry, Links, Reply};
+use std::alloc::Global;
+use std::marker::Model;
+use task_set::{Event, Order, TaskSet};
+use task_shift::{arrive, depart};
+
+/// A history has at most so many entries.
+pub const MAX_ENTRIES: usize = 20_000;
+
+/// The history of the events applied so far, the links after it, and the orders that it gives each processor.
+#[derive(Drop)]
+pub struct Core {
+    history: Vec<Entry>,
+    links: Links,
+    closed: bool,
+    rows: Vec<OrderRow>,
+
+    /// How often each task was taken.
+    takes: Vec<u32>,
+
+    /// For so many more entries there is room.
+    spare: usize,
+}
+
+impl Model for Core {
+    ghost use Rattle.sched_core.specs.CoreData.{CoreData};
+
+    ghost Value = { CoreData };
+
+    ghost use Rattle.sched_core.specs.CoreView.{core_view, IsKept};
+
+    ghost view = { core_view };
+
+    ghost invariant = { IsKept };
+}
+
+impl Core {
+    /// No event was applied: every task of the set is absent, and every processor is idle. Refused only for want of
+    /// memory.
+    pub fn new(alloc: Global, set: &TaskSet) -> Result<Core, OutOfMemory>
+        ensures { IfOk result (λ core. core ≡ record {
+          start = start_of set.now;
+          history = [];
+          links = start_of set.now;
+          closed = false;
+          spare = 0;
+        }) }
+    {
+        let links = Links::new(alloc, set)?;
+        let mut rows = empty_rows(alloc, links.processors())?;
+        reserve_rows(&mut rows, 2)?;
+        let takes = no_takes(alloc, links.len())?;
+        Ok(Core {
+            history: Vec::new(alloc),
+            links,
+            closed: false,
+            rows,
+            takes,
+            spare: 0,
+        })
+    }
+
+    /// Makes room for an entry, so that the next `apply` is not refused for want of memory. Nothing else changes.
+    pub fn reserve(&mut self) -> Result<(), OutOfMemory>
+        ensures kept { OnlyMadeRoom self.old self.new }
+        ensures ok { OnOk result (1 ≤ self.new.spare) }
+        ensures spare { 1 ≤ self.old.spare → IsOk result }
+    {
+        if self.spare == 0 {
+            reserve_rows(&mut self.rows, 5)?;
+            self.history.reserve(1)?;
+            self.spare = 1;
+        }
+        Ok(())
+    }
+
+    /// Applies an event of a caller, and answers the place of its entry in the history, from 0. It is `Closed` where
+    /// the core is closed, and `Full` where it is open and has `MAX_ENTRIES` entries. Memory may be refused where no room
+    /// is reserved. After an `Err` no more than the room for entries may differ.
+    pub fn apply(&mut self, caller: u32, event: Event) -> Result<u64, CoreFault>
+        requires { IsOfTask (task_count self.old.links) event }
+        ensures applied { IfOk result (λ place. Applied self.old caller event place self.new) }
+        ensures closed { (result ≡ Err Closed) ↔ IsTrue self.old.closed }
+        ensures full { (result ≡ Err Full) ↔ (self.old.closed ≡ false) × (length self.old.history ≡ max_entries) }
+        ensures memory { 1 ≤ self.old.spare → result ≢ Err CoreFault.OutOfMemory }
+        ensures refused { OnErr result (OnlyMadeRoom self.old self.new) }
+    {
+        if self.closed {
+            return Err(CoreFault::Closed);
+        }
+        let place = self.history.len();
+        if place == MAX_ENTRIES {
+            return Err(CoreFault::Full);
+        }
+        self.reserve()?;
+        self.enter(caller, event);
+        Ok(place as u64)
+    }
+
+    /// One entry more, for which there is room.
+    fn enter(&mut self, caller: u32, event: Event)
+        requires of_task { IsOfTask (task_count self.old.links) event }
+        requires not_closed { self.old.closed ≡ false }
+        requires room { 1 ≤ self.old.spare }
+        requires not_full { length self.old.history < max_entries }
+        ensures { Applied self.old caller event (length self.old.history) self.new }
+    {
+        let reply = reply_to(&mut self.links, event);
+        follow_links(&mut self.rows, &mut self.takes, &self.links, event);
+        self.history.push_reserved(Entry {
+            caller,
+            event,
+            reply,
+        });
+        self.spare -= 1;
+    }
+
+    /// Closes the core, for which it takes no memory. Where it was closed, nothing changes.
+    pub fn close_now(&mut self)
+        ensures { self.new ≡ record self.old { closed = true } }
+    {
+        if !self.closed {
+            close_rows(&mut self.rows);
+            self.closed = true;
+        }
+    }
+
+    /// The history, in the order in which the events were applied.
+    pub fn history(&self) -> &[Entry]
+        ensures value { result.now ≡ self.now.history }
+        ensures valid { IsCore self.now }
+    {
+        self.history.as_slice()
+    }
+
+    /// The links after the history.
+    pub fn links(&self) -> &Links
+        ensures value { result.now ≡ self.now.links }
+        ensures valid { IsCore self.now }
+    {
+        &self.links
+    }
+
+    /// Whether the core is closed. It takes no event then.
+    pub fn is_closed(&self) -> bool
+        ensures { result ≡ self.now.closed }
+    {
+        self.closed
+    }
+
+    /// The orders to a processor so far. They are all once the core is closed.
+    pub fn orders(&self, p: u8) -> &[Order]
+        requires { p < self.now.links.processors }
+        ensures { result.now ≡ core_orders self.now p }
+    {
+        self.rows[p as usize].orders()
+    }
+}
+
+/// The scheduler's reply to an event, which the links follow.
+fn reply_to(links: &mut Links, event: Event) -> Reply
+    requires { IsOfTask (task_count links.old) event }
+    ensures { SchedulerStep links.old event result links.new }
+{
+    match event {
+        Event::Arrive(t) => arrive(links, t),
+        Event::Depart(t) => depart(links, t),
+        Event::Tick(_) => Reply::Ticked,
+    }
+}

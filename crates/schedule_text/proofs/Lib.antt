@@ -1,0 +1,2 @@
+pub mod LegalEntries
+mod Written

@@ -1,0 +1,254 @@
+//! The writer of schedule texts.
+ghost use Rattle.std.specs.Prelude.{◌≡◌, ◌<◌, ◌++◌, length, codes, All, IfOk, OnOk, IfSome};
+ghost use Rattle.std.specs.List.{flat_map};
+ghost use Rattle.affinity_mask.specs.Number.{canonical_number};
+ghost use Rattle.trace_reader.specs.EventText.{name_of, line};
+ghost use Rattle.link_table.specs.declared.reply.Reply.TheVariants.{Displaced, Freed};
+ghost use Rattle.schedule_text.specs.ScheduleText.{
+  chain_text,
+  set_text,
+  somebody_text,
+  number_text,
+  reply_text,
+  entry_line,
+  context_line,
+  schedule_text,
+  IsReplyOf,
+  IsEntryOf,
+};
+
+use affinity_mask::{OutOfMemory, ProcSet};
+use itoa::Buffer;
+use link_table::{Chain, Entry, Reply};
+use std::alloc::Global;
+use task_set::{Context, TaskSet};
+use trace_reader::write::{write_event_text, write_processors_line, write_task_lines};
+
+/// The text of a schedule: a task set, the entries of a history, and the contexts of the tasks. The tasks that they
+/// name are of the set. Refused only for want of memory.
+pub fn write_schedule(
+    alloc: Global,
+    set: &TaskSet,
+    entries: &[Entry],
+    contexts: &[Context],
+) -> Result<Vec<u8>, OutOfMemory>
+    requires entries { All (IsEntryOf set.now) entries.now }
+    requires contexts { All (λ c. c.task < length set.now.tasks) contexts.now }
+    ensures { IfOk result (λ text. text.items ≡ schedule_text set.now entries.now contexts.now) }
+{
+    let mut text = Vec::from_slice(alloc, b"schedule 1\n")?;
+    write_processors_line(&mut text, set)?;
+    write_task_lines(&mut text, set)?;
+    write_count_line(&mut text, b"history ", entries.len())?;
+    write_entries(&mut text, set, entries)?;
+    write_count_line(&mut text, b"contexts ", contexts.len())?;
+    write_contexts(&mut text, set, contexts)?;
+    text.extend_from_slice(b"end\n")?;
+    Ok(text)
+}
+
+fn write_entries(text: &mut Vec<u8>, set: &TaskSet, entries: &[Entry]) -> Result<(), OutOfMemory>
+    requires { All (IsEntryOf set.now) entries.now }
+    ensures { OnOk result (text.new.items ≡ text.old.items ++ flat_map (entry_line set.now) entries.now) }
+{
+    for entry in entries {
+        write_entry(text, set, entry)?;
+    }
+    Ok(())
+}
+
+fn write_entry(text: &mut Vec<u8>, set: &TaskSet, entry: &Entry) -> Result<(), OutOfMemory>
+    requires { IsEntryOf set.now entry.now }
+    ensures { OnOk result (text.new.items ≡ text.old.items ++ entry_line set.now entry.now) }
+{
+    write_number(text, entry.caller as u64)?;
+    text.push(b' ')?;
+    write_event_text(text, set, entry.event)?;
+    text.push(b' ')?;
+    write_reply(text, set, &entry.reply)?;
+    text.push(b'\n')?;
+    Ok(())
+}
+
+#[tactic(auto, unfolding(crate::specs::ScheduleText::reply_text))]
+fn write_reply(text: &mut Vec<u8>, set: &TaskSet, reply: &Reply) -> Result<(), OutOfMemory>
+    requires { IsReplyOf set.now reply.now }
+    ensures { OnOk result (text.new.items ≡ text.old.items ++ reply_text set.now reply.now) }
+{
+    match reply {
+        Reply::Placed { chain } => write_placed(text, chain),
+        Reply::Displaced { chain, out, reach } => write_displaced(text, set, chain, *out, reach),
+        Reply::Waits { reach } => write_waits(text, reach),
+        Reply::Freed {
+            entered,
+            chain,
+            back,
+        } => write_freed(text, set, *entered, chain, back),
+        Reply::Left => write_word(text, b"left"),
+        Reply::Ticked => write_word(text, b"ticked"),
+        Reply::AlreadyReady => write_word(text, b"already"),
+        Reply::NotReady => write_word(text, b"absent"),
+    }
+}
+
+fn write_placed(text: &mut Vec<u8>, chain: &Chain) -> Result<(), OutOfMemory>
+    ensures { OnOk result (text.new.items ≡ text.old.items ++ (codes "placed " ++ chain_text chain.now)) }
+{
+    write_word(text, b"placed ")?;
+    write_chain(text, chain)
+}
+
+fn write_displaced(
+    text: &mut Vec<u8>,
+    set: &TaskSet,
+    chain: &Chain,
+    out: u32,
+    reach: &ProcSet,
+) -> Result<(), OutOfMemory>
+    requires { out < length set.now.tasks }
+    ensures { OnOk result (text.new.items ≡ text.old.items ++ reply_text set.now (Displaced chain.now out reach.now)) }
+{
+    write_word(text, b"displaced ")?;
+    write_chain(text, chain)?;
+    write_word(text, b" out ")?;
+    write_name(text, set, out)?;
+    write_word(text, b" reach ")?;
+    write_set(text, reach)
+}
+
+fn write_waits(text: &mut Vec<u8>, reach: &ProcSet) -> Result<(), OutOfMemory>
+    ensures { OnOk result (text.new.items ≡ text.old.items ++ (codes "waits " ++ set_text reach.now)) }
+{
+    write_word(text, b"waits ")?;
+    write_set(text, reach)
+}
+
+fn write_freed(
+    text: &mut Vec<u8>,
+    set: &TaskSet,
+    entered: Option<u32>,
+    chain: &Chain,
+    back: &ProcSet,
+) -> Result<(), OutOfMemory>
+    requires { IfSome entered (λ t. t < length set.now.tasks) }
+    ensures { OnOk result (text.new.items ≡ text.old.items ++ reply_text set.now (Freed entered chain.now back.now)) }
+{
+    write_word(text, b"freed ")?;
+    write_chain(text, chain)?;
+    write_word(text, b" enters ")?;
+    write_name_or_dash(text, set, entered)?;
+    write_word(text, b" back ")?;
+    write_set(text, back)
+}
+
+/// Appends the processors of a chain in their order, or '-' where it has none.
+fn write_chain(text: &mut Vec<u8>, chain: &Chain) -> Result<(), OutOfMemory>
+    ensures { OnOk result (text.new.items ≡ text.old.items ++ chain_text chain.now) }
+{
+    if chain.is_empty() {
+        return write_word(text, b"-");
+    }
+    write_number(text, chain.at(0) as u64)?;
+    for i in 1..chain.len() {
+        write_labelled_number(text, b">", chain.at(i) as u64)?;
+    }
+    Ok(())
+}
+
+/// Appends the canonical list of a set, or '-' where it is empty.
+fn write_set(text: &mut Vec<u8>, set: &ProcSet) -> Result<(), OutOfMemory>
+    ensures { OnOk result (text.new.items ≡ text.old.items ++ set_text set.now) }
+{
+    if set.is_empty() {
+        write_word(text, b"-")
+    } else {
+        set.write_list(text)
+    }
+}
+
+/// Appends the name of a task, or '-' for nobody.
+fn write_name_or_dash(text: &mut Vec<u8>, set: &TaskSet, t: Option<u32>) -> Result<(), OutOfMemory>
+    requires { IfSome t (λ t. t < length set.now.tasks) }
+    ensures { OnOk result (text.new.items ≡ text.old.items ++ somebody_text set.now t) }
+{
+    match t {
+        Some(t) => write_name(text, set, t),
+        None => write_word(text, b"-"),
+    }
+}
+
+fn write_name(text: &mut Vec<u8>, set: &TaskSet, t: u32) -> Result<(), OutOfMemory>
+    requires { t < length set.now.tasks }
+    ensures { OnOk result (text.new.items ≡ text.old.items ++ name_of set.now t) }
+{
+    write_word(text, set.name(t).as_bytes())
+}
+
+fn write_contexts(
+    text: &mut Vec<u8>,
+    set: &TaskSet,
+    contexts: &[Context],
+) -> Result<(), OutOfMemory>
+    requires { All (λ c. c.task < length set.now.tasks) contexts.now }
+    ensures { OnOk result (text.new.items ≡ text.old.items ++ flat_map (context_line set.now) contexts.now) }
+{
+    for context in contexts {
+        write_context(text, set, context)?;
+    }
+    Ok(())
+}
+
+fn write_context(text: &mut Vec<u8>, set: &TaskSet, context: &Context) -> Result<(), OutOfMemory>
+    requires { context.now.task < length set.now.tasks }
+    ensures { OnOk result (text.new.items ≡ text.old.items ++ context_line set.now context.now) }
+{
+    write_name(text, set, context.task)?;
+    write_labelled_number(text, b" units ", context.units)?;
+    write_labelled_number(text, b" stints ", context.stints)?;
+    write_labelled_number(text, b" moves ", context.moves)?;
+    write_word(text, b" last ")?;
+    write_number_or_dash(text, context.last)?;
+    write_labelled_number(text, b" trail ", context.trail)?;
+    text.push(b'\n')?;
+    Ok(())
+}
+
+/// Appends a processor, or '-' where there is none.
+fn write_number_or_dash(text: &mut Vec<u8>, number: Option<u8>) -> Result<(), OutOfMemory>
+    ensures { OnOk result (text.new.items ≡ text.old.items ++ number_text number) }
+{
+    match number {
+        Some(p) => write_number(text, p as u64),
+        None => write_word(text, b"-"),
+    }
+}
+
+/// Appends a line that says how many lines of a kind follow.
+fn write_count_line(text: &mut Vec<u8>, label: &[u8], count: usize) -> Result<(), OutOfMemory>
+    ensures { OnOk result (text.new.items ≡ text.old.items ++ line (label.now ++ canonical_number count)) }
+{
+    write_labelled_number(text, label, count as u64)?;
+    text.push(b'\n')?;
+    Ok(())
+}
+
+fn write_labelled_number(text: &mut Vec<u8>, label: &[u8], number: u64) -> Result<(), OutOfMemory>
+    ensures { OnOk result (text.new.items ≡ text.old.items ++ (label.now ++ canonical_number number)) }
+{
+    write_word(text, label)?;
+    write_number(text, number)
+}
+
+fn write_word(text: &mut Vec<u8>, word: &[u8]) -> Result<(), OutOfMemory>
+    ensures { OnOk result (text.new.items ≡ text.old.items ++ word.now) }
+{
+    text.extend_from_slice(word)?;
+    Ok(())
+}
+
+fn write_number(text: &mut Vec<u8>, number: u64) -> Result<(), OutOfMemory>
+    ensures { OnOk result (text.new.items ≡ text.old.items ++ canonical_number number) }
+{
+    let mut buffer = Buffer::new();
+    write_word(text, buffer.format(number).as_bytes())
+}

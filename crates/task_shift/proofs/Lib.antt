@@ -1,0 +1,4 @@
+mod Arrivals
+mod Departures
+mod Leaders
+mod Meetings

@@ -1,0 +1,51 @@
+//! A task arrives.
+ghost use Rattle.std.specs.Prelude.{◌≡◌, ℕ, ◌<◌, false};
+ghost use Rattle.link_table.specs.State.{IsState, task_count, is_ready, state_with_ready};
+ghost use Rattle.link_table.specs.Chain.{IsChainOf, IsSimple, Shifted};
+ghost use Rattle.link_table.specs.Step.{ArriveStep};
+
+use crate::urgency::{is_more_urgent, least_urgent_on};
+use link_table::{Chain, Links, Reply};
+use path_search::{chain_to, chain_to_idle, reach};
+
+/// A task arrives. It is placed where it reaches an idle processor, else it displaces the least urgent task that it
+/// reaches where that one is less urgent, else it waits. Nothing changes where it was ready before. No memory is taken.
+pub fn arrive(links: &mut Links, t: u32) -> Reply
+    requires { t < task_count links.old }
+    ensures step { ArriveStep links.old t result links.new }
+    ensures valid { IsState links.new }
+{
+    if links.is_ready(t) {
+        return Reply::AlreadyReady;
+    }
+    if let Some(chain) = chain_to_idle(links, t) {
+        enter(links, t, &chain);
+        return Reply::Placed { chain };
+    }
+    let reach = reach(links, t);
+    match least_urgent_on(links, reach) {
+        Some(out) if is_more_urgent(links, t, out) => {
+            let p = links.of(out).unwrap();
+            let chain = chain_to(links, t, p).unwrap();
+            enter(links, t, &chain);
+            Reply::Displaced { chain, out, reach }
+        }
+        _ => {
+            links.make_ready(t);
+            Reply::Waits { reach }
+        }
+    }
+}
+
+// An absent task becomes ready, and is shifted along one of its chains.
+fn enter(links: &mut Links, t: u32, chain: &Chain)
+    requires number { t < task_count links.old }
+    requires absent { is_ready links.old t ≡ false }
+    requires chain { (q : ℕ) × IsChainOf links.old t chain.now q }
+    requires simple { IsSimple chain.now }
+    ensures shifted { Shifted (state_with_ready links.old t) t chain.now links.new }
+    ensures valid { IsState links.new }
+{
+    links.make_ready(t);
+    links.shift(t, chain);
+}

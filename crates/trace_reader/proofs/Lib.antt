@@ -1,0 +1,23 @@
+mod Utf8
+mod Names
+mod FieldLists
+mod Refused
+mod EventsRead
+mod ReadLines
+pub mod Fronts
+mod Paths
+mod NamedTasks
+mod Forms
+pub mod Steps
+pub mod Faults
+pub mod LinesCut
+pub mod OneInput
+mod Decisions
+mod Addable
+mod Decided
+pub mod Accepted
+mod Answered
+pub mod CanonicalFields
+mod CanonicalPieces
+mod CanonicalInput
+mod CanonicalWritten

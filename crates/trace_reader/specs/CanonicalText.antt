@@ -1,0 +1,17 @@
+-- The canonical text of an input. What a reader must believe: for each task set and each list of events there is one
+-- text without skipped lines and further blanks, whose numbers and lists are canonical, and this is it.
+use Rattle.std.specs.Prelude.{ℕ, List, ◌++◌, codes}
+use Rattle.std.specs.List.{flat_map}
+use Rattle.affinity_mask.specs.Number.{canonical_number}
+use Rattle.task_set.specs.TaskSet.{SetData}
+use Rattle.trace_reader.specs.declared.posted.Posted.{Posted}
+use Rattle.trace_reader.specs.EventText.{line, event_text, processors_line, task_line}
+
+-- an event on its stream
+unfoldable pub event_line : SetData → Posted → List ℕ
+event_line set posted = line (canonical_number posted.stream ++ codes " " ++ event_text set posted.event)
+
+-- the header, the processors, the tasks, the events and the end
+unfoldable pub canonical_input_text : SetData → List Posted → List ℕ
+canonical_input_text set events =
+    line (codes "apa 1") ++ processors_line set ++ flat_map task_line set.tasks ++ flat_map (event_line set) events ++ line (codes "end")

@@ -1,0 +1,8 @@
+pub mod CanonicalText
+pub mod EventText
+pub mod Input
+pub mod InputFault
+pub mod InputText
+pub mod Laws
+pub mod Lines
+pub mod Reading

@@ -1,0 +1,274 @@
+//! What was read so far, and what is due.
+ghost use Rattle.std.specs.Prelude.{◌≡◌, ◌≢◌, ℕ, ◌<◌, ◌≤◌, ◌↔◌, ◌⊎◌, IsTrue, List, [], ◌∷◌, length, IfOk, IfErr, OnOk, IfSome, IfNone, MatchOption, MatchBool, codes, string_bytes};
+ghost use Rattle.task_set.specs.TaskSet.{SetData};
+ghost use Rattle.task_set.specs.Refusal.{IsNameOf, IsNewName};
+ghost use Rattle.trace_reader.specs.declared.posted.Posted.{Posted};
+ghost use Rattle.trace_reader.specs.declared.fault.InputKind.TheVariants.{UnknownTask};
+ghost use Rattle.trace_reader.specs.InputText.{IsHeader, IsProcessorsLine, IsEventFields, IsEventLine, end_line};
+ghost use Rattle.trace_reader.specs.InputFault.{IsFieldsFault, IsLineFault, BeginsTask, IsForTask, IsFront, Progress, HeaderDue, ProcessorsDue, Listed, Ended};
+ghost use Rattle.trace_reader.specs.Reading.{texts, progress_of, Says, SaysLine, SaysTask, IsOutOfMemory, IsEventFault, IsChangeFault};
+
+use crate::fault::InputKind;
+use crate::fields::{fields, is_comment, is_plain};
+use crate::input::{Input, MAX_EVENTS, MAX_PRIORITY, MAX_PROCESSORS, MAX_STREAM, MAX_UNITS};
+use crate::number::read_number;
+use crate::posted::Posted;
+use affinity_mask::ProcSet;
+use std::alloc::Global;
+use std::str;
+use task_set::{Event, TaskFault, TaskSet};
+
+/// The most bytes of a line, without its line feed.
+const MAX_LINE: usize = 4096;
+
+/// What some lines said, and so what is due behind them.
+#[derive(Drop)]
+pub enum Stage {
+    /// The header is due.
+    HeaderDue,
+
+    /// The number of processors is due.
+    ProcessorsDue,
+
+    /// Tasks, then events, then the end are due.
+    Listed { set: TaskSet, events: Vec<Posted> },
+
+    /// The end came.
+    Ended { set: TaskSet, events: Vec<Posted> },
+}
+
+impl Stage {
+    /// What is due behind one more line.
+    pub fn after_line(self, alloc: Global, line: &[u8]) -> Result<Stage, InputKind>
+        requires { (said : List (List (List ℕ))) × IsFront said (progress_of self) }
+        ensures read { IfOk result (λ next. SaysLine (progress_of self) line.now (progress_of next)) }
+        ensures refused { IfErr result (λ kind. IsOutOfMemory kind ⊎ IsLineFault (progress_of self) line.now kind) }
+    {
+        if !is_plain(line) {
+            return Err(InputKind::BadByte);
+        }
+        if line.len() > MAX_LINE {
+            return Err(InputKind::LongLine);
+        }
+        let fields = fields(alloc, line)?;
+        if is_comment(&fields) {
+            Ok(self)
+        } else {
+            self.after(alloc, &fields)
+        }
+    }
+
+    /// The input, if the end came.
+    pub fn into_input(self) -> Option<Input>
+        requires { (said : List (List (List ℕ))) × IsFront said (progress_of self) }
+        ensures { MatchOption result ((set : SetData) (events : List Posted) → progress_of self ≢ Ended set events)
+            (λ input. progress_of self ≡ Ended input.set input.events) }
+    {
+        match self {
+            Stage::Ended { set, events } => Some(Input::new(set, events)),
+            _ => None,
+        }
+    }
+
+    /// What is due behind a line that is not skipped, by its fields.
+    fn after(self, alloc: Global, fields: &[&[u8]]) -> Result<Stage, InputKind>
+        requires { (said : List (List (List ℕ))) × IsFront said (progress_of self) }
+        ensures read { IfOk result (λ next. Says (progress_of self) (texts fields.now) (progress_of next)) }
+        ensures refused { IfErr result (λ kind. IsOutOfMemory kind ⊎ IsFieldsFault (progress_of self) (texts fields.now) kind) }
+    {
+        match self {
+            Stage::HeaderDue => read_header(fields),
+            Stage::ProcessorsDue => start(alloc, fields),
+            Stage::Listed { set, events } => read_listed(set, events, fields),
+            Stage::Ended { .. } => Err(InputKind::AfterEnd),
+        }
+    }
+}
+
+/// Whether a field is this word.
+fn is_word(field: &[u8], word: &str) -> bool
+    ensures { IsTrue result ↔ (field.now ≡ word.now) }
+{
+    field == word.as_bytes()
+}
+
+/// Reads the header.
+fn read_header(fields: &[&[u8]]) -> Result<Stage, InputKind>
+    ensures read { IfOk result (λ next. (progress_of next ≡ ProcessorsDue) × IsHeader (texts fields.now)) }
+    ensures refused { IfErr result (IsFieldsFault HeaderDue (texts fields.now)) }
+{
+    match fields {
+        [word, version] if is_word(word, "apa") && read_number(version, 1, 1).is_some() => {
+            Ok(Stage::ProcessorsDue)
+        }
+        _ => Err(InputKind::BadHeader),
+    }
+}
+
+/// How many processors a line says that there are, from 1 to 64.
+fn read_processors(fields: &[&[u8]]) -> Option<u8>
+    ensures { MatchOption result ((m : ℕ) → IsProcessorsLine m (texts fields.now) → ⊥) (λ m. IsProcessorsLine m (texts fields.now)) }
+{
+    match fields {
+        [word, count] if is_word(word, "processors") => {
+            let processors = read_number(count, 1, MAX_PROCESSORS)?;
+            Some(processors as u8)
+        }
+        _ => None,
+    }
+}
+
+/// Nothing is listed yet, on as many processors as a line says.
+fn start(alloc: Global, fields: &[&[u8]]) -> Result<Stage, InputKind>
+    ensures read { IfOk result (λ next. Says ProcessorsDue (texts fields.now) (progress_of next)) }
+    ensures refused { IfErr result (λ kind. IsOutOfMemory kind ⊎ IsFieldsFault ProcessorsDue (texts fields.now) kind) }
+{
+    let Some(processors) = read_processors(fields) else {
+        return Err(InputKind::BadProcessors);
+    };
+    let set = TaskSet::new(alloc, processors)?;
+    let events = Vec::new(alloc);
+    Ok(Stage::Listed { set, events })
+}
+
+/// Reads a task, an event or the end behind what was listed.
+fn read_listed(set: TaskSet, events: Vec<Posted>, fields: &[&[u8]]) -> Result<Stage, InputKind>
+    requires { length events.items ≤ 20000 }
+    ensures read { IfOk result (λ next. Says (Listed set events.items) (texts fields.now) (progress_of next)) }
+    ensures refused { IfErr result (λ kind. IsOutOfMemory kind ⊎ IsFieldsFault (Listed set events.items) (texts fields.now) kind) }
+{
+    if is_end(fields) {
+        Ok(Stage::Ended { set, events })
+    } else if is_for_task(&events, fields) {
+        list_task(set, events, fields)
+    } else {
+        list_event(set, events, fields)
+    }
+}
+
+/// Whether tasks may still be listed, and the line is for one.
+fn is_for_task(events: &[Posted], fields: &[&[u8]]) -> bool
+    ensures { MatchBool result (IsForTask events.now (texts fields.now)) (IsForTask events.now (texts fields.now) → ⊥) }
+{
+    events.is_empty() && begins_task(fields)
+}
+
+/// Lists the task of a line.
+fn list_task(mut set: TaskSet, events: Vec<Posted>, fields: &[&[u8]]) -> Result<Stage, InputKind>
+    requires { IsForTask events.items (texts fields.now) }
+    ensures read { IfOk result (λ next. Says (Listed set events.items) (texts fields.now) (progress_of next)) }
+    ensures refused { IfErr result (λ kind. IsOutOfMemory kind ⊎ IsFieldsFault (Listed set events.items) (texts fields.now) kind) }
+{
+    add_task(&mut set, fields)?;
+    Ok(Stage::Listed { set, events })
+}
+
+/// Lists the event of a line.
+fn list_event(set: TaskSet, mut events: Vec<Posted>, fields: &[&[u8]]) -> Result<Stage, InputKind>
+    requires task { IsForTask events.items (texts fields.now) → ⊥ }
+    requires end { texts fields.now ≢ end_line }
+    requires few { length events.items ≤ 20000 }
+    ensures read { IfOk result (λ next. Says (Listed set events.items) (texts fields.now) (progress_of next)) }
+    ensures refused { IfErr result (λ kind. IsOutOfMemory kind ⊎ IsFieldsFault (Listed set events.items) (texts fields.now) kind) }
+{
+    let posted = read_event(&set, fields)?;
+    if events.len() == MAX_EVENTS {
+        return Err(InputKind::ManyEvents);
+    }
+    if events.push(posted).is_err() {
+        return Err(InputKind::OutOfMemory);
+    }
+    Ok(Stage::Listed { set, events })
+}
+
+/// Whether the line is `end` alone.
+fn is_end(fields: &[&[u8]]) -> bool
+    ensures { IsTrue result ↔ (texts fields.now ≡ end_line) }
+{
+    match fields {
+        [word] => is_word(word, "end"),
+        _ => false,
+    }
+}
+
+/// Whether the first field is `task`.
+fn begins_task(fields: &[&[u8]]) -> bool
+    ensures { IsTrue result ↔ BeginsTask (texts fields.now) }
+{
+    match fields {
+        [word, ..] => is_word(word, "task"),
+        [] => false,
+    }
+}
+
+/// Adds the task of a line that begins with `task`.
+fn add_task(set: &mut TaskSet, fields: &[&[u8]]) -> Result<(), InputKind>
+    requires { BeginsTask (texts fields.now) }
+    ensures read { OnOk result (SaysTask (texts fields.now) set.old set.new) }
+    ensures refused { IfErr result (λ kind. IsOutOfMemory kind ⊎ IsFieldsFault (Listed set.old []) (texts fields.now) kind) }
+{
+    let [_word, name, number, list] = fields else {
+        return Err(InputKind::BadTask);
+    };
+    let Some(priority) = read_number(number, 0, MAX_PRIORITY) else {
+        return Err(InputKind::BadTask);
+    };
+    let mask = ProcSet::read_list(list)?;
+    let Ok(name) = str::from_utf8(name) else {
+        return Err(InputKind::TaskRefused(TaskFault::BadName));
+    };
+    set.add(name, priority as u32, mask)?;
+    Ok(())
+}
+
+/// The event of a line, on its stream.
+fn read_event(set: &TaskSet, fields: &[&[u8]]) -> Result<Posted, InputKind>
+    ensures read { IfOk result (IsEventLine set.now (texts fields.now)) }
+    ensures refused { IfErr result (IsEventFault set.now (texts fields.now)) }
+{
+    let [number, word, value] = fields else {
+        return Err(InputKind::BadEvent);
+    };
+    let Some(stream) = read_number(number, 0, MAX_STREAM) else {
+        return Err(InputKind::BadEvent);
+    };
+    let event = event_of(set, word, value)?;
+    Ok(Posted {
+        stream: stream as u32,
+        event,
+    })
+}
+
+/// The event of a word and a value: a task arrives or departs, or units of time pass.
+fn event_of(set: &TaskSet, word: &[u8], value: &[u8]) -> Result<Event, InputKind>
+    ensures read { IfOk result (IsEventFields set.now (word.now ∷ value.now ∷ [])) }
+    ensures refused { IfErr result (IsChangeFault set.now word.now value.now) }
+{
+    if is_word(word, "arrive") {
+        Ok(Event::Arrive(task_of(set, value)?))
+    } else if is_word(word, "depart") {
+        Ok(Event::Depart(task_of(set, value)?))
+    } else if is_word(word, "tick") {
+        match read_number(value, 1, MAX_UNITS) {
+            Some(units) => Ok(Event::Tick(units as u32)),
+            None => Err(InputKind::BadEvent),
+        }
+    } else {
+        Err(InputKind::BadEvent)
+    }
+}
+
+/// The task that has this name.
+fn task_of(set: &TaskSet, name: &[u8]) -> Result<u32, InputKind>
+    ensures read { IfOk result (λ t. IsNameOf set.now t name.now) }
+    ensures refused { IfErr result (λ kind. (kind ≡ UnknownTask) × IsNewName set.now name.now) }
+{
+    let _lawful = set.len();
+    let Ok(name) = str::from_utf8(name) else {
+        return Err(InputKind::UnknownTask);
+    };
+    match set.find(name) {
+        Some(t) => Ok(t),
+        None => Err(InputKind::UnknownTask),
+    }
+}
