@@ -89,8 +89,8 @@ impl Core {
     }
 
     /// Applies an event of a caller, and answers the place of its entry in the history, from 0. It is `Closed` where
-    /// the core is closed, and `Full` where it is open and has `MAX_ENTRIES` entries. Memory may be refused where no room
-    /// is reserved. After an `Err` no more than the room for entries may differ.
+    /// the core is closed, and `Full` where it is open and has `MAX_ENTRIES` entries. Memory may be refused where no
+    /// room is reserved. After an `Err` no more than the room for entries may differ.
     pub fn apply(&mut self, caller: u32, event: Event) -> Result<u64, CoreFault>
         requires { IsOfTask (task_count self.old.links) event }
         ensures applied { IfOk result (λ place. Applied self.old caller event place self.new) }

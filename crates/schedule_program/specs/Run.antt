@@ -1,5 +1,6 @@
--- What a run of the program did. What a reader must believe: the bytes read are the text of one input, and the bytes put are the schedule text of one history, which is a legal merge of its events, keeps the best set
--- linked after every entry, and gives the contexts that are printed.
+-- What a run of the program did. What a reader must believe: the bytes read are the text of one input, and the bytes put
+-- are the schedule text of one history, which is a legal merge of its events, keeps the best set linked after every
+-- entry, and gives the contexts that are printed.
 use Rattle.std.specs.Prelude.{◌≡◌, ◌⊎◌, ℕ, ◌≤◌, List, [], ◌∷◌, length, map, codes, Option, Some}
 use Rattle.std.specs.List.{range_with_len}
 use Rattle.shift_io.specs.Stream.{TakesAll}

@@ -6,6 +6,8 @@ mod contexts;
 mod histories;
 mod replay;
 mod run;
+#[cfg(test)]
+mod search_tests;
 mod status;
 #[cfg(test)]
 mod tests;
