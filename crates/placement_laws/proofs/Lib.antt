@@ -1,13 +1,4 @@
 pub mod Admissions
-pub mod Best
-pub mod Closed
-pub mod Counts
-pub mod Fullness
 pub mod Greedy
-pub mod Kept
-pub mod KeptByArrivals
-pub mod KeptByDepartures
-pub mod KeptByShifts
 pub mod MostUrgent
-pub mod Ranked
 pub mod Searches

@@ -10,7 +10,7 @@ use Rattle.link_table.specs.State.{State, IsState, task_on, mask_of, effective_m
 use Rattle.link_table.proofs.Masks.{effective_mask-state, effective_mask_below}
 use Rattle.link_table.proofs.Simple.{IsSimple-cons}
 use Rattle.placement_laws.specs.Search.{IsWay, IsFull}
-use Rattle.placement_laws.proofs.Counts.{count_below-bound, count_below-one_more, count_below-injection}
+use Rattle.reach_certificate.proofs.Counts.{count_below-bound, count_below-one_more, count_below-injection}
 
 -- how many processors a set has
 abbrev pub size_of : ℕ → ℕ

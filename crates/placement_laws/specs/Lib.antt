@@ -1,6 +1,3 @@
 pub mod Admission
-pub mod Certified
-pub mod Laws
-pub mod Legal
-pub mod Ranks
+pub mod Histories
 pub mod Search

@@ -1,6 +1,7 @@
-//! What holds of each state whose waiting tasks all have a certificate. Each law is the contract of a function that
-//! does nothing: a caller in a proof gets the law by its clause.
-ghost use Rattle.placement_laws.specs.Laws.{HoldsWhereCertified, LinkedIsBest, LinkedIsOnlyBest, LinkedIsLargest, LinkedKeepsUp, LinkedIsAsUrgent};
+//! What holds of each state whose waiting tasks all have a certificate, and of each history whose replies pass. Each law
+//! is the contract of a function that does nothing: a caller in a proof gets the law by its clause.
+ghost use Rattle.reach_certificate.specs.Laws.{HoldsWhereCertified, LinkedIsBest, LinkedIsOnlyBest, LinkedIsLargest, LinkedKeepsUp, LinkedIsAsUrgent};
+ghost use Rattle.placement_laws.specs.Histories.{PassingHistoryHasCertificates, PassingHistoryIsBest};
 
 /// The linked tasks are the best placeable set of the ready tasks, and the only best one.
 pub fn certified_is_best()
@@ -14,4 +15,16 @@ pub fn certified_is_most_urgent()
     ensures largest { HoldsWhereCertified LinkedIsLargest }
     ensures keeps_up { HoldsWhereCertified LinkedKeepsUp }
     ensures rank_by_rank { HoldsWhereCertified LinkedIsAsUrgent }
+{}
+
+/// After every entry of a history whose replies pass, whoever gave them, each waiting task has a certificate. So it can
+/// be shown of every waiting task why it waits.
+pub fn passing_history_has_certificates()
+    ensures { PassingHistoryHasCertificates }
+{}
+
+/// After every entry of such a history, of arrivals, departures and ticks alike, the linked tasks are the best placeable
+/// set of the ready tasks.
+pub fn passing_history_is_best()
+    ensures { PassingHistoryIsBest }
 {}

@@ -1,10 +1,30 @@
-//! Why a task rightly waits: the test of a certificate.
+//! Why a task rightly waits, and a checker of anybody's schedule.
 //!
 //! A set of processors certifies a task where the task may run only there, and each processor of the set has a more
 //! urgent task that may run only there as well. [`is_certificate`] tests a set that somebody gives, and never
 //! searches for one.
+//!
+//! [`Checker`] follows a schedule entry by entry. It looks at the chain and the set that a reply gives, and searches for
+//! nothing: a chain need not be the least, nor a set the smallest. It accepts an entry exactly where the reply passes,
+//! else it answers the first part that fails, a [`Defect`]. After every entry the linked tasks are the best set of the
+//! ready ones, whoever made the schedule.
 #![tactic(auto)]
 
 mod certificate;
+mod chain_rule;
+mod checker;
+mod contexts;
+mod defect;
+mod effect;
+mod entrant;
+mod judge;
+mod judged_links;
+pub mod laws;
+mod set_rule;
+#[cfg(test)]
+mod tests;
 
 pub use certificate::is_certificate;
+pub use checker::Checker;
+pub use contexts::{Occupants, follow, fresh_contexts};
+pub use defect::Defect;

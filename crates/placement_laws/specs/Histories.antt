@@ -1,0 +1,17 @@
+-- The best set over histories. What a reader must believe: nothing beyond what it means that the replies of a history
+-- pass, that each waiting task has a certificate after every entry, and that the linked tasks are the best set
+-- throughout; who gave the replies does not matter.
+use Rattle.std.specs.Prelude.{List}
+use Rattle.task_set.specs.TaskSet.{SetData, IsTaskSet}
+use Rattle.link_table.specs.declared.reply.Entry.{Entry}
+use Rattle.link_table.specs.History.{IsBestThroughout}
+use Rattle.reach_certificate.specs.Certified.{IsCertifiedThroughout}
+use Rattle.reach_certificate.specs.Passing.{IsPassing}
+
+-- after every entry of a history whose replies pass each waiting task has a certificate
+abbrev pub PassingHistoryHasCertificates : Type 0
+PassingHistoryHasCertificates = (set : SetData) → IsTaskSet set → (history : List Entry) → IsPassing set history → IsCertifiedThroughout set history
+
+-- after every entry of a history whose replies pass the linked tasks are the best placeable set of the ready ones
+abbrev pub PassingHistoryIsBest : Type 0
+PassingHistoryIsBest = (set : SetData) → IsTaskSet set → (history : List Entry) → IsPassing set history → IsBestThroughout set history

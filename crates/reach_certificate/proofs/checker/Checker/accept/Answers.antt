@@ -1,0 +1,71 @@
+use Rattle.std.proofs.Common.{ℕ, List, get_or, Option, None, Err, sym, ap, ◌∙◌, subst}
+use Rattle.reach_certificate.specs.Checker.{CheckerData, IsChecker}
+use Rattle.reach_certificate.specs.CheckerView.{checker_view}
+use Rattle.reach_certificate.specs.Contexts.{EachBecomes, context_after_entry}
+use Rattle.reach_certificate.specs.Defect.{IsDefect}
+use Rattle.reach_certificate.specs.Laws.{LinkedIsBest}
+use Rattle.reach_certificate.specs.Passing.{Passes}
+use Rattle.reach_certificate.specs.declared.defect.Defect.{Defect}
+use Rattle.reach_certificate.proofs.Accepted.{occupants_known, occupants_were, best_kept, checker_kept}
+use Rattle.reach_certificate.proofs.Best.{linked_is_best}
+use Rattle.reach_certificate.proofs.Defects.{passing_has_no_defect, defect_is_unique}
+use Rattle.reach_certificate.proofs.Passed.{step_passes}
+use Rattle.reach_certificate.proofs.checker.Checker.accept.Goals as goal
+use Rattle.reach_certificate.proofs.checker.Checker.accept.Goals.{In-Some, After-follow}
+
+-- ---- an entry with a defect
+not_passing : (c : In-Some) → Passes c.args.self.now.links c.args.entry.now.event c.args.entry.now.reply → ⊥
+not_passing c passes =
+    passing_has_no_defect c.self.inside.links c.args.entry.now.event c.args.entry.now.reply c.in-Some.defect c.self.invariant.state
+    (subst (λ (checker : CheckerData). Passes checker.links c.args.entry.now.event c.args.entry.now.reply) (sym c.self.view_is) passes) c.in-Some.ensures
+
+pub returns-in-Some-clause-passing : goal.returns-in-Some-clause-passing
+returns-in-Some-clause-passing c = λ passes. absurd (not_passing c passes)
+
+pub returns-in-Some-clause-defects : goal.returns-in-Some-clause-defects
+returns-in-Some-clause-defects c = λ d defect.
+    ap (λ (e : Defect). Err e)
+    (defect_is_unique c.self.inside.links c.args.entry.now.event c.args.entry.now.reply c.in-Some.defect d c.self.invariant.state c.in-Some.ensures
+    (subst (λ (checker : CheckerData). IsDefect checker.links c.args.entry.now d) (sym c.self.view_is) defect))
+
+pub returns-in-Some-clause-steps : goal.returns-in-Some-clause-steps
+returns-in-Some-clause-steps c = λ new step.
+    let state = subst IsChecker c.self.view_is c.self.invariant in
+    absurd (not_passing c (step_passes c.args.self.now.links c.args.entry.now.event c.args.entry.now.reply new state.state step))
+
+pub returns-in-Some-clause-best : goal.returns-in-Some-clause-best
+returns-in-Some-clause-best c = subst (λ (checker : CheckerData). LinkedIsBest checker.links) c.self.view_is (linked_is_best c.self.inside.links c.self.invariant.state c.self.invariant.certificates)
+
+-- ---- an entry that passes
+pub follow-requires-clause-known : goal.follow-requires-clause-known
+follow-requires-clause-known c = λ p t on.
+    occupants_known (checker_view c.self.inside) c.self.invariant c.args.entry.now c.in_default.ensures c.follow_reply.new.links c.follow_reply.ensures p t
+    (ap (λ (xs : List (Option ℕ)). get_or xs p None) (sym c.of-before.ensures) ∙ on)
+
+becomes : (c : After-follow) → EachBecomes (context_after_entry c.self.inside.links c.follow_reply.new.links c.args.entry.now.event) c.self.inside.contexts.items c.follow.new.contexts.items
+becomes c =
+    c.follow.ensures c.self.inside.links
+    (occupants_were (checker_view c.self.inside) c.self.invariant c.args.entry.now c.in_default.ensures c.follow_reply.new.links c.follow_reply.ensures c.of-before.result c.of-before.ensures)
+
+kept : (c : After-follow) → IsChecker (record { links = c.follow_reply.new.links; contexts = c.follow.new.contexts.items })
+kept c =
+    checker_kept (checker_view c.self.inside) c.self.invariant c.args.entry.now c.in_default.ensures c.follow_reply.new.links c.follow_reply.ensures
+    c.follow.new.contexts.items (becomes c)
+
+pub invariant_of-self : goal.invariant_of-self
+invariant_of-self c = kept c
+
+pub returns-clause-contexts : goal.returns-clause-contexts
+returns-clause-contexts c =
+    subst (λ (checker : CheckerData). EachBecomes (context_after_entry checker.links c.follow_reply.new.links c.args.entry.now.event) checker.contexts c.follow.new.contexts.items) c.self.view_is (becomes c)
+
+pub returns-clause-defects : goal.returns-clause-defects
+returns-clause-defects c = λ d defect.
+    absurd (passing_has_no_defect c.self.inside.links c.args.entry.now.event c.args.entry.now.reply d c.self.invariant.state c.in_default.ensures
+    (subst (λ (checker : CheckerData). IsDefect checker.links c.args.entry.now d) (sym c.self.view_is) defect))
+
+pub returns-clause-best : goal.returns-clause-best
+returns-clause-best c = best_kept (checker_view c.self.inside) c.self.invariant c.args.entry.now c.in_default.ensures c.follow_reply.new.links c.follow_reply.ensures
+
+pub returns-clause-valid : goal.returns-clause-valid
+returns-clause-valid c = kept c

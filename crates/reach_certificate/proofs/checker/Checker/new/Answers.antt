@@ -1,0 +1,28 @@
+use Rattle.std.proofs.Common.{List, length, get_or, sym, ap, ◌∙◌, subst, arith}
+use Rattle.std.proofs.lemmas.List.FromFn.{get_or-map-range_with_len, length-map-range_with_len}
+use Rattle.task_set.specs.Context.{fresh_context}
+use Rattle.task_set.specs.declared.context.Context.{Context}
+use Rattle.reach_certificate.specs.Certified.{HasCertificates}
+use Rattle.reach_certificate.proofs.Kept.{HasCertificates-start}
+use Rattle.reach_certificate.specs.Checker.{IsChecker}
+use Rattle.reach_certificate.proofs.checker.Checker.new.Goals as goal
+use Rattle.reach_certificate.proofs.checker.Checker.new.Goals.{In_ok-contexts}
+
+made : (c : In_ok-contexts) → IsChecker (record { links = c.in_ok-links.links; contexts = c.in_ok-contexts.contexts.items })
+made c =
+    let fresh = c.in_ok-contexts.ensures in
+    let count = c.len.ensures.value in
+    record {
+      state = c.len.ensures.valid;
+      certificates = subst HasCertificates (sym c.in_ok-links.ensures) (HasCertificates-start c.args.set.now);
+      count = ap length fresh ∙ length-map-range_with_len fresh_context 0 c.len.result ∙ count;
+      tasks = λ t d lt.
+          ap (λ (xs : List Context). (get_or xs t d).task) fresh
+          ∙ ap (λ (x : Context). x.task) (get_or-map-range_with_len fresh_context 0 c.len.result t t d (omega arith) (omega arith));
+    }
+
+pub invariant_of-result : goal.invariant_of-result
+invariant_of-result c = made c
+
+pub returns-clause-valid : goal.returns-clause-valid
+returns-clause-valid c = made c

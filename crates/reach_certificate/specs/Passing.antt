@@ -1,0 +1,100 @@
+-- Replies that pass, whoever gave them. What a reader must believe: a chain passes where it is a chain of the task that
+-- enters, comes to no processor twice, and ends as the reply says; it need not be the least. A set passes where no shift
+-- leads out of it, or, after a departure, where none leads into it from outside; it need not be the smallest. A history
+-- passes where each reply does in the state to which the replies before it lead.
+use Rattle.std.specs.Prelude.{◌≡◌, ℕ, ◌<◌, ◌≤◌, false, true, List, [], ◌∷◌, IsTrue, Option, Some, None}
+use Rattle.affinity_mask.specs.ProcSet.{has, Within}
+use Rattle.task_set.specs.TaskSet.{SetData}
+use Rattle.task_set.specs.declared.event.Event.{Event}
+use Rattle.task_set.specs.declared.event.Event.TheVariants.{Arrive, Depart, Tick}
+use Rattle.link_table.specs.declared.reply.Reply.{Reply}
+use Rattle.link_table.specs.declared.reply.Reply.TheVariants.{Placed, Displaced, Waits, Freed, Left, Ticked, AlreadyReady, NotReady}
+use Rattle.link_table.specs.declared.reply.Entry.{Entry}
+use Rattle.link_table.specs.State.{State, effective_mask, task_on, task_count, is_ready, priority_of, start_of, IsWaiting, IsMoreUrgent, state_after_leaving}
+use Rattle.link_table.specs.Chain.{CanShift, IsSimple, EndsIdle, EndsOnTask, EntersBy, CanEnterAt}
+use Rattle.link_table.specs.Certificate.{IsCertificate}
+use Rattle.link_table.specs.Step.{IsMostUrgentInto}
+use Rattle.link_table.specs.History.{effect_of}
+
+-- t arrives and is placed: the chain ends on an idle processor
+pub record PlacedPasses (s : State) (t : ℕ) (chain : List ℕ) : Type 0 where
+  pub absent : is_ready s t ≡ false
+  pub ends : EndsIdle s t chain
+  pub simple : IsSimple chain
+
+-- t arrives and displaces a less urgent task: the chain ends on the processor of that task, and the set, which has the
+-- mask of t, is full of tasks that are no less urgent than it and may run only within the set
+pub record DisplacedPasses (s : State) (t : ℕ) (chain : List ℕ) (out reach : ℕ) : Type 0 where
+  pub absent : is_ready s t ≡ false
+  pub ends : EndsOnTask s t out chain
+  pub simple : IsSimple chain
+  pub out_less_urgent : IsMoreUrgent s t out
+  pub mask : Within (effective_mask s t) reach
+  pub full : (p : ℕ) → IsTrue (has reach p) → (u : ℕ) × (task_on s p ≡ Some u) × Within (effective_mask s u) reach × (priority_of s u ≤ priority_of s out)
+
+-- t arrives and waits: the set certifies it
+pub record WaitsPasses (s : State) (t reach : ℕ) : Type 0 where
+  pub absent : is_ready s t ≡ false
+  pub certified : IsCertificate s t reach
+
+-- t arrives, and the reply passes
+abbrev pub ArrivalPasses : State → ℕ → Reply → Type 0
+ArrivalPasses s t AlreadyReady = is_ready s t ≡ true
+ArrivalPasses s t (Placed chain) = PlacedPasses s t chain
+ArrivalPasses s t (Displaced chain out reach) = DisplacedPasses s t chain out reach
+ArrivalPasses s t (Waits reach) = WaitsPasses s t reach
+ArrivalPasses s t (Freed entered chain back) = ⊥
+ArrivalPasses s t Left = ⊥
+ArrivalPasses s t Ticked = ⊥
+ArrivalPasses s t NotReady = ⊥
+
+-- no shift leads into the set from a processor outside
+abbrev pub IsBackClosed : State → ℕ → Type 0
+IsBackClosed s back = (p q : ℕ) → IsTrue (has back q) → CanShift s p q → IsTrue (has back p)
+
+-- who comes in, where p has become idle in the state s: the most urgent waiting task that may run on a processor of the
+-- set, by a back chain to p, or nobody, and then the chain is p alone
+abbrev pub EntryPasses : State → ℕ → Option ℕ → List ℕ → ℕ → Type 0
+EntryPasses s p None chain back = ((v q : ℕ) → IsWaiting s v → IsTrue (has back q) → CanEnterAt s v q → ⊥) × (chain ≡ p ∷ [])
+EntryPasses s p (Some w) chain back = IsMostUrgentInto s back w × EntersBy s p w chain × IsSimple chain
+
+-- t departs from a processor, which is in the set
+pub record FreedPasses (s : State) (t : ℕ) (entered : Option ℕ) (chain : List ℕ) (back : ℕ) : Type 0 where
+  pub place : ℕ
+  pub linked : task_on s place ≡ Some t
+  pub has_place : IsTrue (has back place)
+  pub below : (q : ℕ) → IsTrue (has back q) → q < s.processors
+  pub closed : IsBackClosed (state_after_leaving s t) back
+  pub enters : EntryPasses (state_after_leaving s t) place entered chain back
+
+-- t departs, and the reply passes
+abbrev pub DeparturePasses : State → ℕ → Reply → Type 0
+DeparturePasses s t NotReady = is_ready s t ≡ false
+DeparturePasses s t Left = IsWaiting s t
+DeparturePasses s t (Freed entered chain back) = FreedPasses s t entered chain back
+DeparturePasses s t (Placed chain) = ⊥
+DeparturePasses s t (Displaced chain out reach) = ⊥
+DeparturePasses s t (Waits reach) = ⊥
+DeparturePasses s t Ticked = ⊥
+DeparturePasses s t AlreadyReady = ⊥
+
+-- the task of the event, if it has one, is one of so many
+abbrev pub IsOfTask : ℕ → Event → Type 0
+IsOfTask count (Arrive t) = t < count
+IsOfTask count (Depart t) = t < count
+IsOfTask count (Tick units) = Unit {0}
+
+-- the reply to an event of one of the tasks passes; that to a tick is always the same
+abbrev pub Passes : State → Event → Reply → Type 0
+Passes s (Arrive t) reply = (t < task_count s) × ArrivalPasses s t reply
+Passes s (Depart t) reply = (t < task_count s) × DeparturePasses s t reply
+Passes s (Tick units) reply = reply ≡ Ticked
+
+-- each reply passes in the state to which those before it lead
+abbrev pub IsPassingFrom : State → List Entry → Type 0
+IsPassingFrom s [] = Unit {0}
+IsPassingFrom s (entry ∷ rest) = Passes s entry.event entry.reply × IsPassingFrom (effect_of s entry) rest
+
+-- a history of a set of tasks, of which all are absent at first, whose replies pass
+abbrev pub IsPassing : SetData → List Entry → Type 0
+IsPassing set history = IsPassingFrom (start_of set) history

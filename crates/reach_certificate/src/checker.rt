@@ -1,0 +1,107 @@
+//! The checker of schedules.
+ghost use Rattle.std.specs.Prelude.{◌≡◌, ℕ, ◌<◌, map, Err, IsOk, IfOk, IfErr, OnOk, OnErr, slice_get, Some};
+ghost use Rattle.std.specs.List.{range_with_len};
+ghost use Rattle.task_set.specs.Context.{fresh_context};
+ghost use Rattle.link_table.specs.State.{State, start_of, task_count};
+ghost use Rattle.link_table.specs.Step.{SchedulerStep};
+ghost use Rattle.link_table.specs.History.{effect_of};
+ghost use Rattle.reach_certificate.specs.Checker.{IsChecker};
+ghost use Rattle.reach_certificate.specs.Contexts.{EachBecomes, context_after_entry};
+ghost use Rattle.reach_certificate.specs.Defect.{IsDefect};
+ghost use Rattle.reach_certificate.specs.Laws.{LinkedIsBest};
+ghost use Rattle.reach_certificate.specs.Passing.{IsOfTask, Passes};
+ghost use Rattle.reach_certificate.specs.declared.defect.Defect.{Defect};
+
+use crate::contexts::{Occupants, follow, fresh_contexts};
+use crate::defect::Defect;
+use crate::effect::follow_reply;
+use crate::judge::entry_defect;
+use affinity_mask::OutOfMemory;
+use link_table::{Entry, Links};
+use std::alloc::Global;
+use std::marker::Model;
+use task_set::{Context, TaskSet};
+
+/// What a schedule led to so far, entry by entry. Whoever made the schedule, an entry is accepted exactly where its
+/// reply passes, and the linked tasks are then the best set of the ready ones.
+#[derive(Drop)]
+pub struct Checker {
+    links: Links,
+    contexts: Vec<Context>,
+}
+
+impl Model for Checker {
+    ghost use Rattle.reach_certificate.specs.Checker.{CheckerData};
+
+    ghost Value = { CheckerData };
+
+    ghost use Rattle.reach_certificate.specs.CheckerView.{checker_view, IsStored};
+
+    ghost view = { checker_view };
+
+    ghost invariant = { IsStored };
+}
+
+impl Checker {
+    /// Before any entry: every task is absent, every processor is idle, and no task has run. All room is made here.
+    /// Refused only for want of memory.
+    pub fn new(alloc: Global, set: &TaskSet) -> Result<Checker, OutOfMemory>
+        ensures links { IfOk result (λ checker. checker.links ≡ start_of set.now) }
+        ensures contexts { IfOk result (λ checker. checker.contexts
+            ≡ map fresh_context (range_with_len 0 (task_count (start_of set.now)))) }
+        ensures valid { IfOk result IsChecker }
+    {
+        let links = Links::new(alloc, set)?;
+        let contexts = fresh_contexts(alloc, links.len())?;
+        Ok(Checker { links, contexts })
+    }
+
+    /// Judges an entry by its chain and its set alone, and follows it where it passes. An entry that is refused changes
+    /// nothing. No memory is taken.
+    pub fn accept(&mut self, entry: &Entry) -> Result<(), Defect>
+        requires { IsOfTask (task_count self.old.links) entry.now.event }
+        ensures accepted { OnOk result (Passes self.old.links entry.now.event entry.now.reply) }
+        ensures links { OnOk result (self.new.links ≡ effect_of self.old.links entry.now) }
+        ensures contexts { OnOk result (EachBecomes (context_after_entry self.old.links self.new.links entry.now.event)
+            self.old.contexts self.new.contexts) }
+        ensures defect { IfErr result (IsDefect self.old.links entry.now) }
+        ensures refused { OnErr result (self.new ≡ self.old) }
+
+        // The answer is exact both ways, and each step of the scheduler is accepted.
+        ensures passing { Passes self.old.links entry.now.event entry.now.reply → IsOk result }
+        ensures defects { (d : Defect) → IsDefect self.old.links entry.now d → result ≡ Err d }
+        ensures steps { (new : State)
+            → SchedulerStep self.old.links entry.now.event entry.now.reply new → IsOk result }
+
+        // Whatever was answered.
+        ensures best { LinkedIsBest self.new.links }
+        ensures valid { IsChecker self.new }
+    {
+        if let Some(defect) = entry_defect(&self.links, entry) {
+            return Err(defect);
+        }
+        let before = Occupants::of(&self.links);
+        follow_reply(&mut self.links, entry.event, &entry.reply);
+        follow(&mut self.contexts, &before, &self.links, entry.event);
+        Ok(())
+    }
+
+    /// The links after the entries that were accepted.
+    pub fn links(&self) -> &Links
+        ensures value { result.now ≡ self.now.links }
+        ensures best { LinkedIsBest self.now.links }
+        ensures valid { IsChecker self.now }
+    {
+        &self.links
+    }
+
+    /// What a task has run by the entries that were accepted.
+    pub fn context(&self, t: u32) -> &Context
+        requires { t < task_count self.now.links }
+        ensures value { slice_get self.now.contexts t ≡ Some result.now }
+        ensures task { result.now.task ≡ t }
+        ensures valid { IsChecker self.now }
+    {
+        &self.contexts[t as usize]
+    }
+}

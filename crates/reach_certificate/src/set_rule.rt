@@ -1,0 +1,100 @@
+//! The test of a set.
+ghost use Rattle.std.specs.Prelude.{◌≡◌, ◌<◌, ◌↔◌, IsTrue};
+ghost use Rattle.affinity_mask.specs.ProcSet.{all_below, Within};
+ghost use Rattle.link_table.specs.State.{task_count};
+ghost use Rattle.reach_certificate.specs.Judging.{IsFirstMisfitIfAny, IsSetRuleOf, FitsSetRule, IsHeld, Holds, ShiftsInto};
+
+use crate::judged_links::{JudgedLinks, meets};
+use affinity_mask::ProcSet;
+
+/// What a set has to be.
+#[derive(Clone, Copy)]
+pub enum SetRule {
+    /// A set behind which this task waits: it has the task's mask, and on each of its processors is a more urgent task
+    /// that may run only within it.
+    HeldAgainst(u32),
+
+    /// The same around the first task, where the tasks on the set need only be no less urgent than the second one, which
+    /// is put out.
+    HeldOver(u32, u32),
+
+    /// A set from which shifts lead to this processor: it has the processor, none that the machine lacks, and no shift
+    /// leads into it from outside.
+    LeadsBack(u8),
+}
+
+impl SetRule {
+    /// The least processor that does not fit a set.
+    pub fn first_misfit(self, links: &JudgedLinks, set: ProcSet) -> Option<u8>
+        requires { IsSetRuleOf (task_count links.now) self }
+        ensures test { IsFirstMisfitIfAny (FitsSetRule links.now self set) 64 result }
+        ensures processors { Within set (all_below 64) }
+    {
+        // A set that code holds has no number beyond those of processors.
+        prove!(set.count() <= 64);
+        for q in 0..64 {
+            if !self.fits(links, set, q) {
+                return Some(q);
+            }
+        }
+        None
+    }
+
+    // Whether q fits a set.
+    fn fits(self, links: &JudgedLinks, set: ProcSet, q: u8) -> bool
+        requires tasks { IsSetRuleOf (task_count links.now) self }
+        requires processor { q < 64 }
+        ensures { IsTrue result ↔ FitsSetRule links.now self set q }
+    {
+        match self {
+            SetRule::HeldAgainst(t) | SetRule::HeldOver(t, _) => {
+                if set.has(q) {
+                    self.is_held(links, set, q)
+                } else {
+                    !links.mask(t).has(q)
+                }
+            }
+            SetRule::LeadsBack(place) => {
+                if set.has(q) {
+                    q < links.processors()
+                } else {
+                    q != place && !shifts_into(links, q, set)
+                }
+            }
+        }
+    }
+
+    // Whether the occupant of q may run only within the set, and holds its place there.
+    fn is_held(self, links: &JudgedLinks, set: ProcSet, q: u8) -> bool
+        requires tasks { IsSetRuleOf (task_count links.now) self }
+        ensures { IsTrue result ↔ IsHeld links.now self set q }
+    {
+        match links.on(q) {
+            Some(u) => links.mask(u).within(&set) && self.holds(links, u),
+            None => false,
+        }
+    }
+
+    // Whether an occupant is urgent enough to hold its place.
+    fn holds(self, links: &JudgedLinks, u: u32) -> bool
+        requires tasks { IsSetRuleOf (task_count links.now) self }
+        requires occupant { u < task_count links.now }
+        ensures { IsTrue result ↔ Holds links.now self u }
+    {
+        match self {
+            SetRule::HeldAgainst(t) => links.is_more_urgent(u, t),
+            SetRule::HeldOver(_, out) => !links.is_more_urgent(out, u),
+            SetRule::LeadsBack(_) => true,
+        }
+    }
+}
+
+// Whether the occupant of q may run on a processor of the set.
+fn shifts_into(links: &JudgedLinks, q: u8, set: ProcSet) -> bool
+    ensures { IsTrue result ↔ ShiftsInto links.now q set }
+{
+    match links.on(q) {
+        Some(u) => meets(&set, &links.mask(u)),
+        None => false,
+    }
+}
