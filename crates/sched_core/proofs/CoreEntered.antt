@@ -1,17 +1,15 @@
 -- What is kept by a core, one entry later.
-use Rattle.std.proofs.Common.{◌≡◌, ℕ, zero, suc, ◌+◌, ◌*◌, ◌<◌, ◌≤◌, Bool, true, false, not, ◌&&◌, cond, List, [], ◌∷◌, ◌++◌, length, get_or, filter, Option, Some, None, refl, sym, ap, ◌∙◌, subst, inl, inr, arith, append_assoc}
+use Rattle.std.proofs.Common.{◌≡◌, ℕ, ◌+◌, ◌*◌, ◌<◌, ◌≤◌, false, not, ◌&&◌, List, [], ◌∷◌, ◌++◌, length, get_or, filter, Option, Some, refl, sym, ap, ◌∙◌, arith, append_assoc}
 use Rattle.std.specs.List.{range_with_len}
 use Rattle.std.proofs.lemmas.List.{length-append}
-use Rattle.task_set.specs.declared.event.Event.{Event}
-use Rattle.task_set.specs.declared.order.Order.{Order}
-use Rattle.link_table.specs.declared.reply.Reply.{Reply}
 use Rattle.link_table.specs.declared.reply.Entry.{Entry}
-use Rattle.link_table.specs.State.{State, IsState, task_on, task_count, is_task}
+use Rattle.link_table.specs.State.{State, task_on, is_task}
 use Rattle.link_table.specs.Step.{SchedulerStep}
-use Rattle.link_table.specs.History.{IsLegalFrom, state_after, effect_of}
-use Rattle.link_table.specs.Dispatch.{processors_of, taken_between, orders_of, change_orders, tick_orders}
+use Rattle.link_table.specs.History.{state_after, effect_of}
+use Rattle.link_table.specs.Dispatch.{processors_of, taken_between, orders_of}
 use Rattle.link_table.proofs.Histories.{state_after-push, IsLegalFrom-push, processors_of-push, orders_of-push}
 use Rattle.link_table.proofs.Steps.{reply_gives_new_state, step_keeps_state}
+use Rattle.reach_certificate.proofs.Kept.{step_keeps_certificates}
 use Rattle.sched_core.specs.CoreData.{CoreData, IsCore, core_orders, max_entries}
 use Rattle.sched_core.specs.CoreRows.{RowData, row_at, RowFollows, NumbersBecome, came, came_below}
 use Rattle.sched_core.proofs.RowLoops.{filtered_count-bound, filtered_count-same, change_orders-same_number}
@@ -44,6 +42,7 @@ core_entered old entry new spare kept step room =
       state = step_keeps_state old.links entry.event entry.reply new kept.state step;
       legal = IsLegalFrom-push old.start old.history entry kept.legal (rw (← kept.links, ← now) step);
       links = next ∙ sym (state_after-push old.start old.history entry);
+      certificates = step_keeps_certificates old.links entry.event entry.reply new kept.state kept.certificates step;
       processors = same.processors ∙ kept.processors;
       tasks = ap length same.priorities ∙ kept.tasks;
       fits = let more = length-append old.history (entry ∷ []) in omega (arith, more, room);

@@ -2,6 +2,7 @@ pub mod CarriedAlong
 pub mod CarriedByChanges
 pub mod CarriedByTicks
 pub mod CarriedThroughout
+pub mod CoreBest
 pub mod CoreEntered
 pub mod OrderCounts
 pub mod OrderLists

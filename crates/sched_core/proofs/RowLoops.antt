@@ -1,5 +1,5 @@
 -- The rows of orders, as a loop goes over them one by one.
-use Rattle.std.proofs.Common.{◌≡◌, ◌≢◌, ℕ, zero, suc, ◌+◌, ◌<◌, ◌≤◌, ◌^◌, Bool, true, false, not, ◌&&◌, cond, List, [], ◌∷◌, ◌++◌, length, get_or, map, filter, set, Option, Some, None, refl, sym, ap, ◌∙◌, subst, inl, inr, arith, if◌then◌else◌}
+use Rattle.std.proofs.Common.{◌≡◌, ℕ, zero, suc, ◌+◌, ◌<◌, ◌≤◌, Bool, true, false, cond, List, [], ◌∷◌, ◌++◌, length, get_or, filter, set, Option, Some, None, refl, sym, ap, ◌∙◌, subst, inl, inr, arith, if◌then◌else◌}
 use Rattle.std.specs.List.{range_with_len}
 use Rattle.std.proofs.lemmas.Bool.{cases_Bool, cases_lt, cases_eq}
 use Rattle.std.proofs.lemmas.List.{map-id, length-append, length-set, get_or-set_same, get_or-set_other}
@@ -7,9 +7,9 @@ use Rattle.std.proofs.lemmas.List.FromFn.{filter_of_map_range_with_len_more}
 use Rattle.task_set.specs.declared.event.Event.{Event}
 use Rattle.task_set.specs.declared.order.Order.{Order}
 use Rattle.link_table.specs.State.{State, IsState, task_on, task_count, is_task}
-use Rattle.link_table.specs.Dispatch.{change_orders, tick_orders, take_of, release_of, is_same_occupant}
-use Rattle.link_table.proofs.Linked.{is_task-same, is_task-true}
-use Rattle.sched_core.specs.CoreRows.{RowData, row_at, empty_row, OnlyGrew, RowsOnlyGrew, HasRoomInEach, RowFollows, RowsFollow, RowCloses, RowsClose, NumbersBecome, came, came_below}
+use Rattle.link_table.specs.Dispatch.{change_orders, tick_orders}
+use Rattle.link_table.proofs.Linked.{is_task-true}
+use Rattle.sched_core.specs.CoreRows.{RowData, row_at, empty_row, OnlyGrew, RowsOnlyGrew, HasRoomInEach, RowFollows, NumbersBecome, came, came_below}
 
 -- the rows below n became what they have to, and the others are as they were
 pub record RowsDone (Becomes : ℕ → RowData → RowData → Type 0) (old : List RowData) (n : ℕ) (now : List RowData) : Type 0 where

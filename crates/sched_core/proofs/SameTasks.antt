@@ -1,6 +1,5 @@
 -- What no event changes: how many processors there are, which of them are on line, and what is known of each task.
-use Rattle.std.proofs.Common.{◌≡◌, ℕ, List, [], ◌∷◌, length, replicate, Some, None, refl, ◌∙◌, ap}
-use Rattle.affinity_mask.specs.ProcSet.{all_below}
+use Rattle.std.proofs.Common.{◌≡◌, ℕ, List, [], ◌∷◌, Some, None, refl, ◌∙◌}
 use Rattle.task_set.specs.declared.event.Event.{Event}
 use Rattle.link_table.specs.declared.reply.Reply.{Reply}
 use Rattle.link_table.specs.declared.reply.Reply.TheVariants.{Placed, Displaced, Waits, Freed, Left, Ticked, AlreadyReady, NotReady}

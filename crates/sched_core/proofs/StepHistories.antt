@@ -12,7 +12,7 @@ use Rattle.link_table.specs.History.{IsLegalFrom, effect_of, event_task}
 use Rattle.link_table.proofs.Start.{IsState-start}
 use Rattle.link_table.proofs.Steps.{reply_gives_new_state, step_keeps_state}
 use Rattle.link_table.proofs.Unique.{step_is_unique}
-use Rattle.sched_core.specs.CoreData.{IsOfTask}
+use Rattle.reach_certificate.specs.Passing.{IsOfTask}
 use Rattle.sched_core.specs.StepLaws.{LegalHistoryExists, LegalHistoryIsUnique, caller_and_event}
 use Rattle.sched_core.proofs.OrderNames.{task_count-reply}
 use Rattle.sched_core.proofs.StepExists.{step_exists}

@@ -4,9 +4,9 @@ use Rattle.std.proofs.lemmas.Option.{same_Some}
 use Rattle.link_table.specs.State.{State, task_on, priority_of}
 use Rattle.link_table.specs.Chain.{IsChainOf}
 use Rattle.link_table.specs.Certificate.{IsCertificate}
-use Rattle.placement_laws.specs.Certified.{HasCertificates}
-use Rattle.placement_laws.proofs.Closed.{IsCertificate-closed, chain_inside}
-use Rattle.placement_laws.proofs.Kept.{HasCertificates-state_at}
+use Rattle.reach_certificate.specs.Certified.{HasCertificates}
+use Rattle.reach_certificate.proofs.Closed.{IsCertificate-closed, chain_inside}
+use Rattle.reach_certificate.proofs.Kept.{legal_is_certified}
 use Rattle.sched_core.specs.ImprovingLaw.{HasNoImprovingChain, LegalHistoryHasNoImprovingChain}
 
 -- where each waiting task has a certificate, no task has an improving chain
@@ -33,4 +33,4 @@ no_improving_chain s certified t chain improving = elim improving.better [
     occupant q c = let o = certificate.occupied q (chain_inside s set (IsCertificate-closed s t set certificate) t certificate.within chain q c) in (o.0, o.1, o.2)
 
 pub legal_history_has_no_improving_chain : LegalHistoryHasNoImprovingChain
-legal_history_has_no_improving_chain set lawful history legal n within = no_improving_chain _ (HasCertificates-state_at set history n lawful legal)
+legal_history_has_no_improving_chain set lawful history legal n within = no_improving_chain _ (legal_is_certified set lawful history legal n within).1

@@ -1,17 +1,18 @@
 -- The scheduler on one thread. What a reader must believe: a core has a history from the state in which it began, and
 -- the links after it; each event that is applied adds one entry, which is the scheduler's step; the orders of each
 -- processor are those of the history, and of the close once the core is closed.
-use Rattle.std.specs.Prelude.{◌≡◌, ◌≢◌, ℕ, ◌+◌, ◌<◌, ◌≤◌, Bool, true, false, List, [], ◌∷◌, ◌++◌, length, replicate, None, if◌then◌else◌}
+use Rattle.std.specs.Prelude.{◌≡◌, ℕ, ◌+◌, ◌≤◌, Bool, false, List, [], ◌∷◌, ◌++◌, length, replicate, None, if◌then◌else◌}
 use Rattle.affinity_mask.specs.ProcSet.{all_below}
 use Rattle.task_set.specs.declared.event.Event.{Event}
-use Rattle.task_set.specs.declared.event.Event.TheVariants.{Arrive, Depart, Tick}
 use Rattle.task_set.specs.declared.order.Order.{Order}
 use Rattle.link_table.specs.declared.reply.Reply.{Reply}
 use Rattle.link_table.specs.declared.reply.Entry.{Entry}
 use Rattle.link_table.specs.State.{State, IsState, task_count}
 use Rattle.link_table.specs.Step.{SchedulerStep}
-use Rattle.link_table.specs.History.{IsLegalFrom, state_after}
+use Rattle.link_table.specs.History.{event_task, IsLegalFrom, state_after}
 use Rattle.link_table.specs.Dispatch.{orders_of, closed_orders_of}
+use Rattle.reach_certificate.specs.Certified.{HasCertificates}
+use Rattle.reach_certificate.specs.Ground.{HasGround}
 
 -- the state in which a core began, its history, the links now, whether it is closed, and for how many more entries
 -- there is room
@@ -37,12 +38,13 @@ state_before_events s = record {
   on = replicate s.processors None;
 }
 
--- what holds of every core: the history is legal, and the links are those after it
+-- what holds of every core: the history is legal, the links are those after it, and each waiting task has a certificate
 pub record IsCore (core : CoreData) : Type 0 where
   pub start : IsState core.start
   pub state : IsState core.links
   pub legal : IsLegalFrom core.start core.history
   pub links : core.links ≡ state_after core.start core.history
+  pub certificates : HasCertificates core.links
   pub processors : core.links.processors ≡ core.start.processors
   pub tasks : task_count core.links ≡ task_count core.start
   pub fits : length core.history ≤ max_entries
@@ -51,23 +53,19 @@ pub record IsCore (core : CoreData) : Type 0 where
 abbrev pub core_orders : CoreData → ℕ → List Order
 core_orders core p = if core.closed then closed_orders_of core.start core.history p else orders_of core.start core.history p
 
--- the task of the event, if it has one, is one of so many
-abbrev pub IsOfTask : ℕ → Event → Type 0
-IsOfTask count (Arrive t) = t < count
-IsOfTask count (Depart t) = t < count
-IsOfTask count (Tick units) = Unit {0}
-
 -- an entry of a caller and an event, with the reply to it
 abbrev pub entry_of : ℕ → Event → Reply → Entry
 entry_of caller event reply = record { caller = caller; event = event; reply = reply }
 
 -- the event of this caller was applied: the history has one more entry, at this place, which is the scheduler's step
--- from the links before it to the links after it, and takes the room of one entry at most
+-- from the links before it to the links after it; its reply has its ground in the links after it, and it takes the room
+-- of one entry at most
 pub record Applied (old : CoreData) (caller : ℕ) (event : Event) (place : ℕ) (new : CoreData) : Type 0 where
   pub reply : Reply
   pub at_place : place ≡ length old.history
   pub history : new.history ≡ old.history ++ entry_of caller event reply ∷ []
   pub step : SchedulerStep old.links event reply new.links
+  pub ground : HasGround new.links (event_task event) reply
   pub start : new.start ≡ old.start
   pub closed : new.closed ≡ old.closed
   pub spare : old.spare ≤ new.spare + 1

@@ -1,10 +1,10 @@
 -- What contracts see of a core, and what its stored parts keep. What a reader must believe: a core began with every
 -- task absent and every processor idle; its rows have the orders of the history, and there is room in them for the
 -- orders of the entries for which room was made, and of the close.
-use Rattle.std.specs.Prelude.{◌≡◌, ℕ, ◌+◌, ◌*◌, ◌<◌, ◌≤◌, Bool, true, false, length, get_or}
+use Rattle.std.specs.Prelude.{◌≡◌, ℕ, ◌+◌, ◌*◌, ◌<◌, ◌≤◌, false, length, get_or}
 use Rattle.std.specs.Vec.{vec_len, vec_capacity}
 use Rattle.link_table.specs.State.{task_count, task_on}
-use Rattle.link_table.specs.Dispatch.{processors_of, orders_of, closed_orders_of}
+use Rattle.link_table.specs.Dispatch.{processors_of}
 use Rattle.sched_core.specs.CoreData.{CoreData, IsCore, core_orders, state_before_events}
 use Rattle.sched_core.specs.CoreRows.{row_at}
 use Rattle.sched_core.specs.declared.scheduler.Core.TheInside.{Inside}

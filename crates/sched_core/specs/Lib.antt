@@ -3,6 +3,7 @@ pub mod CoreRowView
 pub mod CoreRows
 pub mod CoreView
 pub mod ImprovingLaw
+pub mod LegalLaw
 pub mod OrderLaws
 pub mod StepLaws
 pub mod StintLaw

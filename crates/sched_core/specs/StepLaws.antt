@@ -8,7 +8,7 @@ use Rattle.link_table.specs.declared.reply.Entry.{Entry}
 use Rattle.link_table.specs.State.{State, IsState, task_count}
 use Rattle.link_table.specs.Step.{SchedulerStep}
 use Rattle.link_table.specs.History.{IsLegal}
-use Rattle.sched_core.specs.CoreData.{IsOfTask}
+use Rattle.reach_certificate.specs.Passing.{IsOfTask}
 
 -- in every state, at every event of one of its tasks, the scheduler has a step
 abbrev pub StepExists : Type 0

@@ -1,6 +1,7 @@
 //! What holds of every legal history and its orders, and of the scheduler's step, whatever program takes it. Each law
 //! is the contract of a function that does nothing: a caller in a proof gets the law by its clause.
 ghost use Rattle.sched_core.specs.ImprovingLaw.{LegalHistoryHasNoImprovingChain};
+ghost use Rattle.sched_core.specs.LegalLaw.{LegalHistoryHasCertificates, LegalHistoryIsBest, LegalHistoryIsMostUrgent};
 ghost use Rattle.sched_core.specs.OrderLaws.{OrdersObeyable, OrdersCount, OrdersNameTasks, TakeNumbersSmall};
 ghost use Rattle.sched_core.specs.StepLaws.{StepExists, LegalHistoryExists, LegalHistoryIsUnique};
 ghost use Rattle.sched_core.specs.StintLaw.{StintsGiveContext, StintsAreTakes};
@@ -34,6 +35,24 @@ pub fn step_exists()
 pub fn events_have_one_history()
     ensures exists { LegalHistoryExists }
     ensures unique { LegalHistoryIsUnique }
+{}
+
+/// After every entry of a legal history the links are a placement of ready tasks, and each waiting task has a
+/// certificate. So whoever follows a legal history can show of every waiting task why it waits.
+pub fn legal_history_has_certificates()
+    ensures { LegalHistoryHasCertificates }
+{}
+
+/// After every entry of a legal history, of arrivals, departures and ticks alike, the linked tasks are the best placeable
+/// set of the ready tasks.
+pub fn legal_history_is_best()
+    ensures { LegalHistoryIsBest }
+{}
+
+/// After every entry of a legal history as many tasks are linked as can be, and at each rank a task that is as urgent as
+/// can be.
+pub fn legal_history_is_most_urgent()
+    ensures { LegalHistoryIsMostUrgent }
 {}
 
 /// After every entry of a legal history no task waits that could be shifted to an idle processor, or onto the processor

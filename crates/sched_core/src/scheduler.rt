@@ -6,7 +6,11 @@ ghost use Rattle.sched_core.specs.declared.fault.CoreFault.{CoreFault};
 ghost use Rattle.sched_core.specs.declared.fault.CoreFault.TheVariants.{Closed, Full};
 ghost use Rattle.link_table.specs.State.{task_count, start_of};
 ghost use Rattle.link_table.specs.Step.{SchedulerStep};
-ghost use Rattle.sched_core.specs.CoreData.{CoreData, IsCore, IsOfTask, Applied, OnlyMadeRoom, core_orders, max_entries};
+ghost use Rattle.reach_certificate.specs.Certified.{HasCertificates};
+ghost use Rattle.reach_certificate.specs.Laws.{LinkedIsBest, LinkedIsLargest, LinkedIsAsUrgent};
+ghost use Rattle.reach_certificate.specs.Passing.{IsOfTask};
+ghost use Rattle.sched_core.specs.CoreData.{CoreData, IsCore, Applied, OnlyMadeRoom, core_orders, max_entries};
+ghost use Rattle.sched_core.specs.ImprovingLaw.{HasNoImprovingChain};
 
 use crate::fault::CoreFault;
 use crate::order_row::OrderRow;
@@ -77,6 +81,7 @@ impl Core {
     /// Makes room for an entry, so that the next `apply` is not refused for want of memory. Nothing else changes.
     pub fn reserve(&mut self) -> Result<(), OutOfMemory>
         ensures kept { OnlyMadeRoom self.old self.new }
+        ensures valid { IsCore self.new }
         ensures ok { OnOk result (1 ≤ self.new.spare) }
         ensures spare { 1 ≤ self.old.spare → IsOk result }
     {
@@ -91,6 +96,9 @@ impl Core {
     /// Applies an event of a caller, and answers the place of its entry in the history, from 0. It is `Closed` where
     /// the core is closed, and `Full` where it is open and has `MAX_ENTRIES` entries. Memory may be refused where no
     /// room is reserved. After an `Err` no more than the room for entries may differ.
+    ///
+    /// Before the call and after it, whatever it answers, the linked tasks are the best placeable set of the ready ones,
+    /// and each task that waits has a certificate of it.
     pub fn apply(&mut self, caller: u32, event: Event) -> Result<u64, CoreFault>
         requires { IsOfTask (task_count self.old.links) event }
         ensures applied { IfOk result (λ place. Applied self.old caller event place self.new) }
@@ -98,11 +106,31 @@ impl Core {
         ensures full { (result ≡ Err Full) ↔ (self.old.closed ≡ false) × (length self.old.history ≡ max_entries) }
         ensures memory { 1 ≤ self.old.spare → result ≢ Err CoreFault.OutOfMemory }
         ensures refused { OnErr result (OnlyMadeRoom self.old self.new) }
+
+        // Whatever is answered, the links are those of a strong scheduler.
+        ensures certified { HasCertificates self.new.links }
+        ensures unimprovable { HasNoImprovingChain self.new.links }
+        ensures best { LinkedIsBest self.new.links }
+        ensures largest { LinkedIsLargest self.new.links }
+        ensures rank_by_rank { LinkedIsAsUrgent self.new.links }
     {
+        self.append(caller, event)
+    }
+
+    /// One entry more, where the core is open and there is room.
+    fn append(&mut self, caller: u32, event: Event) -> Result<u64, CoreFault>
+        requires { IsOfTask (task_count self.old.links) event }
+        ensures applied { IfOk result (λ place. Applied self.old caller event place self.new) }
+        ensures closed { (result ≡ Err Closed) ↔ IsTrue self.old.closed }
+        ensures full { (result ≡ Err Full) ↔ (self.old.closed ≡ false) × (length self.old.history ≡ max_entries) }
+        ensures memory { 1 ≤ self.old.spare → result ≢ Err CoreFault.OutOfMemory }
+        ensures refused { OnErr result (OnlyMadeRoom self.old self.new) }
+        ensures valid { IsCore self.new }
+    {
+        let place = self.history().len();
         if self.closed {
             return Err(CoreFault::Closed);
         }
-        let place = self.history.len();
         if place == MAX_ENTRIES {
             return Err(CoreFault::Full);
         }
@@ -117,7 +145,8 @@ impl Core {
         requires not_closed { self.old.closed ≡ false }
         requires room { 1 ≤ self.old.spare }
         requires not_full { length self.old.history < max_entries }
-        ensures { Applied self.old caller event (length self.old.history) self.new }
+        ensures applied { Applied self.old caller event (length self.old.history) self.new }
+        ensures valid { IsCore self.new }
     {
         let reply = reply_to(&mut self.links, event);
         follow_links(&mut self.rows, &mut self.takes, &self.links, event);

@@ -1,8 +1,8 @@
-use Rattle.std.proofs.Common.{◌≡◌, ◌<◌, ◌+◌, ℕ, length, get_or, refl, sym, ap, ◌∙◌, subst, arith}
+use Rattle.std.proofs.Common.{◌≡◌, ◌<◌, ℕ, length, get_or, sym, ap, ◌∙◌, subst, arith}
 use Rattle.std.proofs.lemmas.List.{get_or_default}
 use Rattle.link_table.specs.State.{task_on}
 use Rattle.link_table.proofs.Linked.{linked_number}
-use Rattle.sched_core.specs.CoreRows.{RowData, row_at, empty_row, came_below, came, RowFollows}
+use Rattle.sched_core.specs.CoreRows.{RowData, row_at, empty_row, came, RowFollows}
 use Rattle.sched_core.proofs.RowLoops.{rows_done-more, row_follows, numbers-more, filtered_count-bound}
 use Rattle.sched_core.proofs.order_rows.follow_links.Goals as goal
 

@@ -1,12 +1,12 @@
-use Rattle.std.proofs.Common.{◌≡◌, ◌≢◌, ℕ, ◌+◌, ◌-◌, ◌*◌, ◌<◌, ◌≤◌, ◌++◌, ◌∷◌, [], List, length, get_or, false, Some, refl, sym, ap, ◌∙◌, subst, arith}
+use Rattle.std.proofs.Common.{◌≡◌, ℕ, ◌-◌, ◌<◌, ◌≤◌, ◌++◌, ◌∷◌, [], List, length, get_or, false, refl, sym, ap, ◌∙◌, subst, arith}
 use Rattle.link_table.specs.declared.reply.Entry.{Entry}
-use Rattle.link_table.specs.State.{State, IsState, task_on, task_count}
+use Rattle.link_table.specs.State.{State, IsState, task_count}
 use Rattle.link_table.specs.History.{effect_of}
 use Rattle.link_table.specs.Dispatch.{orders_of, processors_of}
 use Rattle.link_table.proofs.Linked.{linked_number}
 use Rattle.link_table.proofs.Steps.{reply_gives_new_state, step_keeps_state}
-use Rattle.placement_laws.specs.Admission.{HasSameTasks}
-use Rattle.sched_core.specs.CoreData.{CoreData, IsCore, state_before_events, entry_of, max_entries}
+use Rattle.reach_certificate.proofs.Kept.{step_has_ground}
+use Rattle.sched_core.specs.CoreData.{CoreData, IsCore, Applied, state_before_events, entry_of, max_entries}
 use Rattle.sched_core.specs.CoreView.{core_view}
 use Rattle.sched_core.specs.CoreRows.{row_at}
 use Rattle.sched_core.proofs.CoreEntered.{takes_bound, core_entered, core_orders-open, orders_entered, takes_entered}
@@ -71,4 +71,27 @@ invariant_of-self c =
             room = omega (arith, follows.room, (kept.rows_open open_before p below).room, some_spare);
           };
       room = omega (arith, c.push_reserved.ensures.len, c.push_reserved.ensures.capacity, kept.room, some_spare);
+    }
+
+pub returns-clause-valid : goal.returns-clause-valid
+returns-clause-valid c = (invariant_of-self c).core
+
+pub returns-clause-applied : goal.returns-clause-applied
+returns-clause-applied c =
+    let inside = c.self.inside in
+    let kept = c.self.invariant in
+    let reply = c.reply_to-reply.result in
+    let new = c.reply_to-reply.new.links in
+    let step = c.reply_to-reply.ensures in
+    let some_spare : 1 ≤ inside.spare = subst (λ (core : CoreData). 1 ≤ core.spare) (sym c.self.view_is) c.requires.room in
+    let entered : CoreData = record { start = state_before_events new; history = c.push_reserved.new.self.items; links = new; closed = inside.closed; spare = inside.spare - 1 } in
+    subst (λ (core : CoreData). Applied core c.args.caller c.args.event (length core.history) entered) c.self.view_is record {
+      reply = reply;
+      at_place = refl;
+      history = c.push_reserved.ensures.items;
+      step = step;
+      ground = step_has_ground inside.links c.args.event reply new kept.core.state kept.core.certificates step;
+      start = same_start inside.links new (same_tasks-step inside.links c.args.event reply new step);
+      closed = refl;
+      spare = omega arith;
     }

@@ -1,0 +1,23 @@
+-- In every core the linked tasks are the best set: each waiting task has a certificate.
+use Rattle.reach_certificate.specs.Certified.{HasCertificates}
+use Rattle.reach_certificate.specs.Laws.{LinkedIsBest, LinkedIsLargest, LinkedIsAsUrgent}
+use Rattle.reach_certificate.proofs.Best.{linked_is_best, linked_is_largest}
+use Rattle.reach_certificate.proofs.Ranked.{linked_is_as_urgent}
+use Rattle.sched_core.specs.CoreData.{CoreData, IsCore}
+use Rattle.sched_core.specs.ImprovingLaw.{HasNoImprovingChain}
+use Rattle.sched_core.proofs.StepImproving.{no_improving_chain}
+
+pub core_certified : (core : CoreData) → IsCore core → HasCertificates core.links
+core_certified core kept = kept.certificates
+
+pub core_unimprovable : (core : CoreData) → IsCore core → HasNoImprovingChain core.links
+core_unimprovable core kept = no_improving_chain core.links kept.certificates
+
+pub core_best : (core : CoreData) → IsCore core → LinkedIsBest core.links
+core_best core kept = linked_is_best core.links kept.state kept.certificates
+
+pub core_largest : (core : CoreData) → IsCore core → LinkedIsLargest core.links
+core_largest core kept = linked_is_largest core.links kept.state kept.certificates
+
+pub core_as_urgent : (core : CoreData) → IsCore core → LinkedIsAsUrgent core.links
+core_as_urgent core kept = linked_is_as_urgent core.links kept.state kept.certificates
