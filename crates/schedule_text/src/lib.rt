@@ -2,11 +2,25 @@
 //!
 //! [`write_schedule`] writes a task set, the history of a scheduler on it, and the contexts of the tasks. There is one
 //! text for each schedule: a header, the tasks, a line for each entry of the history with the reply and the chain or
-//! the set of processors that justifies it, and a line for each task with what it has run.
+//! the set of processors that justifies it, and a line for each task with what it has run. [`read_schedule`] reads the
+//! text of a [`Schedule`]; a text that is none is refused with the first line that has a fault, and the kind of the
+//! fault.
 #![tactic(auto)]
 
+mod entry;
+pub mod fault;
+mod field;
+pub mod laws;
+mod line;
+pub mod read;
+mod reply;
+pub mod schedule;
+mod stage;
 #[cfg(test)]
 mod tests;
 pub mod write;
 
+pub use fault::{TextFault, TextKind};
+pub use read::read_schedule;
+pub use schedule::Schedule;
 pub use write::write_schedule;

@@ -3,14 +3,14 @@ ghost use Rattle.std.specs.Prelude.{◌<◌, length, All, IsTrue};
 ghost use Rattle.trace_reader.specs.EventText.{IsAboutSet};
 ghost use Rattle.schedule_text.specs.ScheduleText.{IsReplyOf, IsEntryOf};
 
-use crate::write_schedule;
+use crate::{TextFault, TextKind, read_schedule, write_schedule};
 use affinity_mask::ProcSet;
 use link_table::{Chain, Entry, Reply};
 use std::alloc::Global;
 use std::process::Abort;
 use std::str;
 use std::test::Fail;
-use task_set::{Context, Event, TaskSet};
+use task_set::{Context, Event, TaskFault, TaskSet};
 
 const SMALLEST: &str = "schedule 1\nprocessors 1\ntask a 5 0\nhistory 1\n0 arrive a placed 0\n\
 contexts 1\na units 0 stints 1 moves 0 last 0 trail 0\nend\n";
@@ -208,4 +208,192 @@ fn each_reply(rt: HostRuntime) -> Result<(), Fail> {
         },
     ];
     expect_text(&rt, rt.alloc(), &set, &entries, &contexts, EACH_REPLY)
+}
+
+/// Texts, each with the first line that has a fault, and its kind. Each begins with a front of the smallest schedule.
+const FIRST_FAULTS: [(&[u8], u64, TextKind); 30] = [
+    (b"", 1, TextKind::Short),
+    (b"schedule 1", 1, TextKind::Short),
+    (b"schedule 01\n", 1, TextKind::BadLine),
+    (b"schedule 1 \n", 1, TextKind::BadLine),
+    (b"schedule 1\n", 2, TextKind::Short),
+    (b"schedule 1\nprocessors 0\n", 2, TextKind::BadLine),
+    (b"schedule 1\nprocessors 65\n", 2, TextKind::BadLine),
+    (
+        b"schedule 1\nprocessors 1\ntask a 5 0,0\n",
+        3,
+        TextKind::BadLine,
+    ),
+    (
+        b"schedule 1\nprocessors 1\ntask a 5 64\n",
+        3,
+        TextKind::BadLine,
+    ),
+    (
+        b"schedule 1\nprocessors 1\ntask a 5 -\n",
+        3,
+        TextKind::BadLine,
+    ),
+    (
+        b"schedule 1\nprocessors 1\ntask a\tb 5 0\n",
+        3,
+        TextKind::BadLine,
+    ),
+    (
+        b"schedule 1\nprocessors 1\ntask  5 0\n",
+        3,
+        TextKind::BadLine,
+    ),
+    (
+        b"schedule 1\nprocessors 1\ntask a 5 1\n",
+        3,
+        TextKind::TaskRefused(TaskFault::OutsideMask(1)),
+    ),
+    (
+        b"schedule 1\nprocessors 1\ntask \xff 5 0\n",
+        3,
+        TextKind::TaskRefused(TaskFault::BadName),
+    ),
+    (
+        b"schedule 1\nprocessors 1\ntask a 5 0\ntask b 5 0\n",
+        4,
+        TextKind::TaskRefused(TaskFault::SamePriority(0)),
+    ),
+    (
+        b"schedule 1\nprocessors 1\nhistory 20001\n",
+        3,
+        TextKind::BadLine,
+    ),
+    (
+        b"schedule 1\nprocessors 1\ntask a 5 0\nhistory 1\n0 arrive a placed 0",
+        5,
+        TextKind::Short,
+    ),
+    (
+        b"schedule 1\nprocessors 1\ntask a 5 0\nhistory 1\n0 arrive b placed 0\n",
+        5,
+        TextKind::UnknownTask,
+    ),
+    (
+        b"schedule 1\nprocessors 1\ntask a 5 0\nhistory 1\n0 arrive - placed 0\n",
+        5,
+        TextKind::UnknownTask,
+    ),
+    (
+        b"schedule 1\nprocessors 1\ntask a 5 0\nhistory 1\n0 arrive b placed 64\n",
+        5,
+        TextKind::BadLine,
+    ),
+    (
+        b"schedule 1\nprocessors 1\ntask a 5 0\nhistory 1\n16 arrive a placed 0\n",
+        5,
+        TextKind::BadLine,
+    ),
+    (
+        b"schedule 1\nprocessors 1\ntask a 5 0\nhistory 1\n0 arrive a displaced 0 out - reach 0\n",
+        5,
+        TextKind::UnknownTask,
+    ),
+    (
+        b"schedule 1\nprocessors 1\ntask a 5 0\nhistory 1\n0 depart a freed 0 enters \xff back 0\n",
+        5,
+        TextKind::UnknownTask,
+    ),
+    (
+        b"schedule 1\nprocessors 1\ntask a 5 0\nhistory 1\n0 tick 1000001 ticked\n",
+        5,
+        TextKind::BadLine,
+    ),
+    (
+        b"schedule 1\nprocessors 1\ntask a 5 0\nhistory 0\ncontexts 2\n",
+        5,
+        TextKind::BadLine,
+    ),
+    (
+        b"schedule 1\nprocessors 1\ntask a 5 0\nhistory 0\ncontexts 1\nb units 0 stints 1 moves 0 last 0 trail 0\n",
+        6,
+        TextKind::BadLine,
+    ),
+    (
+        b"schedule 1\nprocessors 1\ntask a 5 0\nhistory 0\ncontexts 1\na units 00 stints 1 moves 0 last 0 trail 0\n",
+        6,
+        TextKind::BadLine,
+    ),
+    (
+        b"schedule 1\nprocessors 1\nhistory 0\ncontexts 0\nend",
+        5,
+        TextKind::Short,
+    ),
+    (
+        b"schedule 1\nprocessors 1\nhistory 0\ncontexts 0\nend\n\n",
+        6,
+        TextKind::AfterEnd,
+    ),
+    (
+        b"schedule 1\nprocessors 1\nhistory 0\ncontexts 0\nend\n\xff",
+        6,
+        TextKind::AfterEnd,
+    ),
+];
+
+/// Each reply, with the contexts of all tasks.
+const WHOLE: &str =
+    "schedule 1\nprocessors 4\ntask a 2 0-1\ntask b 3 1-2\ntask c 9 2-3\ntask w1 4294967295 0,2-3\n\
+history 11\n\
+0 arrive a placed 0>1>2\n\
+15 arrive b placed -\n\
+0 arrive b displaced 0>1>2 out c reach 0-2\n\
+0 arrive w1 waits 0,2-3\n\
+2 arrive c waits -\n\
+0 depart a freed 0>1 enters w1 back 0-1\n\
+0 depart a freed 0 enters - back 0\n\
+7 depart w1 left\n\
+0 tick 1000000 ticked\n\
+0 arrive a already\n\
+0 depart c absent\n\
+contexts 4\n\
+a units 0 stints 0 moves 0 last - trail 0\n\
+b units 0 stints 0 moves 0 last - trail 1\n\
+c units 18446744073709551615 stints 2 moves 1 last 63 trail 6364136223846793647\n\
+w1 units 10 stints 0 moves 3 last - trail 641\n\
+end\n";
+
+// What is read from a text is written as this text.
+fn expect_round_trip(rt: &impl Abort, alloc: Global, text: &str) -> Result<(), Fail> {
+    let schedule = read_schedule(alloc, text.as_bytes()).expect(rt, "a schedule");
+    let (set, entries, contexts) = (schedule.set(), schedule.entries(), schedule.contexts());
+    expect_text(rt, alloc, set, entries, contexts, text)
+}
+
+#[test]
+fn round_trips(rt: HostRuntime) -> Result<(), Fail> {
+    expect_round_trip(&rt, rt.alloc(), SMALLEST)?;
+    expect_round_trip(&rt, rt.alloc(), NOTHING)?;
+    expect_round_trip(&rt, rt.alloc(), WHOLE)
+}
+
+#[test]
+fn first_faults(rt: HostRuntime) {
+    for (text, line, kind) in FIRST_FAULTS {
+        assert_eq!(rt;
+            read_schedule(rt.alloc(), text).err(),
+            Some(TextFault { line, kind }),
+            "at {text:?}"
+        );
+    }
+}
+
+#[test]
+fn numbers_of_kinds(rt: HostRuntime) {
+    let rows = [
+        (TextKind::BadLine, Some(21)),
+        (TextKind::TaskRefused(TaskFault::Many), Some(22)),
+        (TextKind::UnknownTask, Some(23)),
+        (TextKind::Short, Some(24)),
+        (TextKind::AfterEnd, Some(25)),
+        (TextKind::OutOfMemory, None),
+    ];
+    for (kind, number) in rows {
+        assert_eq!(rt; kind.number(), number);
+    }
 }

@@ -198,7 +198,12 @@ fn write_contexts(
     Ok(())
 }
 
-fn write_context(text: &mut Vec<u8>, set: &TaskSet, context: &Context) -> Result<(), OutOfMemory>
+/// Appends the line of a context, whose task is of the set. Refused only for want of memory.
+pub(crate) fn write_context(
+    text: &mut Vec<u8>,
+    set: &TaskSet,
+    context: &Context,
+) -> Result<(), OutOfMemory>
     requires { context.now.task < length set.now.tasks }
     ensures { OnOk result (text.new.items ≡ text.old.items ++ context_line set.now context.now) }
 {

@@ -1,0 +1,6 @@
+use Rattle.std.proofs.Common.{◌≡◌}
+use Rattle.trace_reader.specs.Reading.{texts}
+use Rattle.schedule_text.proofs.field.links.Given as goal
+
+abbrev pub invariant-loop-link : goal.invariant-loop-link
+invariant-loop-link l = texts l.links.items ≡ texts l.yielded

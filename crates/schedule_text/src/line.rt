@@ -1,0 +1,137 @@
+//! The lines of tasks and of contexts.
+ghost use Rattle.std.specs.Prelude.{◌≡◌, ℕ, ◌<◌, ◌⊎◌, ◌↔◌, IsTrue, IfOk, IfErr, IfSome, OnOk, MatchOption, MatchBool, Some, Option, length};
+ghost use Rattle.task_set.specs.TaskSet.{SetData, TaskData};
+ghost use Rattle.task_set.specs.declared.context.Context.{Context};
+ghost use Rattle.trace_reader.specs.Reading.{texts};
+ghost use Rattle.trace_reader.specs.EventText.{line};
+ghost use Rattle.schedule_text.specs.ScheduleText.{context_line};
+ghost use Rattle.schedule_text.specs.Schedule.{IsContextOf};
+ghost use Rattle.schedule_text.specs.ScheduleFault.{IsCountForm, IsContextText};
+ghost use Rattle.schedule_text.specs.Reading.{context_fields, IsLastField, IsAdded, IsTaskFault, IsOutOfMemory};
+ghost use Rattle.schedule_text.specs.declared.fault.TextKind.TheVariants.{BadLine};
+
+use crate::fault::TextKind;
+use crate::field::{MAX_PROCESSOR, fields, is_field, is_word, list_of, number_of};
+use crate::write::write_context;
+use affinity_mask::OutOfMemory;
+use std::alloc::Global;
+use std::str;
+use task_set::{Context, TaskFault, TaskSet};
+use trace_reader::write::write_number;
+
+/// The greatest priority of a task.
+const MAX_PRIORITY: u64 = 4_294_967_295;
+
+/// Adds the task of some fields.
+pub fn add_task(alloc: Global, set: &mut TaskSet, fields: &[&[u8]]) -> Result<(), TextKind>
+    ensures read { OnOk result (IsAdded (texts fields.now) set.old set.new) }
+    ensures refused { IfErr result (λ kind. IsOutOfMemory kind ⊎ IsTaskFault set.old (texts fields.now) kind) }
+{
+    let [word, name, number, list] = fields else {
+        return Err(TextKind::BadLine);
+    };
+    if !is_word(word, "task") || !is_field(name) {
+        return Err(TextKind::BadLine);
+    }
+    let Some(priority) = number_of(number, 0, MAX_PRIORITY) else {
+        return Err(TextKind::BadLine);
+    };
+    let mask = list_of(alloc, list)?;
+    let Ok(name) = str::from_utf8(name) else {
+        return Err(TextKind::TaskRefused(TaskFault::BadName));
+    };
+    set.add(name, priority as u32, mask)?;
+    Ok(())
+}
+
+/// Whether a line says how many contexts there are.
+pub fn is_count(alloc: Global, set: &TaskSet, text: &[u8]) -> Result<bool, OutOfMemory>
+    ensures { IfOk result (λ is. MatchBool is (IsCountForm set.now text.now) (IsCountForm set.now text.now → ⊥)) }
+{
+    let mut count = Vec::from_slice(alloc, b"contexts ")?;
+    write_number(&mut count, set.len())?;
+    Ok(count.as_slice() == text)
+}
+
+/// The context of a line, where it is that of this task.
+pub fn read_context(alloc: Global, set: &TaskSet, t: u32, text: &[u8]) -> Result<Context, TextKind>
+    requires { t < length set.now.tasks }
+    ensures read { IfOk result (IsContextText set.now t text.now) }
+    ensures refused { IfErr result (λ kind. IsOutOfMemory kind ⊎ ((kind ≡ BadLine) × ((context : Context) → IsContextText set.now t text.now context → ⊥))) }
+{
+    let _lawful = set.len();
+    let fields = fields(alloc, text)?;
+    let Some(context) = context_of(t, &fields) else {
+        return Err(TextKind::BadLine);
+    };
+    let is_text = is_context_line(alloc, set, &context, text)?;
+    if is_text {
+        Ok(context)
+    } else {
+        Err(TextKind::BadLine)
+    }
+}
+
+/// Whether a line, without its line feed, is that of a context.
+fn is_context_line(
+    alloc: Global,
+    set: &TaskSet,
+    context: &Context,
+    text: &[u8],
+) -> Result<bool, OutOfMemory>
+    requires { context.now.task < length set.now.tasks }
+    ensures { IfOk result (λ is. IsTrue is ↔ (line text.now ≡ context_line set.now context.now)) }
+{
+    let mut given = Vec::from_slice(alloc, text)?;
+    given.push(b'\n')?;
+    let mut canonical = Vec::new(alloc);
+    write_context(&mut canonical, set, context)?;
+    Ok(given.as_slice() == canonical.as_slice())
+}
+
+/// What eleven fields say of a context, whatever its words are.
+fn context_of(t: u32, fields: &[&[u8]]) -> Option<Context>
+    ensures sizes { IfSome result (IsContextOf t) }
+    ensures finds { (set : SetData) (context : Context) → IsContextOf t context → texts fields.now ≡ context_fields set context → result ≡ Some context }
+{
+    let [
+        _name,
+        _units,
+        units,
+        _stints,
+        stints,
+        _moves,
+        moves,
+        _last,
+        last,
+        _trail,
+        trail,
+    ] = fields
+    else {
+        return None;
+    };
+    let units = number_of(units, 0, u64::MAX)?;
+    let stints = number_of(stints, 0, u64::MAX)?;
+    let moves = number_of(moves, 0, u64::MAX)?;
+    let last = last_of(last)?;
+    let trail = number_of(trail, 0, u64::MAX)?;
+    Some(Context {
+        task: t,
+        units,
+        stints,
+        moves,
+        last,
+        trail,
+    })
+}
+
+/// The last processor, or none for '-'.
+fn last_of(field: &[u8]) -> Option<Option<u8>>
+    ensures { MatchOption result ((last : Option ℕ) → IsLastField field.now last → ⊥) (IsLastField field.now) }
+{
+    if is_word(field, "-") {
+        return Some(None);
+    }
+    let p = number_of(field, 0, MAX_PROCESSOR)?;
+    Some(Some(p as u8))
+}

@@ -1,0 +1,230 @@
+//! What was read so far, and what is due.
+ghost use Rattle.std.specs.Prelude.{◌≡◌, ◌<◌, ◌⊎◌, length, IfOk, IfErr};
+ghost use Rattle.schedule_text.specs.ScheduleFault.{IsFront, IsLineFault, HeaderDue, ProcessorsDue, TasksDue, EntriesDue, ContextsDue};
+ghost use Rattle.schedule_text.specs.Reading.{progress_of, progress_behind, Leads, IsOutOfMemory};
+
+use crate::entry::read_entry;
+use crate::fault::TextKind;
+use crate::field::{fields, is_word, number_behind};
+use crate::line::{add_task, is_count, read_context};
+use crate::schedule::{MAX_ENTRIES, Schedule};
+use link_table::Entry;
+use std::alloc::Global;
+use task_set::{Context, TaskSet};
+
+/// The greatest number of processors.
+const MAX_PROCESSORS: u64 = 64;
+
+/// What some lines said, and so what is due behind them.
+#[derive(Drop)]
+pub enum Stage {
+    /// The header is due.
+    HeaderDue,
+
+    /// The number of processors is due.
+    ProcessorsDue,
+
+    /// Tasks, and then the number of entries, are due.
+    TasksDue {
+        set: TaskSet,
+    },
+
+    /// Entries up to a count, and then the number of contexts, are due.
+    EntriesDue {
+        set: TaskSet,
+        count: u64,
+        entries: Vec<Entry>,
+    },
+
+    /// Contexts, one for each task, and then the end are due.
+    ContextsDue {
+        set: TaskSet,
+        entries: Vec<Entry>,
+        contexts: Vec<Context>,
+    },
+}
+
+/// What a line led to.
+#[derive(Drop)]
+pub enum Reached {
+    /// More is due.
+    Due(Stage),
+
+    /// The end came.
+    End(Schedule),
+}
+
+impl Stage {
+    /// What a line leads to.
+    pub fn after_line(self, alloc: Global, text: &[u8]) -> Result<Reached, TextKind>
+        requires { IsFront (progress_of self) }
+        ensures read { IfOk result (λ next. Leads (progress_of self) text.now (progress_behind next)) }
+        ensures refused { IfErr result (λ kind. IsOutOfMemory kind ⊎ IsLineFault (progress_of self) text.now kind) }
+    {
+        match self {
+            Stage::HeaderDue => read_header(text),
+            Stage::ProcessorsDue => start(alloc, text),
+            Stage::TasksDue { set } => read_task(alloc, set, text),
+            Stage::EntriesDue {
+                set,
+                count,
+                entries,
+            } => {
+                if (entries.len() as u64) < count {
+                    list_entry(alloc, set, count, entries, text)
+                } else {
+                    begin_contexts(alloc, set, count, entries, text)
+                }
+            }
+            Stage::ContextsDue {
+                set,
+                entries,
+                contexts,
+            } => {
+                if contexts.len() < set.len() as usize {
+                    list_context(alloc, set, entries, contexts, text)
+                } else {
+                    end(set, entries, contexts, text)
+                }
+            }
+        }
+    }
+}
+
+/// Reads the header.
+fn read_header(text: &[u8]) -> Result<Reached, TextKind>
+    ensures read { IfOk result (λ next. Leads HeaderDue text.now (progress_behind next)) }
+    ensures refused { IfErr result (IsLineFault HeaderDue text.now) }
+{
+    if is_word(text, "schedule 1") {
+        Ok(Reached::Due(Stage::ProcessorsDue))
+    } else {
+        Err(TextKind::BadLine)
+    }
+}
+
+/// No task yet, on as many processors as a line says.
+fn start(alloc: Global, text: &[u8]) -> Result<Reached, TextKind>
+    ensures read { IfOk result (λ next. Leads ProcessorsDue text.now (progress_behind next)) }
+    ensures refused { IfErr result (λ kind. IsOutOfMemory kind ⊎ IsLineFault ProcessorsDue text.now kind) }
+{
+    let fields = fields(alloc, text)?;
+    let Some(processors) = number_behind(&fields, "processors", 1, MAX_PROCESSORS) else {
+        return Err(TextKind::BadLine);
+    };
+    let set = TaskSet::new(alloc, processors as u8)?;
+    Ok(Reached::Due(Stage::TasksDue { set }))
+}
+
+/// Reads a task, or how many entries there are.
+fn read_task(alloc: Global, mut set: TaskSet, text: &[u8]) -> Result<Reached, TextKind>
+    ensures read { IfOk result (λ next. Leads (TasksDue set) text.now (progress_behind next)) }
+    ensures refused { IfErr result (λ kind. IsOutOfMemory kind ⊎ IsLineFault (TasksDue set) text.now kind) }
+{
+    let fields = fields(alloc, text)?;
+    match number_behind(&fields, "history", 0, MAX_ENTRIES) {
+        Some(count) => {
+            let entries = Vec::new(alloc);
+            Ok(Reached::Due(Stage::EntriesDue {
+                set,
+                count,
+                entries,
+            }))
+        }
+        None => {
+            add_task(alloc, &mut set, &fields)?;
+            Ok(Reached::Due(Stage::TasksDue { set }))
+        }
+    }
+}
+
+/// Lists the entry of a line.
+fn list_entry(
+    alloc: Global,
+    set: TaskSet,
+    count: u64,
+    mut entries: Vec<Entry>,
+    text: &[u8],
+) -> Result<Reached, TextKind>
+    requires { length entries.items < count }
+    ensures read { IfOk result (λ next. Leads (EntriesDue set count entries.items) text.now (progress_behind next)) }
+    ensures refused { IfErr result (λ kind. IsOutOfMemory kind ⊎ IsLineFault (EntriesDue set count entries.items) text.now kind) }
+{
+    let _lawful = set.len();
+    let fields = fields(alloc, text)?;
+    let entry = read_entry(alloc, &set, &fields)?;
+    if entries.push(entry).is_err() {
+        return Err(TextKind::OutOfMemory);
+    }
+    Ok(Reached::Due(Stage::EntriesDue {
+        set,
+        count,
+        entries,
+    }))
+}
+
+/// No context yet, behind the line that says how many there are.
+fn begin_contexts(
+    alloc: Global,
+    set: TaskSet,
+    count: u64,
+    entries: Vec<Entry>,
+    text: &[u8],
+) -> Result<Reached, TextKind>
+    requires { length entries.items ≡ count }
+    ensures read { IfOk result (λ next. Leads (EntriesDue set count entries.items) text.now (progress_behind next)) }
+    ensures refused { IfErr result (λ kind. IsOutOfMemory kind ⊎ IsLineFault (EntriesDue set count entries.items) text.now kind) }
+{
+    if !is_count(alloc, &set, text)? {
+        return Err(TextKind::BadLine);
+    }
+    let contexts = Vec::new(alloc);
+    Ok(Reached::Due(Stage::ContextsDue {
+        set,
+        entries,
+        contexts,
+    }))
+}
+
+/// Lists the context of a line.
+fn list_context(
+    alloc: Global,
+    set: TaskSet,
+    entries: Vec<Entry>,
+    mut contexts: Vec<Context>,
+    text: &[u8],
+) -> Result<Reached, TextKind>
+    requires { length contexts.items < length set.tasks }
+    ensures read { IfOk result (λ next. Leads (ContextsDue set entries.items contexts.items) text.now (progress_behind next)) }
+    ensures refused { IfErr result (λ kind. IsOutOfMemory kind ⊎ IsLineFault (ContextsDue set entries.items contexts.items) text.now kind) }
+{
+    let _lawful = set.len();
+    let context = read_context(alloc, &set, contexts.len() as u32, text)?;
+    if contexts.push(context).is_err() {
+        return Err(TextKind::OutOfMemory);
+    }
+    Ok(Reached::Due(Stage::ContextsDue {
+        set,
+        entries,
+        contexts,
+    }))
+}
+
+/// The whole schedule, at its last line.
+fn end(
+    set: TaskSet,
+    entries: Vec<Entry>,
+    contexts: Vec<Context>,
+    text: &[u8],
+) -> Result<Reached, TextKind>
+    requires front { IsFront (ContextsDue set entries.items contexts.items) }
+    requires one_each { length contexts.items ≡ length set.tasks }
+    ensures read { IfOk result (λ next. Leads (ContextsDue set entries.items contexts.items) text.now (progress_behind next)) }
+    ensures refused { IfErr result (IsLineFault (ContextsDue set entries.items contexts.items) text.now) }
+{
+    if is_word(text, "end") {
+        Ok(Reached::End(Schedule::new(set, entries, contexts)))
+    } else {
+        Err(TextKind::BadLine)
+    }
+}
