@@ -1,88 +1,85 @@
--- How contexts follow the occupants, processor by processor.
-use Rattle.std.proofs.Common.{◌≡◌, ℕ, ◌+◌, ◌<◌, Bool, true, false, not, ◌&&◌, cond, List, [], ◌∷◌, ◌++◌, length, get_or, map, filter, Option, None, refl, sym, ap, ◌∙◌, arith, if◌then◌else◌}
-use Rattle.std.specs.List.{range_with_len, fold}
-use Rattle.std.proofs.lemmas.List.{map-id}
-use Rattle.std.proofs.lemmas.List.Folds.{fold-map}
-use Rattle.std.proofs.lemmas.List.FromFn.{filter_of_map_range_with_len_more}
-use Rattle.std.proofs.lemmas.List.Sums.{fold-append}
-use Rattle.task_set.specs.Context.{context_after_take, context_after_run}
-use Rattle.task_set.specs.declared.context.Context.{Context}
+-- A checker follows the entries of a schedule, one after the other.
+use Rattle.std.proofs.Common.{◌≡◌, ℕ, ◌+◌, ◌<◌, List, [], ◌∷◌, ◌++◌, length, map, take, get_or, Some, refl, sym, ap, ◌∙◌, subst}
+use Rattle.std.specs.Prelude.{slice_get}
+use Rattle.std.specs.List.{range_with_len}
+use Rattle.std.proofs.lemmas.List.{take_more, length-map}
+use Rattle.std.proofs.lemmas.Option.{slice_get_within, slice_get_read, get_or_from_slice_get}
+use Rattle.task_set.specs.TaskSet.{SetData, TaskData}
+use Rattle.task_set.specs.Context.{fresh_context}
 use Rattle.task_set.specs.declared.event.Event.{Event}
 use Rattle.task_set.specs.declared.event.Event.TheVariants.{Arrive, Depart, Tick}
-use Rattle.link_table.specs.State.{State, is_task}
-use Rattle.link_table.specs.Dispatch.{taken_between, places_of, tick_runs}
-use Rattle.schedule_program.specs.Contexts.{context_after_takes, context_after_all_runs, context_after_entry, EachBecomes, WereOn}
+use Rattle.link_table.specs.declared.reply.Entry.{Entry}
+use Rattle.link_table.specs.State.{State, start_of, task_count}
+use Rattle.link_table.specs.History.{effect_of, state_after}
+use Rattle.link_table.proofs.Histories.{state_after-push}
+use Rattle.reach_certificate.specs.Checker.{CheckerData}
+use Rattle.reach_certificate.specs.Contexts.{EachBecomes, context_after_entry}
+use Rattle.reach_certificate.specs.Defect.{IsDefect, number_of}
+use Rattle.reach_certificate.specs.Passing.{Passes, IsPassingFrom, IsOfTask}
+use Rattle.reach_certificate.specs.declared.defect.Defect.{Defect}
+use Rattle.reach_certificate.proofs.ContextsFollow.{contexts-follow}
+use Rattle.sched_core.proofs.SameTasks.{same_tasks-history}
+use Rattle.trace_reader.specs.EventText.{IsAboutSet}
+use Rattle.schedule_text.specs.Schedule.{ScheduleData, IsSchedule, IsScheduled}
+use Rattle.schedule_program.specs.Check.{HasBadEntry, entry_line_number}
+use Rattle.schedule_program.specs.Checking.{HasFollowed}
 
--- ---- the numbers below n that pass a test
-filter_more : (test : ℕ → Bool) (n : ℕ) → filter test (range_with_len 0 (n + 1)) ≡ filter test (range_with_len 0 n) ++ cond (test n) (n ∷ []) []
-filter_more test n =
-    ap (filter test) (sym (map-id (range_with_len 0 (n + 1))))
-    ∙ filter_of_map_range_with_len_more test (λ k. k) 0 n n (omega arith)
-    ∙ ap (λ (xs : List ℕ). filter test xs ++ cond (test n) (n ∷ []) []) (map-id (range_with_len 0 n))
+IsPassingFrom-push : (s : State) (history : List Entry) (entry : Entry) → IsPassingFrom s history → Passes (state_after s history) entry.event entry.reply → IsPassingFrom s (history ++ entry ∷ [])
+IsPassingFrom-push s [] entry passing passes = (passes, tt)
+IsPassingFrom-push s (first ∷ rest) entry passing passes = (passing.0, IsPassingFrom-push (effect_of s first) rest entry passing.1 passes)
 
-fold_more : (f : Context → ℕ → Context) (c : Context) (test : ℕ → Bool) (n : ℕ) → fold f c (filter test (range_with_len 0 (n + 1))) ≡ (if test n then f (fold f c (filter test (range_with_len 0 n))) n else fold f c (filter test (range_with_len 0 n)))
-fold_more f c test n = ap (fold f c) (filter_more test n) ∙ fold-append f c (filter test (range_with_len 0 n)) (cond (test n) (n ∷ []) []) ∙ last (test n) (fold f c (filter test (range_with_len 0 n)))
-  where
-    last : (b : Bool) (x : Context) → fold f x (cond b (n ∷ []) []) ≡ (if b then f x n else x)
-    last true x = refl
-    last false x = refl
-
--- ---- what becomes of each context
-pub EachBecomes-then : (first second whole : ℕ → Context → Context) → ((t : ℕ) (c : Context) → second t (first t c) ≡ whole t c) → (old mid new : List Context) → EachBecomes first old mid → EachBecomes second mid new → EachBecomes whole old new
-EachBecomes-then first second whole same old mid new one other = record {
-  count = other.count ∙ one.count;
-  each = λ t d fits. other.each t d (rw one.count fits) ∙ ap (second t) (one.each t d fits) ∙ same t (get_or old t d);
+-- before any entry
+pub followed_start : (schedule : ScheduleData) (checker : CheckerData) → checker.links ≡ start_of schedule.set → checker.contexts ≡ map fresh_context (range_with_len 0 (task_count (start_of schedule.set))) → HasFollowed schedule 0 checker
+followed_start schedule checker links contexts = record {
+  passing = tt;
+  links = links;
+  contexts = contexts ∙ ap (λ (n : ℕ). map fresh_context (range_with_len 0 n)) (length-map schedule.set.tasks (λ (task : TaskData). task.priority));
 }
 
--- ---- takes, as far as the processors were compared
--- the processors below n to which t came
-abbrev pub came_below : List (Option ℕ) → List (Option ℕ) → ℕ → ℕ → List ℕ
-came_below before now n t = filter (λ p. is_task t (get_or now p None) && not (is_task t (get_or before p None))) (range_with_len 0 n)
+-- one entry more, which passes
+pub followed_more : (schedule : ScheduleData) (n : ℕ) (entry : Entry) (checker new : CheckerData) → slice_get schedule.entries n ≡ Some entry → HasFollowed schedule n checker → Passes checker.links entry.event entry.reply → new.links ≡ effect_of checker.links entry
+    → EachBecomes (context_after_entry checker.links new.links entry.event) checker.contexts new.contexts → HasFollowed schedule (n + 1) new
+followed_more schedule n entry checker new there followed passes links contexts =
+    let start = start_of schedule.set in
+    let front : List Entry = take n schedule.entries in
+    let next : take (n + 1) schedule.entries ≡ front ++ entry ∷ [] = take_more schedule.entries n entry (slice_get_within schedule.entries n entry there) ∙ ap (λ (e : Entry). front ++ e ∷ []) (get_or_from_slice_get schedule.entries n entry entry there) in
+    let passes_there : Passes (state_after start front) entry.event entry.reply = rw followed.links at passes in
+    let links_there : new.links ≡ effect_of (state_after start front) entry = links ∙ ap (λ (s : State). effect_of s entry) followed.links in
+    let contexts_there : EachBecomes (context_after_entry (state_after start front) (effect_of (state_after start front) entry) entry.event) checker.contexts new.contexts = rw (followed.links, links_there) at contexts in
+    record {
+      passing = rw next (IsPassingFrom-push start front entry followed.passing passes_there);
+      links = rw next (links_there ∙ sym (state_after-push start front entry));
+      contexts = rw next (contexts-follow start front entry (length schedule.set.tasks) checker.contexts new.contexts followed.contexts contexts_there);
+    }
 
-pub takes_more : (before now : List (Option ℕ)) (n : ℕ) (start contexts after : List Context)
-    → EachBecomes (λ t c. context_after_takes c (came_below before now n t)) start contexts
-    → EachBecomes (λ t c. if is_task t (get_or now n None) && not (is_task t (get_or before n None)) then context_after_take c n else c) contexts after
-    → EachBecomes (λ t c. context_after_takes c (came_below before now (n + 1) t)) start after
-takes_more before now n start contexts after so_far here = EachBecomes-then _ _ _ (λ t c. sym (fold_more context_after_take c (λ p. is_task t (get_or now p None) && not (is_task t (get_or before p None))) n)) start contexts after so_far here
+-- one entry that does not pass
+pub bad_entry : (schedule : ScheduleData) (n number defect : ℕ) (which : Defect) (entry : Entry) (checker : CheckerData) → slice_get schedule.entries n ≡ Some entry → HasFollowed schedule n checker → IsDefect checker.links entry which
+    → number ≡ entry_line_number schedule n → defect ≡ number_of which → HasBadEntry schedule number defect
+bad_entry schedule n number defect which entry checker there followed has place numbered = record {
+  n = n;
+  which = which;
+  first = record { entry = entry; there = there; before = followed.passing; defect = rw followed.links at has };
+  place = place;
+  numbered = numbered;
+}
 
--- ---- runs, as far as the processors were gone over
--- the context of t after it ran on each processor below n on which it was
-abbrev pub context_run_below : List (Option ℕ) → ℕ → ℕ → ℕ → Context → Context
-context_run_below before units n t c = fold (λ x p. context_after_run x p units) c (filter (λ p. is_task t (get_or before p None)) (range_with_len 0 n))
+-- there are as many tasks as in the set
+pub followed_count : (schedule : ScheduleData) (n : ℕ) (checker : CheckerData) → HasFollowed schedule n checker → task_count checker.links ≡ length schedule.set.tasks
+followed_count schedule n checker followed =
+    ap task_count followed.links ∙ ap length (same_tasks-history (start_of schedule.set) (take n schedule.entries)).priorities ∙ length-map schedule.set.tasks (λ (task : TaskData). task.priority)
 
-pub runs_more : (before : List (Option ℕ)) (units n : ℕ) (start contexts after : List Context)
-    → EachBecomes (context_run_below before units n) start contexts
-    → EachBecomes (λ t c. if is_task t (get_or before n None) then context_after_run c n units else c) contexts after
-    → EachBecomes (context_run_below before units (n + 1)) start after
-runs_more before units n start contexts after so_far here = EachBecomes-then _ _ _ (λ t c. sym (fold_more (λ x p. context_after_run x p units) c (λ p. is_task t (get_or before p None)) n)) start contexts after so_far here
+-- each entry is of a task of the set, or of none
+event_known : (set : SetData) (event : Event) → IsAboutSet set event → IsOfTask (length set.tasks) event
+event_known set (Arrive t) known = known
+event_known set (Depart t) known = known
+event_known set (Tick units) known = tt
 
--- a run on each processor of a list, as the list of the runs
-runs_on_each : (c : Context) (places : List ℕ) (units : ℕ) → fold (λ x p. context_after_run x p units) c places ≡ context_after_all_runs c (map (λ p. (p, units)) places)
-runs_on_each c places units = sym (fold-map (λ (x : Context) (run : ℕ × ℕ). context_after_run x run.0 run.1) (λ p. (p, units)) c places)
+pub entry_known : (schedule : ScheduleData) (n : ℕ) (entry : Entry) (checker : CheckerData) → IsSchedule schedule → slice_get schedule.entries n ≡ Some entry → HasFollowed schedule n checker → IsOfTask (task_count checker.links) entry.event
+entry_known schedule n entry checker ok there followed =
+    let at_n = get_or_from_slice_get schedule.entries n entry entry there in
+    let scheduled : IsScheduled schedule.set entry = subst (IsScheduled schedule.set) at_n (ok.each_entry n entry (slice_get_within schedule.entries n entry there)) in
+    rw (followed_count schedule n checker followed) (event_known schedule.set entry.event scheduled.tasks.event)
 
--- ---- all processors were gone over
--- the state in which these were the occupants, and nothing else was different
-abbrev pub state_with_occupants : State → List (Option ℕ) → State
-state_with_occupants s before = record s { on = before }
-
-module _ (before : List (Option ℕ)) (old new : State) (were : WereOn before old new) where
-  pub takes_whole : (n : ℕ) → n ≡ new.processors → (contexts after : List Context) → EachBecomes (λ t c. context_after_takes c (came_below before new.on n t)) contexts after
-      → EachBecomes (λ t c. context_after_takes c (taken_between old new t)) contexts after
-  takes_whole n whole contexts after takes = rw (were.on, were.processors, ← whole) takes
-
-  pub runs_whole : (n units : ℕ) → n ≡ new.processors → (contexts after : List Context) → EachBecomes (context_run_below before units n) contexts after
-      → EachBecomes (λ t c. context_after_all_runs c (tick_runs (Tick units) (places_of old t))) contexts after
-  runs_whole n units whole contexts after runs = record {
-    count = runs.count;
-    each = λ t d fits. runs.each t d fits ∙ rw (were.on, were.processors, ← whole) (runs_on_each (get_or contexts t d) (filter (λ p. is_task t (get_or before p None)) (range_with_len 0 n)) units);
-  }
-
--- ---- the whole entry
-pub followed_tick : (old new : State) (event : Event) (units : ℕ) → event ≡ Tick units → (contexts mid after : List Context) → EachBecomes (λ t c. context_after_takes c (taken_between old new t)) contexts mid
-    → EachBecomes (λ t c. context_after_all_runs c (tick_runs (Tick units) (places_of old t))) mid after → EachBecomes (context_after_entry old new event) contexts after
-followed_tick old new event units is contexts mid after takes runs = rw is (EachBecomes-then _ _ (context_after_entry old new (Tick units)) (λ t c. refl) contexts mid after takes runs)
-
-pub followed_other : (old new : State) (event : Event) → ((units : ℕ) → event ≡ Tick units → ⊥) → (contexts after : List Context) → EachBecomes (λ t c. context_after_takes c (taken_between old new t)) contexts after → EachBecomes (context_after_entry old new event) contexts after
-followed_other old new (Arrive t) no_tick contexts after takes = record { count = takes.count; each = takes.each }
-followed_other old new (Depart t) no_tick contexts after takes = record { count = takes.count; each = takes.each }
-followed_other old new (Tick units) no_tick contexts after takes = absurd (no_tick units refl)
+-- an entry as the loop reads it
+pub entry_read : (schedule : ScheduleData) (items : List Entry) (n : ℕ) (entry : Entry) → items ≡ schedule.entries → n < length items → entry ≡ get_or items n entry → slice_get schedule.entries n ≡ Some entry
+entry_read schedule items n entry same fits read = rw (← same) (slice_get_read items (length items) n entry refl fits read)

@@ -3,7 +3,7 @@ use Rattle.std.proofs.Common.{◌≡◌, ℕ, List}
 use Rattle.task_set.specs.TaskSet.{SetData}
 use Rattle.task_set.specs.declared.context.Context.{Context}
 use Rattle.link_table.specs.declared.reply.Entry.{Entry}
-use Rattle.placement_laws.proofs.Kept.{legal-is-best}
+use Rattle.reach_certificate.proofs.Kept.{legal_is_best}
 use Rattle.trace_reader.specs.declared.posted.Posted.{Posted}
 use Rattle.trace_reader.specs.InputText.{IsInputText}
 use Rattle.schedule_program.specs.Replay.{Schedules}
@@ -21,6 +21,6 @@ headline read put set events history printed input schedule text = record {
   text = text;
   merge = merged events history schedule.each_event;
   legal = schedule.legal;
-  best = legal-is-best set input.says.lawful history schedule.legal;
+  best = legal_is_best set input.says.lawful history schedule.legal;
   contexts = schedule.each_context;
 }

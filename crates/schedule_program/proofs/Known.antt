@@ -1,5 +1,5 @@
 -- The events of an input are of tasks of its set.
-use Rattle.std.proofs.Common.{◌≡◌, ℕ, ◌<◌, List, length, get_or, map, All}
+use Rattle.std.proofs.Common.{◌≡◌, ◌<◌, List, length, get_or, map, All}
 use Rattle.std.proofs.lemmas.List.{length-map, get_or-map}
 use Rattle.std.proofs.lemmas.List.Elements.{All-weaker}
 use Rattle.task_set.specs.TaskSet.{SetData}
@@ -9,7 +9,7 @@ use Rattle.trace_reader.specs.declared.posted.Posted.{Posted}
 use Rattle.trace_reader.specs.Input.{IsEventOf, IsPostedOf}
 use Rattle.link_table.specs.declared.reply.Entry.{Entry}
 use Rattle.trace_reader.specs.EventText.{IsAboutSet}
-use Rattle.sched_core.specs.CoreData.{IsOfTask}
+use Rattle.reach_certificate.specs.Passing.{IsOfTask}
 use Rattle.schedule_program.specs.Replay.{IsKnown, posted_of}
 
 known_event : (set : SetData) (event : Event) → IsEventOf set event → IsOfTask (length set.tasks) event

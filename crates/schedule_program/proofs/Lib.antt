@@ -1,9 +1,14 @@
-mod ContextsFollow
+mod CheckedOnce
+mod CheckedText
+mod Compared
 mod Following
 mod Headline
 mod Known
 mod Merged
+mod MergedCounts
+mod OneText
+mod OneWord
 mod ToldBytes
 mod Refusals
+mod RunIsValid
 mod Running
-mod Words

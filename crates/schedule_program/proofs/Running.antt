@@ -1,5 +1,5 @@
 -- What is kept from event to event: the links and the contexts are those that the history gives.
-use Rattle.std.proofs.Common.{◌≡◌, ℕ, ◌+◌, ◌<◌, ◌≤◌, List, [], ◌∷◌, ◌++◌, length, map, take, get_or, All, refl, sym, ap, ◌∙◌, subst, arith}
+use Rattle.std.proofs.Common.{◌≡◌, ℕ, ◌+◌, ◌<◌, ◌≤◌, List, [], ◌∷◌, ◌++◌, length, map, take, get_or, All, refl, sym, ap, ◌∙◌, arith}
 use Rattle.std.specs.List.{range_with_len}
 use Rattle.std.proofs.lemmas.List.{take_more, map-append, length-map, length-take-le}
 use Rattle.std.proofs.lemmas.List.FromFn.{get_or-map-range_with_len, length-map-range_with_len}
@@ -15,9 +15,9 @@ use Rattle.link_table.proofs.Histories.{state_after-push, IsLegalFrom-push, IsSt
 use Rattle.link_table.proofs.Start.{IsState-start}
 use Rattle.link_table.proofs.Steps.{reply_gives_new_state}
 use Rattle.trace_reader.specs.declared.posted.Posted.{Posted}
-use Rattle.schedule_program.specs.Contexts.{context_after_entry, EachBecomes}
+use Rattle.reach_certificate.specs.Contexts.{context_after_entry, EachBecomes}
 use Rattle.schedule_program.specs.Replay.{posted_of}
-use Rattle.schedule_program.proofs.ContextsFollow.{contexts-follow}
+use Rattle.reach_certificate.proofs.ContextsFollow.{contexts-follow}
 use Rattle.sched_core.proofs.SameTasks.{same_tasks-history}
 
 -- after n events

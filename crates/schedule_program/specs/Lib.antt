@@ -1,4 +1,6 @@
-pub mod Contexts
+pub mod Check
+pub mod Checking
+pub mod Command
 pub mod Merge
 pub mod Replay
 pub mod Run

@@ -17,6 +17,10 @@ events_of_caller caller history = map (λ (entry : Entry). entry.event) (filter 
 abbrev pub streams_of : List Posted → List ℕ
 streams_of events = map (λ (posted : Posted). posted.stream) events
 
+-- all the events are of one stream
+abbrev pub IsOnOneStream : List Posted → Type 0
+IsOnOneStream events = (stream : ℕ) × All (λ (posted : Posted). posted.stream ≡ stream) events
+
 -- the history holds each stream's events in their order, and each of its entries is of a stream
 pub record IsMerge (events : List Posted) (history : List Entry) : Type 0 where
   pub each_stream : (stream : ℕ) → events_of_caller stream history ≡ events_of_stream stream events

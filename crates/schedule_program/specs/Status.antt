@@ -4,6 +4,8 @@ use Rattle.std.specs.Prelude.{ℕ, List, [], ◌++◌, codes, Option, None, Some
 use Rattle.trace_reader.specs.declared.fault.InputFault.{InputFault}
 use Rattle.trace_reader.specs.InputFault.{kind_number}
 use Rattle.affinity_mask.specs.Number.{canonical_number}
+use Rattle.schedule_text.specs.declared.fault.TextFault.{TextFault}
+use Rattle.schedule_text.specs.ScheduleFault as text
 use Rattle.schedule_program.specs.declared.status.Status.{Status}
 use Rattle.schedule_program.specs.declared.status.Status.TheVariants.{Done, Invalid, Usage, Input, TooLong, ReadFault, WriteFault, OutOfMemory}
 
@@ -40,10 +42,15 @@ BeforePut TooLong P = P
 BeforePut ReadFault P = P
 BeforePut OutOfMemory P = P
 
--- the status of a fault of the input: its line and the number of its kind, and want of memory has none
+-- the status of a fault of a text: its line and the number of its kind, and want of memory has none
 abbrev pub status_of_number : ℕ → Option ℕ → Status
 status_of_number line None = OutOfMemory
 status_of_number line (Some kind) = Input line kind
 
+-- the status of a fault of the input
 abbrev pub status_of_fault : InputFault → Status
 status_of_fault fault = status_of_number fault.line (kind_number fault.kind)
+
+-- the status of a fault of a schedule text
+abbrev pub status_of_text_fault : TextFault → Status
+status_of_text_fault fault = status_of_number fault.line (text.kind_number fault.kind)

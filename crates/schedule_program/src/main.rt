@@ -1,7 +1,11 @@
 //! The strong APA scheduler as a program: from the bytes read to the schedule text.
 #![tactic(auto)]
 
-mod contexts;
+mod check;
+#[cfg(test)]
+mod check_tests;
+#[cfg(test)]
+mod generated_tests;
 #[cfg(test)]
 mod histories;
 mod replay;
@@ -11,6 +15,7 @@ mod search_tests;
 mod status;
 #[cfg(test)]
 mod tests;
+mod words;
 
 use run::run;
 use shift_io::{StdSink, StdSource};

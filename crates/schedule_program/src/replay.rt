@@ -2,10 +2,10 @@
 ghost use Rattle.std.specs.Prelude.{◌≡◌, ◌<◌, ◌≤◌, IfOk, OnOk, All, length, false};
 ghost use Rattle.link_table.specs.State.{task_count};
 ghost use Rattle.schedule_program.specs.Replay.{IsKnown, IsPosted, Schedules};
-ghost use Rattle.sched_core.specs.CoreData.{IsOfTask};
+ghost use Rattle.reach_certificate.specs.Passing.{IsOfTask};
 
-use crate::contexts::{Occupants, follow, fresh_contexts};
 use affinity_mask::OutOfMemory;
+use reach_certificate::{Occupants, follow, fresh_contexts};
 use sched_core::{Core, CoreFault};
 use std::alloc::Global;
 use task_set::{Context, TaskSet};

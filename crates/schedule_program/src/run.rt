@@ -1,16 +1,19 @@
-//! The top call: from the bytes read to the schedule text.
-ghost use Rattle.std.specs.Prelude.{◌≡◌, ◌≢◌, ℕ, ◌+◌, List, ◌↔◌, ◌⊎◌, map, IsTrue, IfOk, IfErr, MatchResult, string_bytes};
+//! The top call: from the bytes read to the bytes put.
+ghost use Rattle.std.specs.Prelude.{◌≡◌, ◌≢◌, ℕ, ◌+◌, List, ◌↔◌, ◌⊎◌, map, IfOk, IfErr, MatchResult, string_bytes};
 ghost use Rattle.std.specs.Io.KnownBytes.{Appends};
 ghost use Rattle.shift_io.specs.Causes.{Rose};
 ghost use Rattle.shift_io.specs.Stream.{TakesAtMost, TakesExactly, AppendsPrefix};
-ghost use Rattle.task_set.specs.TaskSet.{SetData};
-ghost use Rattle.trace_reader.specs.declared.posted.Posted.{Posted};
-ghost use Rattle.trace_reader.specs.InputText.{IsInputText};
-ghost use Rattle.schedule_program.specs.Run.{IsCommand, IsToRead, byte_limit, Replays, ReadsAndReplays, RefusesInput, ReadsRefused, IsRefusalOf};
+ghost use Rattle.schedule_program.specs.declared.words.Command.{Command};
+ghost use Rattle.schedule_program.specs.declared.words.Command.TheVariants.{Run};
+ghost use Rattle.schedule_program.specs.declared.status.Status.{Status};
+ghost use Rattle.schedule_program.specs.Command.{words_of, byte_limit, Makes, Accepts, Refuses, ReadsAndMakes, ReadsRefused, IsToRead};
+ghost use Rattle.schedule_program.specs.Run.{IsRunOf};
 ghost use Rattle.schedule_program.specs.Status.{BeforePut};
 
+use crate::check::checked_text;
 use crate::replay::schedule_of;
 use crate::status::Status;
+use crate::words::{Command, command_of};
 use schedule_text::write_schedule;
 use shift_io::{ReadAllFault, Sink, Source, put_all, read_all};
 use std::alloc::Global;
@@ -19,21 +22,23 @@ use trace_reader::read_input;
 /// The most bytes that are read.
 pub const MAX_BYTES: usize = 16_777_216;
 
-/// Does what the words say. The one command is `run`: it reads the source to its end as an input text, replays its
-/// events, and puts the schedule text into the sink.
+/// Does what the words say. `run` reads the source to its end as an input text, replays its events, and puts the
+/// schedule text into the sink. `check` reads the source as a schedule text, whoever made it, and puts how many entries
+/// are valid.
 pub fn run<S: Source, K: Sink>(
     alloc: Global,
     words: &[String],
     source: &mut S,
     sink: &mut K,
 ) -> Status
-    // The text of the input that was read, whole.
-    ensures done { result ≡ Status.Done → (text : List ℕ)
-        × ReadsAndReplays (S.left source.old) (S.left source.new) text
+    // The text that the command makes of the bytes that were read, whole.
+    ensures done { result ≡ Status.Done → (command : Command) × (text : List ℕ)
+        × (map string_bytes words.now ≡ words_of command)
+        × ReadsAndMakes command (S.left source.old) (S.left source.new) text
         × Appends (K.bytes sink.old) (K.bytes sink.new) text }
 
-    // The words come first, then the source, then the input, then the sink.
-    ensures usage { (result ≡ Status.Usage) ↔ (IsCommand (map string_bytes words.now) → ⊥) }
+    // The words come first, then the source, then what was read, then the sink.
+    ensures usage { (result ≡ Status.Usage) ↔ ((command : Command) → map string_bytes words.now ≢ words_of command) }
     ensures unread { result ≡ Status.Usage → source.new ≡ source.old }
     ensures read_fault { result ≡ Status.ReadFault → Rose (S.faults source.old) (S.faults source.new) }
     ensures too_long { result ≡ Status.TooLong →
@@ -41,33 +46,38 @@ pub fn run<S: Source, K: Sink>(
     ensures within { result ≢ Status.TooLong →
         TakesAtMost (S.left source.old) (S.left source.new) byte_limit }
     ensures input { (line kind : ℕ) → result ≡ Status.Input line kind
-        → ReadsRefused (S.left source.old) (S.left source.new) line kind }
+        → (command : Command) × (map string_bytes words.now ≡ words_of command)
+        × ReadsRefused command (S.left source.old) (S.left source.new) result }
+    ensures invalid { (line defect : ℕ) → result ≡ Status.Invalid line defect
+        → (command : Command) × (map string_bytes words.now ≡ words_of command)
+        × ReadsRefused command (S.left source.old) (S.left source.new) result }
     ensures write_fault { result ≡ Status.WriteFault → Rose (K.faults sink.old) (K.faults sink.new)
-        × ((text : List ℕ) × ReadsAndReplays (S.left source.old) (S.left source.new) text
+        × ((command : Command) × (text : List ℕ) × (map string_bytes words.now ≡ words_of command)
+        × ReadsAndMakes command (S.left source.old) (S.left source.new) text
         × AppendsPrefix (K.bytes sink.old) (K.bytes sink.new) text) }
-    ensures never_invalid { (line defect : ℕ) → result ≢ Status.Invalid line defect }
-    // Where nothing fails, the input alone decides, but for want of memory.
-    ensures complete { (read : List ℕ) (set : SetData) (events : List Posted)
-        → IsToRead (map string_bytes words.now) (S.left source.old) read → IsInputText read set events
+
+    // Where nothing fails, the bytes alone decide, but for want of memory.
+    ensures complete { (command : Command) (read : List ℕ)
+        → IsToRead (map string_bytes words.now) command (S.left source.old) read → Accepts command read
         → (Rose (S.faults source.old) (S.faults source.new) → ⊥)
         → (Rose (K.faults sink.old) (K.faults sink.new) → ⊥)
         → (result ≡ Status.Done) ⊎ (result ≡ Status.OutOfMemory) }
-    ensures refuses { (read : List ℕ) (line kind : ℕ)
-        → IsToRead (map string_bytes words.now) (S.left source.old) read → RefusesInput read line kind
+    ensures refuses { (command : Command) (read : List ℕ) (due : Status)
+        → IsToRead (map string_bytes words.now) command (S.left source.old) read → Refuses command read due
         → (Rose (S.faults source.old) (S.faults source.new) → ⊥)
-        → (result ≡ Status.Input line kind) ⊎ (result ≡ Status.OutOfMemory) }
+        → (result ≡ due) ⊎ (result ≡ Status.OutOfMemory) }
     ensures unput { BeforePut result (sink.new ≡ sink.old) }
 {
-    if !is_command(words) {
+    let Some(command) = command_of(words) else {
         return Status::Usage;
-    }
+    };
     let bytes = match read_all(alloc, source, MAX_BYTES) {
         Ok(bytes) => bytes,
         Err(ReadAllFault::ReadFault) => return Status::ReadFault,
         Err(ReadAllFault::TooLong) => return Status::TooLong,
         Err(ReadAllFault::OutOfMemory) => return Status::OutOfMemory,
     };
-    let text = match replayed_text(alloc, &bytes) {
+    let text = match text_made(alloc, command, &bytes) {
         Ok(text) => text,
         Err(refusal) => return refusal,
     };
@@ -77,24 +87,27 @@ pub fn run<S: Source, K: Sink>(
     }
 }
 
-/// Whether the words are the command `run`.
-fn is_command(words: &[String]) -> bool
-    ensures { IsTrue result ↔ IsCommand (map string_bytes words.now) }
+/// The text that a command makes of these bytes, or the status that says why there is none.
+fn text_made(alloc: Global, command: Command, bytes: &[u8]) -> Result<Vec<u8>, Status>
+    ensures makes { IfOk result (λ text. Makes command bytes.now text.items) }
+    ensures refused { IfErr result (λ status. Refuses command bytes.now status ⊎ (status ≡ Status.OutOfMemory)) }
+    ensures accepts { Accepts command bytes.now → IfErr result (λ status. status ≡ Status.OutOfMemory) }
+    ensures refuses { (due : Status) → Refuses command bytes.now due
+        → MatchResult result (λ text. ⊥) (λ status. (status ≡ due) ⊎ (status ≡ Status.OutOfMemory)) }
 {
-    match words {
-        [word] => word.as_str() == "run",
-        _ => false,
+    match command {
+        Command::Run => replayed_text(alloc, bytes),
+        Command::Check => checked_text(alloc, bytes),
     }
 }
 
 /// The schedule text of the input that these bytes are, or the status that says why there is none.
 fn replayed_text(alloc: Global, bytes: &[u8]) -> Result<Vec<u8>, Status>
-    ensures replays { IfOk result (λ text. Replays bytes.now text.items) }
-    ensures refused { IfErr result (IsRefusalOf bytes.now) }
-    ensures accepts { (set : SetData) (events : List Posted) → IsInputText bytes.now set events
-        → IfErr result (λ refusal. refusal ≡ Status.OutOfMemory) }
-    ensures refuses { (line kind : ℕ) → RefusesInput bytes.now line kind
-        → MatchResult result (λ text. ⊥) (λ refusal. (refusal ≡ Status.Input line kind) ⊎ (refusal ≡ Status.OutOfMemory)) }
+    ensures replays { IfOk result (λ text. IsRunOf bytes.now text.items) }
+    ensures refused { IfErr result (λ status. Refuses Run bytes.now status ⊎ (status ≡ Status.OutOfMemory)) }
+    ensures accepts { Accepts Run bytes.now → IfErr result (λ status. status ≡ Status.OutOfMemory) }
+    ensures refuses { (due : Status) → Refuses Run bytes.now due
+        → MatchResult result (λ text. ⊥) (λ status. (status ≡ due) ⊎ (status ≡ Status.OutOfMemory)) }
 {
     let input = read_input(alloc, bytes)?;
     let made = schedule_of(alloc, input.set(), input.events())?;

@@ -40,7 +40,7 @@ fn leave(rt: &impl Abort, links: &mut Links, p: u8) {
 }
 
 /// Whether each number of the list is below n.
-fn all_below(tasks: &[u32], n: u32) -> bool
+pub fn all_below(tasks: &[u32], n: u32) -> bool
     ensures { IsTrue result → All (λ t. t < n) tasks.now }
 {
     tasks.iter().all(|&t| t < n)

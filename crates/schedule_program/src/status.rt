@@ -3,6 +3,7 @@ ghost use Rattle.schedule_program.specs.Status.{exit_status_of, status_text};
 ghost use Rattle.std.specs.Prelude.{◌≡◌, Some};
 
 use affinity_mask::OutOfMemory;
+use schedule_text::TextFault;
 use std::fmt;
 use trace_reader::InputFault;
 
@@ -68,6 +69,22 @@ impl From<InputFault> for Status {
     ghost from_gives = { λ fault status. status ≡ status_of_fault fault };
 
     fn from(fault: InputFault) -> Status {
+        match fault.kind.number() {
+            Some(kind) => Status::Input {
+                line: fault.line,
+                kind,
+            },
+            None => Status::OutOfMemory,
+        }
+    }
+}
+
+impl From<TextFault> for Status {
+    ghost use Rattle.schedule_program.specs.Status.{status_of_text_fault};
+
+    ghost from_gives = { λ fault status. status ≡ status_of_text_fault fault };
+
+    fn from(fault: TextFault) -> Status {
         match fault.kind.number() {
             Some(kind) => Status::Input {
                 line: fault.line,

@@ -11,7 +11,7 @@ use std::test::Fail;
 
 const SMALLEST_INPUT: &str = "apa 1\nprocessors 1\ntask a 5 0\n0 arrive a\nend\n";
 
-const SMALLEST_SCHEDULE: &str =
+pub const SMALLEST_SCHEDULE: &str =
     "schedule 1\nprocessors 1\ntask a 5 0\nhistory 1\n0 arrive a placed 0\n\
 contexts 1\na units 0 stints 1 moves 0 last 0 trail 0\nend\n";
 
@@ -44,16 +44,27 @@ fn run_words<S: Source, K: Sink>(
     Ok(run(alloc, &owned, source, sink))
 }
 
-/// The status of a run over memory, and the text that it put.
-fn replay(alloc: Global, words: &[&str], input: &str) -> Result<(Status, Vec<u8>), AllocError> {
+/// The status of a call over memory, and the text that it put.
+pub(crate) fn replay(
+    alloc: Global,
+    words: &[&str],
+    input: &str,
+) -> Result<(Status, Vec<u8>), AllocError> {
     let mut source = source_of(alloc, input, 1_000_000, &[])?;
-    let mut sink = sink_of(alloc, 16_384, 4096, &[])?;
+    let mut sink = sink_of(alloc, 524_288, 4096, &[])?;
     let status = run_words(alloc, words, &mut source, &mut sink)?;
     Ok((status, Vec::from_slice(alloc, sink.bytes())?))
 }
 
+/// Whether a schedule text is valid, with so many entries.
+pub(crate) fn is_valid(alloc: Global, schedule: &str, count: usize) -> Result<bool, AllocError> {
+    let (status, put) = replay(alloc, &["check"], schedule)?;
+    let told = format!(in alloc; "valid {count}\n")?;
+    Ok(status == Status::Done && put.as_slice() == told.as_bytes())
+}
+
 /// The input of a history, and its schedule.
-fn texts_of(alloc: Global, history: &History) -> Result<(String, String), AllocError> {
+pub(crate) fn texts_of(alloc: Global, history: &History) -> Result<(String, String), AllocError> {
     let mut input = format!(in alloc; "apa 1\n{}", history.head)?;
     let mut schedule = format!(in alloc; "schedule 1\n{}", history.head)?;
     writeln!(schedule, "history {}", history.entries.len())?;
@@ -102,6 +113,11 @@ fn worked_histories(rt: HostRuntime) -> Result<(), Fail> {
             "in {}",
             history.name
         );
+        assert!(rt;
+            is_valid(rt.alloc(), &schedule, history.entries.len())?,
+            "in {}",
+            history.name
+        );
     }
     Ok(())
 }
@@ -134,6 +150,7 @@ contexts 64\n{contexts}z units 0 stints 1 moves 0 last 0 trail 63\nend\n"
     let (status, put) = replay(alloc, &["run"], &input)?;
     assert_eq!(rt; status, Status::Done);
     assert_eq!(rt; str::from_utf8(&put), Ok(schedule.as_str()));
+    assert!(rt; is_valid(alloc, &schedule, 64)?);
     Ok(())
 }
 

@@ -1,7 +1,5 @@
-use Rattle.std.proofs.Common.{◌≡◌, ℕ, ◌<◌, length, refl, sym, ap, ◌∙◌, arith}
-use Rattle.link_table.specs.State.{task_count}
+use Rattle.std.proofs.Common.{◌≡◌, ◌<◌, length, refl, sym, ap, ◌∙◌, arith}
 use Rattle.link_table.proofs.Linked.{linked_number}
-use Rattle.placement_laws.specs.Admission.{HasSameTasks}
 use Rattle.sched_core.specs.CoreData.{entry_of}
 use Rattle.sched_core.proofs.SameTasks.{same_tasks-step}
 use Rattle.schedule_program.proofs.Running.{contexts_count, running_count, running_length, running_more}

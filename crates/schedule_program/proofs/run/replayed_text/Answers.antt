@@ -1,21 +1,21 @@
-use Rattle.std.proofs.Common.{inr, rules}
 use Rattle.std.proofs.lemmas.Result.{err_from_is_err_and}
 use Rattle.schedule_text.proofs.LegalEntries.{legal_entries}
 use Rattle.schedule_program.proofs.Headline.{headline}
-use Rattle.schedule_program.proofs.Known.{known_events, about_entries}
+use Rattle.schedule_program.proofs.Known.{about_entries}
 use Rattle.schedule_program.proofs.Refusals.{memory_of_fault, status_of_refused}
+use Rattle.schedule_program.proofs.RunIsValid.{is_run_of}
 use Rattle.schedule_program.proofs.Running.{contexts_known}
 use Rattle.schedule_program.proofs.run.replayed_text.Goals as goal
 
 pub returns-in_err-input-clause-accepts : goal.returns-in_err-input-clause-accepts
-returns-in_err-input-clause-accepts c = λ set events text.
+returns-in_err-input-clause-accepts c = λ accepted.
     let p = err_from_is_err_and c.from_residual.result c.from_residual.ensures.1 in
-    rw (p.1, p.2) (memory_of_fault c.in_err-input.field-0.0 (c.in_err-input.ensures.accepts set events text))
+    rw (p.1, p.2) (memory_of_fault c.in_err-input.field-0.0 (c.in_err-input.ensures.accepts accepted.0 accepted.1 accepted.2))
 
 pub returns-in_err-input-clause-refuses : goal.returns-in_err-input-clause-refuses
-returns-in_err-input-clause-refuses c = λ line kind why.
+returns-in_err-input-clause-refuses c = λ due why.
     let p = err_from_is_err_and c.from_residual.result c.from_residual.ensures.1 in
-    rw (p.1, p.2) (status_of_refused c.args.bytes.now line kind c.in_err-input.field-0.0 why (c.in_err-input.ensures.refuses line why.cause why.refused))
+    rw (p.1, p.2) (status_of_refused c.args.bytes.now due c.in_err-input.field-0.0 why (c.in_err-input.ensures.refuses why.number why.cause.cause why.cause.refused))
 
 pub write_schedule-requires-clause-entries : goal.write_schedule-requires-clause-entries
 write_schedule-requires-clause-entries c =
@@ -30,10 +30,10 @@ write_schedule-requires-clause-contexts c =
     rw (c.set-2.ensures.value, c.deref.ensures.value) (contexts_known c.in_ok-input.input.set c.in_ok-made.made.core.history _ _ schedule.each_context)
 
 pub returns-clause-replays : goal.returns-clause-replays
-returns-clause-replays c =
+returns-clause-replays c = is_run_of c.args.bytes.now _ (
     headline c.args.bytes.now _ c.in_ok-input.input.set c.in_ok-input.input.events c.in_ok-made.made.core.history c.in_ok-made.made.contexts.items
     c.in_ok-input.ensures.input (rw (c.set.ensures.value, c.events.ensures.value) at c.in_ok-made.ensures)
-    (rw (c.set-2.ensures.value, c.history.ensures.value, c.deref.ensures.value) at c.in_ok-text.ensures)
+    (rw (c.set-2.ensures.value, c.history.ensures.value, c.deref.ensures.value) at c.in_ok-text.ensures))
 
 pub returns-clause-refuses : goal.returns-clause-refuses
-returns-clause-refuses c = λ line kind why. c.in_ok-input.ensures.refuses line why.cause why.refused
+returns-clause-refuses c = λ due why. c.in_ok-input.ensures.refuses why.number why.cause.cause why.cause.refused

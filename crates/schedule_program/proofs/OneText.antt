@@ -1,0 +1,69 @@
+-- Where the events of an input are of one stream, the headline allows one text: a merge of them has just one order, and so
+-- there is one legal history, with one context for each task.
+use Rattle.std.proofs.Common.{◌≡◌, ℕ, ◌<◌, ◌==◌, true, List, [], ◌∷◌, map, filter, length, get_or, All, refl, sym, ap, ◌∙◌, subst, arith}
+use Rattle.std.specs.List.{range_with_len}
+use Rattle.std.proofs.lemmas.List.{get_or-map, length-map}
+use Rattle.std.proofs.lemmas.List.Elements.{All-head, All-tail}
+use Rattle.task_set.specs.TaskSet.{SetData}
+use Rattle.link_table.specs.declared.reply.Entry.{Entry}
+use Rattle.link_table.specs.State.{start_of}
+use Rattle.link_table.specs.Dispatch.{context_of}
+use Rattle.sched_core.specs.StepLaws.{caller_and_event}
+use Rattle.sched_core.proofs.StepHistories.{legal_history_is_unique}
+use Rattle.schedule_text.specs.ScheduleText.{schedule_text}
+use Rattle.trace_reader.specs.declared.posted.Posted.{Posted}
+use Rattle.trace_reader.proofs.OneInput.{text_has_one_input}
+use Rattle.schedule_program.specs.Merge.{IsMerge, IsOnOneStream}
+use Rattle.schedule_program.specs.Run.{Replays}
+
+-- a filter that all elements pass keeps them all
+filter_passed : {X : Type 0} (number : X → ℕ) (stream : ℕ) (xs : List X) → All (λ x. number x ≡ stream) xs → filter (λ x. number x == stream) xs ≡ xs
+filter_passed number stream [] all = refl
+filter_passed number stream (x ∷ xs) all =
+    let passes : (number x == stream) ≡ true = grind (arith, All-head (λ y. number y ≡ stream) x xs all) in
+    rw passes (ap (λ rest. x ∷ rest) (filter_passed number stream xs (All-tail (λ y. number y ≡ stream) x xs all)))
+
+-- each entry of a merge is of that stream
+callers_same : (stream : ℕ) (events : List Posted) (history : List Entry) → All (λ (p : Posted). p.stream ≡ stream) events → IsMerge events history → All (λ (e : Entry). e.caller ≡ stream) history
+callers_same stream events history one merge k d within =
+    let found = merge.callers k d within in
+    let fits : found.0 < length events = subst (λ (n : ℕ). found.0 < n) (length-map events (λ (p : Posted). p.stream)) found.1 in
+    let of_caller : Posted = record { stream = (get_or history k d).caller; event = (get_or history k d).event } in
+    sym found.2 ∙ get_or-map (λ (p : Posted). p.stream) events found.0 of_caller _ fits ∙ one found.0 of_caller fits
+
+-- so its events are those events, in their order
+events_same : (stream : ℕ) (events : List Posted) (history : List Entry) → All (λ (p : Posted). p.stream ≡ stream) events → IsMerge events history → map (λ (e : Entry). e.event) history ≡ map (λ (p : Posted). p.event) events
+events_same stream events history one merge =
+    ap (map (λ (e : Entry). e.event)) (sym (filter_passed (λ (e : Entry). e.caller) stream history (callers_same stream events history one merge)))
+    ∙ merge.each_stream stream
+    ∙ ap (map (λ (p : Posted). p.event)) (filter_passed (λ (p : Posted). p.stream) stream events one)
+
+-- and two such histories are of the same callers and events
+pairs_same : (stream : ℕ) (history other : List Entry) → All (λ (e : Entry). e.caller ≡ stream) history → All (λ (e : Entry). e.caller ≡ stream) other → map (λ (e : Entry). e.event) history ≡ map (λ (e : Entry). e.event) other
+    → map caller_and_event history ≡ map caller_and_event other
+pairs_same stream [] [] one two same = refl
+pairs_same stream [] (e ∷ other) one two same = absurd (cc)
+pairs_same stream (e ∷ history) [] one two same = absurd (cc)
+pairs_same stream (e ∷ history) (f ∷ other) one two same =
+    let here : e.event ≡ f.event = cc in
+    let later : map (λ (e : Entry). e.event) history ≡ map (λ (e : Entry). e.event) other = cc in
+    let rest = pairs_same stream history other (All-tail (λ (e : Entry). e.caller ≡ stream) e history one) (All-tail (λ (e : Entry). e.caller ≡ stream) f other two) later in
+    let first : e.caller ≡ stream = All-head (λ (e : Entry). e.caller ≡ stream) e history one in
+    let second : f.caller ≡ stream = All-head (λ (e : Entry). e.caller ≡ stream) f other two in
+    rw (first, second, here, rest) refl
+
+-- the text of a task set and a history, with the contexts that it gives
+abbrev text_of : SetData → List Entry → List ℕ
+text_of set history = schedule_text set history (map (context_of (start_of set) history) (range_with_len 0 (length set.tasks)))
+
+pub one_text : (read put other : List ℕ) (first : Replays read put) → IsOnOneStream first.events → Replays read other → other ≡ put
+one_text read put other first one second =
+    let stream = one.0 in
+    let same = text_has_one_input read second.set first.set second.events first.events second.input first.input in
+    let merge : IsMerge first.events second.history = subst (λ (events : List Posted). IsMerge events second.history) same.1 second.merge in
+    let histories : second.history ≡ first.history = legal_history_is_unique first.set second.history first.history first.input.says.lawful (rw same.0 at second.legal) first.legal
+    (pairs_same stream second.history first.history (callers_same stream first.events second.history one.1 merge) (callers_same stream first.events first.history one.1 first.merge)
+    (events_same stream first.events second.history one.1 merge ∙ sym (events_same stream first.events first.history one.1 first.merge))) in
+    second.text ∙ ap (schedule_text second.set second.history) second.contexts
+    ∙ ap (λ (set : SetData). text_of set second.history) same.0 ∙ ap (text_of first.set) histories
+    ∙ sym (first.text ∙ ap (schedule_text first.set first.history) first.contexts)

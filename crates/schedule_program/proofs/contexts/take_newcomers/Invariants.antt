@@ -1,7 +1,0 @@
-use Rattle.link_table.specs.State.{State}
-use Rattle.schedule_program.specs.Contexts.{context_after_takes, EachBecomes}
-use Rattle.schedule_program.proofs.Following.{came_below}
-use Rattle.schedule_program.proofs.contexts.take_newcomers.Given as goal
-
-abbrev pub invariant-loop-p : goal.invariant-loop-p
-invariant-loop-p l = EachBecomes (λ t c. context_after_takes c (came_below l.before l.links.on l.p t)) l.fn.contexts.items l.contexts.items

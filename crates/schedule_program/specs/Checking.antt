@@ -1,0 +1,28 @@
+-- One step of a check. What a reader must believe: nothing; these are the contracts of private functions, and the public
+-- one says by the definitions of a valid and of a wrong schedule what was found.
+use Rattle.std.specs.Prelude.{◌≡◌, ℕ, take}
+use Rattle.link_table.specs.History.{state_at}
+use Rattle.reach_certificate.specs.Checker.{CheckerData}
+use Rattle.reach_certificate.specs.Passing.{IsPassing}
+use Rattle.schedule_text.specs.Schedule.{ScheduleData}
+use Rattle.schedule_program.specs.Check.{HasBadEntry, HasBadContext, IsInvalid, contexts_of}
+use Rattle.schedule_program.specs.declared.status.Status.{Status}
+use Rattle.schedule_program.specs.declared.status.Status.TheVariants.{Invalid}
+
+-- a checker has accepted the first n entries of a schedule
+pub record HasFollowed (schedule : ScheduleData) (n : ℕ) (checker : CheckerData) : Type 0 where
+  pub passing : IsPassing schedule.set (take n schedule.entries)
+  pub links : checker.links ≡ state_at schedule.set schedule.entries n
+  pub contexts : checker.contexts ≡ contexts_of schedule.set (take n schedule.entries)
+
+-- the answer for the first entry that has a defect
+abbrev pub IsBadEntryStatus : ScheduleData → Status → Type 0
+IsBadEntryStatus schedule status = (number : ℕ) × (defect : ℕ) × (status ≡ Invalid number defect) × HasBadEntry schedule number defect
+
+-- the answer for the first context that differs
+abbrev pub IsBadContextStatus : ScheduleData → Status → Type 0
+IsBadContextStatus schedule status = (number : ℕ) × (defect : ℕ) × (status ≡ Invalid number defect) × HasBadContext schedule number defect
+
+-- the answer for a schedule that is wrong
+abbrev pub IsInvalidStatus : ScheduleData → Status → Type 0
+IsInvalidStatus schedule status = (number : ℕ) × (defect : ℕ) × (status ≡ Invalid number defect) × IsInvalid schedule number defect
