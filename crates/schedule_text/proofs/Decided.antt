@@ -20,7 +20,9 @@ use Rattle.schedule_text.specs.declared.fault.TextKind.{TextKind}
 use Rattle.schedule_text.specs.declared.fault.TextKind.TheVariants.{BadLine, TaskRefused, UnknownTask, Short, AfterEnd}
 use Rattle.schedule_text.specs.Reading.{fields_of, IsNumberField, IsNumberBehind, IsNameFault, IsSomebodyField, IsTaskFields, IsEventFields, IsReplyFields, IsEntryFields, IsSomeReply, IsSomeEntry, IsEventFault, IsReplyFault, IsEntryFault, event_fields, reply_fields, displaced_fields, freed_fields, Leads}
 use Rattle.schedule_text.proofs.Words.{head_same, tail_same}
-use Rattle.schedule_text.proofs.Decisions.{same_bytes_or_not, field_or_not, number_field_or_not, list_field_or_not, set_field_or_not, chain_field_or_not, last_field_or_not, name_or_new, can_add_or_refused}
+use Rattle.trace_reader.proofs.Addable.{can_add_or_refused, name_or_new}
+use Rattle.trace_reader.proofs.Decisions.{same_bytes_or_not}
+use Rattle.schedule_text.proofs.Decisions.{field_or_not, number_field_or_not, list_field_or_not, set_field_or_not, chain_field_or_not, last_field_or_not}
 use Rattle.schedule_text.proofs.Names.{named_task}
 use Rattle.schedule_text.proofs.Shapes.{no_event, arrival_fault, departure_fault, tick_fault, arrival_read, departure_read}
 use Rattle.schedule_text.proofs.Replies.{placed_read, waits_read, placed_none, waits_none, two_none, displaced_read, freed_read, displaced_no_chain, displaced_no_set, freed_no_chain, freed_no_set, displaced_fault, freed_fault}

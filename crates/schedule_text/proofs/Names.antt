@@ -1,40 +1,16 @@
 -- Names of tasks as fields.
-use Rattle.std.proofs.Common.{◌≡◌, ◌≢◌, ℕ, zero, suc, ◌<◌, inl, inr, false, IsTrue, List, [], ◌∷◌, length, map, get_or, All, Contains, Some, refl, sym, ap, ◌∙◌, subst, arith}
+use Rattle.std.proofs.Common.{◌≡◌, ◌≢◌, ℕ, zero, suc, ◌<◌, inl, inr, List, [], ◌∷◌, length, map, get_or, Some, refl, sym, ap, ◌∙◌, subst, arith}
 use Rattle.std.specs.Prelude.{codes, slice_get}
-use Rattle.std.specs.Str.{IsUtf8}
 use Rattle.std.proofs.lemmas.Bool.{true≢false, cases_order}
-use Rattle.std.proofs.lemmas.Bool.Decides.{nat_tests}
 use Rattle.std.proofs.lemmas.List.{get_or-map}
-use Rattle.std.proofs.lemmas.List.Elements.{All-cons, All-weaker, All-contains}
+use Rattle.std.proofs.lemmas.List.Elements.{All-cons, All-weaker}
 use Rattle.std.proofs.lemmas.Option.{get_or_from_slice_get}
-use Rattle.std.proofs.lemmas.Str.{IsUtf8-from_ascii}
-use Rattle.std.proofs.lemmas.Str.Ascii.{IsAscii-from_all}
-use Rattle.task_set.specs.Name.{IsName, begins_name, continues_name}
+use Rattle.task_set.specs.Name.{IsName, begins_name}
 use Rattle.task_set.specs.TaskSet.{TaskData, SetData, IsTaskSet, names}
 use Rattle.task_set.specs.Refusal.{IsNewName, IsNameOf}
 use Rattle.trace_reader.specs.EventText.{name_of}
+use Rattle.trace_reader.proofs.Names.{name_without}
 use Rattle.schedule_text.specs.ScheduleFault.{IsField, HasFields}
-
-begins_continues : (b : ℕ) → IsTrue (begins_name b) → IsTrue (continues_name b)
-begins_continues b h = grind (arith, nat_tests)
-
-continues_small : (b : ℕ) → IsTrue (continues_name b) → b < 128
-continues_small b h = grind (arith, nat_tests)
-
-pub name_bytes : (name : List ℕ) → IsName name → All (λ b. IsTrue (continues_name b)) name
-name_bytes [] h = absurd h
-name_bytes (x ∷ xs) h = All-cons (λ b. IsTrue (continues_name b)) x xs (begins_continues x h.1) h.2
-
--- a name has no byte that no name goes on with
-name_without : (name : List ℕ) (end : ℕ) → continues_name end ≡ false → IsName name → Contains name end → ⊥
-name_without name end never named here = true≢false (sym (All-contains (λ b. IsTrue (continues_name b)) name end (name_bytes name named) here) ∙ never)
-
-pub name_is_text : (name : List ℕ) → IsName name → IsUtf8 name
-name_is_text name named = IsUtf8-from_ascii name (IsAscii-from_all name (All-weaker (λ b. IsTrue (continues_name b)) (λ b. b < 128) continues_small name (name_bytes name named)))
-
--- what is no text is the name of no task
-pub no_text_is_new : (set : SetData) (bytes : List ℕ) → IsTaskSet set → (IsUtf8 bytes → ⊥) → IsNewName set bytes
-no_text_is_new set bytes lawful none = λ k d within same. none (rw (← same) (name_is_text _ (lawful.names k d within)))
 
 name_some : (name : List ℕ) → IsName name → name ≢ []
 name_some [] named e = named

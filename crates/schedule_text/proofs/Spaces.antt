@@ -26,7 +26,8 @@ use Rattle.schedule_text.specs.ScheduleText.{chain_text, set_text, somebody_text
 use Rattle.schedule_text.specs.Schedule.{IsRow, IsOfProcessors, HasUnits, HasProcessors, IsContextOf}
 use Rattle.schedule_text.specs.ScheduleFault.{IsField, HasFields}
 use Rattle.schedule_text.specs.Reading.{task_fields, event_fields, reply_fields, context_fields}
-use Rattle.schedule_text.proofs.Names.{name_at, no_task, name_bytes}
+use Rattle.trace_reader.proofs.Names.{name_bytes}
+use Rattle.schedule_text.proofs.Names.{name_at, no_task}
 use Rattle.schedule_text.proofs.Fields.{set_list}
 
 -- the digits are such bytes

@@ -1,5 +1,5 @@
 mod Utf8
-mod Names
+pub mod Names
 mod FieldLists
 mod Refused
 mod EventsRead
@@ -12,8 +12,8 @@ pub mod Steps
 pub mod Faults
 pub mod LinesCut
 pub mod OneInput
-mod Decisions
-mod Addable
+pub mod Decisions
+pub mod Addable
 mod Decided
 pub mod Accepted
 mod Answered

@@ -1,5 +1,5 @@
 use Rattle.std.proofs.Common.{refl, inr}
-use Rattle.schedule_text.proofs.Names.{no_text_is_new}
+use Rattle.trace_reader.proofs.Names.{no_text_is_new}
 use Rattle.schedule_text.proofs.field.task_of.Goals as goal
 
 pub returns-in_default-clause-refused : goal.returns-in_default-clause-refused
