@@ -32,9 +32,6 @@ before_cut (x ∷ xs) zero (suc m) lt = refl
 before_cut (x ∷ xs) (suc n) (suc m) lt = before_cut xs n m (omega arith)
 
 module _ (schedule : ScheduleData) (ok : IsSchedule schedule) where
-  at : ℕ → State
-  at n = state_at schedule.set schedule.entries n
-
   state_ok : (n : ℕ) → IsPassing schedule.set (take n schedule.entries) → IsState (state_at schedule.set schedule.entries n)
   state_ok n passing = IsState-passed (start_of schedule.set) (take n schedule.entries) (IsState-start schedule.set ok.tasks.lawful) passing
 

@@ -9,7 +9,7 @@ use Rattle.schedule_text.specs.declared.fault.TextKind.{TextKind}
 use Rattle.schedule_text.specs.declared.fault.TextKind.TheVariants as text_kind
 use Rattle.schedule_program.specs.Check.{IsValid, IsInvalid, IsCheckOf, valid_text}
 use Rattle.schedule_program.specs.Checking.{IsBadEntryStatus, IsBadContextStatus, IsInvalidStatus}
-use Rattle.schedule_program.specs.Command.{Accepts, Refuses}
+use Rattle.schedule_program.specs.Command.{Refuses}
 use Rattle.schedule_program.specs.Status.{status_of_text_fault}
 use Rattle.schedule_program.specs.declared.status.Status.{Status}
 use Rattle.schedule_program.specs.declared.status.Status.TheVariants.{Invalid, OutOfMemory}
@@ -63,18 +63,6 @@ text_refused_due bytes fault due unread refused (inr invalid) = inr (memory_of_t
 -- ---- the text of a schedule
 module _ (bytes : List ℕ) (schedule : ScheduleData) (ok : IsSchedule schedule) (text : bytes ≡ text_of_schedule schedule)
     (only : (other : ScheduleData) → IsSchedule other → bytes ≡ text_of_schedule other → schedule ≡ other) where
-  pub schedule_refused : (status : Status) → IsInvalidStatus schedule status ⊎ (status ≡ OutOfMemory) → Refuses Check bytes status ⊎ (status ≡ OutOfMemory)
-  schedule_refused status (inl bad) = inl (inr record {
-    number = bad.0;
-    defect = bad.1;
-    answer = bad.2;
-    cause = record { schedule = schedule; is_text = record { is_schedule = ok; text = text }; invalid = bad.3 };
-  })
-  schedule_refused status (inr memory) = inr memory
-
-  pub schedule_accepted : Accepts Check bytes → IsValid schedule
-  schedule_accepted accepted = subst IsValid (sym (only accepted.0 accepted.1.is_schedule accepted.1.text)) accepted.2
-
   pub schedule_refused_due : (status due : Status) → ((line : ℕ) (kind : TextKind) → IsScheduleRefused bytes line kind → ⊥)
       → ((number defect : ℕ) → IsInvalid schedule number defect → (status ≡ Invalid number defect) ⊎ (status ≡ OutOfMemory)) → Refuses Check bytes due → (status ≡ due) ⊎ (status ≡ OutOfMemory)
   schedule_refused_due status due unrefused judged (inl input) = absurd (unrefused input.number input.cause.cause input.cause.refused)

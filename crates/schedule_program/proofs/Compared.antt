@@ -1,9 +1,9 @@
 -- The contexts of a schedule are compared with those of a checker, one after the other.
-use Rattle.std.proofs.Common.{◌≡◌, ℕ, ◌+◌, ◌<◌, List, [], ◌∷◌, ◌++◌, length, take, get_or, Some, refl, sym, ap, ◌∙◌, subst, arith}
+use Rattle.std.proofs.Common.{◌≡◌, ℕ, ◌+◌, ◌<◌, List, [], ◌∷◌, ◌++◌, length, take, get_or, Some, sym, ap, ◌∙◌, subst, arith}
 use Rattle.std.specs.Prelude.{slice_get}
 use Rattle.std.proofs.lemmas.List.{take_more, take_all}
 use Rattle.std.proofs.lemmas.List.FromFn.{length-map-range_with_len}
-use Rattle.std.proofs.lemmas.Option.{same_Some, slice_get_within, slice_get_read, get_or_from_slice_get}
+use Rattle.std.proofs.lemmas.Option.{same_Some, slice_get_within, get_or_from_slice_get}
 use Rattle.task_set.specs.declared.context.Context.{Context}
 use Rattle.link_table.specs.State.{start_of}
 use Rattle.link_table.specs.Dispatch.{context_of}
@@ -16,11 +16,7 @@ use Rattle.schedule_program.specs.Checking.{HasFollowed}
 pub contexts_of_all : (schedule : ScheduleData) (checker : CheckerData) → HasFollowed schedule (length schedule.entries) checker → checker.contexts ≡ contexts_of schedule.set schedule.entries
 contexts_of_all schedule checker followed = followed.contexts ∙ ap (contexts_of schedule.set) (take_all (length schedule.entries) schedule.entries (omega arith))
 
--- a context as the loop reads it
-pub context_read : (schedule : ScheduleData) (items : List Context) (n : ℕ) (context : Context) → items ≡ schedule.contexts → n < length items → context ≡ get_or items n context → slice_get schedule.contexts n ≡ Some context
-context_read schedule items n context same fits read = rw (← same) (slice_get_read items (length items) n context refl fits read)
-
--- it is that of the task whose number is its place
+-- a context is that of the task whose number is its place
 pub context_task : (schedule : ScheduleData) (n : ℕ) (context : Context) → IsSchedule schedule → slice_get schedule.contexts n ≡ Some context → context.task ≡ n
 context_task schedule n context ok there =
     let at_n = get_or_from_slice_get schedule.contexts n context context there in

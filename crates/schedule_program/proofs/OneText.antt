@@ -1,13 +1,10 @@
 -- Where the events of an input are of one stream, the headline allows one text: a merge of them has just one order, and so
 -- there is one legal history, with one context for each task.
 use Rattle.std.proofs.Common.{◌≡◌, ℕ, ◌<◌, ◌==◌, true, List, [], ◌∷◌, map, filter, length, get_or, All, refl, sym, ap, ◌∙◌, subst, arith}
-use Rattle.std.specs.List.{range_with_len}
 use Rattle.std.proofs.lemmas.List.{get_or-map, length-map}
 use Rattle.std.proofs.lemmas.List.Elements.{All-head, All-tail}
 use Rattle.task_set.specs.TaskSet.{SetData}
 use Rattle.link_table.specs.declared.reply.Entry.{Entry}
-use Rattle.link_table.specs.State.{start_of}
-use Rattle.link_table.specs.Dispatch.{context_of}
 use Rattle.sched_core.specs.StepLaws.{caller_and_event}
 use Rattle.sched_core.proofs.StepHistories.{legal_history_is_unique}
 use Rattle.schedule_text.specs.ScheduleText.{schedule_text}
@@ -15,6 +12,7 @@ use Rattle.trace_reader.specs.declared.posted.Posted.{Posted}
 use Rattle.trace_reader.proofs.OneInput.{text_has_one_input}
 use Rattle.schedule_program.specs.Merge.{IsMerge, IsOnOneStream}
 use Rattle.schedule_program.specs.Run.{Replays}
+use Rattle.schedule_program.specs.Check.{contexts_of}
 
 -- a filter that all elements pass keeps them all
 filter_passed : {X : Type 0} (number : X → ℕ) (stream : ℕ) (xs : List X) → All (λ x. number x ≡ stream) xs → filter (λ x. number x == stream) xs ≡ xs
@@ -54,7 +52,7 @@ pairs_same stream (e ∷ history) (f ∷ other) one two same =
 
 -- the text of a task set and a history, with the contexts that it gives
 abbrev text_of : SetData → List Entry → List ℕ
-text_of set history = schedule_text set history (map (context_of (start_of set) history) (range_with_len 0 (length set.tasks)))
+text_of set history = schedule_text set history (contexts_of set history)
 
 pub one_text : (read put other : List ℕ) (first : Replays read put) → IsOnOneStream first.events → Replays read other → other ≡ put
 one_text read put other first one second =

@@ -3,7 +3,7 @@ use Rattle.std.proofs.Common.{◌≡◌, ℕ, ◌⊎◌, List, Option, None, Som
 use Rattle.trace_reader.specs.declared.fault.InputFault.{InputFault}
 use Rattle.trace_reader.specs.declared.fault.InputKind.{InputKind}
 use Rattle.trace_reader.specs.declared.fault.InputKind.TheVariants as kind
-use Rattle.trace_reader.specs.InputFault.{IsInputRefused, kind_number}
+use Rattle.trace_reader.specs.InputFault.{kind_number}
 use Rattle.schedule_text.specs.ScheduleFault as text
 use Rattle.schedule_text.specs.declared.fault.TextFault.{TextFault}
 use Rattle.schedule_text.specs.declared.fault.TextKind.{TextKind}
@@ -16,30 +16,19 @@ use Rattle.schedule_program.specs.Command.{IsAnsweredInput}
 use Rattle.schedule_program.specs.Run.{RefusesInput}
 
 -- ---- an input text
-wanted : (fault : InputFault) → fault.kind ≡ kind.OutOfMemory → status_of_fault fault ≡ OutOfMemory
-wanted fault memory = ap (λ (k : InputKind). status_of_number fault.line (kind_number k)) memory
-
-refused_number : (bytes : List ℕ) (line : ℕ) (cause : InputKind) (number : Option ℕ) → kind_number cause ≡ number → IsInputRefused bytes line cause → IsAnsweredInput (RefusesInput bytes) (status_of_number line number) ⊎ (status_of_number line number ≡ OutOfMemory)
-refused_number bytes line cause None none refused = inr refl
-refused_number bytes line cause (Some k) some refused = inl record { number = line; kind = k; answer = refl; cause = record { cause = cause; refused = refused; number = some } }
-
--- the status of a fault of the input
-pub refusal_of_fault : (bytes : List ℕ) (fault : InputFault) → (fault.kind ≡ kind.OutOfMemory) ⊎ IsInputRefused bytes fault.line fault.kind → IsAnsweredInput (RefusesInput bytes) (status_of_fault fault) ⊎ (status_of_fault fault ≡ OutOfMemory)
-refusal_of_fault bytes fault (inl memory) = inr (wanted fault memory)
-refusal_of_fault bytes fault (inr refused) = refused_number bytes fault.line fault.kind (kind_number fault.kind) refl refused
-
 -- an input that is wanting memory
 pub memory_of_fault : (fault : InputFault) → fault.kind ≡ kind.OutOfMemory → status_of_fault fault ≡ OutOfMemory
-memory_of_fault fault memory = wanted fault memory
+memory_of_fault fault memory = ap (λ (k : InputKind). status_of_number fault.line (kind_number k)) memory
 
 -- a fault that is due, or want of memory
 pub status_of_refused : (bytes : List ℕ) (due : Status) (fault : InputFault) (why : IsAnsweredInput (RefusesInput bytes) due) → (fault.kind ≡ kind.OutOfMemory) ⊎ ((fault.line ≡ why.number) × (fault.kind ≡ why.cause.cause)) → (status_of_fault fault ≡ due) ⊎ (status_of_fault fault ≡ OutOfMemory)
-status_of_refused bytes due fault why (inl memory) = inr (wanted fault memory)
+status_of_refused bytes due fault why (inl memory) = inr (memory_of_fault fault memory)
 status_of_refused bytes due fault why (inr found) = inl (rw (found.0, found.1, why.cause.number, why.answer) refl)
 
 -- ---- a schedule text
-text_wanted : (fault : TextFault) → fault.kind ≡ text_kind.OutOfMemory → status_of_text_fault fault ≡ OutOfMemory
-text_wanted fault memory = ap (λ (k : TextKind). status_of_number fault.line (text.kind_number k)) memory
+-- a schedule text that is wanting memory
+pub memory_of_text_fault : (fault : TextFault) → fault.kind ≡ text_kind.OutOfMemory → status_of_text_fault fault ≡ OutOfMemory
+memory_of_text_fault fault memory = ap (λ (k : TextKind). status_of_number fault.line (text.kind_number k)) memory
 
 text_refused_number : (bytes : List ℕ) (line : ℕ) (cause : TextKind) (number : Option ℕ) → text.kind_number cause ≡ number → text.IsScheduleRefused bytes line cause → IsAnsweredInput (RefusesSchedule bytes) (status_of_number line number) ⊎ (status_of_number line number ≡ OutOfMemory)
 text_refused_number bytes line cause None none refused = inr refl
@@ -47,14 +36,10 @@ text_refused_number bytes line cause (Some k) some refused = inl record { number
 
 -- the status of a fault of a schedule text
 pub refusal_of_text_fault : (bytes : List ℕ) (fault : TextFault) → (fault.kind ≡ text_kind.OutOfMemory) ⊎ text.IsScheduleRefused bytes fault.line fault.kind → IsAnsweredInput (RefusesSchedule bytes) (status_of_text_fault fault) ⊎ (status_of_text_fault fault ≡ OutOfMemory)
-refusal_of_text_fault bytes fault (inl memory) = inr (text_wanted fault memory)
+refusal_of_text_fault bytes fault (inl memory) = inr (memory_of_text_fault fault memory)
 refusal_of_text_fault bytes fault (inr refused) = text_refused_number bytes fault.line fault.kind (text.kind_number fault.kind) refl refused
-
--- a schedule text that is wanting memory
-pub memory_of_text_fault : (fault : TextFault) → fault.kind ≡ text_kind.OutOfMemory → status_of_text_fault fault ≡ OutOfMemory
-memory_of_text_fault fault memory = text_wanted fault memory
 
 -- a fault that is due, or want of memory
 pub status_of_text_refused : (bytes : List ℕ) (due : Status) (fault : TextFault) (why : IsAnsweredInput (RefusesSchedule bytes) due) → (fault.kind ≡ text_kind.OutOfMemory) ⊎ ((fault.line ≡ why.number) × (fault.kind ≡ why.cause.cause)) → (status_of_text_fault fault ≡ due) ⊎ (status_of_text_fault fault ≡ OutOfMemory)
-status_of_text_refused bytes due fault why (inl memory) = inr (text_wanted fault memory)
+status_of_text_refused bytes due fault why (inl memory) = inr (memory_of_text_fault fault memory)
 status_of_text_refused bytes due fault why (inr found) = inl (rw (found.0, found.1, why.cause.numbered, why.answer) refl)

@@ -16,6 +16,7 @@ use Rattle.link_table.proofs.Start.{IsState-start}
 use Rattle.link_table.proofs.Steps.{reply_gives_new_state}
 use Rattle.trace_reader.specs.declared.posted.Posted.{Posted}
 use Rattle.reach_certificate.specs.Contexts.{context_after_entry, EachBecomes}
+use Rattle.schedule_program.specs.Check.{contexts_of}
 use Rattle.schedule_program.specs.Replay.{posted_of}
 use Rattle.reach_certificate.proofs.ContextsFollow.{contexts-follow}
 use Rattle.sched_core.proofs.SameTasks.{same_tasks-history}
@@ -24,7 +25,7 @@ use Rattle.sched_core.proofs.SameTasks.{same_tasks-history}
 pub record IsRunning (set : SetData) (events : List Posted) (n : ℕ) (links : State) (entries : List Entry) (contexts : List Context) : Type 0 where
   pub each_event : map posted_of entries ≡ take n events
   pub legal : IsLegal set entries
-  pub each_context : contexts ≡ map (context_of (start_of set) entries) (range_with_len 0 (length set.tasks))
+  pub each_context : contexts ≡ contexts_of set entries
   pub state : links ≡ state_after (start_of set) entries
 
 -- there are as many tasks as in the set

@@ -1,16 +1,14 @@
 -- The replay of events. What a reader must believe: the history has one entry for each event, in their order, and is
 -- legal; the contexts are those that the history gives the tasks.
 use Rattle.std.specs.Prelude.{◌≡◌, ℕ, List, length, map}
-use Rattle.std.specs.List.{range_with_len}
 use Rattle.task_set.specs.TaskSet.{SetData}
 use Rattle.task_set.specs.declared.context.Context.{Context}
 use Rattle.link_table.specs.declared.reply.Entry.{Entry}
-use Rattle.link_table.specs.State.{start_of}
 use Rattle.link_table.specs.History.{IsLegal}
-use Rattle.link_table.specs.Dispatch.{context_of}
 use Rattle.reach_certificate.specs.Passing.{IsOfTask}
 use Rattle.sched_core.specs.CoreData.{CoreData, Applied}
 use Rattle.trace_reader.specs.declared.posted.Posted.{Posted}
+use Rattle.schedule_program.specs.Check.{contexts_of}
 
 -- the posted event is of a task of the set, or of none
 abbrev pub IsKnown : SetData → Posted → Type 0
@@ -29,4 +27,4 @@ posted_of entry = record { stream = entry.caller; event = entry.event }
 pub record Schedules (set : SetData) (events : List Posted) (entries : List Entry) (contexts : List Context) : Type 0 where
   pub each_event : map posted_of entries ≡ events
   pub legal : IsLegal set entries
-  pub each_context : contexts ≡ map (context_of (start_of set) entries) (range_with_len 0 (length set.tasks))
+  pub each_context : contexts ≡ contexts_of set entries

@@ -1,19 +1,16 @@
 -- What a replay of an input is. What a reader must believe: the bytes read are the text of one input, and the bytes put
 -- are the schedule text of one history, which is a legal merge of its events, keeps the best set linked after every
 -- entry, and gives the contexts that are printed.
-use Rattle.std.specs.Prelude.{◌≡◌, ℕ, List, length, map, Some}
-use Rattle.std.specs.List.{range_with_len}
+use Rattle.std.specs.Prelude.{◌≡◌, ℕ, List, Some}
 use Rattle.task_set.specs.TaskSet.{SetData}
 use Rattle.task_set.specs.declared.context.Context.{Context}
 use Rattle.link_table.specs.declared.reply.Entry.{Entry}
-use Rattle.link_table.specs.State.{start_of}
 use Rattle.link_table.specs.History.{IsLegal, IsBestThroughout}
-use Rattle.link_table.specs.Dispatch.{context_of}
 use Rattle.trace_reader.specs.declared.posted.Posted.{Posted}
 use Rattle.trace_reader.specs.declared.fault.InputKind.{InputKind}
 use Rattle.trace_reader.specs.InputText.{IsInputText}
 use Rattle.trace_reader.specs.InputFault.{IsInputRefused, kind_number}
-use Rattle.schedule_program.specs.Check.{IsTextOf, IsValid}
+use Rattle.schedule_program.specs.Check.{IsTextOf, IsValid, contexts_of}
 use Rattle.schedule_program.specs.Merge.{IsMerge, IsOnOneStream}
 use Rattle.schedule_text.specs.Schedule.{ScheduleData}
 use Rattle.schedule_text.specs.ScheduleText.{schedule_text}
@@ -29,7 +26,7 @@ pub record Replays (read put : List ℕ) : Type 0 where
   pub merge : IsMerge events history
   pub legal : IsLegal set history
   pub best : IsBestThroughout set history
-  pub contexts : printed ≡ map (context_of (start_of set) history) (range_with_len 0 (length set.tasks))
+  pub contexts : printed ≡ contexts_of set history
 
 -- the headline; where the events read are of one stream, it allows no other text, so that the bytes put are one function
 -- of the bytes read; and the bytes put are the text of a valid schedule, as a check says of it

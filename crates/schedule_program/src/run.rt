@@ -23,8 +23,8 @@ use trace_reader::read_input;
 pub const MAX_BYTES: usize = 16_777_216;
 
 /// Does what the words say. `run` reads the source to its end as an input text, replays its events, and puts the
-/// schedule text into the sink. `check` reads the source as a schedule text, whoever made it, and puts how many entries
-/// are valid.
+/// schedule text into the sink. `check` reads the source as a schedule text, whoever made it, and where that is a
+/// valid schedule, puts how many entries it has.
 pub fn run<S: Source, K: Sink>(
     alloc: Global,
     words: &[String],
