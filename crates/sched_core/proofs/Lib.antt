@@ -7,6 +7,7 @@ pub mod CoreEntered
 pub mod OrderCounts
 pub mod OrderLists
 pub mod OrderNames
+pub mod OrderPrefixes
 pub mod RowLoops
 pub mod SameTasks
 pub mod StepExists

@@ -21,7 +21,8 @@ use Rattle.link_table.proofs.Histories.{entry_orders, IsState-state_after}
 use Rattle.link_table.proofs.Linked.{is_task-true, linked_number}
 use Rattle.link_table.proofs.Start.{IsState-start}
 use Rattle.link_table.proofs.Steps.{step_keeps_state}
-use Rattle.sched_core.specs.OrderLaws.{NamesTaskBelow, TakesBelow, OrdersNameTasks, TakeNumbersSmall}
+use Rattle.task_set.specs.Orders.{NamesTaskBelow, TakesBelow}
+use Rattle.sched_core.specs.OrderLaws.{OrdersNameTasks, TakeNumbersSmall}
 use Rattle.sched_core.proofs.OrderLists.{event_orders, close_orders, closed_orders_of-split}
 
 -- ---- a property of each order that an event and the close give

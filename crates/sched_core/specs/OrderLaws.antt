@@ -1,12 +1,11 @@
 -- Laws of the orders that legal histories give. What a reader must believe: nothing beyond the definitions that the
 -- laws speak of; each law is proved as the contract of a function of `laws`.
-use Rattle.std.specs.Prelude.{◌≡◌, ℕ, ◌+◌, ◌*◌, ◌<◌, ◌≤◌, None, List, length, All}
+use Rattle.std.specs.Prelude.{◌≡◌, ℕ, ◌+◌, ◌*◌, ◌≤◌, None, List, ◌++◌, length, All}
+use mathlib.Core.List.{IsPrefix}
 use Rattle.task_set.specs.TaskSet.{SetData, IsTaskSet}
-use Rattle.task_set.specs.Orders.{IsObeyable, task_held}
-use Rattle.task_set.specs.declared.order.Order.{Order}
-use Rattle.task_set.specs.declared.order.Order.TheVariants.{Release, Take, Run, Stop}
+use Rattle.task_set.specs.Orders.{IsObeyable, task_held, NamesTaskBelow, TakesBelow}
 use Rattle.link_table.specs.declared.reply.Entry.{Entry}
-use Rattle.link_table.specs.State.{start_of, task_on}
+use Rattle.link_table.specs.State.{State, start_of, task_on}
 use Rattle.link_table.specs.History.{IsLegal, state_after}
 use Rattle.link_table.specs.Dispatch.{orders_of, closed_orders_of}
 
@@ -27,26 +26,17 @@ abbrev pub OrdersCount : Type 0
 OrdersCount = (set : SetData) (history : List Entry) (p : ℕ) → IsLegal set history
     → (length (orders_of (start_of set) history p) ≤ 2 * length history) × (length (closed_orders_of (start_of set) history p) ≤ length (orders_of (start_of set) history p) + 2)
 
--- a task that the order names is below n
-abbrev pub NamesTaskBelow : ℕ → Order → Type 0
-NamesTaskBelow n (Release task) = task < n
-NamesTaskBelow n (Take task number) = task < n
-NamesTaskBelow n (Run units) = Unit {0}
-NamesTaskBelow n Stop = Unit {0}
-
 -- each order of a legal history of a set, before the close and at it, names a task of the set if it names one
 abbrev pub OrdersNameTasks : Type 0
 OrdersNameTasks = (set : SetData) (history : List Entry) (p : ℕ) → IsTaskSet set → IsLegal set history
     → All (NamesTaskBelow (length set.tasks)) (orders_of (start_of set) history p) × All (NamesTaskBelow (length set.tasks)) (closed_orders_of (start_of set) history p)
 
--- the number of the order, if it is a take, is below n
-abbrev pub TakesBelow : ℕ → Order → Type 0
-TakesBelow n (Release task) = Unit {0}
-TakesBelow n (Take task number) = number < n
-TakesBelow n (Run units) = Unit {0}
-TakesBelow n Stop = Unit {0}
-
 -- the number of each take by a legal history is less than the length of the history
 abbrev pub TakeNumbersSmall : Type 0
 TakeNumbersSmall = (set : SetData) (history : List Entry) (p : ℕ) → IsTaskSet set → IsLegal set history
     → All (TakesBelow (length history)) (orders_of (start_of set) history p) × All (TakesBelow (length history)) (closed_orders_of (start_of set) history p)
+
+-- a processor's orders of the beginning of a history begin those of the whole, before the close and with it
+abbrev pub OrdersOnlyGrow : Type 0
+OrdersOnlyGrow = (start : State) (front rest : List Entry) (p : ℕ)
+    → IsPrefix (orders_of start front p) (orders_of start (front ++ rest) p) × IsPrefix (orders_of start front p) (closed_orders_of start (front ++ rest) p)

@@ -2,7 +2,7 @@
 //! is the contract of a function that does nothing: a caller in a proof gets the law by its clause.
 ghost use Rattle.sched_core.specs.ImprovingLaw.{LegalHistoryHasNoImprovingChain};
 ghost use Rattle.sched_core.specs.LegalLaw.{LegalHistoryHasCertificates, LegalHistoryIsBest, LegalHistoryIsMostUrgent};
-ghost use Rattle.sched_core.specs.OrderLaws.{OrdersObeyable, OrdersCount, OrdersNameTasks, TakeNumbersSmall};
+ghost use Rattle.sched_core.specs.OrderLaws.{OrdersObeyable, OrdersCount, OrdersNameTasks, TakeNumbersSmall, OrdersOnlyGrow};
 ghost use Rattle.sched_core.specs.StepLaws.{StepExists, LegalHistoryExists, LegalHistoryIsUnique};
 ghost use Rattle.sched_core.specs.StintLaw.{StintsGiveContext, StintsAreTakes};
 
@@ -24,6 +24,11 @@ pub fn orders_name_tasks()
 /// The number of each take is less than the number of events.
 pub fn take_numbers_are_small()
     ensures { TakeNumbersSmall }
+{}
+
+/// A processor's orders only grow: what was sent of them stays right, whatever entries follow.
+pub fn orders_only_grow()
+    ensures { OrdersOnlyGrow }
 {}
 
 /// In every state the scheduler has a reply to every event of one of the tasks, and a state to go to.

@@ -7,3 +7,4 @@ pub mod Refusals
 pub mod Obeyable
 pub mod Stints
 pub mod Carried
+pub mod CarriedLast

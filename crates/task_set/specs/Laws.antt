@@ -1,10 +1,10 @@
 -- Laws of orders, stints and carried contexts. What a reader must believe: nothing beyond the definitions that the laws
 -- speak of; each law is proved as the contract of a function of `laws`.
-use Rattle.std.specs.Prelude.{◌≡◌, ◌≢◌, ℕ, ◌<◌, ◌≤◌, ◌==◌, List, [], ◌∷◌, ◌++◌, filter, All, AllPairs, IsPermutation}
+use Rattle.std.specs.Prelude.{◌≡◌, ◌≢◌, ℕ, true, ◌<◌, ◌≤◌, ◌==◌, List, [], ◌∷◌, ◌++◌, filter, All, AllPairs, IsPermutation, IfSome}
 use Rattle.std.specs.List.{flat_map}
 use Rattle.task_set.specs.declared.order.Order.{Order}
 use Rattle.task_set.specs.declared.order.Order.TheVariants.{Stop}
-use Rattle.task_set.specs.Orders.{IsObeyable, MayCome, task_held, Stint, stint_orders, stints_in, stints_from, stint_under_way}
+use Rattle.task_set.specs.Orders.{IsObeyable, MayCome, task_held, has_stop, Stint, stint_orders, stints_in, stints_from, stint_under_way}
 use Rattle.task_set.specs.Context.{context_after_stint, stints_of_task, carried_context}
 
 -- each front of an obeyable list is obeyable
@@ -14,6 +14,14 @@ PrefixIsObeyable = (front rest : List Order) → IsObeyable (front ++ rest) → 
 -- an obeyable list without Stop, and an order that may come after it, are obeyable
 abbrev pub OneMoreIsObeyable : Type 0
 OneMoreIsObeyable = (orders : List Order) (next : Order) → IsObeyable orders → All (λ order. order ≢ Stop) orders → MayCome (task_held orders) next → IsObeyable (orders ++ next ∷ [])
+
+-- an order that follows others in an obeyable list may come after them
+abbrev pub NextMayCome : Type 0
+NextMayCome = (orders : List Order) (next : Order) → IsObeyable (orders ++ next ∷ []) → MayCome (task_held orders) next
+
+-- nothing follows Stop in an obeyable list
+abbrev pub StopEndsOrders : Type 0
+StopEndsOrders = (orders more : List Order) → IsObeyable (orders ++ more) → has_stop orders ≡ true → more ≡ []
 
 -- the stints of a list and more orders: those of the list, then those that end in the other orders
 abbrev pub StintsOfMoreOrders : Type 0
@@ -43,3 +51,8 @@ LatestStintCarried = (before after : List Stint) (latest : Stint) → IsLatest (
 -- a stint changes the context of no other task
 abbrev pub OtherTasksCarried : Type 0
 OtherTasksCarried = (t : ℕ) (before after : List Stint) (stint : Stint) → stint.task ≢ t → carried_context t (before ++ stint ∷ after) ≡ carried_context t (before ++ after)
+
+-- a context that a task carried is of that task, and where each stint ran on a processor below n, so did the last
+abbrev pub CarriedIsOfItsTask : Type 0
+CarriedIsOfItsTask = (n t : ℕ) (stints : List Stint) → All (λ stint. stint.processor < n) stints
+    → ((carried_context t stints).task ≡ t) × IfSome (carried_context t stints).last (λ p. p < n)

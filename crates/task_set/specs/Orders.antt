@@ -1,7 +1,7 @@
 -- Lists of orders to one processor. What a reader must believe: a processor holds one task or nobody, and nobody at
 -- first; it takes a task only while it holds nobody, runs and releases only the task that it holds, and stops only
 -- while it holds nobody, with its last order. A stint is what it does with a task from a take to the next release.
-use Rattle.std.specs.Prelude.{◌≡◌, ℕ, Option, None, Some, List, [], ◌∷◌, ◌++◌, map, fold, option_to_list}
+use Rattle.std.specs.Prelude.{◌≡◌, ℕ, ◌<◌, Bool, true, false, Option, None, Some, List, [], ◌∷◌, ◌++◌, map, fold, option_to_list}
 use Rattle.task_set.specs.declared.order.Order.{Order}
 use Rattle.task_set.specs.declared.order.Order.TheVariants.{Release, Take, Run, Stop}
 
@@ -42,6 +42,28 @@ IsObeyable orders = IsObeyableFrom None orders
 -- who is held after a list of orders
 abbrev pub task_held : List Order → Option ℕ
 task_held orders = fold held_after None orders
+
+-- Stop is among the orders
+abbrev pub has_stop : List Order → Bool
+has_stop [] = false
+has_stop (Stop ∷ rest) = true
+has_stop (Take task number ∷ rest) = has_stop rest
+has_stop (Release task ∷ rest) = has_stop rest
+has_stop (Run units ∷ rest) = has_stop rest
+
+-- a task that the order names is below n
+abbrev pub NamesTaskBelow : ℕ → Order → Type 0
+NamesTaskBelow n (Release task) = task < n
+NamesTaskBelow n (Take task number) = task < n
+NamesTaskBelow n (Run units) = Unit {0}
+NamesTaskBelow n Stop = Unit {0}
+
+-- the number of the order, if it is a take, is below n
+abbrev pub TakesBelow : ℕ → Order → Type 0
+TakesBelow n (Release task) = Unit {0}
+TakesBelow n (Take task number) = number < n
+TakesBelow n (Run units) = Unit {0}
+TakesBelow n Stop = Unit {0}
 
 -- a stint: a task is taken for the stint with this number on this processor, run for each of these units, and released
 pub record Stint : Type 0 where
