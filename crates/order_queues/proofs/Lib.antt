@@ -1,0 +1,4 @@
+pub mod Sums
+pub mod QueueSteps
+pub mod CountSteps
+pub mod Feeds

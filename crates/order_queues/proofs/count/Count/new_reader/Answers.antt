@@ -1,0 +1,6 @@
+use Rattle.std.proofs.Common.{rules, arith, refl}
+use Rattle.order_queues.proofs.CountSteps.{split_keeps}
+use Rattle.order_queues.proofs.count.Count.new_reader.Goals as goal
+
+pub split_seat-seat-requires : goal.split_seat-seat-requires
+split_seat-seat-requires c = (search rules, search rules, split_keeps _ _ _ refl refl (omega arith))

@@ -1,0 +1,9 @@
+pub mod Queue
+pub mod Count
+pub mod Ties
+pub mod Ends
+pub mod Views
+pub mod QueueModel
+pub mod SenderModel
+pub mod ReceiverModel
+pub mod EyeModel
