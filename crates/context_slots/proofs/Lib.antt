@@ -1,0 +1,8 @@
+pub mod Sums
+pub mod Keeps
+pub mod Gathering
+pub mod Closing
+pub mod Carrying
+pub mod Sorting
+pub mod Opening
+pub mod Trials

@@ -1,0 +1,10 @@
+pub mod Contexts
+pub mod HandOver
+pub mod Hands
+pub mod HandSteps
+pub mod HandSeats
+pub mod HeldParts
+pub mod HandParts
+pub mod SlotsParts
+pub mod Carried
+pub mod Homes
