@@ -1,0 +1,4 @@
+pub mod Obeying
+pub mod WorkingHandParts
+pub mod Stepping
+pub mod ProcessorParts
