@@ -1,0 +1,14 @@
+pub mod Crews
+pub mod Flushes
+pub mod Gathers
+pub mod Joins
+pub mod Keeps
+pub mod Lists
+pub mod Meets
+pub mod Merging
+pub mod Owes
+pub mod Passes
+pub mod Prefixes
+pub mod Sending
+pub mod Sums
+pub mod Turns

@@ -1,0 +1,13 @@
+-- What contracts see of what a turn gives, and what it keeps.
+use Rattle.std.specs.Prelude.{◌≡◌, length}
+use Rattle.event_history.specs.Holdings.{HeldData, SentBegins}
+use Rattle.event_history.specs.declared.held.Held.TheInside.{Inside}
+
+-- the core and the senders
+abbrev pub held_data : Inside → HeldData
+held_data a = record { core = a.core; senders = a.senders.items }
+
+-- one sender for each processor; what each sent begins its processor's orders
+pub record IsHeld (a : Inside) : Type 0 where
+  pub count : length a.senders.items ≡ a.core.start.processors
+  pub begins : SentBegins a.core a.senders.items

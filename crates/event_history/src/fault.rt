@@ -1,0 +1,57 @@
+//! What a post answers, and why making, posting to or closing a board is refused.
+use crate::board::Board;
+use crate::pass::Pass;
+use link_table::Reply;
+use order_queues::Sender;
+
+/// Where an entry stands in the history, and the reply to its event.
+#[derive(Debug, Drop, PartialEq)]
+pub struct Receipt {
+    /// The number of entries before it.
+    pub place: u64,
+
+    /// A copy of the reply in the entry.
+    pub reply: Reply,
+}
+
+/// Why a try to post ended without an entry.
+#[derive(Clone, Copy, Debug, PartialEq, Eq)]
+pub enum PostFault {
+    /// Another caller had the turn, or took a turn first. `found` is the turn word that showed it. To try again is right.
+    Busy { found: u64 },
+
+    /// The core is closed. No later try is answered otherwise.
+    Closed,
+
+    /// The core is open, and its history has as many entries as a history may have.
+    Full,
+
+    /// There was no memory for one more entry. The history is as it was.
+    OutOfMemory,
+}
+
+/// Why a post ended without an entry.
+#[derive(Clone, Copy, Debug, PartialEq, Eq)]
+pub enum EndFault {
+    /// The core is closed. No later try is answered otherwise.
+    Closed,
+
+    /// The core is open, and its history has as many entries as a history may have.
+    Full,
+
+    /// There was no memory for one more entry. The history is as it was.
+    OutOfMemory,
+}
+
+/// A board was not made: out of memory. The senders come back.
+#[derive(Drop)]
+pub struct Unmade {
+    pub senders: Vec<Sender>,
+}
+
+/// A board was not closed: out of memory. The board and its passes come back as they were.
+#[derive(Drop)]
+pub struct Unfinished {
+    pub board: Board,
+    pub passes: Vec<Pass>,
+}
