@@ -1,0 +1,36 @@
+-- The replay of events on one thread: the history has one entry for each event, in their order, and is legal; the
+-- contexts are those that the history gives the tasks.
+use Rattle.std.specs.Prelude.{◌≡◌, ℕ, List, length, map}
+use Rattle.std.specs.List.{range_with_len}
+use Rattle.task_set.specs.TaskSet.{SetData}
+use Rattle.task_set.specs.declared.context.Context.{Context}
+use Rattle.link_table.specs.declared.reply.Entry.{Entry}
+use Rattle.link_table.specs.State.{start_of}
+use Rattle.link_table.specs.History.{IsLegal}
+use Rattle.link_table.specs.Dispatch.{context_of}
+use Rattle.reach_certificate.specs.Passing.{IsOfTask}
+use Rattle.sched_core.specs.CoreData.{CoreData, Applied}
+use Rattle.trace_reader.specs.declared.posted.Posted.{Posted}
+
+-- the contexts that a history gives the tasks of a set, in their order
+abbrev pub contexts_of : SetData → List Entry → List Context
+contexts_of set history = map (context_of (start_of set) history) (range_with_len 0 (length set.tasks))
+
+-- the posted event is of a task of the set, or of none
+abbrev pub IsKnown : SetData → Posted → Type 0
+IsKnown set posted = IsOfTask (length set.tasks) posted.event
+
+-- the posted event was applied to a core, on its stream
+abbrev pub IsPosted : CoreData → Posted → CoreData → Type 0
+IsPosted old posted new = (place : ℕ) × Applied old posted.stream posted.event place new
+
+-- the event that an entry is of, on its stream
+abbrev pub posted_of : Entry → Posted
+posted_of entry = record { stream = entry.caller; event = entry.event }
+
+-- the schedule of these events: the history has an entry for each event, in their order, and is legal; and the context
+-- of each task, in task order, is the one that the history gives it
+pub record Schedules (set : SetData) (events : List Posted) (entries : List Entry) (contexts : List Context) : Type 0 where
+  pub each_event : map posted_of entries ≡ events
+  pub legal : IsLegal set entries
+  pub each_context : contexts ≡ contexts_of set entries
