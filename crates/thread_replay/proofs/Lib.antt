@@ -1,0 +1,6 @@
+pub mod Places
+pub mod Posting
+pub mod Seating
+pub mod Results
+pub mod Ending
+pub mod Merging

@@ -1,0 +1,16 @@
+use Rattle.std.proofs.Common.{◌≡◌, ℕ, ◌+◌, ◌≤◌, length, MatchResult}
+use Rattle.std.specs.Vec.{vec_capacity}
+use Rattle.thread_replay.specs.Places.{AllFrom}
+use Rattle.thread_replay.specs.Seats.{IsSeatedAt, IsIdleAt}
+use Rattle.thread_replay.proofs.workers.start_all.Given as goal
+
+abbrev pub invariant-loop-processor : goal.invariant-loop-processor
+invariant-loop-processor g l = record {
+  count : length l.processors.items + length l.workers.items ≡ length l.queues;
+  idle : AllFrom (IsIdleAt l.queues l.slots) 0 l.processors.items;
+  room : length l.queues ≤ vec_capacity l.workers;
+  each : AllFrom (λ n worker. MatchResult worker (λ h. (h.promise.queues.now ≡ l.queues) × (h.promise.slots.now ≡ l.slots) × (h.promise.number ≡ n)) (IsSeatedAt l.queues l.slots n)) (length l.processors.items) l.workers.items;
+}
+
+abbrev pub decreases-loop-processor : goal.decreases-loop-processor
+decreases-loop-processor g l = length l.processors.items

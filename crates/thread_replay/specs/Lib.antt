@@ -1,0 +1,6 @@
+pub mod Merge
+pub mod Places
+pub mod Replayed
+pub mod Seats
+pub mod Streams
+pub mod Threading

@@ -1,0 +1,241 @@
+//! The replay of events on threads: a worker for each processor, and a thread for each stream that has events.
+ghost use Rattle.std.specs.Prelude.{◌≡◌, ◌≤◌, [], All, Bool, true, length, vec_capacity, IfOk, MatchResult};
+ghost use Rattle.event_history.specs.Boards.{AreAll, AreEyesOf, AreFor, Grown, IsMade};
+ghost use Rattle.thread_replay.specs.Places.{AllFrom};
+ghost use Rattle.thread_replay.specs.Replayed.{HaveAllStints, IsReplayOf};
+ghost use Rattle.thread_replay.specs.Seats.{AreIdle, HasStoppedAt, IsSeatedAt};
+ghost use Rattle.thread_replay.specs.Streams.{IsForBoard, IsStreamedAt, IsUnused, SomeSawClose};
+ghost use Rattle.thread_replay.specs.Threading.{AreThreaded, CanRun};
+
+use crate::ends::end_all;
+use crate::flushing::{drain, flush_all};
+use crate::workers::Worker;
+use crate::{streams, workers};
+use affinity_mask::OutOfMemory;
+use context_slots::{Hand, Slots};
+use event_history::laws::board_is_made;
+use event_history::{Board, Pass};
+use order_queues::Queue;
+use processor_seat::{Gate, Processor};
+use sched_core::Core;
+use std::alloc::Global;
+use std::sync::Wait;
+use std::sync::atomic::AtomicBool;
+use std::thread;
+use std::thread::{Scope, Threads};
+use std::time::Clock;
+use trace_reader::Posted;
+
+/// The core of a replay, closed, and the hands of the processors, in the order of their numbers.
+#[derive(Drop)]
+pub struct Replayed {
+    pub core: Core,
+    pub hands: Vec<Hand>,
+}
+
+/// What the threads leave: the passes in the order of their callers, whether all events were posted, and the processors
+/// in the order of their numbers.
+#[derive(Drop)]
+struct Threaded {
+    passes: Vec<Pass>,
+    whole: bool,
+    processors: Vec<Processor>,
+}
+
+/// The pass of the last caller closes the core, and what is owed is sent and done.
+fn close_core<'s, R: Wait, G: Gate>(
+    rt: &R,
+    board: &Board,
+    queues: &[Queue],
+    slots: &Slots,
+    gate: &G,
+    pass: &mut Pass,
+    workers: &mut Vec<Worker<'s>>,
+)
+    requires board { pass.old.board ≡ board.now.id }
+    requires queues { queues.now ≡ board.now.queues }
+    requires eyes { AreEyesOf board.now.queues pass.old.eyes }
+    requires tasks { AreFor slots.now.set queues.now }
+    requires each { AllFrom (λ n worker. MatchResult worker
+        (λ h. (h.promise.queues.now ≡ queues.now) × (h.promise.slots.now ≡ slots.now) × (h.promise.number ≡ n))
+        (IsSeatedAt queues.now slots.now n)) 0 workers.old.items }
+    ensures grown { Grown pass.old pass.new }
+    ensures mine { pass.new.mine ≡ pass.old.mine }
+    ensures eyes { AreEyesOf board.now.queues pass.new.eyes }
+    ensures closed { pass.new.saw_close ≡ true }
+    ensures each { AllFrom (λ n worker. MatchResult worker
+        (λ h. (h.promise.queues.now ≡ queues.now) × (h.promise.slots.now ≡ slots.now) × (h.promise.number ≡ n))
+        (IsSeatedAt queues.now slots.now n)) 0 workers.new.items }
+    ensures count { length workers.new.items ≡ length workers.old.items }
+{
+    board.finish(rt, pass);
+    drain(rt, board, queues, slots, gate, pass, workers);
+    flush_all(rt, board, queues, pass);
+}
+
+/// The pass of the last caller closes the core; the passes come back in their order.
+fn close_by_last<'s, R: Wait, G: Gate>(
+    rt: &R,
+    board: &Board,
+    queues: &[Queue],
+    events: &[Posted],
+    slots: &Slots,
+    gate: &G,
+    passes: &mut Vec<Pass>,
+    whole: bool,
+    workers: &mut Vec<Worker<'s>>,
+)
+    requires queues { queues.now ≡ board.now.queues }
+    requires tasks { AreFor slots.now.set queues.now }
+    requires callers { (1 ≤ board.now.callers) × (length passes.old.items ≡ board.now.callers) }
+    requires streamed { AllFrom (IsStreamedAt board.now events.now whole) 0 passes.old.items }
+    requires each { AllFrom (λ n worker. MatchResult worker
+        (λ h. (h.promise.queues.now ≡ queues.now) × (h.promise.slots.now ≡ slots.now) × (h.promise.number ≡ n))
+        (IsSeatedAt queues.now slots.now n)) 0 workers.old.items }
+    ensures callers { length passes.new.items ≡ board.now.callers }
+    ensures streamed { AllFrom (IsStreamedAt board.now events.now whole) 0 passes.new.items }
+    ensures closed { SomeSawClose passes.new.items }
+    ensures each { AllFrom (λ n worker. MatchResult worker
+        (λ h. (h.promise.queues.now ≡ queues.now) × (h.promise.slots.now ≡ slots.now) × (h.promise.number ≡ n))
+        (IsSeatedAt queues.now slots.now n)) 0 workers.new.items }
+    ensures count { length workers.new.items ≡ length workers.old.items }
+{
+    let Some(mut last) = passes.pop() else {
+        unreachable!()
+    };
+    close_core(rt, board, queues, slots, gate, &mut last, workers);
+    if let Err(_full) = passes.push(last) {
+        unreachable!()
+    }
+}
+
+/// Starts all threads, closes the core once the streams are joined, and joins the workers. All memory of the joins is
+/// taken before the first start, since a worker that was started waits for its `Stop`.
+fn run_threads<'s, E, R: Threads + Wait + Clock + Sync, G: Gate + Sync>(
+    scope: &Scope<'s, E>,
+    rt: &'s R,
+    alloc: Global,
+    board: &'s Board,
+    queues: &'s [Queue],
+    slots: &'s Slots,
+    events: &'s [Posted],
+    refused: &'s [AtomicBool],
+    gate: &'s G,
+    passes: Vec<Pass>,
+    processors: Vec<Processor>,
+) -> Result<Threaded, OutOfMemory>
+    requires run { CanRun board.now queues.now slots.now events.now passes.items processors.items }
+    requires flags { length refused.now ≡ length queues.now }
+    ensures { IfOk result (AreThreaded board.entry.now events.entry.now queues.entry.now slots.entry.now) }
+{
+    let started = Vec::with_capacity(alloc, queues.len())?;
+    let posting = Vec::with_capacity(alloc, passes.len())?;
+    let posted = Vec::with_capacity(alloc, passes.len())?;
+    let stopped = Vec::with_capacity(alloc, queues.len())?;
+    let mut started = workers::start_all(
+        scope, rt, queues, slots, gate, refused, processors, started,
+    );
+    let posting = streams::start_all(scope, rt, board, queues, events, gate, passes, posting);
+    let (mut passes, whole) = streams::join_all(rt, board, events, posting, posted);
+    close_by_last(
+        rt,
+        board,
+        queues,
+        events,
+        slots,
+        gate,
+        &mut passes,
+        whole,
+        &mut started,
+    );
+    let processors = workers::join_all(rt, queues, slots, gate, started, stopped);
+    Ok(Threaded {
+        passes,
+        whole,
+        processors,
+    })
+}
+
+/// Runs the threads in a scope of their own.
+fn in_threads<R: Threads + Wait + Clock + Sync, G: Gate + Sync>(
+    rt: &R,
+    alloc: Global,
+    board: &Board,
+    queues: &[Queue],
+    slots: &Slots,
+    events: &[Posted],
+    refused: &[AtomicBool],
+    gate: &G,
+    passes: Vec<Pass>,
+    processors: Vec<Processor>,
+) -> Result<Threaded, OutOfMemory>
+    requires run { CanRun board.now queues.now slots.now events.now passes.items processors.items }
+    requires flags { length refused.now ≡ length queues.now }
+    ensures { IfOk result (AreThreaded board.now events.now queues.now slots.now) }
+{
+    thread::scope(
+        thread::scope_env(),
+        rt,
+        move |scope| -> Result<Threaded, OutOfMemory>
+            requires { CanRun board.now queues.now slots.now events.now passes.items processors.items × (length refused.now ≡ length queues.now) }
+            ensures { IfOk result (AreThreaded board.entry.now events.entry.now queues.entry.now slots.entry.now) }
+        {
+            run_threads(
+                scope, rt, alloc, board, queues, slots, events, refused, gate, passes, processors,
+            )
+        },
+    )
+}
+
+/// Flags that are not raised, one for each worker.
+fn flags(alloc: Global, count: usize) -> Result<Vec<AtomicBool>, OutOfMemory>
+    ensures { IfOk result (λ flags. length flags.items ≡ count) }
+{
+    let mut flags = Vec::with_capacity(alloc, count)?;
+    for _ in 0..count {
+        flags.push_reserved(AtomicBool::new(false));
+    }
+    Ok(flags)
+}
+
+/// Replays events on threads. In a scope it starts a thread for each processor, which obeys the orders that come through
+/// its queue, and a thread for each stream that has events, which posts them in their order. Then the core is closed, the
+/// threads are joined, and the board and the queues are settled. What a refused start would have done the caller does.
+/// A queue, a receiver and a hand are those of the processor's number. Out of memory comes where memory is refused, and
+/// where an event could not be posted; all that was handed in by value is dropped then.
+pub fn replay<R: Threads + Wait + Clock + Sync, G: Gate + Sync>(
+    rt: &R,
+    alloc: Global,
+    board: Board,
+    passes: Vec<Pass>,
+    queues: Vec<Queue>,
+    slots: &Slots,
+    processors: Vec<Processor>,
+    events: &[Posted],
+    gate: &G,
+) -> Result<Replayed, OutOfMemory>
+    requires passes { AreAll board passes.items }
+    requires unused { All IsUnused passes.items }
+    requires queues { queues.items ≡ board.queues }
+    requires idle { AreIdle queues.items slots.now processors.items }
+    requires one_set { slots.now.set ≡ board.set }
+    requires events { All (IsForBoard board) events.now }
+    ensures core { IfOk result (λ done. IsReplayOf slots.now.set events.now done.core) }
+    ensures hands { IfOk result (λ done. HaveAllStints slots.now done.core.history done.hands.items) }
+{
+    board_is_made(&board);
+    let refused = flags(alloc, queues.len())?;
+    let hands = Vec::with_capacity(alloc, queues.len())?;
+    let done = in_threads(
+        rt, alloc, &board, &queues, slots, events, &refused, gate, passes, processors,
+    )?;
+    let (core, senders) = match board.close(done.passes) {
+        Ok(parts) => parts,
+        Err(_unfinished) => return Err(OutOfMemory),
+    };
+    let hands = end_all(slots, &core, queues, senders, done.processors, hands);
+    if !done.whole {
+        return Err(OutOfMemory);
+    }
+    Ok(Replayed { core, hands })
+}
