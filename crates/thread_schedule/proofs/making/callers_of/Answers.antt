@@ -1,0 +1,24 @@
+use Rattle.std.proofs.Common.{◌≡◌, ◌+◌, ◌<◌, ◌≤◌, ℕ, take, length, arith, All, ap, ◌∙◌, subst, List}
+use Rattle.std.proofs.lemmas.List.Elements.{All-more, All-weaker}
+use Rattle.std.proofs.Math.Seq.{take-length}
+use Rattle.trace_reader.specs.declared.posted.Posted.{Posted}
+use Rattle.thread_schedule.proofs.making.callers_of.Goals as goal
+
+pub loop-posted-preserved : goal.loop-posted-preserved
+loop-posted-preserved c =
+    let events : List Posted = c.args.events.now in
+    let i = c.loop-posted.invariant in
+    let more = c.with_stream-callers.ensures.more in
+    record {
+      least = omega (arith, i.least, more.0);
+      most = more.1;
+      above = All-more (λ (p : Posted). p.stream < c.with_stream-callers.result) events c.loop-posted.posted-index _ c.loop-posted-test.true
+          (All-weaker (λ (p : Posted). p.stream < c.loop-posted.callers) (λ (p : Posted). p.stream < c.with_stream-callers.result) (λ p low. omega (arith, low, more.0)) (take c.loop-posted.posted-index events) i.above)
+          c.with_stream-callers.ensures.above;
+    }
+
+pub returns-clause-above : goal.returns-clause-above
+returns-clause-above c =
+    let events : List Posted = c.args.events.now in
+    let at_end : c.loop-posted.posted-index ≡ length events = omega arith in
+    subst (All (λ (p : Posted). p.stream < c.loop-posted.callers)) (ap (λ n. take n events) at_end ∙ take-length events) c.loop-posted.invariant.above

@@ -1,0 +1,10 @@
+use Rattle.std.proofs.Common.{◌<◌, ◌≤◌, take, All}
+use Rattle.trace_reader.specs.declared.posted.Posted.{Posted}
+use Rattle.thread_schedule.proofs.making.callers_of.Given as goal
+
+abbrev pub invariant-loop-posted : goal.invariant-loop-posted
+invariant-loop-posted l = record {
+  least : 1 ≤ l.callers;
+  most : l.callers ≤ 16;
+  above : All (λ (posted : Posted). posted.stream < l.callers) (take l.posted-index l.events);
+}

@@ -1,0 +1,12 @@
+//! The schedule of an input's events, run on threads.
+//!
+//! [`schedule_of`] makes a queue and a processor for each processor of the set, a board over the set and the slots of the
+//! contexts, replays the events on threads, and closes the slots: the contexts are those that the workers carried.
+#![tactic(auto)]
+
+mod making;
+mod schedule;
+#[cfg(test)]
+mod tests;
+
+pub use schedule::{Schedule, schedule_of};

@@ -1,0 +1,103 @@
+//! What a replay on threads begins with.
+ghost use Rattle.std.specs.Prelude.{◌≡◌, ◌≤◌, ◌<◌, All, IfOk, length, map};
+ghost use Rattle.task_set.specs.TaskSet.{IsTaskSet};
+ghost use Rattle.context_slots.specs.Hands.{AreNew};
+ghost use Rattle.order_queues.specs.Ends.{new_receiver, new_sender};
+ghost use Rattle.event_history.specs.Boards.{AreFor};
+ghost use Rattle.thread_replay.specs.Seats.{AreIdle};
+ghost use Rattle.trace_reader.specs.declared.posted.Posted.{Posted};
+
+use affinity_mask::OutOfMemory;
+use context_slots::{Hand, Slots};
+use order_queues::{Queue, Receiver, Sender};
+use processor_seat::Processor;
+use std::alloc::Global;
+use task_set::TaskSet;
+use trace_reader::Posted;
+
+/// How many callers a board needs for these events: the greatest stream plus one, and at least one.
+pub fn callers_of(events: &[Posted]) -> u32
+    requires { All (λ (posted : Posted). posted.stream < 16) events.now }
+    ensures bounds { (1 ≤ result) × (result ≤ 16) }
+    ensures above { All (λ (posted : Posted). posted.stream < result) events.now }
+{
+    let mut callers = 1;
+    for posted in events {
+        callers = with_stream(callers, posted.stream);
+    }
+    callers
+}
+
+/// So many callers, or as many as this stream needs where it needs more.
+fn with_stream(callers: u32, stream: u32) -> u32
+    requires stream { stream < 16 }
+    requires most { callers ≤ 16 }
+    ensures more { (callers ≤ result) × (result ≤ 16) }
+    ensures above { stream < result }
+{
+    if stream < callers {
+        callers
+    } else {
+        stream + 1
+    }
+}
+
+/// The queues of all processors, in the order of their numbers, with their ends.
+#[derive(Drop)]
+pub struct Queues {
+    pub queues: Vec<Queue>,
+    pub senders: Vec<Sender>,
+    pub receivers: Vec<Receiver>,
+}
+
+/// A queue for each processor of the set, for as many tasks as it has.
+pub fn queues_for(alloc: Global, set: &TaskSet) -> Result<Queues, OutOfMemory>
+    ensures valid { IsTaskSet set.now }
+    ensures one_each { IfOk result (λ made. length made.queues.items ≡ set.now.processors) }
+    ensures senders { IfOk result (λ made. made.senders.items ≡ map new_sender made.queues.items) }
+    ensures receivers { IfOk result (λ made. made.receivers.items ≡ map new_receiver made.queues.items) }
+    ensures tasks { IfOk result (λ made. AreFor set.now made.queues.items) }
+{
+    let tasks = set.len();
+    let count = set.processors() as usize;
+    let mut queues = Vec::with_capacity(alloc, count)?;
+    let mut senders = Vec::with_capacity(alloc, count)?;
+    let mut receivers = Vec::with_capacity(alloc, count)?;
+    for _ in 0..count {
+        let (queue, sender, receiver) = Queue::new(alloc, tasks)?;
+        queues.push_reserved(queue);
+        senders.push_reserved(sender);
+        receivers.push_reserved(receiver);
+    }
+    Ok(Queues {
+        queues,
+        senders,
+        receivers,
+    })
+}
+
+/// A processor for each hand, with the receiver of its queue.
+pub fn processors_of(
+    alloc: Global,
+    slots: &Slots,
+    queues: &[Queue],
+    mut hands: Vec<Hand>,
+    mut receivers: Vec<Receiver>,
+) -> Result<Vec<Processor>, OutOfMemory>
+    requires hands { AreNew slots.now hands.items }
+    requires receivers { receivers.items ≡ map new_receiver queues.now }
+    requires one_each { length queues.now ≡ slots.now.set.processors }
+    ensures { IfOk result (λ processors. AreIdle queues.now slots.now processors.items) }
+{
+    let mut processors = Vec::with_capacity(alloc, hands.len())?;
+    while let Some(hand) = hands.pop() {
+        let Some(receiver) = receivers.pop() else {
+            unreachable!()
+        };
+        let processor = Processor::new(hand.number(), hand, receiver);
+        if let Err(_full) = processors.insert(0, processor) {
+            unreachable!()
+        }
+    }
+    Ok(processors)
+}
