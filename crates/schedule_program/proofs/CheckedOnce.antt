@@ -1,4 +1,5 @@
 -- A schedule is valid, or wrong in one line with one defect, and never both.
+use Rattle.event_replay.specs.Replay.{contexts_of}
 use Rattle.std.proofs.Common.{◌≡◌, ℕ, zero, suc, ◌+◌, ◌<◌, List, [], ◌∷◌, length, take, Some, refl, sym, ap, ◌∙◌, subst, inl, inr, arith}
 use Rattle.std.specs.Prelude.{slice_get}
 use Rattle.std.proofs.lemmas.Bool.{cases_lt}
@@ -14,7 +15,7 @@ use Rattle.reach_certificate.specs.declared.defect.Defect.{Defect}
 use Rattle.reach_certificate.proofs.Defects.{passing_has_no_defect, defect_is_unique}
 use Rattle.reach_certificate.proofs.Kept.{IsState-passed, IsPassingFrom-take}
 use Rattle.schedule_text.specs.Schedule.{ScheduleData, IsSchedule}
-use Rattle.schedule_program.specs.Check.{IsValid, HasDefectAt, HasWrongContextAt, IsInvalid, contexts_of}
+use Rattle.schedule_program.specs.Check.{IsValid, HasDefectAt, HasWrongContextAt, IsInvalid}
 
 -- the entry at a place of a front that passes
 passing_at : (s : State) (history : List Entry) (n m : ℕ) (entry : Entry) → n < m → IsPassingFrom s (take m history) → slice_get history n ≡ Some entry → Passes (state_after s (take n history)) entry.event entry.reply

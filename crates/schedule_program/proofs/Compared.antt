@@ -1,4 +1,5 @@
 -- The contexts of a schedule are compared with those of a checker, one after the other.
+use Rattle.event_replay.specs.Replay.{contexts_of}
 use Rattle.std.proofs.Common.{◌≡◌, ℕ, ◌+◌, ◌<◌, List, [], ◌∷◌, ◌++◌, length, take, get_or, Some, sym, ap, ◌∙◌, subst, arith}
 use Rattle.std.specs.Prelude.{slice_get}
 use Rattle.std.proofs.lemmas.List.{take_more, take_all}
@@ -9,7 +10,7 @@ use Rattle.link_table.specs.State.{start_of}
 use Rattle.link_table.specs.Dispatch.{context_of}
 use Rattle.reach_certificate.specs.Checker.{CheckerData}
 use Rattle.schedule_text.specs.Schedule.{ScheduleData, IsSchedule}
-use Rattle.schedule_program.specs.Check.{IsValid, HasBadContext, contexts_of, context_line_number, context_defect}
+use Rattle.schedule_program.specs.Check.{IsValid, HasBadContext, context_line_number, context_defect}
 use Rattle.schedule_program.specs.Checking.{HasFollowed}
 
 -- a checker that accepted all entries has the contexts that the history gives

@@ -1,26 +1,26 @@
--- The schedule of an input that is served, written down, is what the headline says.
+-- The replay of an input, written down, is what the headline says.
 use Rattle.std.proofs.Common.{◌≡◌, ℕ, List}
 use Rattle.task_set.specs.TaskSet.{SetData}
 use Rattle.task_set.specs.declared.context.Context.{Context}
-use Rattle.link_table.specs.declared.reply.Entry.{Entry}
 use Rattle.reach_certificate.proofs.Kept.{legal_is_best}
+use Rattle.sched_core.specs.CoreData.{CoreData}
 use Rattle.trace_reader.specs.declared.posted.Posted.{Posted}
 use Rattle.trace_reader.specs.InputText.{IsInputText}
-use Rattle.schedule_program.specs.Replay.{Schedules}
 use Rattle.schedule_text.specs.ScheduleText.{schedule_text}
+use Rattle.event_replay.specs.Replay.{contexts_of}
+use Rattle.thread_replay.specs.Replayed.{IsReplayOf}
 use Rattle.schedule_program.specs.Run.{Replays}
-use Rattle.schedule_program.proofs.Merged.{merged}
 
-pub headline : (read put : List ℕ) (set : SetData) (events : List Posted) (history : List Entry) (printed : List Context) → IsInputText read set events → Schedules set events history printed → put ≡ schedule_text set history printed → Replays read put
-headline read put set events history printed input schedule text = record {
+pub headline : (read put : List ℕ) (set : SetData) (events : List Posted) (core : CoreData) (printed : List Context) → IsInputText read set events → IsReplayOf set events core → printed ≡ contexts_of set core.history → put ≡ schedule_text set core.history printed → Replays read put
+headline read put set events core printed input replayed contexts text = record {
   set = set;
   events = events;
-  history = history;
+  history = core.history;
   printed = printed;
   input = input;
   text = text;
-  merge = merged events history schedule.each_event;
-  legal = schedule.legal;
-  best = legal_is_best set input.says.lawful history schedule.legal;
-  contexts = schedule.each_context;
+  merge = replayed.merge;
+  legal = replayed.over.legal;
+  best = legal_is_best set input.says.lawful core.history replayed.over.legal;
+  contexts = contexts;
 }

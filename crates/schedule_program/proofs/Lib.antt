@@ -3,12 +3,9 @@ mod CheckedText
 mod Compared
 mod Following
 mod Headline
-mod Known
-mod Merged
 mod MergedCounts
 mod OneText
 mod OneWord
 mod ToldBytes
 mod Refusals
 mod RunIsValid
-mod Running

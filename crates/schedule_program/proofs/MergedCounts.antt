@@ -4,16 +4,20 @@ use Rattle.std.proofs.Common.{◌≡◌, ℕ, zero, suc, ◌+◌, ◌<◌, ◌�
 use Rattle.std.specs.List.{AllZip}
 use Rattle.std.proofs.lemmas.Bool.{cases_eq, false≢true}
 use Rattle.std.proofs.lemmas.List.{length-map}
-use Rattle.std.proofs.lemmas.List.Elements.{All-nil, All-cons, All-head, All-tail, All-map, All-contains}
+use Rattle.std.proofs.lemmas.List.Elements.{All-nil, All-cons, All-head, All-tail, All-map, All-contains, All-weaker}
 use Rattle.task_set.specs.TaskSet.{TaskData, SetData}
 use Rattle.task_set.specs.declared.event.Event.{Event}
 use Rattle.task_set.specs.declared.event.Event.TheVariants.{Arrive, Depart, Tick}
 use Rattle.link_table.specs.declared.reply.Entry.{Entry}
 use Rattle.trace_reader.specs.declared.posted.Posted.{Posted}
+use Rattle.trace_reader.specs.EventText.{IsAboutSet}
+use Rattle.trace_reader.specs.Input.{IsPostedOf}
+use Rattle.event_replay.proofs.Known.{about_event}
 use Rattle.trace_reader.specs.InputText.{IsInputText, IsEventFields, IsEventLine, IsTaskLine}
 use Rattle.schedule_text.specs.Schedule.{HasUnits}
-use Rattle.schedule_program.specs.Merge.{events_of_stream, events_of_caller, streams_of, IsMerge}
-use Rattle.schedule_program.specs.Replay.{posted_of}
+use Rattle.event_history.specs.Merging.{events_of_caller}
+use Rattle.event_replay.specs.Replay.{posted_of}
+use Rattle.thread_replay.specs.Merge.{events_of_stream, streams_of, IsMerge}
 
 -- ---- a list by the numbers of its elements
 -- the sum of a function over the numbers below n
@@ -107,6 +111,11 @@ pub merge_posted : (P : Posted → Type 0) (events : List Posted) (history : Lis
 merge_posted P events history all merge = λ k d within.
     let s = (get_or history k d).caller in
     all_of_caller (OnStream P s) s history (subst (λ (es : List Event). All (OnStream P s) es) (sym (merge.each_stream s)) (all_of_stream P s events all)) k d within refl
+
+-- each entry of a merge of an input's events is about the set
+pub about_merged : (set : SetData) (events : List Posted) (history : List Entry) → All (IsPostedOf set) events → IsMerge events history → All (λ (entry : Entry). IsAboutSet set entry.event) history
+about_merged set events history posted merge =
+    All-weaker (λ (entry : Entry). IsPostedOf set (posted_of entry)) (λ (entry : Entry). IsAboutSet set entry.event) (λ entry at. about_event set entry.event at.event) history (merge_posted (IsPostedOf set) events history posted merge)
 
 -- ---- what the lines of an input say
 -- the posted event has the numbers of the format

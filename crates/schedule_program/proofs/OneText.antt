@@ -1,5 +1,6 @@
 -- Where the events of an input are of one stream, the headline allows one text: a merge of them has just one order, and so
 -- there is one legal history, with one context for each task.
+use Rattle.event_replay.specs.Replay.{contexts_of}
 use Rattle.std.proofs.Common.{◌≡◌, ℕ, ◌<◌, ◌==◌, true, List, [], ◌∷◌, map, filter, length, get_or, All, refl, sym, ap, ◌∙◌, subst, arith}
 use Rattle.std.proofs.lemmas.List.{get_or-map, length-map}
 use Rattle.std.proofs.lemmas.List.Elements.{All-head, All-tail}
@@ -10,9 +11,8 @@ use Rattle.sched_core.proofs.StepHistories.{legal_history_is_unique}
 use Rattle.schedule_text.specs.ScheduleText.{schedule_text}
 use Rattle.trace_reader.specs.declared.posted.Posted.{Posted}
 use Rattle.trace_reader.proofs.OneInput.{text_has_one_input}
-use Rattle.schedule_program.specs.Merge.{IsMerge, IsOnOneStream}
+use Rattle.thread_replay.specs.Merge.{IsMerge, IsOnOneStream}
 use Rattle.schedule_program.specs.Run.{Replays}
-use Rattle.schedule_program.specs.Check.{contexts_of}
 
 -- a filter that all elements pass keeps them all
 filter_passed : {X : Type 0} (number : X → ℕ) (stream : ℕ) (xs : List X) → All (λ x. number x ≡ stream) xs → filter (λ x. number x == stream) xs ≡ xs

@@ -1,19 +1,15 @@
 -- What a check of a schedule says. What a reader must believe: the bytes read are the text of one schedule; it is valid
 -- where each of its replies passes and each of its contexts is what its history gives; else the first entry that has a
 -- defect decides, or, where all pass, the first context that differs. Lines are numbered from 1.
-use Rattle.std.specs.Prelude.{◌≡◌, ◌≢◌, ◌⊎◌, ℕ, ◌+◌, ◌<◌, List, ◌++◌, length, map, take, codes, slice_get, Some}
-use Rattle.std.specs.List.{range_with_len}
+use Rattle.std.specs.Prelude.{◌≡◌, ◌≢◌, ◌⊎◌, ℕ, ◌+◌, ◌<◌, List, ◌++◌, length, take, codes, slice_get, Some}
 use Rattle.affinity_mask.specs.Number.{canonical_number}
-use Rattle.task_set.specs.TaskSet.{SetData}
-use Rattle.task_set.specs.declared.context.Context.{Context}
 use Rattle.link_table.specs.declared.reply.Entry.{Entry}
-use Rattle.link_table.specs.State.{start_of}
 use Rattle.link_table.specs.History.{state_at, IsBestThroughout}
-use Rattle.link_table.specs.Dispatch.{context_of}
 use Rattle.reach_certificate.specs.Defect.{IsDefect, number_of}
 use Rattle.reach_certificate.specs.Passing.{IsPassing}
 use Rattle.reach_certificate.specs.declared.defect.Defect.{Defect}
 use Rattle.trace_reader.specs.EventText.{line}
+use Rattle.event_replay.specs.Replay.{contexts_of}
 use Rattle.schedule_text.specs.Laws.{text_of_schedule}
 use Rattle.schedule_text.specs.Schedule.{ScheduleData, IsSchedule}
 use Rattle.schedule_text.specs.ScheduleFault.{IsScheduleRefused, kind_number}
@@ -23,10 +19,6 @@ use Rattle.schedule_text.specs.declared.fault.TextKind.{TextKind}
 pub record IsTextOf (bytes : List ℕ) (schedule : ScheduleData) : Type 0 where
   pub is_schedule : IsSchedule schedule
   pub text : bytes ≡ text_of_schedule schedule
-
--- the contexts that a history gives the tasks of a set, in their order
-abbrev pub contexts_of : SetData → List Entry → List Context
-contexts_of set history = map (context_of (start_of set) history) (range_with_len 0 (length set.tasks))
 
 -- each reply passes, and each context is what the history gives
 pub record IsValid (schedule : ScheduleData) : Type 0 where

@@ -1,11 +1,12 @@
 -- One step of a check. What a reader must believe: nothing; these are the contracts of private functions, and the public
 -- one says by the definitions of a valid and of a wrong schedule what was found.
+use Rattle.event_replay.specs.Replay.{contexts_of}
 use Rattle.std.specs.Prelude.{◌≡◌, ℕ, take}
 use Rattle.link_table.specs.History.{state_at}
 use Rattle.reach_certificate.specs.Checker.{CheckerData}
 use Rattle.reach_certificate.specs.Passing.{IsPassing}
 use Rattle.schedule_text.specs.Schedule.{ScheduleData}
-use Rattle.schedule_program.specs.Check.{HasBadEntry, HasBadContext, IsInvalid, contexts_of}
+use Rattle.schedule_program.specs.Check.{HasBadEntry, HasBadContext, IsInvalid}
 use Rattle.schedule_program.specs.declared.status.Status.{Status}
 use Rattle.schedule_program.specs.declared.status.Status.TheVariants.{Invalid}
 

@@ -1,6 +1,7 @@
 -- What a replay of an input is. What a reader must believe: the bytes read are the text of one input, and the bytes put
 -- are the schedule text of one history, which is a legal merge of its events, keeps the best set linked after every
 -- entry, and gives the contexts that are printed.
+use Rattle.event_replay.specs.Replay.{contexts_of}
 use Rattle.std.specs.Prelude.{◌≡◌, ℕ, List, Some}
 use Rattle.task_set.specs.TaskSet.{SetData}
 use Rattle.task_set.specs.declared.context.Context.{Context}
@@ -10,8 +11,8 @@ use Rattle.trace_reader.specs.declared.posted.Posted.{Posted}
 use Rattle.trace_reader.specs.declared.fault.InputKind.{InputKind}
 use Rattle.trace_reader.specs.InputText.{IsInputText}
 use Rattle.trace_reader.specs.InputFault.{IsInputRefused, kind_number}
-use Rattle.schedule_program.specs.Check.{IsTextOf, IsValid, contexts_of}
-use Rattle.schedule_program.specs.Merge.{IsMerge, IsOnOneStream}
+use Rattle.schedule_program.specs.Check.{IsTextOf, IsValid}
+use Rattle.thread_replay.specs.Merge.{IsMerge, IsOnOneStream}
 use Rattle.schedule_text.specs.Schedule.{ScheduleData}
 use Rattle.schedule_text.specs.ScheduleText.{schedule_text}
 

@@ -137,8 +137,8 @@ fn changed(alloc: Global, change: &Change) -> Result<Option<String>, AllocError>
 
 #[test]
 fn checked_texts(rt: HostRuntime) -> Result<(), Fail> {
-    assert!(rt; is_valid(rt.alloc(), SMALLEST_SCHEDULE, 1)?);
-    assert!(rt; is_valid(rt.alloc(), LONGER_CHAIN, 2)?);
+    assert!(rt; is_valid(&rt, rt.alloc(), SMALLEST_SCHEDULE, 1)?);
+    assert!(rt; is_valid(&rt, rt.alloc(), LONGER_CHAIN, 2)?);
     for change in &CHANGES {
         let text = changed(rt.alloc(), change)?;
         assert!(rt;
@@ -148,6 +148,7 @@ fn checked_texts(rt: HostRuntime) -> Result<(), Fail> {
             change.history
         );
         let (status, put) = replay(
+            &rt,
             rt.alloc(),
             &["check"],
             &text.unwrap_or(String::new(rt.alloc())),

@@ -7,22 +7,27 @@ ghost use Rattle.reach_certificate.specs.Passing.{IsOfTask};
 use crate::search_tests::all_below;
 use crate::status::Status;
 use crate::tests::{is_valid, replay};
+use crate::thread_tests::is_in_order;
 use link_table::{Links, Reply};
 use placement_laws::best_set;
 use sched_core::Core;
 use std::alloc::{AllocError, Global};
 use std::process::Abort;
 use std::str;
+use std::sync::Wait;
 use std::test::Fail;
+use std::thread::Threads;
+use std::time::Clock;
 use task_set::{Event, TaskSet};
 use trace_reader::read_input;
 
-/// The sizes of a generated input: numbers of processors, tasks and events.
+/// The sizes of a generated input: numbers of processors, tasks, events and streams.
 #[derive(Clone, Copy)]
 struct Sizes {
     processors: u32,
     tasks: u32,
     events: u32,
+    streams: u32,
 }
 
 /// Knuth's MMIX generator.
@@ -98,6 +103,7 @@ fn follow(ready: &mut Vec<u32>, event: Event) -> Result<(), AllocError> {
 fn generated_input(alloc: Global, number: u64, sizes: Sizes) -> Result<String, AllocError>
     requires some_processors { 0 < sizes.processors }
     requires some_tasks { 0 < sizes.tasks }
+    requires some_streams { 0 < sizes.streams }
 {
     let mut generator = Generator { state: number };
     let mut text = format!(in alloc; "apa 1\nprocessors {}\n", sizes.processors)?;
@@ -105,11 +111,12 @@ fn generated_input(alloc: Global, number: u64, sizes: Sizes) -> Result<String, A
         draw_task(&mut generator, &mut text, i, sizes.processors)?;
     }
     let mut ready = Vec::new(alloc);
-    for _ in 0..sizes.events {
+    for i in 0..sizes.events {
+        let stream = i % sizes.streams;
         match draw_event(&mut generator, &mut ready, sizes.tasks)? {
-            Event::Arrive(t) => writeln!(text, "0 arrive t{t}")?,
-            Event::Depart(t) => writeln!(text, "0 depart t{t}")?,
-            Event::Tick(units) => writeln!(text, "0 tick {units}")?,
+            Event::Arrive(t) => writeln!(text, "{stream} arrive t{t}")?,
+            Event::Depart(t) => writeln!(text, "{stream} depart t{t}")?,
+            Event::Tick(units) => writeln!(text, "{stream} tick {units}")?,
         }
     }
     writeln!(text, "end")?;
@@ -185,7 +192,7 @@ fn replay_number(
     sizes: Sizes,
     reached: &mut Reached,
 ) -> Result<(), Fail> {
-    assert!(rt; sizes.processors > 0 && sizes.tasks > 0);
+    assert!(rt; sizes.processors > 0 && sizes.tasks > 0 && sizes.streams > 0);
     let text = generated_input(rt.alloc(), number, sizes)?;
     let input = read_input(rt.alloc(), text.as_bytes()).expect(rt, "an input text");
     let mut core = Core::new(rt.alloc(), input.set())?;
@@ -212,6 +219,7 @@ fn generated_histories_match_the_greedy_set(rt: HostRuntime) -> Result<(), Fail>
         processors: 6,
         tasks: 10,
         events: 60,
+        streams: 1,
     };
     let mut reached = Reached::default();
     for number in 0u64..20 {
@@ -234,16 +242,59 @@ fn generated_schedules_are_valid(rt: HostRuntime) -> Result<(), Fail> {
             processors,
             tasks,
             events,
+            streams: 1,
         };
-        assert!(rt; sizes.processors > 0 && sizes.tasks > 0);
+        assert!(rt; sizes.processors > 0 && sizes.tasks > 0 && sizes.streams > 0);
         let text = generated_input(rt.alloc(), number, sizes)?;
-        let (status, put) = replay(rt.alloc(), &["run"], &text)?;
+        let (status, put) = replay(&rt, rt.alloc(), &["run"], &text)?;
         assert_eq!(rt; status, Status::Done);
         let schedule = str::from_utf8(&put).unwrap_or("");
         assert!(rt;
-            is_valid(rt.alloc(), schedule, events as usize)?,
+            is_valid(&rt, rt.alloc(), schedule, events as usize)?,
             "of {number}"
         );
+    }
+    Ok(())
+}
+
+/// Runs the input of a number, on so many streams, and checks what it puts.
+fn run_on_streams<R: Threads + Wait + Clock + Sync + Abort>(
+    rt: &R,
+    alloc: Global,
+    number: u64,
+    streams: u32,
+) -> Result<(), Fail> {
+    let sizes = Sizes {
+        processors: 6,
+        tasks: 10,
+        events: 60,
+        streams,
+    };
+    assert!(rt; sizes.streams > 0);
+    let text = generated_input(alloc, number, sizes)?;
+    let (status, put) = replay(rt, alloc, &["run"], &text)?;
+    assert_eq!(rt; status, Status::Done);
+    let schedule = str::from_utf8(&put).unwrap_or("");
+    assert!(rt;
+        is_valid(rt, alloc, schedule, 60)?,
+        "of {number} on {streams}"
+    );
+    for stream in 0..streams {
+        let own = format!(in alloc; "{stream} ")?;
+        assert!(rt;
+            is_in_order(&text, schedule, &own),
+            "of {number} on {streams}"
+        );
+    }
+    Ok(())
+}
+
+#[test]
+fn generated_inputs_on_several_streams(rt: HostRuntime) -> Result<(), Fail> {
+    for number in 0u64..67 {
+        for streams in [1, 3, 16] {
+            run_on_streams(&rt, rt.alloc(), number, streams)?;
+        }
     }
     Ok(())
 }

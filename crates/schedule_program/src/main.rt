@@ -8,15 +8,17 @@ mod check_tests;
 mod generated_tests;
 #[cfg(test)]
 mod histories;
-mod replay;
 mod run;
 #[cfg(test)]
 mod search_tests;
 mod status;
 #[cfg(test)]
 mod tests;
+#[cfg(test)]
+mod thread_tests;
 mod words;
 
+use processor_seat::OpenGate;
 use run::run;
 use shift_io::{StdSink, StdSource};
 use status::{Status, exit_status};
@@ -29,7 +31,7 @@ fn main(rt: HostRuntime) -> ExitCode {
         Ok(words) => {
             let mut source = StdSource::new(rt.reader());
             let mut sink = StdSink::new(io::writer(&rt));
-            run(rt.alloc(), &words, &mut source, &mut sink)
+            run(&rt, rt.alloc(), &words, &mut source, &mut sink, &OpenGate)
         }
         Err(error) if error.kind() == io::ErrorKind::OutOfMemory => Status::OutOfMemory,
         Err(_) => Status::Usage,

@@ -11,25 +11,32 @@ ghost use Rattle.schedule_program.specs.Run.{IsRunOf};
 ghost use Rattle.schedule_program.specs.Status.{BeforePut};
 
 use crate::check::checked_text;
-use crate::replay::schedule_of;
 use crate::status::Status;
 use crate::words::{Command, command_of};
+use processor_seat::Gate;
 use schedule_text::write_schedule;
 use shift_io::{ReadAllFault, Sink, Source, put_all, read_all};
 use std::alloc::Global;
+use std::sync::Wait;
+use std::thread::Threads;
+use std::time::Clock;
+use thread_schedule::schedule_of;
 use trace_reader::read_input;
 
 /// The most bytes that are read.
 pub const MAX_BYTES: usize = 16_777_216;
 
-/// Does what the words say. `run` reads the source to its end as an input text, replays its events, and puts the
-/// schedule text into the sink. `check` reads the source as a schedule text, whoever made it, and where that is a
+/// Does what the words say. `run` reads the source to its end as an input text, replays its events on threads, a worker
+/// for each processor and a thread for each stream that has events, and puts the schedule text into the sink. The gate is
+/// called before and after each post, and before the first try of each take. `check` reads the source as a schedule text, whoever made it, and where that is a
 /// valid schedule, puts how many entries it has.
-pub fn run<S: Source, K: Sink>(
+pub fn run<R: Threads + Wait + Clock + Sync, S: Source, K: Sink, G: Gate + Sync>(
+    rt: &R,
     alloc: Global,
     words: &[String],
     source: &mut S,
     sink: &mut K,
+    gate: &G,
 ) -> Status
     // The text that the command makes of the bytes that were read, whole.
     ensures done { result ≡ Status.Done → (command : Command) × (text : List ℕ)
@@ -77,7 +84,7 @@ pub fn run<S: Source, K: Sink>(
         Err(ReadAllFault::TooLong) => return Status::TooLong,
         Err(ReadAllFault::OutOfMemory) => return Status::OutOfMemory,
     };
-    let text = match text_made(alloc, command, &bytes) {
+    let text = match text_made(rt, alloc, command, &bytes, gate) {
         Ok(text) => text,
         Err(refusal) => return refusal,
     };
@@ -88,7 +95,13 @@ pub fn run<S: Source, K: Sink>(
 }
 
 /// The text that a command makes of these bytes, or the status that says why there is none.
-fn text_made(alloc: Global, command: Command, bytes: &[u8]) -> Result<Vec<u8>, Status>
+fn text_made<R: Threads + Wait + Clock + Sync, G: Gate + Sync>(
+    rt: &R,
+    alloc: Global,
+    command: Command,
+    bytes: &[u8],
+    gate: &G,
+) -> Result<Vec<u8>, Status>
     ensures makes { IfOk result (λ text. Makes command bytes.now text.items) }
     ensures refused { IfErr result (λ status. Refuses command bytes.now status ⊎ (status ≡ Status.OutOfMemory)) }
     ensures accepts { Accepts command bytes.now → IfErr result (λ status. status ≡ Status.OutOfMemory) }
@@ -96,13 +109,18 @@ fn text_made(alloc: Global, command: Command, bytes: &[u8]) -> Result<Vec<u8>, S
         → MatchResult result (λ text. ⊥) (λ status. (status ≡ due) ⊎ (status ≡ Status.OutOfMemory)) }
 {
     match command {
-        Command::Run => replayed_text(alloc, bytes),
+        Command::Run => replayed_text(rt, alloc, bytes, gate),
         Command::Check => checked_text(alloc, bytes),
     }
 }
 
 /// The schedule text of the input that these bytes are, or the status that says why there is none.
-fn replayed_text(alloc: Global, bytes: &[u8]) -> Result<Vec<u8>, Status>
+fn replayed_text<R: Threads + Wait + Clock + Sync, G: Gate + Sync>(
+    rt: &R,
+    alloc: Global,
+    bytes: &[u8],
+    gate: &G,
+) -> Result<Vec<u8>, Status>
     ensures replays { IfOk result (λ text. IsRunOf bytes.now text.items) }
     ensures refused { IfErr result (λ status. Refuses Run bytes.now status ⊎ (status ≡ Status.OutOfMemory)) }
     ensures accepts { Accepts Run bytes.now → IfErr result (λ status. status ≡ Status.OutOfMemory) }
@@ -110,7 +128,7 @@ fn replayed_text(alloc: Global, bytes: &[u8]) -> Result<Vec<u8>, Status>
         → MatchResult result (λ text. ⊥) (λ status. (status ≡ due) ⊎ (status ≡ Status.OutOfMemory)) }
 {
     let input = read_input(alloc, bytes)?;
-    let made = schedule_of(alloc, input.set(), input.events())?;
+    let made = schedule_of(rt, alloc, input.set(), input.events(), gate)?;
     let text = write_schedule(alloc, input.set(), made.core.history(), &made.contexts)?;
     Ok(text)
 }

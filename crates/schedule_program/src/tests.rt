@@ -4,10 +4,14 @@ ghost use Rattle.std.specs.Prelude.{◌<◌};
 use crate::histories::{HISTORIES, History};
 use crate::run::run;
 use crate::status::{Status, exit_status};
+use processor_seat::OpenGate;
 use shift_io::{MemSink, MemSource, Sink, Source, StdSink, StdSource};
 use std::alloc::{AllocError, Global};
 use std::str;
+use std::sync::Wait;
 use std::test::Fail;
+use std::thread::Threads;
+use std::time::Clock;
 
 const SMALLEST_INPUT: &str = "apa 1\nprocessors 1\ntask a 5 0\n0 arrive a\nend\n";
 
@@ -31,7 +35,8 @@ fn sink_of(alloc: Global, room: usize, most: usize, fails: &[u64]) -> Result<Mem
     Ok(MemSink::new(room, most, fails))
 }
 
-fn run_words<S: Source, K: Sink>(
+fn run_words<R: Threads + Wait + Clock + Sync, S: Source, K: Sink>(
+    rt: &R,
     alloc: Global,
     words: &[&str],
     source: &mut S,
@@ -41,24 +46,30 @@ fn run_words<S: Source, K: Sink>(
     for word in words {
         owned.push(String::from_str(alloc, word)?)?;
     }
-    Ok(run(alloc, &owned, source, sink))
+    Ok(run(rt, alloc, &owned, source, sink, &OpenGate))
 }
 
 /// The status of a call over memory, and the text that it put.
-pub(crate) fn replay(
+pub(crate) fn replay<R: Threads + Wait + Clock + Sync>(
+    rt: &R,
     alloc: Global,
     words: &[&str],
     input: &str,
 ) -> Result<(Status, Vec<u8>), AllocError> {
     let mut source = source_of(alloc, input, 1_000_000, &[])?;
     let mut sink = sink_of(alloc, 524_288, 4096, &[])?;
-    let status = run_words(alloc, words, &mut source, &mut sink)?;
+    let status = run_words(rt, alloc, words, &mut source, &mut sink)?;
     Ok((status, Vec::from_slice(alloc, sink.bytes())?))
 }
 
 /// Whether a schedule text is valid, with so many entries.
-pub(crate) fn is_valid(alloc: Global, schedule: &str, count: usize) -> Result<bool, AllocError> {
-    let (status, put) = replay(alloc, &["check"], schedule)?;
+pub(crate) fn is_valid<R: Threads + Wait + Clock + Sync>(
+    rt: &R,
+    alloc: Global,
+    schedule: &str,
+    count: usize,
+) -> Result<bool, AllocError> {
+    let (status, put) = replay(rt, alloc, &["check"], schedule)?;
     let told = format!(in alloc; "valid {count}\n")?;
     Ok(status == Status::Done && put.as_slice() == told.as_bytes())
 }
@@ -83,7 +94,7 @@ pub(crate) fn texts_of(alloc: Global, history: &History) -> Result<(String, Stri
 
 #[test]
 fn smallest_history(rt: HostRuntime) -> Result<(), Fail> {
-    let (status, put) = replay(rt.alloc(), &["run"], SMALLEST_INPUT)?;
+    let (status, put) = replay(&rt, rt.alloc(), &["run"], SMALLEST_INPUT)?;
     assert_eq!(rt; status, Status::Done);
     assert_eq!(rt; str::from_utf8(&put), Ok(SMALLEST_SCHEDULE));
     Ok(())
@@ -94,7 +105,7 @@ fn smallest_history_over_std_streams(rt: HostRuntime) -> Result<(), Fail> {
     let mut put = Vec::new(rt.alloc());
     let mut source = StdSource::new(SMALLEST_INPUT.as_bytes());
     let mut sink = StdSink::new(&mut put);
-    let status = run_words(rt.alloc(), &["run"], &mut source, &mut sink)?;
+    let status = run_words(&rt, rt.alloc(), &["run"], &mut source, &mut sink)?;
     drop(sink);
     assert_eq!(rt; status, Status::Done);
     assert_eq!(rt; str::from_utf8(&put), Ok(SMALLEST_SCHEDULE));
@@ -105,7 +116,7 @@ fn smallest_history_over_std_streams(rt: HostRuntime) -> Result<(), Fail> {
 fn worked_histories(rt: HostRuntime) -> Result<(), Fail> {
     for history in &HISTORIES {
         let (input, schedule) = texts_of(rt.alloc(), history)?;
-        let (status, put) = replay(rt.alloc(), &["run"], &input)?;
+        let (status, put) = replay(&rt, rt.alloc(), &["run"], &input)?;
         assert_eq!(rt; status, Status::Done, "in {}", history.name);
         assert_eq!(rt;
             str::from_utf8(&put),
@@ -114,7 +125,7 @@ fn worked_histories(rt: HostRuntime) -> Result<(), Fail> {
             history.name
         );
         assert!(rt;
-            is_valid(rt.alloc(), &schedule, history.entries.len())?,
+            is_valid(&rt, rt.alloc(), &schedule, history.entries.len())?,
             "in {}",
             history.name
         );
@@ -147,10 +158,10 @@ fn longest_chain(rt: HostRuntime) -> Result<(), Fail> {
         "schedule 1\n{head}history 64\n{entries}0 arrive z placed {chain}\n\
 contexts 64\n{contexts}z units 0 stints 1 moves 0 last 0 trail 63\nend\n"
     )?;
-    let (status, put) = replay(alloc, &["run"], &input)?;
+    let (status, put) = replay(&rt, alloc, &["run"], &input)?;
     assert_eq!(rt; status, Status::Done);
     assert_eq!(rt; str::from_utf8(&put), Ok(schedule.as_str()));
-    assert!(rt; is_valid(alloc, &schedule, 64)?);
+    assert!(rt; is_valid(&rt, alloc, &schedule, 64)?);
     Ok(())
 }
 
@@ -158,7 +169,7 @@ contexts 64\n{contexts}z units 0 stints 1 moves 0 last 0 trail 63\nend\n"
 fn refused_words(rt: HostRuntime) -> Result<(), Fail> {
     let cases: [&[&str]; 3] = [&[], &["run", "x"], &["runs"]];
     for words in cases {
-        let (status, put) = replay(rt.alloc(), words, SMALLEST_INPUT)?;
+        let (status, put) = replay(&rt, rt.alloc(), words, SMALLEST_INPUT)?;
         assert_eq!(rt; status, Status::Usage);
         assert_eq!(rt; exit_status(&status), 2);
         assert!(rt; put.is_empty());
@@ -167,8 +178,14 @@ fn refused_words(rt: HostRuntime) -> Result<(), Fail> {
 }
 
 /// Whether an input is refused with this line and kind, and nothing is put.
-fn is_refused(alloc: Global, input: &str, line: u64, kind: u8) -> Result<bool, AllocError> {
-    let (status, put) = replay(alloc, &["run"], input)?;
+fn is_refused<R: Threads + Wait + Clock + Sync>(
+    rt: &R,
+    alloc: Global,
+    input: &str,
+    line: u64,
+    kind: u8,
+) -> Result<bool, AllocError> {
+    let (status, put) = replay(rt, alloc, &["run"], input)?;
     Ok(status == Status::Input { line, kind } && exit_status(&status) == 3 && put.is_empty())
 }
 
@@ -190,20 +207,23 @@ fn limits_and_clashes(rt: HostRuntime) -> Result<(), Fail> {
         ("apa 1\nprocessors 1\ntask a 1 0\n0 arrive q\nend\n", 4, 9),
     ];
     for (input, line, kind) in rows {
-        assert!(rt; is_refused(rt.alloc(), input, line, kind)?, "at {input:?}");
+        assert!(rt;
+            is_refused(&rt, rt.alloc(), input, line, kind)?,
+            "at {input:?}"
+        );
     }
 
     let mut tasks = format!(in rt.alloc(); "apa 1\nprocessors 1\n")?;
     for i in 0u32..1025 {
         writeln!(tasks, "task t{i} {i} 0")?;
     }
-    assert!(rt; is_refused(rt.alloc(), &tasks, 1027, 7)?);
+    assert!(rt; is_refused(&rt, rt.alloc(), &tasks, 1027, 7)?);
 
     let mut ticks = format!(in rt.alloc(); "apa 1\nprocessors 1\ntask a 1 0\n")?;
     for _ in 0u32..20_001 {
         writeln!(ticks, "0 tick 1")?;
     }
-    assert!(rt; is_refused(rt.alloc(), &ticks, 20_004, 10)?);
+    assert!(rt; is_refused(&rt, rt.alloc(), &ticks, 20_004, 10)?);
     Ok(())
 }
 
@@ -225,7 +245,7 @@ fn ends_and_bytes(rt: HostRuntime) -> Result<(), Fail> {
     ];
     for (input, line, kind) in rows {
         assert!(rt;
-            is_refused(rt.alloc(), input, line, kind)?,
+            is_refused(&rt, rt.alloc(), input, line, kind)?,
             "in line {line}"
         );
     }
@@ -235,7 +255,7 @@ fn ends_and_bytes(rt: HostRuntime) -> Result<(), Fail> {
         format!(in rt.alloc(); "{SMALLEST_INPUT}\n# done\n")?,
     ];
     for input in &commented {
-        let (status, put) = replay(rt.alloc(), &["run"], input)?;
+        let (status, put) = replay(&rt, rt.alloc(), &["run"], input)?;
         assert_eq!(rt; status, Status::Done);
         assert_eq!(rt; str::from_utf8(&put), Ok(SMALLEST_SCHEDULE));
     }
@@ -247,7 +267,7 @@ fn sixteen_million_line_feeds(rt: HostRuntime) -> Result<(), Fail> {
     let bytes = vec![in rt.alloc(); b'\n'; 16_777_217]?;
     let mut source = MemSource::new(bytes, 16_777_217, Vec::new(rt.alloc()));
     let mut sink = sink_of(rt.alloc(), 16, 16, &[])?;
-    let status = run_words(rt.alloc(), &["run"], &mut source, &mut sink)?;
+    let status = run_words(&rt, rt.alloc(), &["run"], &mut source, &mut sink)?;
     assert_eq!(rt; status, Status::TooLong);
     assert_eq!(rt; exit_status(&status), 3);
     assert!(rt; sink.bytes().is_empty());
@@ -258,7 +278,7 @@ fn sixteen_million_line_feeds(rt: HostRuntime) -> Result<(), Fail> {
 fn faults_of_source_and_sink(rt: HostRuntime) -> Result<(), Fail> {
     let mut source = source_of(rt.alloc(), SMALLEST_INPUT, 8, &[1])?;
     let mut sink = sink_of(rt.alloc(), 4096, 4096, &[])?;
-    let status = run_words(rt.alloc(), &["run"], &mut source, &mut sink)?;
+    let status = run_words(&rt, rt.alloc(), &["run"], &mut source, &mut sink)?;
     assert_eq!(rt; status, Status::ReadFault);
     assert!(rt; sink.bytes().is_empty());
 
@@ -268,7 +288,7 @@ fn faults_of_source_and_sink(rt: HostRuntime) -> Result<(), Fail> {
     ];
     for mut sink in sinks {
         let mut source = source_of(rt.alloc(), SMALLEST_INPUT, 4096, &[])?;
-        let status = run_words(rt.alloc(), &["run"], &mut source, &mut sink)?;
+        let status = run_words(&rt, rt.alloc(), &["run"], &mut source, &mut sink)?;
         assert_eq!(rt; status, Status::WriteFault);
         assert_eq!(rt; str::from_utf8(sink.bytes()), Ok("schedule 1"));
     }

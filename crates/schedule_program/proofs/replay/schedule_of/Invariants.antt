@@ -1,6 +1,0 @@
-use Rattle.std.proofs.Common.{◌≡◌, false}
-use Rattle.schedule_program.proofs.Running.{IsRunning}
-use Rattle.schedule_program.proofs.replay.schedule_of.Given as goal
-
-abbrev pub invariant-loop-posted : goal.invariant-loop-posted
-invariant-loop-posted l = IsRunning l.set l.events l.posted-index l.core.links l.core.history l.contexts.items × (l.core.closed ≡ false)
