@@ -1,0 +1,6 @@
+mod Draws
+mod EventsDrawn
+mod Examples
+pub mod OneInput
+mod Places
+mod TasksDrawn
