@@ -2,10 +2,10 @@ mod CheckedOnce
 mod CheckedText
 mod Compared
 mod Following
+mod Generating
 mod Headline
 mod MergedCounts
 mod OneText
-mod OneWord
 mod ToldBytes
 mod Refusals
 mod RunIsValid

@@ -1,6 +1,6 @@
 -- Where the events of an input are of one stream, the headline allows one text: a merge of them has just one order, and so
 -- there is one legal history, with one context for each task.
-use Rattle.event_replay.specs.Replay.{contexts_of}
+use Rattle.event_replay.specs.Replay.{contexts_of, posted_of}
 use Rattle.std.proofs.Common.{◌≡◌, ℕ, ◌<◌, ◌==◌, true, List, [], ◌∷◌, map, filter, length, get_or, All, refl, sym, ap, ◌∙◌, subst, arith}
 use Rattle.std.proofs.lemmas.List.{get_or-map, length-map}
 use Rattle.std.proofs.lemmas.List.Elements.{All-head, All-tail}
@@ -49,6 +49,26 @@ pairs_same stream (e ∷ history) (f ∷ other) one two same =
     let first : e.caller ≡ stream = All-head (λ (e : Entry). e.caller ≡ stream) e history one in
     let second : f.caller ≡ stream = All-head (λ (e : Entry). e.caller ≡ stream) f other two in
     rw (first, second, here, rest) refl
+
+-- on one stream an event is its posted one
+one_posted : (stream : ℕ) (entry : Entry) (posted : Posted) → entry.caller ≡ stream → posted.stream ≡ stream → entry.event ≡ posted.event → posted_of entry ≡ posted
+one_posted stream entry posted one other events = λ k. record { stream = (one ∙ sym other) k; event = events k }
+
+all_posted : (stream : ℕ) (history : List Entry) (events : List Posted) → All (λ (e : Entry). e.caller ≡ stream) history → All (λ (p : Posted). p.stream ≡ stream) events → map (λ (e : Entry). e.event) history ≡ map (λ (p : Posted). p.event) events
+    → map posted_of history ≡ events
+all_posted stream [] [] one two same = refl
+all_posted stream [] (p ∷ events) one two same = absurd (cc)
+all_posted stream (e ∷ history) [] one two same = absurd (cc)
+all_posted stream (e ∷ history) (p ∷ events) one two same =
+    let here : e.event ≡ p.event = cc in
+    let later : map (λ (e : Entry). e.event) history ≡ map (λ (p : Posted). p.event) events = cc in
+    let rest = all_posted stream history events (All-tail (λ (e : Entry). e.caller ≡ stream) e history one) (All-tail (λ (p : Posted). p.stream ≡ stream) p events two) later in
+    let first = one_posted stream e p (All-head (λ (e : Entry). e.caller ≡ stream) e history one) (All-head (λ (p : Posted). p.stream ≡ stream) p events two) here in
+    λ k. first k ∷ rest k
+
+-- so a merge of events on one stream has them in their order
+pub merge_in_order : (stream : ℕ) (events : List Posted) (history : List Entry) → All (λ (p : Posted). p.stream ≡ stream) events → IsMerge events history → map posted_of history ≡ events
+merge_in_order stream events history one merge = all_posted stream history events (callers_same stream events history one merge) one (events_same stream events history one merge)
 
 -- the text of a task set and a history, with the contexts that it gives
 abbrev text_of : SetData → List Entry → List ℕ

@@ -1,15 +1,16 @@
--- The commands. What a reader must believe: each command is one word; `run` makes the schedule text of an input, and
--- `check` tells of a schedule that it is valid; bytes that a command does not accept are refused, with one answer.
+-- The commands: the words that they are, what they read, what they make of it, and what they refuse, each with one answer.
 use Rattle.std.specs.Prelude.{◌≡◌, ◌⊎◌, ℕ, ◌≤◌, List, [], ◌∷◌, length, codes, Option, Some}
 use Rattle.shift_io.specs.Stream.{TakesAll}
 use Rattle.task_set.specs.TaskSet.{SetData}
 use Rattle.trace_reader.specs.declared.posted.Posted.{Posted}
-use Rattle.trace_reader.specs.InputText.{IsInputText}
+use Rattle.trace_reader.specs.InputText.{IsInputText, IsNumberWithin}
 use Rattle.schedule_text.specs.Schedule.{ScheduleData}
 use Rattle.schedule_program.specs.Check.{IsTextOf, IsValid, IsCheckOf, RefusesSchedule, IsInvalidText}
+use Rattle.schedule_program.specs.Generating.{IsMakeOf, IsLargeOf}
 use Rattle.schedule_program.specs.Run.{IsRunOf, RefusesInput}
 use Rattle.schedule_program.specs.declared.words.Command.{Command}
-use Rattle.schedule_program.specs.declared.words.Command.TheVariants.{Run, Check}
+use Rattle.schedule_program.specs.declared.words.Command.TheVariants.{Run, Check, Make, Large}
+use Rattle.schedule_program.specs.declared.words.Sizes.{Sizes}
 use Rattle.schedule_program.specs.declared.status.Status.{Status}
 use Rattle.schedule_program.specs.declared.status.Status.TheVariants.{Input, Invalid}
 
@@ -17,20 +18,89 @@ use Rattle.schedule_program.specs.declared.status.Status.TheVariants.{Input, Inv
 abbrev pub byte_limit : ℕ
 byte_limit = 16777216
 
--- the words of a command
-abbrev pub words_of : Command → List (List ℕ)
-words_of Run = codes "run" ∷ []
-words_of Check = codes "check" ∷ []
+-- ---- words
+-- a number, and then how many processors, tasks and events there are; leading zeros are no fault
+pub record AreSizes (number processors tasks events : List ℕ) (sizes : Sizes) : Type 0 where
+  pub is_number : IsNumberWithin 0 18446744073709551615 number sizes.number
+  pub are_processors : IsNumberWithin 1 64 processors sizes.processors
+  pub are_tasks : IsNumberWithin 1 1024 tasks sizes.tasks
+  pub are_events : IsNumberWithin 0 20000 events sizes.events
 
+-- a word, and the four numbers
+pub record IsSized (first : List ℕ) (words : List (List ℕ)) (sizes : Sizes) : Type 0 where
+  pub number : List ℕ
+  pub processors : List ℕ
+  pub tasks : List ℕ
+  pub events : List ℕ
+  pub each_word : words ≡ first ∷ number ∷ processors ∷ tasks ∷ events ∷ []
+  pub sized : AreSizes number processors tasks events sizes
+
+-- the words mean the command
+abbrev pub IsCommand : List (List ℕ) → Command → Type 0
+IsCommand words Run = words ≡ codes "run" ∷ []
+IsCommand words Check = words ≡ codes "check" ∷ []
+IsCommand words (Make sizes) = IsSized (codes "make") words sizes
+IsCommand words (Large sizes) = IsSized (codes "large") words sizes
+
+-- numbers of which there is an input
+pub record AreWithin (sizes : Sizes) : Type 0 where
+  pub processors : (1 ≤ sizes.processors) × (sizes.processors ≤ 64)
+  pub tasks : (1 ≤ sizes.tasks) × (sizes.tasks ≤ 1024)
+  pub events : sizes.events ≤ 20000
+
+-- the numbers of a command, where it has some, are such
+abbrev pub HasSizes : Command → Type 0
+HasSizes Run = Unit {0}
+HasSizes Check = Unit {0}
+HasSizes (Make sizes) = AreWithin sizes
+HasSizes (Large sizes) = AreWithin sizes
+
+-- ---- what is read
+-- all that was left of a source was read, and it is not too long
+pub record ReadsAll (old new : Option (List ℕ)) (read : List ℕ) : Type 0 where
+  pub all : TakesAll old new read
+  pub within : length read ≤ byte_limit
+
+-- what a command reads of a source; `make` and `large` read nothing
+abbrev pub Reads : Command → Option (List ℕ) → Option (List ℕ) → List ℕ → Type 0
+Reads Run old new read = ReadsAll old new read
+Reads Check old new read = ReadsAll old new read
+Reads (Make sizes) old new read = (new ≡ old) × (read ≡ [])
+Reads (Large sizes) old new read = (new ≡ old) × (read ≡ [])
+
+-- the source reports what it has left, which is no more than is read
+pub record IsReported (left : Option (List ℕ)) (read : List ℕ) : Type 0 where
+  pub reported : left ≡ Some read
+  pub within : length read ≤ byte_limit
+
+-- what a command is to read of a source with this left
+abbrev pub IsToRead : Command → Option (List ℕ) → List ℕ → Type 0
+IsToRead Run left read = IsReported left read
+IsToRead Check left read = IsReported left read
+IsToRead (Make sizes) left read = read ≡ []
+IsToRead (Large sizes) left read = read ≡ []
+
+-- the command reads nothing
+abbrev pub ReadsNothing : Command → Type 0
+ReadsNothing Run = ⊥
+ReadsNothing Check = ⊥
+ReadsNothing (Make sizes) = Unit {0}
+ReadsNothing (Large sizes) = Unit {0}
+
+-- ---- what is made
 -- what a command puts for the bytes that it read
 abbrev pub Makes : Command → List ℕ → List ℕ → Type 0
 Makes Run read put = IsRunOf read put
 Makes Check read put = IsCheckOf read put
+Makes (Make sizes) read put = IsMakeOf sizes put
+Makes (Large sizes) read put = IsLargeOf sizes put
 
--- the bytes that a command accepts: an input text; the text of a valid schedule
+-- the bytes that a command accepts: an input text; the text of a valid schedule; none
 abbrev pub Accepts : Command → List ℕ → Type 0
 Accepts Run bytes = (set : SetData) × (events : List Posted) × IsInputText bytes set events
 Accepts Check bytes = (schedule : ScheduleData) × IsTextOf bytes schedule × IsValid schedule
+Accepts (Make sizes) bytes = bytes ≡ []
+Accepts (Large sizes) bytes = bytes ≡ []
 
 -- the bytes are refused with the answer Input, at a line and with a kind
 pub record IsAnsweredInput (Cause : ℕ → ℕ → Type 0) (status : Status) : Type 0 where
@@ -50,23 +120,21 @@ pub record IsAnsweredInvalid (Cause : ℕ → ℕ → Type 0) (status : Status) 
 abbrev pub Refuses : Command → List ℕ → Status → Type 0
 Refuses Run bytes status = IsAnsweredInput (RefusesInput bytes) status
 Refuses Check bytes status = IsAnsweredInput (RefusesSchedule bytes) status ⊎ IsAnsweredInvalid (IsInvalidText bytes) status
+Refuses (Make sizes) bytes status = ⊥
+Refuses (Large sizes) bytes status = ⊥
 
--- all that was left of a source was read, and the command makes this of it
-pub record ReadsAndMakes (command : Command) (old new : Option (List ℕ)) (put : List ℕ) : Type 0 where
+-- the words mean a command, which read what it is to read, and makes this of it
+pub record ReadsAndMakes (words : List (List ℕ)) (old new : Option (List ℕ)) (put : List ℕ) : Type 0 where
+  pub command : Command
+  pub spoken : IsCommand words command
   pub read : List ℕ
-  pub all : TakesAll old new read
-  pub within : length read ≤ byte_limit
+  pub reads : Reads command old new read
   pub made : Makes command read put
 
--- all that was left of a source was read, and the command refuses it with this answer
-pub record ReadsRefused (command : Command) (old new : Option (List ℕ)) (status : Status) : Type 0 where
+-- the words mean a command, which read what it is to read, and refuses it with this answer
+pub record ReadsRefused (words : List (List ℕ)) (old new : Option (List ℕ)) (status : Status) : Type 0 where
+  pub command : Command
+  pub spoken : IsCommand words command
   pub read : List ℕ
-  pub all : TakesAll old new read
-  pub within : length read ≤ byte_limit
+  pub reads : Reads command old new read
   pub refused : Refuses command read status
-
--- the words are those of the command, and the source tells what it has left, which is no more than is read
-pub record IsToRead (words : List (List ℕ)) (command : Command) (left : Option (List ℕ)) (read : List ℕ) : Type 0 where
-  pub spoken : words ≡ words_of command
-  pub told : left ≡ Some read
-  pub within : length read ≤ byte_limit

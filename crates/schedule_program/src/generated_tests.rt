@@ -1,6 +1,6 @@
 //! Generated inputs: after every entry the linked tasks are those that a plain greedy program finds, and the schedules
 //! that are written are valid.
-ghost use Rattle.std.specs.Prelude.{◌<◌, ◌≤◌, IsTrue};
+ghost use Rattle.std.specs.Prelude.{◌<◌, IsTrue};
 ghost use Rattle.link_table.specs.State.{task_count};
 ghost use Rattle.reach_certificate.specs.Passing.{IsOfTask};
 
@@ -8,6 +8,7 @@ use crate::search_tests::all_below;
 use crate::status::Status;
 use crate::tests::{is_valid, replay};
 use crate::thread_tests::is_in_order;
+use generated_input::make_input;
 use link_table::{Links, Reply};
 use placement_laws::best_set;
 use sched_core::Core;
@@ -19,75 +20,7 @@ use std::test::Fail;
 use std::thread::Threads;
 use std::time::Clock;
 use task_set::{Event, TaskSet};
-use trace_reader::read_input;
-
-/// The sizes of a generated input: numbers of processors, tasks, events and streams.
-#[derive(Clone, Copy)]
-struct Sizes {
-    processors: u32,
-    tasks: u32,
-    events: u32,
-    streams: u32,
-}
-
-/// Knuth's MMIX generator.
-#[derive(Drop)]
-struct Generator {
-    state: u64,
-}
-
-impl Generator {
-    /// The next number below a bound: the upper 31 bits of the next state, modulo the bound.
-    fn draw(&mut self, bound: u32) -> u32
-        requires { 0 < bound }
-        ensures { result < bound }
-    {
-        self.state = self
-            .state
-            .wrapping_mul(6_364_136_223_846_793_005)
-            .wrapping_add(1_442_695_040_888_963_407);
-        let upper = self.state >> 33;
-        (upper % u64::from(bound)) as u32
-    }
-}
-
-/// The line of the next task: its urgency falls with its number, and its mask is up to four neighbours.
-fn draw_task(
-    generator: &mut Generator,
-    text: &mut String,
-    i: u32,
-    processors: u32,
-) -> Result<(), AllocError>
-    requires { 0 < processors }
-{
-    let priority = 1000 * u64::from(i) + u64::from(generator.draw(1000));
-    let least = generator.draw(processors);
-    let room = processors - least;
-    let greatest = least + generator.draw(room.min(4));
-    writeln!(text, "task t{i} {priority} {least}-{greatest}")?;
-    Ok(())
-}
-
-/// The next event: a tick, or a task departs where it is ready by the events before, and else arrives.
-fn draw_event(
-    generator: &mut Generator,
-    ready: &mut Vec<u32>,
-    tasks: u32,
-) -> Result<Event, AllocError>
-    requires { 0 < tasks }
-{
-    if generator.draw(8) == 0 {
-        return Ok(Event::Tick(1 + generator.draw(100)));
-    }
-    let t = generator.draw(tasks);
-    let event = if ready.contains(&t) {
-        Event::Depart(t)
-    } else {
-        Event::Arrive(t)
-    };
-    follow(ready, event)?;
-    Ok(event)
-}
+use trace_reader::write_input;
 
 /// The ready tasks after an event.
 fn follow(ready: &mut Vec<u32>, event: Event) -> Result<(), AllocError> {
@@ -99,28 +32,22 @@ fn follow(ready: &mut Vec<u32>, event: Event) -> Result<(), AllocError> {
     Ok(())
 }
 
-/// The input of a number, as a text.
-fn generated_input(alloc: Global, number: u64, sizes: Sizes) -> Result<String, AllocError>
-    requires some_processors { 0 < sizes.processors }
-    requires some_tasks { 0 < sizes.tasks }
-    requires some_streams { 0 < sizes.streams }
+/// A generated input with its events on so many streams, in turn: its text has each event's line begin with stream 0.
+fn on_streams(alloc: Global, text: &str, streams: u32) -> Result<String, AllocError>
+    requires { 0 < streams }
 {
-    let mut generator = Generator { state: number };
-    let mut text = format!(in alloc; "apa 1\nprocessors {}\n", sizes.processors)?;
-    for i in 0..sizes.tasks {
-        draw_task(&mut generator, &mut text, i, sizes.processors)?;
-    }
-    let mut ready = Vec::new(alloc);
-    for i in 0..sizes.events {
-        let stream = i % sizes.streams;
-        match draw_event(&mut generator, &mut ready, sizes.tasks)? {
-            Event::Arrive(t) => writeln!(text, "{stream} arrive t{t}")?,
-            Event::Depart(t) => writeln!(text, "{stream} depart t{t}")?,
-            Event::Tick(units) => writeln!(text, "{stream} tick {units}")?,
+    let mut spread = String::new(alloc);
+    let mut i = 0u32;
+    for line in text.lines() {
+        match line.strip_prefix("0 ") {
+            Some(event) => {
+                writeln!(spread, "{} {event}", i % streams)?;
+                i = i.wrapping_add(1);
+            }
+            None => writeln!(spread, "{line}")?,
         }
     }
-    writeln!(text, "end")?;
-    Ok(text)
+    Ok(spread)
 }
 
 /// Whether the event, where it is of a task, is of one that the links have.
@@ -189,12 +116,9 @@ impl Reached {
 fn replay_number(
     rt: &(impl Abort + AllocGlobal),
     number: u64,
-    sizes: Sizes,
     reached: &mut Reached,
 ) -> Result<(), Fail> {
-    assert!(rt; sizes.processors > 0 && sizes.tasks > 0 && sizes.streams > 0);
-    let text = generated_input(rt.alloc(), number, sizes)?;
-    let input = read_input(rt.alloc(), text.as_bytes()).expect(rt, "an input text");
+    let input = make_input(rt.alloc(), number, 6, 10, 60)?;
     let mut core = Core::new(rt.alloc(), input.set())?;
     let mut ready = Vec::new(rt.alloc());
     for posted in input.events() {
@@ -215,44 +139,104 @@ fn replay_number(
 
 #[test]
 fn generated_histories_match_the_greedy_set(rt: HostRuntime) -> Result<(), Fail> {
-    let sizes = Sizes {
-        processors: 6,
-        tasks: 10,
-        events: 60,
-        streams: 1,
-    };
     let mut reached = Reached::default();
     for number in 0u64..20 {
-        replay_number(&rt, number, sizes, &mut reached)?;
+        replay_number(&rt, number, &mut reached)?;
     }
     assert!(rt; reached.is_all());
     Ok(())
 }
 
+/// What `make` and `large` put for these numbers; neither reads the input, which is no text.
+fn put_for<R: Threads + Wait + Clock + Sync + Abort>(
+    rt: &R,
+    alloc: Global,
+    command: &str,
+    sizes: [&str; 4],
+) -> Result<Vec<u8>, Fail> {
+    let [number, processors, tasks, events] = sizes;
+    let words = [command, number, processors, tasks, events];
+    let (status, put) = replay(rt, alloc, &words, "no text")?;
+    assert_eq!(rt; status, Status::Done);
+    Ok(put)
+}
+
 #[test]
-fn generated_schedules_are_valid(rt: HostRuntime) -> Result<(), Fail> {
-    let rows: [(u64, u32, u32, u32); 4] = [
-        (0, 1, 1, 1),
-        (3, 6, 10, 60),
-        (7, 8, 40, 2000),
-        (11, 64, 300, 1500),
-    ];
-    for (number, processors, tasks, events) in rows {
-        let sizes = Sizes {
-            processors,
-            tasks,
-            events,
-            streams: 1,
-        };
-        assert!(rt; sizes.processors > 0 && sizes.tasks > 0 && sizes.streams > 0);
-        let text = generated_input(rt.alloc(), number, sizes)?;
-        let (status, put) = replay(&rt, rt.alloc(), &["run"], &text)?;
-        assert_eq!(rt; status, Status::Done);
-        let schedule = str::from_utf8(&put).unwrap_or("");
-        assert!(rt;
-            is_valid(&rt, rt.alloc(), schedule, events as usize)?,
-            "of {number}"
+fn words_and_generated_input(rt: HostRuntime) -> Result<(), Fail> {
+    let alloc = rt.alloc();
+    let smallest = "apa 1\nprocessors 1\ntask t0 807 0\n0 arrive t0\nend\n";
+    for sizes in [["0", "1", "1", "1"], ["000", "01", "1", "0001"]] {
+        let put = put_for(&rt, alloc, "make", sizes)?;
+        assert_eq!(rt; str::from_utf8(&put), Ok(smallest));
+        let put = put_for(&rt, alloc, "large", sizes)?;
+        assert_eq!(rt;
+            str::from_utf8(&put),
+            Ok("large 0 1 1 1\nentries 1\ndisplaced 0\nwaits 0\nmoves 0\ntrails 0\n")
         );
+    }
+
+    let input = put_for(&rt, alloc, "make", ["7", "8", "40", "2000"])?;
+    let text = str::from_utf8(&input).unwrap_or("");
+    let (status, put) = replay(&rt, alloc, &["run"], text)?;
+    assert_eq!(rt; status, Status::Done);
+    let schedule = str::from_utf8(&put).unwrap_or("");
+    assert!(rt; is_valid(&rt, alloc, schedule, 2000)?);
+    Ok(())
+}
+
+/// Summaries that a program of a reader's own, written from the definitions, made.
+static SUMMARIES: [([&str; 4], &str); 10] = [
+    (
+        ["7", "8", "40", "2000"],
+        "entries 2000\ndisplaced 337\nwaits 527\nmoves 442\ntrails 14185289739955617143\n",
+    ),
+    (
+        ["7", "8", "40", "2000"],
+        "entries 2000\ndisplaced 337\nwaits 527\nmoves 442\ntrails 14185289739955617143\n",
+    ),
+    (
+        ["1", "1", "1", "20"],
+        "entries 20\ndisplaced 0\nwaits 0\nmoves 0\ntrails 2240\n",
+    ),
+    (
+        ["2", "2", "3", "50"],
+        "entries 50\ndisplaced 3\nwaits 1\nmoves 4\ntrails 11059709177556427406\n",
+    ),
+    (
+        ["3", "4", "12", "200"],
+        "entries 200\ndisplaced 33\nwaits 41\nmoves 24\ntrails 7061875269257035179\n",
+    ),
+    (
+        ["11", "64", "300", "1500"],
+        "entries 1500\ndisplaced 273\nwaits 369\nmoves 474\ntrails 16896554011982025848\n",
+    ),
+    (
+        ["18446744073709551615", "6", "10", "300"],
+        "entries 300\ndisplaced 20\nwaits 46\nmoves 11\ntrails 8403987337215572655\n",
+    ),
+    (
+        ["42", "16", "100", "1000"],
+        "entries 1000\ndisplaced 157\nwaits 287\nmoves 192\ntrails 17633460473133534953\n",
+    ),
+    (
+        ["123456789", "5", "1024", "400"],
+        "entries 400\ndisplaced 20\nwaits 290\nmoves 5\ntrails 14733926380922477520\n",
+    ),
+    (
+        ["5", "3", "9", "0"],
+        "entries 0\ndisplaced 0\nwaits 0\nmoves 0\ntrails 36\n",
+    ),
+];
+
+#[test]
+fn summaries_of_generated_inputs(rt: HostRuntime) -> Result<(), Fail> {
+    for (sizes, numbers) in SUMMARIES {
+        let put = put_for(&rt, rt.alloc(), "large", sizes)?;
+        let [number, processors, tasks, events] = sizes;
+        let summary = format!(in rt.alloc();
+            "large {number} {processors} {tasks} {events}\n{numbers}"
+        )?;
+        assert_eq!(rt; str::from_utf8(&put), Ok(summary.as_str()));
     }
     Ok(())
 }
@@ -263,15 +247,12 @@ fn run_on_streams<R: Threads + Wait + Clock + Sync + Abort>(
     alloc: Global,
     number: u64,
     streams: u32,
-) -> Result<(), Fail> {
-    let sizes = Sizes {
-        processors: 6,
-        tasks: 10,
-        events: 60,
-        streams,
-    };
-    assert!(rt; sizes.streams > 0);
-    let text = generated_input(alloc, number, sizes)?;
+) -> Result<(), Fail>
+    requires { 0 < streams }
+{
+    let input = make_input(alloc, number, 6, 10, 60)?;
+    let made = write_input(alloc, &input)?;
+    let text = on_streams(alloc, str::from_utf8(&made).unwrap_or(""), streams)?;
     let (status, put) = replay(rt, alloc, &["run"], &text)?;
     assert_eq!(rt; status, Status::Done);
     let schedule = str::from_utf8(&put).unwrap_or("");
@@ -289,12 +270,31 @@ fn run_on_streams<R: Threads + Wait + Clock + Sync + Abort>(
     Ok(())
 }
 
-#[test]
-fn generated_inputs_on_several_streams(rt: HostRuntime) -> Result<(), Fail> {
+/// Runs the inputs of 67 numbers on so many streams.
+fn run_numbers<R: Threads + Wait + Clock + Sync + Abort>(
+    rt: &R,
+    alloc: Global,
+    streams: u32,
+) -> Result<(), Fail>
+    requires { 0 < streams }
+{
     for number in 0u64..67 {
-        for streams in [1, 3, 16] {
-            run_on_streams(&rt, rt.alloc(), number, streams)?;
-        }
+        run_on_streams(rt, alloc, number, streams)?;
     }
     Ok(())
+}
+
+#[test]
+fn generated_inputs_on_one_stream(rt: HostRuntime) -> Result<(), Fail> {
+    run_numbers(&rt, rt.alloc(), 1)
+}
+
+#[test]
+fn generated_inputs_on_three_streams(rt: HostRuntime) -> Result<(), Fail> {
+    run_numbers(&rt, rt.alloc(), 3)
+}
+
+#[test]
+fn generated_inputs_on_sixteen_streams(rt: HostRuntime) -> Result<(), Fail> {
+    run_numbers(&rt, rt.alloc(), 16)
 }

@@ -4,6 +4,7 @@
 mod check;
 #[cfg(test)]
 mod check_tests;
+mod generate;
 #[cfg(test)]
 mod generated_tests;
 #[cfg(test)]
@@ -12,6 +13,7 @@ mod run;
 #[cfg(test)]
 mod search_tests;
 mod status;
+mod summary;
 #[cfg(test)]
 mod tests;
 #[cfg(test)]

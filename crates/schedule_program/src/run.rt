@@ -1,16 +1,19 @@
-//! The top call: from the bytes read to the bytes put.
-ghost use Rattle.std.specs.Prelude.{◌≡◌, ◌≢◌, ℕ, ◌+◌, List, ◌↔◌, ◌⊎◌, map, IfOk, IfErr, MatchResult, string_bytes};
+//! The top call: from the words and the bytes read to the bytes put.
+ghost use Rattle.std.specs.Prelude.{◌≡◌, ◌≢◌, ℕ, ◌+◌, ◌↔◌, ◌≤◌, ◌⊎◌, List, map, IfOk, IfErr, IsErrOf, IsOk, MatchResult, string_bytes};
 ghost use Rattle.std.specs.Io.KnownBytes.{Appends};
+ghost use Rattle.shift_io.specs.declared.whole.ReadAllFault.{ReadAllFault};
+ghost use Rattle.shift_io.specs.declared.whole.ReadAllFault.TheVariants as fault;
 ghost use Rattle.shift_io.specs.Causes.{Rose};
 ghost use Rattle.shift_io.specs.Stream.{TakesAtMost, TakesExactly, AppendsPrefix};
 ghost use Rattle.schedule_program.specs.declared.words.Command.{Command};
 ghost use Rattle.schedule_program.specs.declared.words.Command.TheVariants.{Run};
 ghost use Rattle.schedule_program.specs.declared.status.Status.{Status};
-ghost use Rattle.schedule_program.specs.Command.{words_of, byte_limit, Makes, Accepts, Refuses, ReadsAndMakes, ReadsRefused, IsToRead};
+ghost use Rattle.schedule_program.specs.Command.{byte_limit, IsCommand, HasSizes, Reads, ReadsNothing, IsToRead, Makes, Accepts, Refuses, ReadsAndMakes, ReadsRefused};
 ghost use Rattle.schedule_program.specs.Run.{IsRunOf};
 ghost use Rattle.schedule_program.specs.Status.{BeforePut};
 
 use crate::check::checked_text;
+use crate::generate::{made_text, summary_of};
 use crate::status::Status;
 use crate::words::{Command, command_of};
 use processor_seat::Gate;
@@ -28,8 +31,9 @@ pub const MAX_BYTES: usize = 16_777_216;
 
 /// Does what the words say. `run` reads the source to its end as an input text, replays its events on threads, a worker
 /// for each processor and a thread for each stream that has events, and puts the schedule text into the sink. The gate is
-/// called before and after each post, and before the first try of each take. `check` reads the source as a schedule text, whoever made it, and where that is a
-/// valid schedule, puts how many entries it has.
+/// called before and after each post, and before the first try of each take. `check` reads the source as a schedule text,
+/// whoever made it, and where that is a valid schedule, puts how many entries it has. `make` puts the text of the input of
+/// its four numbers, and `large` replays that input as `run` does and puts a summary; neither reads the source.
 pub fn run<R: Threads + Wait + Clock + Sync, S: Source, K: Sink, G: Gate + Sync>(
     rt: &R,
     alloc: Global,
@@ -38,47 +42,49 @@ pub fn run<R: Threads + Wait + Clock + Sync, S: Source, K: Sink, G: Gate + Sync>
     sink: &mut K,
     gate: &G,
 ) -> Status
-    // The text that the command makes of the bytes that were read, whole.
-    ensures done { result ≡ Status.Done → (command : Command) × (text : List ℕ)
-        × (map string_bytes words.now ≡ words_of command)
-        × ReadsAndMakes command (S.left source.old) (S.left source.new) text
+    // The text that the command makes of the bytes that it read, whole.
+    ensures done { result ≡ Status.Done → (text : List ℕ)
+        × ReadsAndMakes (map string_bytes words.now) (S.left source.old) (S.left source.new) text
         × Appends (K.bytes sink.old) (K.bytes sink.new) text }
 
     // The words come first, then the source, then what was read, then the sink.
-    ensures usage { (result ≡ Status.Usage) ↔ ((command : Command) → map string_bytes words.now ≢ words_of command) }
+    ensures usage { (result ≡ Status.Usage)
+        ↔ ((command : Command) → IsCommand (map string_bytes words.now) command → ⊥) }
     ensures unread { result ≡ Status.Usage → source.new ≡ source.old }
+    ensures nothing_to_read { (command : Command) → IsCommand (map string_bytes words.now) command
+        → ReadsNothing command → source.new ≡ source.old }
     ensures read_fault { result ≡ Status.ReadFault → Rose (S.faults source.old) (S.faults source.new) }
     ensures too_long { result ≡ Status.TooLong →
         TakesExactly (S.left source.old) (S.left source.new) (byte_limit + 1) }
     ensures within { result ≢ Status.TooLong →
         TakesAtMost (S.left source.old) (S.left source.new) byte_limit }
     ensures input { (line kind : ℕ) → result ≡ Status.Input line kind
-        → (command : Command) × (map string_bytes words.now ≡ words_of command)
-        × ReadsRefused command (S.left source.old) (S.left source.new) result }
+        → ReadsRefused (map string_bytes words.now) (S.left source.old) (S.left source.new) result }
     ensures invalid { (line defect : ℕ) → result ≡ Status.Invalid line defect
-        → (command : Command) × (map string_bytes words.now ≡ words_of command)
-        × ReadsRefused command (S.left source.old) (S.left source.new) result }
+        → ReadsRefused (map string_bytes words.now) (S.left source.old) (S.left source.new) result }
     ensures write_fault { result ≡ Status.WriteFault → Rose (K.faults sink.old) (K.faults sink.new)
-        × ((command : Command) × (text : List ℕ) × (map string_bytes words.now ≡ words_of command)
-        × ReadsAndMakes command (S.left source.old) (S.left source.new) text
+        × ((text : List ℕ)
+        × ReadsAndMakes (map string_bytes words.now) (S.left source.old) (S.left source.new) text
         × AppendsPrefix (K.bytes sink.old) (K.bytes sink.new) text) }
 
-    // Where nothing fails, the bytes alone decide, but for want of memory.
+    // Where nothing fails, the bytes alone decide, unless memory is out.
     ensures complete { (command : Command) (read : List ℕ)
-        → IsToRead (map string_bytes words.now) command (S.left source.old) read → Accepts command read
+        → IsCommand (map string_bytes words.now) command
+        → IsToRead command (S.left source.old) read → Accepts command read
         → (Rose (S.faults source.old) (S.faults source.new) → ⊥)
         → (Rose (K.faults sink.old) (K.faults sink.new) → ⊥)
         → (result ≡ Status.Done) ⊎ (result ≡ Status.OutOfMemory) }
-    ensures refuses { (command : Command) (read : List ℕ) (due : Status)
-        → IsToRead (map string_bytes words.now) command (S.left source.old) read → Refuses command read due
+    ensures refuses { (command : Command) (read : List ℕ) (expected : Status)
+        → IsCommand (map string_bytes words.now) command
+        → IsToRead command (S.left source.old) read → Refuses command read expected
         → (Rose (S.faults source.old) (S.faults source.new) → ⊥)
-        → (result ≡ due) ⊎ (result ≡ Status.OutOfMemory) }
+        → (result ≡ expected) ⊎ (result ≡ Status.OutOfMemory) }
     ensures unput { BeforePut result (sink.new ≡ sink.old) }
 {
     let Some(command) = command_of(words) else {
         return Status::Usage;
     };
-    let bytes = match read_all(alloc, source, MAX_BYTES) {
+    let bytes = match bytes_for(alloc, command, source) {
         Ok(bytes) => bytes,
         Err(ReadAllFault::ReadFault) => return Status::ReadFault,
         Err(ReadAllFault::TooLong) => return Status::TooLong,
@@ -94,6 +100,29 @@ pub fn run<R: Threads + Wait + Clock + Sync, S: Source, K: Sink, G: Gate + Sync>
     }
 }
 
+/// The bytes that a command reads: all that the source has left, or none, and then the source is not touched.
+fn bytes_for<S: Source>(
+    alloc: Global,
+    command: Command,
+    source: &mut S,
+) -> Result<Vec<u8>, ReadAllFault>
+    ensures reads { IfOk result (λ bytes.
+        Reads command (S.left source.old) (S.left source.new) bytes.items) }
+    ensures untouched { ReadsNothing command → source.new ≡ source.old }
+    ensures nothing { ReadsNothing command → IsOk result }
+    ensures read_fault { IsErrOf result fault.ReadFault →
+        Rose (S.faults source.old) (S.faults source.new) }
+    ensures too_long { IsErrOf result fault.TooLong →
+        TakesExactly (S.left source.old) (S.left source.new) (byte_limit + 1) }
+    ensures within { IsErrOf result fault.TooLong
+        ⊎ TakesAtMost (S.left source.old) (S.left source.new) byte_limit }
+{
+    match command {
+        Command::Run | Command::Check => read_all(alloc, source, MAX_BYTES),
+        Command::Make(_) | Command::Large(_) => Ok(Vec::new(alloc)),
+    }
+}
+
 /// The text that a command makes of these bytes, or the status that says why there is none.
 fn text_made<R: Threads + Wait + Clock + Sync, G: Gate + Sync>(
     rt: &R,
@@ -102,15 +131,26 @@ fn text_made<R: Threads + Wait + Clock + Sync, G: Gate + Sync>(
     bytes: &[u8],
     gate: &G,
 ) -> Result<Vec<u8>, Status>
+    requires { HasSizes command }
     ensures makes { IfOk result (λ text. Makes command bytes.now text.items) }
-    ensures refused { IfErr result (λ status. Refuses command bytes.now status ⊎ (status ≡ Status.OutOfMemory)) }
+    ensures refused { IfErr result (λ status.
+        Refuses command bytes.now status ⊎ (status ≡ Status.OutOfMemory)) }
     ensures accepts { Accepts command bytes.now → IfErr result (λ status. status ≡ Status.OutOfMemory) }
-    ensures refuses { (due : Status) → Refuses command bytes.now due
-        → MatchResult result (λ text. ⊥) (λ status. (status ≡ due) ⊎ (status ≡ Status.OutOfMemory)) }
+    ensures refuses { (expected : Status) → Refuses command bytes.now expected
+        → MatchResult result (λ text. ⊥)
+        (λ status. (status ≡ expected) ⊎ (status ≡ Status.OutOfMemory)) }
 {
     match command {
         Command::Run => replayed_text(rt, alloc, bytes, gate),
         Command::Check => checked_text(alloc, bytes),
+        Command::Make(sizes) => {
+            let text = made_text(alloc, sizes)?;
+            Ok(text)
+        }
+        Command::Large(sizes) => {
+            let text = summary_of(rt, alloc, sizes, gate)?;
+            Ok(text)
+        }
     }
 }
 

@@ -167,7 +167,22 @@ contexts 64\n{contexts}z units 0 stints 1 moves 0 last 0 trail 63\nend\n"
 
 #[test]
 fn refused_words(rt: HostRuntime) -> Result<(), Fail> {
-    let cases: [&[&str]; 3] = [&[], &["run", "x"], &["runs"]];
+    let cases: [&[&str]; 14] = [
+        &[],
+        &["run", "x"],
+        &["runs"],
+        &["make"],
+        &["make", "0", "1", "1"],
+        &["make", "0", "0", "1", "1"],
+        &["make", "0", "65", "1", "1"],
+        &["make", "0", "1", "0", "1"],
+        &["make", "0", "1", "1025", "1"],
+        &["large", "0", "1", "1", "20001"],
+        &["large", "18446744073709551616", "1", "1", "1"],
+        &["large", "+1", "1", "1", "1"],
+        &["large", "", "1", "1", "1"],
+        &["run", "0", "1", "1", "1"],
+    ];
     for words in cases {
         let (status, put) = replay(&rt, rt.alloc(), words, SMALLEST_INPUT)?;
         assert_eq!(rt; status, Status::Usage);

@@ -1,7 +1,12 @@
-//! The words of a call, and the command that they are.
-ghost use Rattle.std.specs.Prelude.{◌≡◌, ◌≢◌, [], ◌∷◌, ◌↔◌, IsTrue, MatchOption, map, string_bytes};
+//! The words of a call, and the command that they mean.
+ghost use Rattle.std.specs.Prelude.{◌≡◌, ℕ, [], ◌∷◌, MatchOption, map, string_bytes, codes};
 ghost use Rattle.schedule_program.specs.declared.words.Command.{Command};
-ghost use Rattle.schedule_program.specs.Command.{words_of};
+ghost use Rattle.schedule_program.specs.declared.words.Sizes.{Sizes};
+ghost use Rattle.schedule_program.specs.Command.{IsCommand, AreSizes};
+
+use task_set::MAX_TASKS;
+use trace_reader::input::{MAX_EVENTS, MAX_PROCESSORS};
+use trace_reader::read_number;
 
 /// What the program can do.
 #[derive(Clone, Copy, Debug, PartialEq, Eq)]
@@ -10,28 +15,67 @@ pub enum Command {
     Run,
     /// The source is a schedule text; it is checked, and the number of its entries is put.
     Check,
+    /// The text of the input of these numbers is put. Nothing is read.
+    Make(Sizes),
+    /// The events of the input of these numbers are replayed, and a summary of the schedule is put. Nothing is read.
+    Large(Sizes),
 }
 
-/// The command that the words are, if they are one.
+/// The numbers of a generated input.
+#[derive(Clone, Copy, Debug, PartialEq, Eq)]
+pub struct Sizes {
+    /// The number from which tasks and events are drawn.
+    pub number: u64,
+
+    /// How many processors there are, from 1 to 64.
+    pub processors: u8,
+
+    /// How many tasks there are, from 1 to 1,024.
+    pub tasks: u32,
+
+    /// How many events there are, up to 20,000.
+    pub events: u32,
+}
+
+/// The command that the words mean, if they mean one.
 pub fn command_of(words: &[String]) -> Option<Command>
-    ensures { MatchOption result ((command : Command) → map string_bytes words.now ≢ words_of command)
-        (λ command. map string_bytes words.now ≡ words_of command) }
-{
-    if is_one_word(words, "run") {
-        Some(Command::Run)
-    } else if is_one_word(words, "check") {
-        Some(Command::Check)
-    } else {
-        None
-    }
-}
-
-/// Whether there is one word, and it is this one.
-fn is_one_word(words: &[String], only: &str) -> bool
-    ensures { IsTrue result ↔ (map string_bytes words.now ≡ only.now ∷ []) }
+    ensures { MatchOption result ((command : Command) → IsCommand (map string_bytes words.now) command → ⊥)
+        (IsCommand (map string_bytes words.now)) }
 {
     match words {
-        [word] => word.as_str() == only,
-        _ => false,
+        [word] => match word.as_str() {
+            "run" => Some(Command::Run),
+            "check" => Some(Command::Check),
+            _ => None,
+        },
+        [word, number, processors, tasks, events] => {
+            let Some(sizes) = sizes_of(number, processors, tasks, events) else {
+                return None;
+            };
+            match word.as_str() {
+                "make" => Some(Command::Make(sizes)),
+                "large" => Some(Command::Large(sizes)),
+                _ => None,
+            }
+        }
+        _ => None,
     }
+}
+
+/// The numbers that these words are, if each is a number within its bounds.
+fn sizes_of(number: &str, processors: &str, tasks: &str, events: &str) -> Option<Sizes>
+    ensures { MatchOption result
+        ((sizes : Sizes) → AreSizes number.now processors.now tasks.now events.now sizes → ⊥)
+        (AreSizes number.now processors.now tasks.now events.now) }
+{
+    let number = read_number(number.as_bytes(), 0, u64::MAX)?;
+    let processors = read_number(processors.as_bytes(), 1, MAX_PROCESSORS)?;
+    let tasks = read_number(tasks.as_bytes(), 1, MAX_TASKS as u64)?;
+    let events = read_number(events.as_bytes(), 0, MAX_EVENTS as u64)?;
+    Some(Sizes {
+        number,
+        processors: processors as u8,
+        tasks: tasks as u32,
+        events: events as u32,
+    })
 }
