@@ -8,7 +8,7 @@ use Rattle.task_set.specs.declared.event.Event.TheVariants.{Arrive, Depart, Tick
 use Rattle.trace_reader.specs.declared.posted.Posted.{Posted}
 use Rattle.trace_reader.specs.Input.{IsEventOf, IsPostedOf}
 use Rattle.link_table.specs.declared.reply.Entry.{Entry}
-use Rattle.trace_reader.specs.EventText.{IsAboutSet}
+use Rattle.text_fields.specs.EventText.{IsAboutSet}
 use Rattle.reach_certificate.specs.Passing.{IsOfTask}
 use Rattle.event_replay.specs.Replay.{IsKnown, posted_of}
 

@@ -10,7 +10,7 @@ use Rattle.task_set.specs.declared.event.Event.{Event}
 use Rattle.task_set.specs.declared.event.Event.TheVariants.{Arrive, Depart, Tick}
 use Rattle.link_table.specs.declared.reply.Entry.{Entry}
 use Rattle.trace_reader.specs.declared.posted.Posted.{Posted}
-use Rattle.trace_reader.specs.EventText.{IsAboutSet}
+use Rattle.text_fields.specs.EventText.{IsAboutSet}
 use Rattle.trace_reader.specs.Input.{IsPostedOf}
 use Rattle.event_replay.proofs.Known.{about_event}
 use Rattle.trace_reader.specs.InputText.{IsInputText, IsEventFields, IsEventLine, IsTaskLine}

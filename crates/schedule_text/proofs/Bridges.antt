@@ -13,7 +13,8 @@ use Rattle.task_set.specs.declared.event.Event.TheVariants.{Arrive, Depart, Tick
 use Rattle.link_table.specs.declared.reply.Reply.{Reply}
 use Rattle.link_table.specs.declared.reply.Reply.TheVariants.{Placed, Displaced, Waits, Freed, Left, Ticked, AlreadyReady, NotReady}
 use Rattle.link_table.specs.declared.reply.Entry.{Entry}
-use Rattle.trace_reader.specs.EventText.{line, name_of, event_text, task_line, IsAboutSet}
+use Rattle.text_fields.specs.LineText.{line, task_line}
+use Rattle.text_fields.specs.EventText.{name_of, event_text, IsAboutSet}
 use Rattle.schedule_text.specs.ScheduleText.{chain_text, set_text, somebody_text, number_text, reply_text, entry_line, context_line, IsReplyOf}
 use Rattle.schedule_text.specs.Schedule.{HasUnits, HasProcessors}
 use Rattle.schedule_text.specs.ScheduleFault.{HasFields, IsTaskForm, IsEntryForm, IsEntryText, IsContextText}

@@ -5,12 +5,12 @@ use Rattle.std.specs.List.{join_with_byte}
 use Rattle.std.proofs.lemmas.List.{length-map, take_more, map-append, get_or-map}
 use Rattle.std.proofs.lemmas.List.Elements.{All-nil, All-push, All-weaker, All-map, All-get_or, All-head, All-tail}
 use Rattle.affinity_mask.specs.Number.{canonical_number}
-use Rattle.trace_reader.specs.Reading.{texts}
+use Rattle.text_fields.specs.Fields.{texts}
 use Rattle.schedule_text.specs.ScheduleText.{chain_text}
 use Rattle.schedule_text.specs.Schedule.{IsRow}
 use Rattle.schedule_text.specs.Reading.{links_of, IsNumberField, IsChainField, IsRowOf}
 use Rattle.std.proofs.lemmas.Fmt.{decimal_injective}
-use Rattle.schedule_text.proofs.Words.{head_same, tail_same}
+use Rattle.text_fields.proofs.Words.{head_same, tail_same}
 use Rattle.schedule_text.proofs.Fields.{number_lacks, split_joined, joined_split, split_some}
 
 -- the processors of the first links

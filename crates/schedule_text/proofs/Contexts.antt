@@ -4,11 +4,11 @@ use Rattle.std.specs.Prelude.{codes}
 use Rattle.affinity_mask.specs.Number.{canonical_number}
 use Rattle.task_set.specs.TaskSet.{SetData}
 use Rattle.task_set.specs.declared.context.Context.{Context}
-use Rattle.trace_reader.specs.Reading.{texts}
+use Rattle.text_fields.specs.Fields.{texts}
 use Rattle.schedule_text.specs.ScheduleText.{number_text}
 use Rattle.schedule_text.specs.Schedule.{IsContextOf}
 use Rattle.schedule_text.specs.Reading.{IsNumberField, IsLastField, context_fields}
-use Rattle.schedule_text.proofs.Words.{head_same, tail_same}
+use Rattle.text_fields.proofs.Words.{head_same, tail_same}
 use Rattle.std.proofs.lemmas.Fmt.{decimal_injective}
 use Rattle.schedule_text.proofs.Fields.{number_once, number_lacks}
 

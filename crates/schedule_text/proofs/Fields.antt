@@ -16,7 +16,7 @@ use Rattle.affinity_mask.specs.declared.mask_fault.MaskFault.{MaskFault}
 use Rattle.affinity_mask.proofs.Sets.{has-zero}
 use Rattle.affinity_mask.proofs.Runs.{canonical_list-IsListText}
 use Rattle.affinity_mask.proofs.ListTexts.{list_text-one_set, list_text-no_fault}
-use Rattle.trace_reader.specs.InputText.{IsNumberWithin}
+use Rattle.text_fields.specs.Number.{IsNumberWithin}
 use Rattle.schedule_text.specs.ScheduleText.{set_text}
 use Rattle.schedule_text.specs.Schedule.{IsOfProcessors}
 use Rattle.schedule_text.specs.Reading.{IsNumberField, IsListField, IsSetField}

@@ -11,7 +11,7 @@ use Rattle.task_set.specs.Name.{IsName}
 use Rattle.task_set.proofs.Added.{IsTaskSet-push}
 use Rattle.task_set.specs.declared.context.Context.{Context}
 use Rattle.link_table.specs.declared.reply.Entry.{Entry}
-use Rattle.trace_reader.specs.EventText.{line, processors_line, task_line}
+use Rattle.text_fields.specs.LineText.{line, processors_line, task_line}
 use Rattle.schedule_text.specs.ScheduleText.{entry_line, context_line, schedule_text}
 use Rattle.schedule_text.specs.Schedule.{ScheduleData, IsScheduled, IsContextOf, AreInOrder, IsScheduleSet}
 use Rattle.schedule_text.specs.ScheduleFault.{Progress, HeaderDue, ProcessorsDue, TasksDue, EntriesDue, ContextsDue, Ended, tasks_text, history_text, contexts_text, text_so_far, lines_so_far, IsFront, IsUnended, IsLineFault, IsScheduleRefused}

@@ -15,7 +15,7 @@ use Rattle.link_table.specs.History.{IsLegal, IsLegalFrom, effect_of, state_afte
 use Rattle.link_table.proofs.Linked.{linked_number}
 use Rattle.link_table.proofs.Start.{IsState-start}
 use Rattle.link_table.proofs.Steps.{step_keeps_state}
-use Rattle.trace_reader.specs.EventText.{IsAboutSet}
+use Rattle.text_fields.specs.EventText.{IsAboutSet}
 use Rattle.schedule_text.specs.ScheduleText.{IsReplyOf, IsEntryOf}
 
 -- no reply changes how many tasks there are

@@ -27,7 +27,7 @@ use Rattle.link_table.proofs.Paths.{Reaches-online}
 use Rattle.link_table.proofs.Shifts.{chain_below}
 use Rattle.link_table.proofs.Start.{IsState-start}
 use Rattle.link_table.proofs.Steps.{step_keeps_state}
-use Rattle.trace_reader.specs.EventText.{IsAboutSet}
+use Rattle.text_fields.specs.EventText.{IsAboutSet}
 use Rattle.schedule_text.specs.Schedule.{IsRow, IsOfProcessors, HasUnits, HasProcessors, IsContextOf, AreInOrder, IsScheduleSet, IsSchedule}
 use Rattle.schedule_text.proofs.LegalEntries.{legal_entries}
 

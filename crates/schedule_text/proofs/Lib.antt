@@ -4,7 +4,6 @@ mod Written
 mod Fields
 mod Chains
 mod Names
-mod Words
 mod Shapes
 mod Replies
 mod FieldLists
@@ -19,4 +18,4 @@ mod Once
 mod Paths
 mod OneSchedule
 mod Decisions
-mod Decided
+mod LinesDecided

@@ -14,15 +14,16 @@ use Rattle.task_set.specs.declared.event.Event.TheVariants.{Arrive, Depart, Tick
 use Rattle.link_table.specs.declared.reply.Reply.{Reply}
 use Rattle.link_table.specs.declared.reply.Reply.TheVariants.{Placed, Displaced, Waits, Freed, Left, Ticked, AlreadyReady, NotReady}
 use Rattle.link_table.specs.declared.reply.Entry.{Entry}
-use Rattle.trace_reader.specs.EventText.{name_of, IsAboutSet}
+use Rattle.text_fields.specs.EventText.{name_of, IsAboutSet}
 use Rattle.schedule_text.specs.ScheduleText.{chain_text, set_text, somebody_text, IsReplyOf}
 use Rattle.schedule_text.specs.Schedule.{IsRow, IsOfProcessors, HasUnits, HasProcessors}
 use Rattle.schedule_text.specs.ScheduleFault.{Progress, HeaderDue, ProcessorsDue, TasksDue, EntriesDue, ContextsDue, Ended, IsFront, IsProcessorsForm, IsTaskForm, IsHistoryForm, IsEntryForm, IsEntryText, IsForm, IsLineFault}
 use Rattle.schedule_text.specs.declared.fault.TextKind.{TextKind}
 use Rattle.schedule_text.specs.declared.fault.TextKind.TheVariants.{BadLine, TaskRefused, UnknownTask, Short, AfterEnd, OutOfMemory}
 use Rattle.schedule_text.specs.Reading.{fields_of, IsTaskFields, IsEntryFields, event_fields, reply_fields, Leads, LeadsTasks, LeadsEntries}
-use Rattle.schedule_text.proofs.Words.{head_same, tail_same, clash}
-use Rattle.schedule_text.proofs.Names.{same_task, name_of_no_dash, set_fields}
+use Rattle.text_fields.proofs.Words.{head_same, tail_same, clash}
+use Rattle.schedule_text.proofs.Names.{name_of_no_dash, set_fields}
+use Rattle.text_fields.proofs.NamedTasks.{same_task, same_parts}
 use Rattle.schedule_text.proofs.Fields.{list_once, set_once}
 use Rattle.schedule_text.proofs.Chains.{chain_once}
 use Rattle.schedule_text.proofs.Contexts.{context_once}
@@ -107,19 +108,13 @@ entry_once set fields one other lawful f g =
 
 -- ---- tasks
 
-task_same : (one other : TaskData) → one.name ≡ other.name → one.priority ≡ other.priority → one.mask ≡ other.mask → one ≡ other
-task_same one other e1 e2 e3 = by one.name other.name one.priority other.priority one.mask other.mask e1 e2 e3
-  where
-    by : (n n' : List ℕ) (p p' m m' : ℕ) → n ≡ n' → p ≡ p' → m ≡ m' → ◌≡◌ {A = TaskData} (record { name = n; priority = p; mask = m }) (record { name = n'; priority = p'; mask = m' })
-    by n n' p p' m m' e1 e2 e3 = rw (e1, e2, e3) refl
-
 pub task_once : (fields : List (List ℕ)) (one other : TaskData) → IsTaskFields fields one → IsTaskFields fields other → one ≡ other
 task_once fields one other f g =
     let both = sym f.each_field ∙ g.each_field in
     let third = tail_same (tail_same both) in
     let p = f.priority in
     let p' = g.priority in
-    task_same one other (second both) (number_same one.priority other.priority (omega arith) (omega arith) (head_same third))
+    same_parts one other (second both) (number_same one.priority other.priority (omega arith) (omega arith) (head_same third))
     (list_once (canonical_list one.mask) one.mask other.mask (record { some = f.some; processors = f.processors; is_text = refl }) (record { some = g.some; processors = g.processors; is_text = second third }))
 
 -- a task line is no history line

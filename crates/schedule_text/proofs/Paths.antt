@@ -9,10 +9,12 @@ use Rattle.task_set.specs.TaskSet.{TaskData, SetData, IsTaskSet, Differ, IsMask}
 use Rattle.task_set.specs.Refusal.{CanAdd}
 use Rattle.task_set.specs.declared.context.Context.{Context}
 use Rattle.link_table.specs.declared.reply.Entry.{Entry}
-use Rattle.trace_reader.specs.EventText.{line}
+use Rattle.text_fields.specs.LineText.{line}
 use Rattle.schedule_text.specs.Schedule.{IsOfProcessors, IsScheduled, IsContextOf, AreInOrder, IsScheduleSet}
 use Rattle.schedule_text.specs.ScheduleFault.{Progress, HeaderDue, ProcessorsDue, TasksDue, EntriesDue, ContextsDue, Ended, text_so_far, IsFront}
 use Rattle.schedule_text.specs.Reading.{Leads, task_fields, entry_fields, event_fields, reply_fields, context_fields}
+use Rattle.text_fields.proofs.Folds.{folds_append}
+use Rattle.text_fields.proofs.Addable.{can_add_next}
 use Rattle.schedule_text.proofs.Names.{name_field}
 use Rattle.schedule_text.proofs.Spaces.{EachByte, IsNoFeed, high_no_feed, none_from_no_feed, names_no_feed, name_high, number_bytes, word_bytes, joined_bytes, behind_bytes, task_bytes, event_bytes, reply_bytes, context_bytes}
 use Rattle.schedule_text.proofs.Bridges.{spaced, task_spaced, entry_spaced, context_spaced}
@@ -34,12 +36,8 @@ stay due last same = record { lines = []; steps = same }
 one : (due next : Progress) (text : List ℕ) → Step due text next → IsPath due next
 one due next text step = record { lines = text ∷ []; steps = (next, step, refl) }
 
-folds_append : (p q r : Progress) (xs ys : List (List ℕ)) → FoldsTo Step p xs q → FoldsTo Step q ys r → FoldsTo Step p (xs ++ ys) r
-folds_append p q r [] ys same rest = subst (λ (j : Progress). FoldsTo Step j ys r) (sym same) rest
-folds_append p q r (x ∷ xs) ys steps rest = (steps.0, steps.1, folds_append steps.0 q r xs ys steps.2 rest)
-
 then : (due middle last : Progress) → IsPath due middle → IsPath middle last → IsPath due last
-then due middle last first second = record { lines = first.lines ++ second.lines; steps = folds_append due middle last first.lines second.lines first.steps second.steps }
+then due middle last first second = record { lines = first.lines ++ second.lines; steps = folds_append Step due first.lines second.lines middle last first.steps second.steps }
 
 -- ---- lines have no line feed
 
@@ -64,23 +62,6 @@ of_processors m X few mask p member = has-all_below 64 p ∙ below p (let here =
   where
     below : (p : ℕ) → p < 64 → nat_lt p 64 ≡ true
     below p lt = grind arith
-
--- a task of a lawful set can be added to those before it
-can_add_next : (m : ℕ) (before rest : List TaskData) (added : TaskData) → IsTaskSet (record { processors = m; tasks = before ++ added ∷ rest }) → CanAdd (record { processors = m; tasks = before }) added
-can_add_next m before rest added lawful =
-    let long : length (before ++ added ∷ rest) ≡ length before + (length rest + 1) = omega (arith, length-append before (added ∷ rest)) in
-    let within : length before < length (before ++ added ∷ rest) = omega arith in
-    let here = get_or_at before added rest added (length before) refl in
-    let differs : All (λ (other : TaskData). Differ other added) before =
-    λ k d below. rw (get_or_append_left before (added ∷ rest) d k below, get_or_at before added rest d (length before) refl) at (lawful.differ k (length before) d below within) in
-    let count = lawful.count in
-    record {
-      name = rw here at (lawful.names (length before) added within);
-      room = omega arith;
-      new_name = λ k d below. (differs k d below).names;
-      new_priority = λ k d below. (differs k d below).priorities;
-      mask = rw here at (lawful.masks (length before) added within);
-    }
 
 -- the line of a task of a lawful set
 task_step : (m : ℕ) (before rest : List TaskData) (added : TaskData) → IsScheduleSet (record { processors = m; tasks = before ++ added ∷ rest }) → Step (TasksDue (record { processors = m; tasks = before })) (spaced (task_fields added)) (TasksDue (record { processors = m; tasks = before ++ added ∷ [] }))

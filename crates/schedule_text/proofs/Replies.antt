@@ -5,12 +5,13 @@ use Rattle.task_set.specs.TaskSet.{SetData}
 use Rattle.task_set.specs.Refusal.{IsNameOf}
 use Rattle.link_table.specs.declared.reply.Reply.{Reply}
 use Rattle.link_table.specs.declared.reply.Reply.TheVariants.{Placed, Displaced, Waits, Freed, Left, Ticked, AlreadyReady, NotReady}
-use Rattle.trace_reader.specs.EventText.{name_of}
+use Rattle.text_fields.specs.EventText.{name_of}
 use Rattle.schedule_text.specs.ScheduleFault.{IsField}
 use Rattle.schedule_text.specs.declared.fault.TextKind.{TextKind}
 use Rattle.schedule_text.specs.Reading.{IsSetField, IsChainField, IsSomebodyField, IsNameFault, IsReplyFields, IsSomeReply, IsReplyFault, displaced_fields, freed_fields}
-use Rattle.schedule_text.proofs.Words.{head_same, tail_same, clash, other_word}
-use Rattle.schedule_text.proofs.Names.{named_task, known_name, name_of_field, alone, alone_fields, alone_named, alone_has}
+use Rattle.text_fields.proofs.Words.{head_same, tail_same, clash, other_word}
+use Rattle.schedule_text.proofs.Names.{name_of_field, alone, alone_fields, alone_named, alone_has}
+use Rattle.text_fields.proofs.NamedTasks.{named_task, known_name}
 
 -- ---- a word and a value
 

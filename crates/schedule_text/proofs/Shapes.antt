@@ -5,13 +5,14 @@ use Rattle.task_set.specs.TaskSet.{SetData}
 use Rattle.task_set.specs.Refusal.{IsNameOf}
 use Rattle.task_set.specs.declared.event.Event.{Event}
 use Rattle.task_set.specs.declared.event.Event.TheVariants.{Arrive, Depart, Tick}
-use Rattle.trace_reader.specs.EventText.{name_of}
+use Rattle.text_fields.specs.EventText.{name_of}
 use Rattle.schedule_text.specs.ScheduleFault.{IsField}
 use Rattle.schedule_text.specs.declared.fault.TextKind.{TextKind}
 use Rattle.schedule_text.specs.declared.fault.TextKind.TheVariants.{BadLine}
 use Rattle.schedule_text.specs.Reading.{IsNumberField, IsNameFault, IsEventFields, IsSomeEvent, IsEventFault}
-use Rattle.schedule_text.proofs.Words.{head_same, tail_same, clash}
-use Rattle.schedule_text.proofs.Names.{named_task, known_name, name_of_field, alone, alone_fields, alone_named, alone_has}
+use Rattle.text_fields.proofs.Words.{head_same, tail_same, clash}
+use Rattle.schedule_text.proofs.Names.{name_of_field, alone, alone_fields, alone_named, alone_has}
+use Rattle.text_fields.proofs.NamedTasks.{named_task, known_name}
 
 -- ---- events
 

@@ -21,13 +21,14 @@ use Rattle.task_set.specs.declared.event.Event.{Event}
 use Rattle.task_set.specs.declared.event.Event.TheVariants.{Arrive, Depart, Tick}
 use Rattle.link_table.specs.declared.reply.Reply.{Reply}
 use Rattle.link_table.specs.declared.reply.Reply.TheVariants.{Placed, Displaced, Waits, Freed, Left, Ticked, AlreadyReady, NotReady}
-use Rattle.trace_reader.specs.EventText.{name_of, IsAboutSet}
+use Rattle.text_fields.specs.EventText.{name_of, IsAboutSet}
 use Rattle.schedule_text.specs.ScheduleText.{chain_text, set_text, somebody_text, number_text, IsReplyOf}
 use Rattle.schedule_text.specs.Schedule.{IsRow, IsOfProcessors, HasUnits, HasProcessors, IsContextOf}
 use Rattle.schedule_text.specs.ScheduleFault.{IsField, HasFields}
 use Rattle.schedule_text.specs.Reading.{task_fields, event_fields, reply_fields, context_fields}
-use Rattle.trace_reader.proofs.Names.{name_bytes}
-use Rattle.schedule_text.proofs.Names.{name_at, no_task}
+use Rattle.text_fields.proofs.Names.{name_bytes}
+use Rattle.text_fields.proofs.Words.{and_left, and_right}
+use Rattle.text_fields.proofs.NamedTasks.{name_at, no_task}
 use Rattle.schedule_text.proofs.Fields.{set_list}
 
 -- the digits are such bytes
@@ -38,12 +39,6 @@ digits_from text digits = All-from_get_or (λ (b : ℕ). 44 ≤ b) text 0 (λ i 
 abbrev pub is_high : List ℕ → Bool
 is_high [] = true
 is_high (byte ∷ rest) = nat_le 44 byte && is_high rest
-
-and_left : (a b : Bool) → (a && b) ≡ true → a ≡ true
-and_left a b e = grind arith
-
-and_right : (a b : Bool) → (a && b) ≡ true → b ≡ true
-and_right a b e = grind arith
 
 -- names have such bytes alone
 continues_high : (b : ℕ) → IsTrue (continues_name b) → 44 ≤ b

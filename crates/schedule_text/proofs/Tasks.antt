@@ -9,7 +9,7 @@ use Rattle.schedule_text.specs.ScheduleFault.{IsField, kind_of_refusal}
 use Rattle.schedule_text.specs.declared.fault.TextKind.{TextKind}
 use Rattle.schedule_text.specs.declared.fault.TextKind.TheVariants.{BadLine}
 use Rattle.schedule_text.specs.Reading.{IsNumberField, IsListField, IsTaskFields, IsTaskFault, IsOutOfMemory}
-use Rattle.schedule_text.proofs.Words.{head_same, tail_same}
+use Rattle.text_fields.proofs.Words.{head_same, tail_same}
 
 four_same : {a b c d a' b' c' d' : List ℕ} → a ≡ a' → b ≡ b' → c ≡ c' → d ≡ d' → a ∷ b ∷ c ∷ d ∷ [] ≡ a' ∷ b' ∷ c' ∷ d' ∷ []
 four_same one two three four = cc

@@ -14,7 +14,8 @@ use Rattle.task_set.specs.declared.fault.TaskFault.{TaskFault}
 use Rattle.task_set.specs.declared.fault.TaskFault.TheVariants as task
 use Rattle.link_table.specs.declared.reply.Reply.{Reply}
 use Rattle.link_table.specs.declared.reply.Entry.{Entry}
-use Rattle.trace_reader.specs.EventText.{line, event_text, processors_line, task_line, IsAboutSet}
+use Rattle.text_fields.specs.LineText.{line, processors_line, task_line}
+use Rattle.text_fields.specs.EventText.{event_text, IsAboutSet}
 use Rattle.schedule_text.specs.ScheduleText.{reply_text, entry_line, context_line, schedule_text, IsReplyOf}
 use Rattle.schedule_text.specs.Schedule.{ScheduleData, IsOfProcessors, HasUnits, HasProcessors, IsScheduled, IsContextOf, AreInOrder, IsScheduleSet, IsSchedule}
 use Rattle.schedule_text.specs.declared.fault.TextKind.{TextKind}

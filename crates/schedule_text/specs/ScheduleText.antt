@@ -11,7 +11,8 @@ use Rattle.task_set.specs.declared.context.Context.{Context}
 use Rattle.link_table.specs.declared.reply.Reply.{Reply}
 use Rattle.link_table.specs.declared.reply.Reply.TheVariants.{Placed, Displaced, Waits, Freed, Left, Ticked, AlreadyReady, NotReady}
 use Rattle.link_table.specs.declared.reply.Entry.{Entry}
-use Rattle.trace_reader.specs.EventText.{line, name_of, event_text, processors_line, task_line, IsAboutSet}
+use Rattle.text_fields.specs.LineText.{line, processors_line, task_line}
+use Rattle.text_fields.specs.EventText.{name_of, event_text, IsAboutSet}
 
 -- the processors of a chain in order, joined by '>'; '-' where there is none
 abbrev pub chain_text : List ℕ → List ℕ

@@ -1,6 +1,6 @@
 //! The fields of a line, and what a field says.
 ghost use Rattle.std.specs.Prelude.{◌≡◌, ◌≢◌, ℕ, codes, ◌≤◌, ◌⊎◌, ◌↔◌, ◌++◌, ◌∷◌, IsTrue, List, Contains, IfOk, IfErr, MatchOption};
-ghost use Rattle.trace_reader.specs.Reading.{texts};
+ghost use Rattle.text_fields.specs.Fields.{texts};
 ghost use Rattle.schedule_text.specs.ScheduleFault.{IsField};
 ghost use Rattle.schedule_text.specs.Reading.{fields_of, links_of, IsNumberField, IsListField, IsSetField, IsChainField, IsRowOf, IsNumberBehind, IsNameFault, IsSomebodyField, IsOutOfMemory};
 ghost use Rattle.task_set.specs.Refusal.{IsNameOf};
@@ -11,12 +11,9 @@ use affinity_mask::{OutOfMemory, ProcSet};
 use itoa::Buffer;
 use link_table::Chain;
 use std::alloc::Global;
-use std::str;
 use task_set::TaskSet;
-use trace_reader::read_number;
-
-/// The greatest number of a processor.
-pub const MAX_PROCESSOR: u64 = 63;
+use text_fields::limits::MAX_PROCESSOR;
+use text_fields::{is_word, read_number, task_of};
 
 /// The most processors of a chain.
 const MAX_CHAIN: usize = 64;
@@ -50,13 +47,6 @@ fn links(alloc: Global, text: &[u8]) -> Result<Vec<&[u8]>, OutOfMemory>
         links.push(link)?;
     }
     Ok(links)
-}
-
-/// Whether a field is this word.
-pub fn is_word(field: &[u8], word: &str) -> bool
-    ensures { IsTrue result ↔ (field.now ≡ word.now) }
-{
-    field == word.as_bytes()
 }
 
 /// Whether the bytes can stand for a name.
@@ -140,18 +130,14 @@ fn row_of(links: &[&[u8]]) -> Option<Chain>
 }
 
 /// The task that has this name.
-pub fn task_of(set: &TaskSet, name: &[u8]) -> Result<u32, TextKind>
+pub fn known_task(set: &TaskSet, name: &[u8]) -> Result<u32, TextKind>
     ensures read { IfOk result (λ t. IsNameOf set.now t name.now) }
     ensures refused { IfErr result (IsNameFault set.now name.now) }
 {
-    let _lawful = set.len();
     if !is_field(name) {
         return Err(TextKind::BadLine);
     }
-    let Ok(name) = str::from_utf8(name) else {
-        return Err(TextKind::UnknownTask);
-    };
-    match set.find(name) {
+    match task_of(set, name) {
         Some(t) => Ok(t),
         None => Err(TextKind::UnknownTask),
     }
@@ -165,7 +151,7 @@ pub fn somebody_of(set: &TaskSet, name: &[u8]) -> Result<Option<u32>, TextKind>
     if is_word(name, "-") {
         return Ok(None);
     }
-    match task_of(set, name) {
+    match known_task(set, name) {
         Ok(t) => Ok(Some(t)),
         Err(kind) => Err(kind),
     }

@@ -2,8 +2,8 @@
 ghost use Rattle.std.specs.Prelude.{◌≡◌, ℕ, ◌<◌, ◌⊎◌, ◌↔◌, IsTrue, IfOk, IfErr, IfSome, OnOk, MatchOption, MatchBool, Some, Option, length};
 ghost use Rattle.task_set.specs.TaskSet.{SetData, TaskData};
 ghost use Rattle.task_set.specs.declared.context.Context.{Context};
-ghost use Rattle.trace_reader.specs.Reading.{texts};
-ghost use Rattle.trace_reader.specs.EventText.{line};
+ghost use Rattle.text_fields.specs.Fields.{texts};
+ghost use Rattle.text_fields.specs.LineText.{line};
 ghost use Rattle.schedule_text.specs.ScheduleText.{context_line};
 ghost use Rattle.schedule_text.specs.Schedule.{IsContextOf};
 ghost use Rattle.schedule_text.specs.ScheduleFault.{IsCountForm, IsContextText};
@@ -11,16 +11,14 @@ ghost use Rattle.schedule_text.specs.Reading.{context_fields, IsLastField, IsAdd
 ghost use Rattle.schedule_text.specs.declared.fault.TextKind.TheVariants.{BadLine};
 
 use crate::fault::TextKind;
-use crate::field::{MAX_PROCESSOR, fields, is_field, is_word, list_of, number_of};
+use crate::field::{fields, is_field, list_of, number_of};
 use crate::write::write_context;
 use affinity_mask::OutOfMemory;
 use std::alloc::Global;
 use std::str;
 use task_set::{Context, TaskFault, TaskSet};
-use trace_reader::write::write_number;
-
-/// The greatest priority of a task.
-const MAX_PRIORITY: u64 = 4_294_967_295;
+use text_fields::limits::{MAX_PRIORITY, MAX_PROCESSOR};
+use text_fields::{is_word, write_number};
 
 /// Adds the task of some fields.
 pub fn add_task(alloc: Global, set: &mut TaskSet, fields: &[&[u8]]) -> Result<(), TextKind>
@@ -49,7 +47,7 @@ pub fn is_count(alloc: Global, set: &TaskSet, text: &[u8]) -> Result<bool, OutOf
     ensures { IfOk result (λ is. MatchBool is (IsCountForm set.now text.now) (IsCountForm set.now text.now → ⊥)) }
 {
     let mut count = Vec::from_slice(alloc, b"contexts ")?;
-    write_number(&mut count, set.len())?;
+    write_number(&mut count, set.len() as u64)?;
     Ok(count.as_slice() == text)
 }
 

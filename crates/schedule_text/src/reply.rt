@@ -1,15 +1,16 @@
 //! The reply of an entry.
 ghost use Rattle.std.specs.Prelude.{◌≡◌, ◌↔◌, IsTrue, ◌⊎◌, ◌∷◌, [], codes, IfOk, IfErr, MatchOption};
 ghost use Rattle.task_set.specs.TaskSet.{SetData};
-ghost use Rattle.trace_reader.specs.Reading.{texts};
+ghost use Rattle.text_fields.specs.Fields.{texts};
 ghost use Rattle.schedule_text.specs.Reading.{displaced_fields, freed_fields, IsReplyFields, IsReplyFault, IsSomeReply, IsOutOfMemory};
 ghost use Rattle.schedule_text.specs.declared.fault.TextKind.TheVariants.{BadLine};
 
 use crate::fault::TextKind;
-use crate::field::{chain_of, is_word, set_of, somebody_of, task_of};
+use crate::field::{chain_of, known_task, set_of, somebody_of};
 use link_table::Reply;
 use std::alloc::Global;
 use task_set::TaskSet;
+use text_fields::is_word;
 
 /// The reply of some fields.
 pub fn read_reply(alloc: Global, set: &TaskSet, fields: &[&[u8]]) -> Result<Reply, TextKind>
@@ -95,7 +96,7 @@ fn displaced_reply(
 {
     let chain = chain_of(alloc, chain)?;
     let reach = set_of(alloc, processors)?;
-    let out = task_of(set, name)?;
+    let out = known_task(set, name)?;
     Ok(Reply::Displaced { chain, out, reach })
 }
 

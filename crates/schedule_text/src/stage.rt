@@ -5,15 +5,14 @@ ghost use Rattle.schedule_text.specs.Reading.{progress_of, progress_behind, Lead
 
 use crate::entry::read_entry;
 use crate::fault::TextKind;
-use crate::field::{fields, is_word, number_behind};
+use crate::field::{fields, number_behind};
 use crate::line::{add_task, is_count, read_context};
 use crate::schedule::{MAX_ENTRIES, Schedule};
 use link_table::Entry;
 use std::alloc::Global;
 use task_set::{Context, TaskSet};
-
-/// The greatest number of processors.
-const MAX_PROCESSORS: u64 = 64;
+use text_fields::is_word;
+use text_fields::limits::MAX_PROCESSORS;
 
 /// What some lines said, and so what is due behind them.
 #[derive(Drop)]

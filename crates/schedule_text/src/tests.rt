@@ -1,6 +1,6 @@
 //! The words and the punctuation of a schedule text, spelled out by hand.
 ghost use Rattle.std.specs.Prelude.{◌<◌, length, All, IsTrue};
-ghost use Rattle.trace_reader.specs.EventText.{IsAboutSet};
+ghost use Rattle.text_fields.specs.EventText.{IsAboutSet};
 ghost use Rattle.schedule_text.specs.ScheduleText.{IsReplyOf, IsEntryOf};
 
 use crate::{TextFault, TextKind, read_schedule, write_schedule};

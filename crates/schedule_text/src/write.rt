@@ -2,7 +2,8 @@
 ghost use Rattle.std.specs.Prelude.{◌≡◌, ◌<◌, ◌++◌, length, codes, All, IfOk, OnOk, IfSome};
 ghost use Rattle.std.specs.List.{flat_map};
 ghost use Rattle.affinity_mask.specs.Number.{canonical_number};
-ghost use Rattle.trace_reader.specs.EventText.{name_of, line};
+ghost use Rattle.text_fields.specs.EventText.{name_of};
+ghost use Rattle.text_fields.specs.LineText.{line};
 ghost use Rattle.link_table.specs.declared.reply.Reply.TheVariants.{Displaced, Freed};
 ghost use Rattle.schedule_text.specs.ScheduleText.{
   chain_text,
@@ -18,11 +19,12 @@ ghost use Rattle.schedule_text.specs.ScheduleText.{
 };
 
 use affinity_mask::{OutOfMemory, ProcSet};
-use itoa::Buffer;
 use link_table::{Chain, Entry, Reply};
 use std::alloc::Global;
 use task_set::{Context, TaskSet};
-use trace_reader::write::{write_event_text, write_processors_line, write_task_lines};
+use text_fields::{
+    write_event_text, write_name, write_number, write_processors_line, write_task_lines,
+};
 
 /// The text of a schedule: a task set, the entries of a history, and the contexts of the tasks. The tasks that they
 /// name are of the set. Refused only for want of memory.
@@ -177,13 +179,6 @@ fn write_name_or_dash(text: &mut Vec<u8>, set: &TaskSet, t: Option<u32>) -> Resu
     }
 }
 
-fn write_name(text: &mut Vec<u8>, set: &TaskSet, t: u32) -> Result<(), OutOfMemory>
-    requires { t < length set.now.tasks }
-    ensures { OnOk result (text.new.items ≡ text.old.items ++ name_of set.now t) }
-{
-    write_word(text, set.name(t).as_bytes())
-}
-
 fn write_contexts(
     text: &mut Vec<u8>,
     set: &TaskSet,
@@ -249,11 +244,4 @@ fn write_word(text: &mut Vec<u8>, word: &[u8]) -> Result<(), OutOfMemory>
 {
     text.extend_from_slice(word)?;
     Ok(())
-}
-
-fn write_number(text: &mut Vec<u8>, number: u64) -> Result<(), OutOfMemory>
-    ensures { OnOk result (text.new.items ≡ text.old.items ++ canonical_number number) }
-{
-    let mut buffer = Buffer::new();
-    write_word(text, buffer.format(number).as_bytes())
 }

@@ -14,12 +14,12 @@ use Rattle.trace_reader.specs.Laws.{AcceptedOrRefused}
 use Rattle.trace_reader.proofs.Fronts.{front_more}
 use Rattle.trace_reader.proofs.LinesCut.{said_by-append, said_by-kept, said_by-skipped}
 use Rattle.trace_reader.proofs.Refused.{line_refused}
-use Rattle.trace_reader.proofs.Decisions.{all_or_not}
-use Rattle.trace_reader.proofs.Decided.{fields_decided}
+use Rattle.text_fields.proofs.Decisions.{all_decided}
+use Rattle.trace_reader.proofs.LinesDecided.{fields_decided}
 
 -- ---- one line
-plain_or_not : (byte : ℕ) → IsPlain byte ⊎ (IsPlain byte → ⊥)
-plain_or_not byte = elim (cases_eq byte 9) [
+plain_decided : (byte : ℕ) → IsPlain byte ⊎ (IsPlain byte → ⊥)
+plain_decided byte = elim (cases_eq byte 9) [
   | inl tab ↦ inl (inl tab)
   | inr other ↦ elim (cases_lt byte 32) [
     | inl low ↦ inr (λ plain. elim plain [ inl tab ↦ other tab | inr printed ↦ (let from : 32 ≤ byte = printed.0 in omega arith) ])
@@ -41,7 +41,7 @@ clean_decided said due line front clean = elim (cases_Bool (is_skipped (fields_o
 ]
 
 line_decided : (said : List (List (List ℕ))) (due : Progress) (line : List ℕ) → IsFront said due → (IsClean line × ((next : Progress) × IsFront (said ++ said_by (line ∷ [])) next)) ⊎ ((kind : InputKind) × IsLineFault due line kind)
-line_decided said due line front = elim (all_or_not IsPlain plain_or_not line) [
+line_decided said due line front = elim (all_decided IsPlain plain_decided line) [
   | inr bad ↦ inr (BadByte, bad)
   | inl plain ↦ elim (cases_lt 4096 (length line)) [
     | inl long ↦ inr (LongLine, (plain, long))

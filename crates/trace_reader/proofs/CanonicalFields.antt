@@ -3,7 +3,7 @@ use Rattle.std.proofs.Common.{◌≡◌, ◌≢◌, ℕ, ◌+◌, ◌*◌, ◌<�
 use Rattle.std.specs.List.{flat_map, join_with_byte, slice_split}
 use Rattle.std.proofs.lemmas.List.Elements.{All-nil, All-cons, All-head, All-tail, All-append, All-weaker, All-map}
 use Rattle.std.proofs.lemmas.List.Splits.{slice_split_at, slice_split_none}
-use Rattle.trace_reader.specs.EventText.{line}
+use Rattle.text_fields.specs.LineText.{line}
 use Rattle.trace_reader.specs.Lines.{lines_of, fields_of, is_line_feed, is_blank, is_nothing, is_skipped, said_by, IsPlain, IsClean}
 
 -- a byte that is printed

@@ -18,12 +18,13 @@ use Rattle.task_set.specs.Refusal.{IsNameOf}
 use Rattle.task_set.specs.declared.event.Event.{Event}
 use Rattle.task_set.specs.declared.event.Event.TheVariants.{Arrive, Depart, Tick}
 use Rattle.trace_reader.specs.declared.posted.Posted.{Posted}
-use Rattle.trace_reader.specs.EventText.{line, name_of, event_text, processors_line, task_line}
+use Rattle.text_fields.specs.LineText.{line, processors_line, task_line, PrioritiesFit}
+use Rattle.text_fields.specs.EventText.{name_of, event_text}
 use Rattle.trace_reader.specs.CanonicalText.{event_line, canonical_input_text}
 use Rattle.trace_reader.specs.Input.{IsEventOf, IsPostedOf, IsInput}
 use Rattle.trace_reader.specs.InputText.{IsHeader, IsProcessorsLine, IsTaskLine, IsEventFields, IsEventLine, IsBody, IsInputText, end_line}
 use Rattle.trace_reader.specs.Lines.{lines_of, said_by, is_skipped}
-use Rattle.trace_reader.specs.Laws.{PrioritiesFit}
+use Rattle.text_fields.proofs.NamedTasks.{has_name, name_valid}
 use Rattle.trace_reader.proofs.CanonicalFields.{IsVisible, IsField, IsLineOf, spaced, text_of, lines_of-text, said_by-text, clean-text}
 use Rattle.trace_reader.proofs.CanonicalPieces.{word-field, number-value, number-field, number-unskipped, name-field, list-field}
 
@@ -166,25 +167,14 @@ task-says m most task t =
     let small : task.priority < 2 ^ 64 = omega (arith, t.priority) in
     (canonical_list task.mask, record { number = canonical_number task.priority; each_field = refl; value = (number-value task.priority small, omega arith, omega (arith, t.priority)) }, mask-list m task.mask most t.mask)
 
--- the name of a task of the set
-name-at : (set : SetData) (t : ℕ) → t < length set.tasks → IsNameOf set t (name_of set t)
-name-at set t within = slice_get-get_or (names set) t [] (omega (arith, within, length-map set.tasks (λ (task : TaskData). task.name)))
-
-no_task : TaskData
-no_task = record { name = []; priority = 0; mask = 0 }
-
-name-lawful : (set : SetData) (t : ℕ) → IsTaskSet set → t < length set.tasks → IsName (name_of set t)
-name-lawful set t lawful within =
-    rw (get_or-map (λ (task : TaskData). task.name) set.tasks t no_task [] within) (lawful.names t no_task within)
-
 event-line : (set : SetData) (stream : ℕ) (event : Event) → IsTaskSet set → stream < 16 → IsEventOf set event → IsLineOf (canonical_number stream ∷ event_fields set event)
 event-line set stream (Arrive t) lawful few within =
     let small : stream < 2 ^ 64 = omega (arith, few) in
-    three_fields (canonical_number stream) (codes "arrive") (name_of set t) (number-field stream small) (word-field (codes "arrive") refl) (name-field (name_of set t) (name-lawful set t lawful within))
+    three_fields (canonical_number stream) (codes "arrive") (name_of set t) (number-field stream small) (word-field (codes "arrive") refl) (name-field (name_of set t) (name_valid set t lawful within))
     (number-unskipped stream (codes "arrive" ∷ name_of set t ∷ []) small)
 event-line set stream (Depart t) lawful few within =
     let small : stream < 2 ^ 64 = omega (arith, few) in
-    three_fields (canonical_number stream) (codes "depart") (name_of set t) (number-field stream small) (word-field (codes "depart") refl) (name-field (name_of set t) (name-lawful set t lawful within))
+    three_fields (canonical_number stream) (codes "depart") (name_of set t) (number-field stream small) (word-field (codes "depart") refl) (name-field (name_of set t) (name_valid set t lawful within))
     (number-unskipped stream (codes "depart" ∷ name_of set t ∷ []) small)
 event-line set stream (Tick units) lawful few bounds =
     let small : stream < 2 ^ 64 = omega (arith, few) in
@@ -192,8 +182,8 @@ event-line set stream (Tick units) lawful few bounds =
     (number-unskipped stream (codes "tick" ∷ canonical_number units ∷ []) small)
 
 event-says : (set : SetData) (event : Event) → IsEventOf set event → IsEventFields set (event_fields set event) event
-event-says set (Arrive t) within = (name_of set t, refl, name-at set t within)
-event-says set (Depart t) within = (name_of set t, refl, name-at set t within)
+event-says set (Arrive t) within = (name_of set t, refl, has_name set t within)
+event-says set (Depart t) within = (name_of set t, refl, has_name set t within)
 event-says set (Tick units) bounds = (canonical_number units, refl, (number-value units (omega (arith, bounds.1)), bounds.0, bounds.1))
 
 posted-says : (set : SetData) (posted : Posted) → IsPostedOf set posted → IsEventLine set (posted_fields set posted) posted

@@ -12,8 +12,9 @@ use Rattle.affinity_mask.specs.ProcSet.{passing_below}
 use Rattle.affinity_mask.specs.ListText.{comma, dash, Item, IsItem, IsLawful, IsListText, begins_run, ends_run, run_text, runs, canonical_list}
 use Rattle.affinity_mask.proofs.Lists.{passing_more, passing_same}
 use Rattle.task_set.specs.Name.{IsName, begins_name, continues_name}
-use Rattle.trace_reader.specs.InputText.{IsNumberOf}
+use Rattle.text_fields.specs.Number.{IsNumberOf}
 use Rattle.trace_reader.specs.Lines.{is_skipped}
+use Rattle.text_fields.proofs.Words.{and_left, and_right}
 use Rattle.trace_reader.proofs.CanonicalFields.{IsVisible, IsField}
 
 -- ---- words
@@ -21,12 +22,6 @@ use Rattle.trace_reader.proofs.CanonicalFields.{IsVisible, IsField}
 -- whether a word can stand as a field
 abbrev pub is_word : List ℕ → Bool
 is_word word = nat_lt 0 (length word) && (nat_le (length word) 1023 && list_all (λ (byte : ℕ). nat_le 33 byte && nat_le byte 126) word)
-
-and_left : (a b : Bool) → (a && b) ≡ true → a ≡ true
-and_left a b e = grind arith
-
-and_right : (a b : Bool) → (a && b) ≡ true → b ≡ true
-and_right a b e = grind arith
 
 word-visible : (word : List ℕ) → list_all (λ (byte : ℕ). nat_le 33 byte && nat_le byte 126) word ≡ true → All IsVisible word
 word-visible [] e = All-nil IsVisible

@@ -14,7 +14,8 @@ use Rattle.trace_reader.specs.InputText.{IsHeader, IsProcessorsLine, IsTaskForm,
 use Rattle.trace_reader.specs.InputFault.{Progress, HeaderDue, ProcessorsDue, Listed, Ended, BeginsTask, IsForTask, IsNamedForm, IsEventForm, IsFieldsFault}
 use Rattle.trace_reader.specs.Reading.{Says}
 use Rattle.affinity_mask.proofs.ListTexts.{list_text-one_set, list_text-one_fault, list_text-no_fault}
-use Rattle.trace_reader.proofs.Forms.{same_form, same_task, form_begins_task, end_not_task, event_not_end, named_not_task, event_not_task, event_name_not_new, event_has_form, named_not_end}
+use Rattle.trace_reader.proofs.Forms.{same_form, form_begins_task, end_not_task, event_not_end, named_not_task, event_not_task, event_name_not_new, event_has_form, named_not_end}
+use Rattle.text_fields.proofs.NamedTasks.{same_parts}
 use Rattle.trace_reader.proofs.Steps.{IsLawfulDue, IsListedStep, header_step, processors_step, listed_step}
 
 -- ---- the faults, by what is due
@@ -128,7 +129,7 @@ step_no_task_fault set fields task kind line can (inr (name, priority, list, for
 step_no_task_fault set fields task kind line can (inr (name, priority, list, form, inr (fault, mask, is_kind, is_list, refused))) =
     let parts = same_form fields task.name name line.0 list task.priority priority line.1 form in
     let masks = list_text-one_set list task.mask mask (rw parts.2 at line.2) is_list in
-    let same = same_task task (new_task name priority mask) parts.0 parts.1 masks in
+    let same = same_parts task (new_task name priority mask) parts.0 parts.1 masks in
     CanAdd-IsRefusal set task fault can (subst (λ (any : TaskData). IsRefusal set any fault) (sym same) refused)
 
 listed_no_fault : (set : SetData) (events : List Posted) (fields : List (List ℕ)) (next : Progress) (kind : InputKind) → IsListedStep set events fields next → IsListedFault set events fields kind → ⊥

@@ -2,26 +2,8 @@
 use Rattle.std.proofs.Common.{◌≡◌, ◌≢◌, ℕ, ◌+◌, ◌<◌, ◌≤◌, ◌↔◌, List, [], ◌∷◌, length, get_or, drop, Bool, IsTrue, Bor, refl, sym, ap, ◌∙◌, arith}
 use Rattle.std.specs.Prelude.{codes}
 use Rattle.trace_reader.specs.InputFault.{BeginsTask}
-use Rattle.trace_reader.specs.Reading.{texts}
-
-pub texts_first : (fields : List (Bor (List ℕ))) (d : Bor (List ℕ)) → 1 ≤ length fields → texts fields ≡ (get_or fields 0 d).now ∷ texts (drop 1 fields)
-texts_first [] d some = absurd (omega arith)
-texts_first (x ∷ xs) d some = refl
-
-pub texts_three : (fields : List (Bor (List ℕ))) (d : Bor (List ℕ)) → 3 ≤ length fields → length fields < 4 → texts fields ≡ (get_or fields 0 d).now ∷ (get_or fields 1 d).now ∷ (get_or fields 2 d).now ∷ []
-texts_three [] d some few = absurd (omega arith)
-texts_three (x ∷ []) d some few = absurd (omega arith)
-texts_three (x ∷ y ∷ []) d some few = absurd (omega arith)
-texts_three (x ∷ y ∷ z ∷ []) d some few = refl
-texts_three (x ∷ y ∷ z ∷ u ∷ us) d some few = absurd (omega arith)
-
-pub texts_four : (fields : List (Bor (List ℕ))) (d : Bor (List ℕ)) → 4 ≤ length fields → length fields < 5 → texts fields ≡ (get_or fields 0 d).now ∷ (get_or fields 1 d).now ∷ (get_or fields 2 d).now ∷ (get_or fields 3 d).now ∷ []
-texts_four [] d some few = absurd (omega arith)
-texts_four (x ∷ []) d some few = absurd (omega arith)
-texts_four (x ∷ y ∷ []) d some few = absurd (omega arith)
-texts_four (x ∷ y ∷ z ∷ []) d some few = absurd (omega arith)
-texts_four (x ∷ y ∷ z ∷ u ∷ []) d some few = refl
-texts_four (x ∷ y ∷ z ∷ u ∷ v ∷ us) d some few = absurd (omega arith)
+use Rattle.text_fields.specs.Fields.{texts}
+use Rattle.text_fields.proofs.FieldLists.{texts_four}
 
 -- the first field tells whether the line is for a task
 pub begins_by_first : (fields : List (Bor (List ℕ))) (d : Bor (List ℕ)) (r : Bool) → 1 ≤ length fields → IsTrue r ↔ ((get_or fields 0 d).now ≡ codes "task") → IsTrue r ↔ BeginsTask (texts fields)

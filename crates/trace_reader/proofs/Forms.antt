@@ -6,9 +6,10 @@ use Rattle.task_set.specs.Refusal.{IsNewName, new_task}
 use Rattle.task_set.specs.declared.event.Event.{Event}
 use Rattle.task_set.specs.declared.event.Event.TheVariants.{Arrive, Depart, Tick}
 use Rattle.trace_reader.specs.declared.posted.Posted.{Posted}
-use Rattle.trace_reader.specs.InputText.{IsNumberOf, IsTaskForm, IsTaskLine, IsOnStream, IsEventFields, IsEventLine, end_line}
+use Rattle.trace_reader.specs.InputText.{IsTaskForm, IsTaskLine, IsOnStream, IsEventFields, IsEventLine, end_line}
+use Rattle.text_fields.specs.Number.{IsNumberOf}
 use Rattle.trace_reader.specs.InputFault.{BeginsTask, IsNamedForm, IsEventForm}
-use Rattle.trace_reader.proofs.NamedTasks.{same_name, name_not_new}
+use Rattle.text_fields.proofs.NamedTasks.{same_name, name_not_new}
 
 -- ---- words: those that are told apart differ in their first bytes
 arrive_not_depart : codes "arrive" ≡ codes "depart" → ⊥
@@ -53,11 +54,6 @@ same_form fields name other list another priority next one two =
     let e = one.each_field in
     let e' = two.each_field in
     (cc, same_number one.number two.number priority next (cc) one.value.0 two.value.0, cc)
-
--- two tasks with the same parts are one
-pub same_task : (task other : TaskData) → task.name ≡ other.name → task.priority ≡ other.priority → task.mask ≡ other.mask → task ≡ other
-same_task task other names priorities masks =
-    let e : new_task task.name task.priority task.mask ≡ new_task other.name other.priority other.mask = rw (names, priorities, masks) refl in e
 
 -- ---- event lines
 -- the fields behind a stream are of one event

@@ -12,7 +12,8 @@ use Rattle.trace_reader.specs.InputFault.{Progress, HeaderDue, Ended, IsFront, I
 use Rattle.trace_reader.specs.Reading.{Says}
 use Rattle.trace_reader.specs.Laws.{TextHasOneInput, TextHasOneFault, InputHasNoFault}
 use Rattle.trace_reader.proofs.Fronts.{front_more}
-use Rattle.trace_reader.proofs.Paths.{folds_parts, front_steps, steps_front}
+use Rattle.trace_reader.proofs.Paths.{front_steps, steps_front}
+use Rattle.text_fields.proofs.Folds.{folds_parts}
 use Rattle.trace_reader.proofs.Steps.{IsLawfulDue, front_lawful, says_once}
 use Rattle.trace_reader.proofs.Faults.{says_no_fault, fault_once}
 use Rattle.trace_reader.proofs.LinesCut.{said_by-append, said_by-kept, All-middle, cut_cases}

@@ -1,46 +1,16 @@
 -- Lines without fault, one step after another: each leads from what is due before it to what is due next.
 use Rattle.std.proofs.Common.{◌≡◌, ℕ, ◌+◌, ◌<◌, ◌≤◌, List, [], ◌∷◌, ◌++◌, length, refl, sym, ap, ◌∙◌, subst, inl, inr, arith, append_assoc, append-nil, length-append}
-use Rattle.std.specs.Prelude.{All}
 use Rattle.std.specs.List.{AllZip, FoldsTo}
-use Rattle.std.proofs.lemmas.List.{get_or_append_left, get_or_at}
-use Rattle.task_set.specs.TaskSet.{TaskData, SetData, IsTaskSet, Differ}
-use Rattle.task_set.specs.Refusal.{CanAdd}
+use Rattle.task_set.specs.TaskSet.{TaskData, SetData, IsTaskSet}
 use Rattle.trace_reader.specs.declared.posted.Posted.{Posted}
 use Rattle.trace_reader.specs.InputText.{IsTaskLine, IsEventLine, IsBody, end_line}
 use Rattle.trace_reader.specs.InputFault.{Progress, HeaderDue, ProcessorsDue, Listed, Ended, IsFront}
 use Rattle.trace_reader.specs.Reading.{Says}
+use Rattle.text_fields.proofs.Folds.{folds_append}
+use Rattle.text_fields.proofs.Addable.{can_add_next}
 use Rattle.trace_reader.proofs.Fronts.{front_more}
 
--- ---- steps of any relation
-module _ {P A : Type 0} (R : P → A → P → Type 0) where
-  -- the steps over some items, and then those over more
-  pub folds_append : (p : P) (xs ys : List A) (q r : P) → FoldsTo R p xs q → FoldsTo R q ys r → FoldsTo R p (xs ++ ys) r
-  folds_append p [] ys q r same rest = subst (λ (j : P). FoldsTo R j ys r) (sym same) rest
-  folds_append p (x ∷ xs) ys q r steps rest = (steps.0, steps.1, folds_append steps.0 xs ys q r steps.2 rest)
-
-  -- where the steps over a front of the items lead
-  pub folds_parts : (p : P) (xs ys : List A) (r : P) → FoldsTo R p (xs ++ ys) r → (q : P) × FoldsTo R p xs q × FoldsTo R q ys r
-  folds_parts p [] ys r steps = (p, refl, steps)
-  folds_parts p (x ∷ xs) ys r steps = let more = folds_parts steps.0 xs ys r steps.2 in (more.0, (steps.0, steps.1, more.1), more.2)
-
 -- ---- the steps of the lines
-
--- a task of a lawful set can be added to those before it
-can_add_next : (m : ℕ) (before rest : List TaskData) (task : TaskData) → IsTaskSet (record { processors = m; tasks = before ++ task ∷ rest }) → CanAdd (record { processors = m; tasks = before }) task
-can_add_next m before rest task lawful =
-    let long : length (before ++ task ∷ rest) ≡ length before + (length rest + 1) = omega (arith, length-append before (task ∷ rest)) in
-    let within : length before < length (before ++ task ∷ rest) = omega arith in
-    let count = lawful.count in
-    let here = get_or_at before task rest task (length before) refl in
-    let differs : All (λ (other : TaskData). Differ other task) before =
-    λ k d below. rw (get_or_append_left before (task ∷ rest) d k below, get_or_at before task rest d (length before) refl) at (lawful.differ k (length before) d below within) in
-    record {
-      name = rw here at (lawful.names (length before) task within);
-      room = omega arith;
-      new_name = λ k d below. (differs k d below).names;
-      new_priority = λ k d below. (differs k d below).priorities;
-      mask = rw here at (lawful.masks (length before) task within);
-    }
 
 -- the lines of tasks add them
 task_steps : (m : ℕ) (before tasks : List TaskData) (lines : List (List (List ℕ))) → AllZip IsTaskLine lines tasks → IsTaskSet (record { processors = m; tasks = before ++ tasks })

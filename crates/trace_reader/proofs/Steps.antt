@@ -7,7 +7,8 @@ use Rattle.trace_reader.specs.InputText.{IsHeader, IsProcessorsLine, IsTaskLine,
 use Rattle.trace_reader.specs.InputFault.{Progress, HeaderDue, ProcessorsDue, Listed, Ended, IsFront}
 use Rattle.trace_reader.specs.Reading.{Says}
 use Rattle.affinity_mask.proofs.ListTexts.{list_text-one_set}
-use Rattle.trace_reader.proofs.Forms.{same_number, same_form, same_task, same_posted, task_not_event, task_not_end, event_not_end}
+use Rattle.trace_reader.proofs.Forms.{same_number, same_form, same_posted, task_not_event, task_not_end, event_not_end}
+use Rattle.text_fields.proofs.NamedTasks.{same_parts}
 
 -- the set that was listed so far is lawful
 abbrev pub IsLawfulDue : Progress → Type 0
@@ -60,7 +61,7 @@ listed_once : (set : SetData) (events : List Posted) (fields : List (List ℕ)) 
 listed_once set events fields next other lawful (inl one) (inl two) =
     let parts = same_form fields one.0.name two.0.name one.2.0 two.2.0 one.0.priority two.0.priority one.2.1 two.2.1 in
     let masks = list_text-one_set one.2.0 one.0.mask two.0.mask one.2.2 (rw parts.2 two.2.2) in
-    let tasks = same_task one.0 two.0 parts.0 parts.1 masks in
+    let tasks = same_parts one.0 two.0 parts.0 parts.1 masks in
     one.4 ∙ ap (λ (task : TaskData). Listed (with_task set task) []) tasks ∙ sym two.4
 listed_once set events fields next other lawful (inl one) (inr (inl two)) = absurd (task_not_event set fields one.0 two.0 one.2 two.1)
 listed_once set events fields next other lawful (inl one) (inr (inr two)) = absurd (task_not_end fields one.0 one.2 two.0)

@@ -5,7 +5,8 @@ use Rattle.std.specs.List.{flat_map}
 use Rattle.affinity_mask.specs.Number.{canonical_number}
 use Rattle.task_set.specs.TaskSet.{SetData}
 use Rattle.trace_reader.specs.declared.posted.Posted.{Posted}
-use Rattle.trace_reader.specs.EventText.{line, event_text, processors_line, task_line}
+use Rattle.text_fields.specs.LineText.{line, processors_line, task_line}
+use Rattle.text_fields.specs.EventText.{event_text}
 
 -- an event on its stream
 unfoldable pub event_line : SetData → Posted → List ℕ

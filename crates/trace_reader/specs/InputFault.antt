@@ -11,7 +11,8 @@ use Rattle.trace_reader.specs.declared.posted.Posted.{Posted}
 use Rattle.trace_reader.specs.declared.fault.InputKind.{InputKind}
 use Rattle.trace_reader.specs.declared.fault.InputKind.TheVariants.{BadByte, LongLine, BadHeader, BadProcessors, BadTask, BadMask, TaskRefused, BadEvent, UnknownTask, ManyEvents, AfterEnd, NoEnd, OutOfMemory}
 use Rattle.trace_reader.specs.Lines.{lines_of, fields_of, is_skipped, said_by, IsPlain, IsClean}
-use Rattle.trace_reader.specs.InputText.{IsNumberWithin, IsHeader, IsProcessorsLine, IsTaskForm, IsOnStream, IsEventLine, IsBody, end_line}
+use Rattle.trace_reader.specs.InputText.{IsHeader, IsProcessorsLine, IsTaskForm, IsOnStream, IsEventLine, IsBody, end_line}
+use Rattle.text_fields.specs.Number.{IsNumberWithin}
 
 -- what is due after some lines: the header, the processors, tasks or events of what was listed so far, or nothing
 pub data Progress : Type 0 where

@@ -3,7 +3,7 @@
 -- list of events. Numbers have any length and leading zeros, and affinity masks are processor lists.
 use Rattle.std.specs.Prelude.{◌≡◌, ℕ, ◌≤◌, List, [], ◌∷◌, ◌++◌, length, codes, All}
 use Rattle.std.specs.List.{AllZip}
-use Rattle.affinity_mask.specs.Number.{IsNumber, number_value}
+use Rattle.text_fields.specs.Number.{IsNumberOf, IsNumberWithin}
 use Rattle.affinity_mask.specs.ListText.{IsListText}
 use Rattle.task_set.specs.TaskSet.{TaskData, SetData, IsTaskSet}
 use Rattle.task_set.specs.Refusal.{IsNameOf}
@@ -11,14 +11,6 @@ use Rattle.task_set.specs.declared.event.Event.{Event}
 use Rattle.task_set.specs.declared.event.Event.TheVariants.{Arrive, Depart, Tick}
 use Rattle.trace_reader.specs.declared.posted.Posted.{Posted}
 use Rattle.trace_reader.specs.Lines.{lines_of, said_by, IsClean}
-
--- the text is a number of this value
-abbrev pub IsNumberOf : List ℕ → ℕ → Type 0
-IsNumberOf text n = IsNumber text × (number_value text ≡ n)
-
--- the text is a number of this value, which stands between these bounds
-abbrev pub IsNumberWithin : ℕ → ℕ → List ℕ → ℕ → Type 0
-IsNumberWithin least most text n = IsNumberOf text n × (least ≤ n) × (n ≤ most)
 
 -- the header: `apa` and the version, which is 1
 abbrev pub IsHeader : List (List ℕ) → Type 0

@@ -6,6 +6,7 @@ use Rattle.trace_reader.specs.declared.fault.InputKind.{InputKind}
 use Rattle.trace_reader.specs.InputText.{IsInputText}
 use Rattle.trace_reader.specs.InputFault.{IsInputRefused}
 use Rattle.trace_reader.specs.Input.{IsInput}
+use Rattle.text_fields.specs.LineText.{PrioritiesFit}
 use Rattle.trace_reader.specs.CanonicalText.{canonical_input_text}
 
 -- a text is that of at most one input
@@ -23,10 +24,6 @@ InputHasNoFault = (bytes : List ℕ) (set : SetData) (events : List Posted) (lin
 -- each text is that of an input or is refused
 abbrev pub AcceptedOrRefused : Type 0
 AcceptedOrRefused = (bytes : List ℕ) → ((set : SetData) × (events : List Posted) × IsInputText bytes set events) ⊎ ((line : ℕ) × (kind : InputKind) × IsInputRefused bytes line kind)
-
--- each priority is below 2 to the power of 32, as in the format
-abbrev pub PrioritiesFit : SetData → Type 0
-PrioritiesFit set = All (λ (task : TaskData). task.priority < 2 ^ 32) set.tasks
 
 -- the canonical text of an input is a text of it
 abbrev pub CanonicalTextIsInputText : Type 0

@@ -1,5 +1,4 @@
 pub mod CanonicalText
-pub mod EventText
 pub mod Input
 pub mod InputFault
 pub mod InputText

@@ -1,7 +1,6 @@
 -- One step of the reader. What a reader must believe: nothing; these are the contracts of private functions, and the
 -- public one says by the definitions of the text and of its faults what was read.
 use Rattle.std.specs.Prelude.{◌≡◌, true, false, ℕ, ◌<◌, ◌⊎◌, List, [], ◌∷◌, ◌++◌, length, map, Contains}
-use Rattle.std.specs.Borrow.{Bor}
 use Rattle.task_set.specs.TaskSet.{TaskData, SetData, with_task}
 use Rattle.task_set.specs.Refusal.{CanAdd, IsNewName}
 use Rattle.trace_reader.specs.declared.posted.Posted.{Posted}
@@ -10,12 +9,9 @@ use Rattle.trace_reader.specs.declared.stage.Stage.TheVariants as stage
 use Rattle.trace_reader.specs.Lines.{lines_of, fields_of, is_skipped, IsClean}
 use Rattle.trace_reader.specs.declared.fault.InputKind.{InputKind}
 use Rattle.trace_reader.specs.declared.fault.InputKind.TheVariants.{BadEvent, UnknownTask, OutOfMemory}
-use Rattle.trace_reader.specs.InputText.{IsNumberWithin, IsHeader, IsProcessorsLine, IsTaskLine, IsEventLine, end_line}
+use Rattle.trace_reader.specs.InputText.{IsHeader, IsProcessorsLine, IsTaskLine, IsEventLine, end_line}
+use Rattle.text_fields.specs.Number.{IsNumberWithin}
 use Rattle.trace_reader.specs.InputFault.{Progress, HeaderDue, ProcessorsDue, Listed, Ended, IsNamedForm, IsNameWord, IsTick, IsEventForm}
-
--- the bytes of some fields
-abbrev pub texts : List (Bor (List ℕ)) → List (List ℕ)
-texts fields = map (λ (field : Bor (List ℕ)). field.now) fields
 
 -- what is due at a stage of the reader
 abbrev pub progress_of : Stage → Progress

@@ -1,7 +1,8 @@
 //! Lines, and the fields of a line.
 ghost use Rattle.std.specs.Prelude.{◌≡◌, ◌≢◌, ℕ, ◌<◌, ◌≤◌, ◌↔◌, ◌⊎◌, IsTrue, All, List, [], ◌∷◌, ◌++◌, length, IfOk, map, MatchOption, not};
 ghost use Rattle.trace_reader.specs.Lines.{lines_of, fields_of, is_blank, is_skipped, IsPlain};
-ghost use Rattle.trace_reader.specs.Reading.{texts, IsFirstLine};
+ghost use Rattle.trace_reader.specs.Reading.{IsFirstLine};
+ghost use Rattle.text_fields.specs.Fields.{texts};
 
 use affinity_mask::OutOfMemory;
 use std::alloc::Global;

@@ -10,7 +10,6 @@ pub mod fault;
 mod fields;
 pub mod input;
 pub mod laws;
-pub mod number;
 pub mod posted;
 pub mod read;
 mod stage;
@@ -20,7 +19,7 @@ pub mod write;
 
 pub use fault::{InputFault, InputKind};
 pub use input::Input;
-pub use number::read_number;
 pub use posted::Posted;
 pub use read::read_input;
+pub use text_fields::read_number;
 pub use write::write_input;

@@ -6,17 +6,18 @@ ghost use Rattle.trace_reader.specs.declared.posted.Posted.{Posted};
 ghost use Rattle.trace_reader.specs.declared.fault.InputKind.TheVariants.{UnknownTask};
 ghost use Rattle.trace_reader.specs.InputText.{IsHeader, IsProcessorsLine, IsEventFields, IsEventLine, end_line};
 ghost use Rattle.trace_reader.specs.InputFault.{IsFieldsFault, IsLineFault, BeginsTask, IsForTask, IsFront, Progress, HeaderDue, ProcessorsDue, Listed, Ended};
-ghost use Rattle.trace_reader.specs.Reading.{texts, progress_of, Says, SaysLine, SaysTask, IsOutOfMemory, IsEventFault, IsChangeFault};
+ghost use Rattle.trace_reader.specs.Reading.{progress_of, Says, SaysLine, SaysTask, IsOutOfMemory, IsEventFault, IsChangeFault};
+ghost use Rattle.text_fields.specs.Fields.{texts};
 
 use crate::fault::InputKind;
 use crate::fields::{fields, is_comment, is_plain};
 use crate::input::{Input, MAX_EVENTS, MAX_PRIORITY, MAX_PROCESSORS, MAX_STREAM, MAX_UNITS};
-use crate::number::read_number;
 use crate::posted::Posted;
 use affinity_mask::ProcSet;
 use std::alloc::Global;
 use std::str;
 use task_set::{Event, TaskFault, TaskSet};
+use text_fields::{is_word, read_number, task_of};
 
 /// The most bytes of a line, without its line feed.
 const MAX_LINE: usize = 4096;
@@ -83,13 +84,6 @@ impl Stage {
             Stage::Ended { .. } => Err(InputKind::AfterEnd),
         }
     }
-}
-
-/// Whether a field is this word.
-fn is_word(field: &[u8], word: &str) -> bool
-    ensures { IsTrue result ↔ (field.now ≡ word.now) }
-{
-    field == word.as_bytes()
 }
 
 /// Reads the header.
@@ -245,9 +239,9 @@ fn event_of(set: &TaskSet, word: &[u8], value: &[u8]) -> Result<Event, InputKind
     ensures refused { IfErr result (IsChangeFault set.now word.now value.now) }
 {
     if is_word(word, "arrive") {
-        Ok(Event::Arrive(task_of(set, value)?))
+        Ok(Event::Arrive(known_task(set, value)?))
     } else if is_word(word, "depart") {
-        Ok(Event::Depart(task_of(set, value)?))
+        Ok(Event::Depart(known_task(set, value)?))
     } else if is_word(word, "tick") {
         match read_number(value, 1, MAX_UNITS) {
             Some(units) => Ok(Event::Tick(units as u32)),
@@ -259,15 +253,11 @@ fn event_of(set: &TaskSet, word: &[u8], value: &[u8]) -> Result<Event, InputKind
 }
 
 /// The task that has this name.
-fn task_of(set: &TaskSet, name: &[u8]) -> Result<u32, InputKind>
+fn known_task(set: &TaskSet, name: &[u8]) -> Result<u32, InputKind>
     ensures read { IfOk result (λ t. IsNameOf set.now t name.now) }
     ensures refused { IfErr result (λ kind. (kind ≡ UnknownTask) × IsNewName set.now name.now) }
 {
-    let _lawful = set.len();
-    let Ok(name) = str::from_utf8(name) else {
-        return Err(InputKind::UnknownTask);
-    };
-    match set.find(name) {
+    match task_of(set, name) {
         Some(t) => Ok(t),
         None => Err(InputKind::UnknownTask),
     }

@@ -1,6 +1,6 @@
 use Rattle.std.proofs.Common.{rules, refl, inr, ap, ◌∙◌, ◌≡◌, ◌≢◌}
 use Rattle.std.specs.Prelude.{codes}
-use Rattle.trace_reader.specs.Reading.{texts}
+use Rattle.text_fields.specs.Fields.{texts}
 use Rattle.schedule_text.specs.Reading.{links_of}
 use Rattle.schedule_text.proofs.Chains.{chain_read, chain_none}
 use Rattle.schedule_text.proofs.field.chain_of.Goals as goal

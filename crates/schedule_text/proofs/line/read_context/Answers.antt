@@ -1,7 +1,7 @@
 use Rattle.std.proofs.Common.{inr, refl, ap, sym, ◌∙◌, ◌≡◌, Option, Some, None}
 use Rattle.std.proofs.lemmas.Bool.{true≢false}
 use Rattle.std.proofs.lemmas.Option.{same_Some}
-use Rattle.trace_reader.specs.Reading.{texts}
+use Rattle.text_fields.specs.Fields.{texts}
 use Rattle.schedule_text.specs.ScheduleText.{context_line}
 use Rattle.schedule_text.proofs.Bridges.{context_to_fields}
 use Rattle.schedule_text.proofs.line.read_context.Goals as goal

@@ -1,7 +1,8 @@
 use Rattle.std.proofs.Common.{IfOk, IfErr, subst, sym, ◌⊎◌, ℕ, List}
 use Rattle.schedule_text.specs.declared.fault.TextKind.{TextKind}
 use Rattle.schedule_text.specs.Reading.{IsReplyFields, IsReplyFault, IsOutOfMemory}
-use Rattle.schedule_text.proofs.FieldLists.{texts_one, texts_six, six_displaced, six_freed}
+use Rattle.schedule_text.proofs.FieldLists.{texts_six, six_displaced, six_freed}
+use Rattle.text_fields.proofs.FieldLists.{texts_one}
 use Rattle.schedule_text.proofs.reply.read_reply.Goals as goal
 
 pub returns-in-Some-clause-read : goal.returns-in-Some-clause-read

@@ -1,7 +1,7 @@
 use Rattle.std.proofs.Common.{refl, inl, inr, rules}
 use Rattle.std.proofs.lemmas.Result.{err_from_is_err_and}
 use Rattle.trace_reader.proofs.FieldLists.{task_fields}
-use Rattle.trace_reader.proofs.Names.{name_is_text}
+use Rattle.text_fields.proofs.Names.{name_is_text}
 use Rattle.trace_reader.proofs.Refused.{task_refused}
 use Rattle.trace_reader.specs.InputText.{IsTaskForm}
 use Rattle.trace_reader.proofs.stage.add_task.Goals as goal

@@ -1,4 +1,4 @@
-use Rattle.trace_reader.proofs.FieldLists.{texts_three}
+use Rattle.text_fields.proofs.FieldLists.{texts_three}
 use Rattle.trace_reader.proofs.stage.read_event.Goals as goal
 
 pub returns-clause-read : goal.returns-clause-read
