@@ -40,84 +40,54 @@ IsOtherFault set events fields kind =
 abbrev IsListedFault : SetData → List Posted → List (List ℕ) → InputKind → Type 0
 IsListedFault set events fields kind = ((events ≡ []) × BeginsTask fields × IsTaskFault set fields kind) ⊎ ((IsForTask events fields → ⊥) × IsOtherFault set events fields kind)
 
--- where the header, the number of processors, or nothing is due
-header_fault : (fields : List (List ℕ)) (kind : InputKind) → IsFieldsFault HeaderDue fields kind → (kind ≡ BadHeader) × (IsHeader fields → ⊥)
-header_fault fields BadByte fault = absurd fault
-header_fault fields LongLine fault = absurd fault
-header_fault fields BadHeader fault = (refl, fault.1)
-header_fault fields BadProcessors fault = let e = fault.0 in cc
-header_fault fields BadTask fault = let e = fault.1 in cc
-header_fault fields (BadMask cause) fault = let e = fault.4 in cc
-header_fault fields (TaskRefused cause) fault = let e = fault.5 in cc
-header_fault fields BadEvent fault = let e = fault.2 in cc
-header_fault fields UnknownTask fault = let e = fault.3 in cc
-header_fault fields ManyEvents fault = let e = fault.3 in cc
-header_fault fields AfterEnd fault = let e = fault.2 in cc
-header_fault fields NoEnd fault = absurd fault
-header_fault fields OutOfMemory fault = absurd fault
+-- the fault of a line, by what is due
+abbrev IsFaultWhere : Progress → List (List ℕ) → InputKind → Type 0
+IsFaultWhere HeaderDue fields kind = (kind ≡ BadHeader) × (IsHeader fields → ⊥)
+IsFaultWhere ProcessorsDue fields kind = (kind ≡ BadProcessors) × ((m : ℕ) → IsProcessorsLine m fields → ⊥)
+IsFaultWhere (Listed set events) fields kind = IsListedFault set events fields kind
+IsFaultWhere (Ended set events) fields kind = kind ≡ AfterEnd
 
-processors_fault : (fields : List (List ℕ)) (kind : InputKind) → IsFieldsFault ProcessorsDue fields kind → (kind ≡ BadProcessors) × ((m : ℕ) → IsProcessorsLine m fields → ⊥)
-processors_fault fields BadByte fault = absurd fault
-processors_fault fields LongLine fault = absurd fault
-processors_fault fields BadHeader fault = let e = fault.0 in cc
-processors_fault fields BadProcessors fault = (refl, fault.1)
-processors_fault fields BadTask fault = let e = fault.1 in cc
-processors_fault fields (BadMask cause) fault = let e = fault.4 in cc
-processors_fault fields (TaskRefused cause) fault = let e = fault.5 in cc
-processors_fault fields BadEvent fault = let e = fault.2 in cc
-processors_fault fields UnknownTask fault = let e = fault.3 in cc
-processors_fault fields ManyEvents fault = let e = fault.3 in cc
-processors_fault fields AfterEnd fault = let e = fault.2 in cc
-processors_fault fields NoEnd fault = absurd fault
-processors_fault fields OutOfMemory fault = absurd fault
-
-ended_fault : (set : SetData) (events : List Posted) (fields : List (List ℕ)) (kind : InputKind) → IsFieldsFault (Ended set events) fields kind → kind ≡ AfterEnd
-ended_fault set events fields BadByte fault = absurd fault
-ended_fault set events fields LongLine fault = absurd fault
-ended_fault set events fields BadHeader fault = let e = fault.0 in cc
-ended_fault set events fields BadProcessors fault = let e = fault.0 in cc
-ended_fault set events fields BadTask fault = let e = fault.1 in cc
-ended_fault set events fields (BadMask cause) fault = let e = fault.4 in cc
-ended_fault set events fields (TaskRefused cause) fault = let e = fault.5 in cc
-ended_fault set events fields BadEvent fault = let e = fault.2 in cc
-ended_fault set events fields UnknownTask fault = let e = fault.3 in cc
-ended_fault set events fields ManyEvents fault = let e = fault.3 in cc
-ended_fault set events fields AfterEnd fault = refl
-ended_fault set events fields NoEnd fault = absurd fault
-ended_fault set events fields OutOfMemory fault = absurd fault
-
--- where tasks or events are due
-listed_fault : (set : SetData) (events : List Posted) (fields : List (List ℕ)) (kind : InputKind) → IsFieldsFault (Listed set events) fields kind → IsListedFault set events fields kind
-listed_fault set events fields BadByte fault = absurd fault
-listed_fault set events fields LongLine fault = absurd fault
-listed_fault set events fields BadHeader fault = let e = fault.0 in cc
-listed_fault set events fields BadProcessors fault = let e = fault.0 in cc
-listed_fault set events fields BadTask fault = let e = fault.1 in inl (cc, fault.2, inl (refl, fault.3))
-listed_fault set events fields (BadMask cause) fault =
-    let e = fault.4 in
-    inl (cc, form_begins_task fields fault.1 fault.3 fault.2 fault.5, inr (fault.1, fault.2, fault.3, fault.5, inl (cause, refl, fault.6)))
-listed_fault set events fields (TaskRefused cause) fault =
-    let e = fault.5 in
-    let same : fault.0 ≡ set = cc in
-    let refusal = subst (λ (any : SetData). IsRefusal any (new_task fault.1 fault.2 fault.4) cause) same fault.8 in
-    inl (cc, form_begins_task fields fault.1 fault.3 fault.2 fault.6, inr (fault.1, fault.2, fault.3, fault.6, inr (cause, fault.4, refl, fault.7, refusal)))
-listed_fault set events fields BadEvent fault =
-    let e = fault.2 in
-    let same : fault.1 ≡ events = cc in
-    inr (λ task. fault.3 (same ∙ task.0, task.1), inl (refl, fault.4, fault.5))
-listed_fault set events fields UnknownTask fault =
-    let e = fault.3 in
-    let same : fault.0 ≡ set = cc in
-    inr (λ task. named_not_task fields fault.2 fault.4 task.1, inr (inl (refl, (fault.2, fault.4, subst (λ (any : SetData). IsNewName any fault.2) same fault.5))))
-listed_fault set events fields ManyEvents fault =
-    let e = fault.3 in
-    let same : fault.0 ≡ set = cc in
-    let same_events : fault.1 ≡ events = cc in
-    let line = subst (λ (any : SetData). IsEventLine any fields fault.2) same fault.4 in
-    inr (λ task. event_not_task set fields fault.2 line task.1, inr (inr (refl, (fault.2, line, sym (ap (λ (all : List Posted). length all) same_events) ∙ fault.5))))
-listed_fault set events fields AfterEnd fault = let e = fault.2 in cc
-listed_fault set events fields NoEnd fault = absurd fault
-listed_fault set events fields OutOfMemory fault = absurd fault
+fault_where : (due : Progress) (fields : List (List ℕ)) (kind : InputKind) → IsFieldsFault due fields kind
+    → IsFaultWhere due fields kind
+fault_where due fields BadHeader fault =
+    subst (λ (d : Progress). IsFaultWhere d fields BadHeader) (sym fault.0) (refl, fault.1)
+fault_where due fields BadProcessors fault =
+    subst (λ (d : Progress). IsFaultWhere d fields BadProcessors) (sym fault.0) (refl, fault.1)
+fault_where due fields BadTask fault =
+    subst (λ (d : Progress). IsFaultWhere d fields BadTask) (sym fault.1)
+    (inl (refl, fault.2, inl (refl, fault.3)))
+fault_where due fields (BadMask cause) fault =
+    subst (λ (d : Progress). IsFaultWhere d fields (BadMask cause)) (sym fault.4)
+    (inl (
+      refl,
+      form_begins_task fields fault.1 fault.3 fault.2 fault.5,
+      inr (fault.1, fault.2, fault.3, fault.5, inl (cause, refl, fault.6)),
+    ))
+fault_where due fields (TaskRefused cause) fault =
+    subst (λ (d : Progress). IsFaultWhere d fields (TaskRefused cause)) (sym fault.5)
+    (inl (
+      refl,
+      form_begins_task fields fault.1 fault.3 fault.2 fault.6,
+      inr (fault.1, fault.2, fault.3, fault.6, inr (cause, fault.4, refl, fault.7, fault.8)),
+    ))
+fault_where due fields BadEvent fault =
+    subst (λ (d : Progress). IsFaultWhere d fields BadEvent) (sym fault.2)
+    (inr (fault.3, inl (refl, fault.4, fault.5)))
+fault_where due fields UnknownTask fault =
+    subst (λ (d : Progress). IsFaultWhere d fields UnknownTask) (sym fault.3)
+    (inr (
+      λ task. named_not_task fields fault.2 fault.4 task.1,
+      inr (inl (refl, (fault.2, fault.4, fault.5))),
+    ))
+fault_where due fields ManyEvents fault =
+    subst (λ (d : Progress). IsFaultWhere d fields ManyEvents) (sym fault.3)
+    (inr (
+      λ task. event_not_task fault.0 fields fault.2 fault.4 task.1,
+      inr (inr (refl, (fault.2, fault.4, fault.5))),
+    ))
+fault_where due fields AfterEnd fault =
+    subst (λ (d : Progress). IsFaultWhere d fields AfterEnd) (sym fault.2) refl
+fault_where due fields _ fault = absurd fault
 
 -- ---- a line without fault has none
 -- a task that can be added has no fault
@@ -146,9 +116,14 @@ listed_no_fault set events fields next kind (inr (inr end)) (inr (not_task, inr 
 
 -- a line without fault has none
 pub says_no_fault : (due : Progress) (fields : List (List ℕ)) (next : Progress) (kind : InputKind) → Says due fields next → IsFieldsFault due fields kind → ⊥
-says_no_fault HeaderDue fields next kind says fault = (header_fault fields kind fault).1 (header_step fields next says).0
-says_no_fault ProcessorsDue fields next kind says fault = let step = processors_step fields next says in (processors_fault fields kind fault).1 step.0 step.1
-says_no_fault (Listed set events) fields next kind says fault = listed_no_fault set events fields next kind (listed_step set events fields next says) (listed_fault set events fields kind fault)
+says_no_fault HeaderDue fields next kind says fault =
+    (fault_where HeaderDue fields kind fault).1 (header_step fields next says).0
+says_no_fault ProcessorsDue fields next kind says fault =
+    let step = processors_step fields next says in
+    (fault_where ProcessorsDue fields kind fault).1 step.0 step.1
+says_no_fault (Listed set events) fields next kind says fault =
+    listed_no_fault set events fields next kind (listed_step set events fields next says)
+    (fault_where (Listed set events) fields kind fault)
 says_no_fault (Ended set events) fields next kind says fault = says
 
 -- ---- one fault
@@ -189,7 +164,12 @@ listed_fault_once set lawful events fields kind other (inr (not_task, fault)) (i
 
 -- a line has one fault of its fields
 pub fault_once : (due : Progress) (fields : List (List ℕ)) (kind other : InputKind) → IsLawfulDue due → IsFieldsFault due fields kind → IsFieldsFault due fields other → kind ≡ other
-fault_once HeaderDue fields kind other lawful one two = (header_fault fields kind one).0 ∙ sym (header_fault fields other two).0
-fault_once ProcessorsDue fields kind other lawful one two = (processors_fault fields kind one).0 ∙ sym (processors_fault fields other two).0
-fault_once (Listed set events) fields kind other lawful one two = listed_fault_once set lawful events fields kind other (listed_fault set events fields kind one) (listed_fault set events fields other two)
-fault_once (Ended set events) fields kind other lawful one two = ended_fault set events fields kind one ∙ sym (ended_fault set events fields other two)
+fault_once HeaderDue fields kind other lawful one two =
+    (fault_where HeaderDue fields kind one).0 ∙ sym (fault_where HeaderDue fields other two).0
+fault_once ProcessorsDue fields kind other lawful one two =
+    (fault_where ProcessorsDue fields kind one).0 ∙ sym (fault_where ProcessorsDue fields other two).0
+fault_once (Listed set events) fields kind other lawful one two =
+    listed_fault_once set lawful events fields kind other (fault_where (Listed set events) fields kind one)
+    (fault_where (Listed set events) fields other two)
+fault_once (Ended set events) fields kind other lawful one two =
+    fault_where (Ended set events) fields kind one ∙ sym (fault_where (Ended set events) fields other two)

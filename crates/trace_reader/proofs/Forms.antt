@@ -9,20 +9,8 @@ use Rattle.trace_reader.specs.declared.posted.Posted.{Posted}
 use Rattle.trace_reader.specs.InputText.{IsTaskForm, IsTaskLine, IsOnStream, IsEventFields, IsEventLine, end_line}
 use Rattle.text_fields.specs.Number.{IsNumberOf}
 use Rattle.trace_reader.specs.InputFault.{BeginsTask, IsNamedForm, IsEventForm}
+use Rattle.text_fields.proofs.Words.{other_word, clash}
 use Rattle.text_fields.proofs.NamedTasks.{same_name, name_not_new}
-
--- ---- words: those that are told apart differ in their first bytes
-arrive_not_depart : codes "arrive" ≡ codes "depart" → ⊥
-arrive_not_depart e = let firsts : ◌≡◌ {A = ℕ} 97 100 = ap (λ (word : List ℕ). get_or word 0 0) e in omega arith
-
-arrive_not_tick : codes "arrive" ≡ codes "tick" → ⊥
-arrive_not_tick e = let firsts : ◌≡◌ {A = ℕ} 97 116 = ap (λ (word : List ℕ). get_or word 0 0) e in omega arith
-
-depart_not_tick : codes "depart" ≡ codes "tick" → ⊥
-depart_not_tick e = let firsts : ◌≡◌ {A = ℕ} 100 116 = ap (λ (word : List ℕ). get_or word 0 0) e in omega arith
-
-end_not_task_word : codes "end" ≡ codes "task" → ⊥
-end_not_task_word e = let firsts : ◌≡◌ {A = ℕ} 101 116 = ap (λ (word : List ℕ). get_or word 0 0) e in omega arith
 
 -- the first of some fields, and the first of the same ones
 same_first : (fields : List (List ℕ)) (word other : List ℕ) (rest more : List (List ℕ)) → fields ≡ word ∷ rest → fields ≡ other ∷ more → word ≡ other
@@ -43,7 +31,7 @@ stream_not_task fields stream rest on task =
 
 -- ---- task lines
 pub end_not_task : (fields : List (List ℕ)) → fields ≡ end_line → BeginsTask fields → ⊥
-end_not_task fields end task = end_not_task_word (same_first fields (codes "end") (codes "task") [] task.0 end task.1)
+end_not_task fields end task = clash (sym end ∙ task.1) refl
 
 pub form_begins_task : (fields : List (List ℕ)) (name list : List ℕ) (priority : ℕ) → IsTaskForm fields name priority list → BeginsTask fields
 form_begins_task fields name list priority form = (name ∷ form.number ∷ list ∷ [], form.each_field)
@@ -58,15 +46,13 @@ same_form fields name other list another priority next one two =
 -- ---- event lines
 -- the fields behind a stream are of one event
 same_event : (set : SetData) → IsTaskSet set → (fields : List (List ℕ)) (event other : Event) → IsEventFields set fields event → IsEventFields set fields other → event ≡ other
-same_event set lawful fields (Arrive t) (Arrive u) one two = ap Arrive (same_name set lawful t u one.0 two.0 (let e = one.1 in let e' = two.1 in cc) one.2 two.2)
-same_event set lawful fields (Arrive t) (Depart u) one two = absurd (arrive_not_depart (same_first fields _ _ _ _ one.1 two.1))
-same_event set lawful fields (Arrive t) (Tick units) one two = absurd (arrive_not_tick (same_first fields _ _ _ _ one.1 two.1))
-same_event set lawful fields (Depart t) (Arrive u) one two = absurd (arrive_not_depart (same_first fields _ _ _ _ two.1 one.1))
-same_event set lawful fields (Depart t) (Depart u) one two = ap Depart (same_name set lawful t u one.0 two.0 (let e = one.1 in let e' = two.1 in cc) one.2 two.2)
-same_event set lawful fields (Depart t) (Tick units) one two = absurd (depart_not_tick (same_first fields _ _ _ _ one.1 two.1))
-same_event set lawful fields (Tick units) (Arrive u) one two = absurd (arrive_not_tick (same_first fields _ _ _ _ two.1 one.1))
-same_event set lawful fields (Tick units) (Depart u) one two = absurd (depart_not_tick (same_first fields _ _ _ _ two.1 one.1))
-same_event set lawful fields (Tick units) (Tick more) one two = ap Tick (same_number one.0 two.0 units more (let e = one.1 in let e' = two.1 in cc) one.2.0 two.2.0)
+same_event set lawful fields (Arrive t) (Arrive u) one two =
+    ap Arrive (same_name set lawful t u one.0 two.0 (let e = one.1 in let e' = two.1 in cc) one.2 two.2)
+same_event set lawful fields (Depart t) (Depart u) one two =
+    ap Depart (same_name set lawful t u one.0 two.0 (let e = one.1 in let e' = two.1 in cc) one.2 two.2)
+same_event set lawful fields (Tick units) (Tick more) one two =
+    ap Tick (same_number one.0 two.0 units more (let e = one.1 in let e' = two.1 in cc) one.2.0 two.2.0)
+same_event set lawful fields _ _ one two = absurd (clash (sym one.1 ∙ two.1) refl)
 
 -- the line of an event is of one
 pub same_posted : (set : SetData) → IsTaskSet set → (fields : List (List ℕ)) (posted other : Posted) → IsEventLine set fields posted → IsEventLine set fields other → posted ≡ other
@@ -120,7 +106,7 @@ event_name_not_new set fields posted name line form new = by posted.event line.2
     by (Depart t) says = name_not_new set t says.0 name (let e = says.1 in let e' = rests in cc) says.2 new
     by (Tick units) says =
         let word : form.1 ≡ codes "tick" = same_first (form.1 ∷ name ∷ []) form.1 (codes "tick") (name ∷ []) (says.0 ∷ []) refl (rests ∙ says.1) in
-        elim form.3 [ inl arrive ↦ arrive_not_tick (sym arrive ∙ word) | inr depart ↦ depart_not_tick (sym depart ∙ word) ]
+        elim form.3 [ inl arrive ↦ other_word (sym arrive ∙ word) refl | inr depart ↦ other_word (sym depart ∙ word) refl ]
 
 -- an event of the set has the form of one
 pub event_has_form : (set : SetData) (fields : List (List ℕ)) (posted : Posted) → IsEventLine set fields posted → IsEventForm fields

@@ -99,16 +99,12 @@ body_more said fields set next events more body (inr event) =
 
 -- lines that are without fault, and one more
 pub front_more : (said : List (List (List ℕ))) (fields : List (List ℕ)) (due next : Progress) → IsFront said due → Says due fields next → IsFront (said ++ fields ∷ []) next
-front_more said fields HeaderDue HeaderDue front says = absurd says
-front_more said fields HeaderDue ProcessorsDue front says = (fields, ap (λ (lines : List (List (List ℕ))). lines ++ fields ∷ []) front, says)
-front_more said fields HeaderDue (Listed next more) front says = absurd says
-front_more said fields HeaderDue (Ended next more) front says = absurd says
-front_more said fields ProcessorsDue HeaderDue front says = absurd says
-front_more said fields ProcessorsDue ProcessorsDue front says = absurd says
-front_more said fields ProcessorsDue (Listed next more) front says = body_of_processors said fields next more front says.0 says.1 says.2
-front_more said fields ProcessorsDue (Ended next more) front says = absurd says
-front_more said fields (Listed set events) HeaderDue front says = absurd says
-front_more said fields (Listed set events) ProcessorsDue front says = absurd says
-front_more said fields (Listed set events) (Listed next more) front says = body_more said fields set next events more front says
-front_more said fields (Listed set events) (Ended next more) front says = (said, ap (λ (line : List (List ℕ)). said ++ line ∷ []) says.0, rw (says.1, says.2) front)
-front_more said fields (Ended set events) next front says = absurd says
+front_more said fields HeaderDue ProcessorsDue front says =
+    (fields, ap (λ (lines : List (List (List ℕ))). lines ++ fields ∷ []) front, says)
+front_more said fields ProcessorsDue (Listed next more) front says =
+    body_of_processors said fields next more front says.0 says.1 says.2
+front_more said fields (Listed set events) (Listed next more) front says =
+    body_more said fields set next events more front says
+front_more said fields (Listed set events) (Ended next more) front says =
+    (said, ap (λ (line : List (List ℕ)). said ++ line ∷ []) says.0, rw (says.1, says.2) front)
+front_more said fields _ _ front says = absurd says

@@ -18,18 +18,9 @@ use Rattle.trace_reader.specs.Reading.{IsOutOfMemory, IsEventFault}
 pub task_refused : (set : SetData) (fields : List (List ℕ)) (name given list : List ℕ) (priority mask : ℕ) (fault : TaskFault) → IsTaskForm fields name priority list → given ≡ name → IsListText list mask → (fault ≡ task.OutOfMemory) ⊎ IsRefusal set (new_task given priority mask) fault
     → IsOutOfMemory (kind_of_refusal fault) ⊎ IsFieldsFault (Listed set []) fields (kind_of_refusal fault)
 task_refused set fields name given list priority mask task.OutOfMemory form same listed why = inl refl
-task_refused set fields name given list priority mask task.BadName form same listed (inl none) = absurd (cc)
-task_refused set fields name given list priority mask task.BadName form same listed (inr why) = inr (set, name, priority, list, mask, refl, form, listed, rw (← same) why)
-task_refused set fields name given list priority mask task.Many form same listed (inl none) = absurd (cc)
-task_refused set fields name given list priority mask task.Many form same listed (inr why) = inr (set, name, priority, list, mask, refl, form, listed, rw (← same) why)
-task_refused set fields name given list priority mask (task.SameName t) form same listed (inl none) = absurd (cc)
-task_refused set fields name given list priority mask (task.SameName t) form same listed (inr why) = inr (set, name, priority, list, mask, refl, form, listed, rw (← same) why)
-task_refused set fields name given list priority mask (task.SamePriority t) form same listed (inl none) = absurd (cc)
-task_refused set fields name given list priority mask (task.SamePriority t) form same listed (inr why) = inr (set, name, priority, list, mask, refl, form, listed, rw (← same) why)
-task_refused set fields name given list priority mask task.EmptyMask form same listed (inl none) = absurd (cc)
-task_refused set fields name given list priority mask task.EmptyMask form same listed (inr why) = inr (set, name, priority, list, mask, refl, form, listed, rw (← same) why)
-task_refused set fields name given list priority mask (task.OutsideMask p) form same listed (inl none) = absurd (cc)
-task_refused set fields name given list priority mask (task.OutsideMask p) form same listed (inr why) = inr (set, name, priority, list, mask, refl, form, listed, rw (← same) why)
+task_refused set fields name given list priority mask fault form same listed (inl none) = absurd (cc)
+task_refused set fields name given list priority mask fault form same listed (inr why) =
+    inr (set, name, priority, list, mask, refl, form, listed, rw (← same) why)
 
 -- a line that is no event's, where events are due
 pub event_refused : (set : SetData) (events : List Posted) (fields : List (List ℕ)) (kind : InputKind) → (IsForTask events fields → ⊥) → fields ≢ end_line → IsEventFault set fields kind → IsFieldsFault (Listed set events) fields kind
@@ -40,17 +31,7 @@ event_refused set events fields kind no_task no_end (inr unknown) = rw unknown.0
 pub line_refused : (due : Progress) (line : List ℕ) (kind : InputKind) → IsClean line → is_skipped (fields_of line) ≡ false → IsFieldsFault due (fields_of line) kind → IsLineFault due line kind
 line_refused due line BadByte clean said fault = absurd fault
 line_refused due line LongLine clean said fault = absurd fault
-line_refused due line BadHeader clean said fault = (clean, said, fault)
-line_refused due line BadProcessors clean said fault = (clean, said, fault)
-line_refused due line BadTask clean said fault = (clean, said, fault)
-line_refused due line (BadMask f) clean said fault = (clean, said, fault)
-line_refused due line (TaskRefused f) clean said fault = (clean, said, fault)
-line_refused due line BadEvent clean said fault = (clean, said, fault)
-line_refused due line UnknownTask clean said fault = (clean, said, fault)
-line_refused due line ManyEvents clean said fault = (clean, said, fault)
-line_refused due line AfterEnd clean said fault = (clean, said, fault)
-line_refused due line NoEnd clean said fault = absurd fault
-line_refused due line OutOfMemory clean said fault = absurd fault
+line_refused due line kind clean said fault = (clean, said, fault)
 
 -- a line whose fields have a fault, or for which there was no memory
 pub after_refused : {S : Type 0} (due : Progress) (line : List ℕ) (fields : List (List ℕ)) (r : Result S InputKind) → IsClean line → fields ≡ fields_of line → is_skipped fields ≡ false → IfErr r (λ kind. IsOutOfMemory kind ⊎ IsFieldsFault due fields kind)

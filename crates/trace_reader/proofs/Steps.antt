@@ -32,29 +32,24 @@ IsListedStep set events fields next =
     ⊎ ((fields ≡ end_line) × (next ≡ Ended set events)))
 
 pub header_step : (fields : List (List ℕ)) (next : Progress) → Says HeaderDue fields next → IsHeader fields × (next ≡ ProcessorsDue)
-header_step fields HeaderDue says = absurd says
 header_step fields ProcessorsDue says = (says, refl)
-header_step fields (Listed set events) says = absurd says
-header_step fields (Ended set events) says = absurd says
+header_step fields _ says = absurd says
 
 -- the set without tasks on this many processors
 abbrev pub set_on : ℕ → SetData
 set_on m = record { processors = m; tasks = [] }
 
 pub processors_step : (fields : List (List ℕ)) (next : Progress) → Says ProcessorsDue fields next → (m : ℕ) × IsProcessorsLine m fields × (next ≡ Listed (set_on m) [])
-processors_step fields HeaderDue says = absurd says
-processors_step fields ProcessorsDue says = absurd says
 processors_step fields (Listed set events) says =
     let same : Listed set events ≡ Listed (record set { tasks = [] }) [] = ap (λ (tasks : List TaskData). Listed (record set { tasks = tasks }) events) says.1 ∙ ap (λ (listed : List Posted). Listed (record set { tasks = [] }) listed) says.2 in
     (set.processors, says.0, same)
-processors_step fields (Ended set events) says = absurd says
+processors_step fields _ says = absurd says
 
 pub listed_step : (set : SetData) (events : List Posted) (fields : List (List ℕ)) (next : Progress) → Says (Listed set events) fields next → IsListedStep set events fields next
-listed_step set events fields HeaderDue says = absurd says
-listed_step set events fields ProcessorsDue says = absurd says
 listed_step set events fields (Listed next more) (inl task) = inl (task.2.task, task.0, task.2.line, task.2.added, rw (task.2.last, task.1) refl)
 listed_step set events fields (Listed next more) (inr event) = inr (inl (event.1.posted, event.1.line, event.1.room, rw (event.0, event.1.last) refl))
 listed_step set events fields (Ended next more) says = inr (inr (says.0, rw (says.1, says.2) refl))
+listed_step set events fields _ says = absurd says
 
 -- ---- one place
 listed_once : (set : SetData) (events : List Posted) (fields : List (List ℕ)) (next other : Progress) → IsTaskSet set → IsListedStep set events fields next → IsListedStep set events fields other → next ≡ other

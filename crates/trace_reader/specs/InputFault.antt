@@ -58,8 +58,6 @@ IsEventForm fields = ((name : List ℕ) × IsNamedForm fields name) ⊎ IsTickFo
 
 -- the fault of a line that is clean and not skipped, by what is due
 abbrev pub IsFieldsFault : Progress → List (List ℕ) → InputKind → Type 0
-IsFieldsFault due fields BadByte = ⊥
-IsFieldsFault due fields LongLine = ⊥
 IsFieldsFault due fields BadHeader = (due ≡ HeaderDue) × (IsHeader fields → ⊥)
 IsFieldsFault due fields BadProcessors = (due ≡ ProcessorsDue) × ((m : ℕ) → IsProcessorsLine m fields → ⊥)
 IsFieldsFault due fields BadTask = (set : SetData) × (due ≡ Listed set []) × BeginsTask fields × ((name list : List ℕ) (priority : ℕ) → IsTaskForm fields name priority list → ⊥)
@@ -69,8 +67,7 @@ IsFieldsFault due fields BadEvent = (set : SetData) × (events : List Posted) ×
 IsFieldsFault due fields UnknownTask = (set : SetData) × (events : List Posted) × (name : List ℕ) × (due ≡ Listed set events) × IsNamedForm fields name × IsNewName set name
 IsFieldsFault due fields ManyEvents = (set : SetData) × (events : List Posted) × (posted : Posted) × (due ≡ Listed set events) × IsEventLine set fields posted × (length events ≡ 20000)
 IsFieldsFault due fields AfterEnd = (set : SetData) × (events : List Posted) × (due ≡ Ended set events)
-IsFieldsFault due fields NoEnd = ⊥
-IsFieldsFault due fields OutOfMemory = ⊥
+IsFieldsFault due fields _ = ⊥
 
 -- the first fault of a line, by what is due: a byte that is not plain, too many bytes, or else one of its fields
 abbrev pub IsLineFault : Progress → List ℕ → InputKind → Type 0
@@ -121,9 +118,4 @@ kind_number OutOfMemory = None
 -- the kind of a task's refusal; want of memory is a kind of its own
 abbrev pub kind_of_refusal : TaskFault → InputKind
 kind_of_refusal task.OutOfMemory = OutOfMemory
-kind_of_refusal task.BadName = TaskRefused task.BadName
-kind_of_refusal task.Many = TaskRefused task.Many
-kind_of_refusal (task.SameName t) = TaskRefused (task.SameName t)
-kind_of_refusal (task.SamePriority t) = TaskRefused (task.SamePriority t)
-kind_of_refusal task.EmptyMask = TaskRefused task.EmptyMask
-kind_of_refusal (task.OutsideMask p) = TaskRefused (task.OutsideMask p)
+kind_of_refusal fault = TaskRefused fault

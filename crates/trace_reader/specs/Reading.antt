@@ -36,19 +36,12 @@ pub record SaysEvent (fields : List (List ℕ)) (set : SetData) (events next : L
 
 -- a line without fault leads from what is due before it to what is due after it
 abbrev pub Says : Progress → List (List ℕ) → Progress → Type 0
-Says HeaderDue fields HeaderDue = ⊥
 Says HeaderDue fields ProcessorsDue = IsHeader fields
-Says HeaderDue fields (Listed next more) = ⊥
-Says HeaderDue fields (Ended next more) = ⊥
-Says ProcessorsDue fields HeaderDue = ⊥
-Says ProcessorsDue fields ProcessorsDue = ⊥
 Says ProcessorsDue fields (Listed next more) = IsProcessorsLine next.processors fields × (next.tasks ≡ []) × (more ≡ [])
-Says ProcessorsDue fields (Ended next more) = ⊥
-Says (Listed set events) fields HeaderDue = ⊥
-Says (Listed set events) fields ProcessorsDue = ⊥
-Says (Listed set events) fields (Listed next more) = ((events ≡ []) × (more ≡ []) × SaysTask fields set next) ⊎ ((next ≡ set) × SaysEvent fields set events more)
+Says (Listed set events) fields (Listed next more) =
+    ((events ≡ []) × (more ≡ []) × SaysTask fields set next) ⊎ ((next ≡ set) × SaysEvent fields set events more)
 Says (Listed set events) fields (Ended next more) = (fields ≡ end_line) × (next ≡ set) × (more ≡ events)
-Says (Ended set events) fields next = ⊥
+Says _ fields _ = ⊥
 
 -- the first line of the bytes, and what stands behind its line feed, or behind the line where none ends it
 abbrev pub IsFirstLine : List ℕ → List ℕ → List ℕ → Type 0
