@@ -28,8 +28,9 @@ use Rattle.link_table.proofs.Shifts.{chain_below}
 use Rattle.link_table.proofs.Start.{IsState-start}
 use Rattle.link_table.proofs.Steps.{step_keeps_state}
 use Rattle.text_fields.specs.EventText.{IsAboutSet}
+use Rattle.schedule_text.proofs.ReplyParts.{no_processors, chain_alone, set_alone, chain_and_set}
 use Rattle.schedule_text.specs.Schedule.{IsRow, IsOfProcessors, HasUnits, HasProcessors, IsContextOf, AreInOrder, IsScheduleSet, IsSchedule}
-use Rattle.schedule_text.proofs.LegalEntries.{legal_entries}
+use Rattle.event_replay.proofs.LegalNames.{legal_names}
 
 -- a posted entry: its stream is below 16, and a tick has units of the format
 abbrev pub IsPostedEntry : Entry → Type 0
@@ -37,15 +38,9 @@ IsPostedEntry entry = (entry.caller < 16) × HasUnits entry.event
 
 -- no reply changes how many tasks and processors there are
 same_counts : (s : State) (t : ℕ) (reply : Reply) → (task_count (state_after_reply s t reply) ≡ task_count s) × ((state_after_reply s t reply).processors ≡ s.processors)
-same_counts s t (Placed chain) = (refl, refl)
-same_counts s t (Displaced chain out reach) = (refl, refl)
-same_counts s t (Waits reach) = (refl, refl)
 same_counts s t (Freed None chain back) = (refl, refl)
 same_counts s t (Freed (Some w) chain back) = (refl, refl)
-same_counts s t Left = (refl, refl)
-same_counts s t Ticked = (refl, refl)
-same_counts s t AlreadyReady = (refl, refl)
-same_counts s t NotReady = (refl, refl)
+same_counts s t _ = (refl, refl)
 
 -- ---- the chain and the sets of a reply
 abbrev IsPlace : ℕ → Type 0
@@ -95,34 +90,33 @@ module _ (s : State) (ok : IsState s) where
   entered_row p (Some w) chain back new number step = back_row p chain step.1.itself.0 number step.1.itself.1 ((least_back_chain s p w ok number).fits chain step.1)
 
   arrival_processors : (t : ℕ) (reply : Reply) (new : State) → ArriveStep s t reply new → HasProcessors reply
-  arrival_processors t (Placed chain) new step = chain_row t chain step.least.itself.0 step.least.itself.1 ((least_chain_to_idle s t ok).fits chain step.least)
+  arrival_processors t (Placed chain) new step =
+      chain_alone chain
+      (chain_row t chain step.least.itself.0 step.least.itself.1 ((least_chain_to_idle s t ok).fits chain step.least))
   arrival_processors t (Displaced chain out reach) new step =
-      (chain_row t chain step.least.itself.0 step.least.itself.1 ((least_chain_to_task s t out ok).fits chain step.least), reach_below t reach step.reached)
-  arrival_processors t (Waits reach) new step = reach_below t reach step.reached
-  arrival_processors t (Freed entered chain back) new step = absurd step
-  arrival_processors t Left new step = tt
-  arrival_processors t Ticked new step = tt
-  arrival_processors t AlreadyReady new step = tt
-  arrival_processors t NotReady new step = tt
+      chain_and_set chain reach
+      (chain_row t chain step.least.itself.0 step.least.itself.1 ((least_chain_to_task s t out ok).fits chain step.least))
+      (reach_below t reach step.reached)
+  arrival_processors t (Waits reach) new step = set_alone reach (reach_below t reach step.reached)
+  arrival_processors t AlreadyReady new step = no_processors
+  arrival_processors t _ new step = absurd step
 
-departure_processors : (s : State) → IsState s → (t : ℕ) (reply : Reply) (new : State) → DepartStep s t reply new → HasProcessors reply
+departure_processors : (s : State) → IsState s → (t : ℕ) (reply : Reply) (new : State) → DepartStep s t reply new
+    → HasProcessors reply
 departure_processors s ok t (Freed entered chain back) new step =
     let left = state_after_leaving s t in
     let settled : IsState left = IsState-state_after_leaving s ok t in
     let number : step.place < left.processors = occupied_number s step.place t ok step.linked in
-    (entered_row left settled step.place entered chain back new number step.enters, back_below left settled step.place back number step.reached)
-departure_processors s ok t (Placed chain) new step = absurd step
-departure_processors s ok t (Displaced chain out reach) new step = absurd step
-departure_processors s ok t (Waits reach) new step = absurd step
-departure_processors s ok t Left new step = tt
-departure_processors s ok t Ticked new step = tt
-departure_processors s ok t AlreadyReady new step = tt
-departure_processors s ok t NotReady new step = tt
+    chain_and_set chain back (entered_row left settled step.place entered chain back new number step.enters)
+    (back_below left settled step.place back number step.reached)
+departure_processors s ok t Left new step = no_processors
+departure_processors s ok t NotReady new step = no_processors
+departure_processors s ok t _ new step = absurd step
 
 step_processors : (s : State) (event : Event) (reply : Reply) (new : State) → IsState s → SchedulerStep s event reply new → HasProcessors reply
 step_processors s (Arrive t) reply new ok step = arrival_processors s ok t reply new step.1
 step_processors s (Depart t) reply new ok step = departure_processors s ok t reply new step.1
-step_processors s (Tick units) reply new ok step = rw step.0 tt
+step_processors s (Tick units) reply new ok step = rw step.0 no_processors
 
 -- ---- the entries
 -- the event is of a task of the set
@@ -195,12 +189,12 @@ legal_schedule set history tasks few posted legal =
     let start = start_of set in
     let same : task_count start ≡ length set.tasks = length-map set.tasks (λ (task : TaskData). task.priority) in
     let about = about_from set start history same legal in
-    let named = legal_entries set history tasks.lawful legal about in
+    let named = legal_names set history tasks.lawful legal in
     let of_processors = processors_from start history (IsState-start set tasks.lawful) legal in
     record {
       tasks = tasks;
       few = few;
-      each_entry = λ k d within. record { caller = (posted k d within).0; tasks = named k d within; units = (posted k d within).1; processors = of_processors k d within };
+      each_entry = λ k d within. record { caller = (posted k d within).0; tasks = record { event = about k d within; reply = named k d within }; units = (posted k d within).1; processors = of_processors k d within };
       one_each = length-map-range_with_len (context_of start history) 0 (length set.tasks);
       in_order = contexts_in_order start history (length set.tasks) tasks.lawful.processors.1 tasks.lawful.count;
     }

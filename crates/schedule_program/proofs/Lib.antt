@@ -3,6 +3,7 @@ mod CheckedText
 mod Compared
 mod Following
 mod Headline
+mod LegalSchedules
 mod MergedCounts
 mod OneText
 mod OneWord

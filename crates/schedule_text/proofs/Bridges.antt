@@ -11,7 +11,7 @@ use Rattle.task_set.specs.declared.context.Context.{Context}
 use Rattle.task_set.specs.declared.event.Event.{Event}
 use Rattle.task_set.specs.declared.event.Event.TheVariants.{Arrive, Depart, Tick}
 use Rattle.link_table.specs.declared.reply.Reply.{Reply}
-use Rattle.link_table.specs.declared.reply.Reply.TheVariants.{Placed, Displaced, Waits, Freed, Left, Ticked, AlreadyReady, NotReady}
+use Rattle.link_table.specs.declared.reply.Reply.TheVariants.{Placed, Displaced, Freed}
 use Rattle.link_table.specs.declared.reply.Entry.{Entry}
 use Rattle.text_fields.specs.LineText.{line, task_line}
 use Rattle.text_fields.specs.EventText.{name_of, event_text, IsAboutSet}
@@ -56,14 +56,11 @@ six_spaced s w a v b u c = simp append_assoc
 
 pub reply_spaced : (set : SetData) (reply : Reply) → reply_text set reply ≡ spaced (reply_fields set reply)
 unfolding reply_text
-reply_spaced set (Placed chain) = refl
-reply_spaced set (Displaced chain out reach) = six_spaced (32 ∷ []) (codes "displaced") (chain_text chain) (codes "out") (name_of set out) (codes "reach") (set_text reach)
-reply_spaced set (Waits reach) = refl
-reply_spaced set (Freed entered chain back) = six_spaced (32 ∷ []) (codes "freed") (chain_text chain) (codes "enters") (somebody_text set entered) (codes "back") (set_text back)
-reply_spaced set Left = refl
-reply_spaced set Ticked = refl
-reply_spaced set AlreadyReady = refl
-reply_spaced set NotReady = refl
+reply_spaced set (Displaced chain out reach) =
+    six_spaced (32 ∷ []) (codes "displaced") (chain_text chain) (codes "out") (name_of set out) (codes "reach") (set_text reach)
+reply_spaced set (Freed entered chain back) =
+    six_spaced (32 ∷ []) (codes "freed") (chain_text chain) (codes "enters") (somebody_text set entered) (codes "back") (set_text back)
+reply_spaced set _ = refl
 
 -- the spaced fields of two parts
 spaced_apart : (first : List ℕ) (more : List (List ℕ)) (second : List ℕ) (others : List (List ℕ)) → spaced ((first ∷ more) ++ second ∷ others) ≡ spaced (first ∷ more) ++ 32 ∷ spaced (second ∷ others)
@@ -82,13 +79,7 @@ event_some set (Tick n) = (codes "tick", canonical_number n ∷ [], refl)
 
 reply_some : (set : SetData) (reply : Reply) → (first : List ℕ) × (more : List (List ℕ)) × (reply_fields set reply ≡ first ∷ more)
 reply_some set (Placed chain) = (_, _, refl)
-reply_some set (Displaced chain out reach) = (_, _, refl)
-reply_some set (Waits reach) = (_, _, refl)
-reply_some set (Freed entered chain back) = (_, _, refl)
-reply_some set Left = (_, _, refl)
-reply_some set Ticked = (_, _, refl)
-reply_some set AlreadyReady = (_, _, refl)
-reply_some set NotReady = (_, _, refl)
+reply_some set _ = (_, _, refl)
 
 -- a number, and two parts that have fields
 parts_spaced : (number : List ℕ) (xs ys : List (List ℕ)) (first : List ℕ) (more : List (List ℕ)) (second : List ℕ) (others : List (List ℕ)) → xs ≡ first ∷ more → ys ≡ second ∷ others → number ++ 32 ∷ (spaced xs ++ 32 ∷ spaced ys) ≡ spaced (number ∷ (xs ++ ys))

@@ -2,7 +2,7 @@
 use Rattle.std.proofs.Common.{◌≡◌, ℕ, zero, suc, take, ◌-◌, ◌<◌, ◌≤◌, List, [], ◌∷◌, length, get_or, drop, Bor, refl, sym, ap, ◌∙◌, arith}
 use Rattle.std.specs.Prelude.{codes}
 use Rattle.link_table.specs.declared.reply.Reply.{Reply}
-use Rattle.link_table.specs.declared.reply.Reply.TheVariants.{Placed, Displaced, Waits, Freed, Left, Ticked, AlreadyReady, NotReady}
+use Rattle.link_table.specs.declared.reply.Reply.TheVariants.{Displaced, Freed}
 use Rattle.text_fields.specs.Fields.{texts}
 use Rattle.schedule_text.specs.Reading.{IsSomeReply, displaced_fields, freed_fields, reply_fields}
 use Rattle.text_fields.proofs.Words.{head_same, tail_same}
@@ -40,11 +40,6 @@ pub six_none : (fields : List (List ℕ)) (a b c d e f : List ℕ) → fields �
 six_none fields a b c d e f six no_out no_entry (tasks, reply, names, g) = by reply (sym six ∙ g.each_field)
   where
     by : (reply : Reply) → a ∷ b ∷ c ∷ d ∷ e ∷ f ∷ [] ≡ reply_fields tasks reply → ⊥
-    by (Placed chain) same = omega (arith, ap length same)
     by (Displaced chain out reach) same = no_out (head_same same, head_same (tail_same (tail_same same)), head_same (tail_same (tail_same (tail_same (tail_same same)))))
-    by (Waits reach) same = omega (arith, ap length same)
     by (Freed entered chain back) same = no_entry (head_same same, head_same (tail_same (tail_same same)), head_same (tail_same (tail_same (tail_same (tail_same same)))))
-    by Left same = omega (arith, ap length same)
-    by Ticked same = omega (arith, ap length same)
-    by AlreadyReady same = omega (arith, ap length same)
-    by NotReady same = omega (arith, ap length same)
+    by _ same = omega (arith, ap length same)

@@ -1,10 +1,9 @@
-pub mod LegalEntries
-pub mod LegalSchedules
 mod Written
 mod Fields
 mod Chains
 mod Names
 mod Shapes
+pub mod ReplyParts
 mod Replies
 mod FieldLists
 mod Entries

@@ -29,6 +29,7 @@ use Rattle.schedule_text.proofs.Replies.{placed_read, waits_read, placed_none, w
 use Rattle.schedule_text.proofs.FieldLists.{six_displaced, six_freed, six_none}
 use Rattle.schedule_text.proofs.Entries.{entry_of_parts, some_parts, reply_fault, both_faults, event_unknown, event_bad}
 use Rattle.schedule_text.proofs.Tasks.{task_form, task_list}
+use Rattle.schedule_text.proofs.ReplyParts.{no_task_named, no_processors}
 use Rattle.schedule_text.proofs.Contexts.{AreSaid, context_said, context_found, wide}
 use Rattle.schedule_text.proofs.Bridges.{task_to_text, context_to_fields, entry_to_text}
 use Rattle.schedule_text.proofs.Stages.{processors_none, processors_read, history_none, history_read, task_fault, entry_fault}
@@ -90,24 +91,21 @@ no_reply : (set : SetData) (fields : List (List ℕ)) → (IsSomeReply fields �
 no_reply set fields none = inr (BadLine, inl (refl, none))
 
 one_none : (word : List ℕ) → word ≢ codes "left" → word ≢ codes "ticked" → word ≢ codes "already" → word ≢ codes "absent" → IsSomeReply (word ∷ []) → ⊥
-one_none word a b c d (tasks, Placed chain, names, f) = omega (arith, ap length f.each_field)
-one_none word a b c d (tasks, Displaced chain out reach, names, f) = omega (arith, ap length f.each_field)
-one_none word a b c d (tasks, Waits reach, names, f) = omega (arith, ap length f.each_field)
-one_none word a b c d (tasks, Freed entered chain back, names, f) = omega (arith, ap length f.each_field)
 one_none word a b c d (tasks, Left, names, f) = a (head_same f.each_field)
 one_none word a b c d (tasks, Ticked, names, f) = b (head_same f.each_field)
 one_none word a b c d (tasks, AlreadyReady, names, f) = c (head_same f.each_field)
 one_none word a b c d (tasks, NotReady, names, f) = d (head_same f.each_field)
+one_none word a b c d (tasks, _, names, f) = omega (arith, ap length f.each_field)
 
 one_decided : (set : SetData) (word : List ℕ) → IsReplyDecided set (word ∷ [])
 one_decided set word = elim (bytes_decided word (codes "left")) [
-  | inl same ↦ inl (Left, record { about = tt; processors = tt; each_field = alone same })
+  | inl same ↦ inl (Left, record { about = no_task_named set; processors = no_processors; each_field = alone same })
   | inr a ↦ elim (bytes_decided word (codes "ticked")) [
-    | inl same ↦ inl (Ticked, record { about = tt; processors = tt; each_field = alone same })
+    | inl same ↦ inl (Ticked, record { about = no_task_named set; processors = no_processors; each_field = alone same })
     | inr b ↦ elim (bytes_decided word (codes "already")) [
-      | inl same ↦ inl (AlreadyReady, record { about = tt; processors = tt; each_field = alone same })
+      | inl same ↦ inl (AlreadyReady, record { about = no_task_named set; processors = no_processors; each_field = alone same })
       | inr c ↦ elim (bytes_decided word (codes "absent")) [
-        | inl same ↦ inl (NotReady, record { about = tt; processors = tt; each_field = alone same })
+        | inl same ↦ inl (NotReady, record { about = no_task_named set; processors = no_processors; each_field = alone same })
         | inr d ↦ no_reply set (word ∷ []) (one_none word a b c d)
       ]
     ]
@@ -181,13 +179,10 @@ six_decided set a b c d e f = elim (words_decided a c e (codes "displaced") (cod
 -- a reply has one, two or six fields
 lengths : (set : SetData) (reply : Reply) → (length (reply_fields set reply) ≡ 1) ⊎ ((length (reply_fields set reply) ≡ 2) ⊎ (length (reply_fields set reply) ≡ 6))
 lengths set (Placed chain) = inr (inl refl)
-lengths set (Displaced chain out reach) = inr (inr refl)
 lengths set (Waits reach) = inr (inl refl)
+lengths set (Displaced chain out reach) = inr (inr refl)
 lengths set (Freed entered chain back) = inr (inr refl)
-lengths set Left = inl refl
-lengths set Ticked = inl refl
-lengths set AlreadyReady = inl refl
-lengths set NotReady = inl refl
+lengths set _ = inl refl
 
 other_length : (fields : List (List ℕ)) → length fields ≢ 1 → length fields ≢ 2 → length fields ≢ 6 → IsSomeReply fields → ⊥
 other_length fields one two six (tasks, reply, names, f) =
@@ -423,12 +418,8 @@ ended_answered bytes [] number schedule so_far = inl (schedule, so_far.front, re
 ended_answered bytes (byte ∷ rest) number schedule so_far = inr (number, AfterEnd, read_past bytes (byte ∷ rest) number schedule so_far (λ none. cc))
 
 ended_decided : (due : Progress) → IsUnended due ⊎ ((schedule : ScheduleData) × (due ≡ Ended schedule.set schedule.entries schedule.contexts))
-ended_decided HeaderDue = inl tt
-ended_decided ProcessorsDue = inl tt
-ended_decided (TasksDue set) = inl tt
-ended_decided (EntriesDue set count entries) = inl tt
-ended_decided (ContextsDue set entries contexts) = inl tt
 ended_decided (Ended set entries contexts) = inr (record { set = set; entries = entries; contexts = contexts }, refl)
+ended_decided _ = inl tt
 
 -- from here on, with so many bytes at most
 answered_from : (fuel : ℕ) (bytes rest : List ℕ) (number : ℕ) (due : Progress) → IsReadTo bytes rest number due → length rest < fuel → IsAnswered bytes

@@ -1,5 +1,5 @@
 -- A line leads to one front, and what leads on has no fault.
-use Rattle.std.proofs.Common.{◌≡◌, ℕ, ◌<◌, ◌≤◌, ◌^◌, inl, inr, List, [], ◌∷◌, ◌++◌, length, Option, Some, None, IfSome, refl, sym, ap, ◌∙◌, subst, arith}
+use Rattle.std.proofs.Common.{◌≡◌, ℕ, ◌<◌, ◌≤◌, ◌^◌, ◌⊎◌, inl, inr, List, [], ◌∷◌, ◌++◌, length, Option, Some, None, IfSome, refl, sym, ap, ◌∙◌, subst, arith}
 use Rattle.std.specs.Prelude.{codes}
 use Rattle.std.proofs.lemmas.List.{append_cancel_left}
 use Rattle.std.proofs.lemmas.Fmt.{decimal_injective}
@@ -7,6 +7,7 @@ use Rattle.affinity_mask.specs.Number.{canonical_number}
 use Rattle.affinity_mask.specs.ListText.{canonical_list}
 use Rattle.task_set.specs.TaskSet.{TaskData, SetData, IsTaskSet, with_task}
 use Rattle.task_set.specs.Refusal.{CanAdd, IsRefusal}
+use Rattle.task_set.specs.declared.fault.TaskFault.{TaskFault}
 use Rattle.task_set.proofs.Refusals.{CanAdd-IsRefusal, same_refusal}
 use Rattle.task_set.specs.declared.context.Context.{Context}
 use Rattle.task_set.specs.declared.event.Event.{Event}
@@ -27,6 +28,7 @@ use Rattle.text_fields.proofs.NamedTasks.{same_task, same_parts}
 use Rattle.schedule_text.proofs.Fields.{list_once, set_once}
 use Rattle.schedule_text.proofs.Chains.{chain_once}
 use Rattle.schedule_text.proofs.Contexts.{context_once}
+use Rattle.schedule_text.proofs.ReplyParts.{the_task, the_somebody, the_chain, the_set}
 use Rattle.schedule_text.proofs.Entries.{event_apart}
 use Rattle.schedule_text.proofs.Spaces.{IsNoSpace, high_no_space, behind_bytes}
 use Rattle.schedule_text.proofs.Bridges.{task_to_fields, entry_to_fields, form_to_text, context_to_fields, number_to_fields}
@@ -64,16 +66,22 @@ freed_same : {c c' : List ℕ} {o o' : Option ℕ} {r r' : ℕ} → o ≡ o' →
 freed_same one two three = cc
 
 reply_once : (set : SetData) (one other : Reply) → IsTaskSet set → IsReplyOf set one → IsReplyOf set other → HasProcessors one → HasProcessors other → reply_fields set one ≡ reply_fields set other → one ≡ other
-reply_once set (Placed c) (Placed c') lawful a b p q e = ap Placed (chain_same c c' p q (second e))
+reply_once set (Placed c) (Placed c') lawful a b p q e =
+    ap Placed (chain_same c c' (the_chain c [] p) (the_chain c' [] q) (second e))
 reply_once set (Displaced c o r) (Displaced c' o' r') lawful a b p q e =
     let third = tail_same (tail_same e) in
     let fifth = tail_same (tail_same third) in
-    displaced_same (chain_same c c' p.0 q.0 (second e)) (same_task set o o' lawful a b (second third)) (set_same r r' p.1 q.1 (second fifth))
-reply_once set (Waits r) (Waits r') lawful a b p q e = ap Waits (set_same r r' p q (second e))
+    displaced_same (chain_same c c' (the_chain c (r ∷ []) p) (the_chain c' (r' ∷ []) q) (second e))
+    (same_task set o o' lawful (the_task set o a) (the_task set o' b) (second third))
+    (set_same r r' (the_set (c ∷ []) r p) (the_set (c' ∷ []) r' q) (second fifth))
+reply_once set (Waits r) (Waits r') lawful a b p q e =
+    ap Waits (set_same r r' (the_set [] r p) (the_set [] r' q) (second e))
 reply_once set (Freed o c r) (Freed o' c' r') lawful a b p q e =
     let third = tail_same (tail_same e) in
     let fifth = tail_same (tail_same third) in
-    freed_same (somebody_once set o o' lawful a b (second third)) (chain_same c c' p.0 q.0 (second e)) (set_same r r' p.1 q.1 (second fifth))
+    freed_same (somebody_once set o o' lawful (the_somebody set o a) (the_somebody set o' b) (second third))
+    (chain_same c c' (the_chain c (r ∷ []) p) (the_chain c' (r' ∷ []) q) (second e))
+    (set_same r r' (the_set (c ∷ []) r p) (the_set (c' ∷ []) r' q) (second fifth))
 reply_once set Left Left lawful a b p q e = refl
 reply_once set Ticked Ticked lawful a b p q e = refl
 reply_once set AlreadyReady AlreadyReady lawful a b p q e = refl
@@ -202,33 +210,54 @@ leads_no_fault due text next UnknownTask front step fault = by (subst (λ (d : P
     by : LeadsEntries fault.0 fault.1 fault.2 text next → ⊥
     by (inl one) = fault.6 one.0 one.3
     by (inr one) = let room = fault.4 in let full = one.1 in omega arith
-leads_no_fault due text next Short front step fault = fault
-leads_no_fault due text next AfterEnd front step fault = fault
-leads_no_fault due text next OutOfMemory front step fault = fault
+leads_no_fault due text next _ front step fault = fault
 
-pub fault_once : (due : Progress) (text : List ℕ) (kind other : TextKind) → IsFront due → IsLineFault due text kind → IsLineFault due text other → kind ≡ other
-fault_once due text BadLine BadLine front one two = refl
-fault_once due text BadLine (TaskRefused why) front one two = absurd (one (subst (λ (d : Progress). IsForm d text) (sym two.2) (inl (two.1, two.3))))
-fault_once due text BadLine UnknownTask front one two = absurd (one (subst (λ (d : Progress). IsForm d text) (sym two.3) (inl (two.4, two.5))))
-fault_once due text (TaskRefused why) BadLine front one two = absurd (two (subst (λ (d : Progress). IsForm d text) (sym one.2) (inl (one.1, one.3))))
-fault_once due text UnknownTask BadLine front one two = absurd (two (subst (λ (d : Progress). IsForm d text) (sym one.3) (inl (one.4, one.5))))
-fault_once due text (TaskRefused why) (TaskRefused other) front one two =
+-- the three faults of a line
+abbrev IsSortedFault : Progress → List ℕ → TextKind → Type 0
+IsSortedFault due text kind =
+    ((kind ≡ BadLine) × IsLineFault due text BadLine)
+    ⊎ (((why : TaskFault) × (kind ≡ TaskRefused why) × IsLineFault due text (TaskRefused why))
+    ⊎ ((kind ≡ UnknownTask) × IsLineFault due text UnknownTask))
+
+sorted : (due : Progress) (text : List ℕ) (kind : TextKind) → IsLineFault due text kind → IsSortedFault due text kind
+sorted due text BadLine fault = inl (refl, fault)
+sorted due text (TaskRefused why) fault = inr (inl (why, refl, fault))
+sorted due text UnknownTask fault = inr (inr (refl, fault))
+sorted due text _ fault = absurd fault
+
+-- a line that is refused for its task, or names an unknown one, is of the form that is expected
+refused_form : (due : Progress) (text : List ℕ) (why : TaskFault) → IsLineFault due text (TaskRefused why) → IsForm due text
+refused_form due text why fault = subst (λ (d : Progress). IsForm d text) (sym fault.2) (inl (fault.1, fault.3))
+
+unknown_form : (due : Progress) (text : List ℕ) → IsLineFault due text UnknownTask → IsForm due text
+unknown_form due text fault = subst (λ (d : Progress). IsForm d text) (sym fault.3) (inl (fault.4, fault.5))
+
+same_refused : (due : Progress) (text : List ℕ) (why other : TaskFault) → IsFront due
+    → IsLineFault due text (TaskRefused why) → IsLineFault due text (TaskRefused other) → why ≡ other
+same_refused due text why other front one two =
     let sets = tasks_same (sym one.2 ∙ two.2) in
     let added = task_once (fields_of text) one.1 two.1 (task_to_fields text one.1 one.3) (task_to_fields text two.1 two.3) in
     let lawful = (subst IsFront two.2 front).lawful in
-    ap TaskRefused (same_refusal two.0 two.1 why other lawful (subst (λ (s : SetData). IsRefusal s two.1 why) sets (subst (λ (t : TaskData). IsRefusal one.0 t why) added one.4)) two.4)
-fault_once due text (TaskRefused why) UnknownTask front one two = (let clash' = sym one.2 ∙ two.3 in absurd (cc))
-fault_once due text UnknownTask (TaskRefused why) front one two = (let clash' = sym two.2 ∙ one.3 in absurd (cc))
-fault_once due text UnknownTask UnknownTask front one two = refl
-fault_once due text Short other front one two = absurd one
-fault_once due text AfterEnd other front one two = absurd one
-fault_once due text OutOfMemory other front one two = absurd one
-fault_once due text BadLine Short front one two = absurd two
-fault_once due text BadLine AfterEnd front one two = absurd two
-fault_once due text BadLine OutOfMemory front one two = absurd two
-fault_once due text (TaskRefused why) Short front one two = absurd two
-fault_once due text (TaskRefused why) AfterEnd front one two = absurd two
-fault_once due text (TaskRefused why) OutOfMemory front one two = absurd two
-fault_once due text UnknownTask Short front one two = absurd two
-fault_once due text UnknownTask AfterEnd front one two = absurd two
-fault_once due text UnknownTask OutOfMemory front one two = absurd two
+    let refused = subst (λ (t : TaskData). IsRefusal one.0 t why) added one.4 in
+    same_refusal two.0 two.1 why other lawful (subst (λ (s : SetData). IsRefusal s two.1 why) sets refused) two.4
+
+refused_or_unknown : (due : Progress) (text : List ℕ) (why : TaskFault) → IsLineFault due text (TaskRefused why)
+    → IsLineFault due text UnknownTask → ⊥
+refused_or_unknown due text why one two = let clash' = sym one.2 ∙ two.3 in cc
+
+sorted_once : (due : Progress) (text : List ℕ) (kind other : TextKind) → IsFront due → IsSortedFault due text kind
+    → IsSortedFault due text other → kind ≡ other
+sorted_once due text kind other front (inl one) (inl two) = one.0 ∙ sym two.0
+sorted_once due text kind other front (inl one) (inr (inl two)) = absurd (one.1 (refused_form due text two.0 two.2))
+sorted_once due text kind other front (inl one) (inr (inr two)) = absurd (one.1 (unknown_form due text two.1))
+sorted_once due text kind other front (inr (inl one)) (inl two) = absurd (two.1 (refused_form due text one.0 one.2))
+sorted_once due text kind other front (inr (inl one)) (inr (inl two)) =
+    one.1 ∙ ap TaskRefused (same_refused due text one.0 two.0 front one.2 two.2) ∙ sym two.1
+sorted_once due text kind other front (inr (inl one)) (inr (inr two)) = absurd (refused_or_unknown due text one.0 one.2 two.1)
+sorted_once due text kind other front (inr (inr one)) (inl two) = absurd (two.1 (unknown_form due text one.1))
+sorted_once due text kind other front (inr (inr one)) (inr (inl two)) = absurd (refused_or_unknown due text two.0 two.2 one.1)
+sorted_once due text kind other front (inr (inr one)) (inr (inr two)) = one.0 ∙ sym two.0
+
+pub fault_once : (due : Progress) (text : List ℕ) (kind other : TextKind) → IsFront due → IsLineFault due text kind → IsLineFault due text other → kind ≡ other
+fault_once due text kind other front one two =
+    sorted_once due text kind other front (sorted due text kind one) (sorted due text other two)

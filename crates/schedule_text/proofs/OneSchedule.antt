@@ -88,12 +88,8 @@ record Stops (bytes : List ℕ) (number : ℕ) (kind : TextKind) : Type 0 where
   reason : IsReason due rest kind
 
 nothing_behind : (set : Progress) (rest : List ℕ) → (IsUnended set → ⊥) → LeadsOn set rest → ⊥
-nothing_behind HeaderDue rest ended on = ended tt
-nothing_behind ProcessorsDue rest ended on = ended tt
-nothing_behind (TasksDue set) rest ended on = ended tt
-nothing_behind (EntriesDue set count entries) rest ended on = ended tt
-nothing_behind (ContextsDue set entries contexts) rest ended on = ended tt
 nothing_behind (Ended set entries contexts) rest ended on = on.step.0
+nothing_behind _ rest ended on = ended tt
 
 short_stuck : (due : Progress) (rest : List ℕ) → (Contains rest 10 → ⊥) → LeadsOn due rest → ⊥
 short_stuck due rest none on = none (subst (λ (bytes : List ℕ). Contains bytes 10) (sym on.cut) (Contains-append_right on.text (10 ∷ on.behind) 10 (feed_first 10 on.behind refl)))

@@ -20,7 +20,7 @@ use Rattle.task_set.specs.declared.context.Context.{Context}
 use Rattle.task_set.specs.declared.event.Event.{Event}
 use Rattle.task_set.specs.declared.event.Event.TheVariants.{Arrive, Depart, Tick}
 use Rattle.link_table.specs.declared.reply.Reply.{Reply}
-use Rattle.link_table.specs.declared.reply.Reply.TheVariants.{Placed, Displaced, Waits, Freed, Left, Ticked, AlreadyReady, NotReady}
+use Rattle.link_table.specs.declared.reply.Reply.TheVariants.{Placed, Displaced, Waits, Freed}
 use Rattle.text_fields.specs.EventText.{name_of, IsAboutSet}
 use Rattle.schedule_text.specs.ScheduleText.{chain_text, set_text, somebody_text, number_text, IsReplyOf}
 use Rattle.schedule_text.specs.Schedule.{IsRow, IsOfProcessors, HasUnits, HasProcessors, IsContextOf}
@@ -30,6 +30,7 @@ use Rattle.text_fields.proofs.Names.{name_bytes}
 use Rattle.text_fields.proofs.Words.{and_left, and_right}
 use Rattle.text_fields.proofs.NamedTasks.{name_at, no_task}
 use Rattle.schedule_text.proofs.Fields.{set_list}
+use Rattle.schedule_text.proofs.ReplyParts.{the_task, the_somebody, the_chain, the_set}
 
 -- the digits are such bytes
 digits_from : (text : List ℕ) → AllDigits 10 text → All (λ (b : ℕ). 44 ≤ b) text
@@ -54,6 +55,22 @@ EachByte P fields = All (λ (field : List ℕ). All P field) fields
 -- and of each name of a set
 abbrev pub EachName : (ℕ → Type 0) → SetData → Type 0
 EachName P set = All (λ (task : TaskData). All P task.name) set.tasks
+
+-- the fields of a context from one of its words on
+abbrev from_trail : Context → List (List ℕ)
+from_trail context = codes "trail" ∷ canonical_number context.trail ∷ []
+
+abbrev from_last : Context → List (List ℕ)
+from_last context = codes "last" ∷ number_text context.last ∷ from_trail context
+
+abbrev from_moves : Context → List (List ℕ)
+from_moves context = codes "moves" ∷ canonical_number context.moves ∷ from_last context
+
+abbrev from_stints : Context → List (List ℕ)
+from_stints context = codes "stints" ∷ canonical_number context.stints ∷ from_moves context
+
+abbrev from_units : Context → List (List ℕ)
+from_units context = codes "units" ∷ canonical_number context.units ∷ from_stints context
 
 module _ (P : ℕ → Type 0) (high : (b : ℕ) → 44 ≤ b → P b) where
   raised : (text : List ℕ) → All (λ (b : ℕ). 44 ≤ b) text → All P text
@@ -141,15 +158,21 @@ module _ (P : ℕ → Type 0) (high : (b : ℕ) → 44 ≤ b → P b) where
       worded a (b ∷ c ∷ d ∷ e ∷ f ∷ []) one (more b (c ∷ d ∷ e ∷ f ∷ []) first (worded c (d ∷ e ∷ f ∷ []) two (more d (e ∷ f ∷ []) second (worded e (f ∷ []) three (more f [] third none)))))
 
   pub reply_bytes : (set : SetData) (reply : Reply) → EachName P set → IsReplyOf set reply → HasProcessors reply → EachByte P (reply_fields set reply)
-  reply_bytes set (Placed chain) names about has = worded (codes "placed") (chain_text chain ∷ []) refl (more (chain_text chain) [] (chain_bytes chain has) none)
-  reply_bytes set (Displaced chain out reach) names about has = six_bytes (codes "displaced") (chain_text chain) (codes "out") (name_of set out) (codes "reach") (set_text reach) refl refl refl (chain_bytes chain has.0) (called_bytes set out names about) (set_bytes reach has.1)
-  reply_bytes set (Waits reach) names about has = worded (codes "waits") (set_text reach ∷ []) refl (more (set_text reach) [] (set_bytes reach has) none)
+  reply_bytes set (Placed chain) names about has =
+      worded (codes "placed") (chain_text chain ∷ []) refl
+      (more (chain_text chain) [] (chain_bytes chain (the_chain chain [] has)) none)
+  reply_bytes set (Displaced chain out reach) names about has =
+      six_bytes (codes "displaced") (chain_text chain) (codes "out") (name_of set out) (codes "reach") (set_text reach)
+      refl refl refl (chain_bytes chain (the_chain chain (reach ∷ []) has))
+      (called_bytes set out names (the_task set out about)) (set_bytes reach (the_set (chain ∷ []) reach has))
+  reply_bytes set (Waits reach) names about has =
+      worded (codes "waits") (set_text reach ∷ []) refl
+      (more (set_text reach) [] (set_bytes reach (the_set [] reach has)) none)
   reply_bytes set (Freed entered chain back) names about has =
-      six_bytes (codes "freed") (chain_text chain) (codes "enters") (somebody_text set entered) (codes "back") (set_text back) refl refl refl (chain_bytes chain has.0) (somebody_bytes set entered names about) (set_bytes back has.1)
-  reply_bytes set Left names about has = worded (codes "left") [] refl none
-  reply_bytes set Ticked names about has = worded (codes "ticked") [] refl none
-  reply_bytes set AlreadyReady names about has = worded (codes "already") [] refl none
-  reply_bytes set NotReady names about has = worded (codes "absent") [] refl none
+      six_bytes (codes "freed") (chain_text chain) (codes "enters") (somebody_text set entered) (codes "back")
+      (set_text back) refl refl refl (chain_bytes chain (the_chain chain (back ∷ []) has))
+      (somebody_bytes set entered names (the_somebody set entered about)) (set_bytes back (the_set (chain ∷ []) back has))
+  reply_bytes set _ names about has = worded _ [] refl none
 
   last_bytes : (last : Option ℕ) → IfSome last (λ p. p < 64) → All P (number_text last)
   last_bytes None below = dash_bytes
@@ -159,10 +182,19 @@ module _ (P : ℕ → Type 0) (high : (b : ℕ) → 44 ≤ b → P b) where
   pair_bytes : (word field : List ℕ) (fields : List (List ℕ)) → is_high word ≡ true → All P field → EachByte P fields → EachByte P (word ∷ field ∷ fields)
   pair_bytes word field fields e here rest = worded word (field ∷ fields) e (more field fields here rest)
 
-  pub context_bytes : (set : SetData) (t : ℕ) (context : Context) → EachName P set → t < length set.tasks → IsContextOf t context → EachByte P (context_fields set context)
+  pub context_bytes : (set : SetData) (t : ℕ) (context : Context) → EachName P set → t < length set.tasks
+      → IsContextOf t context → EachByte P (context_fields set context)
   context_bytes set t context names within of =
-      more (name_of set context.task) (codes "units" ∷ canonical_number context.units ∷ codes "stints" ∷ canonical_number context.stints ∷ codes "moves" ∷ canonical_number context.moves ∷ codes "last" ∷ number_text context.last ∷ codes "trail" ∷ canonical_number context.trail ∷ []) (called_bytes set context.task names (let same = of.task in omega arith))
-      (pair_bytes (codes "units") (canonical_number context.units) (codes "stints" ∷ canonical_number context.stints ∷ codes "moves" ∷ canonical_number context.moves ∷ codes "last" ∷ number_text context.last ∷ codes "trail" ∷ canonical_number context.trail ∷ []) refl (number_bytes context.units of.units) (pair_bytes (codes "stints") (canonical_number context.stints) (codes "moves" ∷ canonical_number context.moves ∷ codes "last" ∷ number_text context.last ∷ codes "trail" ∷ canonical_number context.trail ∷ []) refl (number_bytes context.stints of.stints) (pair_bytes (codes "moves") (canonical_number context.moves) (codes "last" ∷ number_text context.last ∷ codes "trail" ∷ canonical_number context.trail ∷ []) refl (number_bytes context.moves of.moves) (pair_bytes (codes "last") (number_text context.last) (codes "trail" ∷ canonical_number context.trail ∷ []) refl (last_bytes context.last of.last) (pair_bytes (codes "trail") (canonical_number context.trail) [] refl (number_bytes context.trail of.trail) none)))))
+      more (name_of set context.task) (from_units context)
+      (called_bytes set context.task names (let same = of.task in omega arith))
+      (pair_bytes (codes "units") (canonical_number context.units) (from_stints context) refl
+      (number_bytes context.units of.units)
+      (pair_bytes (codes "stints") (canonical_number context.stints) (from_moves context) refl
+      (number_bytes context.stints of.stints)
+      (pair_bytes (codes "moves") (canonical_number context.moves) (from_last context) refl
+      (number_bytes context.moves of.moves)
+      (pair_bytes (codes "last") (number_text context.last) (from_trail context) refl (last_bytes context.last of.last)
+      (pair_bytes (codes "trail") (canonical_number context.trail) [] refl (number_bytes context.trail of.trail) none)))))
 
 -- ---- no spaces, and no line feeds
 

@@ -35,15 +35,5 @@ list_fault set fields word name number list kind four (inr bad) = inr (inl (bad.
 -- a task that is not added
 pub task_refused : (set : SetData) (fields : List (List ℕ)) (added : TaskData) (fault : TaskFault) → IsTaskFields fields added → (fault ≡ task.OutOfMemory) ⊎ IsRefusal set added fault → IsOutOfMemory (kind_of_refusal fault) ⊎ IsTaskFault set fields (kind_of_refusal fault)
 task_refused set fields added task.OutOfMemory form why = inl refl
-task_refused set fields added task.BadName form (inl none) = absurd (cc)
-task_refused set fields added task.BadName form (inr why) = inr (inr (added, task.BadName, refl, form, why))
-task_refused set fields added task.Many form (inl none) = absurd (cc)
-task_refused set fields added task.Many form (inr why) = inr (inr (added, task.Many, refl, form, why))
-task_refused set fields added (task.SameName t) form (inl none) = absurd (cc)
-task_refused set fields added (task.SameName t) form (inr why) = inr (inr (added, task.SameName t, refl, form, why))
-task_refused set fields added (task.SamePriority t) form (inl none) = absurd (cc)
-task_refused set fields added (task.SamePriority t) form (inr why) = inr (inr (added, task.SamePriority t, refl, form, why))
-task_refused set fields added task.EmptyMask form (inl none) = absurd (cc)
-task_refused set fields added task.EmptyMask form (inr why) = inr (inr (added, task.EmptyMask, refl, form, why))
-task_refused set fields added (task.OutsideMask p) form (inl none) = absurd (cc)
-task_refused set fields added (task.OutsideMask p) form (inr why) = inr (inr (added, task.OutsideMask p, refl, form, why))
+task_refused set fields added fault form (inl none) = absurd (cc)
+task_refused set fields added fault form (inr why) = inr (inr (added, fault, refl, form, why))

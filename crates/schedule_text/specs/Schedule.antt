@@ -8,8 +8,8 @@ use Rattle.task_set.specs.declared.context.Context.{Context}
 use Rattle.task_set.specs.declared.event.Event.{Event}
 use Rattle.task_set.specs.declared.event.Event.TheVariants.{Arrive, Depart, Tick}
 use Rattle.link_table.specs.declared.reply.Reply.{Reply}
-use Rattle.link_table.specs.declared.reply.Reply.TheVariants.{Placed, Displaced, Waits, Freed, Left, Ticked, AlreadyReady, NotReady}
 use Rattle.link_table.specs.declared.reply.Entry.{Entry}
+use Rattle.link_table.specs.Reply.{chains_of, sets_of}
 use Rattle.schedule_text.specs.ScheduleText.{IsEntryOf}
 use Rattle.schedule_text.specs.declared.schedule.Schedule.TheInside.{Inside}
 
@@ -35,14 +35,7 @@ HasUnits (Tick units) = (1 ≤ units) × (units ≤ 1000000)
 
 -- the chain and the sets of a reply are of processors
 abbrev pub HasProcessors : Reply → Type 0
-HasProcessors (Placed chain) = IsRow chain
-HasProcessors (Displaced chain out reach) = IsRow chain × IsOfProcessors reach
-HasProcessors (Waits reach) = IsOfProcessors reach
-HasProcessors (Freed entered chain back) = IsRow chain × IsOfProcessors back
-HasProcessors Left = Unit {0}
-HasProcessors Ticked = Unit {0}
-HasProcessors AlreadyReady = Unit {0}
-HasProcessors NotReady = Unit {0}
+HasProcessors reply = All IsRow (chains_of reply) × All IsOfProcessors (sets_of reply)
 
 -- an entry of tasks of the set, with the numbers of the format
 pub record IsScheduled (set : SetData) (entry : Entry) : Type 0 where

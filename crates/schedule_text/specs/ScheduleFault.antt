@@ -169,9 +169,7 @@ abbrev pub IsLineFault : Progress → List ℕ → TextKind → Type 0
 IsLineFault due text BadLine = IsForm due text → ⊥
 IsLineFault due text (TaskRefused fault) = (set : SetData) × (added : TaskData) × (due ≡ TasksDue set) × IsTaskForm text added × IsRefusal set added fault
 IsLineFault due text UnknownTask = (set : SetData) × (count : ℕ) × (entries : List Entry) × (due ≡ EntriesDue set count entries) × (length entries < count) × IsEntryForm text × ((entry : Entry) → IsEntryText set text entry → ⊥)
-IsLineFault due text Short = ⊥
-IsLineFault due text AfterEnd = ⊥
-IsLineFault due text OutOfMemory = ⊥
+IsLineFault due text _ = ⊥
 
 -- behind a front of a schedule no further line comes, and one is due
 pub record IsShort (bytes : List ℕ) (number : ℕ) : Type 0 where
@@ -220,9 +218,4 @@ kind_number OutOfMemory = None
 -- the kind of a task's refusal; want of memory is a kind of its own
 abbrev pub kind_of_refusal : TaskFault → TextKind
 kind_of_refusal task.OutOfMemory = OutOfMemory
-kind_of_refusal task.BadName = TaskRefused task.BadName
-kind_of_refusal task.Many = TaskRefused task.Many
-kind_of_refusal (task.SameName t) = TaskRefused (task.SameName t)
-kind_of_refusal (task.SamePriority t) = TaskRefused (task.SamePriority t)
-kind_of_refusal task.EmptyMask = TaskRefused task.EmptyMask
-kind_of_refusal (task.OutsideMask p) = TaskRefused (task.OutsideMask p)
+kind_of_refusal fault = TaskRefused fault

@@ -1,7 +1,7 @@
 -- The schedule text. What a reader must believe: there is one text for a task set, a history and the contexts of its
 -- tasks: a header, the tasks, a line for each entry with its reply, and a line for each context. It can be written
 -- where each task that an entry names is of the set.
-use Rattle.std.specs.Prelude.{ℕ, ◌<◌, List, [], ◌∷◌, ◌++◌, codes, length, map, Option, None, Some, IfSome, if◌then◌else◌, ◌==◌}
+use Rattle.std.specs.Prelude.{ℕ, ◌<◌, List, [], ◌∷◌, ◌++◌, codes, length, map, All, Option, None, Some, if◌then◌else◌, ◌==◌}
 use Rattle.std.specs.List.{flat_map, join_with_byte}
 use Rattle.affinity_mask.specs.ProcSet.{empty}
 use Rattle.affinity_mask.specs.Number.{canonical_number}
@@ -11,6 +11,7 @@ use Rattle.task_set.specs.declared.context.Context.{Context}
 use Rattle.link_table.specs.declared.reply.Reply.{Reply}
 use Rattle.link_table.specs.declared.reply.Reply.TheVariants.{Placed, Displaced, Waits, Freed, Left, Ticked, AlreadyReady, NotReady}
 use Rattle.link_table.specs.declared.reply.Entry.{Entry}
+use Rattle.link_table.specs.Reply.{tasks_named}
 use Rattle.text_fields.specs.LineText.{line, processors_line, task_line}
 use Rattle.text_fields.specs.EventText.{name_of, event_text, IsAboutSet}
 
@@ -64,14 +65,7 @@ schedule_text set entries contexts =
 
 -- the tasks that a reply names are of the set: who was put out, and who entered, if somebody did
 abbrev pub IsReplyOf : SetData → Reply → Type 0
-IsReplyOf set (Placed chain) = Unit {0}
-IsReplyOf set (Displaced chain out reach) = out < length set.tasks
-IsReplyOf set (Waits reach) = Unit {0}
-IsReplyOf set (Freed entered chain back) = IfSome entered (λ t. t < length set.tasks)
-IsReplyOf set Left = Unit {0}
-IsReplyOf set Ticked = Unit {0}
-IsReplyOf set AlreadyReady = Unit {0}
-IsReplyOf set NotReady = Unit {0}
+IsReplyOf set reply = All (λ t. t < length set.tasks) (tasks_named reply)
 
 -- the tasks that an entry names, in its event and in its reply, are of the set
 pub record IsEntryOf (set : SetData) (entry : Entry) : Type 0 where
