@@ -12,15 +12,15 @@ use Rattle.task_set.proofs.Added.{IsTaskSet-push}
 use Rattle.task_set.specs.declared.context.Context.{Context}
 use Rattle.link_table.specs.declared.reply.Entry.{Entry}
 use Rattle.text_fields.specs.LineText.{line, processors_line, task_line}
-use Rattle.schedule_text.specs.ScheduleText.{entry_line, context_line, schedule_text}
-use Rattle.schedule_text.specs.Schedule.{ScheduleData, IsScheduled, IsContextOf, AreInOrder, IsScheduleSet}
-use Rattle.schedule_text.specs.ScheduleFault.{Progress, HeaderDue, ProcessorsDue, TasksDue, EntriesDue, ContextsDue, Ended, tasks_text, history_text, contexts_text, text_so_far, lines_so_far, IsFront, IsUnended, IsLineFault, IsScheduleRefused}
+use Rattle.schedule_text.specs.ScheduleText.{entry_line, context_line, header, text_in}
+use Rattle.schedule_text.specs.Schedule.{ScheduleData, IsScheduled, IsContextOf, AreInOrder, IsScheduleSet, IsSchedule}
+use Rattle.schedule_text.specs.ScheduleFault.{Progress, HeaderDue, ProcessorsDue, TasksDue, EntriesDue, ContextsDue, Ended, tasks_text, history_text, contexts_text, text_so_far, lines_so_far, IsFront, IsUnended, IsLineFault, IsRefusedIn}
 use Rattle.schedule_text.specs.declared.fault.TextKind.{TextKind}
 use Rattle.schedule_text.specs.declared.fault.TextKind.TheVariants.{Short, AfterEnd}
 use Rattle.schedule_text.specs.declared.fault.TextFault.{TextFault}
 use Rattle.schedule_text.specs.declared.stage.Stage.{Stage}
 use Rattle.schedule_text.specs.declared.stage.Stage.TheVariants as stages
-use Rattle.schedule_text.specs.Reading.{progress_of, IsOutOfMemory, Leads, LeadsTasks, LeadsEntries, LeadsContexts}
+use Rattle.schedule_text.specs.Reading.{progress_of, IsOutOfMemory, IsAnswerTo, Leads, LeadsTasks, LeadsEntries, LeadsContexts}
 
 -- ---- more of a list
 
@@ -67,100 +67,6 @@ no_tasks m range = record {
   priorities = All-nil (λ (task : TaskData). task.priority < 2 ^ 32);
 }
 
--- a line leads to a front
-pub leads_front : (due : Progress) (text : List ℕ) (next : Progress) → IsFront due → Leads due text next → IsFront next
-leads_front HeaderDue text next front step = subst IsFront (sym step.0) tt
-leads_front ProcessorsDue text next front step = subst IsFront (sym step.1) (no_tasks step.0 step.2.range)
-leads_front (TasksDue set) text next front step = leads_tasks_front set text next front step
-leads_front (EntriesDue set count entries) text next front step = leads_entries_front set count entries text next front step
-leads_front (ContextsDue set entries contexts) text next front step = leads_contexts_front set entries contexts text next front step
-leads_front (Ended set entries contexts) text next front step = absurd step
-
--- whose text has the line more
-abbrev IsNextText : Progress → List ℕ → Progress → Type 0
-IsNextText due text next = text_so_far next ≡ text_so_far due ++ line text
-
-next_text : (due : Progress) (text : List ℕ) (next last : Progress) → next ≡ last → IsNextText due text last → IsNextText due text next
-next_text due text next last same is = subst (IsNextText due text) (sym same) is
-
-pub leads_text : (due : Progress) (text : List ℕ) (next : Progress) → IsFront due → Leads due text next → IsNextText due text next
-unfolding schedule_text
-leads_text HeaderDue text next front step = next_text HeaderDue text next ProcessorsDue step.0 (ap line (sym step.1))
-leads_text ProcessorsDue text next front step =
-    next_text ProcessorsDue text next (TasksDue (record { processors = step.0; tasks = [] })) step.1 (append-nil (line (codes "schedule 1") ++ line (codes "processors " ++ canonical_number step.0)) ∙ ap (λ (last : List ℕ). line (codes "schedule 1") ++ line last) (sym step.2.is_text))
-leads_text (TasksDue set) text next front (inl (added, last, form, can)) =
-    next_text (TasksDue set) text next (TasksDue (with_task set added)) last (more_lines task_line (line (codes "schedule 1") ++ processors_line set) set.tasks added (line text) (sym form.is_text))
-leads_text (TasksDue set) text next front (inr (count, last, form)) =
-    next_text (TasksDue set) text next (EntriesDue set count []) last (append-nil (tasks_text set ++ line (codes "history " ++ canonical_number count)) ∙ ap (λ (end : List ℕ). tasks_text set ++ line end) (sym form.is_text))
-leads_text (EntriesDue set count entries) text next front (inl (entry, last, room, form)) =
-    next_text (EntriesDue set count entries) text next (EntriesDue set count (entries ++ entry ∷ [])) last (more_lines (entry_line set) (tasks_text set ++ line (codes "history " ++ canonical_number count)) entries entry (line text) (sym form.is_text))
-leads_text (EntriesDue set count entries) text next front (inr (last, full, form)) =
-    next_text (EntriesDue set count entries) text next (ContextsDue set entries []) last
-    (append-nil (history_text set (length entries) entries ++ line (codes "contexts " ++ canonical_number (length set.tasks))) ∙ ap (λ (end : List ℕ). history_text set (length entries) entries ++ line end) (sym form) ∙ ap (λ (n : ℕ). history_text set n entries ++ line text) full)
-leads_text (ContextsDue set entries contexts) text next front (inl (context, last, room, form)) =
-    next_text (ContextsDue set entries contexts) text next (ContextsDue set entries (contexts ++ context ∷ [])) last
-    (more_lines (context_line set) (history_text set (length entries) entries ++ line (codes "contexts " ++ canonical_number (length set.tasks))) contexts context (line text) (sym form.is_text))
-leads_text (ContextsDue set entries contexts) text next front (inr (last, full, form)) =
-    next_text (ContextsDue set entries contexts) text next (Ended set entries contexts) last
-    (ap (λ (n : ℕ). history_text set (length entries) entries ++ line (codes "contexts " ++ canonical_number n) ++ flat_map (context_line set) contexts ++ line (codes "end")) full ∙ ap (λ (end : List ℕ). contexts_text set entries contexts ++ line end) (sym form))
-leads_text (Ended set entries contexts) text next front step = absurd step
-
--- and a line more
-pub leads_lines : (due : Progress) (text : List ℕ) (next : Progress) → Leads due text next → lines_so_far next ≡ lines_so_far due + 1
-leads_lines HeaderDue text next step = ap lines_so_far step.0
-leads_lines ProcessorsDue text next step = ap lines_so_far step.1
-leads_lines (TasksDue set) text next (inl (added, last, form, can)) = ap lines_so_far last ∙ (let count = length-append set.tasks (added ∷ []) in omega arith)
-leads_lines (TasksDue set) text next (inr (count, last, form)) = ap lines_so_far last ∙ omega arith
-leads_lines (EntriesDue set count entries) text next (inl (entry, last, room, form)) = ap lines_so_far last ∙ (let more = length-append entries (entry ∷ []) in omega arith)
-leads_lines (EntriesDue set count entries) text next (inr (last, full, form)) = ap lines_so_far last ∙ omega arith
-leads_lines (ContextsDue set entries contexts) text next (inl (context, last, room, form)) = ap lines_so_far last ∙ (let more = length-append contexts (context ∷ []) in omega arith)
-leads_lines (ContextsDue set entries contexts) text next (inr (last, full, form)) = ap lines_so_far last ∙ omega arith
-leads_lines (Ended set entries contexts) text next step = absurd step
-
--- ---- what was read
-
--- the bytes before the rest are a front of a schedule
-pub record IsReadTo (bytes rest : List ℕ) (number : ℕ) (due : Progress) : Type 0 where
-  pub front : IsFront due
-  pub order : bytes ≡ text_so_far due ++ rest
-  pub place : number ≡ lines_so_far due + 1
-  pub bound : number + length rest ≤ length bytes + 1
-
-pub read_start : (bytes : List ℕ) → IsReadTo bytes bytes 1 HeaderDue
-read_start bytes = record { front = tt; order = refl; place = refl; bound = omega arith }
-
-pub read_more : (bytes rest text behind : List ℕ) (number : ℕ) (due next : Progress) → IsReadTo bytes rest number due → rest ≡ text ++ 10 ∷ behind → Leads due text next → IsReadTo bytes behind (number + 1) next
-read_more bytes rest text behind number due next so_far cut step = record {
-  front = leads_front due text next so_far.front step;
-  order =
-      so_far.order ∙ ap (λ (back : List ℕ). text_so_far due ++ back) (cut ∙ sym (append_assoc text (10 ∷ []) behind)) ∙ sym (append_assoc (text_so_far due) (line text) behind)
-      ∙ ap (λ (front : List ℕ). front ++ behind) (sym (leads_text due text next so_far.front step));
-  place = (let place = so_far.place in let lines = leads_lines due text next step in omega arith);
-  bound = (let bound = so_far.bound in omega (arith, ap length cut, length-append text (10 ∷ behind)));
-}
-
-pub read_short : (bytes rest : List ℕ) (number : ℕ) (due : Progress) → IsReadTo bytes rest number due → IsUnended due → (Contains rest 10 → ⊥) → IsScheduleRefused bytes number Short
-read_short bytes rest number due so_far unended none = inl (record { due = due; rest = rest; front = so_far.front; unended = unended; order = so_far.order; place = so_far.place; short = none }, refl)
-
-pub read_fault : (bytes rest text behind : List ℕ) (number : ℕ) (due : Progress) (kind : TextKind) → IsReadTo bytes rest number due → IsUnended due → rest ≡ text ++ 10 ∷ behind → (Contains text 10 → ⊥) → IsLineFault due text kind → IsScheduleRefused bytes number kind
-read_fault bytes rest text behind number due kind so_far unended cut one_line fault = inr (inl record {
-  due = due;
-  text = text;
-  behind = behind;
-  front = so_far.front;
-  unended = unended;
-  order = so_far.order ∙ ap (λ (back : List ℕ). text_so_far due ++ back) (cut ∙ sym (append_assoc text (10 ∷ []) behind));
-  place = so_far.place;
-  one_line = one_line;
-  fault = fault;
-})
-
-pub read_past : (bytes rest : List ℕ) (number : ℕ) (schedule : ScheduleData) → IsReadTo bytes rest number (Ended schedule.set schedule.entries schedule.contexts) → rest ≢ [] → IsScheduleRefused bytes number AfterEnd
-read_past bytes rest number schedule so_far more = inr (inr (record { schedule = schedule; rest = rest; is_schedule = so_far.front; order = so_far.order; place = so_far.place; more = more }, refl))
-
-pub read_end : (bytes rest : List ℕ) (number : ℕ) (schedule : ScheduleData) → IsReadTo bytes rest number (Ended schedule.set schedule.entries schedule.contexts) → rest ≡ [] → bytes ≡ schedule_text schedule.set schedule.entries schedule.contexts
-read_end bytes rest number schedule so_far none = so_far.order ∙ ap (λ (back : List ℕ). schedule_text schedule.set schedule.entries schedule.contexts ++ back) none ∙ append-nil (schedule_text schedule.set schedule.entries schedule.contexts)
-
 -- a stage has a line due
 pub unended : (stage : Stage) → IsUnended (progress_of stage)
 unended stages.HeaderDue = tt
@@ -169,12 +75,110 @@ unended (stages.TasksDue set) = tt
 unended (stages.EntriesDue set count entries) = tt
 unended (stages.ContextsDue set entries contexts) = tt
 
--- what is answered behind the last line
-module _ (bytes behind : List ℕ) (number : ℕ) (schedule : ScheduleData) (so_far : IsReadTo bytes behind number (Ended schedule.set schedule.entries schedule.contexts)) where
-  pub end_schedule : (result : Result ScheduleData TextFault) → IfOk result (λ answer. (answer ≡ schedule) × (behind ≡ [])) → IfOk result (λ answer. bytes ≡ schedule_text answer.set answer.entries answer.contexts)
-  end_schedule (Ok answer) read = subst (λ (s : ScheduleData). bytes ≡ schedule_text s.set s.entries s.contexts) (sym read.0) (read_end bytes behind number schedule so_far read.1)
-  end_schedule (Err fault) read = tt
+module _ (version : ℕ) where
+  -- a line leads to a front
+  pub leads_front : (due : Progress) (text : List ℕ) (next : Progress) → IsFront due → Leads version due text next → IsFront next
+  leads_front HeaderDue text next front step = subst IsFront (sym step.0) tt
+  leads_front ProcessorsDue text next front step = subst IsFront (sym step.1) (no_tasks step.0 step.2.range)
+  leads_front (TasksDue set) text next front step = leads_tasks_front set text next front step
+  leads_front (EntriesDue set count entries) text next front step = leads_entries_front set count entries text next front step
+  leads_front (ContextsDue set entries contexts) text next front step = leads_contexts_front set entries contexts text next front step
+  leads_front (Ended set entries contexts) text next front step = absurd step
 
-  pub end_refused : (result : Result ScheduleData TextFault) → IfErr result (λ fault. (fault.line ≡ number) × (fault.kind ≡ AfterEnd) × (behind ≢ [])) → IfErr result (λ fault. IsOutOfMemory fault.kind ⊎ IsScheduleRefused bytes fault.line fault.kind)
-  end_refused (Ok answer) refused = tt
-  end_refused (Err fault) refused = inr (rw (refused.0, refused.1) (read_past bytes behind number schedule so_far refused.2))
+  -- whose text has the line more
+  abbrev IsNextText : Progress → List ℕ → Progress → Type 0
+  IsNextText due text next = text_so_far version next ≡ text_so_far version due ++ line text
+
+  next_text : (due : Progress) (text : List ℕ) (next last : Progress) → next ≡ last → IsNextText due text last → IsNextText due text next
+  next_text due text next last same is = subst (IsNextText due text) (sym same) is
+
+  pub leads_text : (due : Progress) (text : List ℕ) (next : Progress) → IsFront due → Leads version due text next → IsNextText due text next
+  unfolding text_in
+  leads_text HeaderDue text next front step = next_text HeaderDue text next ProcessorsDue step.0 (ap line (sym step.1))
+  leads_text ProcessorsDue text next front step =
+      next_text ProcessorsDue text next (TasksDue (record { processors = step.0; tasks = [] })) step.1 (append-nil (line (header version) ++ line (codes "processors " ++ canonical_number step.0)) ∙ ap (λ (last : List ℕ). line (header version) ++ line last) (sym step.2.is_text))
+  leads_text (TasksDue set) text next front (inl (added, last, form, can)) =
+      next_text (TasksDue set) text next (TasksDue (with_task set added)) last (more_lines task_line (line (header version) ++ processors_line set) set.tasks added (line text) (sym form.is_text))
+  leads_text (TasksDue set) text next front (inr (count, last, form)) =
+      next_text (TasksDue set) text next (EntriesDue set count []) last (append-nil (tasks_text version set ++ line (codes "history " ++ canonical_number count)) ∙ ap (λ (end : List ℕ). tasks_text version set ++ line end) (sym form.is_text))
+  leads_text (EntriesDue set count entries) text next front (inl (entry, last, room, form)) =
+      next_text (EntriesDue set count entries) text next (EntriesDue set count (entries ++ entry ∷ [])) last (more_lines (entry_line set) (tasks_text version set ++ line (codes "history " ++ canonical_number count)) entries entry (line text) (sym form.is_text))
+  leads_text (EntriesDue set count entries) text next front (inr (last, full, form)) =
+      next_text (EntriesDue set count entries) text next (ContextsDue set entries []) last
+      (append-nil (history_text version set (length entries) entries ++ line (codes "contexts " ++ canonical_number (length set.tasks))) ∙ ap (λ (end : List ℕ). history_text version set (length entries) entries ++ line end) (sym form) ∙ ap (λ (n : ℕ). history_text version set n entries ++ line text) full)
+  leads_text (ContextsDue set entries contexts) text next front (inl (context, last, room, form)) =
+      next_text (ContextsDue set entries contexts) text next (ContextsDue set entries (contexts ++ context ∷ [])) last
+      (more_lines (context_line set) (history_text version set (length entries) entries ++ line (codes "contexts " ++ canonical_number (length set.tasks))) contexts context (line text) (sym form.is_text))
+  leads_text (ContextsDue set entries contexts) text next front (inr (last, full, form)) =
+      next_text (ContextsDue set entries contexts) text next (Ended set entries contexts) last
+      (ap (λ (n : ℕ). history_text version set (length entries) entries ++ line (codes "contexts " ++ canonical_number n) ++ flat_map (context_line set) contexts ++ line (codes "end")) full ∙ ap (λ (end : List ℕ). contexts_text version set entries contexts ++ line end) (sym form))
+  leads_text (Ended set entries contexts) text next front step = absurd step
+
+  -- and a line more
+  pub leads_lines : (due : Progress) (text : List ℕ) (next : Progress) → Leads version due text next → lines_so_far next ≡ lines_so_far due + 1
+  leads_lines HeaderDue text next step = ap lines_so_far step.0
+  leads_lines ProcessorsDue text next step = ap lines_so_far step.1
+  leads_lines (TasksDue set) text next (inl (added, last, form, can)) = ap lines_so_far last ∙ (let count = length-append set.tasks (added ∷ []) in omega arith)
+  leads_lines (TasksDue set) text next (inr (count, last, form)) = ap lines_so_far last ∙ omega arith
+  leads_lines (EntriesDue set count entries) text next (inl (entry, last, room, form)) = ap lines_so_far last ∙ (let more = length-append entries (entry ∷ []) in omega arith)
+  leads_lines (EntriesDue set count entries) text next (inr (last, full, form)) = ap lines_so_far last ∙ omega arith
+  leads_lines (ContextsDue set entries contexts) text next (inl (context, last, room, form)) = ap lines_so_far last ∙ (let more = length-append contexts (context ∷ []) in omega arith)
+  leads_lines (ContextsDue set entries contexts) text next (inr (last, full, form)) = ap lines_so_far last ∙ omega arith
+  leads_lines (Ended set entries contexts) text next step = absurd step
+
+  -- ---- what was read
+
+  -- the bytes before the rest are a front of a schedule
+  pub record IsReadTo (bytes rest : List ℕ) (number : ℕ) (due : Progress) : Type 0 where
+    pub front : IsFront due
+    pub order : bytes ≡ text_so_far version due ++ rest
+    pub place : number ≡ lines_so_far due + 1
+    pub bound : number + length rest ≤ length bytes + 1
+
+  pub read_start : (bytes : List ℕ) → IsReadTo bytes bytes 1 HeaderDue
+  read_start bytes = record { front = tt; order = refl; place = refl; bound = omega arith }
+
+  pub read_more : (bytes rest text behind : List ℕ) (number : ℕ) (due next : Progress) → IsReadTo bytes rest number due → rest ≡ text ++ 10 ∷ behind → Leads version due text next → IsReadTo bytes behind (number + 1) next
+  read_more bytes rest text behind number due next so_far cut step = record {
+    front = leads_front due text next so_far.front step;
+    order =
+        so_far.order ∙ ap (λ (back : List ℕ). text_so_far version due ++ back) (cut ∙ sym (append_assoc text (10 ∷ []) behind)) ∙ sym (append_assoc (text_so_far version due) (line text) behind)
+        ∙ ap (λ (front : List ℕ). front ++ behind) (sym (leads_text due text next so_far.front step));
+    place = (let place = so_far.place in let lines = leads_lines due text next step in omega arith);
+    bound = (let bound = so_far.bound in omega (arith, ap length cut, length-append text (10 ∷ behind)));
+  }
+
+  pub read_short : (bytes rest : List ℕ) (number : ℕ) (due : Progress) → IsReadTo bytes rest number due → IsUnended due → (Contains rest 10 → ⊥) → IsRefusedIn version bytes number Short
+  read_short bytes rest number due so_far unended none = inl (record { due = due; rest = rest; front = so_far.front; unended = unended; order = so_far.order; place = so_far.place; short = none }, refl)
+
+  pub read_fault : (bytes rest text behind : List ℕ) (number : ℕ) (due : Progress) (kind : TextKind) → IsReadTo bytes rest number due → IsUnended due → rest ≡ text ++ 10 ∷ behind → (Contains text 10 → ⊥) → IsLineFault version due text kind → IsRefusedIn version bytes number kind
+  read_fault bytes rest text behind number due kind so_far unended cut one_line fault = inr (inl record {
+    due = due;
+    text = text;
+    behind = behind;
+    front = so_far.front;
+    unended = unended;
+    order = so_far.order ∙ ap (λ (back : List ℕ). text_so_far version due ++ back) (cut ∙ sym (append_assoc text (10 ∷ []) behind));
+    place = so_far.place;
+    one_line = one_line;
+    fault = fault;
+  })
+
+  pub read_past : (bytes rest : List ℕ) (number : ℕ) (schedule : ScheduleData) → IsReadTo bytes rest number (Ended schedule.set schedule.entries schedule.contexts) → rest ≢ [] → IsRefusedIn version bytes number AfterEnd
+  read_past bytes rest number schedule so_far more = inr (inr (record { schedule = schedule; rest = rest; is_schedule = so_far.front; order = so_far.order; place = so_far.place; more = more }, refl))
+
+  pub read_end : (bytes rest : List ℕ) (number : ℕ) (schedule : ScheduleData) → IsReadTo bytes rest number (Ended schedule.set schedule.entries schedule.contexts) → rest ≡ [] → bytes ≡ text_in version schedule.set schedule.entries schedule.contexts
+  read_end bytes rest number schedule so_far none = so_far.order ∙ ap (λ (back : List ℕ). text_in version schedule.set schedule.entries schedule.contexts ++ back) none ∙ append-nil (text_in version schedule.set schedule.entries schedule.contexts)
+
+  -- what is answered behind the last line
+  module _ (bytes behind : List ℕ) (number : ℕ) (schedule : ScheduleData) (so_far : IsReadTo bytes behind number (Ended schedule.set schedule.entries schedule.contexts)) where
+    pub end_answer : (result : Result ScheduleData TextFault) → IfOk result (λ answer. (answer ≡ schedule) × (behind ≡ []))
+        → IfErr result (λ fault. (fault.line ≡ number) × (fault.kind ≡ AfterEnd) × (behind ≢ []))
+        → IsAnswerTo version bytes result
+    end_answer (Ok answer) read refused = (
+      subst (λ (s : ScheduleData). IsSchedule s × (bytes ≡ text_in version s.set s.entries s.contexts)) (sym read.0)
+      (so_far.front, read_end bytes behind number schedule so_far read.1),
+      tt,
+    )
+    end_answer (Err fault) read refused =
+        (tt, inr (rw (refused.0, refused.1) (read_past bytes behind number schedule so_far refused.2)))

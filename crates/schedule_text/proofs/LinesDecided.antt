@@ -12,10 +12,10 @@ use Rattle.link_table.specs.declared.reply.Reply.{Reply}
 use Rattle.link_table.specs.declared.reply.Reply.TheVariants.{Placed, Displaced, Waits, Freed, Left, Ticked, AlreadyReady, NotReady}
 use Rattle.link_table.specs.declared.reply.Entry.{Entry}
 use Rattle.text_fields.specs.LineText.{line}
-use Rattle.schedule_text.specs.ScheduleText.{context_line}
+use Rattle.schedule_text.specs.ScheduleText.{context_line, header, text_in}
 use Rattle.schedule_text.specs.Schedule.{ScheduleData, IsSchedule, IsContextOf}
-use Rattle.schedule_text.specs.ScheduleFault.{Progress, HeaderDue, ProcessorsDue, TasksDue, EntriesDue, ContextsDue, Ended, IsFront, IsUnended, IsField, IsContextText, IsLineFault, IsScheduleRefused}
-use Rattle.schedule_text.specs.Laws.{AcceptedOrRefused, text_of_schedule}
+use Rattle.schedule_text.specs.ScheduleFault.{Progress, HeaderDue, ProcessorsDue, TasksDue, EntriesDue, ContextsDue, Ended, IsFront, IsUnended, IsField, IsContextText, IsLineFault, IsRefusedIn}
+use Rattle.schedule_text.specs.Laws.{AcceptedOrRefused}
 use Rattle.schedule_text.specs.declared.fault.TextKind.{TextKind}
 use Rattle.schedule_text.specs.declared.fault.TextKind.TheVariants.{BadLine, TaskRefused, UnknownTask, Short, AfterEnd}
 use Rattle.schedule_text.specs.Reading.{fields_of, IsNumberField, IsNumberBehind, IsNameFault, IsSomebodyField, IsTaskFields, IsEventFields, IsReplyFields, IsEntryFields, IsSomeReply, IsSomeEntry, IsEventFault, IsReplyFault, IsEntryFault, event_fields, reply_fields, displaced_fields, freed_fields, Leads}
@@ -329,111 +329,117 @@ context_decided set t text lawful within = elim (eleven_decided (fields_of text)
   ]
 ]
 
--- ---- one line
+module _ (version : ℕ) where
+  -- ---- one line
 
-abbrev IsLineDecided : Progress → List ℕ → Type 0
-IsLineDecided due text = ((next : Progress) × Leads due text next) ⊎ ((kind : TextKind) × IsLineFault due text kind)
+  abbrev IsLineDecided : Progress → List ℕ → Type 0
+  IsLineDecided due text = ((next : Progress) × Leads version due text next) ⊎ ((kind : TextKind) × IsLineFault version due text kind)
 
-tasks_decided : (set : SetData) (text : List ℕ) → IsTaskSet set → IsLineDecided (TasksDue set) text
-tasks_decided set text lawful = elim (number_behind_decided (codes "history") 0 20000 (fields_of text) (lit< tt)) [
-  | inl count ↦ inl (EntriesDue set count.0 [], history_read set (fields_of text) text count.0 [] refl count.1 refl)
-  | inr no_count ↦ (
-      let no_history = history_none (fields_of text) text refl no_count in
-      elim (task_fields_decided (fields_of text)) [
-        | inr none ↦ inr (BadLine, task_fault set text BadLine no_history (inl (refl, none)))
-        | inl added ↦ elim (can_add_decided set added.0 lawful) [
-          | inl can ↦ inl (TasksDue (with_task set added.0), inl (added.0, refl, task_to_text text added.0 added.1, can))
-          | inr refused ↦ inr (TaskRefused refused.0, task_fault set text (TaskRefused refused.0) no_history (inr (added.0, refused.0, refl, added.1, refused.1)))
-        ]
-      ])
-]
-
-entries_decided : (set : SetData) (count : ℕ) (entries : List Entry) (text : List ℕ) → IsFront (EntriesDue set count entries) → IsLineDecided (EntriesDue set count entries) text
-entries_decided set count entries text front = elim (cases_lt (length entries) count) [
-  | inl room ↦ elim (entry_decided set (fields_of text) front.0.lawful) [
-    | inl entry ↦ inl (EntriesDue set count (entries ++ entry.0 ∷ []), inl (entry.0, refl, room, entry_to_text set text entry.0 entry.1))
-    | inr fault ↦ inr (fault.0, entry_fault set count entries text fault.0 front.0.lawful room fault.1)
+  tasks_decided : (set : SetData) (text : List ℕ) → IsTaskSet set → IsLineDecided (TasksDue set) text
+  tasks_decided set text lawful = elim (number_behind_decided (codes "history") 0 20000 (fields_of text) (lit< tt)) [
+    | inl count ↦ inl (EntriesDue set count.0 [], history_read set (fields_of text) text count.0 [] refl count.1 refl)
+    | inr no_count ↦ (
+        let no_history = history_none (fields_of text) text refl no_count in
+        elim (task_fields_decided (fields_of text)) [
+          | inr none ↦ inr (BadLine, task_fault version set text BadLine no_history (inl (refl, none)))
+          | inl added ↦ elim (can_add_decided set added.0 lawful) [
+            | inl can ↦ inl (TasksDue (with_task set added.0), inl (added.0, refl, task_to_text text added.0 added.1, can))
+            | inr refused ↦ inr (TaskRefused refused.0, task_fault version set text (TaskRefused refused.0) no_history (inr (added.0, refused.0, refl, added.1, refused.1)))
+          ]
+        ])
   ]
-  | inr full ↦ (
-      let few = front.2 in
-      let same : length entries ≡ count = omega arith in
-      elim (bytes_decided text (codes "contexts " ++ canonical_number (length set.tasks))) [
-        | inl form ↦ inl (ContextsDue set entries [], inr (refl, same, form))
-        | inr differs ↦ inr (BadLine, λ form. elim form [ inl entry ↦ (let room = entry.0 in omega arith) | inr other ↦ differs other.1 ])
-      ])
-]
 
-contexts_decided : (set : SetData) (entries : List Entry) (contexts : List Context) (text : List ℕ) → IsFront (ContextsDue set entries contexts) → IsLineDecided (ContextsDue set entries contexts) text
-contexts_decided set entries contexts text front = elim (cases_lt (length contexts) (length set.tasks)) [
-  | inl room ↦ elim (context_decided set (length contexts) text front.0.lawful room) [
-    | inl context ↦ inl (ContextsDue set entries (contexts ++ context.0 ∷ []), inl (context.0, refl, room, context.1))
-    | inr none ↦ inr (BadLine, λ form. elim form [ inl found ↦ none found.1.0 found.1.1 | inr other ↦ (let full = other.0 in omega arith) ])
+  entries_decided : (set : SetData) (count : ℕ) (entries : List Entry) (text : List ℕ) → IsFront (EntriesDue set count entries) → IsLineDecided (EntriesDue set count entries) text
+  entries_decided set count entries text front = elim (cases_lt (length entries) count) [
+    | inl room ↦ elim (entry_decided set (fields_of text) front.0.lawful) [
+      | inl entry ↦ inl (EntriesDue set count (entries ++ entry.0 ∷ []), inl (entry.0, refl, room, entry_to_text set text entry.0 entry.1))
+      | inr fault ↦ inr (fault.0, entry_fault version set count entries text fault.0 front.0.lawful room fault.1)
+    ]
+    | inr full ↦ (
+        let few = front.2 in
+        let same : length entries ≡ count = omega arith in
+        elim (bytes_decided text (codes "contexts " ++ canonical_number (length set.tasks))) [
+          | inl form ↦ inl (ContextsDue set entries [], inr (refl, same, form))
+          | inr differs ↦ inr (BadLine, λ form. elim form [ inl entry ↦ (let room = entry.0 in omega arith) | inr other ↦ differs other.1 ])
+        ])
   ]
-  | inr full ↦ (
-      let few = front.3 in
-      let same : length contexts ≡ length set.tasks = omega arith in
-      elim (bytes_decided text (codes "end")) [
-        | inl form ↦ inl (Ended set entries contexts, inr (refl, same, form))
-        | inr differs ↦ inr (BadLine, λ form. elim form [ inl found ↦ (let room = found.0 in omega arith) | inr other ↦ differs other.1 ])
-      ])
-]
 
--- a line leads on, or has a fault
-line_decided : (due : Progress) (text : List ℕ) → IsFront due → IsUnended due → IsLineDecided due text
-line_decided HeaderDue text front unended = elim (bytes_decided text (codes "schedule 1")) [
-  | inl same ↦ inl (ProcessorsDue, (refl, same))
-  | inr differs ↦ inr (BadLine, differs)
-]
-line_decided ProcessorsDue text front unended = elim (number_behind_decided (codes "processors") 1 64 (fields_of text) (lit< tt)) [
-  | inl found ↦ inl (TasksDue (record { processors = found.0; tasks = [] }), (found.0, refl, processors_read (fields_of text) text found.0 refl found.1))
-  | inr none ↦ inr (BadLine, processors_none (fields_of text) text refl none)
-]
-line_decided (TasksDue set) text front unended = tasks_decided set text front.lawful
-line_decided (EntriesDue set count entries) text front unended = entries_decided set count entries text front
-line_decided (ContextsDue set entries contexts) text front unended = contexts_decided set entries contexts text front
-line_decided (Ended set entries contexts) text front unended = absurd unended
-
--- ---- the whole text
-
--- a line comes, or none
-line_or_none : (rest : List ℕ) → ((text : List ℕ) × (behind : List ℕ) × (rest ≡ text ++ 10 ∷ behind) × (Contains text 10 → ⊥)) ⊎ (Contains rest 10 → ⊥)
-line_or_none [] = inr (λ here. absurd (omega (arith, here.1)))
-line_or_none (byte ∷ rest) = elim (cases_eq byte 10) [
-  | inl feed ↦ inl ([], rest, ap (λ (b : ℕ). b ∷ rest) feed, λ here. absurd (omega (arith, here.1)))
-  | inr other ↦ elim (line_or_none rest) [
-    | inl (text, behind, cut, none) ↦ inl (byte ∷ text, behind, ap (λ (back : List ℕ). byte ∷ back) cut, not_first byte text other none)
-    | inr none ↦ inr (not_first byte rest other none)
+  contexts_decided : (set : SetData) (entries : List Entry) (contexts : List Context) (text : List ℕ) → IsFront (ContextsDue set entries contexts) → IsLineDecided (ContextsDue set entries contexts) text
+  contexts_decided set entries contexts text front = elim (cases_lt (length contexts) (length set.tasks)) [
+    | inl room ↦ elim (context_decided set (length contexts) text front.0.lawful room) [
+      | inl context ↦ inl (ContextsDue set entries (contexts ++ context.0 ∷ []), inl (context.0, refl, room, context.1))
+      | inr none ↦ inr (BadLine, λ form. elim form [ inl found ↦ none found.1.0 found.1.1 | inr other ↦ (let full = other.0 in omega arith) ])
+    ]
+    | inr full ↦ (
+        let few = front.3 in
+        let same : length contexts ≡ length set.tasks = omega arith in
+        elim (bytes_decided text (codes "end")) [
+          | inl form ↦ inl (Ended set entries contexts, inr (refl, same, form))
+          | inr differs ↦ inr (BadLine, λ form. elim form [ inl found ↦ (let room = found.0 in omega arith) | inr other ↦ differs other.1 ])
+        ])
   ]
-]
-  where
-    not_first : (byte : ℕ) (text : List ℕ) → byte ≢ 10 → (Contains text 10 → ⊥) → Contains (byte ∷ text) 10 → ⊥
-    not_first byte text other none (zero, within, same) = other same
-    not_first byte text other none (suc k, within, same) = none (k, omega (arith, within), same)
 
-abbrev IsAnswered : List ℕ → Type 0
-IsAnswered bytes = ((schedule : ScheduleData) × IsSchedule schedule × (bytes ≡ text_of_schedule schedule)) ⊎ ((line : ℕ) × (kind : TextKind) × IsScheduleRefused bytes line kind)
+  -- a line leads on, or has a fault
+  line_decided : (due : Progress) (text : List ℕ) → IsFront due → IsUnended due → IsLineDecided due text
+  line_decided HeaderDue text front unended = elim (bytes_decided text (header version)) [
+    | inl same ↦ inl (ProcessorsDue, (refl, same))
+    | inr differs ↦ inr (BadLine, differs)
+  ]
+  line_decided ProcessorsDue text front unended = elim (number_behind_decided (codes "processors") 1 64 (fields_of text) (lit< tt)) [
+    | inl found ↦ inl (TasksDue (record { processors = found.0; tasks = [] }), (found.0, refl, processors_read (fields_of text) text found.0 refl found.1))
+    | inr none ↦ inr (BadLine, processors_none (fields_of text) text refl none)
+  ]
+  line_decided (TasksDue set) text front unended = tasks_decided set text front.lawful
+  line_decided (EntriesDue set count entries) text front unended = entries_decided set count entries text front
+  line_decided (ContextsDue set entries contexts) text front unended = contexts_decided set entries contexts text front
+  line_decided (Ended set entries contexts) text front unended = absurd unended
 
-ended_answered : (bytes rest : List ℕ) (number : ℕ) (schedule : ScheduleData) → IsReadTo bytes rest number (Ended schedule.set schedule.entries schedule.contexts) → IsAnswered bytes
-ended_answered bytes [] number schedule so_far = inl (schedule, so_far.front, read_end bytes [] number schedule so_far refl)
-ended_answered bytes (byte ∷ rest) number schedule so_far = inr (number, AfterEnd, read_past bytes (byte ∷ rest) number schedule so_far (λ none. cc))
+  -- ---- the whole text
 
-ended_decided : (due : Progress) → IsUnended due ⊎ ((schedule : ScheduleData) × (due ≡ Ended schedule.set schedule.entries schedule.contexts))
-ended_decided (Ended set entries contexts) = inr (record { set = set; entries = entries; contexts = contexts }, refl)
-ended_decided _ = inl tt
-
--- from here on, with so many bytes at most
-answered_from : (fuel : ℕ) (bytes rest : List ℕ) (number : ℕ) (due : Progress) → IsReadTo bytes rest number due → length rest < fuel → IsAnswered bytes
-answered_from zero bytes rest number due so_far bound = absurd (omega arith)
-answered_from (suc fuel) bytes rest number due so_far bound = elim (ended_decided due) [
-  | inr ended ↦ ended_answered bytes rest number ended.0 (subst (IsReadTo bytes rest number) ended.1 so_far)
-  | inl unended ↦ elim (line_or_none rest) [
-    | inr none ↦ inr (number, Short, read_short bytes rest number due so_far unended none)
-    | inl (text, behind, cut, one_line) ↦ elim (line_decided due text so_far.front unended) [
-      | inr fault ↦ inr (number, fault.0, read_fault bytes rest text behind number due fault.0 so_far unended cut one_line fault.1)
-      | inl next ↦ answered_from fuel bytes behind (number + 1) next.0 (read_more bytes rest text behind number due next.0 so_far cut next.1) (omega (arith, bound, ap length cut, length-append text (10 ∷ behind)))
+  -- a line comes, or none
+  line_or_none : (rest : List ℕ) → ((text : List ℕ) × (behind : List ℕ) × (rest ≡ text ++ 10 ∷ behind) × (Contains text 10 → ⊥)) ⊎ (Contains rest 10 → ⊥)
+  line_or_none [] = inr (λ here. absurd (omega (arith, here.1)))
+  line_or_none (byte ∷ rest) = elim (cases_eq byte 10) [
+    | inl feed ↦ inl ([], rest, ap (λ (b : ℕ). b ∷ rest) feed, λ here. absurd (omega (arith, here.1)))
+    | inr other ↦ elim (line_or_none rest) [
+      | inl (text, behind, cut, none) ↦ inl (byte ∷ text, behind, ap (λ (back : List ℕ). byte ∷ back) cut, not_first byte text other none)
+      | inr none ↦ inr (not_first byte rest other none)
     ]
   ]
-]
+    where
+      not_first : (byte : ℕ) (text : List ℕ) → byte ≢ 10 → (Contains text 10 → ⊥) → Contains (byte ∷ text) 10 → ⊥
+      not_first byte text other none (zero, within, same) = other same
+      not_first byte text other none (suc k, within, same) = none (k, omega (arith, within), same)
+
+  abbrev IsAnswered : List ℕ → Type 0
+  IsAnswered bytes = ((schedule : ScheduleData) × IsSchedule schedule × (bytes ≡ text_in version schedule.set schedule.entries schedule.contexts)) ⊎ ((line : ℕ) × (kind : TextKind) × IsRefusedIn version bytes line kind)
+
+  ended_answered : (bytes rest : List ℕ) (number : ℕ) (schedule : ScheduleData) → IsReadTo version bytes rest number (Ended schedule.set schedule.entries schedule.contexts) → IsAnswered bytes
+  ended_answered bytes [] number schedule so_far = inl (schedule, so_far.front, read_end version bytes [] number schedule so_far refl)
+  ended_answered bytes (byte ∷ rest) number schedule so_far = inr (number, AfterEnd, read_past version bytes (byte ∷ rest) number schedule so_far (λ none. cc))
+
+  ended_decided : (due : Progress) → IsUnended due ⊎ ((schedule : ScheduleData) × (due ≡ Ended schedule.set schedule.entries schedule.contexts))
+  ended_decided (Ended set entries contexts) = inr (record { set = set; entries = entries; contexts = contexts }, refl)
+  ended_decided _ = inl tt
+
+  -- from here on, with so many bytes at most
+  answered_from : (fuel : ℕ) (bytes rest : List ℕ) (number : ℕ) (due : Progress) → IsReadTo version bytes rest number due → length rest < fuel → IsAnswered bytes
+  answered_from zero bytes rest number due so_far bound = absurd (omega arith)
+  answered_from (suc fuel) bytes rest number due so_far bound = elim (ended_decided due) [
+    | inr ended ↦ ended_answered bytes rest number ended.0 (subst (IsReadTo version bytes rest number) ended.1 so_far)
+    | inl unended ↦ elim (line_or_none rest) [
+      | inr none ↦ inr (number, Short, read_short version bytes rest number due so_far unended none)
+      | inl (text, behind, cut, one_line) ↦ elim (line_decided due text so_far.front unended) [
+        | inr fault ↦ inr (number, fault.0, read_fault version bytes rest text behind number due fault.0 so_far unended cut one_line fault.1)
+        | inl next ↦ answered_from fuel bytes behind (number + 1) next.0 (read_more version bytes rest text behind number due next.0 so_far cut next.1) (omega (arith, bound, ap length cut, length-append text (10 ∷ behind)))
+      ]
+    ]
+  ]
+
+  accepted : (bytes : List ℕ) → IsAnswered bytes
+  accepted bytes = answered_from (length bytes + 1) bytes bytes 1 HeaderDue (read_start version bytes) (omega arith)
+
+-- ---- the law, of version 1
 
 pub accepted_or_refused : AcceptedOrRefused
-accepted_or_refused bytes = answered_from (length bytes + 1) bytes bytes 1 HeaderDue (read_start bytes) (omega arith)
+accepted_or_refused bytes = accepted 1 bytes

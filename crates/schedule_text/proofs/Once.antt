@@ -140,124 +140,125 @@ processors_once text m n f g = let high = f.range.1 in let high' = g.range.1 in 
 history_once : (text : List ℕ) (m n : ℕ) → IsHistoryForm text m → IsHistoryForm text n → m ≡ n
 history_once text m n f g = let high = f.few in let high' = g.few in number_same m n (omega arith) (omega arith) (append_cancel_left (codes "history ") (canonical_number m) (canonical_number n) (sym f.is_text ∙ g.is_text))
 
-pub leads_once : (due : Progress) (text : List ℕ) (next other : Progress) → IsFront due → Leads due text next → Leads due text other → next ≡ other
-leads_once HeaderDue text next other front one two = one.0 ∙ sym two.0
-leads_once ProcessorsDue text next other front one two = one.1 ∙ ap (λ (m : ℕ). TasksDue (record { processors = m; tasks = [] })) (processors_once text one.0 two.0 one.2 two.2) ∙ sym two.1
-leads_once (TasksDue set) text next other front (inl one) (inl two) =
-    one.1 ∙ ap (λ (added : TaskData). TasksDue (with_task set added)) (task_once (fields_of text) one.0 two.0 (task_to_fields text one.0 one.2) (task_to_fields text two.0 two.2)) ∙ sym two.1
-leads_once (TasksDue set) text next other front (inl one) (inr two) = absurd (task_no_history text one.0 two.0 one.2 two.2)
-leads_once (TasksDue set) text next other front (inr one) (inl two) = absurd (task_no_history text two.0 one.0 two.2 one.2)
-leads_once (TasksDue set) text next other front (inr one) (inr two) = one.1 ∙ ap (λ (n : ℕ). EntriesDue set n []) (history_once text one.0 two.0 one.2 two.2) ∙ sym two.1
-leads_once (EntriesDue set count entries) text next other front (inl one) (inl two) =
-    one.1 ∙ ap (λ (entry : Entry). EntriesDue set count (entries ++ entry ∷ [])) (entry_once set (fields_of text) one.0 two.0 front.0.lawful (entry_to_fields set text one.0 front.0.lawful one.3) (entry_to_fields set text two.0 front.0.lawful two.3)) ∙ sym two.1
-leads_once (EntriesDue set count entries) text next other front (inl one) (inr two) = (let room = one.2 in let full = two.1 in absurd (omega arith))
-leads_once (EntriesDue set count entries) text next other front (inr one) (inl two) = (let room = two.2 in let full = one.1 in absurd (omega arith))
-leads_once (EntriesDue set count entries) text next other front (inr one) (inr two) = one.0 ∙ sym two.0
-leads_once (ContextsDue set entries contexts) text next other front (inl one) (inl two) =
-    one.1
-    ∙ ap (λ (context : Context). ContextsDue set entries (contexts ++ context ∷ []))
-    (context_once set (length contexts) one.0 two.0 one.3.of_task two.3.of_task (sym (context_to_fields set (length contexts) text one.0 front.0.lawful one.2 one.3) ∙ context_to_fields set (length contexts) text two.0 front.0.lawful two.2 two.3))
-    ∙ sym two.1
-leads_once (ContextsDue set entries contexts) text next other front (inl one) (inr two) = (let room = one.2 in let full = two.1 in absurd (omega arith))
-leads_once (ContextsDue set entries contexts) text next other front (inr one) (inl two) = (let room = two.2 in let full = one.1 in absurd (omega arith))
-leads_once (ContextsDue set entries contexts) text next other front (inr one) (inr two) = one.0 ∙ sym two.0
-leads_once (Ended set entries contexts) text next other front one two = absurd one
+module _ (version : ℕ) where
+  pub leads_once : (due : Progress) (text : List ℕ) (next other : Progress) → IsFront due → Leads version due text next → Leads version due text other → next ≡ other
+  leads_once HeaderDue text next other front one two = one.0 ∙ sym two.0
+  leads_once ProcessorsDue text next other front one two = one.1 ∙ ap (λ (m : ℕ). TasksDue (record { processors = m; tasks = [] })) (processors_once text one.0 two.0 one.2 two.2) ∙ sym two.1
+  leads_once (TasksDue set) text next other front (inl one) (inl two) =
+      one.1 ∙ ap (λ (added : TaskData). TasksDue (with_task set added)) (task_once (fields_of text) one.0 two.0 (task_to_fields text one.0 one.2) (task_to_fields text two.0 two.2)) ∙ sym two.1
+  leads_once (TasksDue set) text next other front (inl one) (inr two) = absurd (task_no_history text one.0 two.0 one.2 two.2)
+  leads_once (TasksDue set) text next other front (inr one) (inl two) = absurd (task_no_history text two.0 one.0 two.2 one.2)
+  leads_once (TasksDue set) text next other front (inr one) (inr two) = one.1 ∙ ap (λ (n : ℕ). EntriesDue set n []) (history_once text one.0 two.0 one.2 two.2) ∙ sym two.1
+  leads_once (EntriesDue set count entries) text next other front (inl one) (inl two) =
+      one.1 ∙ ap (λ (entry : Entry). EntriesDue set count (entries ++ entry ∷ [])) (entry_once set (fields_of text) one.0 two.0 front.0.lawful (entry_to_fields set text one.0 front.0.lawful one.3) (entry_to_fields set text two.0 front.0.lawful two.3)) ∙ sym two.1
+  leads_once (EntriesDue set count entries) text next other front (inl one) (inr two) = (let room = one.2 in let full = two.1 in absurd (omega arith))
+  leads_once (EntriesDue set count entries) text next other front (inr one) (inl two) = (let room = two.2 in let full = one.1 in absurd (omega arith))
+  leads_once (EntriesDue set count entries) text next other front (inr one) (inr two) = one.0 ∙ sym two.0
+  leads_once (ContextsDue set entries contexts) text next other front (inl one) (inl two) =
+      one.1
+      ∙ ap (λ (context : Context). ContextsDue set entries (contexts ++ context ∷ []))
+      (context_once set (length contexts) one.0 two.0 one.3.of_task two.3.of_task (sym (context_to_fields set (length contexts) text one.0 front.0.lawful one.2 one.3) ∙ context_to_fields set (length contexts) text two.0 front.0.lawful two.2 two.3))
+      ∙ sym two.1
+  leads_once (ContextsDue set entries contexts) text next other front (inl one) (inr two) = (let room = one.2 in let full = two.1 in absurd (omega arith))
+  leads_once (ContextsDue set entries contexts) text next other front (inr one) (inl two) = (let room = two.2 in let full = one.1 in absurd (omega arith))
+  leads_once (ContextsDue set entries contexts) text next other front (inr one) (inr two) = one.0 ∙ sym two.0
+  leads_once (Ended set entries contexts) text next other front one two = absurd one
 
--- ---- faults
+  -- ---- faults
 
--- an entry of a lawful set has the form of an entry
-entry_form : (set : SetData) (text : List ℕ) (entry : Entry) → IsTaskSet set → IsEntryText set text entry → IsEntryForm text
-entry_form set text entry lawful f =
-    let fields = entry_to_fields set text entry lawful f in
-    let s = f.scheduled in
-    form_to_text text (record {
-      stream = entry.caller;
-      event = event_fields set entry.event;
-      reply = reply_fields set entry.reply;
-      caller = s.caller;
-      is_event = (set, entry.event, set_fields set lawful, record { about = s.tasks.event; units = s.units; each_field = refl });
-      is_reply = (set, entry.reply, set_fields set lawful, record { about = s.tasks.reply; processors = s.processors; each_field = refl });
-      each_field = fields.each_field;
-    })
+  -- an entry of a lawful set has the form of an entry
+  entry_form : (set : SetData) (text : List ℕ) (entry : Entry) → IsTaskSet set → IsEntryText set text entry → IsEntryForm text
+  entry_form set text entry lawful f =
+      let fields = entry_to_fields set text entry lawful f in
+      let s = f.scheduled in
+      form_to_text text (record {
+        stream = entry.caller;
+        event = event_fields set entry.event;
+        reply = reply_fields set entry.reply;
+        caller = s.caller;
+        is_event = (set, entry.event, set_fields set lawful, record { about = s.tasks.event; units = s.units; each_field = refl });
+        is_reply = (set, entry.reply, set_fields set lawful, record { about = s.tasks.reply; processors = s.processors; each_field = refl });
+        each_field = fields.each_field;
+      })
 
--- what leads on is of the form that is due
-leads_form : (due : Progress) (text : List ℕ) (next : Progress) → IsFront due → Leads due text next → IsForm due text
-leads_form HeaderDue text next front step = step.1
-leads_form ProcessorsDue text next front step = (step.0, step.2)
-leads_form (TasksDue set) text next front (inl step) = inl (step.0, step.2)
-leads_form (TasksDue set) text next front (inr step) = inr (step.0, step.2)
-leads_form (EntriesDue set count entries) text next front (inl step) = inl (step.2, entry_form set text step.0 front.0.lawful step.3)
-leads_form (EntriesDue set count entries) text next front (inr step) = inr (step.1, step.2)
-leads_form (ContextsDue set entries contexts) text next front (inl step) = inl (step.2, (step.0, step.3))
-leads_form (ContextsDue set entries contexts) text next front (inr step) = inr (step.1, step.2)
-leads_form (Ended set entries contexts) text next front step = step
+  -- what leads on is of the form that is due
+  leads_form : (due : Progress) (text : List ℕ) (next : Progress) → IsFront due → Leads version due text next → IsForm version due text
+  leads_form HeaderDue text next front step = step.1
+  leads_form ProcessorsDue text next front step = (step.0, step.2)
+  leads_form (TasksDue set) text next front (inl step) = inl (step.0, step.2)
+  leads_form (TasksDue set) text next front (inr step) = inr (step.0, step.2)
+  leads_form (EntriesDue set count entries) text next front (inl step) = inl (step.2, entry_form set text step.0 front.0.lawful step.3)
+  leads_form (EntriesDue set count entries) text next front (inr step) = inr (step.1, step.2)
+  leads_form (ContextsDue set entries contexts) text next front (inl step) = inl (step.2, (step.0, step.3))
+  leads_form (ContextsDue set entries contexts) text next front (inr step) = inr (step.1, step.2)
+  leads_form (Ended set entries contexts) text next front step = step
 
-tasks_same : {a b : SetData} → TasksDue a ≡ TasksDue b → a ≡ b
-tasks_same e = cc
+  tasks_same : {a b : SetData} → TasksDue a ≡ TasksDue b → a ≡ b
+  tasks_same e = cc
 
-entries_same : {a b : SetData} {m n : ℕ} {x y : List Entry} → EntriesDue a m x ≡ EntriesDue b n y → (a ≡ b) × (m ≡ n) × (x ≡ y)
-entries_same e = (cc, cc, cc)
+  entries_same : {a b : SetData} {m n : ℕ} {x y : List Entry} → EntriesDue a m x ≡ EntriesDue b n y → (a ≡ b) × (m ≡ n) × (x ≡ y)
+  entries_same e = (cc, cc, cc)
 
-pub leads_no_fault : (due : Progress) (text : List ℕ) (next : Progress) (kind : TextKind) → IsFront due → Leads due text next → IsLineFault due text kind → ⊥
-leads_no_fault due text next BadLine front step fault = fault (leads_form due text next front step)
-leads_no_fault due text next (TaskRefused why) front step fault = by (subst (λ (d : Progress). Leads d text next) fault.2 step)
-  where
-    by : LeadsTasks fault.0 text next → ⊥
-    by (inl one) = CanAdd-IsRefusal fault.0 fault.1 why (subst (CanAdd fault.0) (task_once (fields_of text) one.0 fault.1 (task_to_fields text one.0 one.2) (task_to_fields text fault.1 fault.3)) one.3) fault.4
-    by (inr one) = task_no_history text fault.1 one.0 fault.3 one.2
-leads_no_fault due text next UnknownTask front step fault = by (subst (λ (d : Progress). Leads d text next) fault.3 step)
-  where
-    by : LeadsEntries fault.0 fault.1 fault.2 text next → ⊥
-    by (inl one) = fault.6 one.0 one.3
-    by (inr one) = let room = fault.4 in let full = one.1 in omega arith
-leads_no_fault due text next _ front step fault = fault
+  pub leads_no_fault : (due : Progress) (text : List ℕ) (next : Progress) (kind : TextKind) → IsFront due → Leads version due text next → IsLineFault version due text kind → ⊥
+  leads_no_fault due text next BadLine front step fault = fault (leads_form due text next front step)
+  leads_no_fault due text next (TaskRefused why) front step fault = by (subst (λ (d : Progress). Leads version d text next) fault.2 step)
+    where
+      by : LeadsTasks fault.0 text next → ⊥
+      by (inl one) = CanAdd-IsRefusal fault.0 fault.1 why (subst (CanAdd fault.0) (task_once (fields_of text) one.0 fault.1 (task_to_fields text one.0 one.2) (task_to_fields text fault.1 fault.3)) one.3) fault.4
+      by (inr one) = task_no_history text fault.1 one.0 fault.3 one.2
+  leads_no_fault due text next UnknownTask front step fault = by (subst (λ (d : Progress). Leads version d text next) fault.3 step)
+    where
+      by : LeadsEntries fault.0 fault.1 fault.2 text next → ⊥
+      by (inl one) = fault.6 one.0 one.3
+      by (inr one) = let room = fault.4 in let full = one.1 in omega arith
+  leads_no_fault due text next _ front step fault = fault
 
--- the three faults of a line
-abbrev IsSortedFault : Progress → List ℕ → TextKind → Type 0
-IsSortedFault due text kind =
-    ((kind ≡ BadLine) × IsLineFault due text BadLine)
-    ⊎ (((why : TaskFault) × (kind ≡ TaskRefused why) × IsLineFault due text (TaskRefused why))
-    ⊎ ((kind ≡ UnknownTask) × IsLineFault due text UnknownTask))
+  -- the three faults of a line
+  abbrev IsSortedFault : Progress → List ℕ → TextKind → Type 0
+  IsSortedFault due text kind =
+      ((kind ≡ BadLine) × IsLineFault version due text BadLine)
+      ⊎ (((why : TaskFault) × (kind ≡ TaskRefused why) × IsLineFault version due text (TaskRefused why))
+      ⊎ ((kind ≡ UnknownTask) × IsLineFault version due text UnknownTask))
 
-sorted : (due : Progress) (text : List ℕ) (kind : TextKind) → IsLineFault due text kind → IsSortedFault due text kind
-sorted due text BadLine fault = inl (refl, fault)
-sorted due text (TaskRefused why) fault = inr (inl (why, refl, fault))
-sorted due text UnknownTask fault = inr (inr (refl, fault))
-sorted due text _ fault = absurd fault
+  sorted : (due : Progress) (text : List ℕ) (kind : TextKind) → IsLineFault version due text kind → IsSortedFault due text kind
+  sorted due text BadLine fault = inl (refl, fault)
+  sorted due text (TaskRefused why) fault = inr (inl (why, refl, fault))
+  sorted due text UnknownTask fault = inr (inr (refl, fault))
+  sorted due text _ fault = absurd fault
 
--- a line that is refused for its task, or names an unknown one, is of the form that is expected
-refused_form : (due : Progress) (text : List ℕ) (why : TaskFault) → IsLineFault due text (TaskRefused why) → IsForm due text
-refused_form due text why fault = subst (λ (d : Progress). IsForm d text) (sym fault.2) (inl (fault.1, fault.3))
+  -- a line that is refused for its task, or names an unknown one, is of the form that is expected
+  refused_form : (due : Progress) (text : List ℕ) (why : TaskFault) → IsLineFault version due text (TaskRefused why) → IsForm version due text
+  refused_form due text why fault = subst (λ (d : Progress). IsForm version d text) (sym fault.2) (inl (fault.1, fault.3))
 
-unknown_form : (due : Progress) (text : List ℕ) → IsLineFault due text UnknownTask → IsForm due text
-unknown_form due text fault = subst (λ (d : Progress). IsForm d text) (sym fault.3) (inl (fault.4, fault.5))
+  unknown_form : (due : Progress) (text : List ℕ) → IsLineFault version due text UnknownTask → IsForm version due text
+  unknown_form due text fault = subst (λ (d : Progress). IsForm version d text) (sym fault.3) (inl (fault.4, fault.5))
 
-same_refused : (due : Progress) (text : List ℕ) (why other : TaskFault) → IsFront due
-    → IsLineFault due text (TaskRefused why) → IsLineFault due text (TaskRefused other) → why ≡ other
-same_refused due text why other front one two =
-    let sets = tasks_same (sym one.2 ∙ two.2) in
-    let added = task_once (fields_of text) one.1 two.1 (task_to_fields text one.1 one.3) (task_to_fields text two.1 two.3) in
-    let lawful = (subst IsFront two.2 front).lawful in
-    let refused = subst (λ (t : TaskData). IsRefusal one.0 t why) added one.4 in
-    same_refusal two.0 two.1 why other lawful (subst (λ (s : SetData). IsRefusal s two.1 why) sets refused) two.4
+  same_refused : (due : Progress) (text : List ℕ) (why other : TaskFault) → IsFront due
+      → IsLineFault version due text (TaskRefused why) → IsLineFault version due text (TaskRefused other) → why ≡ other
+  same_refused due text why other front one two =
+      let sets = tasks_same (sym one.2 ∙ two.2) in
+      let added = task_once (fields_of text) one.1 two.1 (task_to_fields text one.1 one.3) (task_to_fields text two.1 two.3) in
+      let lawful = (subst IsFront two.2 front).lawful in
+      let refused = subst (λ (t : TaskData). IsRefusal one.0 t why) added one.4 in
+      same_refusal two.0 two.1 why other lawful (subst (λ (s : SetData). IsRefusal s two.1 why) sets refused) two.4
 
-refused_or_unknown : (due : Progress) (text : List ℕ) (why : TaskFault) → IsLineFault due text (TaskRefused why)
-    → IsLineFault due text UnknownTask → ⊥
-refused_or_unknown due text why one two = let clash' = sym one.2 ∙ two.3 in cc
+  refused_or_unknown : (due : Progress) (text : List ℕ) (why : TaskFault) → IsLineFault version due text (TaskRefused why)
+      → IsLineFault version due text UnknownTask → ⊥
+  refused_or_unknown due text why one two = let clash' = sym one.2 ∙ two.3 in cc
 
-sorted_once : (due : Progress) (text : List ℕ) (kind other : TextKind) → IsFront due → IsSortedFault due text kind
-    → IsSortedFault due text other → kind ≡ other
-sorted_once due text kind other front (inl one) (inl two) = one.0 ∙ sym two.0
-sorted_once due text kind other front (inl one) (inr (inl two)) = absurd (one.1 (refused_form due text two.0 two.2))
-sorted_once due text kind other front (inl one) (inr (inr two)) = absurd (one.1 (unknown_form due text two.1))
-sorted_once due text kind other front (inr (inl one)) (inl two) = absurd (two.1 (refused_form due text one.0 one.2))
-sorted_once due text kind other front (inr (inl one)) (inr (inl two)) =
-    one.1 ∙ ap TaskRefused (same_refused due text one.0 two.0 front one.2 two.2) ∙ sym two.1
-sorted_once due text kind other front (inr (inl one)) (inr (inr two)) = absurd (refused_or_unknown due text one.0 one.2 two.1)
-sorted_once due text kind other front (inr (inr one)) (inl two) = absurd (two.1 (unknown_form due text one.1))
-sorted_once due text kind other front (inr (inr one)) (inr (inl two)) = absurd (refused_or_unknown due text two.0 two.2 one.1)
-sorted_once due text kind other front (inr (inr one)) (inr (inr two)) = one.0 ∙ sym two.0
+  sorted_once : (due : Progress) (text : List ℕ) (kind other : TextKind) → IsFront due → IsSortedFault due text kind
+      → IsSortedFault due text other → kind ≡ other
+  sorted_once due text kind other front (inl one) (inl two) = one.0 ∙ sym two.0
+  sorted_once due text kind other front (inl one) (inr (inl two)) = absurd (one.1 (refused_form due text two.0 two.2))
+  sorted_once due text kind other front (inl one) (inr (inr two)) = absurd (one.1 (unknown_form due text two.1))
+  sorted_once due text kind other front (inr (inl one)) (inl two) = absurd (two.1 (refused_form due text one.0 one.2))
+  sorted_once due text kind other front (inr (inl one)) (inr (inl two)) =
+      one.1 ∙ ap TaskRefused (same_refused due text one.0 two.0 front one.2 two.2) ∙ sym two.1
+  sorted_once due text kind other front (inr (inl one)) (inr (inr two)) = absurd (refused_or_unknown due text one.0 one.2 two.1)
+  sorted_once due text kind other front (inr (inr one)) (inl two) = absurd (two.1 (unknown_form due text one.1))
+  sorted_once due text kind other front (inr (inr one)) (inr (inl two)) = absurd (refused_or_unknown due text two.0 two.2 one.1)
+  sorted_once due text kind other front (inr (inr one)) (inr (inr two)) = one.0 ∙ sym two.0
 
-pub fault_once : (due : Progress) (text : List ℕ) (kind other : TextKind) → IsFront due → IsLineFault due text kind → IsLineFault due text other → kind ≡ other
-fault_once due text kind other front one two =
-    sorted_once due text kind other front (sorted due text kind one) (sorted due text other two)
+  pub fault_once : (due : Progress) (text : List ℕ) (kind other : TextKind) → IsFront due → IsLineFault version due text kind → IsLineFault version due text other → kind ≡ other
+  fault_once due text kind other front one two =
+      sorted_once due text kind other front (sorted due text kind one) (sorted due text other two)

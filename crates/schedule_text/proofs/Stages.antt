@@ -34,27 +34,29 @@ history_read set fields text count entries cut f none = inr (count, ap (λ (star
 pub task_read : (set next : SetData) (fields : List (List ℕ)) (text : List ℕ) → fields ≡ fields_of text → IsAdded fields set next → LeadsTasks set text (TasksDue next)
 task_read set next fields text cut a = inl (a.task, ap TasksDue a.last, task_to_text text a.task (subst (λ (cut : List (List ℕ)). IsTaskFields cut a.task) cut a.form), a.allowed)
 
-pub task_fault : (set : SetData) (text : List ℕ) (kind : TextKind) → ((count : ℕ) → IsHistoryForm text count → ⊥) → IsTaskFault set (fields_of text) kind → IsLineFault (TasksDue set) text kind
-task_fault set text kind no_history (inl bad) =
-    subst (IsLineFault (TasksDue set) text) (sym bad.0) (λ form. elim form [ inl added ↦ bad.1 added.0 (task_to_fields text added.0 added.1) | inr history ↦ no_history history.0 history.1 ])
-task_fault set text kind no_history (inr refused) = subst (IsLineFault (TasksDue set) text) (sym refused.2) (set, refused.0, refl, task_to_text text refused.0 refused.3, refused.4)
+module _ (version : ℕ) where
+  pub task_fault : (set : SetData) (text : List ℕ) (kind : TextKind) → ((count : ℕ) → IsHistoryForm text count → ⊥) → IsTaskFault set (fields_of text) kind → IsLineFault version (TasksDue set) text kind
+  task_fault set text kind no_history (inl bad) =
+      subst (IsLineFault version (TasksDue set) text) (sym bad.0) (λ form. elim form [ inl added ↦ bad.1 added.0 (task_to_fields text added.0 added.1) | inr history ↦ no_history history.0 history.1 ])
+  task_fault set text kind no_history (inr refused) = subst (IsLineFault version (TasksDue set) text) (sym refused.2) (set, refused.0, refl, task_to_text text refused.0 refused.3, refused.4)
 
-pub task_refused_line : (set : SetData) (fields : List (List ℕ)) (text : List ℕ) (kind : TextKind) → fields ≡ fields_of text → ((n : ℕ) → IsNumberBehind (codes "history") 0 20000 fields n → ⊥) → IsOutOfMemory kind ⊎ IsTaskFault set fields kind → IsOutOfMemory kind ⊎ IsLineFault (TasksDue set) text kind
-task_refused_line set fields text kind cut none (inl memory) = inl memory
-task_refused_line set fields text kind cut none (inr fault) = inr (task_fault set text kind (history_none fields text cut none) (subst (λ (cut : List (List ℕ)). IsTaskFault set cut kind) cut fault))
+  pub task_refused_line : (set : SetData) (fields : List (List ℕ)) (text : List ℕ) (kind : TextKind) → fields ≡ fields_of text → ((n : ℕ) → IsNumberBehind (codes "history") 0 20000 fields n → ⊥) → IsOutOfMemory kind ⊎ IsTaskFault set fields kind → IsOutOfMemory kind ⊎ IsLineFault version (TasksDue set) text kind
+  task_refused_line set fields text kind cut none (inl memory) = inl memory
+  task_refused_line set fields text kind cut none (inr fault) = inr (task_fault set text kind (history_none fields text cut none) (subst (λ (cut : List (List ℕ)). IsTaskFault set cut kind) cut fault))
 
 -- ---- entries
 
 pub entry_read : (set : SetData) (count : ℕ) (entries next : List Entry) (entry : Entry) (fields : List (List ℕ)) (text : List ℕ) → fields ≡ fields_of text → length entries < count → IsEntryFields set fields entry → next ≡ entries ++ entry ∷ [] → LeadsEntries set count entries text (EntriesDue set count next)
 entry_read set count entries next entry fields text cut room f last = inl (entry, ap (λ (list : List Entry). EntriesDue set count list) last, room, entry_to_text set text entry (subst (λ (cut : List (List ℕ)). IsEntryFields set cut entry) cut f))
 
-pub entry_fault : (set : SetData) (count : ℕ) (entries : List Entry) (text : List ℕ) (kind : TextKind) → IsTaskSet set → length entries < count → IsEntryFault set (fields_of text) kind → IsLineFault (EntriesDue set count entries) text kind
-entry_fault set count entries text kind lawful room (inl bad) =
-    subst (IsLineFault (EntriesDue set count entries) text) (sym bad.0) (λ form. elim form [ inl due ↦ bad.1 (form_to_fields text due.1) | inr other ↦ (let full = other.0 in omega arith) ])
-entry_fault set count entries text kind lawful room (inr unknown) =
-    subst (IsLineFault (EntriesDue set count entries) text) (sym unknown.0) (set, count, entries, refl, room, form_to_text text unknown.1, λ entry f. unknown.2 (entry, entry_to_fields set text entry lawful f))
+module _ (version : ℕ) where
+  pub entry_fault : (set : SetData) (count : ℕ) (entries : List Entry) (text : List ℕ) (kind : TextKind) → IsTaskSet set → length entries < count → IsEntryFault set (fields_of text) kind → IsLineFault version (EntriesDue set count entries) text kind
+  entry_fault set count entries text kind lawful room (inl bad) =
+      subst (IsLineFault version (EntriesDue set count entries) text) (sym bad.0) (λ form. elim form [ inl due ↦ bad.1 (form_to_fields text due.1) | inr other ↦ (let full = other.0 in omega arith) ])
+  entry_fault set count entries text kind lawful room (inr unknown) =
+      subst (IsLineFault version (EntriesDue set count entries) text) (sym unknown.0) (set, count, entries, refl, room, form_to_text text unknown.1, λ entry f. unknown.2 (entry, entry_to_fields set text entry lawful f))
 
-pub entry_refused : (set : SetData) (count : ℕ) (entries : List Entry) (fields : List (List ℕ)) (text : List ℕ) (kind : TextKind) → fields ≡ fields_of text → IsTaskSet set → length entries < count → IsOutOfMemory kind ⊎ IsEntryFault set fields kind
-    → IsOutOfMemory kind ⊎ IsLineFault (EntriesDue set count entries) text kind
-entry_refused set count entries fields text kind cut lawful room (inl memory) = inl memory
-entry_refused set count entries fields text kind cut lawful room (inr fault) = inr (entry_fault set count entries text kind lawful room (subst (λ (cut : List (List ℕ)). IsEntryFault set cut kind) cut fault))
+  pub entry_refused : (set : SetData) (count : ℕ) (entries : List Entry) (fields : List (List ℕ)) (text : List ℕ) (kind : TextKind) → fields ≡ fields_of text → IsTaskSet set → length entries < count → IsOutOfMemory kind ⊎ IsEntryFault set fields kind
+      → IsOutOfMemory kind ⊎ IsLineFault version (EntriesDue set count entries) text kind
+  entry_refused set count entries fields text kind cut lawful room (inl memory) = inl memory
+  entry_refused set count entries fields text kind cut lawful room (inr fault) = inr (entry_fault set count entries text kind lawful room (subst (λ (cut : List (List ℕ)). IsEntryFault set cut kind) cut fault))

@@ -11,7 +11,7 @@ use Rattle.link_table.specs.declared.reply.Reply.TheVariants.{Displaced, Freed}
 use Rattle.link_table.specs.declared.reply.Entry.{Entry}
 use Rattle.text_fields.specs.LineText.{line, processors_line, task_line}
 use Rattle.text_fields.specs.EventText.{name_of, event_text}
-use Rattle.schedule_text.specs.ScheduleText.{chain_text, set_text, somebody_text, number_text, reply_text, entry_line, context_line, schedule_text}
+use Rattle.schedule_text.specs.ScheduleText.{chain_text, set_text, somebody_text, number_text, reply_text, entry_line, context_line, header, text_in}
 
 -- pieces that are appended one after another
 pieces6 : (old a b c d e f : List ℕ) → old ++ a ++ b ++ c ++ d ++ e ++ f ≡ old ++ (a ++ b ++ c ++ d ++ e ++ f)
@@ -81,8 +81,12 @@ context_written set context t0 t1 t2 t3 t4 t5 t6 t7 t8 e1 e2 e3 e4 e5 e6 e7 e8 =
 
 -- ---- the whole
 
-pub schedule_written : (set : SetData) (entries : List Entry) (contexts : List Context) (t1 t2 t3 t4 t5 t6 t7 t8 : List ℕ) → t1 ≡ line (codes "schedule 1") → t2 ≡ t1 ++ processors_line set → t3 ≡ t2 ++ flat_map task_line set.tasks
-    → t4 ≡ t3 ++ line (codes "history " ++ canonical_number (length entries)) → t5 ≡ t4 ++ flat_map (entry_line set) entries → t6 ≡ t5 ++ line (codes "contexts " ++ canonical_number (length contexts))
-    → t7 ≡ t6 ++ flat_map (context_line set) contexts → t8 ≡ t7 ++ line (codes "end") → t8 ≡ schedule_text set entries contexts
-unfolding schedule_text
-schedule_written set entries contexts t1 t2 t3 t4 t5 t6 t7 t8 e1 e2 e3 e4 e5 e6 e7 e8 = rw (e8, e7, e6, e5, e4, e3, e2, e1) refl
+pub schedule_written : (version : ℕ) (set : SetData) (entries : List Entry) (contexts : List Context)
+    (t0 t1 t2 t3 t4 t5 t6 t7 t8 : List ℕ) → t0 ≡ [] → t1 ≡ t0 ++ line (header version) → t2 ≡ t1 ++ processors_line set
+    → t3 ≡ t2 ++ flat_map task_line set.tasks → t4 ≡ t3 ++ line (codes "history " ++ canonical_number (length entries))
+    → t5 ≡ t4 ++ flat_map (entry_line set) entries
+    → t6 ≡ t5 ++ line (codes "contexts " ++ canonical_number (length contexts))
+    → t7 ≡ t6 ++ flat_map (context_line set) contexts → t8 ≡ t7 ++ line (codes "end") → t8 ≡ text_in version set entries contexts
+unfolding text_in
+schedule_written version set entries contexts t0 t1 t2 t3 t4 t5 t6 t7 t8 e0 e1 e2 e3 e4 e5 e6 e7 e8 =
+    rw (e8, e7, e6, e5, e4, e3, e2, e1, e0) refl

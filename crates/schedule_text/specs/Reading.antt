@@ -1,6 +1,6 @@
 -- One step of the reader. What a reader must believe: nothing; these are the contracts of private functions, and the
 -- public one says by the definitions of the text and of its faults what was read.
-use Rattle.std.specs.Prelude.{◌≡◌, ◌≢◌, ℕ, ◌<◌, ◌≤◌, ◌^◌, ◌⊎◌, ◌==◌, List, [], ◌∷◌, ◌++◌, length, map, codes, Option, IfSome}
+use Rattle.std.specs.Prelude.{◌≡◌, ◌≢◌, ℕ, ◌<◌, ◌≤◌, ◌^◌, ◌⊎◌, ◌==◌, List, [], ◌∷◌, ◌++◌, length, map, codes, Option, IfSome, Result, IfOk, IfErr}
 use Rattle.std.specs.List.{slice_split}
 use Rattle.affinity_mask.specs.ProcSet.{empty}
 use Rattle.affinity_mask.specs.Number.{canonical_number}
@@ -15,9 +15,10 @@ use Rattle.link_table.specs.declared.reply.Reply.{Reply}
 use Rattle.link_table.specs.declared.reply.Reply.TheVariants.{Placed, Displaced, Waits, Freed, Left, Ticked, AlreadyReady, NotReady}
 use Rattle.link_table.specs.declared.reply.Entry.{Entry}
 use Rattle.text_fields.specs.EventText.{name_of, IsAboutSet}
-use Rattle.schedule_text.specs.ScheduleText.{chain_text, set_text, somebody_text, number_text, IsReplyOf}
-use Rattle.schedule_text.specs.Schedule.{IsRow, IsOfProcessors, HasUnits, HasProcessors, IsScheduled}
-use Rattle.schedule_text.specs.ScheduleFault.{Progress, HeaderDue, ProcessorsDue, TasksDue, EntriesDue, ContextsDue, Ended, IsField, IsProcessorsForm, IsTaskForm, IsHistoryForm, HasFields, IsEntryText, IsCountForm, IsContextText}
+use Rattle.schedule_text.specs.ScheduleText.{chain_text, set_text, somebody_text, number_text, header, text_in, IsReplyOf}
+use Rattle.schedule_text.specs.Schedule.{IsRow, IsOfProcessors, HasUnits, HasProcessors, IsScheduled, ScheduleData, IsSchedule}
+use Rattle.schedule_text.specs.ScheduleFault.{Progress, HeaderDue, ProcessorsDue, TasksDue, EntriesDue, ContextsDue, Ended, IsField, IsProcessorsForm, IsTaskForm, IsHistoryForm, HasFields, IsEntryText, IsCountForm, IsContextText, IsRefusedIn}
+use Rattle.schedule_text.specs.declared.fault.TextFault.{TextFault}
 use Rattle.schedule_text.specs.declared.fault.TextKind.{TextKind}
 use Rattle.schedule_text.specs.declared.fault.TextKind.TheVariants.{BadLine, TaskRefused, UnknownTask, OutOfMemory}
 use Rattle.schedule_text.specs.declared.stage.Stage.{Stage}
@@ -230,10 +231,17 @@ LeadsContexts set entries contexts text next =
     ⊎ ((next ≡ Ended set entries contexts) × (length contexts ≡ length set.tasks) × (text ≡ codes "end"))
 
 -- a line without fault leads from what is due before it to what is due behind it
-abbrev pub Leads : Progress → List ℕ → Progress → Type 0
-Leads HeaderDue text next = (next ≡ ProcessorsDue) × (text ≡ codes "schedule 1")
-Leads ProcessorsDue text next = (m : ℕ) × (next ≡ TasksDue (record { processors = m; tasks = [] })) × IsProcessorsForm text m
-Leads (TasksDue set) text next = LeadsTasks set text next
-Leads (EntriesDue set count entries) text next = LeadsEntries set count entries text next
-Leads (ContextsDue set entries contexts) text next = LeadsContexts set entries contexts text next
-Leads (Ended set entries contexts) text next = ⊥
+abbrev pub Leads : ℕ → Progress → List ℕ → Progress → Type 0
+Leads version HeaderDue text next = (next ≡ ProcessorsDue) × (text ≡ header version)
+Leads version ProcessorsDue text next = (m : ℕ) × (next ≡ TasksDue (record { processors = m; tasks = [] })) × IsProcessorsForm text m
+Leads version (TasksDue set) text next = LeadsTasks set text next
+Leads version (EntriesDue set count entries) text next = LeadsEntries set count entries text next
+Leads version (ContextsDue set entries contexts) text next = LeadsContexts set entries contexts text next
+Leads version (Ended set entries contexts) text next = ⊥
+
+-- a reader of texts of this version answers a schedule of which it is the text, or the first fault, unless it is out of
+-- memory
+abbrev pub IsAnswerTo : ℕ → List ℕ → Result ScheduleData TextFault → Type 0
+IsAnswerTo version bytes result =
+    IfOk result (λ schedule. IsSchedule schedule × (bytes ≡ text_in version schedule.set schedule.entries schedule.contexts))
+    × IfErr result (λ fault. IsOutOfMemory fault.kind ⊎ IsRefusedIn version bytes fault.line fault.kind)

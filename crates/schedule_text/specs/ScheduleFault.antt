@@ -16,7 +16,7 @@ use Rattle.link_table.specs.declared.reply.Reply.{Reply}
 use Rattle.link_table.specs.declared.reply.Entry.{Entry}
 use Rattle.text_fields.specs.LineText.{line, processors_line, task_line}
 use Rattle.text_fields.specs.EventText.{event_text, IsAboutSet}
-use Rattle.schedule_text.specs.ScheduleText.{reply_text, entry_line, context_line, schedule_text, IsReplyOf}
+use Rattle.schedule_text.specs.ScheduleText.{reply_text, entry_line, context_line, header, text_in, IsReplyOf}
 use Rattle.schedule_text.specs.Schedule.{ScheduleData, IsOfProcessors, HasUnits, HasProcessors, IsScheduled, IsContextOf, AreInOrder, IsScheduleSet, IsSchedule}
 use Rattle.schedule_text.specs.declared.fault.TextKind.{TextKind}
 use Rattle.schedule_text.specs.declared.fault.TextKind.TheVariants.{BadLine, TaskRefused, UnknownTask, Short, AfterEnd, OutOfMemory}
@@ -34,25 +34,25 @@ pub data Progress : Type 0 where
   Ended : SetData → List Entry → List Context → Progress
 
 -- the text of tasks
-abbrev pub tasks_text : SetData → List ℕ
-tasks_text set = line (codes "schedule 1") ++ processors_line set ++ flat_map task_line set.tasks
+abbrev pub tasks_text : ℕ → SetData → List ℕ
+tasks_text version set = line (header version) ++ processors_line set ++ flat_map task_line set.tasks
 
 -- of tasks, and of so many entries, of which these are the first
-abbrev pub history_text : SetData → ℕ → List Entry → List ℕ
-history_text set count entries = tasks_text set ++ line (codes "history " ++ canonical_number count) ++ flat_map (entry_line set) entries
+abbrev pub history_text : ℕ → SetData → ℕ → List Entry → List ℕ
+history_text version set count entries = tasks_text version set ++ line (codes "history " ++ canonical_number count) ++ flat_map (entry_line set) entries
 
 -- of tasks, entries, and the first contexts
-abbrev pub contexts_text : SetData → List Entry → List Context → List ℕ
-contexts_text set entries contexts = history_text set (length entries) entries ++ line (codes "contexts " ++ canonical_number (length set.tasks)) ++ flat_map (context_line set) contexts
+abbrev pub contexts_text : ℕ → SetData → List Entry → List Context → List ℕ
+contexts_text version set entries contexts = history_text version set (length entries) entries ++ line (codes "contexts " ++ canonical_number (length set.tasks)) ++ flat_map (context_line set) contexts
 
 -- the text of a front
-abbrev pub text_so_far : Progress → List ℕ
-text_so_far HeaderDue = []
-text_so_far ProcessorsDue = line (codes "schedule 1")
-text_so_far (TasksDue set) = tasks_text set
-text_so_far (EntriesDue set count entries) = history_text set count entries
-text_so_far (ContextsDue set entries contexts) = contexts_text set entries contexts
-text_so_far (Ended set entries contexts) = schedule_text set entries contexts
+abbrev pub text_so_far : ℕ → Progress → List ℕ
+text_so_far version HeaderDue = []
+text_so_far version ProcessorsDue = line (header version)
+text_so_far version (TasksDue set) = tasks_text version set
+text_so_far version (EntriesDue set count entries) = history_text version set count entries
+text_so_far version (ContextsDue set entries contexts) = contexts_text version set entries contexts
+text_so_far version (Ended set entries contexts) = text_in version set entries contexts
 
 -- how many lines it has
 abbrev pub lines_so_far : Progress → ℕ
@@ -154,57 +154,63 @@ pub record IsContextText (set : SetData) (t : ℕ) (text : List ℕ) (context : 
   pub is_text : line text ≡ context_line set context
 
 -- the form that is due
-abbrev pub IsForm : Progress → List ℕ → Type 0
-IsForm HeaderDue text = text ≡ codes "schedule 1"
-IsForm ProcessorsDue text = (m : ℕ) × IsProcessorsForm text m
-IsForm (TasksDue set) text = ((task : TaskData) × IsTaskForm text task) ⊎ ((count : ℕ) × IsHistoryForm text count)
-IsForm (EntriesDue set count entries) text = ((length entries < count) × IsEntryForm text) ⊎ ((length entries ≡ count) × IsCountForm set text)
-IsForm (ContextsDue set entries contexts) text = ((length contexts < length set.tasks) × ((context : Context) × IsContextText set (length contexts) text context)) ⊎ ((length contexts ≡ length set.tasks) × (text ≡ codes "end"))
-IsForm (Ended set entries contexts) text = ⊥
+abbrev pub IsForm : ℕ → Progress → List ℕ → Type 0
+IsForm version HeaderDue text = text ≡ header version
+IsForm version ProcessorsDue text = (m : ℕ) × IsProcessorsForm text m
+IsForm version (TasksDue set) text = ((task : TaskData) × IsTaskForm text task) ⊎ ((count : ℕ) × IsHistoryForm text count)
+IsForm version (EntriesDue set count entries) text = ((length entries < count) × IsEntryForm text) ⊎ ((length entries ≡ count) × IsCountForm set text)
+IsForm version (ContextsDue set entries contexts) text = ((length contexts < length set.tasks) × ((context : Context) × IsContextText set (length contexts) text context)) ⊎ ((length contexts ≡ length set.tasks) × (text ≡ codes "end"))
+IsForm version (Ended set entries contexts) text = ⊥
 
 -- ---- faults
 
 -- the fault of a line, by what is due
-abbrev pub IsLineFault : Progress → List ℕ → TextKind → Type 0
-IsLineFault due text BadLine = IsForm due text → ⊥
-IsLineFault due text (TaskRefused fault) = (set : SetData) × (added : TaskData) × (due ≡ TasksDue set) × IsTaskForm text added × IsRefusal set added fault
-IsLineFault due text UnknownTask = (set : SetData) × (count : ℕ) × (entries : List Entry) × (due ≡ EntriesDue set count entries) × (length entries < count) × IsEntryForm text × ((entry : Entry) → IsEntryText set text entry → ⊥)
-IsLineFault due text _ = ⊥
+abbrev pub IsLineFault : ℕ → Progress → List ℕ → TextKind → Type 0
+IsLineFault version due text BadLine = IsForm version due text → ⊥
+IsLineFault version due text (TaskRefused fault) = (set : SetData) × (added : TaskData) × (due ≡ TasksDue set) × IsTaskForm text added × IsRefusal set added fault
+IsLineFault version due text UnknownTask = (set : SetData) × (count : ℕ) × (entries : List Entry) × (due ≡ EntriesDue set count entries) × (length entries < count) × IsEntryForm text × ((entry : Entry) → IsEntryText set text entry → ⊥)
+IsLineFault version due text _ = ⊥
 
 -- behind a front of a schedule no further line comes, and one is due
-pub record IsShort (bytes : List ℕ) (number : ℕ) : Type 0 where
+pub record IsShort (version : ℕ) (bytes : List ℕ) (number : ℕ) : Type 0 where
   pub due : Progress
   pub rest : List ℕ
   pub front : IsFront due
   pub unended : IsUnended due
-  pub order : bytes ≡ text_so_far due ++ rest
+  pub order : bytes ≡ text_so_far version due ++ rest
   pub place : number ≡ lines_so_far due + 1
   pub short : Contains rest 10 → ⊥
 
 -- behind a front of a schedule a line comes that has a fault
-pub record IsFaulty (bytes : List ℕ) (number : ℕ) (kind : TextKind) : Type 0 where
+pub record IsFaulty (version : ℕ) (bytes : List ℕ) (number : ℕ) (kind : TextKind) : Type 0 where
   pub due : Progress
   pub text : List ℕ
   pub behind : List ℕ
   pub front : IsFront due
   pub unended : IsUnended due
-  pub order : bytes ≡ text_so_far due ++ (line text ++ behind)
+  pub order : bytes ≡ text_so_far version due ++ (line text ++ behind)
   pub place : number ≡ lines_so_far due + 1
   pub one_line : Contains text 10 → ⊥
-  pub fault : IsLineFault due text kind
+  pub fault : IsLineFault version due text kind
 
 -- behind a whole schedule there are more bytes
-pub record IsPastEnd (bytes : List ℕ) (number : ℕ) : Type 0 where
+pub record IsPastEnd (version : ℕ) (bytes : List ℕ) (number : ℕ) : Type 0 where
   pub schedule : ScheduleData
   pub rest : List ℕ
   pub is_schedule : IsSchedule schedule
-  pub order : bytes ≡ schedule_text schedule.set schedule.entries schedule.contexts ++ rest
+  pub order : bytes ≡ text_in version schedule.set schedule.entries schedule.contexts ++ rest
   pub place : number ≡ lines_so_far (Ended schedule.set schedule.entries schedule.contexts) + 1
   pub more : rest ≢ []
 
--- the bytes are refused with this line and kind
+-- the bytes are refused, as a text of this version, with this line and kind
+abbrev pub IsRefusedIn : ℕ → List ℕ → ℕ → TextKind → Type 0
+IsRefusedIn version bytes number kind =
+    (IsShort version bytes number × (kind ≡ Short))
+    ⊎ (IsFaulty version bytes number kind ⊎ (IsPastEnd version bytes number × (kind ≡ AfterEnd)))
+
+-- the bytes are refused with this line and kind; the version of a schedule text is 1
 abbrev pub IsScheduleRefused : List ℕ → ℕ → TextKind → Type 0
-IsScheduleRefused bytes number kind = (IsShort bytes number × (kind ≡ Short)) ⊎ (IsFaulty bytes number kind ⊎ (IsPastEnd bytes number × (kind ≡ AfterEnd)))
+IsScheduleRefused bytes number kind = IsRefusedIn 1 bytes number kind
 
 -- the number of a kind, as the program prints it; want of memory has none
 abbrev pub kind_number : TextKind → Option ℕ

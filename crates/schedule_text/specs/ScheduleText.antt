@@ -55,13 +55,21 @@ context_line set context =
     line (name_of set context.task ++ codes " units " ++ canonical_number context.units ++ codes " stints " ++ canonical_number context.stints
     ++ codes " moves " ++ canonical_number context.moves ++ codes " last " ++ number_text context.last ++ codes " trail " ++ canonical_number context.trail)
 
--- the whole text
-unfoldable pub schedule_text : SetData → List Entry → List Context → List ℕ
-schedule_text set entries contexts =
-    line (codes "schedule 1") ++ processors_line set ++ flat_map task_line set.tasks
+-- the header: the version
+abbrev pub header : ℕ → List ℕ
+header version = codes "schedule " ++ canonical_number version
+
+-- the whole text, in this version
+unfoldable pub text_in : ℕ → SetData → List Entry → List Context → List ℕ
+text_in version set entries contexts =
+    line (header version) ++ processors_line set ++ flat_map task_line set.tasks
     ++ line (codes "history " ++ canonical_number (length entries)) ++ flat_map (entry_line set) entries
     ++ line (codes "contexts " ++ canonical_number (length contexts)) ++ flat_map (context_line set) contexts
     ++ line (codes "end")
+
+-- the text of a schedule, which is in version 1
+abbrev pub schedule_text : SetData → List Entry → List Context → List ℕ
+schedule_text set entries contexts = text_in 1 set entries contexts
 
 -- the tasks that a reply names are of the set: who was put out, and who entered, if somebody did
 abbrev pub IsReplyOf : SetData → Reply → Type 0

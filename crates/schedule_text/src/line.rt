@@ -1,12 +1,13 @@
 //! The lines of tasks and of contexts.
-ghost use Rattle.std.specs.Prelude.{◌≡◌, ℕ, ◌<◌, ◌⊎◌, ◌↔◌, IsTrue, IfOk, IfErr, IfSome, OnOk, MatchOption, MatchBool, Some, Option, length};
+ghost use Rattle.std.specs.Prelude.{◌≡◌, ℕ, ◌<◌, ◌⊎◌, ◌++◌, ◌↔◌, IsTrue, IfOk, IfErr, IfSome, OnOk, MatchOption, MatchBool, Some, Option, length};
 ghost use Rattle.task_set.specs.TaskSet.{SetData, TaskData};
 ghost use Rattle.task_set.specs.declared.context.Context.{Context};
 ghost use Rattle.text_fields.specs.Fields.{texts};
 ghost use Rattle.text_fields.specs.LineText.{line};
 ghost use Rattle.schedule_text.specs.ScheduleText.{context_line};
 ghost use Rattle.schedule_text.specs.Schedule.{IsContextOf};
-ghost use Rattle.schedule_text.specs.ScheduleFault.{IsCountForm, IsContextText};
+ghost use Rattle.affinity_mask.specs.Number.{canonical_number};
+ghost use Rattle.schedule_text.specs.ScheduleFault.{IsContextText};
 ghost use Rattle.schedule_text.specs.Reading.{context_fields, IsLastField, IsAdded, IsTaskFault, IsOutOfMemory};
 ghost use Rattle.schedule_text.specs.declared.fault.TextKind.TheVariants.{BadLine};
 
@@ -42,13 +43,20 @@ pub fn add_task(alloc: Global, set: &mut TaskSet, fields: &[&[u8]]) -> Result<()
     Ok(())
 }
 
-/// Whether a line says how many contexts there are.
-pub fn is_count(alloc: Global, set: &TaskSet, text: &[u8]) -> Result<bool, OutOfMemory>
-    ensures { IfOk result (λ is. MatchBool is (IsCountForm set.now text.now) (IsCountForm set.now text.now → ⊥)) }
+/// Whether a line is a label and this number.
+pub fn is_numbered(
+    alloc: Global,
+    label: &[u8],
+    number: u64,
+    text: &[u8],
+) -> Result<bool, OutOfMemory>
+    ensures { IfOk result (λ is. MatchBool is
+        (text.now ≡ label.now ++ canonical_number number)
+        (text.now ≡ label.now ++ canonical_number number → ⊥)) }
 {
-    let mut count = Vec::from_slice(alloc, b"contexts ")?;
-    write_number(&mut count, set.len() as u64)?;
-    Ok(count.as_slice() == text)
+    let mut expected = Vec::from_slice(alloc, label)?;
+    write_number(&mut expected, number)?;
+    Ok(expected.as_slice() == text)
 }
 
 /// The context of a line, where it is that of this task.

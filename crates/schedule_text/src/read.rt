@@ -3,7 +3,7 @@ ghost use Rattle.std.specs.Prelude.{◌≡◌, ◌≢◌, ℕ, ◌⊎◌, [], If
 ghost use Rattle.schedule_text.specs.ScheduleText.{schedule_text};
 ghost use Rattle.schedule_text.specs.Schedule.{ScheduleData, IsSchedule};
 ghost use Rattle.schedule_text.specs.ScheduleFault.{IsScheduleRefused};
-ghost use Rattle.schedule_text.specs.Reading.{IsOutOfMemory};
+ghost use Rattle.schedule_text.specs.Reading.{IsOutOfMemory, IsAnswerTo};
 ghost use Rattle.schedule_text.specs.declared.fault.TextKind.{TextKind};
 ghost use Rattle.schedule_text.specs.declared.fault.TextKind.TheVariants.{AfterEnd};
 
@@ -12,6 +12,7 @@ use crate::field::first_line;
 use crate::schedule::Schedule;
 use crate::stage::{Reached, Stage};
 use std::alloc::Global;
+use text_fields::limits::VERSION;
 
 /// The schedule of a text, or the first line that has a fault, with its kind. Want of memory may come in place of
 /// either.
@@ -25,14 +26,12 @@ pub fn read_schedule(alloc: Global, bytes: &[u8]) -> Result<Schedule, TextFault>
     ensures refuses { (line : ℕ) (kind : TextKind) → IsScheduleRefused bytes.now line kind
         → MatchResult result (λ schedule. ⊥) (λ fault. IsOutOfMemory fault.kind ⊎ ((fault.line ≡ line) × (fault.kind ≡ kind))) }
 {
-    read_lines(alloc, bytes)
+    read_lines(alloc, VERSION, bytes)
 }
 
-/// Reads line by line, front to back.
-fn read_lines(alloc: Global, bytes: &[u8]) -> Result<Schedule, TextFault>
-    ensures valid { IfOk result IsSchedule }
-    ensures schedule { IfOk result (λ schedule. bytes.now ≡ schedule_text schedule.set schedule.entries schedule.contexts) }
-    ensures refused { IfErr result (λ fault. IsOutOfMemory fault.kind ⊎ IsScheduleRefused bytes.now fault.line fault.kind) }
+/// Reads a text of this version line by line, front to back.
+fn read_lines(alloc: Global, version: u64, bytes: &[u8]) -> Result<Schedule, TextFault>
+    ensures { IsAnswerTo version bytes.now result }
 {
     let mut stage = Stage::HeaderDue;
     let mut rest = bytes;
@@ -42,7 +41,7 @@ fn read_lines(alloc: Global, bytes: &[u8]) -> Result<Schedule, TextFault>
             let kind = TextKind::Short;
             return Err(TextFault { line, kind });
         };
-        match stage.after_line(alloc, text) {
+        match stage.after_line(alloc, version, text) {
             Ok(Reached::Due(next)) => {
                 stage = next;
                 rest = behind;

@@ -6,7 +6,7 @@ ghost use Rattle.schedule_text.specs.Reading.{progress_of, progress_behind, Lead
 use crate::entry::read_entry;
 use crate::fault::TextKind;
 use crate::field::{fields, number_behind};
-use crate::line::{add_task, is_count, read_context};
+use crate::line::{add_task, is_numbered, read_context};
 use crate::schedule::{MAX_ENTRIES, Schedule};
 use link_table::Entry;
 use std::alloc::Global;
@@ -55,24 +55,24 @@ pub enum Reached {
 
 impl Stage {
     /// What a line leads to.
-    pub fn after_line(self, alloc: Global, text: &[u8]) -> Result<Reached, TextKind>
+    pub fn after_line(self, alloc: Global, version: u64, text: &[u8]) -> Result<Reached, TextKind>
         requires { IsFront (progress_of self) }
-        ensures read { IfOk result (λ next. Leads (progress_of self) text.now (progress_behind next)) }
-        ensures refused { IfErr result (λ kind. IsOutOfMemory kind ⊎ IsLineFault (progress_of self) text.now kind) }
+        ensures read { IfOk result (λ next. Leads version (progress_of self) text.now (progress_behind next)) }
+        ensures refused { IfErr result (λ kind. IsOutOfMemory kind ⊎ IsLineFault version (progress_of self) text.now kind) }
     {
         match self {
-            Stage::HeaderDue => read_header(text),
-            Stage::ProcessorsDue => start(alloc, text),
-            Stage::TasksDue { set } => read_task(alloc, set, text),
+            Stage::HeaderDue => read_header(alloc, version, text),
+            Stage::ProcessorsDue => start(alloc, version, text),
+            Stage::TasksDue { set } => read_task(alloc, version, set, text),
             Stage::EntriesDue {
                 set,
                 count,
                 entries,
             } => {
                 if (entries.len() as u64) < count {
-                    list_entry(alloc, set, count, entries, text)
+                    list_entry(alloc, version, set, count, entries, text)
                 } else {
-                    begin_contexts(alloc, set, count, entries, text)
+                    begin_contexts(alloc, version, set, count, entries, text)
                 }
             }
             Stage::ContextsDue {
@@ -81,9 +81,9 @@ impl Stage {
                 contexts,
             } => {
                 if contexts.len() < set.len() as usize {
-                    list_context(alloc, set, entries, contexts, text)
+                    list_context(alloc, version, set, entries, contexts, text)
                 } else {
-                    end(set, entries, contexts, text)
+                    end(version, set, entries, contexts, text)
                 }
             }
         }
@@ -91,11 +91,11 @@ impl Stage {
 }
 
 /// Reads the header.
-fn read_header(text: &[u8]) -> Result<Reached, TextKind>
-    ensures read { IfOk result (λ next. Leads HeaderDue text.now (progress_behind next)) }
-    ensures refused { IfErr result (IsLineFault HeaderDue text.now) }
+fn read_header(alloc: Global, version: u64, text: &[u8]) -> Result<Reached, TextKind>
+    ensures read { IfOk result (λ next. Leads version HeaderDue text.now (progress_behind next)) }
+    ensures refused { IfErr result (λ kind. IsOutOfMemory kind ⊎ IsLineFault version HeaderDue text.now kind) }
 {
-    if is_word(text, "schedule 1") {
+    if is_numbered(alloc, b"schedule ", version, text)? {
         Ok(Reached::Due(Stage::ProcessorsDue))
     } else {
         Err(TextKind::BadLine)
@@ -103,9 +103,9 @@ fn read_header(text: &[u8]) -> Result<Reached, TextKind>
 }
 
 /// No task yet, on as many processors as a line says.
-fn start(alloc: Global, text: &[u8]) -> Result<Reached, TextKind>
-    ensures read { IfOk result (λ next. Leads ProcessorsDue text.now (progress_behind next)) }
-    ensures refused { IfErr result (λ kind. IsOutOfMemory kind ⊎ IsLineFault ProcessorsDue text.now kind) }
+fn start(alloc: Global, version: u64, text: &[u8]) -> Result<Reached, TextKind>
+    ensures read { IfOk result (λ next. Leads version ProcessorsDue text.now (progress_behind next)) }
+    ensures refused { IfErr result (λ kind. IsOutOfMemory kind ⊎ IsLineFault version ProcessorsDue text.now kind) }
 {
     let fields = fields(alloc, text)?;
     let Some(processors) = number_behind(&fields, "processors", 1, MAX_PROCESSORS) else {
@@ -116,9 +116,9 @@ fn start(alloc: Global, text: &[u8]) -> Result<Reached, TextKind>
 }
 
 /// Reads a task, or how many entries there are.
-fn read_task(alloc: Global, mut set: TaskSet, text: &[u8]) -> Result<Reached, TextKind>
-    ensures read { IfOk result (λ next. Leads (TasksDue set) text.now (progress_behind next)) }
-    ensures refused { IfErr result (λ kind. IsOutOfMemory kind ⊎ IsLineFault (TasksDue set) text.now kind) }
+fn read_task(alloc: Global, version: u64, mut set: TaskSet, text: &[u8]) -> Result<Reached, TextKind>
+    ensures read { IfOk result (λ next. Leads version (TasksDue set) text.now (progress_behind next)) }
+    ensures refused { IfErr result (λ kind. IsOutOfMemory kind ⊎ IsLineFault version (TasksDue set) text.now kind) }
 {
     let fields = fields(alloc, text)?;
     match number_behind(&fields, "history", 0, MAX_ENTRIES) {
@@ -140,14 +140,15 @@ fn read_task(alloc: Global, mut set: TaskSet, text: &[u8]) -> Result<Reached, Te
 /// Lists the entry of a line.
 fn list_entry(
     alloc: Global,
+    version: u64,
     set: TaskSet,
     count: u64,
     mut entries: Vec<Entry>,
     text: &[u8],
 ) -> Result<Reached, TextKind>
     requires { length entries.items < count }
-    ensures read { IfOk result (λ next. Leads (EntriesDue set count entries.items) text.now (progress_behind next)) }
-    ensures refused { IfErr result (λ kind. IsOutOfMemory kind ⊎ IsLineFault (EntriesDue set count entries.items) text.now kind) }
+    ensures read { IfOk result (λ next. Leads version (EntriesDue set count entries.items) text.now (progress_behind next)) }
+    ensures refused { IfErr result (λ kind. IsOutOfMemory kind ⊎ IsLineFault version (EntriesDue set count entries.items) text.now kind) }
 {
     let _lawful = set.len();
     let fields = fields(alloc, text)?;
@@ -165,16 +166,17 @@ fn list_entry(
 /// No context yet, behind the line that says how many there are.
 fn begin_contexts(
     alloc: Global,
+    version: u64,
     set: TaskSet,
     count: u64,
     entries: Vec<Entry>,
     text: &[u8],
 ) -> Result<Reached, TextKind>
     requires { length entries.items ≡ count }
-    ensures read { IfOk result (λ next. Leads (EntriesDue set count entries.items) text.now (progress_behind next)) }
-    ensures refused { IfErr result (λ kind. IsOutOfMemory kind ⊎ IsLineFault (EntriesDue set count entries.items) text.now kind) }
+    ensures read { IfOk result (λ next. Leads version (EntriesDue set count entries.items) text.now (progress_behind next)) }
+    ensures refused { IfErr result (λ kind. IsOutOfMemory kind ⊎ IsLineFault version (EntriesDue set count entries.items) text.now kind) }
 {
-    if !is_count(alloc, &set, text)? {
+    if !is_numbered(alloc, b"contexts ", set.len() as u64, text)? {
         return Err(TextKind::BadLine);
     }
     let contexts = Vec::new(alloc);
@@ -188,14 +190,15 @@ fn begin_contexts(
 /// Lists the context of a line.
 fn list_context(
     alloc: Global,
+    version: u64,
     set: TaskSet,
     entries: Vec<Entry>,
     mut contexts: Vec<Context>,
     text: &[u8],
 ) -> Result<Reached, TextKind>
     requires { length contexts.items < length set.tasks }
-    ensures read { IfOk result (λ next. Leads (ContextsDue set entries.items contexts.items) text.now (progress_behind next)) }
-    ensures refused { IfErr result (λ kind. IsOutOfMemory kind ⊎ IsLineFault (ContextsDue set entries.items contexts.items) text.now kind) }
+    ensures read { IfOk result (λ next. Leads version (ContextsDue set entries.items contexts.items) text.now (progress_behind next)) }
+    ensures refused { IfErr result (λ kind. IsOutOfMemory kind ⊎ IsLineFault version (ContextsDue set entries.items contexts.items) text.now kind) }
 {
     let _lawful = set.len();
     let context = read_context(alloc, &set, contexts.len() as u32, text)?;
@@ -211,6 +214,7 @@ fn list_context(
 
 /// The whole schedule, at its last line.
 fn end(
+    version: u64,
     set: TaskSet,
     entries: Vec<Entry>,
     contexts: Vec<Context>,
@@ -218,8 +222,8 @@ fn end(
 ) -> Result<Reached, TextKind>
     requires front { IsFront (ContextsDue set entries.items contexts.items) }
     requires one_each { length contexts.items ≡ length set.tasks }
-    ensures read { IfOk result (λ next. Leads (ContextsDue set entries.items contexts.items) text.now (progress_behind next)) }
-    ensures refused { IfErr result (IsLineFault (ContextsDue set entries.items contexts.items) text.now) }
+    ensures read { IfOk result (λ next. Leads version (ContextsDue set entries.items contexts.items) text.now (progress_behind next)) }
+    ensures refused { IfErr result (IsLineFault version (ContextsDue set entries.items contexts.items) text.now) }
 {
     if is_word(text, "end") {
         Ok(Reached::End(Schedule::new(set, entries, contexts)))

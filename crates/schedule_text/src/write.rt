@@ -22,6 +22,7 @@ use affinity_mask::{OutOfMemory, ProcSet};
 use link_table::{Chain, Entry, Reply};
 use std::alloc::Global;
 use task_set::{Context, TaskSet};
+use text_fields::limits::VERSION;
 use text_fields::{
     write_event_text, write_name, write_number, write_processors_line, write_task_lines,
 };
@@ -38,12 +39,13 @@ pub fn write_schedule(
     requires contexts { All (λ c. c.task < length set.now.tasks) contexts.now }
     ensures { IfOk result (λ text. text.items ≡ schedule_text set.now entries.now contexts.now) }
 {
-    let mut text = Vec::from_slice(alloc, b"schedule 1\n")?;
+    let mut text = Vec::new(alloc);
+    write_numbered_line(&mut text, b"schedule ", VERSION)?;
     write_processors_line(&mut text, set)?;
     write_task_lines(&mut text, set)?;
-    write_count_line(&mut text, b"history ", entries.len())?;
+    write_numbered_line(&mut text, b"history ", entries.len() as u64)?;
     write_entries(&mut text, set, entries)?;
-    write_count_line(&mut text, b"contexts ", contexts.len())?;
+    write_numbered_line(&mut text, b"contexts ", contexts.len() as u64)?;
     write_contexts(&mut text, set, contexts)?;
     text.extend_from_slice(b"end\n")?;
     Ok(text)
@@ -223,11 +225,12 @@ fn write_number_or_dash(text: &mut Vec<u8>, number: Option<u8>) -> Result<(), Ou
     }
 }
 
-/// Appends a line that says how many lines of a kind follow.
-fn write_count_line(text: &mut Vec<u8>, label: &[u8], count: usize) -> Result<(), OutOfMemory>
-    ensures { OnOk result (text.new.items ≡ text.old.items ++ line (label.now ++ canonical_number count)) }
+/// Appends a line of a label and a number: the version, or how many lines of a kind follow.
+fn write_numbered_line(text: &mut Vec<u8>, label: &[u8], number: u64) -> Result<(), OutOfMemory>
+    ensures { OnOk result
+        (text.new.items ≡ text.old.items ++ line (label.now ++ canonical_number number)) }
 {
-    write_labelled_number(text, label, count as u64)?;
+    write_labelled_number(text, label, number)?;
     text.push(b'\n')?;
     Ok(())
 }

@@ -1,4 +1,7 @@
-//! The limits of both formats. Specifications name these numbers themselves.
+//! The version and the limits of both formats. Specifications name these numbers themselves.
+
+/// The version of both formats.
+pub const VERSION: u64 = 1;
 
 /// The greatest number of processors.
 pub const MAX_PROCESSORS: u64 = 64;

@@ -1,5 +1,5 @@
 -- The canonical text of an input is a text of it: its lines have just the fields that the grammar wants.
-use Rattle.std.proofs.Common.{◌≡◌, ℕ, ◌+◌, ◌<◌, ◌≤◌, ◌^◌, List, [], ◌∷◌, ◌++◌, length, map, All, get_or, refl, sym, ap, ap₂, ◌∙◌, arith, append_assoc, append-nil, false}
+use Rattle.std.proofs.Common.{◌≡◌, ℕ, ◌+◌, ◌<◌, ◌≤◌, ◌^◌, List, [], ◌∷◌, ◌++◌, length, map, All, get_or, refl, sym, ap, ap₂, ◌∙◌, arith, append_assoc, append-nil, false, lit<}
 use Rattle.std.specs.Prelude.{codes}
 use Rattle.std.specs.List.{flat_map, AllZip}
 use Rattle.std.proofs.lemmas.Bool.{lt-ltb}
@@ -20,9 +20,9 @@ use Rattle.task_set.specs.declared.event.Event.TheVariants.{Arrive, Depart, Tick
 use Rattle.trace_reader.specs.declared.posted.Posted.{Posted}
 use Rattle.text_fields.specs.LineText.{line, processors_line, task_line, PrioritiesFit}
 use Rattle.text_fields.specs.EventText.{name_of, event_text}
-use Rattle.trace_reader.specs.CanonicalText.{event_line, canonical_input_text}
+use Rattle.trace_reader.specs.CanonicalText.{event_line, header_line, canonical_text, canonical_input_text}
 use Rattle.trace_reader.specs.Input.{IsEventOf, IsPostedOf, IsInput}
-use Rattle.trace_reader.specs.InputText.{IsHeader, IsProcessorsLine, IsTaskLine, IsEventFields, IsEventLine, IsBody, IsInputText, end_line}
+use Rattle.trace_reader.specs.InputText.{IsHeader, IsProcessorsLine, IsTaskLine, IsEventFields, IsEventLine, IsBody, IsTextOf, IsInputText, end_line}
 use Rattle.trace_reader.specs.Lines.{lines_of, said_by, is_skipped}
 use Rattle.text_fields.proofs.NamedTasks.{has_name, name_valid}
 use Rattle.trace_reader.proofs.CanonicalFields.{IsVisible, IsField, IsLineOf, spaced, text_of, lines_of-text, said_by-text, clean-text}
@@ -30,8 +30,8 @@ use Rattle.trace_reader.proofs.CanonicalPieces.{word-field, number-value, number
 
 -- ---- the fields of the canonical lines
 
-abbrev header_fields : List (List ℕ)
-header_fields = codes "apa" ∷ codes "1" ∷ []
+abbrev header_fields : ℕ → List (List ℕ)
+header_fields version = codes "apa" ∷ canonical_number version ∷ []
 
 abbrev processors_fields : SetData → List (List ℕ)
 processors_fields set = codes "processors" ∷ canonical_number set.processors ∷ []
@@ -48,8 +48,8 @@ abbrev posted_fields : SetData → Posted → List (List ℕ)
 posted_fields set posted = canonical_number posted.stream ∷ event_fields set posted.event
 
 -- all lines but the last
-abbrev body_fields : SetData → List Posted → List (List (List ℕ))
-body_fields set events = header_fields ∷ processors_fields set ∷ map task_fields set.tasks ++ map (posted_fields set) events
+abbrev body_fields : ℕ → SetData → List Posted → List (List (List ℕ))
+body_fields version set events = header_fields version ∷ processors_fields set ∷ map task_fields set.tasks ++ map (posted_fields set) events
 
 -- ---- the text is that of these lines
 
@@ -77,9 +77,9 @@ text-map fields text same (x ∷ xs) = ap₂ (λ (first rest : List ℕ). first 
 whole : (header processors tasks events end : List ℕ) → header ++ (processors ++ (tasks ++ (events ++ end))) ≡ header ++ processors ++ tasks ++ events ++ end
 whole header processors tasks events end = simp append_assoc
 
-text-lines : (set : SetData) (events : List Posted) → text_of (body_fields set events ++ end_line ∷ []) ≡ canonical_input_text set events
-unfolding canonical_input_text
-text-lines set events =
+text-lines : (version : ℕ) (set : SetData) (events : List Posted) → text_of (body_fields version set events ++ end_line ∷ []) ≡ canonical_text version set events
+unfolding canonical_text
+text-lines version set events =
     let listed : List (List (List ℕ)) = map task_fields set.tasks ++ map (posted_fields set) events in
     let both : text_of listed ≡ flat_map task_line set.tasks ++ flat_map (event_line set) events =
     flat_map-append (λ (fields : List (List ℕ)). line (spaced fields)) (map task_fields set.tasks) (map (posted_fields set) events)
@@ -88,8 +88,8 @@ text-lines set events =
     flat_map-append (λ (fields : List (List ℕ)). line (spaced fields)) listed (end_line ∷ [])
     ∙ ap (λ (text : List ℕ). text ++ line (codes "end")) both
     ∙ append_assoc (flat_map task_line set.tasks) (flat_map (event_line set) events) (line (codes "end")) in
-    ap (λ (text : List ℕ). line (codes "apa 1") ++ (processors_line set ++ text)) rest
-    ∙ whole (line (codes "apa 1")) (processors_line set) (flat_map task_line set.tasks) (flat_map (event_line set) events) (line (codes "end"))
+    ap (λ (text : List ℕ). header_line version ++ (processors_line set ++ text)) rest
+    ∙ whole (header_line version) (processors_line set) (flat_map task_line set.tasks) (flat_map (event_line set) events) (line (codes "end"))
 
 -- ---- each line has one to four fields, and is not skipped
 
@@ -109,8 +109,9 @@ three_fields first second third f g h unskipped = record {
   unskipped = unskipped;
 }
 
-header-line : IsLineOf header_fields
-header-line = two_fields (codes "apa") (codes "1") (word-field (codes "apa") refl) (word-field (codes "1") refl) refl
+header-line : (version : ℕ) → version < 2 ^ 64 → IsLineOf (header_fields version)
+header-line version small =
+    two_fields (codes "apa") (canonical_number version) (word-field (codes "apa") refl) (number-field version small) refl
 
 end-line : IsLineOf end_line
 end-line = record {
@@ -122,8 +123,8 @@ end-line = record {
 
 -- ---- what the lines say
 
-header-says : IsHeader header_fields
-header-says = (codes "1", refl, ((omega arith, (omega arith, tt)), refl))
+header-says : (version : ℕ) → version < 2 ^ 64 → IsHeader version (header_fields version)
+header-says version small = (canonical_number version, refl, number-value version small)
 
 -- the number of processors
 record IsProcessorsData (fields : List (List ℕ)) (m : ℕ) : Type 0 where
@@ -196,8 +197,8 @@ zip-map : {A B : Type 0} (P : B → Type 0) (R : A → B → Type 0) (f : B → 
 zip-map P R f each [] all = tt
 zip-map P R f each (x ∷ xs) all = (each x (All-head P x xs all), zip-map P R f each xs (All-tail P x xs all))
 
-body-lines : (set : SetData) (events : List Posted) → IsInput (record { set = set; events = events }) → PrioritiesFit set → All IsLineOf (body_fields set events)
-body-lines set events input fit =
+body-lines : (version : ℕ) → version < 2 ^ 64 → (set : SetData) (events : List Posted) → IsInput (record { set = set; events = events }) → PrioritiesFit set → All IsLineOf (body_fields version set events)
+body-lines version small set events input fit =
     let lawful = input.lawful in
     let tasks : All IsLineOf (map task_fields set.tasks) =
     All-map IsLineOf task_fields set.tasks
@@ -206,19 +207,19 @@ body-lines set events input fit =
     All-map IsLineOf (posted_fields set) events
     (All-weaker (IsPostedOf set) (λ (posted : Posted). IsLineOf (posted_fields set posted)) (λ posted p. event-line set posted.stream posted.event lawful p.stream p.event) events input.each_event) in
     let listed : List (List (List ℕ)) = map task_fields set.tasks ++ map (posted_fields set) events in
-    All-cons IsLineOf header_fields (processors_fields set ∷ listed) header-line
+    All-cons IsLineOf (header_fields version) (processors_fields set ∷ listed) (header-line version small)
     (All-cons IsLineOf (processors_fields set) listed (processors-line set lawful).line
     (All-append IsLineOf (map task_fields set.tasks) (map (posted_fields set) events) tasks posts))
 
-body-says : (set : SetData) (events : List Posted) → IsInput (record { set = set; events = events }) → PrioritiesFit set → IsBody (body_fields set events) set events
-body-says set events input fit =
+body-says : (version : ℕ) → version < 2 ^ 64 → (set : SetData) (events : List Posted) → IsInput (record { set = set; events = events }) → PrioritiesFit set → IsBody version (body_fields version set events) set events
+body-says version small set events input fit =
     let lawful = input.lawful in record {
-      header = header_fields;
+      header = header_fields version;
       processors = processors_fields set;
       task_lines = map task_fields set.tasks;
       event_lines = map (posted_fields set) events;
       order = refl;
-      is_header = header-says;
+      is_header = header-says version small;
       is_processors = (processors-line set lawful).says;
       each_task = zip-map (IsTask set.processors) IsTaskLine task_fields (task-says set.processors lawful.processors.1) set.tasks (tasks-of set lawful fit);
       each_event = zip-map (IsPostedOf set) (IsEventLine set) (posted_fields set) (posted-says set) events input.each_event;
@@ -226,14 +227,23 @@ body-says set events input fit =
       few = input.few;
     }
 
-pub canonical_text-IsInputText : (set : SetData) (events : List Posted) → IsInput (record { set = set; events = events }) → PrioritiesFit set → IsInputText (canonical_input_text set events) set events
-canonical_text-IsInputText set events input fit =
-    let body = body_fields set events in
-    let lines : All IsLineOf (body ++ end_line ∷ []) = All-append IsLineOf body (end_line ∷ []) (body-lines set events input fit) (All-cons IsLineOf end_line [] end-line (All-nil IsLineOf)) in
-    let cut : lines_of (canonical_input_text set events) ≡ map spaced (body ++ end_line ∷ []) = ap lines_of (sym (text-lines set events)) ∙ lines_of-text (body ++ end_line ∷ []) lines in
+canonical_text-IsTextOf : (version : ℕ) → version < 2 ^ 64 → (set : SetData) (events : List Posted)
+    → IsInput (record { set = set; events = events }) → PrioritiesFit set
+    → IsTextOf version (canonical_text version set events) set events
+canonical_text-IsTextOf version small set events input fit =
+    let body = body_fields version set events in
+    let lines : All IsLineOf (body ++ end_line ∷ []) =
+    All-append IsLineOf body (end_line ∷ []) (body-lines version small set events input fit)
+    (All-cons IsLineOf end_line [] end-line (All-nil IsLineOf)) in
+    let cut : lines_of (canonical_text version set events) ≡ map spaced (body ++ end_line ∷ []) =
+    ap lines_of (sym (text-lines version set events)) ∙ lines_of-text (body ++ end_line ∷ []) lines in
     record {
       body = body;
       clean = rw cut (clean-text (body ++ end_line ∷ []) lines);
       order = ap said_by cut ∙ said_by-text (body ++ end_line ∷ []) lines;
-      says = body-says set events input fit;
+      says = body-says version small set events input fit;
     }
+
+pub canonical_text-IsInputText : (set : SetData) (events : List Posted) → IsInput (record { set = set; events = events })
+    → PrioritiesFit set → IsInputText (canonical_input_text set events) set events
+canonical_text-IsInputText set events input fit = canonical_text-IsTextOf 1 (lit< tt) set events input fit

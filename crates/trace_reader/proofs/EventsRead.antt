@@ -26,5 +26,6 @@ posted_of_lines set [] (e ∷ es) says = absurd says
 posted_of_lines set (l ∷ ls) [] says = absurd says
 posted_of_lines set (l ∷ ls) (e ∷ es) says = All-cons (IsPostedOf set) e es (posted_of_line set l e says.0) (posted_of_lines set ls es says.1)
 
-pub posted_of_body : (said : List (List (List ℕ))) (set : SetData) (events : List Posted) → IsBody said set events → All (IsPostedOf set) events
-posted_of_body said set events body = posted_of_lines set body.event_lines events body.each_event
+module _ (version : ℕ) where
+  pub posted_of_body : (said : List (List (List ℕ))) (set : SetData) (events : List Posted) → IsBody version said set events → All (IsPostedOf set) events
+  posted_of_body said set events body = posted_of_lines set body.event_lines events body.each_event

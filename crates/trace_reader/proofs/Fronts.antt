@@ -33,78 +33,79 @@ lawful_without_tasks set within none = record {
   masks = rw none (All-nil (λ (task : TaskData). IsMask set.processors task.mask));
 }
 
--- the line that says how many processors there are
-body_of_processors : (said : List (List (List ℕ))) (fields : List (List ℕ)) (set : SetData) (events : List Posted) → IsFront said ProcessorsDue
-    → IsProcessorsLine set.processors fields → set.tasks ≡ [] → events ≡ [] → IsBody (said ++ fields ∷ []) set events
-body_of_processors said fields set events front line no_tasks no_events = record {
-  header = front.0;
-  processors = fields;
-  task_lines = [];
-  event_lines = [];
-  order = ap (λ (lines : List (List (List ℕ))). lines ++ fields ∷ []) front.1;
-  is_header = front.2;
-  is_processors = line;
-  each_task = rw no_tasks tt;
-  each_event = rw no_events tt;
-  lawful = lawful_without_tasks set (line.2.1, line.2.2) no_tasks;
-  few = rw no_events (omega arith);
-}
+module _ (version : ℕ) where
+  -- the line that says how many processors there are
+  body_of_processors : (said : List (List (List ℕ))) (fields : List (List ℕ)) (set : SetData) (events : List Posted) → IsFront version said ProcessorsDue
+      → IsProcessorsLine set.processors fields → set.tasks ≡ [] → events ≡ [] → IsBody version (said ++ fields ∷ []) set events
+  body_of_processors said fields set events front line no_tasks no_events = record {
+    header = front.0;
+    processors = fields;
+    task_lines = [];
+    event_lines = [];
+    order = ap (λ (lines : List (List (List ℕ))). lines ++ fields ∷ []) front.1;
+    is_header = front.2;
+    is_processors = line;
+    each_task = rw no_tasks tt;
+    each_event = rw no_events tt;
+    lawful = lawful_without_tasks set (line.2.1, line.2.2) no_tasks;
+    few = rw no_events (omega arith);
+  }
 
--- the line of one more task
-body_with_task : (said : List (List (List ℕ))) (fields : List (List ℕ)) (set : SetData) (task : TaskData) → IsBody said set [] → IsTaskLine fields task → CanAdd set task → IsBody (said ++ fields ∷ []) (with_task set task) []
-body_with_task said fields set task body line can = record {
-  header = body.header;
-  processors = body.processors;
-  task_lines = body.task_lines ++ fields ∷ [];
-  event_lines = [];
-  order =
-      let no_events = none_of_none (IsEventLine set) body.event_lines body.each_event in
-      let before : said ≡ body.header ∷ body.processors ∷ body.task_lines = body.order ∙ rw no_events (ap (λ (lines : List (List (List ℕ))). body.header ∷ body.processors ∷ lines) (append-nil body.task_lines)) in
-      rw before (ap (λ (lines : List (List (List ℕ))). body.header ∷ body.processors ∷ lines) (sym (append-nil (body.task_lines ++ fields ∷ []))));
-  is_header = body.is_header;
-  is_processors = body.is_processors;
-  each_task = each_with_last IsTaskLine body.task_lines set.tasks fields task body.each_task line;
-  each_event = tt;
-  lawful = IsTaskSet-push set task body.lawful can;
-  few = omega arith;
-}
+  -- the line of one more task
+  body_with_task : (said : List (List (List ℕ))) (fields : List (List ℕ)) (set : SetData) (task : TaskData) → IsBody version said set [] → IsTaskLine fields task → CanAdd set task → IsBody version (said ++ fields ∷ []) (with_task set task) []
+  body_with_task said fields set task body line can = record {
+    header = body.header;
+    processors = body.processors;
+    task_lines = body.task_lines ++ fields ∷ [];
+    event_lines = [];
+    order =
+        let no_events = none_of_none (IsEventLine set) body.event_lines body.each_event in
+        let before : said ≡ body.header ∷ body.processors ∷ body.task_lines = body.order ∙ rw no_events (ap (λ (lines : List (List (List ℕ))). body.header ∷ body.processors ∷ lines) (append-nil body.task_lines)) in
+        rw before (ap (λ (lines : List (List (List ℕ))). body.header ∷ body.processors ∷ lines) (sym (append-nil (body.task_lines ++ fields ∷ []))));
+    is_header = body.is_header;
+    is_processors = body.is_processors;
+    each_task = each_with_last IsTaskLine body.task_lines set.tasks fields task body.each_task line;
+    each_event = tt;
+    lawful = IsTaskSet-push set task body.lawful can;
+    few = omega arith;
+  }
 
--- the line of one more event
-body_with_event : (said : List (List (List ℕ))) (fields : List (List ℕ)) (set : SetData) (events : List Posted) (posted : Posted) → IsBody said set events → IsEventLine set fields posted → length events < 20000 → IsBody (said ++ fields ∷ []) set (events ++ posted ∷ [])
-body_with_event said fields set events posted body line room = record {
-  header = body.header;
-  processors = body.processors;
-  task_lines = body.task_lines;
-  event_lines = body.event_lines ++ fields ∷ [];
-  order = rw body.order (ap (λ (lines : List (List (List ℕ))). body.header ∷ body.processors ∷ lines) (append_assoc body.task_lines body.event_lines (fields ∷ [])));
-  is_header = body.is_header;
-  is_processors = body.is_processors;
-  each_task = body.each_task;
-  each_event = each_with_last (IsEventLine set) body.event_lines events fields posted body.each_event line;
-  lawful = body.lawful;
-  few = omega (arith, length-append events (posted ∷ []));
-}
+  -- the line of one more event
+  body_with_event : (said : List (List (List ℕ))) (fields : List (List ℕ)) (set : SetData) (events : List Posted) (posted : Posted) → IsBody version said set events → IsEventLine set fields posted → length events < 20000 → IsBody version (said ++ fields ∷ []) set (events ++ posted ∷ [])
+  body_with_event said fields set events posted body line room = record {
+    header = body.header;
+    processors = body.processors;
+    task_lines = body.task_lines;
+    event_lines = body.event_lines ++ fields ∷ [];
+    order = rw body.order (ap (λ (lines : List (List (List ℕ))). body.header ∷ body.processors ∷ lines) (append_assoc body.task_lines body.event_lines (fields ∷ [])));
+    is_header = body.is_header;
+    is_processors = body.is_processors;
+    each_task = body.each_task;
+    each_event = each_with_last (IsEventLine set) body.event_lines events fields posted body.each_event line;
+    lawful = body.lawful;
+    few = omega (arith, length-append events (posted ∷ []));
+  }
 
--- a task or an event behind what was listed
-body_more : (said : List (List (List ℕ))) (fields : List (List ℕ)) (set next : SetData) (events more : List Posted) → IsBody said set events → Says (Listed set events) fields (Listed next more) → IsBody (said ++ fields ∷ []) next more
-body_more said fields set next events more body (inl task) =
-    let says = task.2 in
-    let tasks_only = subst (λ (listed : List Posted). IsBody said set listed) task.0 body in
-    let whole = body_with_task said fields set says.task tasks_only says.line says.added in
-    rw (says.last, task.1) whole
-body_more said fields set next events more body (inr event) =
-    let says = event.1 in
-    let whole = body_with_event said fields set events says.posted body says.line says.room in
-    rw (event.0, says.last) whole
+  -- a task or an event behind what was listed
+  body_more : (said : List (List (List ℕ))) (fields : List (List ℕ)) (set next : SetData) (events more : List Posted) → IsBody version said set events → Says version (Listed set events) fields (Listed next more) → IsBody version (said ++ fields ∷ []) next more
+  body_more said fields set next events more body (inl task) =
+      let says = task.2 in
+      let tasks_only = subst (λ (listed : List Posted). IsBody version said set listed) task.0 body in
+      let whole = body_with_task said fields set says.task tasks_only says.line says.added in
+      rw (says.last, task.1) whole
+  body_more said fields set next events more body (inr event) =
+      let says = event.1 in
+      let whole = body_with_event said fields set events says.posted body says.line says.room in
+      rw (event.0, says.last) whole
 
--- lines that are without fault, and one more
-pub front_more : (said : List (List (List ℕ))) (fields : List (List ℕ)) (due next : Progress) → IsFront said due → Says due fields next → IsFront (said ++ fields ∷ []) next
-front_more said fields HeaderDue ProcessorsDue front says =
-    (fields, ap (λ (lines : List (List (List ℕ))). lines ++ fields ∷ []) front, says)
-front_more said fields ProcessorsDue (Listed next more) front says =
-    body_of_processors said fields next more front says.0 says.1 says.2
-front_more said fields (Listed set events) (Listed next more) front says =
-    body_more said fields set next events more front says
-front_more said fields (Listed set events) (Ended next more) front says =
-    (said, ap (λ (line : List (List ℕ)). said ++ line ∷ []) says.0, rw (says.1, says.2) front)
-front_more said fields _ _ front says = absurd says
+  -- lines that are without fault, and one more
+  pub front_more : (said : List (List (List ℕ))) (fields : List (List ℕ)) (due next : Progress) → IsFront version said due → Says version due fields next → IsFront version (said ++ fields ∷ []) next
+  front_more said fields HeaderDue ProcessorsDue front says =
+      (fields, ap (λ (lines : List (List (List ℕ))). lines ++ fields ∷ []) front, says)
+  front_more said fields ProcessorsDue (Listed next more) front says =
+      body_of_processors said fields next more front says.0 says.1 says.2
+  front_more said fields (Listed set events) (Listed next more) front says =
+      body_more said fields set next events more front says
+  front_more said fields (Listed set events) (Ended next more) front says =
+      (said, ap (λ (line : List (List ℕ)). said ++ line ∷ []) says.0, rw (says.1, says.2) front)
+  front_more said fields _ _ front says = absurd says

@@ -22,11 +22,11 @@ pub data Progress : Type 0 where
   Ended : SetData → List Posted → Progress
 
 -- lines that are without fault, and what is due after them
-abbrev pub IsFront : List (List (List ℕ)) → Progress → Type 0
-IsFront said HeaderDue = said ≡ []
-IsFront said ProcessorsDue = (header : List (List ℕ)) × (said ≡ header ∷ []) × IsHeader header
-IsFront said (Listed set events) = IsBody said set events
-IsFront said (Ended set events) = (body : List (List (List ℕ))) × (said ≡ body ++ end_line ∷ []) × IsBody body set events
+abbrev pub IsFront : ℕ → List (List (List ℕ)) → Progress → Type 0
+IsFront version said HeaderDue = said ≡ []
+IsFront version said ProcessorsDue = (header : List (List ℕ)) × (said ≡ header ∷ []) × IsHeader version header
+IsFront version said (Listed set events) = IsBody version said set events
+IsFront version said (Ended set events) = (body : List (List (List ℕ))) × (said ≡ body ++ end_line ∷ []) × IsBody version body set events
 
 -- the first field is `task`
 abbrev pub BeginsTask : List (List ℕ) → Type 0
@@ -57,26 +57,26 @@ abbrev pub IsEventForm : List (List ℕ) → Type 0
 IsEventForm fields = ((name : List ℕ) × IsNamedForm fields name) ⊎ IsTickForm fields
 
 -- the fault of a line that is clean and not skipped, by what is due
-abbrev pub IsFieldsFault : Progress → List (List ℕ) → InputKind → Type 0
-IsFieldsFault due fields BadHeader = (due ≡ HeaderDue) × (IsHeader fields → ⊥)
-IsFieldsFault due fields BadProcessors = (due ≡ ProcessorsDue) × ((m : ℕ) → IsProcessorsLine m fields → ⊥)
-IsFieldsFault due fields BadTask = (set : SetData) × (due ≡ Listed set []) × BeginsTask fields × ((name list : List ℕ) (priority : ℕ) → IsTaskForm fields name priority list → ⊥)
-IsFieldsFault due fields (BadMask fault) = (set : SetData) × (name : List ℕ) × (priority : ℕ) × (list : List ℕ) × (due ≡ Listed set []) × IsTaskForm fields name priority list × IsListFault list fault
-IsFieldsFault due fields (TaskRefused fault) = (set : SetData) × (name : List ℕ) × (priority : ℕ) × (list : List ℕ) × (mask : ℕ) × (due ≡ Listed set []) × IsTaskForm fields name priority list × IsListText list mask × IsRefusal set (new_task name priority mask) fault
-IsFieldsFault due fields BadEvent = (set : SetData) × (events : List Posted) × (due ≡ Listed set events) × (IsForTask events fields → ⊥) × (fields ≢ end_line) × (IsEventForm fields → ⊥)
-IsFieldsFault due fields UnknownTask = (set : SetData) × (events : List Posted) × (name : List ℕ) × (due ≡ Listed set events) × IsNamedForm fields name × IsNewName set name
-IsFieldsFault due fields ManyEvents = (set : SetData) × (events : List Posted) × (posted : Posted) × (due ≡ Listed set events) × IsEventLine set fields posted × (length events ≡ 20000)
-IsFieldsFault due fields AfterEnd = (set : SetData) × (events : List Posted) × (due ≡ Ended set events)
-IsFieldsFault due fields _ = ⊥
+abbrev pub IsFieldsFault : ℕ → Progress → List (List ℕ) → InputKind → Type 0
+IsFieldsFault version due fields BadHeader = (due ≡ HeaderDue) × (IsHeader version fields → ⊥)
+IsFieldsFault version due fields BadProcessors = (due ≡ ProcessorsDue) × ((m : ℕ) → IsProcessorsLine m fields → ⊥)
+IsFieldsFault version due fields BadTask = (set : SetData) × (due ≡ Listed set []) × BeginsTask fields × ((name list : List ℕ) (priority : ℕ) → IsTaskForm fields name priority list → ⊥)
+IsFieldsFault version due fields (BadMask fault) = (set : SetData) × (name : List ℕ) × (priority : ℕ) × (list : List ℕ) × (due ≡ Listed set []) × IsTaskForm fields name priority list × IsListFault list fault
+IsFieldsFault version due fields (TaskRefused fault) = (set : SetData) × (name : List ℕ) × (priority : ℕ) × (list : List ℕ) × (mask : ℕ) × (due ≡ Listed set []) × IsTaskForm fields name priority list × IsListText list mask × IsRefusal set (new_task name priority mask) fault
+IsFieldsFault version due fields BadEvent = (set : SetData) × (events : List Posted) × (due ≡ Listed set events) × (IsForTask events fields → ⊥) × (fields ≢ end_line) × (IsEventForm fields → ⊥)
+IsFieldsFault version due fields UnknownTask = (set : SetData) × (events : List Posted) × (name : List ℕ) × (due ≡ Listed set events) × IsNamedForm fields name × IsNewName set name
+IsFieldsFault version due fields ManyEvents = (set : SetData) × (events : List Posted) × (posted : Posted) × (due ≡ Listed set events) × IsEventLine set fields posted × (length events ≡ 20000)
+IsFieldsFault version due fields AfterEnd = (set : SetData) × (events : List Posted) × (due ≡ Ended set events)
+IsFieldsFault version due fields _ = ⊥
 
 -- the first fault of a line, by what is due: a byte that is not plain, too many bytes, or else one of its fields
-abbrev pub IsLineFault : Progress → List ℕ → InputKind → Type 0
-IsLineFault due line BadByte = All IsPlain line → ⊥
-IsLineFault due line LongLine = All IsPlain line × (4096 < length line)
-IsLineFault due line kind = IsClean line × (is_skipped (fields_of line) ≡ false) × IsFieldsFault due (fields_of line) kind
+abbrev pub IsLineFault : ℕ → Progress → List ℕ → InputKind → Type 0
+IsLineFault version due line BadByte = All IsPlain line → ⊥
+IsLineFault version due line LongLine = All IsPlain line × (4096 < length line)
+IsLineFault version due line kind = IsClean line × (is_skipped (fields_of line) ≡ false) × IsFieldsFault version due (fields_of line) kind
 
 -- this line of the bytes has a fault, and none before it has one
-pub record IsFirstFault (bytes : List ℕ) (number : ℕ) (kind : InputKind) : Type 0 where
+pub record IsFirstFault (version : ℕ) (bytes : List ℕ) (number : ℕ) (kind : InputKind) : Type 0 where
   pub before : List (List ℕ)
   pub line : List ℕ
   pub after : List (List ℕ)
@@ -84,20 +84,25 @@ pub record IsFirstFault (bytes : List ℕ) (number : ℕ) (kind : InputKind) : T
   pub order : lines_of bytes ≡ before ++ line ∷ after
   pub place : number ≡ length before + 1
   pub clean : All IsClean before
-  pub front : IsFront (said_by before) due
-  pub fault : IsLineFault due line kind
+  pub front : IsFront version (said_by before) due
+  pub fault : IsLineFault version due line kind
 
 -- no line has a fault, and `end` does not come; this would be the number of the next line
-pub record IsEndless (bytes : List ℕ) (number : ℕ) : Type 0 where
+pub record IsEndless (version : ℕ) (bytes : List ℕ) (number : ℕ) : Type 0 where
   pub due : Progress
   pub clean : All IsClean (lines_of bytes)
-  pub front : IsFront (said_by (lines_of bytes)) due
+  pub front : IsFront version (said_by (lines_of bytes)) due
   pub unended : (set : SetData) (events : List Posted) → due ≢ Ended set events
   pub place : number ≡ length (lines_of bytes) + 1
 
--- the bytes are refused with this line and kind
+-- the bytes are refused, as a text of this version, with this line and kind
+abbrev pub IsRefusedIn : ℕ → List ℕ → ℕ → InputKind → Type 0
+IsRefusedIn version bytes number kind =
+    IsFirstFault version bytes number kind ⊎ (IsEndless version bytes number × (kind ≡ NoEnd))
+
+-- the bytes are refused with this line and kind; the version of an input text is 1
 abbrev pub IsInputRefused : List ℕ → ℕ → InputKind → Type 0
-IsInputRefused bytes number kind = IsFirstFault bytes number kind ⊎ (IsEndless bytes number × (kind ≡ NoEnd))
+IsInputRefused bytes number kind = IsRefusedIn 1 bytes number kind
 
 -- the number of a kind, as the program prints it; want of memory has none
 abbrev pub kind_number : InputKind → Option ℕ

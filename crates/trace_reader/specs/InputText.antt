@@ -12,9 +12,9 @@ use Rattle.task_set.specs.declared.event.Event.TheVariants.{Arrive, Depart, Tick
 use Rattle.trace_reader.specs.declared.posted.Posted.{Posted}
 use Rattle.trace_reader.specs.Lines.{lines_of, said_by, IsClean}
 
--- the header: `apa` and the version, which is 1
-abbrev pub IsHeader : List (List ℕ) → Type 0
-IsHeader fields = (version : List ℕ) × (fields ≡ codes "apa" ∷ version ∷ []) × IsNumberOf version 1
+-- the header: `apa` and the version
+abbrev pub IsHeader : ℕ → List (List ℕ) → Type 0
+IsHeader version fields = (number : List ℕ) × (fields ≡ codes "apa" ∷ number ∷ []) × IsNumberOf number version
 
 -- `processors` and how many there are, from 1 to 64
 abbrev pub IsProcessorsLine : ℕ → List (List ℕ) → Type 0
@@ -44,14 +44,14 @@ IsEventFields set fields (Tick units) = (number : List ℕ) × (fields ≡ codes
 abbrev pub IsEventLine : SetData → List (List ℕ) → Posted → Type 0
 IsEventLine set fields posted = (rest : List (List ℕ)) × IsOnStream fields posted.stream rest × IsEventFields set rest posted.event
 
--- the lines say the header, the number of processors, the tasks of the set, and then these events
-pub record IsBody (said : List (List (List ℕ))) (set : SetData) (events : List Posted) : Type 0 where
+-- the lines say the header of this version, the number of processors, the tasks of the set, and then these events
+pub record IsBody (version : ℕ) (said : List (List (List ℕ))) (set : SetData) (events : List Posted) : Type 0 where
   pub header : List (List ℕ)
   pub processors : List (List ℕ)
   pub task_lines : List (List (List ℕ))
   pub event_lines : List (List (List ℕ))
   pub order : said ≡ header ∷ processors ∷ task_lines ++ event_lines
-  pub is_header : IsHeader header
+  pub is_header : IsHeader version header
   pub is_processors : IsProcessorsLine set.processors processors
   pub each_task : AllZip IsTaskLine task_lines set.tasks
   pub each_event : AllZip (IsEventLine set) event_lines events
@@ -62,9 +62,13 @@ pub record IsBody (said : List (List (List ℕ))) (set : SetData) (events : List
 abbrev pub end_line : List (List ℕ)
 end_line = codes "end" ∷ []
 
--- the bytes are an input text of this task set and these events
-pub record IsInputText (bytes : List ℕ) (set : SetData) (events : List Posted) : Type 0 where
+-- the bytes are an input text, of this version, of this task set and these events
+pub record IsTextOf (version : ℕ) (bytes : List ℕ) (set : SetData) (events : List Posted) : Type 0 where
   pub body : List (List (List ℕ))
   pub clean : All IsClean (lines_of bytes)
   pub order : said_by (lines_of bytes) ≡ body ++ end_line ∷ []
-  pub says : IsBody body set events
+  pub says : IsBody version body set events
+
+-- the bytes are an input text of this task set and these events; the version of an input text is 1
+abbrev pub IsInputText : List ℕ → SetData → List Posted → Type 0
+IsInputText bytes set events = IsTextOf 1 bytes set events

@@ -1,17 +1,19 @@
 -- One step of the reader. What a reader must believe: nothing; these are the contracts of private functions, and the
 -- public one says by the definitions of the text and of its faults what was read.
-use Rattle.std.specs.Prelude.{◌≡◌, true, false, ℕ, ◌<◌, ◌⊎◌, List, [], ◌∷◌, ◌++◌, length, map, Contains}
+use Rattle.std.specs.Prelude.{◌≡◌, true, false, ℕ, ◌<◌, ◌⊎◌, List, [], ◌∷◌, ◌++◌, length, Contains, Result, IfOk, IfErr}
 use Rattle.task_set.specs.TaskSet.{TaskData, SetData, with_task}
 use Rattle.task_set.specs.Refusal.{CanAdd, IsNewName}
 use Rattle.trace_reader.specs.declared.posted.Posted.{Posted}
 use Rattle.trace_reader.specs.declared.stage.Stage.{Stage}
 use Rattle.trace_reader.specs.declared.stage.Stage.TheVariants as stage
 use Rattle.trace_reader.specs.Lines.{lines_of, fields_of, is_skipped, IsClean}
+use Rattle.trace_reader.specs.declared.fault.InputFault.{InputFault}
 use Rattle.trace_reader.specs.declared.fault.InputKind.{InputKind}
+use Rattle.trace_reader.specs.Input.{InputData}
 use Rattle.trace_reader.specs.declared.fault.InputKind.TheVariants.{BadEvent, UnknownTask, OutOfMemory}
-use Rattle.trace_reader.specs.InputText.{IsHeader, IsProcessorsLine, IsTaskLine, IsEventLine, end_line}
+use Rattle.trace_reader.specs.InputText.{IsHeader, IsProcessorsLine, IsTaskLine, IsEventLine, IsTextOf, end_line}
 use Rattle.text_fields.specs.Number.{IsNumberWithin}
-use Rattle.trace_reader.specs.InputFault.{Progress, HeaderDue, ProcessorsDue, Listed, Ended, IsNamedForm, IsNameWord, IsTick, IsEventForm}
+use Rattle.trace_reader.specs.InputFault.{IsRefusedIn, Progress, HeaderDue, ProcessorsDue, Listed, Ended, IsNamedForm, IsNameWord, IsTick, IsEventForm}
 
 -- what is due at a stage of the reader
 abbrev pub progress_of : Stage → Progress
@@ -35,13 +37,13 @@ pub record SaysEvent (fields : List (List ℕ)) (set : SetData) (events next : L
   pub last : next ≡ events ++ posted ∷ []
 
 -- a line without fault leads from what is due before it to what is due after it
-abbrev pub Says : Progress → List (List ℕ) → Progress → Type 0
-Says HeaderDue fields ProcessorsDue = IsHeader fields
-Says ProcessorsDue fields (Listed next more) = IsProcessorsLine next.processors fields × (next.tasks ≡ []) × (more ≡ [])
-Says (Listed set events) fields (Listed next more) =
+abbrev pub Says : ℕ → Progress → List (List ℕ) → Progress → Type 0
+Says version HeaderDue fields ProcessorsDue = IsHeader version fields
+Says version ProcessorsDue fields (Listed next more) = IsProcessorsLine next.processors fields × (next.tasks ≡ []) × (more ≡ [])
+Says version (Listed set events) fields (Listed next more) =
     ((events ≡ []) × (more ≡ []) × SaysTask fields set next) ⊎ ((next ≡ set) × SaysEvent fields set events more)
-Says (Listed set events) fields (Ended next more) = (fields ≡ end_line) × (next ≡ set) × (more ≡ events)
-Says _ fields _ = ⊥
+Says version (Listed set events) fields (Ended next more) = (fields ≡ end_line) × (next ≡ set) × (more ≡ events)
+Says version _ fields _ = ⊥
 
 -- the first line of the bytes, and what stands behind its line feed, or behind the line where none ends it
 abbrev pub IsFirstLine : List ℕ → List ℕ → List ℕ → Type 0
@@ -60,5 +62,11 @@ abbrev pub IsChangeFault : SetData → List ℕ → List ℕ → InputKind → T
 IsChangeFault set word value kind = ((kind ≡ BadEvent) × (IsNameWord word → ⊥) × (IsTick word value → ⊥)) ⊎ ((kind ≡ UnknownTask) × IsNameWord word × IsNewName set value)
 
 -- a clean line is skipped, or says what leads on
-abbrev pub SaysLine : Progress → List ℕ → Progress → Type 0
-SaysLine due line next = IsClean line × (((is_skipped (fields_of line) ≡ true) × (next ≡ due)) ⊎ ((is_skipped (fields_of line) ≡ false) × Says due (fields_of line) next))
+abbrev pub SaysLine : ℕ → Progress → List ℕ → Progress → Type 0
+SaysLine version due line next = IsClean line × (((is_skipped (fields_of line) ≡ true) × (next ≡ due)) ⊎ ((is_skipped (fields_of line) ≡ false) × Says version due (fields_of line) next))
+
+-- a reader of texts of this version answers their input, or their first fault, unless it is out of memory
+abbrev pub IsAnswerTo : ℕ → List ℕ → Result InputData InputFault → Type 0
+IsAnswerTo version bytes result =
+    IfOk result (λ input. IsTextOf version bytes input.set input.events)
+    × IfErr result (λ fault. IsOutOfMemory fault.kind ⊎ IsRefusedIn version bytes fault.line fault.kind)

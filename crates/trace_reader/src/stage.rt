@@ -4,6 +4,7 @@ ghost use Rattle.task_set.specs.TaskSet.{SetData};
 ghost use Rattle.task_set.specs.Refusal.{IsNameOf, IsNewName};
 ghost use Rattle.trace_reader.specs.declared.posted.Posted.{Posted};
 ghost use Rattle.trace_reader.specs.declared.fault.InputKind.TheVariants.{UnknownTask};
+ghost use Rattle.text_fields.specs.Number.{IsNumberOf};
 ghost use Rattle.trace_reader.specs.InputText.{IsHeader, IsProcessorsLine, IsEventFields, IsEventLine, end_line};
 ghost use Rattle.trace_reader.specs.InputFault.{IsFieldsFault, IsLineFault, BeginsTask, IsForTask, IsFront, Progress, HeaderDue, ProcessorsDue, Listed, Ended};
 ghost use Rattle.trace_reader.specs.Reading.{progress_of, Says, SaysLine, SaysTask, IsOutOfMemory, IsEventFault, IsChangeFault};
@@ -40,10 +41,10 @@ pub enum Stage {
 
 impl Stage {
     /// What is due behind one more line.
-    pub fn after_line(self, alloc: Global, line: &[u8]) -> Result<Stage, InputKind>
-        requires { (said : List (List (List ℕ))) × IsFront said (progress_of self) }
-        ensures read { IfOk result (λ next. SaysLine (progress_of self) line.now (progress_of next)) }
-        ensures refused { IfErr result (λ kind. IsOutOfMemory kind ⊎ IsLineFault (progress_of self) line.now kind) }
+    pub fn after_line(self, alloc: Global, version: u64, line: &[u8]) -> Result<Stage, InputKind>
+        requires { (said : List (List (List ℕ))) × IsFront version said (progress_of self) }
+        ensures read { IfOk result (λ next. SaysLine version (progress_of self) line.now (progress_of next)) }
+        ensures refused { IfErr result (λ kind. IsOutOfMemory kind ⊎ IsLineFault version (progress_of self) line.now kind) }
     {
         if !is_plain(line) {
             return Err(InputKind::BadByte);
@@ -55,13 +56,13 @@ impl Stage {
         if is_comment(&fields) {
             Ok(self)
         } else {
-            self.after(alloc, &fields)
+            self.after(alloc, version, &fields)
         }
     }
 
     /// The input, if the end came.
     pub fn into_input(self) -> Option<Input>
-        requires { (said : List (List (List ℕ))) × IsFront said (progress_of self) }
+        requires { (version : ℕ) × (said : List (List (List ℕ))) × IsFront version said (progress_of self) }
         ensures { MatchOption result ((set : SetData) (events : List Posted) → progress_of self ≢ Ended set events)
             (λ input. progress_of self ≡ Ended input.set input.events) }
     {
@@ -72,31 +73,38 @@ impl Stage {
     }
 
     /// What is due behind a line that is not skipped, by its fields.
-    fn after(self, alloc: Global, fields: &[&[u8]]) -> Result<Stage, InputKind>
-        requires { (said : List (List (List ℕ))) × IsFront said (progress_of self) }
-        ensures read { IfOk result (λ next. Says (progress_of self) (texts fields.now) (progress_of next)) }
-        ensures refused { IfErr result (λ kind. IsOutOfMemory kind ⊎ IsFieldsFault (progress_of self) (texts fields.now) kind) }
+    fn after(self, alloc: Global, version: u64, fields: &[&[u8]]) -> Result<Stage, InputKind>
+        requires { (said : List (List (List ℕ))) × IsFront version said (progress_of self) }
+        ensures read { IfOk result (λ next. Says version (progress_of self) (texts fields.now) (progress_of next)) }
+        ensures refused { IfErr result (λ kind. IsOutOfMemory kind ⊎ IsFieldsFault version (progress_of self) (texts fields.now) kind) }
     {
         match self {
-            Stage::HeaderDue => read_header(fields),
-            Stage::ProcessorsDue => start(alloc, fields),
-            Stage::Listed { set, events } => read_listed(set, events, fields),
+            Stage::HeaderDue => read_header(version, fields),
+            Stage::ProcessorsDue => start(alloc, version, fields),
+            Stage::Listed { set, events } => read_listed(version, set, events, fields),
             Stage::Ended { .. } => Err(InputKind::AfterEnd),
         }
     }
 }
 
 /// Reads the header.
-fn read_header(fields: &[&[u8]]) -> Result<Stage, InputKind>
-    ensures read { IfOk result (λ next. (progress_of next ≡ ProcessorsDue) × IsHeader (texts fields.now)) }
-    ensures refused { IfErr result (IsFieldsFault HeaderDue (texts fields.now)) }
+fn read_header(version: u64, fields: &[&[u8]]) -> Result<Stage, InputKind>
+    ensures read { IfOk result (λ next. (progress_of next ≡ ProcessorsDue) × IsHeader version (texts fields.now)) }
+    ensures refused { IfErr result (IsFieldsFault version HeaderDue (texts fields.now)) }
 {
     match fields {
-        [word, version] if is_word(word, "apa") && read_number(version, 1, 1).is_some() => {
+        [word, number] if is_word(word, "apa") && is_version(number, version) => {
             Ok(Stage::ProcessorsDue)
         }
         _ => Err(InputKind::BadHeader),
     }
+}
+
+/// Whether a field is the number of this version.
+fn is_version(number: &[u8], version: u64) -> bool
+    ensures { IsTrue result ↔ IsNumberOf number.now version }
+{
+    read_number(number, version, version).is_some()
 }
 
 /// How many processors a line says that there are, from 1 to 64.
@@ -113,9 +121,9 @@ fn read_processors(fields: &[&[u8]]) -> Option<u8>
 }
 
 /// Nothing is listed yet, on as many processors as a line says.
-fn start(alloc: Global, fields: &[&[u8]]) -> Result<Stage, InputKind>
-    ensures read { IfOk result (λ next. Says ProcessorsDue (texts fields.now) (progress_of next)) }
-    ensures refused { IfErr result (λ kind. IsOutOfMemory kind ⊎ IsFieldsFault ProcessorsDue (texts fields.now) kind) }
+fn start(alloc: Global, version: u64, fields: &[&[u8]]) -> Result<Stage, InputKind>
+    ensures read { IfOk result (λ next. Says version ProcessorsDue (texts fields.now) (progress_of next)) }
+    ensures refused { IfErr result (λ kind. IsOutOfMemory kind ⊎ IsFieldsFault version ProcessorsDue (texts fields.now) kind) }
 {
     let Some(processors) = read_processors(fields) else {
         return Err(InputKind::BadProcessors);
@@ -126,17 +134,17 @@ fn start(alloc: Global, fields: &[&[u8]]) -> Result<Stage, InputKind>
 }
 
 /// Reads a task, an event or the end behind what was listed.
-fn read_listed(set: TaskSet, events: Vec<Posted>, fields: &[&[u8]]) -> Result<Stage, InputKind>
+fn read_listed(version: u64, set: TaskSet, events: Vec<Posted>, fields: &[&[u8]]) -> Result<Stage, InputKind>
     requires { length events.items ≤ 20000 }
-    ensures read { IfOk result (λ next. Says (Listed set events.items) (texts fields.now) (progress_of next)) }
-    ensures refused { IfErr result (λ kind. IsOutOfMemory kind ⊎ IsFieldsFault (Listed set events.items) (texts fields.now) kind) }
+    ensures read { IfOk result (λ next. Says version (Listed set events.items) (texts fields.now) (progress_of next)) }
+    ensures refused { IfErr result (λ kind. IsOutOfMemory kind ⊎ IsFieldsFault version (Listed set events.items) (texts fields.now) kind) }
 {
     if is_end(fields) {
         Ok(Stage::Ended { set, events })
     } else if is_for_task(&events, fields) {
-        list_task(set, events, fields)
+        list_task(version, set, events, fields)
     } else {
-        list_event(set, events, fields)
+        list_event(version, set, events, fields)
     }
 }
 
@@ -148,22 +156,22 @@ fn is_for_task(events: &[Posted], fields: &[&[u8]]) -> bool
 }
 
 /// Lists the task of a line.
-fn list_task(mut set: TaskSet, events: Vec<Posted>, fields: &[&[u8]]) -> Result<Stage, InputKind>
+fn list_task(version: u64, mut set: TaskSet, events: Vec<Posted>, fields: &[&[u8]]) -> Result<Stage, InputKind>
     requires { IsForTask events.items (texts fields.now) }
-    ensures read { IfOk result (λ next. Says (Listed set events.items) (texts fields.now) (progress_of next)) }
-    ensures refused { IfErr result (λ kind. IsOutOfMemory kind ⊎ IsFieldsFault (Listed set events.items) (texts fields.now) kind) }
+    ensures read { IfOk result (λ next. Says version (Listed set events.items) (texts fields.now) (progress_of next)) }
+    ensures refused { IfErr result (λ kind. IsOutOfMemory kind ⊎ IsFieldsFault version (Listed set events.items) (texts fields.now) kind) }
 {
-    add_task(&mut set, fields)?;
+    add_task(version, &mut set, fields)?;
     Ok(Stage::Listed { set, events })
 }
 
 /// Lists the event of a line.
-fn list_event(set: TaskSet, mut events: Vec<Posted>, fields: &[&[u8]]) -> Result<Stage, InputKind>
+fn list_event(version: u64, set: TaskSet, mut events: Vec<Posted>, fields: &[&[u8]]) -> Result<Stage, InputKind>
     requires task { IsForTask events.items (texts fields.now) → ⊥ }
     requires end { texts fields.now ≢ end_line }
     requires few { length events.items ≤ 20000 }
-    ensures read { IfOk result (λ next. Says (Listed set events.items) (texts fields.now) (progress_of next)) }
-    ensures refused { IfErr result (λ kind. IsOutOfMemory kind ⊎ IsFieldsFault (Listed set events.items) (texts fields.now) kind) }
+    ensures read { IfOk result (λ next. Says version (Listed set events.items) (texts fields.now) (progress_of next)) }
+    ensures refused { IfErr result (λ kind. IsOutOfMemory kind ⊎ IsFieldsFault version (Listed set events.items) (texts fields.now) kind) }
 {
     let posted = read_event(&set, fields)?;
     if events.len() == MAX_EVENTS {
@@ -196,10 +204,10 @@ fn begins_task(fields: &[&[u8]]) -> bool
 }
 
 /// Adds the task of a line that begins with `task`.
-fn add_task(set: &mut TaskSet, fields: &[&[u8]]) -> Result<(), InputKind>
+fn add_task(version: u64, set: &mut TaskSet, fields: &[&[u8]]) -> Result<(), InputKind>
     requires { BeginsTask (texts fields.now) }
     ensures read { OnOk result (SaysTask (texts fields.now) set.old set.new) }
-    ensures refused { IfErr result (λ kind. IsOutOfMemory kind ⊎ IsFieldsFault (Listed set.old []) (texts fields.now) kind) }
+    ensures refused { IfErr result (λ kind. IsOutOfMemory kind ⊎ IsFieldsFault version (Listed set.old []) (texts fields.now) kind) }
 {
     let [_word, name, number, list] = fields else {
         return Err(InputKind::BadTask);
