@@ -30,7 +30,7 @@ use Rattle.schedule_text.proofs.FieldLists.{six_displaced, six_freed, six_none}
 use Rattle.schedule_text.proofs.Entries.{entry_of_parts, some_parts, reply_fault, both_faults, event_unknown, event_bad}
 use Rattle.schedule_text.proofs.Tasks.{task_form, task_list}
 use Rattle.schedule_text.proofs.ReplyParts.{no_task_named, no_processors}
-use Rattle.schedule_text.proofs.Contexts.{AreSaid, context_said, context_found, wide}
+use Rattle.schedule_text.proofs.Contexts.{AreSaid, context_said, context_found, wide, wide_read, last_once, last_field}
 use Rattle.schedule_text.proofs.Bridges.{task_to_text, context_to_fields, entry_to_text}
 use Rattle.schedule_text.proofs.Stages.{processors_none, processors_read, history_none, history_read, task_fault, entry_fault}
 use Rattle.schedule_text.proofs.Fronts.{IsReadTo, read_start, read_more, read_short, read_fault, read_past, read_end}
@@ -309,10 +309,21 @@ context_numbers t units stints moves last trail = elim (number_field_decided 0 1
     below n high = omega arith
 
 -- what is said of one line is said of one context
-said_once : (set : SetData) (t : ℕ) (units stints moves last trail : List ℕ) (one other : Context) → IsContextOf t one → IsContextOf t other → AreSaid units stints moves last trail one → AreSaid units stints moves last trail other → one ≡ other
+said_once : (set : SetData) (t : ℕ) (units stints moves last trail : List ℕ) (one other : Context) → IsContextOf t one
+    → IsContextOf t other → AreSaid units stints moves last trail one → AreSaid units stints moves last trail other
+    → one ≡ other
 said_once set t units stints moves last trail one other of of' said said' =
-    sym (context_found set one t one.units one.stints one.moves one.trail one.last units stints moves last trail of said (wide units one.units of.units said.units_are) (wide stints one.stints of.stints said.stints_are) (wide moves one.moves of.moves said.moves_are) (record { processor = of.last; is_text = said.last_is }) (wide trail one.trail of.trail said.trail_is))
-    ∙ context_found set other t one.units one.stints one.moves one.trail one.last units stints moves last trail of' said' (wide units one.units of.units said.units_are) (wide stints one.stints of.stints said.stints_are) (wide moves one.moves of.moves said.moves_are) (record { processor = of.last; is_text = said.last_is }) (wide trail one.trail of.trail said.trail_is)
+    sym (found one of said refl)
+    ∙ found other of' said' (last_once last one.last other.last (last_field t units stints moves last trail one of said)
+    (last_field t units stints moves last trail other of' said'))
+  where
+    found : (context : Context) → IsContextOf t context → AreSaid units stints moves last trail context
+        → one.last ≡ context.last
+        → record { task = t; units = one.units; stints = one.stints; moves = one.moves; last = one.last; trail = one.trail } ≡ context
+    found context of_it said_it same_last =
+        context_found set context t one.units one.stints one.moves one.trail one.last units stints moves last trail of_it said_it
+        (wide_read units one.units of.units said.units_are) (wide_read stints one.stints of.stints said.stints_are)
+        (wide_read moves one.moves of.moves said.moves_are) same_last (wide_read trail one.trail of.trail said.trail_is)
 
 context_decided : (set : SetData) (t : ℕ) (text : List ℕ) → IsTaskSet set → t < length set.tasks → ((context : Context) × IsContextText set t text context) ⊎ ((context : Context) → IsContextText set t text context → ⊥)
 context_decided set t text lawful within = elim (eleven_decided (fields_of text)) [

@@ -19,7 +19,7 @@ use std::alloc::Global;
 use std::str;
 use task_set::{Context, TaskFault, TaskSet};
 use text_fields::limits::{MAX_PRIORITY, MAX_PROCESSOR};
-use text_fields::{is_word, write_number};
+use text_fields::{is_word, read_number, write_number};
 
 /// Adds the task of some fields.
 pub fn add_task(alloc: Global, set: &mut TaskSet, fields: &[&[u8]]) -> Result<(), TextKind>
@@ -95,10 +95,11 @@ fn is_context_line(
     Ok(given.as_slice() == canonical.as_slice())
 }
 
-/// What eleven fields say of a context, whatever its words are.
+/// What eleven fields say of a context, whatever its words are and however its numbers are spelled.
 fn context_of(t: u32, fields: &[&[u8]]) -> Option<Context>
     ensures sizes { IfSome result (IsContextOf t) }
-    ensures finds { (set : SetData) (context : Context) → IsContextOf t context → texts fields.now ≡ context_fields set context → result ≡ Some context }
+    ensures finds { (set : SetData) (context : Context) → IsContextOf t context
+        → texts fields.now ≡ context_fields set context → result ≡ Some context }
 {
     let [
         _name,
@@ -116,11 +117,11 @@ fn context_of(t: u32, fields: &[&[u8]]) -> Option<Context>
     else {
         return None;
     };
-    let units = number_of(units, 0, u64::MAX)?;
-    let stints = number_of(stints, 0, u64::MAX)?;
-    let moves = number_of(moves, 0, u64::MAX)?;
+    let units = read_number(units, 0, u64::MAX)?;
+    let stints = read_number(stints, 0, u64::MAX)?;
+    let moves = read_number(moves, 0, u64::MAX)?;
     let last = last_of(last)?;
-    let trail = number_of(trail, 0, u64::MAX)?;
+    let trail = read_number(trail, 0, u64::MAX)?;
     Some(Context {
         task: t,
         units,
@@ -133,11 +134,12 @@ fn context_of(t: u32, fields: &[&[u8]]) -> Option<Context>
 
 /// The last processor, or none for '-'.
 fn last_of(field: &[u8]) -> Option<Option<u8>>
-    ensures { MatchOption result ((last : Option ℕ) → IsLastField field.now last → ⊥) (IsLastField field.now) }
+    ensures sizes { IfSome result (λ last. IfSome last (λ p. p < 64)) }
+    ensures finds { (last : Option ℕ) → IsLastField field.now last → result ≡ Some last }
 {
     if is_word(field, "-") {
         return Some(None);
     }
-    let p = number_of(field, 0, MAX_PROCESSOR)?;
+    let p = read_number(field, 0, MAX_PROCESSOR)?;
     Some(Some(p as u8))
 }
