@@ -29,7 +29,8 @@ use Rattle.link_table.proofs.Start.{IsState-start}
 use Rattle.link_table.proofs.Steps.{step_keeps_state}
 use Rattle.text_fields.specs.EventText.{IsAboutSet}
 use Rattle.schedule_text.proofs.ReplyParts.{no_processors, chain_alone, set_alone, chain_and_set}
-use Rattle.schedule_text.specs.Schedule.{IsRow, IsOfProcessors, HasUnits, HasProcessors, IsContextOf, AreInOrder, IsScheduleSet, IsSchedule}
+use Rattle.schedule_text.specs.Schedule.{IsRow, IsOfProcessors, HasProcessors, IsContextOf, AreInOrder, IsScheduleSet, IsSchedule}
+use Rattle.task_set.specs.Event.{HasUnits}
 use Rattle.event_replay.proofs.LegalNames.{legal_names}
 
 -- a posted entry: its stream is below 16, and a tick has units of the format

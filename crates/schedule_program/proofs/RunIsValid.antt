@@ -6,7 +6,8 @@ use Rattle.link_table.specs.State.{start_of}
 use Rattle.link_table.proofs.Start.{IsState-start}
 use Rattle.reach_certificate.proofs.Kept.{legal_passes}
 use Rattle.trace_reader.specs.declared.posted.Posted.{Posted}
-use Rattle.schedule_text.specs.Schedule.{IsSchedule, IsScheduleSet, HasUnits}
+use Rattle.schedule_text.specs.Schedule.{IsSchedule, IsScheduleSet}
+use Rattle.task_set.specs.Event.{HasUnits}
 use Rattle.schedule_program.proofs.LegalSchedules.{legal_schedule}
 use Rattle.schedule_program.specs.Run.{Replays, IsRunOf}
 use Rattle.schedule_program.proofs.MergedCounts.{merge_length, merge_posted, input_streams, input_priorities}

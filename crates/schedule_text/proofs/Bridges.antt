@@ -16,7 +16,8 @@ use Rattle.link_table.specs.declared.reply.Entry.{Entry}
 use Rattle.text_fields.specs.LineText.{line, task_line}
 use Rattle.text_fields.specs.EventText.{name_of, event_text, IsAboutSet}
 use Rattle.schedule_text.specs.ScheduleText.{chain_text, set_text, somebody_text, number_text, reply_text, entry_line, context_line, IsReplyOf}
-use Rattle.schedule_text.specs.Schedule.{HasUnits, HasProcessors}
+use Rattle.schedule_text.specs.Schedule.{HasProcessors}
+use Rattle.task_set.specs.Event.{HasUnits}
 use Rattle.schedule_text.specs.ScheduleFault.{HasFields, IsTaskForm, IsEntryForm, IsEntryText, IsContextText}
 use Rattle.schedule_text.specs.Reading.{fields_of, task_fields, event_fields, reply_fields, entry_fields, context_fields, IsTaskFields, IsEntryFields, IsSomeEntry}
 use Rattle.schedule_text.proofs.Fields.{split_joined, joined_split}

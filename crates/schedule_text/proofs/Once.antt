@@ -17,7 +17,8 @@ use Rattle.link_table.specs.declared.reply.Reply.TheVariants.{Placed, Displaced,
 use Rattle.link_table.specs.declared.reply.Entry.{Entry}
 use Rattle.text_fields.specs.EventText.{name_of, IsAboutSet}
 use Rattle.schedule_text.specs.ScheduleText.{chain_text, set_text, somebody_text, IsReplyOf}
-use Rattle.schedule_text.specs.Schedule.{IsRow, IsOfProcessors, HasUnits, HasProcessors}
+use Rattle.schedule_text.specs.Schedule.{IsRow, IsOfProcessors, HasProcessors}
+use Rattle.task_set.specs.Event.{HasUnits}
 use Rattle.schedule_text.specs.ScheduleFault.{Progress, HeaderDue, ProcessorsDue, TasksDue, EntriesDue, ContextsDue, Ended, IsFront, IsProcessorsForm, IsTaskForm, IsHistoryForm, IsEntryForm, IsEntryText, IsForm, IsLineFault}
 use Rattle.schedule_text.specs.declared.fault.TextKind.{TextKind}
 use Rattle.schedule_text.specs.declared.fault.TextKind.TheVariants.{BadLine, TaskRefused, UnknownTask, Short, AfterEnd, OutOfMemory}

@@ -23,7 +23,8 @@ use Rattle.link_table.specs.declared.reply.Reply.{Reply}
 use Rattle.link_table.specs.declared.reply.Reply.TheVariants.{Placed, Displaced, Waits, Freed}
 use Rattle.text_fields.specs.EventText.{name_of, IsAboutSet}
 use Rattle.schedule_text.specs.ScheduleText.{chain_text, set_text, somebody_text, number_text, IsReplyOf}
-use Rattle.schedule_text.specs.Schedule.{IsRow, IsOfProcessors, HasUnits, HasProcessors, IsContextOf}
+use Rattle.schedule_text.specs.Schedule.{IsRow, IsOfProcessors, HasProcessors, IsContextOf}
+use Rattle.task_set.specs.Event.{HasUnits}
 use Rattle.schedule_text.specs.ScheduleFault.{IsField, HasFields}
 use Rattle.schedule_text.specs.Reading.{task_fields, event_fields, reply_fields, context_fields}
 use Rattle.text_fields.proofs.Names.{name_bytes}

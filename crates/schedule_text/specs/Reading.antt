@@ -16,7 +16,8 @@ use Rattle.link_table.specs.declared.reply.Reply.TheVariants.{Placed, Displaced,
 use Rattle.link_table.specs.declared.reply.Entry.{Entry}
 use Rattle.text_fields.specs.EventText.{name_of, IsAboutSet}
 use Rattle.schedule_text.specs.ScheduleText.{chain_text, set_text, somebody_text, number_text, header, text_in, IsReplyOf}
-use Rattle.schedule_text.specs.Schedule.{IsRow, IsOfProcessors, HasUnits, HasProcessors, IsScheduled, ScheduleData, IsSchedule}
+use Rattle.schedule_text.specs.Schedule.{IsRow, IsOfProcessors, HasProcessors, IsScheduled, ScheduleData, IsSchedule}
+use Rattle.task_set.specs.Event.{HasUnits}
 use Rattle.schedule_text.specs.ScheduleFault.{Progress, HeaderDue, ProcessorsDue, TasksDue, EntriesDue, ContextsDue, Ended, IsField, IsProcessorsForm, IsTaskForm, IsHistoryForm, HasFields, IsEntryText, IsCountForm, IsContextText, IsRefusedIn}
 use Rattle.schedule_text.specs.declared.fault.TextFault.{TextFault}
 use Rattle.schedule_text.specs.declared.fault.TextKind.{TextKind}

@@ -5,8 +5,7 @@ use Rattle.std.specs.Prelude.{◌≡◌, ℕ, ◌<◌, ◌≤◌, ◌^◌, List,
 use Rattle.affinity_mask.specs.ProcSet.{all_below, Within}
 use Rattle.task_set.specs.TaskSet.{TaskData, SetData, IsTaskSet}
 use Rattle.task_set.specs.declared.context.Context.{Context}
-use Rattle.task_set.specs.declared.event.Event.{Event}
-use Rattle.task_set.specs.declared.event.Event.TheVariants.{Arrive, Depart, Tick}
+use Rattle.task_set.specs.Event.{HasUnits}
 use Rattle.link_table.specs.declared.reply.Reply.{Reply}
 use Rattle.link_table.specs.declared.reply.Entry.{Entry}
 use Rattle.link_table.specs.Reply.{chains_of, sets_of}
@@ -26,12 +25,6 @@ IsRow chain = (length chain ≤ 64) × All (λ p. p < 64) chain
 -- a set of processors
 abbrev pub IsOfProcessors : ℕ → Type 0
 IsOfProcessors X = Within X (all_below 64)
-
--- a tick has from 1 to 1,000,000 units
-abbrev pub HasUnits : Event → Type 0
-HasUnits (Arrive t) = Unit {0}
-HasUnits (Depart t) = Unit {0}
-HasUnits (Tick units) = (1 ≤ units) × (units ≤ 1000000)
 
 -- the chain and the sets of a reply are of processors
 abbrev pub HasProcessors : Reply → Type 0

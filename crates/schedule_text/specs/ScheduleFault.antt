@@ -17,7 +17,8 @@ use Rattle.link_table.specs.declared.reply.Entry.{Entry}
 use Rattle.text_fields.specs.LineText.{line, processors_line, task_line}
 use Rattle.text_fields.specs.EventText.{event_text, IsAboutSet}
 use Rattle.schedule_text.specs.ScheduleText.{reply_text, entry_line, context_line, header, text_in, IsReplyOf}
-use Rattle.schedule_text.specs.Schedule.{ScheduleData, IsOfProcessors, HasUnits, HasProcessors, IsScheduled, IsContextOf, AreInOrder, IsScheduleSet, IsSchedule}
+use Rattle.schedule_text.specs.Schedule.{ScheduleData, IsOfProcessors, HasProcessors, IsScheduled, IsContextOf, AreInOrder, IsScheduleSet, IsSchedule}
+use Rattle.task_set.specs.Event.{HasUnits}
 use Rattle.schedule_text.specs.declared.fault.TextKind.{TextKind}
 use Rattle.schedule_text.specs.declared.fault.TextKind.TheVariants.{BadLine, TaskRefused, UnknownTask, Short, AfterEnd, OutOfMemory}
 

@@ -1,7 +1,8 @@
 -- Events as both texts write them: a task is named by its name, and a number is canonical.
-use Rattle.std.specs.Prelude.{ℕ, ◌<◌, List, [], ◌++◌, length, codes, slice_index_or}
+use Rattle.std.specs.Prelude.{ℕ, List, [], ◌++◌, length, codes, slice_index_or}
 use Rattle.affinity_mask.specs.Number.{canonical_number}
 use Rattle.task_set.specs.TaskSet.{SetData, names}
+use Rattle.task_set.specs.Event.{IsOfTasks}
 use Rattle.task_set.specs.declared.event.Event.{Event}
 use Rattle.task_set.specs.declared.event.Event.TheVariants.{Arrive, Depart, Tick}
 
@@ -11,9 +12,7 @@ name_of set t = slice_index_or (names set) t []
 
 -- the task of the event, where it has one, is of the set
 abbrev pub IsAboutSet : SetData → Event → Type 0
-IsAboutSet set (Arrive t) = t < length set.tasks
-IsAboutSet set (Depart t) = t < length set.tasks
-IsAboutSet set (Tick units) = Unit {0}
+IsAboutSet set event = IsOfTasks (length set.tasks) event
 
 -- an event
 unfoldable pub event_text : SetData → Event → List ℕ

@@ -169,23 +169,23 @@ task-says m most task t =
     (canonical_list task.mask, record { number = canonical_number task.priority; each_field = refl; value = (number-value task.priority small, omega arith, omega (arith, t.priority)) }, mask-list m task.mask most t.mask)
 
 event-line : (set : SetData) (stream : ℕ) (event : Event) → IsTaskSet set → stream < 16 → IsEventOf set event → IsLineOf (canonical_number stream ∷ event_fields set event)
-event-line set stream (Arrive t) lawful few within =
+event-line set stream (Arrive t) lawful few (within, any) =
     let small : stream < 2 ^ 64 = omega (arith, few) in
     three_fields (canonical_number stream) (codes "arrive") (name_of set t) (number-field stream small) (word-field (codes "arrive") refl) (name-field (name_of set t) (name_valid set t lawful within))
     (number-unskipped stream (codes "arrive" ∷ name_of set t ∷ []) small)
-event-line set stream (Depart t) lawful few within =
+event-line set stream (Depart t) lawful few (within, any) =
     let small : stream < 2 ^ 64 = omega (arith, few) in
     three_fields (canonical_number stream) (codes "depart") (name_of set t) (number-field stream small) (word-field (codes "depart") refl) (name-field (name_of set t) (name_valid set t lawful within))
     (number-unskipped stream (codes "depart" ∷ name_of set t ∷ []) small)
-event-line set stream (Tick units) lawful few bounds =
+event-line set stream (Tick units) lawful few (any, bounds) =
     let small : stream < 2 ^ 64 = omega (arith, few) in
     three_fields (canonical_number stream) (codes "tick") (canonical_number units) (number-field stream small) (word-field (codes "tick") refl) (number-field units (omega (arith, bounds.1)))
     (number-unskipped stream (codes "tick" ∷ canonical_number units ∷ []) small)
 
 event-says : (set : SetData) (event : Event) → IsEventOf set event → IsEventFields set (event_fields set event) event
-event-says set (Arrive t) within = (name_of set t, refl, has_name set t within)
-event-says set (Depart t) within = (name_of set t, refl, has_name set t within)
-event-says set (Tick units) bounds = (canonical_number units, refl, (number-value units (omega (arith, bounds.1)), bounds.0, bounds.1))
+event-says set (Arrive t) (within, any) = (name_of set t, refl, has_name set t within)
+event-says set (Depart t) (within, any) = (name_of set t, refl, has_name set t within)
+event-says set (Tick units) (any, bounds) = (canonical_number units, refl, (number-value units (omega (arith, bounds.1)), bounds.0, bounds.1))
 
 posted-says : (set : SetData) (posted : Posted) → IsPostedOf set posted → IsEventLine set (posted_fields set posted) posted
 posted-says set posted p =

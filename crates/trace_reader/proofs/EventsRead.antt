@@ -7,15 +7,16 @@ use Rattle.std.proofs.lemmas.Option.{slice_get_within}
 use Rattle.task_set.specs.TaskSet.{TaskData, SetData, names}
 use Rattle.task_set.specs.declared.event.Event.{Event}
 use Rattle.task_set.specs.declared.event.Event.TheVariants.{Arrive, Depart, Tick}
+use Rattle.text_fields.proofs.NamedTasks.{named_task}
 use Rattle.trace_reader.specs.declared.posted.Posted.{Posted}
 use Rattle.trace_reader.specs.Input.{IsEventOf, IsPostedOf}
 use Rattle.trace_reader.specs.InputText.{IsEventFields, IsEventLine, IsBody}
 use Rattle.trace_reader.specs.InputFault.{Listed, Ended, IsFront}
 
 event_of_fields : (set : SetData) (fields : List (List ℕ)) (event : Event) → IsEventFields set fields event → IsEventOf set event
-event_of_fields set fields (Arrive t) says = let within = slice_get_within (names set) t says.0 says.2 in omega (arith, length-map set.tasks (λ (task : TaskData). task.name))
-event_of_fields set fields (Depart t) says = let within = slice_get_within (names set) t says.0 says.2 in omega (arith, length-map set.tasks (λ (task : TaskData). task.name))
-event_of_fields set fields (Tick units) says = (says.2.1, says.2.2)
+event_of_fields set fields (Arrive t) says = ((named_task set t says.0 says.2).0, tt)
+event_of_fields set fields (Depart t) says = ((named_task set t says.0 says.2).0, tt)
+event_of_fields set fields (Tick units) says = (tt, (says.2.1, says.2.2))
 
 posted_of_line : (set : SetData) (fields : List (List ℕ)) (posted : Posted) → IsEventLine set fields posted → IsPostedOf set posted
 posted_of_line set fields posted says = record { stream = (let fits = says.1.2.2 in omega arith); event = event_of_fields set says.0 posted.event says.2 }

@@ -3,7 +3,7 @@
 use Rattle.std.specs.Prelude.{ℕ, ◌<◌, ◌≤◌, List, length, All}
 use Rattle.task_set.specs.TaskSet.{SetData, IsTaskSet}
 use Rattle.task_set.specs.declared.event.Event.{Event}
-use Rattle.task_set.specs.declared.event.Event.TheVariants.{Arrive, Depart, Tick}
+use Rattle.task_set.specs.Event.{IsOfTasks, HasUnits}
 use Rattle.trace_reader.specs.declared.posted.Posted.{Posted}
 use Rattle.trace_reader.specs.declared.input.Input.TheInside.{Inside}
 
@@ -12,11 +12,9 @@ pub record InputData : Type 0 where
   pub set : SetData
   pub events : List Posted
 
--- the event is of a task of the set, or a tick of so many units
+-- the event is of a task of the set, or a tick, of so many units
 abbrev pub IsEventOf : SetData → Event → Type 0
-IsEventOf set (Arrive t) = t < length set.tasks
-IsEventOf set (Depart t) = t < length set.tasks
-IsEventOf set (Tick units) = (1 ≤ units) × (units ≤ 1000000)
+IsEventOf set event = IsOfTasks (length set.tasks) event × HasUnits event
 
 -- the stream is one of the 16, and the event is of the set
 pub record IsPostedOf (set : SetData) (posted : Posted) : Type 0 where
