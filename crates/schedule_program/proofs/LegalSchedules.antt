@@ -29,7 +29,7 @@ use Rattle.link_table.proofs.Start.{IsState-start}
 use Rattle.link_table.proofs.Steps.{step_keeps_state}
 use Rattle.text_fields.specs.EventText.{IsAboutSet}
 use Rattle.schedule_text.proofs.ReplyParts.{no_processors, chain_alone, set_alone, chain_and_set}
-use Rattle.schedule_text.specs.Schedule.{IsRow, IsOfProcessors, HasProcessors, IsContextOf, AreInOrder, IsScheduleSet, IsSchedule}
+use Rattle.schedule_text.specs.Schedule.{IsProcessorList, IsOfProcessors, HasProcessors, IsContextOf, AreInOrder, IsScheduleSet, IsSchedule}
 use Rattle.task_set.specs.Event.{HasUnits}
 use Rattle.event_replay.proofs.LegalNames.{legal_names}
 
@@ -62,7 +62,7 @@ module _ (s : State) (ok : IsState s) where
   reach_below : (t reach : ℕ) → IsReach s t reach → IsOfProcessors reach
   reach_below t reach reached = set_below reach (λ p inside. online_below p (Reaches-online s t p ((reached p).0 inside)))
 
-  chain_row : (t : ℕ) (chain : List ℕ) (q : ℕ) → IsChainOf s t chain q → length chain ≤ 64 → IsRow chain
+  chain_row : (t : ℕ) (chain : List ℕ) (q : ℕ) → IsChainOf s t chain q → length chain ≤ 64 → IsProcessorList chain
   chain_row t chain q is_chain fits = (fits, All-from_get_or IsPlace chain 0 (λ i within. place_below (get_or chain i 0) (chain_below s ok t chain q is_chain i within)))
 
   -- behind its first processor, a back chain comes to occupied ones alone
@@ -70,7 +70,7 @@ module _ (s : State) (ok : IsState s) where
   back_walk p [] q path = All-nil IsPlace
   back_walk p (r ∷ rest) q path = All-cons IsPlace r rest (place_below r (occupied_number s r path.0.0 ok path.0.1)) (back_walk r rest q path.1)
 
-  back_row : (p : ℕ) (chain : List ℕ) (q : ℕ) → p < s.processors → IsBackChain s p chain q → length chain ≤ 64 → IsRow chain
+  back_row : (p : ℕ) (chain : List ℕ) (q : ℕ) → p < s.processors → IsBackChain s p chain q → length chain ≤ 64 → IsProcessorList chain
   back_row p [] q number is_back fits = absurd is_back
   back_row p (first ∷ rest) q number is_back fits = (fits, All-cons IsPlace first rest (rw is_back.0 (place_below p number)) (back_walk p rest q is_back.1))
 
@@ -86,7 +86,7 @@ module _ (s : State) (ok : IsState s) where
   back_below p back number reached = set_below back (λ q inside. let chain = (reached q).0 inside in back_chain_end p chain.0 q number chain.1)
 
   -- the chain of a freed processor: that processor alone where nobody enters, else the least back chain
-  entered_row : (p : ℕ) (entered : Option ℕ) (chain : List ℕ) (back : ℕ) (new : State) → p < s.processors → EnterStep s p entered chain back new → IsRow chain
+  entered_row : (p : ℕ) (entered : Option ℕ) (chain : List ℕ) (back : ℕ) (new : State) → p < s.processors → EnterStep s p entered chain back new → IsProcessorList chain
   entered_row p None chain back new number step = rw step.1 (omega arith, All-cons IsPlace p [] (place_below p number) (All-nil IsPlace))
   entered_row p (Some w) chain back new number step = back_row p chain step.1.itself.0 number step.1.itself.1 ((least_back_chain s p w ok number).fits chain step.1)
 
@@ -190,12 +190,12 @@ legal_schedule set history tasks few posted legal =
     let start = start_of set in
     let same : task_count start ≡ length set.tasks = length-map set.tasks (λ (task : TaskData). task.priority) in
     let about = about_from set start history same legal in
-    let named = legal_names set history tasks.lawful legal in
-    let of_processors = processors_from start history (IsState-start set tasks.lawful) legal in
+    let named = legal_names set history tasks.valid legal in
+    let of_processors = processors_from start history (IsState-start set tasks.valid) legal in
     record {
       tasks = tasks;
       few = few;
       each_entry = λ k d within. record { caller = (posted k d within).0; tasks = record { event = about k d within; reply = named k d within }; units = (posted k d within).1; processors = of_processors k d within };
       one_each = length-map-range_with_len (context_of start history) 0 (length set.tasks);
-      in_order = contexts_in_order start history (length set.tasks) tasks.lawful.processors.1 tasks.lawful.count;
+      in_order = contexts_in_order start history (length set.tasks) tasks.valid.processors.1 tasks.valid.count;
     }

@@ -14,8 +14,8 @@ use Rattle.affinity_mask.proofs.TextCases.{text_list_or_fault}
 use Rattle.text_fields.specs.Number.{IsNumberWithin}
 use Rattle.text_fields.proofs.Decisions.{bytes_decided, number_within_decided}
 use Rattle.schedule_text.specs.Schedule.{IsOfProcessors}
-use Rattle.schedule_text.specs.ScheduleFault.{IsField}
-use Rattle.schedule_text.specs.Reading.{links_of, IsNumberField, IsListField, IsSetField, IsChainField, IsRowOf, IsLastField}
+use Rattle.schedule_text.specs.LineForms.{IsField}
+use Rattle.schedule_text.specs.Fields.{links_of, IsNumberField, IsListField, IsSetField, IsChainField, AreProcessorFields, IsLastField}
 use Rattle.text_fields.proofs.Words.{head_same, tail_same}
 use Rattle.schedule_text.proofs.Fields.{number_none, number_differs, list_refused, list_differs, list_read, set_empty, set_read, set_none}
 use Rattle.schedule_text.proofs.Chains.{chain_empty, chain_read, chain_none}
@@ -50,7 +50,8 @@ field_decided bytes = elim (bytes_decided bytes []) [
 -- ---- numbers
 
 -- a field is a canonical number within bounds, or none
-pub number_field_decided : (least most : ℕ) (field : List ℕ) → most < 2 ^ 64 → ((n : ℕ) × IsNumberField least most field n) ⊎ ((n : ℕ) → IsNumberField least most field n → ⊥)
+pub number_field_decided : (least most : ℕ) (field : List ℕ) → most < 2 ^ 64
+    → ((n : ℕ) × IsNumberField least most field n) ⊎ ((n : ℕ) → IsNumberField least most field n → ⊥)
 number_field_decided least most field small = elim (number_within_decided least most field) [
   | inr none ↦ inr (number_none least most field small none)
   | inl found ↦ elim (bytes_decided (canonical_number found.0) field) [
@@ -91,12 +92,19 @@ set_field_decided field = elim (bytes_decided field (codes "-")) [
 ]
 
 -- some fields are processors, or not
-processors_decided : (fields : List (List ℕ)) → ((row : List ℕ) × All (λ (p : ℕ). p < 64) row × (fields ≡ map canonical_number row)) ⊎ ((row : List ℕ) → All (λ (p : ℕ). p < 64) row → fields ≡ map canonical_number row → ⊥)
+processors_decided : (fields : List (List ℕ))
+    → ((list : List ℕ) × All (λ (p : ℕ). p < 64) list × (fields ≡ map canonical_number list))
+    ⊎ ((list : List ℕ) → All (λ (p : ℕ). p < 64) list → fields ≡ map canonical_number list → ⊥)
 processors_decided [] = inl ([], All-nil (λ (p : ℕ). p < 64), refl)
 processors_decided (field ∷ fields) = elim (number_field_decided 0 63 field (lit< tt)) [
   | inr none ↦ inr (first_none none)
   | inl found ↦ elim (processors_decided fields) [
-    | inl rest ↦ inl (found.0 ∷ rest.0, All-cons (λ (p : ℕ). p < 64) found.0 rest.0 (let high = found.1.range.1 in omega arith) rest.1, two_same found.1.is_text rest.2)
+    | inl rest ↦ inl (
+      found.0 ∷ rest.0,
+      All-cons (λ (p : ℕ). p <
+          64) found.0 rest.0 (let high = found.1.range.1 in omega arith) rest.1,
+      two_same found.1.is_text rest.2,
+    )
     | inr none ↦ inr (rest_none none)
   ]
 ]
@@ -104,43 +112,68 @@ processors_decided (field ∷ fields) = elim (number_field_decided 0 63 field (l
     two_same : {a b : List ℕ} {xs ys : List (List ℕ)} → a ≡ b → xs ≡ ys → a ∷ xs ≡ b ∷ ys
     two_same one two = cc
 
-    first_none : ((n : ℕ) → IsNumberField 0 63 field n → ⊥) → (row : List ℕ) → All (λ (p : ℕ). p < 64) row → field ∷ fields ≡ map canonical_number row → ⊥
+    first_none : ((n : ℕ) → IsNumberField 0 63 field n → ⊥) → (list : List ℕ) → All (λ (p : ℕ). p < 64) list
+        → field ∷ fields ≡ map canonical_number list → ⊥
     first_none none [] all e = cc
-    first_none none (p ∷ row) all e = let small : p < 64 = All-head (λ (p : ℕ). p < 64) p row all in none p (record { range = (omega arith, omega arith); is_text = head_same e })
+    first_none none (p ∷ list) all e =
+        let small : p < 64 = All-head (λ (p : ℕ). p < 64) p list all in
+        none p (record { range = (omega arith, omega arith); is_text = head_same e })
 
-    rest_none : ((row : List ℕ) → All (λ (p : ℕ). p < 64) row → fields ≡ map canonical_number row → ⊥) → (row : List ℕ) → All (λ (p : ℕ). p < 64) row → field ∷ fields ≡ map canonical_number row → ⊥
+    rest_none : ((list : List ℕ) → All (λ (p : ℕ). p < 64) list → fields ≡ map canonical_number list → ⊥)
+        → (list : List ℕ) → All (λ (p : ℕ). p < 64) list → field ∷ fields ≡ map canonical_number list → ⊥
     rest_none none [] all e = cc
-    rest_none none (p ∷ row) all e = none row (All-tail (λ (p : ℕ). p < 64) p row all) (tail_same e)
+    rest_none none (p ∷ list) all e = none list (All-tail (λ (p : ℕ). p < 64) p list all) (tail_same e)
 
-row_decided : (fields : List (List ℕ)) → ((row : List ℕ) × IsRowOf fields row) ⊎ ((row : List ℕ) → IsRowOf fields row → ⊥)
-row_decided fields = elim (processors_decided fields) [
-  | inr none ↦ inr (λ row f. none row f.row.1 f.each_field)
+processor_list_decided : (fields : List (List ℕ)) → ((list : List ℕ) × AreProcessorFields fields list)
+    ⊎ ((list : List ℕ) → AreProcessorFields fields list → ⊥)
+processor_list_decided fields = elim (processors_decided fields) [
+  | inr none ↦ inr (λ list f. none list f.list.1 f.each_field)
   | inl found ↦ elim (cases_lt 64 (length fields)) [
-    | inl long ↦ inr (λ row f. let few : length row ≤ 64 = f.row.0 in let count : length fields ≡ length row = ap length f.each_field ∙ length-map row canonical_number in omega arith)
-    | inr short ↦ inl (found.0, record { row = (let count : length fields ≡ length found.0 = ap length found.2 ∙ length-map found.0 canonical_number in omega arith, found.1); each_field = found.2 })
+    | inl long ↦ inr (λ list f. let few : length list ≤ 64 = f.list.0 in let count : length fields
+        ≡ length list = ap length f.each_field ∙ length-map list canonical_number in omega arith)
+    | inr short ↦ inl (
+      found.0,
+      record {
+        list = (
+          let count : length fields ≡ length found.0 = ap length found.2
+              ∙ length-map found.0 canonical_number in omega arith,
+          found.1,
+        );
+        each_field = found.2;
+      },
+    )
   ]
 ]
 
-pub chain_field_decided : (field : List ℕ) → ((chain : List ℕ) × IsChainField field chain) ⊎ ((chain : List ℕ) → IsChainField field chain → ⊥)
+pub chain_field_decided : (field : List ℕ) → ((chain : List ℕ) × IsChainField field chain)
+    ⊎ ((chain : List ℕ) → IsChainField field chain → ⊥)
 chain_field_decided field = elim (bytes_decided field (codes "-")) [
   | inl dash ↦ inl ([], chain_empty field [] refl dash)
-  | inr no_dash ↦ elim (row_decided (links_of field)) [
+  | inr no_dash ↦ elim (processor_list_decided (links_of field)) [
     | inl found ↦ inl (found.0, chain_read field (links_of field) found.0 refl found.1)
     | inr none ↦ inr (chain_none field (links_of field) no_dash refl none)
   ]
 ]
 
-pub last_field_decided : (field : List ℕ) → ((last : Option ℕ) × IsLastField field last) ⊎ ((last : Option ℕ) → IsLastField field last → ⊥)
+pub last_field_decided : (field : List ℕ) → ((last : Option ℕ) × IsLastField field last)
+    ⊎ ((last : Option ℕ) → IsLastField field last → ⊥)
 last_field_decided field = elim (bytes_decided field (codes "-")) [
   | inl dash ↦ inl (None, record { processor = tt; is_text = dash })
   | inr no_dash ↦ elim (number_field_decided 0 63 field (lit< tt)) [
-    | inl found ↦ inl (Some found.0, record { processor = (let high = found.1.range.1 in omega arith); is_text = found.1.is_text })
+    | inl found ↦ inl (
+      Some found.0,
+      record
+          { processor = (let high = found.1.range.1 in omega arith); is_text = found.1.is_text },
+    )
     | inr none ↦ inr (neither no_dash none)
   ]
 ]
   where
-    neither : (field ≢ codes "-") → ((n : ℕ) → IsNumberField 0 63 field n → ⊥) → (last : Option ℕ) → IsLastField field last → ⊥
+    neither : (field ≢ codes "-") → ((n : ℕ) → IsNumberField 0 63 field n → ⊥) → (last : Option ℕ)
+        → IsLastField field last → ⊥
     neither no_dash none None f = no_dash f.is_text
-    neither no_dash none (Some p) f = let below : p < 64 = f.processor in none p (record { range = (omega arith, omega arith); is_text = f.is_text })
+    neither no_dash none (Some p) f =
+        let below : p < 64 = f.processor in
+        none p (record { range = (omega arith, omega arith); is_text = f.is_text })
 
 -- ---- tasks

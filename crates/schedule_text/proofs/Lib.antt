@@ -12,7 +12,7 @@ mod Contexts
 mod Spaces
 mod Bridges
 mod Stages
-mod Fronts
+mod Prefixes
 mod Once
 mod Paths
 mod OneSchedule

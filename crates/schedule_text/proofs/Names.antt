@@ -11,7 +11,7 @@ use Rattle.task_set.specs.Refusal.{IsNewName, IsNameOf}
 use Rattle.text_fields.specs.EventText.{name_of}
 use Rattle.text_fields.proofs.Names.{name_without}
 use Rattle.text_fields.proofs.NamedTasks.{no_task, name_at}
-use Rattle.schedule_text.specs.ScheduleFault.{IsField, HasFields}
+use Rattle.schedule_text.specs.LineForms.{IsField, HasFields}
 
 name_some : (name : List ℕ) → IsName name → name ≢ []
 name_some [] named e = named
@@ -19,23 +19,33 @@ name_some (x ∷ xs) named e = cc
 
 -- a name is a field, and is not '-'
 pub name_field : (name : List ℕ) → IsName name → IsField name
-name_field name named = record { some = name_some name named; no_space = name_without name 32 refl named; no_tab = name_without name 9 refl named }
+name_field name named =
+    record {
+      some = name_some name named;
+      no_space = name_without name 32 refl named;
+      no_tab = name_without name
+          9 refl named;
+    }
 
 pub name_no_dash : (name : List ℕ) → IsName name → name ≢ codes "-"
 name_no_dash [] named e = cc
 name_no_dash (x ∷ xs) named e = let dash : x ≡ 45 = cc in true≢false (sym named.1 ∙ ap begins_name dash)
 
--- the names of a lawful set are fields
+-- the names of a valid set are fields
 pub set_fields : (set : SetData) → IsTaskSet set → HasFields set
-set_fields set lawful = All-weaker (λ (task : TaskData). IsName task.name) (λ (task : TaskData). IsField task.name) (λ task named. name_field task.name named) set.tasks lawful.names
+set_fields set valid =
+    All-weaker (λ (task : TaskData). IsName task.name) (λ (task : TaskData). IsField task.name)
+    (λ task named. name_field task.name named) set.tasks valid.names
 
 -- each name of a set of fields is one
 pub name_of_field : (set : SetData) (t : ℕ) → HasFields set → t < length set.tasks → IsField (name_of set t)
 name_of_field set t fields within = subst IsField (sym (name_at set t within)) (fields t no_task within)
 
--- no name of a lawful set is '-'
+-- no name of a valid set is '-'
 pub name_of_no_dash : (set : SetData) (t : ℕ) → IsTaskSet set → t < length set.tasks → name_of set t ≢ codes "-"
-name_of_no_dash set t lawful within = subst (λ (name : List ℕ). name ≢ codes "-") (sym (name_at set t within)) (name_no_dash (get_or set.tasks t no_task).name (lawful.names t no_task within))
+name_of_no_dash set t valid within =
+    subst (λ (name : List ℕ). name ≢ codes "-") (sym (name_at set t within))
+    (name_no_dash (get_or set.tasks t no_task).name (valid.names t no_task within))
 
 -- one task alone, of any name
 pub alone : List ℕ → SetData
@@ -43,7 +53,9 @@ alone name = record { processors = 1; tasks = record { name = name; priority = 0
 
 pub alone_fields : (name : List ℕ) → IsField name → HasFields (alone name)
 unfolding alone
-alone_fields name field = All-cons (λ (task : TaskData). IsField task.name) (record { name = name; priority = 0; mask = 0 }) [] field (λ k d within. absurd (omega (arith, within)))
+alone_fields name field =
+    All-cons (λ (task : TaskData). IsField task.name) (record { name = name; priority = 0; mask = 0 }) [] field
+    (λ k d within. absurd (omega (arith, within)))
 
 pub alone_named : (name : List ℕ) → name ≡ name_of (alone name) 0
 unfolding alone

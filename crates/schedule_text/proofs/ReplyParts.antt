@@ -3,7 +3,7 @@ use Rattle.std.proofs.Common.{ℕ, ◌<◌, List, [], ◌∷◌, length, All, Op
 use Rattle.std.specs.List.{cons_option}
 use Rattle.std.proofs.lemmas.List.Elements.{All-nil, All-cons, All-head}
 use Rattle.task_set.specs.TaskSet.{SetData}
-use Rattle.schedule_text.specs.Schedule.{IsRow, IsOfProcessors}
+use Rattle.schedule_text.specs.Schedule.{IsProcessorList, IsOfProcessors}
 
 one : {A : Type 0} (P : A → Type 0) (x : A) → P x → All P (x ∷ [])
 one P x here = All-cons P x [] here (All-nil P)
@@ -36,23 +36,23 @@ the_somebody set (Some t) all = the_task set t all
 -- ---- its chain and its set
 
 abbrev HaveProcessors : List (List ℕ) → List ℕ → Type 0
-HaveProcessors chains sets = All IsRow chains × All IsOfProcessors sets
+HaveProcessors chains sets = All IsProcessorList chains × All IsOfProcessors sets
 
 pub no_processors : HaveProcessors [] []
-no_processors = (All-nil IsRow, All-nil IsOfProcessors)
+no_processors = (All-nil IsProcessorList, All-nil IsOfProcessors)
 
-pub chain_alone : (chain : List ℕ) → IsRow chain → HaveProcessors (chain ∷ []) []
-chain_alone chain row = (one IsRow chain row, All-nil IsOfProcessors)
+pub chain_alone : (chain : List ℕ) → IsProcessorList chain → HaveProcessors (chain ∷ []) []
+chain_alone chain list = (one IsProcessorList chain list, All-nil IsOfProcessors)
 
 pub set_alone : (X : ℕ) → IsOfProcessors X → HaveProcessors [] (X ∷ [])
-set_alone X processors = (All-nil IsRow, one IsOfProcessors X processors)
+set_alone X processors = (All-nil IsProcessorList, one IsOfProcessors X processors)
 
-pub chain_and_set : (chain : List ℕ) (X : ℕ) → IsRow chain → IsOfProcessors X
+pub chain_and_set : (chain : List ℕ) (X : ℕ) → IsProcessorList chain → IsOfProcessors X
     → HaveProcessors (chain ∷ []) (X ∷ [])
-chain_and_set chain X row processors = (one IsRow chain row, one IsOfProcessors X processors)
+chain_and_set chain X list processors = (one IsProcessorList chain list, one IsOfProcessors X processors)
 
-pub the_chain : (chain : List ℕ) (sets : List ℕ) → HaveProcessors (chain ∷ []) sets → IsRow chain
-the_chain chain sets has = All-head IsRow chain [] has.0
+pub the_chain : (chain : List ℕ) (sets : List ℕ) → HaveProcessors (chain ∷ []) sets → IsProcessorList chain
+the_chain chain sets has = All-head IsProcessorList chain [] has.0
 
 pub the_set : (chains : List (List ℕ)) (X : ℕ) → HaveProcessors chains (X ∷ []) → IsOfProcessors X
 the_set chains X has = All-head IsOfProcessors X [] has.1

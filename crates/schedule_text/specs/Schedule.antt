@@ -1,4 +1,4 @@
--- Schedules. What a reader must believe: a schedule is a lawful set of tasks, at most 20,000 entries and one context for
+-- Schedules. A schedule is a valid set of tasks, at most 20,000 entries and one context for
 -- each task, in the order of the tasks; each entry is on a stream below 16, a tick has from 1 to 1,000,000 units, the
 -- tasks that it names are of the set, and its chain and its sets are of processors below 64.
 use Rattle.std.specs.Prelude.{◌≡◌, ℕ, ◌<◌, ◌≤◌, ◌^◌, List, length, All, IfSome, slice_index_or}
@@ -18,9 +18,9 @@ pub record ScheduleData : Type 0 where
   pub entries : List Entry
   pub contexts : List Context
 
--- at most 64 processors in a row
-abbrev pub IsRow : List ℕ → Type 0
-IsRow chain = (length chain ≤ 64) × All (λ p. p < 64) chain
+-- at most 64 processors in a list
+abbrev pub IsProcessorList : List ℕ → Type 0
+IsProcessorList chain = (length chain ≤ 64) × All (λ p. p < 64) chain
 
 -- a set of processors
 abbrev pub IsOfProcessors : ℕ → Type 0
@@ -28,7 +28,7 @@ IsOfProcessors X = Within X (all_below 64)
 
 -- the chain and the sets of a reply are of processors
 abbrev pub HasProcessors : Reply → Type 0
-HasProcessors reply = All IsRow (chains_of reply) × All IsOfProcessors (sets_of reply)
+HasProcessors reply = All IsProcessorList (chains_of reply) × All IsOfProcessors (sets_of reply)
 
 -- an entry of tasks of the set, with the numbers of the format
 pub record IsScheduled (set : SetData) (entry : Entry) : Type 0 where
@@ -48,11 +48,13 @@ pub record IsContextOf (t : ℕ) (context : Context) : Type 0 where
 
 -- each context is that of the task whose number is its place
 abbrev pub AreInOrder : List Context → Type 0
-AreInOrder contexts = (t : ℕ) (context : Context) → t < length contexts → IsContextOf t (slice_index_or contexts t context)
+AreInOrder contexts =
+    (t : ℕ) (context : Context) → t < length contexts
+    → IsContextOf t (slice_index_or contexts t context)
 
 -- tasks with the priorities of the format
 pub record IsScheduleSet (set : SetData) : Type 0 where
-  pub lawful : IsTaskSet set
+  pub valid : IsTaskSet set
   pub priorities : All (λ (task : TaskData). task.priority < 2 ^ 32) set.tasks
 
 -- what holds of each schedule

@@ -1,7 +1,8 @@
 //! The lines of entries.
 ghost use Rattle.std.specs.Prelude.{◌≡◌, ◌⊎◌, ◌∷◌, [], IfOk, IfErr};
 ghost use Rattle.text_fields.specs.Fields.{texts};
-ghost use Rattle.schedule_text.specs.Reading.{IsEventFields, IsEventFault, IsEntryFields, IsEntryFault, IsOutOfMemory};
+ghost use Rattle.schedule_text.specs.Reading.{IsOutOfMemory};
+ghost use Rattle.schedule_text.specs.LineFields.{IsEventFields, IsEventFault, IsEntryFields, IsEntryFault};
 
 use crate::fault::TextKind;
 use crate::field::{known_task, number_of};
@@ -15,9 +16,10 @@ use text_fields::limits::{MAX_STREAM, MAX_UNITS};
 /// The entry of some fields.
 pub fn read_entry(alloc: Global, set: &TaskSet, fields: &[&[u8]]) -> Result<Entry, TextKind>
     ensures read { IfOk result (IsEntryFields set.now (texts fields.now)) }
-    ensures refused { IfErr result (λ kind. IsOutOfMemory kind ⊎ IsEntryFault set.now (texts fields.now) kind) }
+    ensures refused { IfErr result (λ kind. IsOutOfMemory kind
+        ⊎ IsEntryFault set.now (texts fields.now) kind) }
 {
-    let _lawful = set.len();
+    let _valid = set.len();
     let [number, word, value, rest @ ..] = fields else {
         return Err(TextKind::BadLine);
     };
@@ -34,7 +36,7 @@ pub fn read_entry(alloc: Global, set: &TaskSet, fields: &[&[u8]]) -> Result<Entr
             })
         }
         Err(TextKind::UnknownTask) => {
-            // A reply that is of no form is told first.
+            // A reply that is of no form is reported first.
             let _known = read_reply(alloc, set, rest)?;
             Err(TextKind::UnknownTask)
         }

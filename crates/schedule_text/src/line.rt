@@ -7,12 +7,14 @@ ghost use Rattle.text_fields.specs.LineText.{line};
 ghost use Rattle.schedule_text.specs.ScheduleText.{context_line};
 ghost use Rattle.schedule_text.specs.Schedule.{IsContextOf};
 ghost use Rattle.affinity_mask.specs.Number.{canonical_number};
-ghost use Rattle.schedule_text.specs.ScheduleFault.{IsContextText};
-ghost use Rattle.schedule_text.specs.Reading.{context_fields, IsLastField, IsAdded, IsTaskFault, IsOutOfMemory};
+ghost use Rattle.schedule_text.specs.LineForms.{IsContextText};
+ghost use Rattle.schedule_text.specs.Reading.{IsOutOfMemory};
+ghost use Rattle.schedule_text.specs.LineFields.{context_fields, IsAdded, IsTaskFault};
+ghost use Rattle.schedule_text.specs.Fields.{IsLastField};
 ghost use Rattle.schedule_text.specs.declared.fault.TextKind.TheVariants.{BadLine};
 
 use crate::fault::TextKind;
-use crate::field::{fields, is_field, list_of, number_of};
+use crate::field::{is_field, list_of, number_of, spaced_fields};
 use crate::write::write_context;
 use affinity_mask::OutOfMemory;
 use std::alloc::Global;
@@ -24,7 +26,8 @@ use text_fields::{is_word, read_number, write_number};
 /// Adds the task of some fields.
 pub fn add_task(alloc: Global, set: &mut TaskSet, fields: &[&[u8]]) -> Result<(), TextKind>
     ensures read { OnOk result (IsAdded (texts fields.now) set.old set.new) }
-    ensures refused { IfErr result (λ kind. IsOutOfMemory kind ⊎ IsTaskFault set.old (texts fields.now) kind) }
+    ensures refused { IfErr result (λ kind. IsOutOfMemory kind
+        ⊎ IsTaskFault set.old (texts fields.now) kind) }
 {
     let [word, name, number, list] = fields else {
         return Err(TextKind::BadLine);
@@ -63,10 +66,12 @@ pub fn is_numbered(
 pub fn read_context(alloc: Global, set: &TaskSet, t: u32, text: &[u8]) -> Result<Context, TextKind>
     requires { t < length set.now.tasks }
     ensures read { IfOk result (IsContextText set.now t text.now) }
-    ensures refused { IfErr result (λ kind. IsOutOfMemory kind ⊎ ((kind ≡ BadLine) × ((context : Context) → IsContextText set.now t text.now context → ⊥))) }
+    ensures refused { IfErr result (λ kind. IsOutOfMemory kind
+        ⊎ ((kind ≡ BadLine)
+        × ((context : Context) → IsContextText set.now t text.now context → ⊥))) }
 {
-    let _lawful = set.len();
-    let fields = fields(alloc, text)?;
+    let _valid = set.len();
+    let fields = spaced_fields(alloc, text)?;
     let Some(context) = context_of(t, &fields) else {
         return Err(TextKind::BadLine);
     };

@@ -32,8 +32,17 @@ impl Schedule {
 
     /// A schedule of these parts, which are those of a schedule.
     pub(crate) fn new(set: TaskSet, entries: Vec<Entry>, contexts: Vec<Context>) -> Schedule
-        requires { IsSchedule (record { set = set; entries = entries.items; contexts = contexts.items }) }
-        ensures { result ≡ record { set = set; entries = entries.items; contexts = contexts.items } }
+        requires { IsSchedule (record {
+          set = set;
+          entries = entries.items;
+          contexts =
+              contexts.items;
+        }) }
+        ensures { result ≡ record {
+          set = set;
+          entries = entries.items;
+          contexts = contexts.items;
+        } }
     {
         Schedule {
             set,

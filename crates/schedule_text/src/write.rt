@@ -28,7 +28,7 @@ use text_fields::{
 };
 
 /// The text of a schedule: a task set, the entries of a history, and the contexts of the tasks. The tasks that they
-/// name are of the set. Refused only for want of memory.
+/// name are of the set. Refused only when out of memory.
 pub fn write_schedule(
     alloc: Global,
     set: &TaskSet,
@@ -51,9 +51,11 @@ pub fn write_schedule(
     Ok(text)
 }
 
+/// Appends the lines of entries.
 fn write_entries(text: &mut Vec<u8>, set: &TaskSet, entries: &[Entry]) -> Result<(), OutOfMemory>
     requires { All (IsEntryOf set.now) entries.now }
-    ensures { OnOk result (text.new.items ≡ text.old.items ++ flat_map (entry_line set.now) entries.now) }
+    ensures { OnOk result (text.new.items ≡ text.old.items
+        ++ flat_map (entry_line set.now) entries.now) }
 {
     for entry in entries {
         write_entry(text, set, entry)?;
@@ -61,6 +63,7 @@ fn write_entries(text: &mut Vec<u8>, set: &TaskSet, entries: &[Entry]) -> Result
     Ok(())
 }
 
+/// Appends the line of an entry: its stream, its event and its reply.
 fn write_entry(text: &mut Vec<u8>, set: &TaskSet, entry: &Entry) -> Result<(), OutOfMemory>
     requires { IsEntryOf set.now entry.now }
     ensures { OnOk result (text.new.items ≡ text.old.items ++ entry_line set.now entry.now) }
@@ -74,6 +77,7 @@ fn write_entry(text: &mut Vec<u8>, set: &TaskSet, entry: &Entry) -> Result<(), O
     Ok(())
 }
 
+/// Appends a reply.
 #[tactic(auto, unfolding(crate::specs::ScheduleText::reply_text))]
 fn write_reply(text: &mut Vec<u8>, set: &TaskSet, reply: &Reply) -> Result<(), OutOfMemory>
     requires { IsReplyOf set.now reply.now }
@@ -95,13 +99,16 @@ fn write_reply(text: &mut Vec<u8>, set: &TaskSet, reply: &Reply) -> Result<(), O
     }
 }
 
+/// Appends the reply that a task was placed along a chain.
 fn write_placed(text: &mut Vec<u8>, chain: &Chain) -> Result<(), OutOfMemory>
-    ensures { OnOk result (text.new.items ≡ text.old.items ++ (codes "placed " ++ chain_text chain.now)) }
+    ensures { OnOk result (text.new.items ≡ text.old.items
+        ++ (codes "placed " ++ chain_text chain.now)) }
 {
     write_word(text, b"placed ")?;
     write_chain(text, chain)
 }
 
+/// Appends the reply that a task was displaced at the end of a chain, with what the arriving task reaches.
 fn write_displaced(
     text: &mut Vec<u8>,
     set: &TaskSet,
@@ -110,7 +117,8 @@ fn write_displaced(
     reach: &ProcSet,
 ) -> Result<(), OutOfMemory>
     requires { out < length set.now.tasks }
-    ensures { OnOk result (text.new.items ≡ text.old.items ++ reply_text set.now (Displaced chain.now out reach.now)) }
+    ensures { OnOk result (text.new.items ≡ text.old.items
+        ++ reply_text set.now (Displaced chain.now out reach.now)) }
 {
     write_word(text, b"displaced ")?;
     write_chain(text, chain)?;
@@ -120,13 +128,16 @@ fn write_displaced(
     write_set(text, reach)
 }
 
+/// Appends the reply that a task waits, with what it reaches.
 fn write_waits(text: &mut Vec<u8>, reach: &ProcSet) -> Result<(), OutOfMemory>
-    ensures { OnOk result (text.new.items ≡ text.old.items ++ (codes "waits " ++ set_text reach.now)) }
+    ensures { OnOk result (text.new.items ≡ text.old.items
+        ++ (codes "waits " ++ set_text reach.now)) }
 {
     write_word(text, b"waits ")?;
     write_set(text, reach)
 }
 
+/// Appends the reply that a processor was freed: the chain, who came in, and the processors from which it is reached.
 fn write_freed(
     text: &mut Vec<u8>,
     set: &TaskSet,
@@ -135,7 +146,8 @@ fn write_freed(
     back: &ProcSet,
 ) -> Result<(), OutOfMemory>
     requires { IfSome entered (λ t. t < length set.now.tasks) }
-    ensures { OnOk result (text.new.items ≡ text.old.items ++ reply_text set.now (Freed entered chain.now back.now)) }
+    ensures { OnOk result (text.new.items ≡ text.old.items
+        ++ reply_text set.now (Freed entered chain.now back.now)) }
 {
     write_word(text, b"freed ")?;
     write_chain(text, chain)?;
@@ -181,13 +193,15 @@ fn write_name_or_dash(text: &mut Vec<u8>, set: &TaskSet, t: Option<u32>) -> Resu
     }
 }
 
+/// Appends the lines of contexts.
 fn write_contexts(
     text: &mut Vec<u8>,
     set: &TaskSet,
     contexts: &[Context],
 ) -> Result<(), OutOfMemory>
     requires { All (λ c. c.task < length set.now.tasks) contexts.now }
-    ensures { OnOk result (text.new.items ≡ text.old.items ++ flat_map (context_line set.now) contexts.now) }
+    ensures { OnOk result (text.new.items ≡ text.old.items
+        ++ flat_map (context_line set.now) contexts.now) }
 {
     for context in contexts {
         write_context(text, set, context)?;
@@ -195,7 +209,7 @@ fn write_contexts(
     Ok(())
 }
 
-/// Appends the line of a context, whose task is of the set. Refused only for want of memory.
+/// Appends the line of a context, whose task is of the set. Refused only when out of memory.
 pub(crate) fn write_context(
     text: &mut Vec<u8>,
     set: &TaskSet,
@@ -235,13 +249,16 @@ fn write_numbered_line(text: &mut Vec<u8>, label: &[u8], number: u64) -> Result<
     Ok(())
 }
 
+/// Appends a label and a number.
 fn write_labelled_number(text: &mut Vec<u8>, label: &[u8], number: u64) -> Result<(), OutOfMemory>
-    ensures { OnOk result (text.new.items ≡ text.old.items ++ (label.now ++ canonical_number number)) }
+    ensures { OnOk result (text.new.items ≡ text.old.items
+        ++ (label.now ++ canonical_number number)) }
 {
     write_word(text, label)?;
     write_number(text, number)
 }
 
+/// Appends some bytes.
 fn write_word(text: &mut Vec<u8>, word: &[u8]) -> Result<(), OutOfMemory>
     ensures { OnOk result (text.new.items ≡ text.old.items ++ word.now) }
 {

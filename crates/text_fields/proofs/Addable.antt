@@ -24,10 +24,11 @@ is_name_decided [] = inr (λ name. name)
 is_name_decided (first ∷ others) = elim (cases_lt 32 (length (first ∷ others))) [
   | inl long ↦ inr (λ name. let short : length (first ∷ others) ≤ 32 = name.0 in omega arith)
   | inr short ↦ elim (test_decided (begins_name first)) [
-    | inl begins ↦ elim (all_decided (λ byte. IsTrue (continues_name byte)) (λ byte. test_decided (continues_name byte)) others) [
-      | inl continues ↦ inl (short, begins, continues)
-      | inr fails ↦ inr (λ name. fails name.2)
-    ]
+    | inl begins ↦ elim (all_decided (λ byte. IsTrue (continues_name byte))
+        (λ byte. test_decided (continues_name byte)) others) [
+          | inl continues ↦ inl (short, begins, continues)
+          | inr fails ↦ inr (λ name. fails name.2)
+        ]
     | inr fails ↦ inr (λ name. fails name.1)
   ]
 ]
@@ -46,19 +47,22 @@ outside_below m X zero = inl (λ p below member. absurd (omega arith))
 outside_below m X (suc n) = elim (outside_below m X n) [
   | inr found ↦ inr found
   | inl inside ↦ elim (cases_lt n m) [
-    | inl below ↦ inl (λ p lt member. elim (cases_lt p n) [ inl before ↦ inside p before member | inr after ↦ omega arith ])
+    | inl below ↦ inl (λ p lt member. elim (cases_lt p n)
+        [ inl before ↦ inside p before member | inr after ↦ omega arith ])
     | inr outside ↦ elim (test_decided (has X n)) [
       | inl member ↦ inr (
         n,
         record {
           member = member;
           outside = outside;
-          least = λ q other beyond. elim (cases_lt q n) [ inl before ↦ (let within = inside q before other in absurd (omega arith)) | inr after ↦ after ];
+          least = λ q other beyond. elim (cases_lt q n)
+              [ inl before ↦ (let within = inside q before other in absurd (omega arith)) | inr after ↦ after ];
         },
       )
       | inr absent ↦ inl (λ p lt member. elim (cases_lt p n) [
         | inl before ↦ inside p before member
-        | inr after ↦ (let same : p ≡ n = omega arith in absurd (absent (subst (λ (q : ℕ). IsTrue (has X q)) same member)))
+        | inr after ↦ (let same : p ≡ n = omega arith in absurd (absent
+            (subst (λ (q : ℕ). IsTrue (has X q)) same member)))
       ])
     ]
   ]
@@ -74,7 +78,8 @@ mask_decided m X = elim (cases_eq X empty) [
 ]
 
 -- a task can be added to a valid set, or is refused
-pub can_add_decided : (set : SetData) (task : TaskData) → IsTaskSet set → CanAdd set task ⊎ ((fault : TaskFault) × IsRefusal set task fault)
+pub can_add_decided : (set : SetData) (task : TaskData) → IsTaskSet set → CanAdd set task
+    ⊎ ((fault : TaskFault) × IsRefusal set task fault)
 can_add_decided set task valid = elim (is_name_decided task.name) [
   | inr bad ↦ inr (BadName, bad)
   | inl name ↦ elim (cases_lt (length set.tasks) 1024) [
@@ -84,7 +89,13 @@ can_add_decided set task valid = elim (is_name_decided task.name) [
       | inr new_name ↦ elim (priority_decided set task.priority) [
         | inl taken ↦ inr (SamePriority taken.0, (name, room, new_name, taken.1))
         | inr new_priority ↦ elim (mask_decided set.processors task.mask) [
-          | inl mask ↦ inl (record { name = name; room = room; new_name = new_name; new_priority = new_priority; mask = mask })
+          | inl mask ↦ inl (record {
+            name = name;
+            room = room;
+            new_name = new_name;
+            new_priority = new_priority;
+            mask = mask;
+          })
           | inr (inl none) ↦ inr (EmptyMask, (name, room, new_name, new_priority, none))
           | inr (inr outside) ↦ inr (OutsideMask outside.0, (name, room, new_name, new_priority, outside.1))
         ]
@@ -107,8 +118,8 @@ can_add_next m before rest task valid =
     let here = get_or_at before task rest task (length before) refl in
     let differs : All (λ (other : TaskData). Differ other task) before =
     λ k d below.
-        rw (get_or_append_left before (task ∷ rest) d k below, get_or_at before task rest d (length before) refl)
-        at (valid.differ k (length before) d below within) in
+    rw (get_or_append_left before (task ∷ rest) d k below, get_or_at before task rest d (length before) refl)
+    at (valid.differ k (length before) d below within) in
     record {
       name = rw here at (valid.names (length before) task within);
       room = omega arith;

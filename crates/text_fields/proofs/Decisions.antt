@@ -10,7 +10,11 @@ use Rattle.text_fields.specs.Number.{IsNumberWithin}
 
 -- a test is passed or failed
 pub test_decided : (b : Bool) → IsTrue b ⊎ (IsTrue b → ⊥)
-test_decided b = elim (cases_Bool b) [ inl passes ↦ inl passes | inr fails ↦ inr (λ passes. true≢false (sym passes ∙ fails)) ]
+test_decided b =
+    elim (cases_Bool b) [
+      | inl passes ↦ inl passes
+      | inr fails ↦ inr (λ passes. true≢false (sym passes ∙ fails))
+    ]
 
 -- two lists of bytes are one or not
 pub bytes_decided : (one other : List ℕ) → (one ≡ other) ⊎ (one ≡ other → ⊥)
@@ -37,7 +41,8 @@ all_decided P decide (x ∷ xs) = elim (decide x) [
 ]
 
 -- an item has this image, or none has
-pub image_decided : {X A : Type 0} (f : X → A) → ((a b : A) → (a ≡ b) ⊎ (a ≡ b → ⊥)) → (v : A) (xs : List X) → ((i : ℕ) × (slice_get (map f xs) i ≡ Some v)) ⊎ All (λ x. f x ≢ v) xs
+pub image_decided : {X A : Type 0} (f : X → A) → ((a b : A) → (a ≡ b) ⊎ (a ≡ b → ⊥)) → (v : A) (xs : List X)
+    → ((i : ℕ) × (slice_get (map f xs) i ≡ Some v)) ⊎ All (λ x. f x ≢ v) xs
 image_decided f same v [] = inr (All-nil (λ x. f x ≢ v))
 image_decided f same v (x ∷ xs) = elim (same (f x) v) [
   | inl here ↦ inl (0, ap Some here)

@@ -22,11 +22,15 @@ name_bytes (x ∷ xs) h = All-cons (λ b. IsTrue (continues_name b)) x xs (begin
 
 -- a name has no byte that no name goes on with
 pub name_without : (name : List ℕ) (end : ℕ) → continues_name end ≡ false → IsName name → Contains name end → ⊥
-name_without name end never named here = true≢false (sym (All-contains (λ b. IsTrue (continues_name b)) name end (name_bytes name named) here) ∙ never)
+name_without name end never named here =
+    true≢false (sym (All-contains (λ b. IsTrue (continues_name b)) name end (name_bytes name named) here)
+    ∙ never)
 
 pub name_is_text : (name : List ℕ) → IsName name → IsUtf8 name
-name_is_text name named = IsUtf8-from_ascii name (IsAscii-from_all name (All-weaker (λ b. IsTrue (continues_name b)) (λ b. b < 128) continues_small name (name_bytes name named)))
+name_is_text name named =
+    IsUtf8-from_ascii name (IsAscii-from_all name
+    (All-weaker (λ b. IsTrue (continues_name b)) (λ b. b < 128) continues_small name (name_bytes name named)))
 
 -- what is no text is the name of no task
 pub no_text_is_new : (set : SetData) (bytes : List ℕ) → IsTaskSet set → (IsUtf8 bytes → ⊥) → IsNewName set bytes
-no_text_is_new set bytes lawful none = λ k d within same. none (rw (← same) (name_is_text _ (lawful.names k d within)))
+no_text_is_new set bytes valid none = λ k d within same. none (rw (← same) (name_is_text _ (valid.names k d within)))

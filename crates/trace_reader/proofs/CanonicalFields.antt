@@ -56,17 +56,20 @@ kept-some (byte ∷ field) pieces some = refl
 
 pub fields_of-first : (field rest : List ℕ) → IsField field → fields_of (field ++ 32 ∷ rest) ≡ field ∷ fields_of rest
 fields_of-first field rest f =
-    ap kept (slice_split_at is_blank field 32 rest (all_unblank field f.visible) refl) ∙ kept-some field (slice_split is_blank rest) f.some
+    ap kept (slice_split_at is_blank field 32 rest (all_unblank field f.visible) refl)
+    ∙ kept-some field (slice_split is_blank rest) f.some
 
 pub fields_of-last : (field : List ℕ) → IsField field → fields_of field ≡ field ∷ []
 fields_of-last field f =
     ap kept (slice_split_none is_blank field (all_unblank field f.visible)) ∙ kept-some field [] f.some
 
-fields_back : (first : List ℕ) (more : List (List ℕ)) → All IsField (first ∷ more) → fields_of (spaced (first ∷ more)) ≡ first ∷ more
+fields_back : (first : List ℕ) (more : List (List ℕ)) → All IsField (first ∷ more)
+    → fields_of (spaced (first ∷ more)) ≡ first ∷ more
 fields_back first [] all = fields_of-last first (All-head IsField first [] all)
 fields_back first (second ∷ more) all =
     fields_of-first first (spaced (second ∷ more)) (All-head IsField first (second ∷ more) all)
-    ∙ ap (λ (fields : List (List ℕ)). first ∷ fields) (fields_back second more (All-tail IsField first (second ∷ more) all))
+    ∙ ap (λ (fields : List (List ℕ)). first ∷ fields)
+    (fields_back second more (All-tail IsField first (second ∷ more) all))
 
 pub fields_of-spaced : (fields : List (List ℕ)) → IsLineOf fields → fields_of (spaced fields) ≡ fields
 fields_of-spaced [] l = absurd (omega (arith, l.some))
@@ -77,13 +80,17 @@ fields_of-spaced (first ∷ more) l = fields_back first more l.each_field
 printed-from_visible : (field : List ℕ) → All IsVisible field → All IsPrinted field
 printed-from_visible field all = All-weaker IsVisible IsPrinted (λ byte h. (omega (arith, h.0), h.1)) field all
 
-printed-spaced : (first : List ℕ) (more : List (List ℕ)) → All IsField (first ∷ more) → All IsPrinted (spaced (first ∷ more))
+printed-spaced : (first : List ℕ) (more : List (List ℕ)) → All IsField (first ∷ more)
+    → All IsPrinted (spaced (first ∷ more))
 printed-spaced first [] all = printed-from_visible first (All-head IsField first [] all).visible
 printed-spaced first (second ∷ more) all =
-    All-append IsPrinted first (32 ∷ spaced (second ∷ more)) (printed-from_visible first (All-head IsField first (second ∷ more) all).visible)
-    (All-cons IsPrinted 32 (spaced (second ∷ more)) (omega arith, omega arith) (printed-spaced second more (All-tail IsField first (second ∷ more) all)))
+    All-append IsPrinted first (32 ∷ spaced (second ∷ more))
+    (printed-from_visible first (All-head IsField first (second ∷ more) all).visible)
+    (All-cons IsPrinted 32 (spaced (second ∷ more)) (omega arith, omega arith)
+    (printed-spaced second more (All-tail IsField first (second ∷ more) all)))
 
-length-spaced : (first : List ℕ) (more : List (List ℕ)) → All IsField (first ∷ more) → length (spaced (first ∷ more)) ≤ 1023 + 1024 * length more
+length-spaced : (first : List ℕ) (more : List (List ℕ)) → All IsField (first ∷ more)
+    → length (spaced (first ∷ more)) ≤ 1023 + 1024 * length more
 length-spaced first [] all = let f = All-head IsField first [] all in omega (arith, f.short)
 length-spaced first (second ∷ more) all =
     let f = All-head IsField first (second ∷ more) all in
@@ -111,7 +118,11 @@ printed-no_line_feed byte h = let no_feed : byte ≢ 10 = omega (arith, h.0) in 
 pub lines_of-first : (text rest : List ℕ) → All IsPrinted text → lines_of (text ++ 10 ∷ rest) ≡ text ∷ lines_of rest
 lines_of-first [] rest all = refl
 lines_of-first (byte ∷ text) rest all =
-    rw (printed-no_line_feed byte (All-head IsPrinted byte text all), lines_of-first text rest (All-tail IsPrinted byte text all)) refl
+    rw (
+      printed-no_line_feed byte (All-head IsPrinted byte text all),
+      lines_of-first text rest
+          (All-tail IsPrinted byte text all),
+    ) refl
 
 pub lines_of-text : (lines : List (List (List ℕ))) → All IsLineOf lines → lines_of (text_of lines) ≡ map spaced lines
 lines_of-text [] all = refl
@@ -124,8 +135,11 @@ pub said_by-text : (lines : List (List (List ℕ))) → All IsLineOf lines → s
 said_by-text [] all = refl
 said_by-text (fields ∷ lines) all =
     let l = All-head IsLineOf fields lines all in
-    rw (fields_of-spaced fields l, l.unskipped) (ap (λ (rest : List (List (List ℕ))). fields ∷ rest) (said_by-text lines (All-tail IsLineOf fields lines all)))
+    rw (fields_of-spaced fields l, l.unskipped)
+    (ap (λ (rest : List (List (List ℕ))). fields ∷ rest)
+    (said_by-text lines (All-tail IsLineOf fields lines all)))
 
 pub clean-text : (lines : List (List (List ℕ))) → All IsLineOf lines → All IsClean (map spaced lines)
 clean-text lines all =
-    All-map IsClean spaced lines (All-weaker IsLineOf (λ (fields : List (List ℕ)). IsClean (spaced fields)) clean-line lines all)
+    All-map IsClean spaced lines
+    (All-weaker IsLineOf (λ (fields : List (List ℕ)). IsClean (spaced fields)) clean-line lines all)

@@ -49,7 +49,8 @@ posted_fields set posted = canonical_number posted.stream ∷ event_fields set p
 
 -- all lines but the last
 abbrev body_fields : ℕ → SetData → List Posted → List (List (List ℕ))
-body_fields version set events = header_fields version ∷ processors_fields set ∷ map task_fields set.tasks ++ map (posted_fields set) events
+body_fields version set events =
+    header_fields version ∷ processors_fields set ∷ map task_fields set.tasks ++ map (posted_fields set) events
 
 -- ---- the text is that of these lines
 
@@ -58,9 +59,12 @@ pieces a b c d e f = simp append_assoc
 
 task-text : (task : TaskData) → line (spaced (task_fields task)) ≡ task_line task
 unfolding task_line
-task-text task = ap line (pieces (codes "task ") task.name (codes " ") (canonical_number task.priority) (codes " ") (canonical_list task.mask))
+task-text task =
+    ap line (pieces (codes "task ") task.name (codes " ") (canonical_number task.priority) (codes " ")
+    (canonical_list task.mask))
 
-spaced-event : (set : SetData) (number : List ℕ) (event : Event) → spaced (number ∷ event_fields set event) ≡ number ++ codes " " ++ event_text set event
+spaced-event : (set : SetData) (number : List ℕ) (event : Event) → spaced (number ∷ event_fields set event)
+    ≡ number ++ codes " " ++ event_text set event
 unfolding event_text
 spaced-event set number (Arrive t) = sym (append_assoc number (codes " ") (codes "arrive " ++ name_of set t))
 spaced-event set number (Depart t) = sym (append_assoc number (codes " ") (codes "depart " ++ name_of set t))
@@ -70,30 +74,38 @@ event-text : (set : SetData) (posted : Posted) → line (spaced (posted_fields s
 unfolding event_line
 event-text set posted = ap line (spaced-event set (canonical_number posted.stream) posted.event)
 
-text-map : {A : Type 0} (fields : A → List (List ℕ)) (text : A → List ℕ) → ((x : A) → line (spaced (fields x)) ≡ text x) → (xs : List A) → text_of (map fields xs) ≡ flat_map text xs
+text-map : {A : Type 0} (fields : A → List (List ℕ)) (text : A → List ℕ)
+    → ((x : A) → line (spaced (fields x)) ≡ text x) → (xs : List A) → text_of (map fields xs) ≡ flat_map text xs
 text-map fields text same [] = refl
 text-map fields text same (x ∷ xs) = ap₂ (λ (first rest : List ℕ). first ++ rest) (same x) (text-map fields text same xs)
 
-whole : (header processors tasks events end : List ℕ) → header ++ (processors ++ (tasks ++ (events ++ end))) ≡ header ++ processors ++ tasks ++ events ++ end
+whole : (header processors tasks events end : List ℕ) → header ++ (processors ++ (tasks ++ (events ++ end)))
+    ≡ header ++ processors ++ tasks ++ events ++ end
 whole header processors tasks events end = simp append_assoc
 
-text-lines : (version : ℕ) (set : SetData) (events : List Posted) → text_of (body_fields version set events ++ end_line ∷ []) ≡ canonical_text version set events
+text-lines : (version : ℕ) (set : SetData) (events : List Posted)
+    → text_of (body_fields version set events ++ end_line ∷ []) ≡ canonical_text version set events
 unfolding canonical_text
 text-lines version set events =
     let listed : List (List (List ℕ)) = map task_fields set.tasks ++ map (posted_fields set) events in
     let both : text_of listed ≡ flat_map task_line set.tasks ++ flat_map (event_line set) events =
-    flat_map-append (λ (fields : List (List ℕ)). line (spaced fields)) (map task_fields set.tasks) (map (posted_fields set) events)
-    ∙ ap₂ (λ (first rest : List ℕ). first ++ rest) (text-map task_fields task_line task-text set.tasks) (text-map (posted_fields set) (event_line set) (event-text set) events) in
-    let rest : text_of (listed ++ end_line ∷ []) ≡ flat_map task_line set.tasks ++ (flat_map (event_line set) events ++ line (codes "end")) =
+    flat_map-append (λ (fields : List (List ℕ)). line (spaced fields)) (map task_fields set.tasks)
+    (map (posted_fields set) events)
+    ∙ ap₂ (λ (first rest : List ℕ). first ++ rest) (text-map task_fields task_line task-text set.tasks)
+    (text-map (posted_fields set) (event_line set) (event-text set) events) in
+    let rest : text_of (listed ++ end_line ∷ []) ≡ flat_map task_line set.tasks
+    ++ (flat_map (event_line set) events ++ line (codes "end")) =
     flat_map-append (λ (fields : List (List ℕ)). line (spaced fields)) listed (end_line ∷ [])
     ∙ ap (λ (text : List ℕ). text ++ line (codes "end")) both
     ∙ append_assoc (flat_map task_line set.tasks) (flat_map (event_line set) events) (line (codes "end")) in
     ap (λ (text : List ℕ). header_line version ++ (processors_line set ++ text)) rest
-    ∙ whole (header_line version) (processors_line set) (flat_map task_line set.tasks) (flat_map (event_line set) events) (line (codes "end"))
+    ∙ whole (header_line version) (processors_line set) (flat_map task_line set.tasks)
+    (flat_map (event_line set) events) (line (codes "end"))
 
 -- ---- each line has one to four fields, and is not skipped
 
-two_fields : (first second : List ℕ) → IsField first → IsField second → is_skipped (first ∷ second ∷ []) ≡ false → IsLineOf (first ∷ second ∷ [])
+two_fields : (first second : List ℕ) → IsField first → IsField second → is_skipped (first ∷ second ∷ []) ≡ false
+    → IsLineOf (first ∷ second ∷ [])
 two_fields first second f g unskipped = record {
   some = omega arith;
   few = omega arith;
@@ -101,7 +113,8 @@ two_fields first second f g unskipped = record {
   unskipped = unskipped;
 }
 
-three_fields : (first second third : List ℕ) → IsField first → IsField second → IsField third → is_skipped (first ∷ second ∷ third ∷ []) ≡ false → IsLineOf (first ∷ second ∷ third ∷ [])
+three_fields : (first second third : List ℕ) → IsField first → IsField second → IsField third
+    → is_skipped (first ∷ second ∷ third ∷ []) ≡ false → IsLineOf (first ∷ second ∷ third ∷ [])
 three_fields first second third f g h unskipped = record {
   some = omega arith;
   few = omega arith;
@@ -132,17 +145,23 @@ record IsProcessorsData (fields : List (List ℕ)) (m : ℕ) : Type 0 where
   says : IsProcessorsLine m fields
 
 processors-line : (set : SetData) → IsTaskSet set → IsProcessorsData (processors_fields set) set.processors
-processors-line set lawful =
-    let small : set.processors < 2 ^ 64 = omega (arith, lawful.processors.1) in
+processors-line set valid =
+    let small : set.processors < 2 ^ 64 = omega (arith, valid.processors.1) in
     record {
-      line = two_fields (codes "processors") (canonical_number set.processors) (word-field (codes "processors") refl) (number-field set.processors small) refl;
-      says = (canonical_number set.processors, refl, (number-value set.processors small, lawful.processors.0, lawful.processors.1));
+      line = two_fields (codes "processors") (canonical_number set.processors)
+          (word-field (codes "processors") refl) (number-field set.processors small) refl;
+      says = (
+        canonical_number set.processors,
+        refl,
+        (number-value set.processors small, valid.processors.0, valid.processors.1),
+      );
     }
 
 -- a mask on at most 64 processors is written by a list of it
 mask-list : (m X : ℕ) → m ≤ 64 → IsMask m X → IsListText (canonical_list X) X
 mask-list m X most mask =
-    canonical_list-IsListText X mask.some (λ p member. has-all_below 64 p ∙ lt-ltb p 64 (omega (arith, mask.below p member)))
+    canonical_list-IsListText X mask.some
+    (λ p member. has-all_below 64 p ∙ lt-ltb p 64 (omega (arith, mask.below p member)))
 
 -- a task of a set
 record IsTask (m : ℕ) (task : TaskData) : Type 0 where
@@ -151,79 +170,121 @@ record IsTask (m : ℕ) (task : TaskData) : Type 0 where
   mask : IsMask m task.mask
 
 tasks-of : (set : SetData) → IsTaskSet set → PrioritiesFit set → All (IsTask set.processors) set.tasks
-tasks-of set lawful fit k d lt = record { name = lawful.names k d lt; priority = fit k d lt; mask = lawful.masks k d lt }
+tasks-of set valid fit k d lt = record { name = valid.names k d lt; priority = fit k d lt; mask = valid.masks k d lt }
 
 task-line : (m : ℕ) → m ≤ 64 → (task : TaskData) → IsTask m task → IsLineOf (task_fields task)
 task-line m most task t = record {
   some = omega arith;
   few = omega arith;
   each_field =
-      All-from_recursion IsField (task_fields task)
-      (word-field (codes "task") refl, (name-field task.name t.name, (number-field task.priority (omega (arith, t.priority)), (list-field task.mask (mask-list m task.mask most t.mask), tt))));
+      All-from_recursion IsField (task_fields task) (
+        word-field (codes "task") refl,
+        (
+          name-field task.name t.name,
+          (
+            number-field task.priority (omega (arith, t.priority)),
+            (list-field task.mask (mask-list m task.mask most t.mask), tt),
+          ),
+        ),
+      );
   unskipped = refl;
 }
 
 task-says : (m : ℕ) → m ≤ 64 → (task : TaskData) → IsTask m task → IsTaskLine (task_fields task) task
 task-says m most task t =
-    let small : task.priority < 2 ^ 64 = omega (arith, t.priority) in
-    (canonical_list task.mask, record { number = canonical_number task.priority; each_field = refl; value = (number-value task.priority small, omega arith, omega (arith, t.priority)) }, mask-list m task.mask most t.mask)
+    let small : task.priority < 2 ^ 64 = omega (arith, t.priority) in (
+      canonical_list task.mask,
+      record {
+        number = canonical_number task.priority;
+        each_field = refl;
+        value = (number-value task.priority small, omega arith, omega (arith, t.priority));
+      },
+      mask-list m task.mask most t.mask,
+    )
 
-event-line : (set : SetData) (stream : ℕ) (event : Event) → IsTaskSet set → stream < 16 → IsEventOf set event → IsLineOf (canonical_number stream ∷ event_fields set event)
-event-line set stream (Arrive t) lawful few (within, any) =
+event-line : (set : SetData) (stream : ℕ) (event : Event) → IsTaskSet set → stream < 16 → IsEventOf set event
+    → IsLineOf (canonical_number stream ∷ event_fields set event)
+event-line set stream (Arrive t) valid few (within, any) =
     let small : stream < 2 ^ 64 = omega (arith, few) in
-    three_fields (canonical_number stream) (codes "arrive") (name_of set t) (number-field stream small) (word-field (codes "arrive") refl) (name-field (name_of set t) (name_valid set t lawful within))
+    three_fields (canonical_number stream) (codes "arrive") (name_of set t) (number-field stream small)
+    (word-field (codes "arrive") refl) (name-field (name_of set t) (name_valid set t valid within))
     (number-unskipped stream (codes "arrive" ∷ name_of set t ∷ []) small)
-event-line set stream (Depart t) lawful few (within, any) =
+event-line set stream (Depart t) valid few (within, any) =
     let small : stream < 2 ^ 64 = omega (arith, few) in
-    three_fields (canonical_number stream) (codes "depart") (name_of set t) (number-field stream small) (word-field (codes "depart") refl) (name-field (name_of set t) (name_valid set t lawful within))
+    three_fields (canonical_number stream) (codes "depart") (name_of set t) (number-field stream small)
+    (word-field (codes "depart") refl) (name-field (name_of set t) (name_valid set t valid within))
     (number-unskipped stream (codes "depart" ∷ name_of set t ∷ []) small)
-event-line set stream (Tick units) lawful few (any, bounds) =
+event-line set stream (Tick units) valid few (any, bounds) =
     let small : stream < 2 ^ 64 = omega (arith, few) in
-    three_fields (canonical_number stream) (codes "tick") (canonical_number units) (number-field stream small) (word-field (codes "tick") refl) (number-field units (omega (arith, bounds.1)))
+    three_fields (canonical_number stream) (codes "tick") (canonical_number units) (number-field stream small)
+    (word-field (codes "tick") refl) (number-field units (omega (arith, bounds.1)))
     (number-unskipped stream (codes "tick" ∷ canonical_number units ∷ []) small)
 
 event-says : (set : SetData) (event : Event) → IsEventOf set event → IsEventFields set (event_fields set event) event
 event-says set (Arrive t) (within, any) = (name_of set t, refl, has_name set t within)
 event-says set (Depart t) (within, any) = (name_of set t, refl, has_name set t within)
-event-says set (Tick units) (any, bounds) = (canonical_number units, refl, (number-value units (omega (arith, bounds.1)), bounds.0, bounds.1))
+event-says set (Tick units) (any, bounds) =
+    (canonical_number units, refl, (number-value units (omega (arith, bounds.1)), bounds.0, bounds.1))
 
-posted-says : (set : SetData) (posted : Posted) → IsPostedOf set posted → IsEventLine set (posted_fields set posted) posted
-posted-says set posted p =
-    (event_fields set posted.event, (canonical_number posted.stream, refl, (number-value posted.stream (omega (arith, p.stream)), omega arith, omega (arith, p.stream))), event-says set posted.event p.event)
+posted-says : (set : SetData) (posted : Posted) → IsPostedOf set posted
+    → IsEventLine set (posted_fields set posted) posted
+posted-says set posted p = (
+  event_fields set posted.event,
+  (
+    canonical_number posted.stream,
+    refl,
+    (
+      number-value posted.stream (omega (arith, p.stream)),
+      omega arith,
+      omega
+          (arith, p.stream),
+    ),
+  ),
+  event-says set posted.event p.event,
+)
 
 -- ---- the whole
 
-zip-map : {A B : Type 0} (P : B → Type 0) (R : A → B → Type 0) (f : B → A) → ((x : B) → P x → R (f x) x) → (xs : List B) → All P xs → AllZip R (map f xs) xs
+zip-map : {A B : Type 0} (P : B → Type 0) (R : A → B → Type 0) (f : B → A) → ((x : B) → P x → R (f x) x)
+    → (xs : List B) → All P xs → AllZip R (map f xs) xs
 zip-map P R f each [] all = tt
 zip-map P R f each (x ∷ xs) all = (each x (All-head P x xs all), zip-map P R f each xs (All-tail P x xs all))
 
-body-lines : (version : ℕ) → version < 2 ^ 64 → (set : SetData) (events : List Posted) → IsInput (record { set = set; events = events }) → PrioritiesFit set → All IsLineOf (body_fields version set events)
+body-lines : (version : ℕ) → version < 2 ^ 64 → (set : SetData) (events : List Posted)
+    → IsInput (record { set = set; events = events }) → PrioritiesFit set
+    → All IsLineOf (body_fields version set events)
 body-lines version small set events input fit =
-    let lawful = input.lawful in
+    let valid = input.valid in
     let tasks : All IsLineOf (map task_fields set.tasks) =
     All-map IsLineOf task_fields set.tasks
-    (All-weaker (IsTask set.processors) (λ (task : TaskData). IsLineOf (task_fields task)) (task-line set.processors lawful.processors.1) set.tasks (tasks-of set lawful fit)) in
+    (All-weaker (IsTask set.processors) (λ (task : TaskData). IsLineOf (task_fields task))
+    (task-line set.processors valid.processors.1) set.tasks (tasks-of set valid fit)) in
     let posts : All IsLineOf (map (posted_fields set) events) =
     All-map IsLineOf (posted_fields set) events
-    (All-weaker (IsPostedOf set) (λ (posted : Posted). IsLineOf (posted_fields set posted)) (λ posted p. event-line set posted.stream posted.event lawful p.stream p.event) events input.each_event) in
+    (All-weaker (IsPostedOf set) (λ (posted : Posted). IsLineOf (posted_fields set posted))
+    (λ posted p. event-line set posted.stream posted.event valid p.stream p.event) events input.each_event) in
     let listed : List (List (List ℕ)) = map task_fields set.tasks ++ map (posted_fields set) events in
     All-cons IsLineOf (header_fields version) (processors_fields set ∷ listed) (header-line version small)
-    (All-cons IsLineOf (processors_fields set) listed (processors-line set lawful).line
+    (All-cons IsLineOf (processors_fields set) listed (processors-line set valid).line
     (All-append IsLineOf (map task_fields set.tasks) (map (posted_fields set) events) tasks posts))
 
-body-says : (version : ℕ) → version < 2 ^ 64 → (set : SetData) (events : List Posted) → IsInput (record { set = set; events = events }) → PrioritiesFit set → IsBody version (body_fields version set events) set events
+body-says : (version : ℕ) → version < 2 ^ 64 → (set : SetData) (events : List Posted)
+    → IsInput (record { set = set; events = events }) → PrioritiesFit set
+    → IsBody version (body_fields version set events) set events
 body-says version small set events input fit =
-    let lawful = input.lawful in record {
+    let valid = input.valid in record {
       header = header_fields version;
       processors = processors_fields set;
       task_lines = map task_fields set.tasks;
       event_lines = map (posted_fields set) events;
       order = refl;
       is_header = header-says version small;
-      is_processors = (processors-line set lawful).says;
-      each_task = zip-map (IsTask set.processors) IsTaskLine task_fields (task-says set.processors lawful.processors.1) set.tasks (tasks-of set lawful fit);
-      each_event = zip-map (IsPostedOf set) (IsEventLine set) (posted_fields set) (posted-says set) events input.each_event;
-      lawful = lawful;
+      is_processors = (processors-line set valid).says;
+      each_task = zip-map (IsTask set.processors) IsTaskLine task_fields
+          (task-says set.processors valid.processors.1) set.tasks (tasks-of set valid fit);
+      each_event = zip-map (IsPostedOf set) (IsEventLine set) (posted_fields set) (posted-says set) events
+          input.each_event;
+      valid = valid;
       few = input.few;
     }
 

@@ -2,7 +2,7 @@ mod FieldLists
 mod Refused
 mod EventsRead
 mod ReadLines
-pub mod Fronts
+pub mod Expected
 mod Paths
 mod Forms
 pub mod Steps

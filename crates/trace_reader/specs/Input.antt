@@ -1,4 +1,4 @@
--- Inputs. What a reader must believe: an input is a task set and a list of events, each on a stream; there are at most
+-- Inputs. An input is a task set and a list of events, each on a stream; there are at most
 -- 20,000 events, their streams are below 16, their tasks are of the set, and a tick has from 1 to 1,000,000 units.
 use Rattle.std.specs.Prelude.{ℕ, ◌<◌, ◌≤◌, List, length, All}
 use Rattle.task_set.specs.TaskSet.{SetData, IsTaskSet}
@@ -23,7 +23,7 @@ pub record IsPostedOf (set : SetData) (posted : Posted) : Type 0 where
 
 -- what holds of each input
 pub record IsInput (input : InputData) : Type 0 where
-  pub lawful : IsTaskSet input.set
+  pub valid : IsTaskSet input.set
   pub few : length input.events ≤ 20000
   pub each_event : All (IsPostedOf input.set) input.events
 

@@ -3,5 +3,7 @@ pub mod Input
 pub mod InputFault
 pub mod InputText
 pub mod Laws
+pub mod LineForms
 pub mod Lines
+pub mod Progress
 pub mod Reading

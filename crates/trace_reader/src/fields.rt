@@ -7,7 +7,7 @@ ghost use Rattle.text_fields.specs.Fields.{texts};
 use affinity_mask::OutOfMemory;
 use std::alloc::Global;
 
-/// The first line of some bytes, and what stands behind it.
+/// The first line of some bytes, and what stands after it.
 pub fn first_line(bytes: &[u8]) -> (&[u8], &[u8])
     ensures { IsFirstLine bytes.now result.0.now result.1.now }
 {

@@ -4,7 +4,6 @@ ghost use Rattle.std.specs.Prelude.{◌≡◌, ◌≤◌, All, length};
 use crate::posted::Posted;
 use std::marker::Model;
 use task_set::TaskSet;
-
 pub use text_fields::limits::{MAX_EVENTS, MAX_PRIORITY, MAX_PROCESSORS, MAX_STREAM, MAX_UNITS};
 
 /// The tasks, and the events in the order of their lines.
@@ -34,7 +33,7 @@ impl Input {
         requires events { All (IsPostedOf set) events.items }
         ensures { result ≡ record { set = set; events = events.items } }
     {
-        let _lawful = set.len();
+        let _valid = set.len();
         Input { set, events }
     }
 

@@ -1,4 +1,4 @@
-//! What was read so far, and what is due.
+//! What was read so far, and what is expected.
 ghost use Rattle.std.specs.Prelude.{◌≡◌, ◌≢◌, ℕ, ◌<◌, ◌≤◌, ◌↔◌, ◌⊎◌, IsTrue, List, [], ◌∷◌, length, IfOk, IfErr, OnOk, IfSome, IfNone, MatchOption, MatchBool, codes, string_bytes};
 ghost use Rattle.task_set.specs.TaskSet.{SetData};
 ghost use Rattle.task_set.specs.Refusal.{IsNameOf, IsNewName};
@@ -6,7 +6,9 @@ ghost use Rattle.trace_reader.specs.declared.posted.Posted.{Posted};
 ghost use Rattle.trace_reader.specs.declared.fault.InputKind.TheVariants.{UnknownTask};
 ghost use Rattle.text_fields.specs.Number.{IsNumberOf};
 ghost use Rattle.trace_reader.specs.InputText.{IsHeader, IsProcessorsLine, IsEventFields, IsEventLine, end_line};
-ghost use Rattle.trace_reader.specs.InputFault.{IsFieldsFault, IsLineFault, BeginsTask, IsForTask, IsFront, Progress, HeaderDue, ProcessorsDue, Listed, Ended};
+ghost use Rattle.trace_reader.specs.InputFault.{IsFieldsFault, IsLineFault};
+ghost use Rattle.trace_reader.specs.LineForms.{BeginsTask, IsForTask};
+ghost use Rattle.trace_reader.specs.Progress.{Expects, Progress, HeaderExpected, ProcessorsExpected, Listed, Ended};
 ghost use Rattle.trace_reader.specs.Reading.{progress_of, Says, SaysLine, SaysTask, IsOutOfMemory, IsEventFault, IsChangeFault};
 ghost use Rattle.text_fields.specs.Fields.{texts};
 
@@ -23,16 +25,16 @@ use text_fields::{is_word, read_number, task_of};
 /// The most bytes of a line, without its line feed.
 const MAX_LINE: usize = 4096;
 
-/// What some lines said, and so what is due behind them.
+/// What some lines said, and so what is expected after them.
 #[derive(Drop)]
 pub enum Stage {
-    /// The header is due.
-    HeaderDue,
+    /// The header is expected.
+    HeaderExpected,
 
-    /// The number of processors is due.
-    ProcessorsDue,
+    /// The number of processors is expected.
+    ProcessorsExpected,
 
-    /// Tasks, then events, then the end are due.
+    /// Tasks, then events, then the end are expected.
     Listed { set: TaskSet, events: Vec<Posted> },
 
     /// The end came.
@@ -40,11 +42,13 @@ pub enum Stage {
 }
 
 impl Stage {
-    /// What is due behind one more line.
+    /// What is expected after one more line.
     pub fn after_line(self, alloc: Global, version: u64, line: &[u8]) -> Result<Stage, InputKind>
-        requires { (said : List (List (List ℕ))) × IsFront version said (progress_of self) }
-        ensures read { IfOk result (λ next. SaysLine version (progress_of self) line.now (progress_of next)) }
-        ensures refused { IfErr result (λ kind. IsOutOfMemory kind ⊎ IsLineFault version (progress_of self) line.now kind) }
+        requires { (said : List (List (List ℕ))) × Expects version said (progress_of self) }
+        ensures read { IfOk result (λ next. SaysLine version (progress_of self) line.now
+            (progress_of next)) }
+        ensures refused { IfErr result (λ kind. IsOutOfMemory kind
+            ⊎ IsLineFault version (progress_of self) line.now kind) }
     {
         if !is_plain(line) {
             return Err(InputKind::BadByte);
@@ -62,8 +66,10 @@ impl Stage {
 
     /// The input, if the end came.
     pub fn into_input(self) -> Option<Input>
-        requires { (version : ℕ) × (said : List (List (List ℕ))) × IsFront version said (progress_of self) }
-        ensures { MatchOption result ((set : SetData) (events : List Posted) → progress_of self ≢ Ended set events)
+        requires { (version : ℕ) × (said : List (List (List ℕ)))
+            × Expects version said (progress_of self) }
+        ensures { MatchOption result
+            ((set : SetData) (events : List Posted) → progress_of self ≢ Ended set events)
             (λ input. progress_of self ≡ Ended input.set input.events) }
     {
         match self {
@@ -72,15 +78,17 @@ impl Stage {
         }
     }
 
-    /// What is due behind a line that is not skipped, by its fields.
+    /// What is expected after a line that is not skipped, by its fields.
     fn after(self, alloc: Global, version: u64, fields: &[&[u8]]) -> Result<Stage, InputKind>
-        requires { (said : List (List (List ℕ))) × IsFront version said (progress_of self) }
-        ensures read { IfOk result (λ next. Says version (progress_of self) (texts fields.now) (progress_of next)) }
-        ensures refused { IfErr result (λ kind. IsOutOfMemory kind ⊎ IsFieldsFault version (progress_of self) (texts fields.now) kind) }
+        requires { (said : List (List (List ℕ))) × Expects version said (progress_of self) }
+        ensures read { IfOk result (λ next. Says version (progress_of self) (texts fields.now)
+            (progress_of next)) }
+        ensures refused { IfErr result (λ kind. IsOutOfMemory kind
+            ⊎ IsFieldsFault version (progress_of self) (texts fields.now) kind) }
     {
         match self {
-            Stage::HeaderDue => read_header(version, fields),
-            Stage::ProcessorsDue => start(alloc, version, fields),
+            Stage::HeaderExpected => read_header(version, fields),
+            Stage::ProcessorsExpected => start(alloc, version, fields),
             Stage::Listed { set, events } => read_listed(version, set, events, fields),
             Stage::Ended { .. } => Err(InputKind::AfterEnd),
         }
@@ -89,12 +97,13 @@ impl Stage {
 
 /// Reads the header.
 fn read_header(version: u64, fields: &[&[u8]]) -> Result<Stage, InputKind>
-    ensures read { IfOk result (λ next. (progress_of next ≡ ProcessorsDue) × IsHeader version (texts fields.now)) }
-    ensures refused { IfErr result (IsFieldsFault version HeaderDue (texts fields.now)) }
+    ensures read { IfOk result (λ next. (progress_of next ≡ ProcessorsExpected)
+        × IsHeader version (texts fields.now)) }
+    ensures refused { IfErr result (IsFieldsFault version HeaderExpected (texts fields.now)) }
 {
     match fields {
         [word, number] if is_word(word, "apa") && is_version(number, version) => {
-            Ok(Stage::ProcessorsDue)
+            Ok(Stage::ProcessorsExpected)
         }
         _ => Err(InputKind::BadHeader),
     }
@@ -109,7 +118,9 @@ fn is_version(number: &[u8], version: u64) -> bool
 
 /// How many processors a line says that there are, from 1 to 64.
 fn read_processors(fields: &[&[u8]]) -> Option<u8>
-    ensures { MatchOption result ((m : ℕ) → IsProcessorsLine m (texts fields.now) → ⊥) (λ m. IsProcessorsLine m (texts fields.now)) }
+    ensures { MatchOption result
+        ((m : ℕ) → IsProcessorsLine m (texts fields.now) → ⊥)
+        (λ m. IsProcessorsLine m (texts fields.now)) }
 {
     match fields {
         [word, count] if is_word(word, "processors") => {
@@ -122,8 +133,10 @@ fn read_processors(fields: &[&[u8]]) -> Option<u8>
 
 /// Nothing is listed yet, on as many processors as a line says.
 fn start(alloc: Global, version: u64, fields: &[&[u8]]) -> Result<Stage, InputKind>
-    ensures read { IfOk result (λ next. Says version ProcessorsDue (texts fields.now) (progress_of next)) }
-    ensures refused { IfErr result (λ kind. IsOutOfMemory kind ⊎ IsFieldsFault version ProcessorsDue (texts fields.now) kind) }
+    ensures read { IfOk result (λ next. Says version ProcessorsExpected (texts fields.now)
+        (progress_of next)) }
+    ensures refused { IfErr result (λ kind. IsOutOfMemory kind
+        ⊎ IsFieldsFault version ProcessorsExpected (texts fields.now) kind) }
 {
     let Some(processors) = read_processors(fields) else {
         return Err(InputKind::BadProcessors);
@@ -133,11 +146,18 @@ fn start(alloc: Global, version: u64, fields: &[&[u8]]) -> Result<Stage, InputKi
     Ok(Stage::Listed { set, events })
 }
 
-/// Reads a task, an event or the end behind what was listed.
-fn read_listed(version: u64, set: TaskSet, events: Vec<Posted>, fields: &[&[u8]]) -> Result<Stage, InputKind>
+/// Reads a task, an event or the end after what was listed.
+fn read_listed(
+    version: u64,
+    set: TaskSet,
+    events: Vec<Posted>,
+    fields: &[&[u8]],
+) -> Result<Stage, InputKind>
     requires { length events.items ≤ 20000 }
-    ensures read { IfOk result (λ next. Says version (Listed set events.items) (texts fields.now) (progress_of next)) }
-    ensures refused { IfErr result (λ kind. IsOutOfMemory kind ⊎ IsFieldsFault version (Listed set events.items) (texts fields.now) kind) }
+    ensures read { IfOk result (λ next. Says version (Listed set events.items) (texts fields.now)
+        (progress_of next)) }
+    ensures refused { IfErr result (λ kind. IsOutOfMemory kind
+        ⊎ IsFieldsFault version (Listed set events.items) (texts fields.now) kind) }
 {
     if is_end(fields) {
         Ok(Stage::Ended { set, events })
@@ -150,28 +170,44 @@ fn read_listed(version: u64, set: TaskSet, events: Vec<Posted>, fields: &[&[u8]]
 
 /// Whether tasks may still be listed, and the line is for one.
 fn is_for_task(events: &[Posted], fields: &[&[u8]]) -> bool
-    ensures { MatchBool result (IsForTask events.now (texts fields.now)) (IsForTask events.now (texts fields.now) → ⊥) }
+    ensures { MatchBool result
+        (IsForTask events.now (texts fields.now))
+        (IsForTask events.now (texts fields.now) → ⊥) }
 {
     events.is_empty() && begins_task(fields)
 }
 
 /// Lists the task of a line.
-fn list_task(version: u64, mut set: TaskSet, events: Vec<Posted>, fields: &[&[u8]]) -> Result<Stage, InputKind>
+fn list_task(
+    version: u64,
+    mut set: TaskSet,
+    events: Vec<Posted>,
+    fields: &[&[u8]],
+) -> Result<Stage, InputKind>
     requires { IsForTask events.items (texts fields.now) }
-    ensures read { IfOk result (λ next. Says version (Listed set events.items) (texts fields.now) (progress_of next)) }
-    ensures refused { IfErr result (λ kind. IsOutOfMemory kind ⊎ IsFieldsFault version (Listed set events.items) (texts fields.now) kind) }
+    ensures read { IfOk result (λ next. Says version (Listed set events.items) (texts fields.now)
+        (progress_of next)) }
+    ensures refused { IfErr result (λ kind. IsOutOfMemory kind
+        ⊎ IsFieldsFault version (Listed set events.items) (texts fields.now) kind) }
 {
     add_task(version, &mut set, fields)?;
     Ok(Stage::Listed { set, events })
 }
 
 /// Lists the event of a line.
-fn list_event(version: u64, set: TaskSet, mut events: Vec<Posted>, fields: &[&[u8]]) -> Result<Stage, InputKind>
+fn list_event(
+    version: u64,
+    set: TaskSet,
+    mut events: Vec<Posted>,
+    fields: &[&[u8]],
+) -> Result<Stage, InputKind>
     requires task { IsForTask events.items (texts fields.now) → ⊥ }
     requires end { texts fields.now ≢ end_line }
     requires few { length events.items ≤ 20000 }
-    ensures read { IfOk result (λ next. Says version (Listed set events.items) (texts fields.now) (progress_of next)) }
-    ensures refused { IfErr result (λ kind. IsOutOfMemory kind ⊎ IsFieldsFault version (Listed set events.items) (texts fields.now) kind) }
+    ensures read { IfOk result (λ next. Says version (Listed set events.items) (texts fields.now)
+        (progress_of next)) }
+    ensures refused { IfErr result (λ kind. IsOutOfMemory kind
+        ⊎ IsFieldsFault version (Listed set events.items) (texts fields.now) kind) }
 {
     let posted = read_event(&set, fields)?;
     if events.len() == MAX_EVENTS {
@@ -207,7 +243,8 @@ fn begins_task(fields: &[&[u8]]) -> bool
 fn add_task(version: u64, set: &mut TaskSet, fields: &[&[u8]]) -> Result<(), InputKind>
     requires { BeginsTask (texts fields.now) }
     ensures read { OnOk result (SaysTask (texts fields.now) set.old set.new) }
-    ensures refused { IfErr result (λ kind. IsOutOfMemory kind ⊎ IsFieldsFault version (Listed set.old []) (texts fields.now) kind) }
+    ensures refused { IfErr result (λ kind. IsOutOfMemory kind
+        ⊎ IsFieldsFault version (Listed set.old []) (texts fields.now) kind) }
 {
     let [_word, name, number, list] = fields else {
         return Err(InputKind::BadTask);

@@ -15,15 +15,16 @@ use affinity_mask::OutOfMemory;
 use std::alloc::Global;
 use task_set::TaskSet;
 use text_fields::limits::VERSION;
-
 pub use text_fields::{
     write_event_text, write_number, write_processors_line, write_task_line, write_task_lines,
 };
 
-/// The canonical text of an input, which is read back as that input. Refused only for want of memory.
+/// The canonical text of an input, which is read back as that input. Refused only when out of memory.
 pub fn write_input(alloc: Global, input: &Input) -> Result<Vec<u8>, OutOfMemory>
-    ensures text { IfOk result (λ text. text.items ≡ canonical_input_text input.now.set input.now.events) }
-    ensures reads_back { IfOk result (λ text. IsInputText text.items input.now.set input.now.events) }
+    ensures text { IfOk result (λ text. text.items
+        ≡ canonical_input_text input.now.set input.now.events) }
+    ensures reads_back { IfOk result (λ text. IsInputText text.items input.now.set
+        input.now.events) }
 {
     let set = input.set();
     let mut text = Vec::new(alloc);
@@ -52,7 +53,8 @@ fn write_event_lines(
     events: &[Posted],
 ) -> Result<(), OutOfMemory>
     requires { All (IsPostedOf set.now) events.now }
-    ensures { OnOk result (text.new.items ≡ text.old.items ++ flat_map (event_line set.now) events.now) }
+    ensures { OnOk result (text.new.items ≡ text.old.items
+        ++ flat_map (event_line set.now) events.now) }
 {
     for posted in events {
         write_event_line(text, set, *posted)?;

@@ -24,7 +24,7 @@ pub write_schedule-requires-clause-entries : goal.write_schedule-requires-clause
 write_schedule-requires-clause-entries c =
     let valid = c.set.ensures.valid in
     let schedule = rw (c.set.ensures.value, c.events.ensures.value) at c.in_ok-made.ensures.schedules in
-    let names = legal_names c.in_ok-input.input.set c.in_ok-made.made.core.history valid.lawful schedule.legal in
+    let names = legal_names c.in_ok-input.input.set c.in_ok-made.made.core.history valid.valid schedule.legal in
     let about =
     about_entries c.in_ok-input.input.set c.in_ok-input.input.events c.in_ok-made.made.core.history valid.each_event
     schedule.each_event in

@@ -21,7 +21,7 @@ pub write_schedule-requires-clause-entries : goal.write_schedule-requires-clause
 write_schedule-requires-clause-entries g c =
     let valid = c.set.ensures.valid in
     let core = rw (c.set.ensures.value, c.events.ensures.value) at c.in_ok-made.ensures.core in
-    let names = legal_names c.in_ok-input.input.set c.in_ok-made.made.core.history valid.lawful core.over.legal in
+    let names = legal_names c.in_ok-input.input.set c.in_ok-made.made.core.history valid.valid core.over.legal in
     let about =
     about_merged c.in_ok-input.input.set c.in_ok-input.input.events c.in_ok-made.made.core.history valid.each_event
     core.merge in

@@ -16,5 +16,9 @@ returns-in_err-reach-clause-refused c =
     let p = err_from_is_err_and c.from_residual-in_err-reach.result c.from_residual-in_err-reach.ensures.1 in
     rw (p.1, p.2) (elim c.in_err-reach.ensures.refused [
       | inl memory ↦ inl memory
-      | inr bad ↦ inr (bad.0, waits_none c.args.word.now c.args.value.now (c.is_word-else-is_word.ensures.0 c.if-is_word-2.true) bad.1)
+      | inr bad ↦ inr (
+        bad.0,
+        waits_none c.args.word.now c.args.value.now
+            (c.is_word-else-is_word.ensures.0 c.if-is_word-2.true) bad.1,
+      )
     ])

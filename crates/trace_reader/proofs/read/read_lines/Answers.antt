@@ -8,7 +8,8 @@ returns-in-Err c = (
   tt,
   elim c.in-Err.ensures.refused [
     | inl none ↦ inl none
-    | inr fault ↦ inr (read_refused c.args.version c.args.bytes.now c.loop-rest.rest.now _ _ c.loop-rest.line _ c.in-Err.kind
+    | inr fault ↦ inr (read_refused c.args.version c.args.bytes.now c.loop-rest.rest.now _ _ c.loop-rest.line _
+        c.in-Err.kind
         c.loop-rest.invariant (search rules) c.first_line.ensures fault)
   ],
 )
@@ -21,7 +22,7 @@ loop-rest-preserved c =
 pub returns-in-Some : goal.returns-in-Some
 returns-in-Some c = (
   read_end c.args.version c.args.bytes.now c.loop-rest.rest.now c.loop-rest.line _ c.loop-rest.invariant
-  (nil_from_length c.loop-rest.rest.now (search (rules, arith))) c.in-Some.input.set c.in-Some.input.events
-  c.in-Some.ensures,
+      (nil_from_length c.loop-rest.rest.now (search (rules, arith))) c.in-Some.input.set c.in-Some.input.events
+      c.in-Some.ensures,
   tt,
 )
