@@ -13,14 +13,14 @@ use Rattle.task_set.specs.declared.event.Event.TheVariants.{Arrive, Depart, Tick
 use Rattle.link_table.specs.declared.reply.Reply.{Reply}
 use Rattle.link_table.specs.declared.reply.Reply.TheVariants.{Placed, Displaced, Freed}
 use Rattle.link_table.specs.declared.reply.Entry.{Entry}
-use Rattle.text_fields.specs.LineText.{line, task_line}
-use Rattle.text_fields.specs.EventText.{name_of, event_text, IsAboutSet}
+use Rattle.text_fields.specs.LineText.{line, task_line, task_fields}
+use Rattle.text_fields.specs.EventText.{name_of, event_text, IsAboutSet, event_fields}
 use Rattle.schedule_text.specs.ScheduleText.{chain_text, set_text, somebody_text, number_text, reply_text, entry_line, context_line, IsReplyOf}
 use Rattle.schedule_text.specs.Schedule.{HasProcessors}
 use Rattle.task_set.specs.Event.{HasUnits}
 use Rattle.schedule_text.specs.LineForms.{HasFields, IsTaskForm, IsEntryForm, IsEntryText, IsContextText}
 use Rattle.schedule_text.specs.Fields.{spaced_fields_of}
-use Rattle.schedule_text.specs.LineFields.{task_fields, event_fields, reply_fields, entry_fields, context_fields, IsTaskFields, IsEntryFields, IsSomeEntry}
+use Rattle.schedule_text.specs.LineFields.{reply_fields, entry_fields, context_fields, IsTaskFields, IsEntryFields, IsSomeEntry}
 use Rattle.schedule_text.proofs.Fields.{split_joined, joined_split}
 use Rattle.schedule_text.proofs.Names.{set_fields}
 use Rattle.schedule_text.proofs.Spaces.{EachByte, IsNoSpace, high_no_space, none_from_no_space, field_no_space, fields_no_space, number_bytes, task_bytes, event_bytes, reply_bytes, context_bytes}

@@ -1,17 +1,14 @@
 -- Fields of which it is known that they say something or nothing.
 use Rattle.std.proofs.Common.{◌≡◌, ◌≢◌, ℕ, zero, suc, ◌<◌, ◌≤◌, ◌^◌, ◌⊎◌, inl, inr, true, nat_lt, List, [], ◌∷◌, length, map, All, Contains, Option, Some, None, refl, sym, ap, ◌∙◌, subst, arith, lit<}
 use Rattle.std.specs.Prelude.{codes}
-use Rattle.std.specs.Char.{digit_value}
-use Rattle.std.specs.Str.Parse.{AllDigits}
 use Rattle.std.proofs.lemmas.Bool.{cases_eq, cases_lt}
 use Rattle.std.proofs.lemmas.List.{length-map}
 use Rattle.std.proofs.lemmas.List.Elements.{All-nil, All-cons, All-head, All-tail, Contains-append_right}
 use Rattle.affinity_mask.specs.ProcSet.{empty}
-use Rattle.affinity_mask.specs.Number.{IsNumber, number_value, canonical_number}
+use Rattle.affinity_mask.specs.Number.{canonical_number}
 use Rattle.affinity_mask.specs.ListText.{IsLawful, IsListText, canonical_list}
 use Rattle.affinity_mask.proofs.Sets.{has-all_below}
 use Rattle.affinity_mask.proofs.TextCases.{text_list_or_fault}
-use Rattle.text_fields.specs.Number.{IsNumberWithin}
 use Rattle.text_fields.proofs.Decisions.{bytes_decided, number_within_decided}
 use Rattle.schedule_text.specs.Schedule.{IsOfProcessors}
 use Rattle.schedule_text.specs.LineForms.{IsField}

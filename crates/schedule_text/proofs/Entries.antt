@@ -8,7 +8,8 @@ use Rattle.link_table.specs.declared.reply.Entry.{Entry}
 use Rattle.schedule_text.specs.declared.fault.TextKind.{TextKind}
 use Rattle.schedule_text.specs.declared.fault.TextKind.TheVariants.{BadLine, UnknownTask}
 use Rattle.schedule_text.specs.Fields.{IsNumberField}
-use Rattle.schedule_text.specs.LineFields.{IsEventFields, IsReplyFields, IsEntryFields, IsSomeEvent, IsSomeReply, IsSomeEntry, IsEventFault, IsReplyFault, IsEntryFault, event_fields}
+use Rattle.schedule_text.specs.LineFields.{IsEventFields, IsReplyFields, IsEntryFields, IsSomeEvent, IsSomeReply, IsSomeEntry, IsEventFault, IsReplyFault, IsEntryFault}
+use Rattle.text_fields.specs.EventText.{event_fields}
 use Rattle.text_fields.proofs.Words.{head_same, tail_same}
 use Rattle.schedule_text.proofs.Names.{set_fields}
 

@@ -17,4 +17,5 @@ mod Once
 mod Paths
 mod OneSchedule
 mod Decisions
+mod EntriesDecided
 mod LinesDecided

@@ -1,13 +1,10 @@
 -- Names of tasks as fields.
-use Rattle.std.proofs.Common.{◌≡◌, ◌≢◌, ℕ, zero, suc, ◌<◌, inl, inr, List, [], ◌∷◌, length, map, get_or, Some, refl, sym, ap, ◌∙◌, subst, arith}
-use Rattle.std.specs.Prelude.{codes, slice_get}
-use Rattle.std.proofs.lemmas.Bool.{true≢false, cases_order}
-use Rattle.std.proofs.lemmas.List.{get_or-map}
+use Rattle.std.proofs.Common.{◌≡◌, ◌≢◌, ℕ, ◌<◌, List, [], ◌∷◌, length, get_or, refl, sym, ap, ◌∙◌, subst, arith}
+use Rattle.std.specs.Prelude.{codes}
+use Rattle.std.proofs.lemmas.Bool.{true≢false}
 use Rattle.std.proofs.lemmas.List.Elements.{All-cons, All-weaker}
-use Rattle.std.proofs.lemmas.Option.{get_or_from_slice_get}
 use Rattle.task_set.specs.Name.{IsName, begins_name}
-use Rattle.task_set.specs.TaskSet.{TaskData, SetData, IsTaskSet, names}
-use Rattle.task_set.specs.Refusal.{IsNewName, IsNameOf}
+use Rattle.task_set.specs.TaskSet.{TaskData, SetData, IsTaskSet}
 use Rattle.text_fields.specs.EventText.{name_of}
 use Rattle.text_fields.proofs.Names.{name_without}
 use Rattle.text_fields.proofs.NamedTasks.{no_task, name_at}

@@ -15,7 +15,7 @@ use Rattle.task_set.specs.declared.event.Event.TheVariants.{Arrive, Depart, Tick
 use Rattle.link_table.specs.declared.reply.Reply.{Reply}
 use Rattle.link_table.specs.declared.reply.Reply.TheVariants.{Placed, Displaced, Waits, Freed, Left, Ticked, AlreadyReady, NotReady}
 use Rattle.link_table.specs.declared.reply.Entry.{Entry}
-use Rattle.text_fields.specs.EventText.{name_of, IsAboutSet}
+use Rattle.text_fields.specs.EventText.{name_of, IsAboutSet, event_fields}
 use Rattle.schedule_text.specs.ScheduleText.{chain_text, set_text, somebody_text, IsReplyOf}
 use Rattle.schedule_text.specs.Schedule.{IsProcessorList, IsOfProcessors, HasProcessors}
 use Rattle.task_set.specs.Event.{HasUnits}
@@ -23,10 +23,10 @@ use Rattle.schedule_text.specs.ScheduleFault.{IsLineFault}
 use Rattle.schedule_text.specs.Prefix.{Progress, HeaderExpected, ProcessorsExpected, TasksExpected, EntriesExpected, ContextsExpected, Ended, IsPrefix}
 use Rattle.schedule_text.specs.LineForms.{IsProcessorsForm, IsTaskForm, IsHistoryForm, IsEntryForm, IsEntryText, IsForm}
 use Rattle.schedule_text.specs.declared.fault.TextKind.{TextKind}
-use Rattle.schedule_text.specs.declared.fault.TextKind.TheVariants.{BadLine, TaskRefused, UnknownTask, Short, AfterEnd, OutOfMemory}
+use Rattle.schedule_text.specs.declared.fault.TextKind.TheVariants.{BadLine, TaskRefused, UnknownTask}
 use Rattle.schedule_text.specs.Reading.{Leads, LeadsTasks, LeadsEntries}
 use Rattle.schedule_text.specs.Fields.{spaced_fields_of}
-use Rattle.schedule_text.specs.LineFields.{IsTaskFields, IsEntryFields, event_fields, reply_fields}
+use Rattle.schedule_text.specs.LineFields.{IsTaskFields, IsEntryFields, reply_fields}
 use Rattle.text_fields.proofs.Words.{head_same, tail_same, clash}
 use Rattle.schedule_text.proofs.Names.{name_of_no_dash, set_fields}
 use Rattle.text_fields.proofs.NamedTasks.{same_task, same_parts}

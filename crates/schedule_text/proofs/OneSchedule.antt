@@ -1,5 +1,5 @@
 -- A text is of one schedule or has one fault, and never both.
-use Rattle.std.proofs.Common.{◌≡◌, ◌≢◌, ℕ, ◌+◌, ◌⊎◌, inl, inr, List, [], ◌∷◌, ◌++◌, Contains, Result, Ok, Err, IfOk, IfErr, MatchResult, refl, sym, ap, ◌∙◌, subst, arith, append_assoc, append-nil, ◌<◌, ◌^◌, lit<}
+use Rattle.std.proofs.Common.{◌≡◌, ◌≢◌, ℕ, ◌+◌, ◌⊎◌, inl, inr, List, [], ◌∷◌, ◌++◌, Contains, Result, Ok, Err, IfOk, MatchResult, refl, sym, ap, ◌∙◌, subst, arith, append_assoc, append-nil, ◌<◌, ◌^◌, lit<}
 use Rattle.std.specs.List.{flat_map, FoldsTo}
 use Rattle.std.proofs.lemmas.List.Elements.{Contains-append_right}
 use Rattle.text_fields.specs.LineText.{line}
@@ -9,7 +9,7 @@ use Rattle.link_table.specs.declared.reply.Entry.{Entry}
 use Rattle.schedule_text.specs.ScheduleText.{text_in}
 use Rattle.schedule_text.specs.Schedule.{ScheduleData, IsSchedule}
 use Rattle.schedule_text.specs.ScheduleFault.{IsLineFault, IsRefusedIn, IsScheduleRefused}
-use Rattle.schedule_text.specs.Prefix.{Progress, HeaderExpected, ProcessorsExpected, TasksExpected, EntriesExpected, ContextsExpected, Ended, text_so_far, lines_so_far, IsPrefix, IsUnended}
+use Rattle.schedule_text.specs.Prefix.{Progress, HeaderExpected, Ended, text_so_far, lines_so_far, IsPrefix, IsUnended}
 use Rattle.schedule_text.specs.Laws.{text_of_schedule, TextHasOneSchedule, TextHasOneFault, ScheduleHasNoFault}
 use Rattle.schedule_text.specs.declared.fault.TextFault.{TextFault}
 use Rattle.schedule_text.specs.declared.fault.TextKind.{TextKind}

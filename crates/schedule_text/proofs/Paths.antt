@@ -1,27 +1,27 @@
 -- Lines without fault, one step after another: they lead from the header to each prefix of a schedule.
-use Rattle.std.proofs.Common.{◌≡◌, ℕ, ◌+◌, ◌<◌, ◌≤◌, ◌^◌, inl, inr, Bool, true, false, not, ◌&&◌, nat_eq, nat_lt, List, [], ◌∷◌, ◌++◌, length, All, Contains, refl, sym, ap, ◌∙◌, subst, arith, append_assoc, append-nil, length-append}
+use Rattle.std.proofs.Common.{◌≡◌, ℕ, ◌<◌, ◌≤◌, ◌^◌, inl, inr, true, nat_lt, List, [], ◌∷◌, ◌++◌, length, All, Contains, refl, sym, ap, ◌∙◌, arith, append_assoc, append-nil, length-append}
 use Rattle.std.specs.Prelude.{codes}
 use Rattle.std.specs.List.{flat_map, FoldsTo}
-use Rattle.std.proofs.lemmas.List.{get_or_append_left, get_or_at}
+use Rattle.std.proofs.lemmas.List.{get_or_at}
 use Rattle.affinity_mask.specs.Number.{canonical_number}
 use Rattle.affinity_mask.proofs.Sets.{has-all_below}
-use Rattle.task_set.specs.TaskSet.{TaskData, SetData, IsTaskSet, Differ, IsMask}
-use Rattle.task_set.specs.Refusal.{CanAdd}
+use Rattle.task_set.specs.TaskSet.{TaskData, SetData, IsTaskSet, IsMask}
 use Rattle.task_set.specs.declared.context.Context.{Context}
 use Rattle.link_table.specs.declared.reply.Entry.{Entry}
-use Rattle.text_fields.specs.LineText.{line}
+use Rattle.text_fields.specs.LineText.{line, task_fields}
 use Rattle.schedule_text.specs.ScheduleText.{header}
 use Rattle.schedule_text.specs.Schedule.{IsOfProcessors, IsScheduled, IsContextOf, AreInOrder, IsScheduleSet}
 use Rattle.schedule_text.specs.Prefix.{Progress, HeaderExpected, ProcessorsExpected, TasksExpected, EntriesExpected, ContextsExpected, Ended, text_so_far, IsPrefix}
 use Rattle.schedule_text.specs.Reading.{Leads}
-use Rattle.schedule_text.specs.LineFields.{task_fields, entry_fields, event_fields, reply_fields, context_fields}
+use Rattle.schedule_text.specs.LineFields.{entry_fields, reply_fields, context_fields}
+use Rattle.text_fields.specs.EventText.{event_fields}
 use Rattle.text_fields.proofs.Folds.{folds_append}
 use Rattle.text_fields.proofs.Addable.{can_add_next}
 use Rattle.schedule_text.proofs.Names.{name_field}
 use Rattle.schedule_text.proofs.Spaces.{EachByte, IsNoFeed, high_no_feed, none_from_no_feed, names_no_feed, name_high, number_bytes, word_bytes, joined_bytes, word_number_bytes, task_bytes, event_bytes, reply_bytes, context_bytes}
 use Rattle.schedule_text.proofs.Bridges.{spaced, task_spaced, entry_spaced, context_spaced}
 use Rattle.schedule_text.proofs.Prefixes.{leads_prefix, leads_text}
-use Rattle.std.proofs.lemmas.List.Elements.{All-nil, All-append, All-cons, All-weaker}
+use Rattle.std.proofs.lemmas.List.Elements.{All-append, All-cons, All-weaker}
 
 module _ (version : ℕ) (small : version < 2 ^ 64) where
   -- a line without fault and without a line feed in it

@@ -1,5 +1,5 @@
 -- A line leads from a prefix of a schedule to the next prefix, whose text has the line more.
-use Rattle.std.proofs.Common.{◌≡◌, ◌≢◌, ℕ, ◌+◌, ◌<◌, ◌≤◌, ◌^◌, ◌⊎◌, inl, inr, List, [], ◌∷◌, ◌++◌, length, Contains, Result, Ok, Err, IfOk, IfErr, refl, sym, ap, ◌∙◌, subst, arith, append_assoc, append-nil, length-append}
+use Rattle.std.proofs.Common.{◌≡◌, ◌≢◌, ℕ, ◌+◌, ◌<◌, ◌≤◌, ◌^◌, inl, inr, List, [], ◌∷◌, ◌++◌, length, Contains, Result, Ok, Err, IfOk, IfErr, refl, sym, ap, ◌∙◌, subst, arith, append_assoc, append-nil, length-append}
 use Rattle.std.specs.Prelude.{codes}
 use Rattle.std.specs.List.{flat_map}
 use Rattle.std.proofs.lemmas.Bool.{cases_lt}
@@ -21,7 +21,7 @@ use Rattle.schedule_text.specs.declared.fault.TextKind.TheVariants.{Short, After
 use Rattle.schedule_text.specs.declared.fault.TextFault.{TextFault}
 use Rattle.schedule_text.specs.declared.stage.Stage.{Stage}
 use Rattle.schedule_text.specs.declared.stage.Stage.TheVariants as stages
-use Rattle.schedule_text.specs.Reading.{progress_of, IsOutOfMemory, IsAnswerTo, Leads, LeadsTasks, LeadsEntries, LeadsContexts}
+use Rattle.schedule_text.specs.Reading.{progress_of, IsAnswerTo, Leads, LeadsTasks, LeadsEntries, LeadsContexts}
 
 -- ---- more of a list
 
@@ -47,29 +47,46 @@ leads_tasks_prefix : (set : SetData) (text : List ℕ) (next : Progress) → IsS
     → LeadsTasks set text next → IsPrefix next
 leads_tasks_prefix set text next prefix (inl (added, last, form, can)) =
     subst IsPrefix (sym last)
-    (record { valid = IsTaskSet-push set added prefix.valid can; priorities = All-push
-    (λ (task : TaskData). task.priority < 2 ^ 32) set.tasks added prefix.priorities form.priority })
+    (record {
+      valid = IsTaskSet-push set added prefix.valid can;
+      priorities = All-push
+          (λ (task : TaskData). task.priority < 2 ^ 32) set.tasks added prefix.priorities form.priority;
+    })
 leads_tasks_prefix set text next prefix (inr (count, last, form)) =
     subst IsPrefix (sym last) (prefix, form.few, omega arith, All-nil (IsScheduled set))
 
 leads_entries_prefix : (set : SetData) (count : ℕ) (entries : List Entry) (text : List ℕ) (next : Progress)
     → IsPrefix (EntriesExpected set count entries) → LeadsEntries set count entries text next → IsPrefix next
 leads_entries_prefix set count entries text next prefix (inl (entry, last, room, form)) =
-    subst IsPrefix (sym last)
-    (prefix.0, prefix.1, omega (arith, length-append entries (entry ∷ [])), All-push (IsScheduled set) entries
-    entry prefix.3 form.scheduled)
+    subst IsPrefix (sym last) (
+      prefix.0,
+      prefix.1,
+      omega (arith, length-append entries (entry ∷ [])),
+      All-push (IsScheduled set) entries
+          entry prefix.3 form.scheduled,
+    )
 leads_entries_prefix set count entries text next prefix (inr (last, full, form)) =
-    subst IsPrefix (sym last)
-    (prefix.0, (let few = prefix.1 in omega arith), prefix.3, omega arith, λ t d within. absurd
-    (omega (arith, within)))
+    subst IsPrefix (sym last) (
+      prefix.0,
+      (let few = prefix.1 in omega arith),
+      prefix.3,
+      omega arith,
+      λ t d within. absurd
+          (omega (arith, within)),
+    )
 
 leads_contexts_prefix : (set : SetData) (entries : List Entry) (contexts : List Context) (text : List ℕ)
     (next : Progress) → IsPrefix (ContextsExpected set entries contexts)
     → LeadsContexts set entries contexts text next → IsPrefix next
 leads_contexts_prefix set entries contexts text next prefix (inl (context, last, room, form)) =
-    subst IsPrefix (sym last)
-    (prefix.0, prefix.1, prefix.2, omega (arith, length-append contexts (context ∷ [])), in_order_more contexts
-    context prefix.4 form.of_task)
+    subst IsPrefix (sym last) (
+      prefix.0,
+      prefix.1,
+      prefix.2,
+      omega (arith, length-append contexts (context ∷ [])),
+      in_order_more contexts
+          context prefix.4 form.of_task,
+    )
 leads_contexts_prefix set entries contexts text next prefix (inr (last, full, form)) =
     subst IsPrefix (sym last)
     (record { tasks = prefix.0; few = prefix.1; each_entry = prefix.2; one_each = full; in_order = prefix.4 })
@@ -204,8 +221,18 @@ module _ (version : ℕ) where
       → IsReadTo bytes rest number expected → IsUnended expected → (Contains rest 10 → ⊥)
       → IsRefusedIn version bytes number Short
   read_short bytes rest number expected so_far unended none =
-      inl (record { expected = expected; rest = rest; prefix = so_far.prefix; unended = unended;
-      order = so_far.order; place = so_far.place; short = none }, refl)
+      inl (
+        record {
+          expected = expected;
+          rest = rest;
+          prefix = so_far.prefix;
+          unended = unended;
+          order = so_far.order;
+          place = so_far.place;
+          short = none;
+        },
+        refl,
+      )
 
   pub read_fault : (bytes rest text after : List ℕ) (number : ℕ) (expected : Progress) (kind : TextKind)
       → IsReadTo bytes rest number expected → IsUnended expected → rest ≡ text ++ 10 ∷ after
@@ -217,7 +244,7 @@ module _ (version : ℕ) where
     prefix = so_far.prefix;
     unended = unended;
     order = so_far.order ∙ ap (λ (back : List ℕ). text_so_far version expected ++ back)
-    (cut ∙ sym (append_assoc text (10 ∷ []) after));
+        (cut ∙ sym (append_assoc text (10 ∷ []) after));
     place = so_far.place;
     one_line = one_line;
     fault = fault;
@@ -227,8 +254,17 @@ module _ (version : ℕ) where
       → IsReadTo bytes rest number (Ended schedule.set schedule.entries schedule.contexts) → rest ≢ []
       → IsRefusedIn version bytes number AfterEnd
   read_past bytes rest number schedule so_far more =
-      inr (inr (record { schedule = schedule; rest = rest; is_schedule = so_far.prefix; order = so_far.order;
-      place = so_far.place; more = more }, refl))
+      inr (inr (
+        record {
+          schedule = schedule;
+          rest = rest;
+          is_schedule = so_far.prefix;
+          order = so_far.order;
+          place = so_far.place;
+          more = more;
+        },
+        refl,
+      ))
 
   pub read_end : (bytes rest : List ℕ) (number : ℕ) (schedule : ScheduleData)
       → IsReadTo bytes rest number (Ended schedule.set schedule.entries schedule.contexts) → rest ≡ [] → bytes
@@ -245,7 +281,7 @@ module _ (version : ℕ) where
         → IsAnswerTo version bytes result
     end_answer (Ok answer) read refused = (
       subst (λ (s : ScheduleData). IsSchedule s × (bytes ≡ text_in version s.set s.entries s.contexts)) (sym read.0)
-      (so_far.prefix, read_end bytes after number schedule so_far read.1),
+          (so_far.prefix, read_end bytes after number schedule so_far read.1),
       tt,
     )
     end_answer (Err fault) read refused =

@@ -21,12 +21,13 @@ use Rattle.task_set.specs.declared.event.Event.{Event}
 use Rattle.task_set.specs.declared.event.Event.TheVariants.{Arrive, Depart, Tick}
 use Rattle.link_table.specs.declared.reply.Reply.{Reply}
 use Rattle.link_table.specs.declared.reply.Reply.TheVariants.{Placed, Displaced, Waits, Freed}
-use Rattle.text_fields.specs.EventText.{name_of, IsAboutSet}
+use Rattle.text_fields.specs.EventText.{name_of, IsAboutSet, event_fields}
 use Rattle.schedule_text.specs.ScheduleText.{chain_text, set_text, somebody_text, number_text, IsReplyOf}
 use Rattle.schedule_text.specs.Schedule.{IsProcessorList, IsOfProcessors, HasProcessors, IsContextOf}
 use Rattle.task_set.specs.Event.{HasUnits}
 use Rattle.schedule_text.specs.LineForms.{IsField, HasFields}
-use Rattle.schedule_text.specs.LineFields.{task_fields, event_fields, reply_fields, context_fields}
+use Rattle.schedule_text.specs.LineFields.{reply_fields, context_fields}
+use Rattle.text_fields.specs.LineText.{task_fields}
 use Rattle.text_fields.proofs.Names.{name_bytes}
 use Rattle.text_fields.proofs.Words.{and_left, and_right}
 use Rattle.text_fields.proofs.NamedTasks.{name_at, no_task}

@@ -2,34 +2,22 @@
 use Rattle.std.specs.Prelude.{◌≡◌, ◌≢◌, ℕ, ◌<◌, ◌^◌, ◌⊎◌, List, [], ◌∷◌, ◌++◌, codes}
 use Rattle.affinity_mask.specs.ProcSet.{empty}
 use Rattle.affinity_mask.specs.Number.{canonical_number}
-use Rattle.affinity_mask.specs.ListText.{canonical_list}
 use Rattle.task_set.specs.TaskSet.{TaskData, SetData, with_task}
 use Rattle.task_set.specs.Refusal.{CanAdd, IsNewName, IsRefusal}
 use Rattle.task_set.specs.declared.context.Context.{Context}
 use Rattle.task_set.specs.declared.fault.TaskFault.{TaskFault}
 use Rattle.task_set.specs.declared.event.Event.{Event}
-use Rattle.task_set.specs.declared.event.Event.TheVariants.{Arrive, Depart, Tick}
 use Rattle.link_table.specs.declared.reply.Reply.{Reply}
 use Rattle.link_table.specs.declared.reply.Reply.TheVariants.{Placed, Displaced, Waits, Freed, Left, Ticked, AlreadyReady, NotReady}
 use Rattle.link_table.specs.declared.reply.Entry.{Entry}
-use Rattle.text_fields.specs.EventText.{name_of, IsAboutSet}
+use Rattle.text_fields.specs.LineText.{task_fields}
+use Rattle.text_fields.specs.EventText.{event_fields, name_of, IsAboutSet}
 use Rattle.schedule_text.specs.ScheduleText.{chain_text, set_text, somebody_text, number_text, IsReplyOf}
 use Rattle.schedule_text.specs.Schedule.{IsOfProcessors, HasProcessors, IsScheduled}
 use Rattle.task_set.specs.Event.{HasUnits}
 use Rattle.schedule_text.specs.LineForms.{IsField, HasFields}
 use Rattle.schedule_text.specs.declared.fault.TextKind.{TextKind}
 use Rattle.schedule_text.specs.declared.fault.TextKind.TheVariants.{BadLine, TaskRefused, UnknownTask}
-
--- a task
-abbrev pub task_fields : TaskData → List (List ℕ)
-task_fields task =
-    codes "task" ∷ task.name ∷ canonical_number task.priority ∷ canonical_list task.mask ∷ []
-
--- an event
-abbrev pub event_fields : SetData → Event → List (List ℕ)
-event_fields set (Arrive t) = codes "arrive" ∷ name_of set t ∷ []
-event_fields set (Depart t) = codes "depart" ∷ name_of set t ∷ []
-event_fields set (Tick units) = codes "tick" ∷ canonical_number units ∷ []
 
 -- a reply
 abbrev pub reply_fields : SetData → Reply → List (List ℕ)

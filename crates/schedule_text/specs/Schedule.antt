@@ -3,7 +3,8 @@
 -- tasks that it names are of the set, and its chain and its sets are of processors below 64.
 use Rattle.std.specs.Prelude.{◌≡◌, ℕ, ◌<◌, ◌≤◌, ◌^◌, List, length, All, IfSome, slice_index_or}
 use Rattle.affinity_mask.specs.ProcSet.{all_below, Within}
-use Rattle.task_set.specs.TaskSet.{TaskData, SetData, IsTaskSet}
+use Rattle.text_fields.specs.LineText.{PrioritiesFit}
+use Rattle.task_set.specs.TaskSet.{SetData, IsTaskSet}
 use Rattle.task_set.specs.declared.context.Context.{Context}
 use Rattle.task_set.specs.Event.{HasUnits}
 use Rattle.link_table.specs.declared.reply.Reply.{Reply}
@@ -55,7 +56,7 @@ AreInOrder contexts =
 -- tasks with the priorities of the format
 pub record IsScheduleSet (set : SetData) : Type 0 where
   pub valid : IsTaskSet set
-  pub priorities : All (λ (task : TaskData). task.priority < 2 ^ 32) set.tasks
+  pub priorities : PrioritiesFit set
 
 -- what holds of each schedule
 pub record IsSchedule (schedule : ScheduleData) : Type 0 where

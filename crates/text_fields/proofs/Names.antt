@@ -7,7 +7,7 @@ use Rattle.std.proofs.lemmas.List.Elements.{All-cons, All-weaker, All-contains}
 use Rattle.std.proofs.lemmas.Str.{IsUtf8-from_ascii}
 use Rattle.std.proofs.lemmas.Str.Ascii.{IsAscii-from_all}
 use Rattle.task_set.specs.Name.{IsName, begins_name, continues_name}
-use Rattle.task_set.specs.TaskSet.{TaskData, SetData, IsTaskSet}
+use Rattle.task_set.specs.TaskSet.{SetData, IsTaskSet}
 use Rattle.task_set.specs.Refusal.{IsNewName}
 
 begins_continues : (b : ℕ) → IsTrue (begins_name b) → IsTrue (continues_name b)

@@ -1,6 +1,5 @@
 -- Fields that are no text: they are no numbers, and no names.
-use Rattle.std.proofs.Common.{◌≡◌, ℕ, ◌<◌, ◌≤◌, List, [], ◌∷◌, Bool, true, false, ◌||◌, Result, Ok, Err, Option, Some, None, MatchResult, Bor, sym, ap, ◌∙◌, IsTrue, arith, length, rules}
-use Rattle.std.specs.Prelude.{All}
+use Rattle.std.proofs.Common.{◌≡◌, ℕ, List, Result, Ok, Err, None, MatchResult, Bor}
 use Rattle.std.specs.Result.{result_ok}
 use Rattle.std.specs.Str.{IsUtf8}
 use Rattle.std.proofs.lemmas.Fmt.{IsAscii-from_digits}

@@ -1,5 +1,5 @@
 -- Events as both texts write them: a task is named by its name, and a number is canonical.
-use Rattle.std.specs.Prelude.{ℕ, List, [], ◌++◌, length, codes, slice_index_or}
+use Rattle.std.specs.Prelude.{ℕ, List, [], ◌∷◌, ◌++◌, length, codes, slice_index_or}
 use Rattle.affinity_mask.specs.Number.{canonical_number}
 use Rattle.task_set.specs.TaskSet.{SetData, names}
 use Rattle.task_set.specs.Event.{IsOfTasks}
@@ -19,3 +19,9 @@ unfoldable pub event_text : SetData → Event → List ℕ
 event_text set (Arrive t) = codes "arrive " ++ name_of set t
 event_text set (Depart t) = codes "depart " ++ name_of set t
 event_text set (Tick units) = codes "tick " ++ canonical_number units
+
+-- its fields
+abbrev pub event_fields : SetData → Event → List (List ℕ)
+event_fields set (Arrive t) = codes "arrive" ∷ name_of set t ∷ []
+event_fields set (Depart t) = codes "depart" ∷ name_of set t ∷ []
+event_fields set (Tick units) = codes "tick" ∷ canonical_number units ∷ []

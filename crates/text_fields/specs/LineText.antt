@@ -19,6 +19,11 @@ task_line task =
     line (codes "task " ++ task.name ++ codes " " ++ canonical_number task.priority ++ codes " "
     ++ canonical_list task.mask)
 
+-- the fields of a task's line
+abbrev pub task_fields : TaskData → List (List ℕ)
+task_fields task =
+    codes "task" ∷ task.name ∷ canonical_number task.priority ∷ canonical_list task.mask ∷ []
+
 -- each priority is below 2 to the power of 32, as in both formats
 abbrev pub PrioritiesFit : SetData → Type 0
 PrioritiesFit set = All (λ (task : TaskData). task.priority < 2 ^ 32) set.tasks

@@ -25,8 +25,10 @@ module _ (bytes : List ℕ) (result : Result InputData InputFault)
           → MatchResult result (λ input. (input.set ≡ set) × (input.events ≡ events)) (λ fault. IsOutOfMemory fault.kind)
       by (Ok input) read refused = text_has_one_input bytes input.set set input.events events read text
       by (Err fault) read refused =
-          elim refused [ inl memory ↦ memory
-          | inr why ↦ absurd (input_has_no_fault bytes set events fault.line fault.kind text why) ]
+          elim refused [
+            | inl memory ↦ memory
+            | inr why ↦ absurd (input_has_no_fault bytes set events fault.line fault.kind text why)
+          ]
 
   -- for a text that is refused, its line and its kind
   pub answers_fault : (line : ℕ) (kind : InputKind) → IsInputRefused bytes line kind
@@ -41,5 +43,7 @@ module _ (bytes : List ℕ) (result : Result InputData InputFault)
           (λ fault. IsOutOfMemory fault.kind ⊎ ((fault.line ≡ line) × (fault.kind ≡ kind)))
       by (Ok input) read refused = input_has_no_fault bytes input.set input.events line kind read why
       by (Err fault) read refused =
-          elim refused [ inl memory ↦ inl memory
-          | inr found ↦ inr (text_has_one_fault bytes fault.line line fault.kind kind found why) ]
+          elim refused [
+            | inl memory ↦ inl memory
+            | inr found ↦ inr (text_has_one_fault bytes fault.line line fault.kind kind found why)
+          ]

@@ -1,31 +1,27 @@
 -- The canonical text of an input is a text of it: its lines have just the fields that the grammar wants.
-use Rattle.std.proofs.Common.{◌≡◌, ℕ, ◌+◌, ◌<◌, ◌≤◌, ◌^◌, List, [], ◌∷◌, ◌++◌, length, map, All, get_or, refl, sym, ap, ap₂, ◌∙◌, arith, append_assoc, append-nil, false, lit<}
+use Rattle.std.proofs.Common.{◌≡◌, ℕ, ◌<◌, ◌≤◌, ◌^◌, List, [], ◌∷◌, ◌++◌, map, All, refl, sym, ap, ap₂, ◌∙◌, arith, append_assoc, false, lit<}
 use Rattle.std.specs.Prelude.{codes}
 use Rattle.std.specs.List.{flat_map, AllZip}
 use Rattle.std.proofs.lemmas.Bool.{lt-ltb}
-use Rattle.std.proofs.lemmas.List.{length-map, get_or-map}
 use Rattle.std.proofs.lemmas.List.Concat.{flat_map-append}
 use Rattle.std.proofs.lemmas.List.Elements.{All-nil, All-cons, All-head, All-tail, All-append, All-weaker, All-map, All-from_recursion}
-use Rattle.std.proofs.lemmas.Option.{slice_get-get_or}
 use Rattle.affinity_mask.specs.Number.{canonical_number}
-use Rattle.affinity_mask.specs.ProcSet.{has, all_below, Within}
 use Rattle.affinity_mask.specs.ListText.{IsListText, canonical_list}
 use Rattle.affinity_mask.proofs.Sets.{has-all_below}
 use Rattle.affinity_mask.proofs.Runs.{canonical_list-IsListText}
 use Rattle.task_set.specs.Name.{IsName}
-use Rattle.task_set.specs.TaskSet.{TaskData, SetData, IsMask, IsTaskSet, names}
-use Rattle.task_set.specs.Refusal.{IsNameOf}
+use Rattle.task_set.specs.TaskSet.{TaskData, SetData, IsMask, IsTaskSet}
 use Rattle.task_set.specs.declared.event.Event.{Event}
 use Rattle.task_set.specs.declared.event.Event.TheVariants.{Arrive, Depart, Tick}
 use Rattle.trace_reader.specs.declared.posted.Posted.{Posted}
-use Rattle.text_fields.specs.LineText.{line, processors_line, task_line, PrioritiesFit}
-use Rattle.text_fields.specs.EventText.{name_of, event_text}
+use Rattle.text_fields.specs.LineText.{task_fields, line, processors_line, task_line, PrioritiesFit}
+use Rattle.text_fields.specs.EventText.{event_fields, name_of, event_text}
 use Rattle.trace_reader.specs.CanonicalText.{event_line, header_line, canonical_text, canonical_input_text}
 use Rattle.trace_reader.specs.Input.{IsEventOf, IsPostedOf, IsInput}
 use Rattle.trace_reader.specs.InputText.{IsHeader, IsProcessorsLine, IsTaskLine, IsEventFields, IsEventLine, IsBody, IsTextOf, IsInputText, end_line}
 use Rattle.trace_reader.specs.Lines.{lines_of, said_by, is_skipped}
 use Rattle.text_fields.proofs.NamedTasks.{has_name, name_valid}
-use Rattle.trace_reader.proofs.CanonicalFields.{IsVisible, IsField, IsLineOf, spaced, text_of, lines_of-text, said_by-text, clean-text}
+use Rattle.trace_reader.proofs.CanonicalFields.{IsField, IsLineOf, spaced, text_of, lines_of-text, said_by-text, clean-text}
 use Rattle.trace_reader.proofs.CanonicalPieces.{word-field, number-value, number-field, number-unskipped, name-field, list-field}
 
 -- ---- the fields of the canonical lines
@@ -35,14 +31,6 @@ header_fields version = codes "apa" ∷ canonical_number version ∷ []
 
 abbrev processors_fields : SetData → List (List ℕ)
 processors_fields set = codes "processors" ∷ canonical_number set.processors ∷ []
-
-abbrev task_fields : TaskData → List (List ℕ)
-task_fields task = codes "task" ∷ task.name ∷ canonical_number task.priority ∷ canonical_list task.mask ∷ []
-
-abbrev event_fields : SetData → Event → List (List ℕ)
-event_fields set (Arrive t) = codes "arrive" ∷ name_of set t ∷ []
-event_fields set (Depart t) = codes "depart" ∷ name_of set t ∷ []
-event_fields set (Tick units) = codes "tick" ∷ canonical_number units ∷ []
 
 abbrev posted_fields : SetData → Posted → List (List ℕ)
 posted_fields set posted = canonical_number posted.stream ∷ event_fields set posted.event

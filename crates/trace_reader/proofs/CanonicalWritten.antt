@@ -1,19 +1,12 @@
 -- What the writer appended, piece by piece.
-use Rattle.std.proofs.Common.{◌≡◌, ℕ, ◌+◌, ◌<◌, ◌^◌, List, [], ◌∷◌, ◌++◌, length, take, get_or, All, refl, sym, ap, ◌∙◌, append_assoc, arith}
-use Rattle.std.specs.Prelude.{codes, slice_index}
+use Rattle.std.proofs.Common.{◌≡◌, ℕ, List, [], ◌∷◌, ◌++◌, refl, append_assoc}
+use Rattle.std.specs.Prelude.{codes}
 use Rattle.std.specs.List.{flat_map}
-use Rattle.std.proofs.lemmas.List.{get_or-map, take_more, flat_map_more}
-use Rattle.std.proofs.lemmas.List.Elements.{All-more}
-use Rattle.std.proofs.lemmas.Option.{slice_get-get_or, get_or_from_slice_get, same_Some}
 use Rattle.affinity_mask.specs.Number.{canonical_number}
-use Rattle.affinity_mask.specs.ListText.{canonical_list}
-use Rattle.task_set.specs.TaskSet.{TaskData, SetData, names, priorities, masks}
-use Rattle.task_set.specs.Refusal.{new_task, IsNameOf}
-use Rattle.task_set.specs.declared.event.Event.{Event}
-use Rattle.task_set.specs.declared.event.Event.TheVariants.{Arrive, Depart, Tick}
+use Rattle.task_set.specs.TaskSet.{SetData}
 use Rattle.trace_reader.specs.declared.posted.Posted.{Posted}
 use Rattle.text_fields.specs.LineText.{line, processors_line, task_line}
-use Rattle.text_fields.specs.EventText.{name_of, event_text}
+use Rattle.text_fields.specs.EventText.{event_text}
 use Rattle.trace_reader.specs.CanonicalText.{event_line, header_line, canonical_text}
 
 -- pieces that are appended one after another

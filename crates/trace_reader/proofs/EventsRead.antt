@@ -1,17 +1,14 @@
 -- The events of a text are events of its task set.
-use Rattle.std.proofs.Common.{◌≡◌, ℕ, ◌<◌, ◌≤◌, List, [], ◌∷◌, length, All, arith, rules}
+use Rattle.std.proofs.Common.{ℕ, List, [], ◌∷◌, All, arith}
 use Rattle.std.specs.List.{AllZip}
-use Rattle.std.proofs.lemmas.List.{length-map}
 use Rattle.std.proofs.lemmas.List.Elements.{All-nil, All-cons}
-use Rattle.std.proofs.lemmas.Option.{slice_get_within}
-use Rattle.task_set.specs.TaskSet.{TaskData, SetData, names}
+use Rattle.task_set.specs.TaskSet.{SetData}
 use Rattle.task_set.specs.declared.event.Event.{Event}
 use Rattle.task_set.specs.declared.event.Event.TheVariants.{Arrive, Depart, Tick}
 use Rattle.text_fields.proofs.NamedTasks.{named_task}
 use Rattle.trace_reader.specs.declared.posted.Posted.{Posted}
 use Rattle.trace_reader.specs.Input.{IsEventOf, IsPostedOf}
 use Rattle.trace_reader.specs.InputText.{IsEventFields, IsEventLine, IsBody}
-use Rattle.trace_reader.specs.Progress.{Listed, Ended, Expects}
 
 event_of_fields : (set : SetData) (fields : List (List ℕ)) (event : Event) → IsEventFields set fields event
     → IsEventOf set event

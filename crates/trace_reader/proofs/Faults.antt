@@ -9,7 +9,7 @@ use Rattle.task_set.specs.declared.fault.TaskFault.{TaskFault}
 use Rattle.task_set.proofs.Refusals.{CanAdd-IsRefusal, same_refusal}
 use Rattle.trace_reader.specs.declared.posted.Posted.{Posted}
 use Rattle.trace_reader.specs.declared.fault.InputKind.{InputKind}
-use Rattle.trace_reader.specs.declared.fault.InputKind.TheVariants.{BadByte, LongLine, BadHeader, BadProcessors, BadTask, BadMask, TaskRefused, BadEvent, UnknownTask, ManyEvents, AfterEnd, NoEnd, OutOfMemory}
+use Rattle.trace_reader.specs.declared.fault.InputKind.TheVariants.{BadHeader, BadProcessors, BadTask, BadMask, TaskRefused, BadEvent, UnknownTask, ManyEvents, AfterEnd}
 use Rattle.trace_reader.specs.InputText.{IsHeader, IsProcessorsLine, IsTaskForm, IsTaskLine, IsEventLine, end_line}
 use Rattle.trace_reader.specs.InputFault.{IsFieldsFault}
 use Rattle.trace_reader.specs.Progress.{Progress, HeaderExpected, ProcessorsExpected, Listed, Ended}

@@ -2,7 +2,7 @@
 use Rattle.std.proofs.Common.{◌≡◌, ℕ, List, [], ◌∷◌, length, get_or, codes, refl, sym, ap, ◌∙◌, subst, inl, inr, arith}
 use Rattle.affinity_mask.specs.Number.{IsNumber}
 use Rattle.task_set.specs.TaskSet.{TaskData, SetData, IsTaskSet}
-use Rattle.task_set.specs.Refusal.{IsNewName, new_task}
+use Rattle.task_set.specs.Refusal.{IsNewName}
 use Rattle.task_set.specs.declared.event.Event.{Event}
 use Rattle.task_set.specs.declared.event.Event.TheVariants.{Arrive, Depart, Tick}
 use Rattle.trace_reader.specs.declared.posted.Posted.{Posted}

@@ -1,19 +1,18 @@
 -- Lines that were read, one after another.
-use Rattle.std.proofs.Common.{◌≡◌, ◌≢◌, ℕ, ◌+◌, ◌<◌, ◌≤◌, ◌⊎◌, List, [], ◌∷◌, ◌++◌, length, true, false, not, refl, sym, ap, ◌∙◌, inl, inr, arith, rules, append_assoc, length-append, All, Contains, cond}
+use Rattle.std.proofs.Common.{◌≡◌, ◌≢◌, ℕ, ◌+◌, ◌<◌, ◌≤◌, List, [], ◌∷◌, ◌++◌, length, true, false, not, refl, sym, ap, ◌∙◌, inl, inr, arith, rules, append_assoc, length-append, All, Contains}
 use Rattle.std.specs.Prelude.{filter, map}
-use Rattle.std.specs.List.{onto_first}
 use Rattle.std.proofs.lemmas.List.{map-append, append-nil}
-use Rattle.std.proofs.lemmas.List.Elements.{filter-append, All-nil, All-cons, All-push, Contains-append_right}
-use Rattle.std.proofs.lemmas.Bool.{cases_Bool, true≢false}
+use Rattle.std.proofs.lemmas.List.Elements.{filter-append, All-nil, All-push, Contains-append_right}
+use Rattle.std.proofs.lemmas.Bool.{cases_Bool}
 use Rattle.task_set.specs.TaskSet.{SetData}
 use Rattle.trace_reader.specs.declared.posted.Posted.{Posted}
 use Rattle.trace_reader.specs.declared.fault.InputKind.{InputKind}
 use Rattle.trace_reader.specs.declared.fault.InputKind.TheVariants.{NoEnd}
 use Rattle.trace_reader.specs.Lines.{is_line_feed, lines_of, fields_of, is_skipped, said_by, IsClean}
 use Rattle.trace_reader.specs.InputText.{IsTextOf}
-use Rattle.trace_reader.specs.InputFault.{IsLineFault, IsFirstFault, IsEndless, IsRefusedIn}
+use Rattle.trace_reader.specs.InputFault.{IsLineFault, IsRefusedIn}
 use Rattle.trace_reader.specs.Progress.{Progress, HeaderExpected, Ended, Expects}
-use Rattle.trace_reader.specs.Reading.{Says, SaysLine, IsFirstLine}
+use Rattle.trace_reader.specs.Reading.{SaysLine, IsFirstLine}
 use Rattle.trace_reader.proofs.Expected.{expects_more}
 
 no_feed : (b : ℕ) → (b ≡ 10 → ⊥) → is_line_feed b ≡ false
@@ -65,8 +64,15 @@ module _ (version : ℕ) where
 
   pub read_start : (bytes : List ℕ) → IsReadTo bytes bytes 1 HeaderExpected
   read_start bytes =
-      record { before = []; order = refl; place = refl; clean = All-nil IsClean; expects = refl; bound = omega
-      arith }
+      record {
+        before = [];
+        order = refl;
+        place = refl;
+        clean = All-nil IsClean;
+        expects = refl;
+        bound = omega
+            arith;
+      }
 
   skipped_says_nothing : (before : List (List ℕ)) (line : List ℕ) → is_skipped (fields_of line) ≡ true
       → said_by (before ++ line ∷ []) ≡ said_by before
@@ -98,7 +104,7 @@ module _ (version : ℕ) where
   read_more bytes rest line after number expected next so_far some first says = record {
     before = so_far.before ++ line ∷ [];
     order = so_far.order ∙ ap (λ (ls : List (List ℕ)). so_far.before ++ ls)
-    (lines_of-first rest line after some first) ∙ sym (append_assoc so_far.before (line ∷ []) (lines_of after));
+        (lines_of-first rest line after some first) ∙ sym (append_assoc so_far.before (line ∷ []) (lines_of after));
     place = (let place = so_far.place in omega (arith, length-append so_far.before (line ∷ [])));
     clean = All-push IsClean so_far.before line so_far.clean says.0;
     expects = expects_after so_far.before line expected next so_far.expects says;
@@ -137,5 +143,14 @@ module _ (version : ℕ) where
     pub read_endless : ((set : SetData) (events : List Posted) → expected ≢ Ended set events)
         → IsRefusedIn version bytes number NoEnd
     read_endless unended =
-        inr (record { expected = expected; clean = rw all_lines so_far.clean; expects = rw all_lines
-        so_far.expects; unended = unended; place = rw all_lines so_far.place }, refl)
+        inr (
+          record {
+            expected = expected;
+            clean = rw all_lines so_far.clean;
+            expects = rw all_lines
+                so_far.expects;
+            unended = unended;
+            place = rw all_lines so_far.place;
+          },
+          refl,
+        )

@@ -1,5 +1,5 @@
 -- Lines that the reader refuses.
-use Rattle.std.proofs.Common.{◌≡◌, ◌≢◌, ℕ, ◌<◌, ◌≤◌, ◌⊎◌, List, [], ◌∷◌, length, true, false, Bor, refl, sym, ap, ◌∙◌, inl, inr, arith}
+use Rattle.std.proofs.Common.{◌≡◌, ◌≢◌, ℕ, ◌⊎◌, List, [], false, refl, inl, inr}
 use Rattle.std.specs.Prelude.{IfErr, Result, Ok, Err}
 use Rattle.affinity_mask.specs.ListText.{IsListText}
 use Rattle.task_set.specs.TaskSet.{SetData}
@@ -8,7 +8,7 @@ use Rattle.task_set.specs.declared.fault.TaskFault.{TaskFault}
 use Rattle.task_set.specs.declared.fault.TaskFault.TheVariants as task
 use Rattle.trace_reader.specs.declared.posted.Posted.{Posted}
 use Rattle.trace_reader.specs.declared.fault.InputKind.{InputKind}
-use Rattle.trace_reader.specs.declared.fault.InputKind.TheVariants.{BadByte, LongLine, BadHeader, BadProcessors, BadTask, BadMask, TaskRefused, BadEvent, UnknownTask, ManyEvents, AfterEnd, NoEnd, OutOfMemory}
+use Rattle.trace_reader.specs.declared.fault.InputKind.TheVariants.{BadByte, LongLine}
 use Rattle.trace_reader.specs.Lines.{fields_of, is_skipped, IsClean}
 use Rattle.trace_reader.specs.InputText.{IsTaskForm, end_line}
 use Rattle.trace_reader.specs.InputFault.{IsFieldsFault, IsLineFault, kind_of_refusal}

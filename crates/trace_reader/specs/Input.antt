@@ -1,6 +1,6 @@
 -- Inputs. An input is a task set and a list of events, each on a stream; there are at most
 -- 20,000 events, their streams are below 16, their tasks are of the set, and a tick has from 1 to 1,000,000 units.
-use Rattle.std.specs.Prelude.{ℕ, ◌<◌, ◌≤◌, List, length, All}
+use Rattle.std.specs.Prelude.{◌<◌, ◌≤◌, List, length, All}
 use Rattle.task_set.specs.TaskSet.{SetData, IsTaskSet}
 use Rattle.task_set.specs.declared.event.Event.{Event}
 use Rattle.task_set.specs.Event.{IsOfTasks, HasUnits}

@@ -1,6 +1,6 @@
 -- Laws of the input text. They rest on nothing but the definitions that they name.
-use Rattle.std.specs.Prelude.{◌≡◌, ◌<◌, ℕ, ◌⊎◌, List, All, ◌^◌}
-use Rattle.task_set.specs.TaskSet.{TaskData, SetData}
+use Rattle.std.specs.Prelude.{◌≡◌, ℕ, ◌⊎◌, List}
+use Rattle.task_set.specs.TaskSet.{SetData}
 use Rattle.trace_reader.specs.declared.posted.Posted.{Posted}
 use Rattle.trace_reader.specs.declared.fault.InputKind.{InputKind}
 use Rattle.trace_reader.specs.InputText.{IsInputText}

@@ -1,7 +1,7 @@
 -- Lines and fields. A text is cut into lines at its line feeds, and what follows the last
 -- line feed is a line only where it has bytes; a line is cut into fields by blanks, which are spaces and tabs; a line is
 -- skipped where it has no field, or where its first field begins with '#'.
-use Rattle.std.specs.Prelude.{ℕ, ◌<◌, ◌≤◌, ◌⊎◌, ◌≡◌, Bool, true, false, not, ◌==◌, ◌||◌, List, [], ◌∷◌, length, map, filter, All, if◌then◌else◌}
+use Rattle.std.specs.Prelude.{ℕ, ◌≤◌, ◌⊎◌, ◌≡◌, Bool, true, false, not, ◌==◌, ◌||◌, List, [], ◌∷◌, length, map, filter, All, if◌then◌else◌}
 use Rattle.std.specs.List.{slice_split, onto_first}
 
 -- the byte is a line feed

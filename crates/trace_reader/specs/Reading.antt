@@ -6,13 +6,12 @@ use Rattle.task_set.specs.Refusal.{CanAdd, IsNewName}
 use Rattle.trace_reader.specs.declared.posted.Posted.{Posted}
 use Rattle.trace_reader.specs.declared.stage.Stage.{Stage}
 use Rattle.trace_reader.specs.declared.stage.Stage.TheVariants as stage
-use Rattle.trace_reader.specs.Lines.{lines_of, fields_of, is_skipped, IsClean}
+use Rattle.trace_reader.specs.Lines.{fields_of, is_skipped, IsClean}
 use Rattle.trace_reader.specs.declared.fault.InputFault.{InputFault}
 use Rattle.trace_reader.specs.declared.fault.InputKind.{InputKind}
 use Rattle.trace_reader.specs.Input.{InputData}
 use Rattle.trace_reader.specs.declared.fault.InputKind.TheVariants.{BadEvent, UnknownTask, OutOfMemory}
 use Rattle.trace_reader.specs.InputText.{IsHeader, IsProcessorsLine, IsTaskLine, IsEventLine, IsTextOf, end_line}
-use Rattle.text_fields.specs.Number.{IsNumberWithin}
 use Rattle.trace_reader.specs.InputFault.{IsRefusedIn}
 use Rattle.trace_reader.specs.Progress.{Progress, HeaderExpected, ProcessorsExpected, Listed, Ended}
 use Rattle.trace_reader.specs.LineForms.{IsNamedForm, IsNameWord, IsTick, IsEventForm}

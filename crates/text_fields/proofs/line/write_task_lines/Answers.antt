@@ -1,4 +1,4 @@
-use Rattle.std.proofs.Common.{arith, ◌<◌, ◌^◌, length}
+use Rattle.std.proofs.Common.{arith, ◌<◌, length}
 use Rattle.text_fields.proofs.Written.{tasks_more}
 use Rattle.text_fields.proofs.line.write_task_lines.Goals as goal
 

@@ -1,4 +1,4 @@
-use Rattle.std.proofs.Common.{ap, sym, ◌∙◌, ◌++◌, ℕ, List}
+use Rattle.std.proofs.Common.{ap, ◌∙◌, ◌++◌, ℕ, List}
 use Rattle.text_fields.proofs.NamedTasks.{named_task}
 use Rattle.text_fields.proofs.name.write_name.Goals as goal
 

@@ -1,6 +1,6 @@
-use Rattle.std.proofs.Common.{rules, arith, inl, inr, ◌≢◌, []}
+use Rattle.std.proofs.Common.{rules, arith, inl, inr}
 use Rattle.std.proofs.lemmas.List.{nil_from_length}
-use Rattle.trace_reader.proofs.ReadLines.{read_more, read_refused, read_end, read_endless}
+use Rattle.trace_reader.proofs.ReadLines.{read_more, read_refused, read_end}
 use Rattle.trace_reader.proofs.read.read_lines.Goals as goal
 
 pub returns-in-Err : goal.returns-in-Err

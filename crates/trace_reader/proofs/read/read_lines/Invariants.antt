@@ -1,7 +1,4 @@
-use Rattle.std.proofs.Common.{◌≡◌, ℕ, ◌+◌, List, ◌++◌, length}
-use Rattle.std.specs.Prelude.{All}
-use Rattle.trace_reader.specs.Lines.{lines_of, said_by, IsClean}
-use Rattle.trace_reader.specs.Progress.{Expects}
+use Rattle.std.proofs.Common.{length}
 use Rattle.trace_reader.specs.Reading.{progress_of}
 use Rattle.trace_reader.proofs.ReadLines.{IsReadTo}
 use Rattle.trace_reader.proofs.read.read_lines.Given as goal

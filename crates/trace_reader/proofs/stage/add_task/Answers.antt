@@ -1,4 +1,4 @@
-use Rattle.std.proofs.Common.{refl, inl, inr, rules}
+use Rattle.std.proofs.Common.{refl, inr}
 use Rattle.std.proofs.lemmas.Result.{err_from_is_err_and}
 use Rattle.trace_reader.proofs.FieldLists.{task_fields}
 use Rattle.text_fields.proofs.Names.{name_is_text}

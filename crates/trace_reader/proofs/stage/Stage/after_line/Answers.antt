@@ -1,7 +1,5 @@
-use Rattle.std.proofs.Common.{rules, sym, ◌∙◌, ap, arith}
+use Rattle.std.proofs.Common.{rules, arith}
 use Rattle.trace_reader.specs.Reading.{progress_of}
-use Rattle.text_fields.specs.Fields.{texts}
-use Rattle.trace_reader.specs.Lines.{is_skipped}
 use Rattle.trace_reader.proofs.Refused.{after_refused}
 use Rattle.trace_reader.proofs.stage.Stage.after_line.Goals as goal
 
