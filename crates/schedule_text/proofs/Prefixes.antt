@@ -62,8 +62,7 @@ leads_entries_prefix set count entries text next prefix (inl (entry, last, room,
       prefix.0,
       prefix.1,
       omega (arith, length-append entries (entry ∷ [])),
-      All-push (IsScheduled set) entries
-          entry prefix.3 form.scheduled,
+      All-push (IsScheduled set) entries entry prefix.3 form.scheduled,
     )
 leads_entries_prefix set count entries text next prefix (inr (last, full, form)) =
     subst IsPrefix (sym last) (
@@ -71,8 +70,7 @@ leads_entries_prefix set count entries text next prefix (inr (last, full, form))
       (let few = prefix.1 in omega arith),
       prefix.3,
       omega arith,
-      λ t d within. absurd
-          (omega (arith, within)),
+      λ t d within. absurd (omega (arith, within)),
     )
 
 leads_contexts_prefix : (set : SetData) (entries : List Entry) (contexts : List Context) (text : List ℕ)
@@ -84,8 +82,7 @@ leads_contexts_prefix set entries contexts text next prefix (inl (context, last,
       prefix.1,
       prefix.2,
       omega (arith, length-append contexts (context ∷ [])),
-      in_order_more contexts
-          context prefix.4 form.of_task,
+      in_order_more contexts context prefix.4 form.of_task,
     )
 leads_contexts_prefix set entries contexts text next prefix (inr (last, full, form)) =
     subst IsPrefix (sym last)

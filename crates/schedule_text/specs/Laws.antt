@@ -12,14 +12,15 @@ text_of_schedule schedule = schedule_text schedule.set schedule.entries schedule
 -- two schedules with one text are equal
 abbrev pub TextHasOneSchedule : Type 0
 TextHasOneSchedule =
-    (one other : ScheduleData) → IsSchedule one → IsSchedule other → text_of_schedule one
-    ≡ text_of_schedule other → one ≡ other
+    (one other : ScheduleData) → IsSchedule one → IsSchedule other
+    → text_of_schedule one ≡ text_of_schedule other → one ≡ other
 
 -- a text is refused with at most one line and one kind
 abbrev pub TextHasOneFault : Type 0
 TextHasOneFault =
-    (bytes : List ℕ) (line other : ℕ) (kind another : TextKind) → IsScheduleRefused bytes line kind
-    → IsScheduleRefused bytes other another → (line ≡ other) × (kind ≡ another)
+    (bytes : List ℕ) (line other : ℕ) (kind another : TextKind)
+    → IsScheduleRefused bytes line kind → IsScheduleRefused bytes other another
+    → (line ≡ other) × (kind ≡ another)
 
 -- the text of no schedule is refused
 abbrev pub ScheduleHasNoFault : Type 0
@@ -30,6 +31,6 @@ ScheduleHasNoFault =
 -- each text is that of a schedule or is refused
 abbrev pub AcceptedOrRefused : Type 0
 AcceptedOrRefused =
-    (bytes : List ℕ) → ((schedule : ScheduleData) × IsSchedule schedule
-    × (bytes ≡ text_of_schedule schedule)) ⊎ ((line : ℕ) × (kind : TextKind)
-    × IsScheduleRefused bytes line kind)
+    (bytes : List ℕ)
+    → ((schedule : ScheduleData) × IsSchedule schedule × (bytes ≡ text_of_schedule schedule))
+    ⊎ ((line : ℕ) × (kind : TextKind) × IsScheduleRefused bytes line kind)

@@ -95,6 +95,6 @@ IsForm version (EntriesExpected set count entries) text =
     ⊎ ((length entries ≡ count) × IsCountForm set text)
 IsForm version (ContextsExpected set entries contexts) text =
     ((length contexts < length set.tasks)
-    × ((context : Context) × IsContextText set (length contexts) text context)) ⊎ ((length contexts
-    ≡ length set.tasks) × (text ≡ codes "end"))
+    × ((context : Context) × IsContextText set (length contexts) text context))
+    ⊎ ((length contexts ≡ length set.tasks) × (text ≡ codes "end"))
 IsForm version (Ended set entries contexts) text = ⊥

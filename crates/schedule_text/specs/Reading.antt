@@ -77,7 +77,8 @@ Leads version (Ended set entries contexts) text next = ⊥
 -- memory
 abbrev pub IsAnswerTo : ℕ → List ℕ → Result ScheduleData TextFault → Type 0
 IsAnswerTo version bytes result =
-    IfOk result (λ schedule. IsSchedule schedule
+    IfOk result
+    (λ schedule. IsSchedule schedule
     × (bytes ≡ text_in version schedule.set schedule.entries schedule.contexts))
-    × IfErr result (λ fault. IsOutOfMemory fault.kind
-    ⊎ IsRefusedIn version bytes fault.line fault.kind)
+    × IfErr result
+    (λ fault. IsOutOfMemory fault.kind ⊎ IsRefusedIn version bytes fault.line fault.kind)

@@ -23,8 +23,8 @@ IsProcessorsLine m fields =
     (count : List ℕ) × (fields ≡ codes "processors" ∷ count ∷ []) × IsNumberWithin 1 64 count m
 
 -- `task`, any field for a name, a priority below 2 to the power of 32, and any field for a list
-pub record IsTaskForm (fields : List (List ℕ)) (name : List ℕ) (priority : ℕ) (list : List ℕ) : Type
-    0 where
+pub record IsTaskForm (fields : List (List ℕ)) (name : List ℕ) (priority : ℕ)
+    (list : List ℕ) : Type 0 where
   pub number : List ℕ
   pub each_field : fields ≡ codes "task" ∷ name ∷ number ∷ list ∷ []
   pub value : IsNumberWithin 0 4294967295 number priority

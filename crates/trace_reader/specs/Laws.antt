@@ -13,14 +13,15 @@ use Rattle.trace_reader.specs.CanonicalText.{canonical_input_text}
 abbrev pub TextHasOneInput : Type 0
 TextHasOneInput =
     (bytes : List ℕ) (set other : SetData) (events others : List Posted)
-    → IsInputText bytes set events → IsInputText bytes other others → (set ≡ other)
-    × (events ≡ others)
+    → IsInputText bytes set events → IsInputText bytes other others
+    → (set ≡ other) × (events ≡ others)
 
 -- a text is refused with at most one line and one kind
 abbrev pub TextHasOneFault : Type 0
 TextHasOneFault =
-    (bytes : List ℕ) (line other : ℕ) (kind another : InputKind) → IsInputRefused bytes line kind
-    → IsInputRefused bytes other another → (line ≡ other) × (kind ≡ another)
+    (bytes : List ℕ) (line other : ℕ) (kind another : InputKind)
+    → IsInputRefused bytes line kind → IsInputRefused bytes other another
+    → (line ≡ other) × (kind ≡ another)
 
 -- no text is both that of an input and refused
 abbrev pub InputHasNoFault : Type 0
@@ -31,7 +32,8 @@ InputHasNoFault =
 -- each text is that of an input or is refused
 abbrev pub AcceptedOrRefused : Type 0
 AcceptedOrRefused =
-    (bytes : List ℕ) → ((set : SetData) × (events : List Posted) × IsInputText bytes set events)
+    (bytes : List ℕ)
+    → ((set : SetData) × (events : List Posted) × IsInputText bytes set events)
     ⊎ ((line : ℕ) × (kind : InputKind) × IsInputRefused bytes line kind)
 
 -- the canonical text of an input is a text of it

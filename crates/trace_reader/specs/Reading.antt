@@ -82,5 +82,5 @@ SaysLine version expected line next =
 abbrev pub IsAnswerTo : ℕ → List ℕ → Result InputData InputFault → Type 0
 IsAnswerTo version bytes result =
     IfOk result (λ input. IsTextOf version bytes input.set input.events)
-    × IfErr result (λ fault. IsOutOfMemory fault.kind
-    ⊎ IsRefusedIn version bytes fault.line fault.kind)
+    × IfErr result
+    (λ fault. IsOutOfMemory fault.kind ⊎ IsRefusedIn version bytes fault.line fault.kind)
