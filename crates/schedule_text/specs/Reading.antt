@@ -35,7 +35,7 @@ progress_of (stage.ContextsExpected set entries contexts) =
 
 -- what is expected after a line
 abbrev pub progress_after : Reached → Progress
-progress_after (reached.Due next) = progress_of next
+progress_after (reached.Expected next) = progress_of next
 progress_after (reached.End schedule) = Ended schedule.set schedule.entries schedule.contexts
 
 -- a task line adds its task, and the history line says how many entries there are

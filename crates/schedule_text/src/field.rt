@@ -1,5 +1,5 @@
 //! The fields of a line, and what a field says.
-ghost use Rattle.std.specs.Prelude.{◌≡◌, ◌≢◌, ℕ, codes, ◌≤◌, ◌⊎◌, ◌↔◌, ◌++◌, ◌∷◌, IsTrue, List, Contains, IfOk, IfErr, MatchOption};
+ghost use Rattle.std.specs.Prelude.{◌≡◌, ◌≢◌, ℕ, codes, ◌⊎◌, ◌↔◌, ◌++◌, ◌∷◌, IsTrue, List, Contains, IfOk, IfErr, MatchOption};
 ghost use Rattle.text_fields.specs.Fields.{texts};
 ghost use Rattle.schedule_text.specs.LineForms.{IsField};
 ghost use Rattle.schedule_text.specs.Reading.{IsOutOfMemory};

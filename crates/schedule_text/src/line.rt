@@ -1,6 +1,6 @@
 //! The lines of tasks and of contexts.
-ghost use Rattle.std.specs.Prelude.{◌≡◌, ℕ, ◌<◌, ◌⊎◌, ◌++◌, ◌↔◌, IsTrue, IfOk, IfErr, IfSome, OnOk, MatchOption, MatchBool, Some, Option, length};
-ghost use Rattle.task_set.specs.TaskSet.{SetData, TaskData};
+ghost use Rattle.std.specs.Prelude.{◌≡◌, ℕ, ◌<◌, ◌⊎◌, ◌++◌, ◌↔◌, IsTrue, IfOk, IfErr, IfSome, OnOk, MatchBool, Some, Option, length};
+ghost use Rattle.task_set.specs.TaskSet.{SetData};
 ghost use Rattle.task_set.specs.declared.context.Context.{Context};
 ghost use Rattle.text_fields.specs.Fields.{texts};
 ghost use Rattle.text_fields.specs.LineText.{line};

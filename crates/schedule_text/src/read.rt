@@ -48,7 +48,7 @@ fn read_lines(alloc: Global, version: u64, bytes: &[u8]) -> Result<Schedule, Tex
             return Err(TextFault { line, kind });
         };
         match stage.after_line(alloc, version, text) {
-            Ok(Reached::Due(next)) => {
+            Ok(Reached::Expected(next)) => {
                 stage = next;
                 rest = after;
                 line += 1;

@@ -48,7 +48,7 @@ pub enum Stage {
 #[derive(Drop)]
 pub enum Reached {
     /// More is expected.
-    Due(Stage),
+    Expected(Stage),
 
     /// The end came.
     End(Schedule),
@@ -101,7 +101,7 @@ fn read_header(alloc: Global, version: u64, text: &[u8]) -> Result<Reached, Text
         ⊎ IsLineFault version HeaderExpected text.now kind) }
 {
     if is_numbered(alloc, b"schedule ", version, text)? {
-        Ok(Reached::Due(Stage::ProcessorsExpected))
+        Ok(Reached::Expected(Stage::ProcessorsExpected))
     } else {
         Err(TextKind::BadLine)
     }
@@ -119,7 +119,7 @@ fn start(alloc: Global, version: u64, text: &[u8]) -> Result<Reached, TextKind>
         return Err(TextKind::BadLine);
     };
     let set = TaskSet::new(alloc, processors as u8)?;
-    Ok(Reached::Due(Stage::TasksExpected { set }))
+    Ok(Reached::Expected(Stage::TasksExpected { set }))
 }
 
 /// Reads a task, or how many entries there are.
@@ -138,7 +138,7 @@ fn read_task(
     match number_after(&fields, "history", 0, MAX_ENTRIES) {
         Some(count) => {
             let entries = Vec::new(alloc);
-            Ok(Reached::Due(Stage::EntriesExpected {
+            Ok(Reached::Expected(Stage::EntriesExpected {
                 set,
                 count,
                 entries,
@@ -146,7 +146,7 @@ fn read_task(
         }
         None => {
             add_task(alloc, &mut set, &fields)?;
-            Ok(Reached::Due(Stage::TasksExpected { set }))
+            Ok(Reached::Expected(Stage::TasksExpected { set }))
         }
     }
 }
@@ -172,7 +172,7 @@ fn list_entry(
     if entries.push(entry).is_err() {
         return Err(TextKind::OutOfMemory);
     }
-    Ok(Reached::Due(Stage::EntriesExpected {
+    Ok(Reached::Expected(Stage::EntriesExpected {
         set,
         count,
         entries,
@@ -198,7 +198,7 @@ fn begin_contexts(
         return Err(TextKind::BadLine);
     }
     let contexts = Vec::new(alloc);
-    Ok(Reached::Due(Stage::ContextsExpected {
+    Ok(Reached::Expected(Stage::ContextsExpected {
         set,
         entries,
         contexts,
@@ -225,7 +225,7 @@ fn list_context(
     if contexts.push(context).is_err() {
         return Err(TextKind::OutOfMemory);
     }
-    Ok(Reached::Due(Stage::ContextsExpected {
+    Ok(Reached::Expected(Stage::ContextsExpected {
         set,
         entries,
         contexts,

@@ -2,7 +2,6 @@
 ghost use Rattle.std.specs.Prelude.{◌≡◌, ◌<◌, ◌++◌, length, codes, All, IfOk, OnOk, IfSome};
 ghost use Rattle.std.specs.List.{flat_map};
 ghost use Rattle.affinity_mask.specs.Number.{canonical_number};
-ghost use Rattle.text_fields.specs.EventText.{name_of};
 ghost use Rattle.text_fields.specs.LineText.{line};
 ghost use Rattle.link_table.specs.declared.reply.Reply.TheVariants.{Displaced, Freed};
 ghost use Rattle.schedule_text.specs.ScheduleText.{

@@ -1,5 +1,5 @@
 //! Numbers of the formats.
-ghost use Rattle.std.specs.Prelude.{◌≡◌, ℕ, ◌≤◌, ◌++◌, OnOk, MatchOption};
+ghost use Rattle.std.specs.Prelude.{◌≡◌, ℕ, ◌++◌, OnOk, MatchOption};
 ghost use Rattle.affinity_mask.specs.Number.{canonical_number};
 ghost use Rattle.text_fields.specs.Number.{IsNumberWithin};
 

@@ -1,5 +1,5 @@
 //! The reader of a whole text.
-ghost use Rattle.std.specs.Prelude.{◌≡◌, ◌≢◌, ℕ, ◌<◌, ◌⊎◌, List, IfOk, IfErr, MatchOption, MatchResult};
+ghost use Rattle.std.specs.Prelude.{◌≡◌, ℕ, ◌<◌, ◌⊎◌, List, IfOk, IfErr, MatchResult};
 ghost use Rattle.task_set.specs.TaskSet.{SetData};
 ghost use Rattle.trace_reader.specs.declared.posted.Posted.{Posted};
 ghost use Rattle.trace_reader.specs.declared.fault.InputKind.{InputKind};

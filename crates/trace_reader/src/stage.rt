@@ -1,5 +1,5 @@
 //! What was read so far, and what is expected.
-ghost use Rattle.std.specs.Prelude.{◌≡◌, ◌≢◌, ℕ, ◌<◌, ◌≤◌, ◌↔◌, ◌⊎◌, IsTrue, List, [], ◌∷◌, length, IfOk, IfErr, OnOk, IfSome, IfNone, MatchOption, MatchBool, codes, string_bytes};
+ghost use Rattle.std.specs.Prelude.{◌≡◌, ◌≢◌, ℕ, ◌<◌, ◌≤◌, ◌↔◌, ◌⊎◌, IsTrue, List, [], ◌∷◌, length, IfOk, IfErr, OnOk, MatchOption, MatchBool};
 ghost use Rattle.task_set.specs.TaskSet.{SetData};
 ghost use Rattle.task_set.specs.Refusal.{IsNameOf, IsNewName};
 ghost use Rattle.trace_reader.specs.declared.posted.Posted.{Posted};
@@ -8,7 +8,7 @@ ghost use Rattle.text_fields.specs.Number.{IsNumberOf};
 ghost use Rattle.trace_reader.specs.InputText.{IsHeader, IsProcessorsLine, IsEventFields, IsEventLine, end_line};
 ghost use Rattle.trace_reader.specs.InputFault.{IsFieldsFault, IsLineFault};
 ghost use Rattle.trace_reader.specs.LineForms.{BeginsTask, IsForTask};
-ghost use Rattle.trace_reader.specs.Progress.{Expects, Progress, HeaderExpected, ProcessorsExpected, Listed, Ended};
+ghost use Rattle.trace_reader.specs.Progress.{Expects, HeaderExpected, ProcessorsExpected, Listed, Ended};
 ghost use Rattle.trace_reader.specs.Reading.{progress_of, Says, SaysLine, SaysTask, IsOutOfMemory, IsEventFault, IsChangeFault};
 ghost use Rattle.text_fields.specs.Fields.{texts};
 

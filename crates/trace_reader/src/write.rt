@@ -1,10 +1,6 @@
 //! The canonical text of an input.
-ghost use Rattle.std.specs.Prelude.{◌≡◌, ◌<◌, ◌++◌, length, All, IfOk, OnOk};
+ghost use Rattle.std.specs.Prelude.{◌≡◌, ◌<◌, ◌++◌, All, IfOk, OnOk};
 ghost use Rattle.std.specs.List.{flat_map};
-ghost use Rattle.affinity_mask.specs.Number.{canonical_number};
-ghost use Rattle.task_set.specs.Refusal.{new_task};
-ghost use Rattle.text_fields.specs.LineText.{processors_line, task_line, PrioritiesFit};
-ghost use Rattle.text_fields.specs.EventText.{event_text, IsAboutSet};
 ghost use Rattle.trace_reader.specs.Input.{IsPostedOf};
 ghost use Rattle.trace_reader.specs.InputText.{IsInputText};
 ghost use Rattle.trace_reader.specs.CanonicalText.{event_line, header_line, canonical_input_text};

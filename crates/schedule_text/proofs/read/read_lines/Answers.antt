@@ -13,8 +13,8 @@ returns-in_default c = (
 pub loop-text-preserved : goal.loop-text-preserved
 loop-text-preserved c =
     read_more c.args.version c.args.bytes.now c.loop-text.rest.now _ _ c.loop-text.line (progress_of c.loop-text.stage)
-    (progress_of c.in-Ok-Due.next) c.loop-text.invariant c.in-Some.ensures.0
-    (rw c.in-Ok-Due.field-0-is at c.in-Ok-Due.ensures.read)
+    (progress_of c.in-Ok-Expected.next) c.loop-text.invariant c.in-Some.ensures.0
+    (rw c.in-Ok-Expected.field-0-is at c.in-Ok-Expected.ensures.read)
 
 pub returns-in-Ok-End : goal.returns-in-Ok-End
 returns-in-Ok-End c =
