@@ -3,31 +3,18 @@ use Rattle.std.proofs.Common.{◌≡◌, ◌<◌, List, length, get_or, map, All
 use Rattle.std.proofs.lemmas.List.{length-map, get_or-map}
 use Rattle.std.proofs.lemmas.List.Elements.{All-weaker}
 use Rattle.task_set.specs.TaskSet.{SetData}
-use Rattle.task_set.specs.declared.event.Event.{Event}
-use Rattle.task_set.specs.declared.event.Event.TheVariants.{Arrive, Depart, Tick}
 use Rattle.trace_reader.specs.declared.posted.Posted.{Posted}
-use Rattle.trace_reader.specs.Input.{IsEventOf, IsPostedOf}
+use Rattle.trace_reader.specs.Input.{IsPostedOf}
 use Rattle.link_table.specs.declared.reply.Entry.{Entry}
-use Rattle.trace_reader.specs.EventText.{IsAboutSet}
-use Rattle.reach_certificate.specs.Passing.{IsOfTask}
+use Rattle.text_fields.specs.EventText.{IsAboutSet}
 use Rattle.event_replay.specs.Replay.{IsKnown, posted_of}
 
-pub known_event : (set : SetData) (event : Event) → IsEventOf set event → IsOfTask (length set.tasks) event
-known_event set (Arrive t) known = known
-known_event set (Depart t) known = known
-known_event set (Tick units) known = tt
-
 pub known_events : (set : SetData) (events : List Posted) → All (IsPostedOf set) events → All (IsKnown set) events
-known_events set events posted = All-weaker (IsPostedOf set) (IsKnown set) (λ one of_set. known_event set one.event of_set.event) events posted
+known_events set events posted = All-weaker (IsPostedOf set) (IsKnown set) (λ one of_set. of_set.event.0) events posted
 
 -- each entry of a history of known events is about the set
-pub about_event : (set : SetData) (event : Event) → IsEventOf set event → IsAboutSet set event
-about_event set (Arrive t) known = known
-about_event set (Depart t) known = known
-about_event set (Tick units) known = tt
-
 pub about_entries : (set : SetData) (events : List Posted) (entries : List Entry) → All (IsPostedOf set) events → map posted_of entries ≡ events → All (λ (entry : Entry). IsAboutSet set entry.event) entries
 about_entries set events entries posted each = λ k d within.
     let fits : k < length events = rw (← each, length-map entries posted_of) within in
     let there : get_or events k (posted_of d) ≡ posted_of (get_or entries k d) = rw (← each) (get_or-map posted_of entries k d (posted_of d) within) in
-    about_event set (get_or entries k d).event (rw there at (posted k (posted_of d) fits)).event
+    (rw there at (posted k (posted_of d) fits)).event.0

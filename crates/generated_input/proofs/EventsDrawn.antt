@@ -64,12 +64,12 @@ one_more_drawn number tasks count state posted ready after new next so_far draws
 
 -- ---- of the set
 event_of_task_is_of : (set : SetData) (t : ℕ) (ready : Bool) → t < length set.tasks → IsEventOf set (if ready then Depart t else Arrive t)
-event_of_task_is_of set t true below = below
-event_of_task_is_of set t false below = below
+event_of_task_is_of set t true below = (below, tt)
+event_of_task_is_of set t false below = (below, tt)
 
 event_is_of : (set : SetData) (number draws : ℕ) (earlier : List Event) (tick : Bool) → 0 < length set.tasks
     → IsEventOf set (if tick then Tick (1 + drawn number (draws + 1) 100) else event_of_task (drawn number (draws + 1) (length set.tasks)) earlier)
-event_is_of set number draws earlier true some = (omega arith, omega (arith, drawn_below number (draws + 1) 100 (omega arith)))
+event_is_of set number draws earlier true some = (tt, (omega arith, omega (arith, drawn_below number (draws + 1) 100 (omega arith))))
 event_is_of set number draws earlier false some = event_of_task_is_of set _ (is_ready_after (drawn number (draws + 1) (length set.tasks)) earlier) (drawn_below number (draws + 1) (length set.tasks) some)
 
 -- each generated event is one of a set with as many tasks

@@ -5,6 +5,7 @@
 use Rattle.std.specs.Prelude.{◌≡◌, ℕ, ◌<◌, ◌≤◌, false, true, List, [], ◌∷◌, IsTrue, Option, Some, None}
 use Rattle.affinity_mask.specs.ProcSet.{has, Within}
 use Rattle.task_set.specs.TaskSet.{SetData}
+use Rattle.task_set.specs.Event.{IsOfTasks}
 use Rattle.task_set.specs.declared.event.Event.{Event}
 use Rattle.task_set.specs.declared.event.Event.TheVariants.{Arrive, Depart, Tick}
 use Rattle.link_table.specs.declared.reply.Reply.{Reply}
@@ -80,9 +81,7 @@ DeparturePasses s t AlreadyReady = ⊥
 
 -- the task of the event, if it has one, is one of so many
 abbrev pub IsOfTask : ℕ → Event → Type 0
-IsOfTask count (Arrive t) = t < count
-IsOfTask count (Depart t) = t < count
-IsOfTask count (Tick units) = Unit {0}
+IsOfTask count event = IsOfTasks count event
 
 -- the reply to an event of one of the tasks passes; that to a tick is always the same
 abbrev pub Passes : State → Event → Reply → Type 0

@@ -34,7 +34,7 @@ before_cut (x ∷ xs) (suc n) (suc m) lt = before_cut xs n m (omega arith)
 
 module _ (schedule : ScheduleData) (ok : IsSchedule schedule) where
   state_ok : (n : ℕ) → IsPassing schedule.set (take n schedule.entries) → IsState (state_at schedule.set schedule.entries n)
-  state_ok n passing = IsState-passed (start_of schedule.set) (take n schedule.entries) (IsState-start schedule.set ok.tasks.lawful) passing
+  state_ok n passing = IsState-passed (start_of schedule.set) (take n schedule.entries) (IsState-start schedule.set ok.tasks.valid) passing
 
   -- no entry with a defect stands in a front that passes
   no_defect_within : (n m : ℕ) (which : Defect) → n < m → IsPassing schedule.set (take m schedule.entries) → HasDefectAt schedule n which → ⊥

@@ -84,6 +84,6 @@ module _ (bytes : List ℕ) (schedule : ScheduleData) (ok : IsSchedule schedule)
     schedule = schedule;
     is_text = record { is_schedule = ok; text = text };
     valid = valid;
-    best = passing_is_best schedule.set ok.tasks.lawful schedule.entries valid.passing;
+    best = passing_is_best schedule.set ok.tasks.valid schedule.entries valid.passing;
     told = told;
   }

@@ -6,8 +6,6 @@ use Rattle.std.proofs.lemmas.List.{take_more, length-map}
 use Rattle.std.proofs.lemmas.Option.{slice_get_within, slice_get_read, get_or_from_slice_get}
 use Rattle.task_set.specs.TaskSet.{SetData, TaskData}
 use Rattle.task_set.specs.Context.{fresh_context}
-use Rattle.task_set.specs.declared.event.Event.{Event}
-use Rattle.task_set.specs.declared.event.Event.TheVariants.{Arrive, Depart, Tick}
 use Rattle.link_table.specs.declared.reply.Entry.{Entry}
 use Rattle.link_table.specs.State.{State, start_of, task_count}
 use Rattle.link_table.specs.History.{effect_of, state_after}
@@ -19,7 +17,7 @@ use Rattle.reach_certificate.specs.Passing.{Passes, IsPassingFrom, IsOfTask}
 use Rattle.reach_certificate.specs.declared.defect.Defect.{Defect}
 use Rattle.reach_certificate.proofs.ContextsFollow.{contexts-follow}
 use Rattle.sched_core.proofs.SameTasks.{same_tasks-history}
-use Rattle.trace_reader.specs.EventText.{IsAboutSet}
+use Rattle.text_fields.specs.EventText.{IsAboutSet}
 use Rattle.schedule_text.specs.Schedule.{ScheduleData, IsSchedule, IsScheduled}
 use Rattle.schedule_program.specs.Check.{HasBadEntry, entry_line_number}
 use Rattle.schedule_program.specs.Checking.{HasFollowed}
@@ -69,16 +67,11 @@ followed_count schedule n checker followed =
     ap task_count followed.links ∙ ap length (same_tasks-history (start_of schedule.set) (take n schedule.entries)).priorities ∙ length-map schedule.set.tasks (λ (task : TaskData). task.priority)
 
 -- each entry is of a task of the set, or of none
-event_known : (set : SetData) (event : Event) → IsAboutSet set event → IsOfTask (length set.tasks) event
-event_known set (Arrive t) known = known
-event_known set (Depart t) known = known
-event_known set (Tick units) known = tt
-
 pub entry_known : (schedule : ScheduleData) (n : ℕ) (entry : Entry) (checker : CheckerData) → IsSchedule schedule → slice_get schedule.entries n ≡ Some entry → HasFollowed schedule n checker → IsOfTask (task_count checker.links) entry.event
 entry_known schedule n entry checker ok there followed =
     let at_n = get_or_from_slice_get schedule.entries n entry entry there in
     let scheduled : IsScheduled schedule.set entry = subst (IsScheduled schedule.set) at_n (ok.each_entry n entry (slice_get_within schedule.entries n entry there)) in
-    rw (followed_count schedule n checker followed) (event_known schedule.set entry.event scheduled.tasks.event)
+    rw (followed_count schedule n checker followed) scheduled.tasks.event
 
 -- an entry as the loop reads it
 pub entry_read : (schedule : ScheduleData) (items : List Entry) (n : ℕ) (entry : Entry) → items ≡ schedule.entries → n < length items → entry ≡ get_or items n entry → slice_get schedule.entries n ≡ Some entry

@@ -21,6 +21,6 @@ headline read put set events core printed input replayed contexts text = record 
   text = text;
   merge = replayed.merge;
   legal = replayed.over.legal;
-  best = legal_is_best set input.says.lawful core.history replayed.over.legal;
+  best = legal_is_best set input.says.valid core.history replayed.over.legal;
   contexts = contexts;
 }

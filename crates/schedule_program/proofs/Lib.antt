@@ -4,6 +4,7 @@ mod Compared
 mod Following
 mod Generating
 mod Headline
+mod LegalSchedules
 mod MergedCounts
 mod OneText
 mod ToldBytes

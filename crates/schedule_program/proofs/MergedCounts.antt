@@ -10,11 +10,10 @@ use Rattle.task_set.specs.declared.event.Event.{Event}
 use Rattle.task_set.specs.declared.event.Event.TheVariants.{Arrive, Depart, Tick}
 use Rattle.link_table.specs.declared.reply.Entry.{Entry}
 use Rattle.trace_reader.specs.declared.posted.Posted.{Posted}
-use Rattle.trace_reader.specs.EventText.{IsAboutSet}
+use Rattle.text_fields.specs.EventText.{IsAboutSet}
 use Rattle.trace_reader.specs.Input.{IsPostedOf}
-use Rattle.event_replay.proofs.Known.{about_event}
 use Rattle.trace_reader.specs.InputText.{IsInputText, IsEventFields, IsEventLine, IsTaskLine}
-use Rattle.schedule_text.specs.Schedule.{HasUnits}
+use Rattle.task_set.specs.Event.{HasUnits}
 use Rattle.event_history.specs.Merging.{events_of_caller}
 use Rattle.event_replay.specs.Replay.{posted_of}
 use Rattle.thread_replay.specs.Merge.{events_of_stream, streams_of, IsMerge}
@@ -115,7 +114,7 @@ merge_posted P events history all merge = λ k d within.
 -- each entry of a merge of an input's events is about the set
 pub about_merged : (set : SetData) (events : List Posted) (history : List Entry) → All (IsPostedOf set) events → IsMerge events history → All (λ (entry : Entry). IsAboutSet set entry.event) history
 about_merged set events history posted merge =
-    All-weaker (λ (entry : Entry). IsPostedOf set (posted_of entry)) (λ (entry : Entry). IsAboutSet set entry.event) (λ entry at. about_event set entry.event at.event) history (merge_posted (IsPostedOf set) events history posted merge)
+    All-weaker (λ (entry : Entry). IsPostedOf set (posted_of entry)) (λ (entry : Entry). IsAboutSet set entry.event) (λ entry at. at.event.0) history (merge_posted (IsPostedOf set) events history posted merge)
 
 -- ---- what the lines of an input say
 -- the posted event has the numbers of the format

@@ -79,7 +79,7 @@ one_text read put other first one second =
     let stream = one.0 in
     let same = text_has_one_input read second.set first.set second.events first.events second.input first.input in
     let merge : IsMerge first.events second.history = subst (λ (events : List Posted). IsMerge events second.history) same.1 second.merge in
-    let histories : second.history ≡ first.history = legal_history_is_unique first.set second.history first.history first.input.says.lawful (rw same.0 at second.legal) first.legal
+    let histories : second.history ≡ first.history = legal_history_is_unique first.set second.history first.history first.input.says.valid (rw same.0 at second.legal) first.legal
     (pairs_same stream second.history first.history (callers_same stream first.events second.history one.1 merge) (callers_same stream first.events first.history one.1 first.merge)
     (events_same stream first.events second.history one.1 merge ∙ sym (events_same stream first.events first.history one.1 first.merge))) in
     second.text ∙ ap (schedule_text second.set second.history) second.contexts

@@ -6,8 +6,9 @@ use Rattle.link_table.specs.State.{start_of}
 use Rattle.link_table.proofs.Start.{IsState-start}
 use Rattle.reach_certificate.proofs.Kept.{legal_passes}
 use Rattle.trace_reader.specs.declared.posted.Posted.{Posted}
-use Rattle.schedule_text.specs.Schedule.{IsSchedule, IsScheduleSet, HasUnits}
-use Rattle.schedule_text.proofs.LegalSchedules.{legal_schedule}
+use Rattle.schedule_text.specs.Schedule.{IsSchedule, IsScheduleSet}
+use Rattle.task_set.specs.Event.{HasUnits}
+use Rattle.schedule_program.proofs.LegalSchedules.{legal_schedule}
 use Rattle.schedule_program.specs.Run.{Replays, IsRunOf}
 use Rattle.schedule_program.proofs.MergedCounts.{merge_length, merge_posted, input_streams, input_priorities}
 use Rattle.schedule_program.proofs.OneText.{one_text}
@@ -25,7 +26,7 @@ replay_is_schedule read put replayed =
     let input_few = replayed.input.says.few in
     let few : length replayed.history ≤ 20000 = omega arith in
     let each = merge_posted IsOfFormat replayed.events replayed.history posted replayed.merge in
-    let lawful : IsScheduleSet replayed.set = record { lawful = replayed.input.says.lawful; priorities = input_priorities read replayed.set replayed.events replayed.input } in
+    let lawful : IsScheduleSet replayed.set = record { valid = replayed.input.says.valid; priorities = input_priorities read replayed.set replayed.events replayed.input } in
     subst (λ (contexts : List Context). IsSchedule (record { set = replayed.set; entries = replayed.history; contexts = contexts })) (sym replayed.contexts)
     (legal_schedule replayed.set replayed.history lawful few each replayed.legal)
 
@@ -34,6 +35,6 @@ is_run_of read put replayed = record {
   replayed = replayed;
   schedule = record { set = replayed.set; entries = replayed.history; contexts = replayed.printed };
   is_text = record { is_schedule = replay_is_schedule read put replayed; text = replayed.text };
-  valid = record { passing = legal_passes (start_of replayed.set) replayed.history (IsState-start replayed.set replayed.input.says.lawful) replayed.legal; contexts = replayed.contexts };
+  valid = record { passing = legal_passes (start_of replayed.set) replayed.history (IsState-start replayed.set replayed.input.says.valid) replayed.legal; contexts = replayed.contexts };
   one_stream = λ one other second. one_text read put other replayed one second;
 }

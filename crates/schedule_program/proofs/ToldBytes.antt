@@ -5,7 +5,7 @@ use Rattle.std.specs.declared.alloc.Global.{Global}
 use Rattle.std.specs.Io.KnownBytes.{Consumes, IsAtEnd}
 use Rattle.std.proofs.lemmas.List.{append-nil, length-append}
 use Rattle.std.proofs.lemmas.Option.{same_Some}
-use Rattle.trace_reader.specs.InputText.{IsNumberWithin}
+use Rattle.text_fields.specs.Number.{IsNumberWithin}
 use Rattle.schedule_program.specs.Command.{IsCommand, IsSized, AreSizes, AreWithin, HasSizes, IsReported, IsToRead, ReadsAll, Reads, ReadsNothing, byte_limit}
 use Rattle.shift_io.specs.Stream.{TakesExactly}
 use Rattle.schedule_program.specs.declared.words.Command.{Command}

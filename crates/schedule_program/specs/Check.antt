@@ -8,7 +8,7 @@ use Rattle.link_table.specs.History.{state_at, IsBestThroughout}
 use Rattle.reach_certificate.specs.Defect.{IsDefect, number_of}
 use Rattle.reach_certificate.specs.Passing.{IsPassing}
 use Rattle.reach_certificate.specs.declared.defect.Defect.{Defect}
-use Rattle.trace_reader.specs.EventText.{line}
+use Rattle.text_fields.specs.LineText.{line}
 use Rattle.event_replay.specs.Replay.{contexts_of}
 use Rattle.schedule_text.specs.Laws.{text_of_schedule}
 use Rattle.schedule_text.specs.Schedule.{ScheduleData, IsSchedule}

@@ -3,7 +3,8 @@ use Rattle.std.specs.Prelude.{◌≡◌, ◌⊎◌, ℕ, ◌≤◌, List, [], �
 use Rattle.shift_io.specs.Stream.{TakesAll}
 use Rattle.task_set.specs.TaskSet.{SetData}
 use Rattle.trace_reader.specs.declared.posted.Posted.{Posted}
-use Rattle.trace_reader.specs.InputText.{IsInputText, IsNumberWithin}
+use Rattle.text_fields.specs.Number.{IsNumberWithin}
+use Rattle.trace_reader.specs.InputText.{IsInputText}
 use Rattle.schedule_text.specs.Schedule.{ScheduleData}
 use Rattle.schedule_program.specs.Check.{IsTextOf, IsValid, IsCheckOf, RefusesSchedule, IsInvalidText}
 use Rattle.schedule_program.specs.Generating.{IsMakeOf, IsLargeOf}

@@ -5,7 +5,7 @@ use Rattle.task_set.specs.declared.context.Context.{Context}
 use Rattle.link_table.specs.declared.reply.Entry.{Entry}
 use Rattle.link_table.specs.declared.reply.Reply.{Reply}
 use Rattle.link_table.specs.declared.reply.Reply.TheVariants.{Displaced, Waits}
-use Rattle.trace_reader.specs.EventText.{line}
+use Rattle.text_fields.specs.LineText.{line}
 use Rattle.schedule_program.specs.declared.words.Sizes.{Sizes}
 
 -- the reply put a running task back among the waiting ones

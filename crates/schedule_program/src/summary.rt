@@ -1,7 +1,7 @@
 //! What a schedule comes to, in numbers.
 ghost use Rattle.std.specs.Prelude.{◌≡◌, ◌<◌, ◌≤◌, ◌+◌, ◌*◌, ◌%◌, ◌^◌, ◌++◌, codes, length, IfOk, OnOk, if◌then◌else◌};
 ghost use Rattle.affinity_mask.specs.Number.{canonical_number};
-ghost use Rattle.trace_reader.specs.EventText.{line};
+ghost use Rattle.text_fields.specs.LineText.{line};
 ghost use Rattle.schedule_program.specs.Summary.{displaces, makes_wait, replies_of, moves_of, trails_of, sizes_text, summary_text};
 
 use crate::words::Sizes;

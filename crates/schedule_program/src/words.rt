@@ -5,8 +5,8 @@ ghost use Rattle.schedule_program.specs.declared.words.Sizes.{Sizes};
 ghost use Rattle.schedule_program.specs.Command.{IsCommand, AreSizes};
 
 use task_set::MAX_TASKS;
-use trace_reader::input::{MAX_EVENTS, MAX_PROCESSORS};
-use trace_reader::read_number;
+use text_fields::limits::{MAX_EVENTS, MAX_PROCESSORS};
+use text_fields::read_number;
 
 /// What the program can do.
 #[derive(Clone, Copy, Debug, PartialEq, Eq)]

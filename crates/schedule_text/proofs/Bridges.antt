@@ -11,13 +11,16 @@ use Rattle.task_set.specs.declared.context.Context.{Context}
 use Rattle.task_set.specs.declared.event.Event.{Event}
 use Rattle.task_set.specs.declared.event.Event.TheVariants.{Arrive, Depart, Tick}
 use Rattle.link_table.specs.declared.reply.Reply.{Reply}
-use Rattle.link_table.specs.declared.reply.Reply.TheVariants.{Placed, Displaced, Waits, Freed, Left, Ticked, AlreadyReady, NotReady}
+use Rattle.link_table.specs.declared.reply.Reply.TheVariants.{Placed, Displaced, Freed}
 use Rattle.link_table.specs.declared.reply.Entry.{Entry}
-use Rattle.trace_reader.specs.EventText.{line, name_of, event_text, task_line, IsAboutSet}
+use Rattle.text_fields.specs.LineText.{line, task_line, task_fields}
+use Rattle.text_fields.specs.EventText.{name_of, event_text, IsAboutSet, event_fields}
 use Rattle.schedule_text.specs.ScheduleText.{chain_text, set_text, somebody_text, number_text, reply_text, entry_line, context_line, IsReplyOf}
-use Rattle.schedule_text.specs.Schedule.{HasUnits, HasProcessors}
-use Rattle.schedule_text.specs.ScheduleFault.{HasFields, IsTaskForm, IsEntryForm, IsEntryText, IsContextText}
-use Rattle.schedule_text.specs.Reading.{fields_of, task_fields, event_fields, reply_fields, entry_fields, context_fields, IsTaskFields, IsEntryFields, IsSomeEntry}
+use Rattle.schedule_text.specs.Schedule.{HasProcessors}
+use Rattle.task_set.specs.Event.{HasUnits}
+use Rattle.schedule_text.specs.LineForms.{HasFields, IsTaskForm, IsEntryForm, IsEntryText, IsContextText}
+use Rattle.schedule_text.specs.Fields.{spaced_fields_of}
+use Rattle.schedule_text.specs.LineFields.{reply_fields, entry_fields, context_fields, IsTaskFields, IsEntryFields, IsSomeEntry}
 use Rattle.schedule_text.proofs.Fields.{split_joined, joined_split}
 use Rattle.schedule_text.proofs.Names.{set_fields}
 use Rattle.schedule_text.proofs.Spaces.{EachByte, IsNoSpace, high_no_space, none_from_no_space, field_no_space, fields_no_space, number_bytes, task_bytes, event_bytes, reply_bytes, context_bytes}
@@ -26,10 +29,13 @@ use Rattle.schedule_text.proofs.Spaces.{EachByte, IsNoSpace, high_no_space, none
 abbrev pub spaced : List (List ℕ) → List ℕ
 spaced fields = join_with_byte 32 fields
 
-pub fields_back : (text first : List ℕ) (more : List (List ℕ)) → text ≡ spaced (first ∷ more) → EachByte IsNoSpace (first ∷ more) → fields_of text ≡ first ∷ more
-fields_back text first more is lacks = ap fields_of is ∙ split_joined 32 first more (All-weaker (λ (piece : List ℕ). All IsNoSpace piece) (λ (piece : List ℕ). Contains piece 32 → ⊥) none_from_no_space (first ∷ more) lacks)
+pub fields_back : (text first : List ℕ) (more : List (List ℕ)) → text ≡ spaced (first ∷ more)
+    → EachByte IsNoSpace (first ∷ more) → spaced_fields_of text ≡ first ∷ more
+fields_back text first more is lacks =
+    ap spaced_fields_of is ∙ split_joined 32 first more (All-weaker (λ (piece : List ℕ). All IsNoSpace piece)
+    (λ (piece : List ℕ). Contains piece 32 → ⊥) none_from_no_space (first ∷ more) lacks)
 
-pub text_back : (text : List ℕ) (fields : List (List ℕ)) → fields_of text ≡ fields → text ≡ spaced fields
+pub text_back : (text : List ℕ) (fields : List (List ℕ)) → spaced_fields_of text ≡ fields → text ≡ spaced fields
 text_back text fields cut = sym (joined_split 32 text) ∙ ap spaced cut
 
 pub line_same : (text other : List ℕ) → line text ≡ line other → text ≡ other
@@ -42,7 +48,9 @@ four_spaced s w a b c = simp append_assoc
 
 pub task_spaced : (added : TaskData) → task_line added ≡ line (spaced (task_fields added))
 unfolding task_line
-task_spaced added = ap line (four_spaced (32 ∷ []) (codes "task") added.name (canonical_number added.priority) (canonical_list added.mask))
+task_spaced added =
+    ap line (four_spaced (32 ∷ []) (codes "task") added.name (canonical_number added.priority)
+    (canonical_list added.mask))
 
 pub event_spaced : (set : SetData) (event : Event) → event_text set event ≡ spaced (event_fields set event)
 unfolding event_text
@@ -50,103 +58,144 @@ event_spaced set (Arrive t) = refl
 event_spaced set (Depart t) = refl
 event_spaced set (Tick n) = refl
 
-six_spaced : (s w a v b u c : List ℕ) → w ++ s ++ a ++ (s ++ v ++ s) ++ b ++ (s ++ u ++ s) ++ c ≡ w ++ (s ++ (a ++ (s ++ (v ++ (s ++ (b ++ (s ++ (u ++ (s ++ c)))))))))
+six_spaced : (s w a v b u c : List ℕ) → w ++ s ++ a ++ (s ++ v ++ s) ++ b ++ (s ++ u ++ s) ++ c ≡ w
+    ++ (s ++ (a ++ (s ++ (v ++ (s ++ (b ++ (s ++ (u ++ (s ++ c)))))))))
 six_spaced s w a v b u c = simp append_assoc
 
 pub reply_spaced : (set : SetData) (reply : Reply) → reply_text set reply ≡ spaced (reply_fields set reply)
 unfolding reply_text
-reply_spaced set (Placed chain) = refl
-reply_spaced set (Displaced chain out reach) = six_spaced (32 ∷ []) (codes "displaced") (chain_text chain) (codes "out") (name_of set out) (codes "reach") (set_text reach)
-reply_spaced set (Waits reach) = refl
-reply_spaced set (Freed entered chain back) = six_spaced (32 ∷ []) (codes "freed") (chain_text chain) (codes "enters") (somebody_text set entered) (codes "back") (set_text back)
-reply_spaced set Left = refl
-reply_spaced set Ticked = refl
-reply_spaced set AlreadyReady = refl
-reply_spaced set NotReady = refl
+reply_spaced set (Displaced chain out reach) =
+    six_spaced (32 ∷ []) (codes "displaced") (chain_text chain) (codes "out") (name_of set out) (codes "reach")
+    (set_text reach)
+reply_spaced set (Freed entered chain back) =
+    six_spaced (32 ∷ []) (codes "freed") (chain_text chain) (codes "enters") (somebody_text set entered)
+    (codes "back") (set_text back)
+reply_spaced set _ = refl
 
 -- the spaced fields of two parts
-spaced_apart : (first : List ℕ) (more : List (List ℕ)) (second : List ℕ) (others : List (List ℕ)) → spaced ((first ∷ more) ++ second ∷ others) ≡ spaced (first ∷ more) ++ 32 ∷ spaced (second ∷ others)
+spaced_apart : (first : List ℕ) (more : List (List ℕ)) (second : List ℕ) (others : List (List ℕ))
+    → spaced ((first ∷ more) ++ second ∷ others) ≡ spaced (first ∷ more) ++ 32 ∷ spaced (second ∷ others)
 spaced_apart first [] second others = refl
 spaced_apart first (next ∷ more) second others =
-    ap (λ (rest : List ℕ). first ++ 32 ∷ rest) (spaced_apart next more second others) ∙ sym (append_assoc first (32 ∷ spaced (next ∷ more)) (32 ∷ spaced (second ∷ others)))
+    ap (λ (rest : List ℕ). first ++ 32 ∷ rest) (spaced_apart next more second others)
+    ∙ sym (append_assoc first (32 ∷ spaced (next ∷ more)) (32 ∷ spaced (second ∷ others)))
 
 three_spaced : (s a b c : List ℕ) → a ++ s ++ b ++ s ++ c ≡ a ++ (s ++ (b ++ (s ++ c)))
 three_spaced s a b c = simp append_assoc
 
 -- an event and a reply have fields
-event_some : (set : SetData) (event : Event) → (first : List ℕ) × (more : List (List ℕ)) × (event_fields set event ≡ first ∷ more)
+event_some : (set : SetData) (event : Event) → (first : List ℕ) × (more : List (List ℕ))
+    × (event_fields set event ≡ first ∷ more)
 event_some set (Arrive t) = (codes "arrive", name_of set t ∷ [], refl)
 event_some set (Depart t) = (codes "depart", name_of set t ∷ [], refl)
 event_some set (Tick n) = (codes "tick", canonical_number n ∷ [], refl)
 
-reply_some : (set : SetData) (reply : Reply) → (first : List ℕ) × (more : List (List ℕ)) × (reply_fields set reply ≡ first ∷ more)
+reply_some : (set : SetData) (reply : Reply) → (first : List ℕ) × (more : List (List ℕ))
+    × (reply_fields set reply ≡ first ∷ more)
 reply_some set (Placed chain) = (_, _, refl)
-reply_some set (Displaced chain out reach) = (_, _, refl)
-reply_some set (Waits reach) = (_, _, refl)
-reply_some set (Freed entered chain back) = (_, _, refl)
-reply_some set Left = (_, _, refl)
-reply_some set Ticked = (_, _, refl)
-reply_some set AlreadyReady = (_, _, refl)
-reply_some set NotReady = (_, _, refl)
+reply_some set _ = (_, _, refl)
 
 -- a number, and two parts that have fields
-parts_spaced : (number : List ℕ) (xs ys : List (List ℕ)) (first : List ℕ) (more : List (List ℕ)) (second : List ℕ) (others : List (List ℕ)) → xs ≡ first ∷ more → ys ≡ second ∷ others → number ++ 32 ∷ (spaced xs ++ 32 ∷ spaced ys) ≡ spaced (number ∷ (xs ++ ys))
-parts_spaced number xs ys first more second others is are = rw (is, are) (ap (λ (rest : List ℕ). number ++ 32 ∷ rest) (sym (spaced_apart first more second others)))
+parts_spaced : (number : List ℕ) (xs ys : List (List ℕ)) (first : List ℕ) (more : List (List ℕ))
+    (second : List ℕ) (others : List (List ℕ)) → xs ≡ first ∷ more → ys ≡ second ∷ others → number ++ 32
+    ∷ (spaced xs ++ 32 ∷ spaced ys) ≡ spaced (number ∷ (xs ++ ys))
+parts_spaced number xs ys first more second others is are =
+    rw (is, are) (ap (λ (rest : List ℕ). number ++ 32 ∷ rest) (sym (spaced_apart first more second others)))
 
 -- the text of an event and a reply on a stream
-pub on_stream : (number event reply : List ℕ) (tasks others : SetData) (e : Event) (r : Reply) → event ≡ event_text tasks e → reply ≡ reply_text others r → number ++ codes " " ++ event ++ codes " " ++ reply ≡ spaced (number ∷ (event_fields tasks e ++ reply_fields others r))
+pub on_stream : (number event reply : List ℕ) (tasks others : SetData) (e : Event) (r : Reply) → event
+    ≡ event_text tasks e → reply ≡ reply_text others r → number ++ codes " " ++ event ++ codes " " ++ reply
+    ≡ spaced (number ∷ (event_fields tasks e ++ reply_fields others r))
 on_stream number event reply tasks others e r is are =
     let some = event_some tasks e in
     let some' = reply_some others r in
-    three_spaced (32 ∷ []) number event reply ∙ ap (λ (text : List ℕ). number ++ 32 ∷ (text ++ 32 ∷ reply)) (is ∙ event_spaced tasks e) ∙ ap (λ (text : List ℕ). number ++ 32 ∷ (spaced (event_fields tasks e) ++ 32 ∷ text)) (are ∙ reply_spaced others r)
+    three_spaced (32 ∷ []) number event reply
+    ∙ ap (λ (text : List ℕ). number ++ 32 ∷ (text ++ 32 ∷ reply)) (is ∙ event_spaced tasks e)
+    ∙ ap (λ (text : List ℕ). number ++ 32 ∷ (spaced (event_fields tasks e) ++ 32 ∷ text))
+    (are ∙ reply_spaced others r)
     ∙ parts_spaced number (event_fields tasks e) (reply_fields others r) some.0 some.1 some'.0 some'.1 some.2 some'.2
 
 pub entry_spaced : (set : SetData) (entry : Entry) → entry_line set entry ≡ line (spaced (entry_fields set entry))
 unfolding entry_line
-entry_spaced set entry = ap line (on_stream (canonical_number entry.caller) (event_text set entry.event) (reply_text set entry.reply) set set entry.event entry.reply refl refl)
+entry_spaced set entry =
+    ap line (on_stream (canonical_number entry.caller) (event_text set entry.event) (reply_text set entry.reply)
+    set set entry.event entry.reply refl refl)
 
-eleven_spaced : (s a b c d e f g h i j k : List ℕ) → a ++ (s ++ b ++ s) ++ c ++ (s ++ d ++ s) ++ e ++ (s ++ f ++ s) ++ g ++ (s ++ h ++ s) ++ i ++ (s ++ j ++ s) ++ k
-    ≡ a ++ (s ++ (b ++ (s ++ (c ++ (s ++ (d ++ (s ++ (e ++ (s ++ (f ++ (s ++ (g ++ (s ++ (h ++ (s ++ (i ++ (s ++ (j ++ (s ++ k)))))))))))))))))))
+eleven_spaced : (s a b c d e f g h i j k : List ℕ) → a ++ (s ++ b ++ s) ++ c ++ (s ++ d ++ s) ++ e
+    ++ (s ++ f ++ s) ++ g ++ (s ++ h ++ s) ++ i ++ (s ++ j ++ s) ++ k
+    ≡ a ++ (s ++ (b ++ (s ++ (c ++ (s
+    ++ (d ++ (s ++ (e ++ (s ++ (f ++ (s ++ (g ++ (s ++ (h ++ (s ++ (i ++ (s ++ (j ++ (s ++ k)))))))))))))))))))
 eleven_spaced s a b c d e f g h i j k = simp append_assoc
 
-pub context_spaced : (set : SetData) (context : Context) → context_line set context ≡ line (spaced (context_fields set context))
+pub context_spaced : (set : SetData) (context : Context) → context_line set context
+    ≡ line (spaced (context_fields set context))
 unfolding context_line
 context_spaced set context =
-    ap line (eleven_spaced (32 ∷ []) (name_of set context.task) (codes "units") (canonical_number context.units) (codes "stints") (canonical_number context.stints) (codes "moves") (canonical_number context.moves) (codes "last") (number_text context.last) (codes "trail") (canonical_number context.trail))
+    ap line (eleven_spaced (32 ∷ []) (name_of set context.task) (codes "units") (canonical_number context.units)
+    (codes "stints") (canonical_number context.stints) (codes "moves") (canonical_number context.moves)
+    (codes "last") (number_text context.last) (codes "trail") (canonical_number context.trail))
 
 -- ---- forms of text and of fields
 
-pub task_to_fields : (text : List ℕ) (added : TaskData) → IsTaskForm text added → IsTaskFields (fields_of text) added
+pub task_to_fields : (text : List ℕ) (added : TaskData) → IsTaskForm text added
+    → IsTaskFields (spaced_fields_of text) added
 task_to_fields text added f = record {
   name = f.name;
   priority = f.priority;
   some = f.some;
   processors = f.processors;
-  each_field = fields_back text (codes "task") (added.name ∷ canonical_number added.priority ∷ canonical_list added.mask ∷ []) (line_same text (spaced (task_fields added)) (f.is_text ∙ task_spaced added)) (task_bytes IsNoSpace high_no_space added (field_no_space added.name f.name) f.priority f.some f.processors);
+  each_field = fields_back text (codes "task")
+      (added.name ∷ canonical_number added.priority ∷ canonical_list added.mask ∷ [])
+      (line_same text (spaced (task_fields added)) (f.is_text ∙ task_spaced added))
+      (task_bytes IsNoSpace high_no_space added (field_no_space added.name f.name) f.priority f.some f.processors);
 }
 
-pub task_to_text : (text : List ℕ) (added : TaskData) → IsTaskFields (fields_of text) added → IsTaskForm text added
-task_to_text text added f = record { name = f.name; priority = f.priority; some = f.some; processors = f.processors; is_text = ap line (text_back text (task_fields added) f.each_field) ∙ sym (task_spaced added) }
+pub task_to_text : (text : List ℕ) (added : TaskData) → IsTaskFields (spaced_fields_of text) added → IsTaskForm text added
+task_to_text text added f =
+    record {
+      name = f.name;
+      priority = f.priority;
+      some = f.some;
+      processors = f.processors;
+      is_text = ap line
+          (text_back text (task_fields added) f.each_field) ∙ sym (task_spaced added);
+    }
 
-pub entry_to_text : (set : SetData) (text : List ℕ) (entry : Entry) → IsEntryFields set (fields_of text) entry → IsEntryText set text entry
-entry_to_text set text entry f = record { scheduled = f.scheduled; is_text = ap line (text_back text (entry_fields set entry) f.each_field) ∙ sym (entry_spaced set entry) }
+pub entry_to_text : (set : SetData) (text : List ℕ) (entry : Entry)
+    → IsEntryFields set (spaced_fields_of text) entry → IsEntryText set text entry
+entry_to_text set text entry f =
+    record {
+      scheduled = f.scheduled;
+      is_text = ap line (text_back text (entry_fields set entry) f.each_field)
+          ∙ sym (entry_spaced set entry);
+    }
 
 -- the fields on a stream
-stream_fields : (text : List ℕ) (stream : ℕ) (tasks others : SetData) (e : Event) (r : Reply) → stream < 16 → HasFields tasks → HasFields others → IsAboutSet tasks e → HasUnits e → IsReplyOf others r → HasProcessors r → text ≡ spaced (canonical_number stream ∷ (event_fields tasks e ++ reply_fields others r))
-    → fields_of text ≡ canonical_number stream ∷ (event_fields tasks e ++ reply_fields others r)
+stream_fields : (text : List ℕ) (stream : ℕ) (tasks others : SetData) (e : Event) (r : Reply) → stream < 16
+    → HasFields tasks → HasFields others → IsAboutSet tasks e → HasUnits e → IsReplyOf others r
+    → HasProcessors r → text ≡ spaced (canonical_number stream
+    ∷ (event_fields tasks e ++ reply_fields others r))
+    → spaced_fields_of text ≡ canonical_number stream ∷ (event_fields tasks e ++ reply_fields others r)
 stream_fields text stream tasks others e r small names names' about units about' processors is =
     fields_back text (canonical_number stream) (event_fields tasks e ++ reply_fields others r) is
-    (All-cons (λ (piece : List ℕ). All IsNoSpace piece) (canonical_number stream) (event_fields tasks e ++ reply_fields others r) (number_bytes IsNoSpace high_no_space stream (omega arith)) (All-append (λ (piece : List ℕ). All IsNoSpace piece) (event_fields tasks e) (reply_fields others r) (event_bytes IsNoSpace high_no_space tasks e (fields_no_space tasks names) about units) (reply_bytes IsNoSpace high_no_space others r (fields_no_space others names') about' processors)))
+    (All-cons (λ (piece : List ℕ). All IsNoSpace piece) (canonical_number stream)
+    (event_fields tasks e ++ reply_fields others r) (number_bytes IsNoSpace high_no_space stream (omega arith))
+    (All-append (λ (piece : List ℕ). All IsNoSpace piece) (event_fields tasks e) (reply_fields others r)
+    (event_bytes IsNoSpace high_no_space tasks e (fields_no_space tasks names) about units)
+    (reply_bytes IsNoSpace high_no_space others r (fields_no_space others names') about' processors)))
 
-pub entry_to_fields : (set : SetData) (text : List ℕ) (entry : Entry) → IsTaskSet set → IsEntryText set text entry → IsEntryFields set (fields_of text) entry
-entry_to_fields set text entry lawful f =
+pub entry_to_fields : (set : SetData) (text : List ℕ) (entry : Entry) → IsTaskSet set
+    → IsEntryText set text entry → IsEntryFields set (spaced_fields_of text) entry
+entry_to_fields set text entry valid f =
     let s = f.scheduled in
     record {
       scheduled = s;
-      each_field = stream_fields text entry.caller set set entry.event entry.reply s.caller (set_fields set lawful) (set_fields set lawful) s.tasks.event s.units s.tasks.reply s.processors (line_same text (spaced (entry_fields set entry)) (f.is_text ∙ entry_spaced set entry));
+      each_field = stream_fields text entry.caller set set entry.event entry.reply s.caller
+          (set_fields set valid) (set_fields set valid) s.tasks.event s.units s.tasks.reply s.processors
+          (line_same text (spaced (entry_fields set entry)) (f.is_text ∙ entry_spaced set entry));
     }
 
-pub form_to_fields : (text : List ℕ) → IsEntryForm text → IsSomeEntry (fields_of text)
+pub form_to_fields : (text : List ℕ) → IsEntryForm text → IsSomeEntry (spaced_fields_of text)
 form_to_fields text f =
     let e = f.is_event in
     let r = f.is_reply in
@@ -157,10 +206,13 @@ form_to_fields text f =
       caller = f.caller;
       is_event = (e.tasks, e.event, e.names, record { about = e.about; units = e.units; each_field = refl });
       is_reply = (r.tasks, r.reply, r.names, record { about = r.about; processors = r.processors; each_field = refl });
-      each_field = stream_fields text f.stream e.tasks r.tasks e.event r.reply f.caller e.names r.names e.about e.units r.about r.processors (f.is_text ∙ on_stream (canonical_number f.stream) f.event f.reply e.tasks r.tasks e.event r.reply e.is_text r.is_text);
+      each_field = stream_fields text f.stream e.tasks r.tasks e.event r.reply f.caller e.names r.names e.about
+          e.units r.about r.processors
+          (f.is_text ∙ on_stream (canonical_number f.stream) f.event f.reply e.tasks r.tasks e.event r.reply
+          e.is_text r.is_text);
     }
 
-pub form_to_text : (text : List ℕ) → IsSomeEntry (fields_of text) → IsEntryForm text
+pub form_to_text : (text : List ℕ) → IsSomeEntry (spaced_fields_of text) → IsEntryForm text
 form_to_text text f =
     let e = f.is_event in
     let r = f.is_reply in
@@ -170,26 +222,45 @@ form_to_text text f =
       reply = reply_text r.0 r.1;
       caller = f.caller;
       is_event = record { tasks = e.0; event = e.1; names = e.2; about = e.3.about; units = e.3.units; is_text = refl };
-      is_reply = record { tasks = r.0; reply = r.1; names = r.2; about = r.3.about; processors = r.3.processors; is_text = refl };
+      is_reply = record {
+        tasks = r.0;
+        reply = r.1;
+        names = r.2;
+        about = r.3.about;
+        processors = r.3.processors;
+        is_text = refl;
+      };
       is_text =
           text_back text (canonical_number f.stream ∷ (f.event ++ f.reply)) f.each_field
           ∙ ap (λ (fields : List (List ℕ)). spaced (canonical_number f.stream ∷ (fields ++ f.reply))) e.3.each_field
-          ∙ ap (λ (fields : List (List ℕ)). spaced (canonical_number f.stream ∷ (event_fields e.0 e.1 ++ fields))) r.3.each_field
-          ∙ sym (on_stream (canonical_number f.stream) (event_text e.0 e.1) (reply_text r.0 r.1) e.0 r.0 e.1 r.1 refl refl);
+          ∙ ap (λ (fields : List (List ℕ)). spaced
+          (canonical_number f.stream ∷ (event_fields e.0 e.1 ++ fields))) r.3.each_field
+          ∙ sym (on_stream (canonical_number f.stream) (event_text e.0 e.1) (reply_text r.0 r.1) e.0 r.0 e.1 r.1
+          refl refl);
     }
 
--- the fields of a context behind its name
+-- the fields of a context after its name
 abbrev context_tail : Context → List (List ℕ)
 context_tail context =
-    codes "units" ∷ canonical_number context.units ∷ codes "stints" ∷ canonical_number context.stints ∷ codes "moves" ∷ canonical_number context.moves ∷ codes "last" ∷ number_text context.last ∷ codes "trail" ∷ canonical_number context.trail ∷ []
+    codes "units" ∷ canonical_number context.units ∷ codes "stints" ∷ canonical_number context.stints
+    ∷ codes "moves" ∷ canonical_number context.moves ∷ codes "last" ∷ number_text context.last ∷ codes "trail"
+    ∷ canonical_number context.trail ∷ []
 
-pub context_to_fields : (set : SetData) (t : ℕ) (text : List ℕ) (context : Context) → IsTaskSet set → t < length set.tasks → IsContextText set t text context → fields_of text ≡ context_fields set context
-context_to_fields set t text context lawful within f =
-    fields_back text (name_of set context.task) (context_tail context) (line_same text (spaced (context_fields set context)) (f.is_text ∙ context_spaced set context)) (context_bytes IsNoSpace high_no_space set t context (fields_no_space set (set_fields set lawful)) within f.of_task)
+pub context_to_fields : (set : SetData) (t : ℕ) (text : List ℕ) (context : Context) → IsTaskSet set
+    → t < length set.tasks → IsContextText set t text context → spaced_fields_of text
+    ≡ context_fields set context
+context_to_fields set t text context valid within f =
+    fields_back text (name_of set context.task) (context_tail context)
+    (line_same text (spaced (context_fields set context)) (f.is_text ∙ context_spaced set context))
+    (context_bytes IsNoSpace high_no_space set t context (fields_no_space set (set_fields set valid)) within
+    f.of_task)
 
--- a number behind a word
-pub number_to_fields : (word text : List ℕ) (n : ℕ) → text ≡ word ++ 32 ∷ canonical_number n → EachByte IsNoSpace (word ∷ canonical_number n ∷ []) → fields_of text ≡ word ∷ canonical_number n ∷ []
+-- a number after a word
+pub number_to_fields : (word text : List ℕ) (n : ℕ) → text ≡ word ++ 32 ∷ canonical_number n
+    → EachByte IsNoSpace (word ∷ canonical_number n ∷ []) → spaced_fields_of text ≡ word ∷ canonical_number n
+    ∷ []
 number_to_fields word text n is lacks = fields_back text word (canonical_number n ∷ []) is lacks
 
-pub number_to_text : (word text : List ℕ) (n : ℕ) → fields_of text ≡ word ∷ canonical_number n ∷ [] → text ≡ word ++ 32 ∷ canonical_number n
+pub number_to_text : (word text : List ℕ) (n : ℕ) → spaced_fields_of text ≡ word ∷ canonical_number n ∷ []
+    → text ≡ word ++ 32 ∷ canonical_number n
 number_to_text word text n cut = text_back text (word ∷ canonical_number n ∷ []) cut

@@ -1,18 +1,22 @@
 -- Contexts by their fields.
-use Rattle.std.proofs.Common.{◌≡◌, ℕ, ◌<◌, ◌≤◌, ◌^◌, inl, List, [], ◌∷◌, length, get_or, Option, Some, None, Contains, Bor, refl, sym, ap, ◌∙◌, subst, arith, lit<}
+use Rattle.std.proofs.Common.{◌≡◌, ◌≢◌, ℕ, ◌<◌, ◌≤◌, ◌^◌, inl, List, [], ◌∷◌, length, get_or, Option, Some, None, Contains, Bor, refl, sym, ap, ◌∙◌, subst, arith, lit<}
 use Rattle.std.specs.Prelude.{codes}
-use Rattle.affinity_mask.specs.Number.{canonical_number}
+use Rattle.affinity_mask.specs.Number.{canonical_number, number_value}
+use Rattle.text_fields.specs.Number.{IsNumberWithin}
 use Rattle.task_set.specs.TaskSet.{SetData}
 use Rattle.task_set.specs.declared.context.Context.{Context}
-use Rattle.trace_reader.specs.Reading.{texts}
+use Rattle.text_fields.specs.Fields.{texts}
 use Rattle.schedule_text.specs.ScheduleText.{number_text}
 use Rattle.schedule_text.specs.Schedule.{IsContextOf}
-use Rattle.schedule_text.specs.Reading.{IsNumberField, IsLastField, context_fields}
-use Rattle.schedule_text.proofs.Words.{head_same, tail_same}
+use Rattle.schedule_text.specs.Fields.{IsNumberField, IsLastField}
+use Rattle.schedule_text.specs.LineFields.{context_fields}
+use Rattle.text_fields.proofs.Words.{head_same, tail_same}
 use Rattle.std.proofs.lemmas.Fmt.{decimal_injective}
-use Rattle.schedule_text.proofs.Fields.{number_once, number_lacks}
+use Rattle.schedule_text.proofs.Fields.{number_once, number_lacks, number_within}
 
-texts_five : (fields : List (Bor (List ℕ))) (d : Bor (List ℕ)) → 5 ≤ length fields → length fields < 6 → texts fields ≡ (get_or fields 0 d).now ∷ (get_or fields 1 d).now ∷ (get_or fields 2 d).now ∷ (get_or fields 3 d).now ∷ (get_or fields 4 d).now ∷ []
+texts_five : (fields : List (Bor (List ℕ))) (d : Bor (List ℕ)) → 5 ≤ length fields → length fields < 6
+    → texts fields ≡ (get_or fields 0 d).now ∷ (get_or fields 1 d).now ∷ (get_or fields 2 d).now
+    ∷ (get_or fields 3 d).now ∷ (get_or fields 4 d).now ∷ []
 texts_five [] d some few = absurd (omega arith)
 texts_five (x ∷ []) d some few = absurd (omega arith)
 texts_five (x ∷ y ∷ []) d some few = absurd (omega arith)
@@ -23,7 +27,9 @@ texts_five (x ∷ y ∷ z ∷ u ∷ v ∷ w ∷ us) d some few = absurd (omega a
 
 pub texts_eleven : (fields : List (Bor (List ℕ))) (d : Bor (List ℕ)) → 11 ≤ length fields → length fields < 12
     → texts fields
-    ≡ (get_or fields 0 d).now ∷ (get_or fields 1 d).now ∷ (get_or fields 2 d).now ∷ (get_or fields 3 d).now ∷ (get_or fields 4 d).now ∷ (get_or fields 5 d).now ∷ (get_or fields 6 d).now ∷ (get_or fields 7 d).now ∷ (get_or fields 8 d).now
+    ≡ (get_or fields 0 d).now ∷ (get_or fields 1 d).now ∷ (get_or fields 2 d).now ∷ (get_or fields 3 d).now
+    ∷ (get_or fields 4 d).now ∷ (get_or fields 5 d).now ∷ (get_or fields 6 d).now ∷ (get_or fields 7 d).now
+    ∷ (get_or fields 8 d).now
     ∷ (get_or fields 9 d).now ∷ (get_or fields 10 d).now ∷ []
 texts_eleven [] d some few = absurd (omega arith)
 texts_eleven (a ∷ []) d some few = absurd (omega arith)
@@ -32,7 +38,8 @@ texts_eleven (a ∷ b ∷ c ∷ []) d some few = absurd (omega arith)
 texts_eleven (a ∷ b ∷ c ∷ e ∷ []) d some few = absurd (omega arith)
 texts_eleven (a ∷ b ∷ c ∷ e ∷ f ∷ []) d some few = absurd (omega arith)
 texts_eleven (a ∷ b ∷ c ∷ e ∷ f ∷ g ∷ us) d some few =
-    ap (λ (rest : List (List ℕ)). a.now ∷ b.now ∷ c.now ∷ e.now ∷ f.now ∷ g.now ∷ rest) (texts_five us d (omega arith) (omega arith))
+    ap (λ (rest : List (List ℕ)). a.now ∷ b.now ∷ c.now ∷ e.now ∷ f.now ∷ g.now ∷ rest)
+    (texts_five us d (omega arith) (omega arith))
 
 -- what the fields of a context say
 pub record AreSaid (units stints moves last trail : List ℕ) (context : Context) : Type 0 where
@@ -45,54 +52,117 @@ pub record AreSaid (units stints moves last trail : List ℕ) (context : Context
 skip : {A : Type 0} {a b c d : A} {xs ys : List A} → a ∷ b ∷ xs ≡ c ∷ d ∷ ys → xs ≡ ys
 skip e = tail_same (tail_same e)
 
-pub context_said : (set : SetData) (context : Context) (fields : List (List ℕ)) (a b c d e f g h i j k : List ℕ) → fields ≡ a ∷ b ∷ c ∷ d ∷ e ∷ f ∷ g ∷ h ∷ i ∷ j ∷ k ∷ [] → fields ≡ context_fields set context → AreSaid c e g i k context
+pub context_said : (set : SetData) (context : Context) (fields : List (List ℕ)) (a b c d e f g h i j k : List ℕ)
+    → fields ≡ a ∷ b ∷ c ∷ d ∷ e ∷ f ∷ g ∷ h ∷ i ∷ j ∷ k ∷ [] → fields ≡ context_fields set context
+    → AreSaid c e g i k context
 context_said set context fields a b c d e f g h i j k eleven same =
     let third = skip (sym eleven ∙ same) in
     let fifth = skip third in
     let seventh = skip fifth in
     let ninth = skip seventh in
     let last = skip ninth in
-    record { units_are = head_same third; stints_are = head_same fifth; moves_are = head_same seventh; last_is = head_same ninth; trail_is = head_same last }
+    record {
+      units_are = head_same third;
+      stints_are = head_same fifth;
+      moves_are = head_same seventh;
+      last_is = head_same ninth;
+      trail_is = head_same last;
+    }
 
 -- a number of a context is within the bounds of the format
-pub wide : (field : List ℕ) (n : ℕ) → n < 2 ^ 64 → field ≡ canonical_number n → IsNumberField 0 18446744073709551615 field n
+pub wide : (field : List ℕ) (n : ℕ) → n < 2 ^ 64 → field ≡ canonical_number n
+    → IsNumberField 0 18446744073709551615 field n
 wide field n small is = record { range = (omega arith, omega arith); is_text = is }
 
-pub wide_once : (field : List ℕ) (m n : ℕ) → IsNumberField 0 18446744073709551615 field m → n < 2 ^ 64 → field ≡ canonical_number n → m ≡ n
-wide_once field m n f small is = number_once 0 18446744073709551615 0 18446744073709551615 field m n (lit< tt) (lit< tt) f (wide field n small is)
+-- and it is read as itself
+pub wide_read : (field : List ℕ) (n : ℕ) → n < 2 ^ 64 → field ≡ canonical_number n
+    → IsNumberWithin 0 18446744073709551615 field n
+wide_read field n small is =
+    number_within 0 18446744073709551615 field n (lit< tt) (wide field n small is)
+
+same_value : (field : List ℕ) (m n : ℕ) → number_value field ≡ m → number_value field ≡ n → m ≡ n
+same_value field m n one other = sym one ∙ other
+
+pub wide_once : (field : List ℕ) (m n : ℕ) → IsNumberWithin 0 18446744073709551615 field m → n < 2 ^ 64
+    → field ≡ canonical_number n → m ≡ n
+wide_once field m n f small is = same_value field m n f.0.1 (wide_read field n small is).0.1
 
 no_number_dash : (n : ℕ) → n < 2 ^ 64 → codes "-" ≡ canonical_number n → ⊥
-no_number_dash n small is = number_lacks n 45 small (inl (omega arith)) (subst (λ (text : List ℕ). Contains text 45) is (0, omega arith, refl))
+no_number_dash n small is =
+    number_lacks n 45 small (inl (omega arith))
+    (subst (λ (text : List ℕ). Contains text 45) is (0, omega arith, refl))
 
 -- the last processor, or none, of one field
 pub last_once : (field : List ℕ) (last other : Option ℕ) → IsLastField field last → IsLastField field other → last ≡ other
 last_once field None None one two = refl
-last_once field None (Some q) one two = (let below : q < 64 = two.processor in absurd (no_number_dash q (omega arith) (sym one.is_text ∙ two.is_text)))
-last_once field (Some p) None one two = (let below : p < 64 = one.processor in absurd (no_number_dash p (omega arith) (sym two.is_text ∙ one.is_text)))
+last_once field None (Some q) one two =
+    (let below : q < 64 = two.processor in absurd
+    (no_number_dash q (omega arith) (sym one.is_text ∙ two.is_text)))
+last_once field (Some p) None one two =
+    (let below : p < 64 = one.processor in absurd
+    (no_number_dash p (omega arith) (sym two.is_text ∙ one.is_text)))
 last_once field (Some p) (Some q) one two =
     let below : p < 64 = one.processor in
     let below' : q < 64 = two.processor in
-    ap Some (number_once 0 63 0 63 field p q (lit< tt) (lit< tt) (record { range = (omega arith, omega arith); is_text = one.is_text }) (record { range = (omega arith, omega arith); is_text = two.is_text }))
+    ap Some (number_once 0 63 0 63 field p q (lit< tt) (lit< tt)
+    (record { range = (omega arith, omega arith); is_text = one.is_text })
+    (record { range = (omega arith, omega arith); is_text = two.is_text }))
 
-five_same : (t u s m r : ℕ) (l : Option ℕ) (context : Context) → context.task ≡ t → u ≡ context.units → s ≡ context.stints → m ≡ context.moves → l ≡ context.last → r ≡ context.trail
+-- the field of a processor is read as it
+last_read : (field : List ℕ) (p : ℕ) → IsLastField field (Some p) → IsNumberWithin 0 63 field p
+last_read field p f =
+    let below : p < 64 = f.processor in
+    number_within 0 63 field p (lit< tt) (record { range = (omega arith, omega arith); is_text = f.is_text })
+
+pub last_found : (field : List ℕ) (p : ℕ) (last : Option ℕ) → field ≢ codes "-" → IsNumberWithin 0 63 field p
+    → IsLastField field last → Some p ≡ last
+last_found field p None no_dash f is = absurd (no_dash is.is_text)
+last_found field p (Some q) no_dash f is = ap Some (same_value field p q f.0.1 (last_read field q is).0.1)
+
+pub last_none : (field : List ℕ) (last : Option ℕ) → field ≢ codes "-" → ((p : ℕ) → IsNumberWithin 0 63 field p → ⊥)
+    → IsLastField field last → ⊥
+last_none field None no_dash none is = no_dash is.is_text
+last_none field (Some q) no_dash none is = none q (last_read field q is)
+
+pub last_dash : (field : List ℕ) (last : Option ℕ) → field ≡ codes "-" → IsLastField field last → None ≡ last
+last_dash field last dash is = last_once field None last (record { processor = tt; is_text = dash }) is
+
+five_same : (t u s m r : ℕ) (l : Option ℕ) (context : Context) → context.task ≡ t → u ≡ context.units → s
+    ≡ context.stints → m ≡ context.moves → l ≡ context.last → r ≡ context.trail
     → record { task = t; units = u; stints = s; moves = m; last = l; trail = r } ≡ context
 five_same t u s m r l context e1 e2 e3 e4 e5 e6 = rw (← e1, e2, e3, e4, e5, e6) refl
 
 -- the fields of a context give it back
-pub context_found : (set : SetData) (context : Context) (t u s m r : ℕ) (l : Option ℕ) (units stints moves last trail : List ℕ) → IsContextOf t context → AreSaid units stints moves last trail context
-    → IsNumberField 0 18446744073709551615 units u → IsNumberField 0 18446744073709551615 stints s → IsNumberField 0 18446744073709551615 moves m → IsLastField last l → IsNumberField 0 18446744073709551615 trail r
+pub context_found : (set : SetData) (context : Context) (t u s m r : ℕ) (l : Option ℕ)
+    (units stints moves last trail : List ℕ)
+    → IsContextOf t context → AreSaid units stints moves last trail context
+    → IsNumberWithin 0 18446744073709551615 units u → IsNumberWithin 0 18446744073709551615 stints s
+    → IsNumberWithin 0 18446744073709551615 moves m → l ≡ context.last → IsNumberWithin 0 18446744073709551615 trail r
     → record { task = t; units = u; stints = s; moves = m; last = l; trail = r } ≡ context
 context_found set context t u s m r l units stints moves last trail of said fu fs fm fl fr =
-    five_same t u s m r l context of.task (wide_once units u context.units fu of.units said.units_are) (wide_once stints s context.stints fs of.stints said.stints_are) (wide_once moves m context.moves fm of.moves said.moves_are)
-    (last_once last l context.last fl (record { processor = of.last; is_text = said.last_is })) (wide_once trail r context.trail fr of.trail said.trail_is)
+    five_same t u s m r l context of.task (wide_once units u context.units fu of.units said.units_are)
+    (wide_once stints s context.stints fs of.stints said.stints_are)
+    (wide_once moves m context.moves fm of.moves said.moves_are) fl
+    (wide_once trail r context.trail fr of.trail said.trail_is)
+
+-- the field of its last processor is that of a last processor
+pub last_field : (t : ℕ) (units stints moves last trail : List ℕ) (context : Context) → IsContextOf t context
+    → AreSaid units stints moves last trail context → IsLastField last context.last
+last_field t units stints moves last trail context of said = record { processor = of.last; is_text = said.last_is }
 
 -- the fields of a context are of one context
-pub context_once : (set : SetData) (t : ℕ) (one other : Context) → IsContextOf t one → IsContextOf t other → context_fields set one ≡ context_fields set other → one ≡ other
+pub context_once : (set : SetData) (t : ℕ) (one other : Context) → IsContextOf t one → IsContextOf t other
+    → context_fields set one ≡ context_fields set other → one ≡ other
 context_once set t one other of of' same =
     let third = skip same in
     let fifth = skip third in
     let seventh = skip fifth in
     let ninth = skip seventh in
     let last = skip ninth in
-    five_same one.task one.units one.stints one.moves one.trail one.last other (of'.task ∙ sym of.task) (decimal_injective one.units other.units of.units of'.units (head_same third)) (decimal_injective one.stints other.stints of.stints of'.stints (head_same fifth))
-    (decimal_injective one.moves other.moves of.moves of'.moves (head_same seventh)) (last_once (number_text one.last) one.last other.last (record { processor = of.last; is_text = refl }) (record { processor = of'.last; is_text = head_same ninth })) (decimal_injective one.trail other.trail of.trail of'.trail (head_same last))
+    five_same one.task one.units one.stints one.moves one.trail one.last other (of'.task ∙ sym of.task)
+    (decimal_injective one.units other.units of.units of'.units (head_same third))
+    (decimal_injective one.stints other.stints of.stints of'.stints (head_same fifth))
+    (decimal_injective one.moves other.moves of.moves of'.moves (head_same seventh))
+    (last_once (number_text one.last) one.last other.last (record { processor = of.last; is_text = refl })
+    (record { processor = of'.last; is_text = head_same ninth })) (decimal_injective one.trail other.trail
+    of.trail of'.trail (head_same last))

@@ -1,31 +1,28 @@
 -- Fields of which it is known that they say something or nothing.
 use Rattle.std.proofs.Common.{◌≡◌, ◌≢◌, ℕ, zero, suc, ◌<◌, ◌≤◌, ◌^◌, ◌⊎◌, inl, inr, true, nat_lt, List, [], ◌∷◌, length, map, All, Contains, Option, Some, None, refl, sym, ap, ◌∙◌, subst, arith, lit<}
 use Rattle.std.specs.Prelude.{codes}
-use Rattle.std.specs.Char.{digit_value}
-use Rattle.std.specs.Str.Parse.{AllDigits}
 use Rattle.std.proofs.lemmas.Bool.{cases_eq, cases_lt}
 use Rattle.std.proofs.lemmas.List.{length-map}
 use Rattle.std.proofs.lemmas.List.Elements.{All-nil, All-cons, All-head, All-tail, Contains-append_right}
 use Rattle.affinity_mask.specs.ProcSet.{empty}
-use Rattle.affinity_mask.specs.Number.{IsNumber, number_value, canonical_number}
+use Rattle.affinity_mask.specs.Number.{canonical_number}
 use Rattle.affinity_mask.specs.ListText.{IsLawful, IsListText, canonical_list}
 use Rattle.affinity_mask.proofs.Sets.{has-all_below}
 use Rattle.affinity_mask.proofs.TextCases.{text_list_or_fault}
-use Rattle.trace_reader.specs.InputText.{IsNumberWithin}
-use Rattle.trace_reader.proofs.Decisions.{same_bytes_or_not}
+use Rattle.text_fields.proofs.Decisions.{bytes_decided, number_within_decided}
 use Rattle.schedule_text.specs.Schedule.{IsOfProcessors}
-use Rattle.schedule_text.specs.ScheduleFault.{IsField}
-use Rattle.schedule_text.specs.Reading.{links_of, IsNumberField, IsListField, IsSetField, IsChainField, IsRowOf, IsLastField}
-use Rattle.schedule_text.proofs.Words.{head_same, tail_same}
+use Rattle.schedule_text.specs.LineForms.{IsField}
+use Rattle.schedule_text.specs.Fields.{links_of, IsNumberField, IsListField, IsSetField, IsChainField, AreProcessorFields, IsLastField}
+use Rattle.text_fields.proofs.Words.{head_same, tail_same}
 use Rattle.schedule_text.proofs.Fields.{number_none, number_differs, list_refused, list_differs, list_read, set_empty, set_read, set_none}
 use Rattle.schedule_text.proofs.Chains.{chain_empty, chain_read, chain_none}
 
 -- a byte is in a text or not
-pub byte_or_not : (byte : ℕ) (text : List ℕ) → Contains text byte ⊎ (Contains text byte → ⊥)
-byte_or_not byte [] = inr (λ here. absurd (omega (arith, here.1)))
-byte_or_not byte (x ∷ xs) = elim (cases_eq x byte) [
+pub byte_decided : (byte : ℕ) (text : List ℕ) → Contains text byte ⊎ (Contains text byte → ⊥)
+byte_decided byte [] = inr (λ here. absurd (omega (arith, here.1)))
+byte_decided byte (x ∷ xs) = elim (cases_eq x byte) [
   | inl same ↦ inl (0, omega arith, same)
-  | inr other ↦ elim (byte_or_not byte xs) [
+  | inr other ↦ elim (byte_decided byte xs) [
     | inl later ↦ inl (Contains-append_right (x ∷ []) xs byte later)
     | inr none ↦ inr (not_first other none)
   ]
@@ -35,12 +32,12 @@ byte_or_not byte (x ∷ xs) = elim (cases_eq x byte) [
     not_first other none (zero, within, same) = other same
     not_first other none (suc k, within, same) = none (k, omega (arith, within), same)
 
-pub field_or_not : (bytes : List ℕ) → IsField bytes ⊎ (IsField bytes → ⊥)
-field_or_not bytes = elim (same_bytes_or_not bytes []) [
+pub field_decided : (bytes : List ℕ) → IsField bytes ⊎ (IsField bytes → ⊥)
+field_decided bytes = elim (bytes_decided bytes []) [
   | inl none ↦ inr (λ f. f.some none)
-  | inr some ↦ elim (byte_or_not 32 bytes) [
+  | inr some ↦ elim (byte_decided 32 bytes) [
     | inl space ↦ inr (λ f. f.no_space space)
-    | inr no_space ↦ elim (byte_or_not 9 bytes) [
+    | inr no_space ↦ elim (byte_decided 9 bytes) [
       | inl tab ↦ inr (λ f. f.no_tab tab)
       | inr no_tab ↦ inl (record { some = some; no_space = no_space; no_tab = no_tab })
     ]
@@ -49,42 +46,12 @@ field_or_not bytes = elim (same_bytes_or_not bytes []) [
 
 -- ---- numbers
 
-all_digits_or_not : (text : List ℕ) → AllDigits 10 text ⊎ (AllDigits 10 text → ⊥)
-all_digits_or_not [] = inl tt
-all_digits_or_not (byte ∷ rest) = elim (cases_lt (digit_value byte) 10) [
-  | inr large ↦ inr (λ digits. let small : digit_value byte < 10 = digits.0 in omega arith)
-  | inl small ↦ elim (all_digits_or_not rest) [
-    | inl digits ↦ inl (small, digits)
-    | inr fails ↦ inr (λ digits. fails digits.1)
-  ]
-]
-
-number_or_not : (text : List ℕ) → IsNumber text ⊎ (IsNumber text → ⊥)
-number_or_not text = elim (cases_lt 0 (length text)) [
-  | inr none ↦ inr (λ number. let some : 0 < length text = number.0 in omega arith)
-  | inl some ↦ elim (all_digits_or_not text) [
-    | inl digits ↦ inl (some, digits)
-    | inr fails ↦ inr (λ number. fails number.1)
-  ]
-]
-
-within_or_not : (least most : ℕ) (text : List ℕ) → ((n : ℕ) × IsNumberWithin least most text n) ⊎ ((n : ℕ) → IsNumberWithin least most text n → ⊥)
-within_or_not least most text = elim (number_or_not text) [
-  | inr fails ↦ inr (λ n within. fails within.0.0)
-  | inl number ↦ elim (cases_lt (number_value text) least) [
-    | inl small ↦ inr (λ n within. let value = within.0.1 in let low : least ≤ n = within.1 in omega arith)
-    | inr low ↦ elim (cases_lt most (number_value text)) [
-      | inl large ↦ inr (λ n within. let value = within.0.1 in let high : n ≤ most = within.2 in omega arith)
-      | inr high ↦ inl (number_value text, ((number, refl), low, high))
-    ]
-  ]
-]
-
 -- a field is a canonical number within bounds, or none
-pub number_field_or_not : (least most : ℕ) (field : List ℕ) → most < 2 ^ 64 → ((n : ℕ) × IsNumberField least most field n) ⊎ ((n : ℕ) → IsNumberField least most field n → ⊥)
-number_field_or_not least most field small = elim (within_or_not least most field) [
+pub number_field_decided : (least most : ℕ) (field : List ℕ) → most < 2 ^ 64
+    → ((n : ℕ) × IsNumberField least most field n) ⊎ ((n : ℕ) → IsNumberField least most field n → ⊥)
+number_field_decided least most field small = elim (number_within_decided least most field) [
   | inr none ↦ inr (number_none least most field small none)
-  | inl found ↦ elim (same_bytes_or_not (canonical_number found.0) field) [
+  | inl found ↦ elim (bytes_decided (canonical_number found.0) field) [
     | inl same ↦ inl (found.0, record { range = (found.1.1, found.1.2); is_text = sym same })
     | inr differs ↦ inr (number_differs least most field found.0 small found.1 differs)
   ]
@@ -103,31 +70,38 @@ list_processors text X (first, more, list) p member =
     below : (p : ℕ) → p < 64 → nat_lt p 64 ≡ true
     below p lt = grind arith
 
-pub list_field_or_not : (field : List ℕ) → ((X : ℕ) × IsListField field X) ⊎ ((X : ℕ) → IsListField field X → ⊥)
-list_field_or_not field = elim (text_list_or_fault field) [
+pub list_field_decided : (field : List ℕ) → ((X : ℕ) × IsListField field X) ⊎ ((X : ℕ) → IsListField field X → ⊥)
+list_field_decided field = elim (text_list_or_fault field) [
   | inr bad ↦ inr (list_refused field bad.0 bad.1)
-  | inl found ↦ elim (same_bytes_or_not (canonical_list found.0) field) [
+  | inl found ↦ elim (bytes_decided (canonical_list found.0) field) [
     | inl same ↦ inl (found.0, list_read field found.0 found.1 (list_processors field found.0 found.1) same)
     | inr differs ↦ inr (list_differs field found.0 found.1 differs)
   ]
 ]
 
-pub set_field_or_not : (field : List ℕ) → ((X : ℕ) × IsSetField field X) ⊎ ((X : ℕ) → IsSetField field X → ⊥)
-set_field_or_not field = elim (same_bytes_or_not field (codes "-")) [
+pub set_field_decided : (field : List ℕ) → ((X : ℕ) × IsSetField field X) ⊎ ((X : ℕ) → IsSetField field X → ⊥)
+set_field_decided field = elim (bytes_decided field (codes "-")) [
   | inl dash ↦ inl (empty, set_empty field empty refl dash)
-  | inr no_dash ↦ elim (list_field_or_not field) [
+  | inr no_dash ↦ elim (list_field_decided field) [
     | inl found ↦ inl (found.0, set_read field found.0 found.1)
     | inr none ↦ inr (set_none field no_dash none)
   ]
 ]
 
 -- some fields are processors, or not
-processors_or_not : (fields : List (List ℕ)) → ((row : List ℕ) × All (λ (p : ℕ). p < 64) row × (fields ≡ map canonical_number row)) ⊎ ((row : List ℕ) → All (λ (p : ℕ). p < 64) row → fields ≡ map canonical_number row → ⊥)
-processors_or_not [] = inl ([], All-nil (λ (p : ℕ). p < 64), refl)
-processors_or_not (field ∷ fields) = elim (number_field_or_not 0 63 field (lit< tt)) [
+processors_decided : (fields : List (List ℕ))
+    → ((list : List ℕ) × All (λ (p : ℕ). p < 64) list × (fields ≡ map canonical_number list))
+    ⊎ ((list : List ℕ) → All (λ (p : ℕ). p < 64) list → fields ≡ map canonical_number list → ⊥)
+processors_decided [] = inl ([], All-nil (λ (p : ℕ). p < 64), refl)
+processors_decided (field ∷ fields) = elim (number_field_decided 0 63 field (lit< tt)) [
   | inr none ↦ inr (first_none none)
-  | inl found ↦ elim (processors_or_not fields) [
-    | inl rest ↦ inl (found.0 ∷ rest.0, All-cons (λ (p : ℕ). p < 64) found.0 rest.0 (let high = found.1.range.1 in omega arith) rest.1, two_same found.1.is_text rest.2)
+  | inl found ↦ elim (processors_decided fields) [
+    | inl rest ↦ inl (
+      found.0 ∷ rest.0,
+      All-cons (λ (p : ℕ). p <
+          64) found.0 rest.0 (let high = found.1.range.1 in omega arith) rest.1,
+      two_same found.1.is_text rest.2,
+    )
     | inr none ↦ inr (rest_none none)
   ]
 ]
@@ -135,43 +109,68 @@ processors_or_not (field ∷ fields) = elim (number_field_or_not 0 63 field (lit
     two_same : {a b : List ℕ} {xs ys : List (List ℕ)} → a ≡ b → xs ≡ ys → a ∷ xs ≡ b ∷ ys
     two_same one two = cc
 
-    first_none : ((n : ℕ) → IsNumberField 0 63 field n → ⊥) → (row : List ℕ) → All (λ (p : ℕ). p < 64) row → field ∷ fields ≡ map canonical_number row → ⊥
+    first_none : ((n : ℕ) → IsNumberField 0 63 field n → ⊥) → (list : List ℕ) → All (λ (p : ℕ). p < 64) list
+        → field ∷ fields ≡ map canonical_number list → ⊥
     first_none none [] all e = cc
-    first_none none (p ∷ row) all e = let small : p < 64 = All-head (λ (p : ℕ). p < 64) p row all in none p (record { range = (omega arith, omega arith); is_text = head_same e })
+    first_none none (p ∷ list) all e =
+        let small : p < 64 = All-head (λ (p : ℕ). p < 64) p list all in
+        none p (record { range = (omega arith, omega arith); is_text = head_same e })
 
-    rest_none : ((row : List ℕ) → All (λ (p : ℕ). p < 64) row → fields ≡ map canonical_number row → ⊥) → (row : List ℕ) → All (λ (p : ℕ). p < 64) row → field ∷ fields ≡ map canonical_number row → ⊥
+    rest_none : ((list : List ℕ) → All (λ (p : ℕ). p < 64) list → fields ≡ map canonical_number list → ⊥)
+        → (list : List ℕ) → All (λ (p : ℕ). p < 64) list → field ∷ fields ≡ map canonical_number list → ⊥
     rest_none none [] all e = cc
-    rest_none none (p ∷ row) all e = none row (All-tail (λ (p : ℕ). p < 64) p row all) (tail_same e)
+    rest_none none (p ∷ list) all e = none list (All-tail (λ (p : ℕ). p < 64) p list all) (tail_same e)
 
-row_or_not : (fields : List (List ℕ)) → ((row : List ℕ) × IsRowOf fields row) ⊎ ((row : List ℕ) → IsRowOf fields row → ⊥)
-row_or_not fields = elim (processors_or_not fields) [
-  | inr none ↦ inr (λ row f. none row f.row.1 f.each_field)
+processor_list_decided : (fields : List (List ℕ)) → ((list : List ℕ) × AreProcessorFields fields list)
+    ⊎ ((list : List ℕ) → AreProcessorFields fields list → ⊥)
+processor_list_decided fields = elim (processors_decided fields) [
+  | inr none ↦ inr (λ list f. none list f.list.1 f.each_field)
   | inl found ↦ elim (cases_lt 64 (length fields)) [
-    | inl long ↦ inr (λ row f. let few : length row ≤ 64 = f.row.0 in let count : length fields ≡ length row = ap length f.each_field ∙ length-map row canonical_number in omega arith)
-    | inr short ↦ inl (found.0, record { row = (let count : length fields ≡ length found.0 = ap length found.2 ∙ length-map found.0 canonical_number in omega arith, found.1); each_field = found.2 })
+    | inl long ↦ inr (λ list f. let few : length list ≤ 64 = f.list.0 in let count : length fields
+        ≡ length list = ap length f.each_field ∙ length-map list canonical_number in omega arith)
+    | inr short ↦ inl (
+      found.0,
+      record {
+        list = (
+          let count : length fields ≡ length found.0 = ap length found.2
+              ∙ length-map found.0 canonical_number in omega arith,
+          found.1,
+        );
+        each_field = found.2;
+      },
+    )
   ]
 ]
 
-pub chain_field_or_not : (field : List ℕ) → ((chain : List ℕ) × IsChainField field chain) ⊎ ((chain : List ℕ) → IsChainField field chain → ⊥)
-chain_field_or_not field = elim (same_bytes_or_not field (codes "-")) [
+pub chain_field_decided : (field : List ℕ) → ((chain : List ℕ) × IsChainField field chain)
+    ⊎ ((chain : List ℕ) → IsChainField field chain → ⊥)
+chain_field_decided field = elim (bytes_decided field (codes "-")) [
   | inl dash ↦ inl ([], chain_empty field [] refl dash)
-  | inr no_dash ↦ elim (row_or_not (links_of field)) [
+  | inr no_dash ↦ elim (processor_list_decided (links_of field)) [
     | inl found ↦ inl (found.0, chain_read field (links_of field) found.0 refl found.1)
     | inr none ↦ inr (chain_none field (links_of field) no_dash refl none)
   ]
 ]
 
-pub last_field_or_not : (field : List ℕ) → ((last : Option ℕ) × IsLastField field last) ⊎ ((last : Option ℕ) → IsLastField field last → ⊥)
-last_field_or_not field = elim (same_bytes_or_not field (codes "-")) [
+pub last_field_decided : (field : List ℕ) → ((last : Option ℕ) × IsLastField field last)
+    ⊎ ((last : Option ℕ) → IsLastField field last → ⊥)
+last_field_decided field = elim (bytes_decided field (codes "-")) [
   | inl dash ↦ inl (None, record { processor = tt; is_text = dash })
-  | inr no_dash ↦ elim (number_field_or_not 0 63 field (lit< tt)) [
-    | inl found ↦ inl (Some found.0, record { processor = (let high = found.1.range.1 in omega arith); is_text = found.1.is_text })
+  | inr no_dash ↦ elim (number_field_decided 0 63 field (lit< tt)) [
+    | inl found ↦ inl (
+      Some found.0,
+      record
+          { processor = (let high = found.1.range.1 in omega arith); is_text = found.1.is_text },
+    )
     | inr none ↦ inr (neither no_dash none)
   ]
 ]
   where
-    neither : (field ≢ codes "-") → ((n : ℕ) → IsNumberField 0 63 field n → ⊥) → (last : Option ℕ) → IsLastField field last → ⊥
+    neither : (field ≢ codes "-") → ((n : ℕ) → IsNumberField 0 63 field n → ⊥) → (last : Option ℕ)
+        → IsLastField field last → ⊥
     neither no_dash none None f = no_dash f.is_text
-    neither no_dash none (Some p) f = let below : p < 64 = f.processor in none p (record { range = (omega arith, omega arith); is_text = f.is_text })
+    neither no_dash none (Some p) f =
+        let below : p < 64 = f.processor in
+        none p (record { range = (omega arith, omega arith); is_text = f.is_text })
 
 -- ---- tasks

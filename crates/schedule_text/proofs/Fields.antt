@@ -16,40 +16,46 @@ use Rattle.affinity_mask.specs.declared.mask_fault.MaskFault.{MaskFault}
 use Rattle.affinity_mask.proofs.Sets.{has-zero}
 use Rattle.affinity_mask.proofs.Runs.{canonical_list-IsListText}
 use Rattle.affinity_mask.proofs.ListTexts.{list_text-one_set, list_text-no_fault}
-use Rattle.trace_reader.specs.InputText.{IsNumberWithin}
+use Rattle.text_fields.specs.Number.{IsNumberWithin}
 use Rattle.schedule_text.specs.ScheduleText.{set_text}
 use Rattle.schedule_text.specs.Schedule.{IsOfProcessors}
-use Rattle.schedule_text.specs.Reading.{IsNumberField, IsListField, IsSetField}
+use Rattle.schedule_text.specs.Fields.{IsNumberField, IsListField, IsSetField}
 
 -- ---- numbers
 
 -- a canonical number within bounds is a number within them
-pub number_within : (least most : ℕ) (field : List ℕ) (n : ℕ) → most < 2 ^ 64 → IsNumberField least most field n → IsNumberWithin least most field n
+pub number_within : (least most : ℕ) (field : List ℕ) (n : ℕ) → most < 2 ^ 64 → IsNumberField least most field n
+    → IsNumberWithin least most field n
 number_within least most field n small f =
     let fits : n < 2 ^ 64 = (let high = f.range.1 in omega arith) in
     let value = decimal_is_IsNumeral n fits in
     subst (λ (text : List ℕ). IsNumberWithin least most text n) (sym f.is_text) (value, f.range.0, f.range.1)
 
 -- what is no number within bounds is no canonical one
-pub number_none : (least most : ℕ) (field : List ℕ) → most < 2 ^ 64 → ((n : ℕ) → IsNumberWithin least most field n → ⊥) → (n : ℕ) → IsNumberField least most field n → ⊥
+pub number_none : (least most : ℕ) (field : List ℕ) → most < 2 ^ 64
+    → ((n : ℕ) → IsNumberWithin least most field n → ⊥) → (n : ℕ) → IsNumberField least most field n → ⊥
 number_none least most field small none n f = none n (number_within least most field n small f)
 
 -- a number that is not written as its canonical number is none
-pub number_differs : (least most : ℕ) (field : List ℕ) (number : ℕ) → most < 2 ^ 64 → IsNumberWithin least most field number → canonical_number number ≢ field → (n : ℕ) → IsNumberField least most field n → ⊥
+pub number_differs : (least most : ℕ) (field : List ℕ) (number : ℕ) → most < 2 ^ 64
+    → IsNumberWithin least most field number → canonical_number number ≢ field → (n : ℕ)
+    → IsNumberField least most field n → ⊥
 number_differs least most field number small within differs n f =
     let other = number_within least most field n small f in
     let same : n ≡ number = sym other.0.1 ∙ within.0.1 in
     differs (sym (f.is_text ∙ ap canonical_number same))
 
 -- a field has one canonical number
-pub number_once : (least most least' most' : ℕ) (field : List ℕ) (m n : ℕ) → most < 2 ^ 64 → most' < 2 ^ 64 → IsNumberField least most field m → IsNumberField least' most' field n → m ≡ n
+pub number_once : (least most least' most' : ℕ) (field : List ℕ) (m n : ℕ) → most < 2 ^ 64 → most' < 2 ^ 64
+    → IsNumberField least most field m → IsNumberField least' most' field n → m ≡ n
 number_once least most least' most' field m n small small' one other =
     sym (number_within least most field m small one).0.1 ∙ (number_within least' most' field n small' other).0.1
 
 -- a canonical number has digits alone
 digits_visible : (byte : ℕ) (text : List ℕ) → AllDigits 10 text → (byte < 48) ⊎ (57 < byte) → Contains text byte → ⊥
 digits_visible byte text digits outside here =
-    let each : All (λ (b : ℕ). (48 ≤ b) × (b ≤ 57)) text = All-from_get_or (λ (b : ℕ). (48 ≤ b) × (b ≤ 57)) text 0 (λ i lt. let range = digit_at text i digits lt in (omega (arith, range.0), omega (arith, range.1))) in
+    let each : All (λ (b : ℕ). (48 ≤ b) × (b ≤ 57)) text = All-from_get_or (λ (b : ℕ). (48 ≤ b) × (b ≤ 57)) text
+    0 (λ i lt. let range = digit_at text i digits lt in (omega (arith, range.0), omega (arith, range.1))) in
     let range = All-contains (λ (b : ℕ). (48 ≤ b) × (b ≤ 57)) text byte each here in
     elim outside [ inl low ↦ omega (arith, range.0, low) | inr high ↦ omega (arith, range.1, high) ]
 
@@ -59,23 +65,35 @@ number_lacks n byte small outside = digits_visible byte (canonical_number n) (de
 -- ---- cut and joined
 
 unlike : (c : ℕ) (text : List ℕ) → (Contains text c → ⊥) → All (λ (b : ℕ). nat_eq b c ≡ false) text
-unlike c text lacks = All-from_get_or (λ (b : ℕ). nat_eq b c ≡ false) text 0 (λ i lt. ne_eqb (get_or text i 0) c (λ e. lacks (contains_here text i lt e)))
+unlike c text lacks =
+    All-from_get_or (λ (b : ℕ). nat_eq b c ≡ false) text 0
+    (λ i lt. ne_eqb (get_or text i 0) c (λ e. lacks (contains_here text i lt e)))
   where
     contains_here : (text : List ℕ) (i : ℕ) → i < length text → get_or text i 0 ≡ c → Contains text c
     contains_here text i lt e = subst (Contains text) e (Contains-get_or text i 0 lt)
 
-pub split_joined : (c : ℕ) (first : List ℕ) (more : List (List ℕ)) → All (λ (piece : List ℕ). Contains piece c → ⊥) (first ∷ more) → slice_split (λ (b : ℕ). b == c) (join_with_byte c (first ∷ more)) ≡ first ∷ more
-split_joined c first [] lacks = slice_split_none (λ (b : ℕ). nat_eq b c) first (unlike c first (All-head (λ (piece : List ℕ). Contains piece c → ⊥) first [] lacks))
+pub split_joined : (c : ℕ) (first : List ℕ) (more : List (List ℕ))
+    → All (λ (piece : List ℕ). Contains piece c → ⊥) (first ∷ more)
+    → slice_split (λ (b : ℕ). b == c) (join_with_byte c (first ∷ more)) ≡ first ∷ more
+split_joined c first [] lacks =
+    slice_split_none (λ (b : ℕ). nat_eq b c) first
+    (unlike c first (All-head (λ (piece : List ℕ). Contains piece c → ⊥) first [] lacks))
 split_joined c first (next ∷ more) lacks =
-    slice_split_at (λ (b : ℕ). nat_eq b c) first c (join_with_byte c (next ∷ more)) (unlike c first (All-head (λ (piece : List ℕ). Contains piece c → ⊥) first (next ∷ more) lacks)) (eq-eqb c c refl)
-    ∙ ap (λ (rest : List (List ℕ)). first ∷ rest) (split_joined c next more (All-tail (λ (piece : List ℕ). Contains piece c → ⊥) first (next ∷ more) lacks))
+    slice_split_at (λ (b : ℕ). nat_eq b c) first c (join_with_byte c (next ∷ more))
+    (unlike c first (All-head (λ (piece : List ℕ). Contains piece c → ⊥) first (next ∷ more) lacks))
+    (eq-eqb c c refl)
+    ∙ ap (λ (rest : List (List ℕ)). first ∷ rest)
+    (split_joined c next more (All-tail (λ (piece : List ℕ). Contains piece c → ⊥) first (next ∷ more) lacks))
 
 pub joined_split : (c : ℕ) (text : List ℕ) → join_with_byte c (slice_split (λ (b : ℕ). b == c) text) ≡ text
 joined_split c text = join_with_byte-slice_split c text
 
 -- there is one piece at least
 pub split_some : (c : ℕ) (text : List ℕ) → slice_split (λ (b : ℕ). b == c) text ≡ [] → ⊥
-split_some c text none = let count = length-slice_split (λ (b : ℕ). nat_eq b c) text in let nothing : length (slice_split (λ (b : ℕ). nat_eq b c) text) ≡ 0 = ap length none in omega arith
+split_some c text none =
+    let count = length-slice_split (λ (b : ℕ). nat_eq b c) text in
+    let nothing : length (slice_split (λ (b : ℕ). nat_eq b c) text) ≡ 0 = ap length none in
+    omega arith
 
 -- ---- lists and sets
 
@@ -84,24 +102,30 @@ list_some : (text : List ℕ) (X : ℕ) → IsListText text X → X ≡ empty �
 list_some text X (first, more, list) none =
     let item = All-head IsLawful first more list.lawful in
     let ascends : first.low ≤ first.high = item.ascends in
-    let member : IsTrue (has X first.low) = (list.union first.low).1 (0, first, omega arith, refl, (omega arith, ascends)) in
+    let member : IsTrue (has X first.low) = (list.union first.low).1
+    (0, first, omega arith, refl, (omega arith, ascends)) in
     true≢false (sym member ∙ ap (λ (Y : ℕ). has Y first.low) none ∙ has-zero first.low)
 
 pub list_text : (field : List ℕ) (X : ℕ) → IsListField field X → IsListText field X
-list_text field X f = subst (λ (text : List ℕ). IsListText text X) (sym f.is_text) (canonical_list-IsListText X f.some f.processors)
+list_text field X f =
+    subst (λ (text : List ℕ). IsListText text X) (sym f.is_text)
+    (canonical_list-IsListText X f.some f.processors)
 
 -- a list with a fault is none
 pub list_refused : (field : List ℕ) (fault : MaskFault) → IsListFault field fault → (X : ℕ) → IsListField field X → ⊥
 list_refused field fault why X f = list_text-no_fault field X fault (list_text field X f) why
 
 -- a list that is not written as its canonical list is none
-pub list_differs : (field : List ℕ) (Y : ℕ) → IsListText field Y → canonical_list Y ≢ field → (X : ℕ) → IsListField field X → ⊥
+pub list_differs : (field : List ℕ) (Y : ℕ) → IsListText field Y → canonical_list Y ≢ field → (X : ℕ)
+    → IsListField field X → ⊥
 list_differs field Y list differs X f =
     let same = list_text-one_set field X Y (list_text field X f) list in
     differs (sym (f.is_text ∙ ap canonical_list same))
 
-pub list_read : (field : List ℕ) (X : ℕ) → IsListText field X → IsOfProcessors X → canonical_list X ≡ field → IsListField field X
-list_read field X list processors same = record { some = list_some field X list; processors = processors; is_text = sym same }
+pub list_read : (field : List ℕ) (X : ℕ) → IsListText field X → IsOfProcessors X → canonical_list X ≡ field
+    → IsListField field X
+list_read field X list processors same =
+    record { some = list_some field X list; processors = processors; is_text = sym same }
 
 -- a field is of one list
 pub list_once : (field : List ℕ) (X Y : ℕ) → IsListField field X → IsListField field Y → X ≡ Y
@@ -127,29 +151,37 @@ set_cases field X f = elim (cases_eq X empty) [
   | inr some ↦ inr (record { some = some; processors = f.processors; is_text = f.is_text ∙ set_list X some })
 ]
 
-pub set_none : (field : List ℕ) → field ≢ codes "-" → ((X : ℕ) → IsListField field X → ⊥) → (X : ℕ) → IsSetField field X → ⊥
+pub set_none : (field : List ℕ) → field ≢ codes "-" → ((X : ℕ) → IsListField field X → ⊥) → (X : ℕ)
+    → IsSetField field X → ⊥
 set_none field no_dash none X f = elim (set_cases field X f) [ inl dash ↦ no_dash dash.1 | inr list ↦ none X list ]
 
 -- '-' is no item of a list, and so no list: each of its numbers has a digit
 item_some : (text : List ℕ) (low high : ℕ) → text ≡ codes "-" → IsItem text low high → ⊥
-item_some text low high dash (inl number) = digits_visible 45 text number.0.1 (inl (omega arith)) (subst (λ (t : List ℕ). Contains t 45) (sym dash) (0, omega arith, refl))
+item_some text low high dash (inl number) =
+    digits_visible 45 text number.0.1 (inl (omega arith))
+    (subst (λ (t : List ℕ). Contains t 45) (sym dash) (0, omega arith, refl))
 item_some text low high dash (inr (a, b, joined, one, two, first, last)) =
     let count : length text ≡ 1 = ap length dash in
-    let more : length text ≡ length a + (length b + 1) = ap length joined ∙ (let both = length-append a (45 ∷ b) in omega arith) in
+    let more : length text ≡ length a + (length b + 1) = ap length joined
+    ∙ (let both = length-append a (45 ∷ b) in omega arith) in
     let some = one.0 in
     omega arith
 
 item_length : (text : List ℕ) (low high : ℕ) → IsItem text low high → 0 < length text
 item_length text low high (inl number) = number.0.0
-item_length text low high (inr (a, b, joined, one, two, first, last)) = omega (arith, ap length joined, length-append a (45 ∷ b))
+item_length text low high (inr (a, b, joined, one, two, first, last)) =
+    omega (arith, ap length joined, length-append a (45 ∷ b))
 
 dash_no_list : (field : List ℕ) (X : ℕ) → field ≡ codes "-" → IsListField field X → ⊥
 dash_no_list field X dash f = by (list_text field X f)
   where
     by : IsListText field X → ⊥
-    by (first, [], list) = item_some first.text first.low first.high (sym list.joined ∙ dash) (All-head IsLawful first [] list.lawful).form
+    by (first, [], list) =
+        item_some first.text first.low first.high (sym list.joined ∙ dash)
+        (All-head IsLawful first [] list.lawful).form
     by (first, second ∷ more, list) =
-        let some = item_length first.text first.low first.high (All-head IsLawful first (second ∷ more) list.lawful).form in
+        let some = item_length first.text first.low first.high
+        (All-head IsLawful first (second ∷ more) list.lawful).form in
         let rest = join_with_byte 44 (map (λ (item : Item). item.text) (second ∷ more)) in
         omega (arith, some, ap length dash, ap length list.joined, length-append first.text (44 ∷ rest))
 

@@ -1,11 +1,9 @@
-pub mod LegalEntries
-pub mod LegalSchedules
 mod Written
 mod Fields
 mod Chains
 mod Names
-mod Words
 mod Shapes
+pub mod ReplyParts
 mod Replies
 mod FieldLists
 mod Entries
@@ -14,9 +12,10 @@ mod Contexts
 mod Spaces
 mod Bridges
 mod Stages
-mod Fronts
+mod Prefixes
 mod Once
 mod Paths
 mod OneSchedule
 mod Decisions
-mod Decided
+mod EntriesDecided
+mod LinesDecided

@@ -1,183 +1,258 @@
--- Lines without fault, one step after another: they lead from the header to each front of a schedule.
-use Rattle.std.proofs.Common.{◌≡◌, ℕ, ◌+◌, ◌<◌, ◌≤◌, inl, inr, Bool, true, false, not, ◌&&◌, nat_eq, nat_lt, List, [], ◌∷◌, ◌++◌, length, All, Contains, refl, sym, ap, ◌∙◌, subst, arith, append_assoc, append-nil, length-append}
+-- Lines without fault, one step after another: they lead from the header to each prefix of a schedule.
+use Rattle.std.proofs.Common.{◌≡◌, ℕ, ◌<◌, ◌≤◌, ◌^◌, inl, inr, true, nat_lt, List, [], ◌∷◌, ◌++◌, length, All, Contains, refl, sym, ap, ◌∙◌, arith, append_assoc, append-nil, length-append}
 use Rattle.std.specs.Prelude.{codes}
 use Rattle.std.specs.List.{flat_map, FoldsTo}
-use Rattle.std.proofs.lemmas.List.{get_or_append_left, get_or_at}
+use Rattle.std.proofs.lemmas.List.{get_or_at}
 use Rattle.affinity_mask.specs.Number.{canonical_number}
 use Rattle.affinity_mask.proofs.Sets.{has-all_below}
-use Rattle.task_set.specs.TaskSet.{TaskData, SetData, IsTaskSet, Differ, IsMask}
-use Rattle.task_set.specs.Refusal.{CanAdd}
+use Rattle.task_set.specs.TaskSet.{TaskData, SetData, IsTaskSet, IsMask}
 use Rattle.task_set.specs.declared.context.Context.{Context}
 use Rattle.link_table.specs.declared.reply.Entry.{Entry}
-use Rattle.trace_reader.specs.EventText.{line}
+use Rattle.text_fields.specs.LineText.{line, task_fields}
+use Rattle.schedule_text.specs.ScheduleText.{header}
 use Rattle.schedule_text.specs.Schedule.{IsOfProcessors, IsScheduled, IsContextOf, AreInOrder, IsScheduleSet}
-use Rattle.schedule_text.specs.ScheduleFault.{Progress, HeaderDue, ProcessorsDue, TasksDue, EntriesDue, ContextsDue, Ended, text_so_far, IsFront}
-use Rattle.schedule_text.specs.Reading.{Leads, task_fields, entry_fields, event_fields, reply_fields, context_fields}
+use Rattle.schedule_text.specs.Prefix.{Progress, HeaderExpected, ProcessorsExpected, TasksExpected, EntriesExpected, ContextsExpected, Ended, text_so_far, IsPrefix}
+use Rattle.schedule_text.specs.Reading.{Leads}
+use Rattle.schedule_text.specs.LineFields.{entry_fields, reply_fields, context_fields}
+use Rattle.text_fields.specs.EventText.{event_fields}
+use Rattle.text_fields.proofs.Folds.{folds_append}
+use Rattle.text_fields.proofs.Addable.{can_add_next}
 use Rattle.schedule_text.proofs.Names.{name_field}
-use Rattle.schedule_text.proofs.Spaces.{EachByte, IsNoFeed, high_no_feed, none_from_no_feed, names_no_feed, name_high, number_bytes, word_bytes, joined_bytes, behind_bytes, task_bytes, event_bytes, reply_bytes, context_bytes}
+use Rattle.schedule_text.proofs.Spaces.{EachByte, IsNoFeed, high_no_feed, none_from_no_feed, names_no_feed, name_high, number_bytes, word_bytes, joined_bytes, word_number_bytes, task_bytes, event_bytes, reply_bytes, context_bytes}
 use Rattle.schedule_text.proofs.Bridges.{spaced, task_spaced, entry_spaced, context_spaced}
-use Rattle.schedule_text.proofs.Fronts.{leads_front, leads_text}
-use Rattle.std.proofs.lemmas.List.Elements.{All-nil, All-append, All-cons, All-weaker}
+use Rattle.schedule_text.proofs.Prefixes.{leads_prefix, leads_text}
+use Rattle.std.proofs.lemmas.List.Elements.{All-append, All-cons, All-weaker}
 
--- a line without fault and without a line feed in it
-abbrev pub Step : Progress → List ℕ → Progress → Type 0
-Step due text next = Leads due text next × (Contains text 10 → ⊥)
+module _ (version : ℕ) (small : version < 2 ^ 64) where
+  -- a line without fault and without a line feed in it
+  abbrev pub Step : Progress → List ℕ → Progress → Type 0
+  Step expected text next = Leads version expected text next × (Contains text 10 → ⊥)
 
--- lines that lead from one front to another
-pub record IsPath (due last : Progress) : Type 0 where
-  pub lines : List (List ℕ)
-  pub steps : FoldsTo Step due lines last
+  -- lines that lead from one prefix to another
+  pub record IsPath (expected last : Progress) : Type 0 where
+    pub lines : List (List ℕ)
+    pub steps : FoldsTo Step expected lines last
 
-stay : (due last : Progress) → due ≡ last → IsPath due last
-stay due last same = record { lines = []; steps = same }
+  stay : (expected last : Progress) → expected ≡ last → IsPath expected last
+  stay expected last same = record { lines = []; steps = same }
 
-one : (due next : Progress) (text : List ℕ) → Step due text next → IsPath due next
-one due next text step = record { lines = text ∷ []; steps = (next, step, refl) }
+  one : (expected next : Progress) (text : List ℕ) → Step expected text next → IsPath expected next
+  one expected next text step = record { lines = text ∷ []; steps = (next, step, refl) }
 
-folds_append : (p q r : Progress) (xs ys : List (List ℕ)) → FoldsTo Step p xs q → FoldsTo Step q ys r → FoldsTo Step p (xs ++ ys) r
-folds_append p q r [] ys same rest = subst (λ (j : Progress). FoldsTo Step j ys r) (sym same) rest
-folds_append p q r (x ∷ xs) ys steps rest = (steps.0, steps.1, folds_append steps.0 q r xs ys steps.2 rest)
+  then : (expected middle last : Progress) → IsPath expected middle → IsPath middle last → IsPath expected last
+  then expected middle last first second =
+      record {
+        lines = first.lines
+            ++ second.lines;
+        steps = folds_append Step expected first.lines second.lines middle last first.steps
+            second.steps;
+      }
 
-then : (due middle last : Progress) → IsPath due middle → IsPath middle last → IsPath due last
-then due middle last first second = record { lines = first.lines ++ second.lines; steps = folds_append due middle last first.lines second.lines first.steps second.steps }
+  -- ---- lines have no line feed
 
--- ---- lines have no line feed
+  spaced_no_feed : (fields : List (List ℕ)) → EachByte IsNoFeed fields → Contains (spaced fields) 10 → ⊥
+  spaced_no_feed fields all = none_from_no_feed (spaced fields) (joined_bytes IsNoFeed high_no_feed 32 fields refl all)
 
-spaced_no_feed : (fields : List (List ℕ)) → EachByte IsNoFeed fields → Contains (spaced fields) 10 → ⊥
-spaced_no_feed fields all = none_from_no_feed (spaced fields) (joined_bytes IsNoFeed high_no_feed 32 fields refl all)
+  -- ---- tasks
 
--- whether there is no line feed
-abbrev has_no_feed : List ℕ → Bool
-has_no_feed [] = true
-has_no_feed (byte ∷ rest) = not (nat_eq byte 10) && has_no_feed rest
+  of_processors : (m X : ℕ) → m ≤ 64 → IsMask m X → IsOfProcessors X
+  of_processors m X few mask p member = has-all_below 64 p ∙ below p (let here = mask.below p member in omega arith)
+    where
+      below : (p : ℕ) → p < 64 → nat_lt p 64 ≡ true
+      below p lt = grind arith
 
-first_part : (byte : ℕ) (more : Bool) → (not (nat_eq byte 10) && more) ≡ true → nat_eq byte 10 ≡ false
-first_part byte more e = grind arith
+  -- the line of a task of a valid set
+  task_step : (m : ℕ) (before rest : List TaskData) (added : TaskData)
+      → IsScheduleSet (record { processors = m; tasks = before ++ added ∷ rest })
+      → Step (TasksExpected (record { processors = m; tasks = before })) (spaced (task_fields added))
+      (TasksExpected (record { processors = m; tasks = before ++ added ∷ [] }))
+  task_step m before rest added set =
+      let can = can_add_next m before rest added set.valid in
+      let within : length before < length (before ++ added ∷ rest) = omega (arith, length-append before (added ∷ rest)) in
+      let priority = rw (get_or_at before added rest added (length before) refl) at
+      (set.priorities (length before) added within) in
+      let processors = of_processors m added.mask set.valid.processors.1 can.mask in (
+        inl (
+          added,
+          refl,
+          record {
+            name = name_field added.name can.name;
+            priority = priority;
+            some = can.mask.some;
+            processors = processors;
+            is_text = sym (task_spaced added);
+          },
+          can,
+        ),
+        spaced_no_feed (task_fields added)
+            (task_bytes IsNoFeed high_no_feed added
+            (All-weaker (λ (b : ℕ). 44 ≤ b) IsNoFeed high_no_feed added.name (name_high added.name can.name))
+            priority can.mask.some processors),
+      )
 
-other_part : (byte : ℕ) (more : Bool) → (not (nat_eq byte 10) && more) ≡ true → more ≡ true
-other_part byte more e = grind arith
+  tasks_path : (m : ℕ) (before tasks : List TaskData)
+      → IsScheduleSet (record { processors = m; tasks = before ++ tasks })
+      → IsPath (TasksExpected (record { processors = m; tasks = before }))
+      (TasksExpected (record { processors = m; tasks = before ++ tasks }))
+  tasks_path m before [] set =
+      stay _ _ (ap (λ (tasks : List TaskData). TasksExpected (record { processors = m; tasks = tasks }))
+      (sym (append-nil before)))
+  tasks_path m before (added ∷ tasks) set =
+      let regroup = append_assoc before (added ∷ []) tasks in
+      then (TasksExpected (record { processors = m; tasks = before }))
+      (TasksExpected (record { processors = m; tasks = before ++ added ∷ [] }))
+      (TasksExpected (record { processors = m; tasks = before ++ added ∷ tasks }))
+      (one _ _ (spaced (task_fields added)) (task_step m before tasks added set))
+      (rw regroup at (tasks_path m (before ++ added ∷ []) tasks (rw regroup set)))
 
--- ---- tasks
+  -- the line of the header
+  header_path : IsPath HeaderExpected ProcessorsExpected
+  header_path =
+      one HeaderExpected ProcessorsExpected (header version) (
+        (refl, refl),
+        spaced_no_feed (codes "schedule" ∷ canonical_number version ∷ [])
+            (word_number_bytes IsNoFeed high_no_feed (codes "schedule") version refl small),
+      )
 
-of_processors : (m X : ℕ) → m ≤ 64 → IsMask m X → IsOfProcessors X
-of_processors m X few mask p member = has-all_below 64 p ∙ below p (let here = mask.below p member in omega arith)
-  where
-    below : (p : ℕ) → p < 64 → nat_lt p 64 ≡ true
-    below p lt = grind arith
+  to_tasks : (set : SetData) → IsScheduleSet set → IsPath HeaderExpected (TasksExpected set)
+  to_tasks set tasks =
+      let range = tasks.valid.processors in
+      let few = range.1 in
+      then HeaderExpected ProcessorsExpected (TasksExpected set) header_path
+      (then ProcessorsExpected (TasksExpected (record { processors = set.processors; tasks = [] })) (TasksExpected set)
+      (one ProcessorsExpected (TasksExpected (record { processors = set.processors; tasks = [] })) _ (
+        (set.processors, refl, record { range = range; is_text = refl }),
+        spaced_no_feed
+            (codes "processors" ∷ canonical_number set.processors ∷ [])
+            (word_number_bytes IsNoFeed high_no_feed (codes "processors") set.processors refl (omega arith)),
+      ))
+      (tasks_path set.processors [] set.tasks tasks))
 
--- a task of a lawful set can be added to those before it
-can_add_next : (m : ℕ) (before rest : List TaskData) (added : TaskData) → IsTaskSet (record { processors = m; tasks = before ++ added ∷ rest }) → CanAdd (record { processors = m; tasks = before }) added
-can_add_next m before rest added lawful =
-    let long : length (before ++ added ∷ rest) ≡ length before + (length rest + 1) = omega (arith, length-append before (added ∷ rest)) in
-    let within : length before < length (before ++ added ∷ rest) = omega arith in
-    let here = get_or_at before added rest added (length before) refl in
-    let differs : All (λ (other : TaskData). Differ other added) before =
-    λ k d below. rw (get_or_append_left before (added ∷ rest) d k below, get_or_at before added rest d (length before) refl) at (lawful.differ k (length before) d below within) in
-    let count = lawful.count in
-    record {
-      name = rw here at (lawful.names (length before) added within);
-      room = omega arith;
-      new_name = λ k d below. (differs k d below).names;
-      new_priority = λ k d below. (differs k d below).priorities;
-      mask = rw here at (lawful.masks (length before) added within);
-    }
+  -- ---- entries
 
--- the line of a task of a lawful set
-task_step : (m : ℕ) (before rest : List TaskData) (added : TaskData) → IsScheduleSet (record { processors = m; tasks = before ++ added ∷ rest }) → Step (TasksDue (record { processors = m; tasks = before })) (spaced (task_fields added)) (TasksDue (record { processors = m; tasks = before ++ added ∷ [] }))
-task_step m before rest added set =
-    let can = can_add_next m before rest added set.lawful in
-    let within : length before < length (before ++ added ∷ rest) = omega (arith, length-append before (added ∷ rest)) in
-    let priority = rw (get_or_at before added rest added (length before) refl) at (set.priorities (length before) added within) in
-    let processors = of_processors m added.mask set.lawful.processors.1 can.mask in (
-      inl (added, refl, record { name = name_field added.name can.name; priority = priority; some = can.mask.some; processors = processors; is_text = sym (task_spaced added) }, can),
-      spaced_no_feed (task_fields added) (task_bytes IsNoFeed high_no_feed added (All-weaker (λ (b : ℕ). 44 ≤ b) IsNoFeed high_no_feed added.name (name_high added.name can.name)) priority can.mask.some processors),
-    )
+  entries_path : (set : SetData) (count : ℕ) (before entries : List Entry) → IsTaskSet set
+      → length (before ++ entries) ≤ count → All (IsScheduled set) (before ++ entries)
+      → IsPath (EntriesExpected set count before) (EntriesExpected set count (before ++ entries))
+  entries_path set count before [] valid few each =
+      stay _ _ (ap (λ (entries : List Entry). EntriesExpected set count entries) (sym (append-nil before)))
+  entries_path set count before (entry ∷ entries) valid few each =
+      let regroup = append_assoc before (entry ∷ []) entries in
+      let within : length before < length (before ++ entry ∷ entries) = omega
+      (arith, length-append before (entry ∷ entries)) in
+      let scheduled : IsScheduled set entry = rw (get_or_at before entry entries entry (length before) refl) at
+      (each (length before) entry within) in
+      then (EntriesExpected set count before) (EntriesExpected set count (before ++ entry ∷ []))
+      (EntriesExpected set count (before ++ entry ∷ entries))
+      (one _ _ (spaced (entry_fields set entry)) (
+        inl (
+          entry,
+          refl,
+          omega (arith, few, within),
+          record
+              { scheduled = scheduled; is_text = sym (entry_spaced set entry) },
+        ),
+        spaced_no_feed (entry_fields set
+            entry) (entry_no_feed set entry valid scheduled),
+      ))
+      (rw regroup at (entries_path set count (before ++ entry ∷ []) entries valid (rw regroup few) (rw regroup each)))
+    where
+      entry_no_feed : (set : SetData) (entry : Entry) → IsTaskSet set → IsScheduled set entry
+          → EachByte IsNoFeed (entry_fields set entry)
+      entry_no_feed set entry valid s =
+          All-cons (λ (piece : List ℕ). All IsNoFeed piece) (canonical_number entry.caller)
+          (event_fields set entry.event ++ reply_fields set entry.reply)
+          (number_bytes IsNoFeed high_no_feed entry.caller (let c = s.caller in omega arith))
+          (All-append (λ (piece : List ℕ). All IsNoFeed piece) (event_fields set entry.event)
+          (reply_fields set entry.reply)
+          (event_bytes IsNoFeed high_no_feed set entry.event (names_no_feed set valid) s.tasks.event s.units)
+          (reply_bytes IsNoFeed high_no_feed set entry.reply (names_no_feed set valid) s.tasks.reply
+          s.processors))
 
-tasks_path : (m : ℕ) (before tasks : List TaskData) → IsScheduleSet (record { processors = m; tasks = before ++ tasks }) → IsPath (TasksDue (record { processors = m; tasks = before })) (TasksDue (record { processors = m; tasks = before ++ tasks }))
-tasks_path m before [] set = stay _ _ (ap (λ (tasks : List TaskData). TasksDue (record { processors = m; tasks = tasks })) (sym (append-nil before)))
-tasks_path m before (added ∷ tasks) set =
-    let regroup = append_assoc before (added ∷ []) tasks in
-    then (TasksDue (record { processors = m; tasks = before })) (TasksDue (record { processors = m; tasks = before ++ added ∷ [] })) (TasksDue (record { processors = m; tasks = before ++ added ∷ tasks }))
-    (one _ _ (spaced (task_fields added)) (task_step m before tasks added set))
-    (rw regroup at (tasks_path m (before ++ added ∷ []) tasks (rw regroup set)))
+  to_entries : (set : SetData) (count : ℕ) (entries : List Entry) → IsPrefix (EntriesExpected set count entries)
+      → IsPath HeaderExpected (EntriesExpected set count entries)
+  to_entries set count entries prefix =
+      let few = prefix.1 in
+      then HeaderExpected (TasksExpected set) (EntriesExpected set count entries) (to_tasks set prefix.0)
+      (then (TasksExpected set) (EntriesExpected set count []) (EntriesExpected set count entries)
+      (one (TasksExpected set) (EntriesExpected set count []) _ (
+        inr (count, refl, record { few = few; is_text = refl }),
+        spaced_no_feed
+            (codes "history" ∷ canonical_number count ∷ [])
+            (word_number_bytes IsNoFeed high_no_feed (codes "history") count refl (omega arith)),
+      ))
+      (entries_path set count [] entries prefix.0.valid prefix.2 prefix.3))
 
--- bytes that are no line feeds, spelled out
-spelled : (text : List ℕ) → has_no_feed text ≡ true → All IsNoFeed text
-spelled [] e = All-nil IsNoFeed
-spelled (byte ∷ rest) e = All-cons IsNoFeed byte rest (first_part byte (has_no_feed rest) e) (spelled rest (other_part byte (has_no_feed rest) e))
+  -- ---- contexts
 
-to_tasks : (set : SetData) → IsScheduleSet set → IsPath HeaderDue (TasksDue set)
-to_tasks set tasks =
-    let range = tasks.lawful.processors in
-    let few = range.1 in
-    then HeaderDue ProcessorsDue (TasksDue set) (one HeaderDue ProcessorsDue (codes "schedule 1") ((refl, refl), none_from_no_feed (codes "schedule 1") (spelled (codes "schedule 1") refl)))
-    (then ProcessorsDue (TasksDue (record { processors = set.processors; tasks = [] })) (TasksDue set)
-    (one ProcessorsDue (TasksDue (record { processors = set.processors; tasks = [] })) _ ((set.processors, refl, record { range = range; is_text = refl }), spaced_no_feed (codes "processors" ∷ canonical_number set.processors ∷ []) (behind_bytes IsNoFeed high_no_feed (codes "processors") set.processors refl (omega arith))))
-    (tasks_path set.processors [] set.tasks tasks))
+  contexts_path : (set : SetData) (entries : List Entry) (before contexts : List Context) → IsTaskSet set
+      → length (before ++ contexts) ≤ length set.tasks → AreInOrder (before ++ contexts)
+      → IsPath (ContextsExpected set entries before) (ContextsExpected set entries (before ++ contexts))
+  contexts_path set entries before [] valid few each =
+      stay _ _ (ap (λ (contexts : List Context). ContextsExpected set entries contexts)
+      (sym (append-nil before)))
+  contexts_path set entries before (context ∷ contexts) valid few each =
+      let regroup = append_assoc before (context ∷ []) contexts in
+      let within : length before < length (before ++ context ∷ contexts) = omega
+      (arith, length-append before (context ∷ contexts)) in
+      let of_task : IsContextOf (length before)
+      context = rw (get_or_at before context contexts context (length before) refl) at
+      (each (length before) context within) in
+      let room : length before < length set.tasks = omega (arith, few, within) in
+      then (ContextsExpected set entries before) (ContextsExpected set entries (before ++ context ∷ []))
+      (ContextsExpected set entries (before ++ context ∷ contexts))
+      (one _ _ (spaced (context_fields set context)) (
+        inl (context, refl, room, record { of_task = of_task; is_text = sym (context_spaced set context) }),
+        spaced_no_feed (context_fields set context)
+            (context_bytes IsNoFeed high_no_feed set (length before) context (names_no_feed set valid) room of_task),
+      ))
+      (rw regroup at (contexts_path set entries (before ++ context ∷ []) contexts valid (rw regroup few)
+      (rw regroup each)))
 
--- ---- entries
+  to_contexts : (set : SetData) (entries : List Entry) (contexts : List Context)
+      → IsPrefix (ContextsExpected set entries contexts)
+      → IsPath HeaderExpected (ContextsExpected set entries contexts)
+  to_contexts set entries contexts prefix =
+      let count = prefix.0.valid.count in
+      then HeaderExpected (EntriesExpected set (length entries) entries) (ContextsExpected set entries contexts)
+      (to_entries set (length entries) entries (prefix.0, prefix.1, omega arith, prefix.2))
+      (then (EntriesExpected set (length entries) entries) (ContextsExpected set entries [])
+      (ContextsExpected set entries contexts)
+      (one (EntriesExpected set (length entries) entries) (ContextsExpected set entries []) _ (
+        inr (refl, refl, refl),
+        spaced_no_feed (codes "contexts" ∷ canonical_number (length set.tasks) ∷ [])
+            (word_number_bytes IsNoFeed high_no_feed (codes "contexts") (length set.tasks) refl (omega arith)),
+      ))
+      (contexts_path set entries [] contexts prefix.0.valid prefix.3 prefix.4))
 
-entries_path : (set : SetData) (count : ℕ) (before entries : List Entry) → IsTaskSet set → length (before ++ entries) ≤ count → All (IsScheduled set) (before ++ entries) → IsPath (EntriesDue set count before) (EntriesDue set count (before ++ entries))
-entries_path set count before [] lawful few each = stay _ _ (ap (λ (entries : List Entry). EntriesDue set count entries) (sym (append-nil before)))
-entries_path set count before (entry ∷ entries) lawful few each =
-    let regroup = append_assoc before (entry ∷ []) entries in
-    let within : length before < length (before ++ entry ∷ entries) = omega (arith, length-append before (entry ∷ entries)) in
-    let scheduled : IsScheduled set entry = rw (get_or_at before entry entries entry (length before) refl) at (each (length before) entry within) in
-    then (EntriesDue set count before) (EntriesDue set count (before ++ entry ∷ [])) (EntriesDue set count (before ++ entry ∷ entries))
-    (one _ _ (spaced (entry_fields set entry)) (inl (entry, refl, omega (arith, few, within), record { scheduled = scheduled; is_text = sym (entry_spaced set entry) }), spaced_no_feed (entry_fields set entry) (entry_no_feed set entry lawful scheduled)))
-    (rw regroup at (entries_path set count (before ++ entry ∷ []) entries lawful (rw regroup few) (rw regroup each)))
-  where
-    entry_no_feed : (set : SetData) (entry : Entry) → IsTaskSet set → IsScheduled set entry → EachByte IsNoFeed (entry_fields set entry)
-    entry_no_feed set entry lawful s =
-        All-cons (λ (piece : List ℕ). All IsNoFeed piece) (canonical_number entry.caller) (event_fields set entry.event ++ reply_fields set entry.reply) (number_bytes IsNoFeed high_no_feed entry.caller (let c = s.caller in omega arith))
-        (All-append (λ (piece : List ℕ). All IsNoFeed piece) (event_fields set entry.event) (reply_fields set entry.reply) (event_bytes IsNoFeed high_no_feed set entry.event (names_no_feed set lawful) s.tasks.event s.units) (reply_bytes IsNoFeed high_no_feed set entry.reply (names_no_feed set lawful) s.tasks.reply s.processors))
+  -- ---- each prefix
 
-to_entries : (set : SetData) (count : ℕ) (entries : List Entry) → IsFront (EntriesDue set count entries) → IsPath HeaderDue (EntriesDue set count entries)
-to_entries set count entries front =
-    let few = front.1 in
-    then HeaderDue (TasksDue set) (EntriesDue set count entries) (to_tasks set front.0)
-    (then (TasksDue set) (EntriesDue set count []) (EntriesDue set count entries)
-    (one (TasksDue set) (EntriesDue set count []) _ (inr (count, refl, record { few = few; is_text = refl }), spaced_no_feed (codes "history" ∷ canonical_number count ∷ []) (behind_bytes IsNoFeed high_no_feed (codes "history") count refl (omega arith))))
-    (entries_path set count [] entries front.0.lawful front.2 front.3))
+  -- lines lead from the header to each prefix
+  pub prefix_path : (expected : Progress) → IsPrefix expected → IsPath HeaderExpected expected
+  prefix_path HeaderExpected prefix = stay HeaderExpected HeaderExpected refl
+  prefix_path ProcessorsExpected prefix = header_path
+  prefix_path (TasksExpected set) prefix = to_tasks set prefix
+  prefix_path (EntriesExpected set count entries) prefix = to_entries set count entries prefix
+  prefix_path (ContextsExpected set entries contexts) prefix = to_contexts set entries contexts prefix
+  prefix_path (Ended set entries contexts) prefix =
+      let full = prefix.one_each in
+      then HeaderExpected (ContextsExpected set entries contexts) (Ended set entries contexts)
+      (to_contexts set entries contexts
+      (prefix.tasks, prefix.few, prefix.each_entry, omega arith, prefix.in_order))
+      (one (ContextsExpected set entries contexts) (Ended set entries contexts) (codes "end") (
+        inr (refl, full, refl),
+        none_from_no_feed (codes "end")
+            (word_bytes IsNoFeed high_no_feed (codes "end") refl),
+      ))
 
--- ---- contexts
-
-contexts_path : (set : SetData) (entries : List Entry) (before contexts : List Context) → IsTaskSet set → length (before ++ contexts) ≤ length set.tasks → AreInOrder (before ++ contexts) → IsPath (ContextsDue set entries before) (ContextsDue set entries (before ++ contexts))
-contexts_path set entries before [] lawful few each = stay _ _ (ap (λ (contexts : List Context). ContextsDue set entries contexts) (sym (append-nil before)))
-contexts_path set entries before (context ∷ contexts) lawful few each =
-    let regroup = append_assoc before (context ∷ []) contexts in
-    let within : length before < length (before ++ context ∷ contexts) = omega (arith, length-append before (context ∷ contexts)) in
-    let of_task : IsContextOf (length before) context = rw (get_or_at before context contexts context (length before) refl) at (each (length before) context within) in
-    let room : length before < length set.tasks = omega (arith, few, within) in
-    then (ContextsDue set entries before) (ContextsDue set entries (before ++ context ∷ [])) (ContextsDue set entries (before ++ context ∷ contexts))
-    (one _ _ (spaced (context_fields set context)) (inl (context, refl, room, record { of_task = of_task; is_text = sym (context_spaced set context) }), spaced_no_feed (context_fields set context) (context_bytes IsNoFeed high_no_feed set (length before) context (names_no_feed set lawful) room of_task)))
-    (rw regroup at (contexts_path set entries (before ++ context ∷ []) contexts lawful (rw regroup few) (rw regroup each)))
-
-to_contexts : (set : SetData) (entries : List Entry) (contexts : List Context) → IsFront (ContextsDue set entries contexts) → IsPath HeaderDue (ContextsDue set entries contexts)
-to_contexts set entries contexts front =
-    let count = front.0.lawful.count in
-    then HeaderDue (EntriesDue set (length entries) entries) (ContextsDue set entries contexts) (to_entries set (length entries) entries (front.0, front.1, omega arith, front.2))
-    (then (EntriesDue set (length entries) entries) (ContextsDue set entries []) (ContextsDue set entries contexts)
-    (one (EntriesDue set (length entries) entries) (ContextsDue set entries []) _ (inr (refl, refl, refl), spaced_no_feed (codes "contexts" ∷ canonical_number (length set.tasks) ∷ []) (behind_bytes IsNoFeed high_no_feed (codes "contexts") (length set.tasks) refl (omega arith))))
-    (contexts_path set entries [] contexts front.0.lawful front.3 front.4))
-
--- ---- each front
-
--- lines lead from the header to each front
-pub front_path : (due : Progress) → IsFront due → IsPath HeaderDue due
-front_path HeaderDue front = stay HeaderDue HeaderDue refl
-front_path ProcessorsDue front = one HeaderDue ProcessorsDue (codes "schedule 1") ((refl, refl), none_from_no_feed (codes "schedule 1") (spelled (codes "schedule 1") refl))
-front_path (TasksDue set) front = to_tasks set front
-front_path (EntriesDue set count entries) front = to_entries set count entries front
-front_path (ContextsDue set entries contexts) front = to_contexts set entries contexts front
-front_path (Ended set entries contexts) front =
-    let full = front.one_each in
-    then HeaderDue (ContextsDue set entries contexts) (Ended set entries contexts) (to_contexts set entries contexts (front.tasks, front.few, front.each_entry, omega arith, front.in_order))
-    (one (ContextsDue set entries contexts) (Ended set entries contexts) (codes "end") (inr (refl, full, refl), none_from_no_feed (codes "end") (word_bytes IsNoFeed high_no_feed (codes "end") refl)))
-
--- and their text is that of the front
-pub path_text : (due last : Progress) (lines : List (List ℕ)) → IsFront due → FoldsTo Step due lines last → text_so_far last ≡ text_so_far due ++ flat_map line lines
-path_text due last [] front same = ap text_so_far (sym same) ∙ sym (append-nil (text_so_far due))
-path_text due last (text ∷ lines) front steps =
-    let next = steps.0 in
-    path_text next last lines (leads_front due text next front steps.1.0) steps.2 ∙ ap (λ (text : List ℕ). text ++ flat_map line lines) (leads_text due text next front steps.1.0) ∙ append_assoc (text_so_far due) (line text) (flat_map line lines)
+  -- and their text is that of the prefix
+  pub path_text : (expected last : Progress) (lines : List (List ℕ)) → IsPrefix expected
+      → FoldsTo Step expected lines last → text_so_far version last ≡ text_so_far version expected
+      ++ flat_map line lines
+  path_text expected last [] prefix same =
+      ap (text_so_far version) (sym same) ∙ sym (append-nil (text_so_far version expected))
+  path_text expected last (text ∷ lines) prefix steps =
+      let next = steps.0 in
+      path_text next last lines (leads_prefix version expected text next prefix steps.1.0) steps.2
+      ∙ ap (λ (text : List ℕ). text ++ flat_map line lines)
+      (leads_text version expected text next prefix steps.1.0)
+      ∙ append_assoc (text_so_far version expected) (line text) (flat_map line lines)

@@ -20,37 +20,39 @@ use Rattle.task_set.specs.declared.context.Context.{Context}
 use Rattle.task_set.specs.declared.event.Event.{Event}
 use Rattle.task_set.specs.declared.event.Event.TheVariants.{Arrive, Depart, Tick}
 use Rattle.link_table.specs.declared.reply.Reply.{Reply}
-use Rattle.link_table.specs.declared.reply.Reply.TheVariants.{Placed, Displaced, Waits, Freed, Left, Ticked, AlreadyReady, NotReady}
-use Rattle.trace_reader.specs.EventText.{name_of, IsAboutSet}
+use Rattle.link_table.specs.declared.reply.Reply.TheVariants.{Placed, Displaced, Waits, Freed}
+use Rattle.text_fields.specs.EventText.{name_of, IsAboutSet, event_fields}
 use Rattle.schedule_text.specs.ScheduleText.{chain_text, set_text, somebody_text, number_text, IsReplyOf}
-use Rattle.schedule_text.specs.Schedule.{IsRow, IsOfProcessors, HasUnits, HasProcessors, IsContextOf}
-use Rattle.schedule_text.specs.ScheduleFault.{IsField, HasFields}
-use Rattle.schedule_text.specs.Reading.{task_fields, event_fields, reply_fields, context_fields}
-use Rattle.trace_reader.proofs.Names.{name_bytes}
-use Rattle.schedule_text.proofs.Names.{name_at, no_task}
+use Rattle.schedule_text.specs.Schedule.{IsProcessorList, IsOfProcessors, HasProcessors, IsContextOf}
+use Rattle.task_set.specs.Event.{HasUnits}
+use Rattle.schedule_text.specs.LineForms.{IsField, HasFields}
+use Rattle.schedule_text.specs.LineFields.{reply_fields, context_fields}
+use Rattle.text_fields.specs.LineText.{task_fields}
+use Rattle.text_fields.proofs.Names.{name_bytes}
+use Rattle.text_fields.proofs.Words.{and_left, and_right}
+use Rattle.text_fields.proofs.NamedTasks.{name_at, no_task}
 use Rattle.schedule_text.proofs.Fields.{set_list}
+use Rattle.schedule_text.proofs.ReplyParts.{the_task, the_somebody, the_chain, the_set}
 
 -- the digits are such bytes
 digits_from : (text : List ℕ) → AllDigits 10 text → All (λ (b : ℕ). 44 ≤ b) text
-digits_from text digits = All-from_get_or (λ (b : ℕ). 44 ≤ b) text 0 (λ i lt. let range = digit_at text i digits lt in omega (arith, range.0))
+digits_from text digits =
+    All-from_get_or (λ (b : ℕ). 44 ≤ b) text 0
+    (λ i lt. let range = digit_at text i digits lt in omega (arith, range.0))
 
 -- whether each byte of a word is one
 abbrev pub is_high : List ℕ → Bool
 is_high [] = true
 is_high (byte ∷ rest) = nat_le 44 byte && is_high rest
 
-and_left : (a b : Bool) → (a && b) ≡ true → a ≡ true
-and_left a b e = grind arith
-
-and_right : (a b : Bool) → (a && b) ≡ true → b ≡ true
-and_right a b e = grind arith
-
 -- names have such bytes alone
 continues_high : (b : ℕ) → IsTrue (continues_name b) → 44 ≤ b
 continues_high b h = grind (arith, nat_tests)
 
 pub name_high : (name : List ℕ) → IsName name → All (λ (b : ℕ). 44 ≤ b) name
-name_high name named = All-weaker (λ (b : ℕ). IsTrue (continues_name b)) (λ (b : ℕ). 44 ≤ b) continues_high name (name_bytes name named)
+name_high name named =
+    All-weaker (λ (b : ℕ). IsTrue (continues_name b)) (λ (b : ℕ). 44 ≤ b) continues_high name
+    (name_bytes name named)
 
 -- what holds of each byte of each field
 abbrev pub EachByte : (ℕ → Type 0) → List (List ℕ) → Type 0
@@ -59,6 +61,22 @@ EachByte P fields = All (λ (field : List ℕ). All P field) fields
 -- and of each name of a set
 abbrev pub EachName : (ℕ → Type 0) → SetData → Type 0
 EachName P set = All (λ (task : TaskData). All P task.name) set.tasks
+
+-- the fields of a context from one of its words on
+abbrev from_trail : Context → List (List ℕ)
+from_trail context = codes "trail" ∷ canonical_number context.trail ∷ []
+
+abbrev from_last : Context → List (List ℕ)
+from_last context = codes "last" ∷ number_text context.last ∷ from_trail context
+
+abbrev from_moves : Context → List (List ℕ)
+from_moves context = codes "moves" ∷ canonical_number context.moves ∷ from_last context
+
+abbrev from_stints : Context → List (List ℕ)
+from_stints context = codes "stints" ∷ canonical_number context.stints ∷ from_moves context
+
+abbrev from_units : Context → List (List ℕ)
+from_units context = codes "units" ∷ canonical_number context.units ∷ from_stints context
 
 module _ (P : ℕ → Type 0) (high : (b : ℕ) → 44 ≤ b → P b) where
   raised : (text : List ℕ) → All (λ (b : ℕ). 44 ≤ b) text → All P text
@@ -69,7 +87,9 @@ module _ (P : ℕ → Type 0) (high : (b : ℕ) → 44 ≤ b → P b) where
 
   pub word_bytes : (word : List ℕ) → is_high word ≡ true → All P word
   word_bytes [] e = All-nil P
-  word_bytes (byte ∷ rest) e = All-cons P byte rest (high byte (leb-true 44 byte (and_left (nat_le 44 byte) (is_high rest) e))) (word_bytes rest (and_right (nat_le 44 byte) (is_high rest) e))
+  word_bytes (byte ∷ rest) e =
+      All-cons P byte rest (high byte (leb-true 44 byte (and_left (nat_le 44 byte) (is_high rest) e)))
+      (word_bytes rest (and_right (nat_le 44 byte) (is_high rest) e))
 
   -- ---- joined texts
 
@@ -77,18 +97,25 @@ module _ (P : ℕ → Type 0) (high : (b : ℕ) → 44 ≤ b → P b) where
   joined_bytes byte [] here all = All-nil P
   joined_bytes byte (text ∷ []) here all = All-head (λ (t : List ℕ). All P t) text [] all
   joined_bytes byte (text ∷ next ∷ texts) here all =
-      All-append P text (byte ∷ join_with_byte byte (next ∷ texts)) (All-head (λ (t : List ℕ). All P t) text (next ∷ texts) all)
-      (All-cons P byte (join_with_byte byte (next ∷ texts)) here (joined_bytes byte (next ∷ texts) here (All-tail (λ (t : List ℕ). All P t) text (next ∷ texts) all)))
+      All-append P text (byte ∷ join_with_byte byte (next ∷ texts))
+      (All-head (λ (t : List ℕ). All P t) text (next ∷ texts) all)
+      (All-cons P byte (join_with_byte byte (next ∷ texts)) here
+      (joined_bytes byte (next ∷ texts) here (All-tail (λ (t : List ℕ). All P t) text (next ∷ texts) all)))
 
   item_bytes : (text : List ℕ) (low top : ℕ) → IsItem text low top → All P text
   item_bytes text low top (inl number) = raised text (digits_from text number.0.1)
   item_bytes text low top (inr (a, b, joined, one, two, first, last)) =
-      subst (λ (t : List ℕ). All P t) (sym joined) (All-append P a (dash ∷ b) (raised a (digits_from a one.1)) (All-cons P dash b (high 45 (omega arith)) (raised b (digits_from b two.1))))
+      subst (λ (t : List ℕ). All P t) (sym joined)
+      (All-append P a (dash ∷ b) (raised a (digits_from a one.1))
+      (All-cons P dash b (high 45 (omega arith)) (raised b (digits_from b two.1))))
 
   list_bytes : (text : List ℕ) (X : ℕ) → IsListText text X → All P text
   list_bytes text X (first, more, list) =
       subst (λ (t : List ℕ). All P t) (sym list.joined)
-      (joined_bytes comma (map (λ (item : Item). item.text) (first ∷ more)) (high 44 (omega arith)) (All-map (λ (t : List ℕ). All P t) (λ (item : Item). item.text) (first ∷ more) (All-weaker IsLawful (λ (item : Item). All P item.text) (λ item lawful. item_bytes item.text item.low item.high lawful.form) (first ∷ more) list.lawful)))
+      (joined_bytes comma (map (λ (item : Item). item.text) (first ∷ more)) (high 44 (omega arith))
+      (All-map (λ (t : List ℕ). All P t) (λ (item : Item). item.text) (first ∷ more)
+      (All-weaker IsLawful (λ (item : Item). All P item.text)
+      (λ item valid. item_bytes item.text item.low item.high valid.form) (first ∷ more) list.lawful)))
 
   mask_bytes : (X : ℕ) → X ≢ empty → IsOfProcessors X → All P (canonical_list X)
   mask_bytes X some processors = list_bytes (canonical_list X) X (canonical_list-IsListText X some processors)
@@ -102,9 +129,13 @@ module _ (P : ℕ → Type 0) (high : (b : ℕ) → 44 ≤ b → P b) where
     | inr some ↦ subst (λ (t : List ℕ). All P t) (sym (set_list X some)) (mask_bytes X some processors)
   ]
 
-  chain_bytes : (chain : List ℕ) → IsRow chain → All P (chain_text chain)
-  chain_bytes [] row = dash_bytes
-  chain_bytes (p ∷ rest) row = joined_bytes 62 (map canonical_number (p ∷ rest)) (high 62 (omega arith)) (All-map (λ (t : List ℕ). All P t) canonical_number (p ∷ rest) (All-weaker (λ (q : ℕ). q < 64) (λ (q : ℕ). All P (canonical_number q)) (λ q small. number_bytes q (omega arith)) (p ∷ rest) row.1))
+  chain_bytes : (chain : List ℕ) → IsProcessorList chain → All P (chain_text chain)
+  chain_bytes [] list = dash_bytes
+  chain_bytes (p ∷ rest) list =
+      joined_bytes 62 (map canonical_number (p ∷ rest)) (high 62 (omega arith))
+      (All-map (λ (t : List ℕ). All P t) canonical_number (p ∷ rest)
+      (All-weaker (λ (q : ℕ). q < 64) (λ (q : ℕ). All P (canonical_number q))
+      (λ q small. number_bytes q (omega arith)) (p ∷ rest) list.1))
 
   -- ---- the fields of a line
 
@@ -118,56 +149,89 @@ module _ (P : ℕ → Type 0) (high : (b : ℕ) → 44 ≤ b → P b) where
   worded : (word : List ℕ) (fields : List (List ℕ)) → is_high word ≡ true → EachByte P fields → EachByte P (word ∷ fields)
   worded word fields e rest = more word fields (word_bytes word e) rest
 
-  -- a number behind a word
-  pub behind_bytes : (word : List ℕ) (n : ℕ) → is_high word ≡ true → n < 2 ^ 64 → EachByte P (word ∷ canonical_number n ∷ [])
-  behind_bytes word n e small = worded word (canonical_number n ∷ []) e (more (canonical_number n) [] (number_bytes n small) none)
+  -- a number after a word
+  pub word_number_bytes : (word : List ℕ) (n : ℕ) → is_high word ≡ true → n < 2 ^ 64
+      → EachByte P (word ∷ canonical_number n ∷ [])
+  word_number_bytes word n e small =
+      worded word (canonical_number n ∷ []) e (more (canonical_number n) [] (number_bytes n small) none)
 
-  pub task_bytes : (added : TaskData) → All P added.name → added.priority < 2 ^ 32 → added.mask ≢ empty → IsOfProcessors added.mask → EachByte P (task_fields added)
+  pub task_bytes : (added : TaskData) → All P added.name → added.priority < 2 ^ 32 → added.mask ≢ empty
+      → IsOfProcessors added.mask → EachByte P (task_fields added)
   task_bytes added name priority some processors =
       worded (codes "task") (added.name ∷ canonical_number added.priority ∷ canonical_list added.mask ∷ []) refl
       (more added.name (canonical_number added.priority ∷ canonical_list added.mask ∷ []) name
-      (more (canonical_number added.priority) (canonical_list added.mask ∷ []) (number_bytes added.priority (omega arith)) (more (canonical_list added.mask) [] (mask_bytes added.mask some processors) none)))
+      (more (canonical_number added.priority) (canonical_list added.mask ∷ [])
+      (number_bytes added.priority (omega arith))
+      (more (canonical_list added.mask) [] (mask_bytes added.mask some processors) none)))
 
   called_bytes : (set : SetData) (t : ℕ) → EachName P set → t < length set.tasks → All P (name_of set t)
   called_bytes set t names within = subst (λ (t : List ℕ). All P t) (sym (name_at set t within)) (names t no_task within)
 
-  pub event_bytes : (set : SetData) (event : Event) → EachName P set → IsAboutSet set event → HasUnits event → EachByte P (event_fields set event)
-  event_bytes set (Arrive t) names about units = worded (codes "arrive") (name_of set t ∷ []) refl (more (name_of set t) [] (called_bytes set t names about) none)
-  event_bytes set (Depart t) names about units = worded (codes "depart") (name_of set t ∷ []) refl (more (name_of set t) [] (called_bytes set t names about) none)
-  event_bytes set (Tick n) names about units = (let few : n ≤ 1000000 = units.1 in behind_bytes (codes "tick") n refl (omega arith))
+  pub event_bytes : (set : SetData) (event : Event) → EachName P set → IsAboutSet set event → HasUnits event
+      → EachByte P (event_fields set event)
+  event_bytes set (Arrive t) names about units =
+      worded (codes "arrive") (name_of set t ∷ []) refl
+      (more (name_of set t) [] (called_bytes set t names about) none)
+  event_bytes set (Depart t) names about units =
+      worded (codes "depart") (name_of set t ∷ []) refl
+      (more (name_of set t) [] (called_bytes set t names about) none)
+  event_bytes set (Tick n) names about units =
+      (let few : n ≤ 1000000 = units.1 in word_number_bytes (codes "tick") n refl (omega arith))
 
-  somebody_bytes : (set : SetData) (entered : Option ℕ) → EachName P set → IfSome entered (λ t. t < length set.tasks) → All P (somebody_text set entered)
+  somebody_bytes : (set : SetData) (entered : Option ℕ) → EachName P set
+      → IfSome entered (λ t. t < length set.tasks) → All P (somebody_text set entered)
   somebody_bytes set None names about = dash_bytes
   somebody_bytes set (Some t) names about = called_bytes set t names about
 
   -- six fields with three words
-  six_bytes : (a b c d e f : List ℕ) → is_high a ≡ true → is_high c ≡ true → is_high e ≡ true → All P b → All P d → All P f → EachByte P (a ∷ b ∷ c ∷ d ∷ e ∷ f ∷ [])
+  six_bytes : (a b c d e f : List ℕ) → is_high a ≡ true → is_high c ≡ true → is_high e ≡ true → All P b
+      → All P d → All P f → EachByte P (a ∷ b ∷ c ∷ d ∷ e ∷ f ∷ [])
   six_bytes a b c d e f one two three first second third =
-      worded a (b ∷ c ∷ d ∷ e ∷ f ∷ []) one (more b (c ∷ d ∷ e ∷ f ∷ []) first (worded c (d ∷ e ∷ f ∷ []) two (more d (e ∷ f ∷ []) second (worded e (f ∷ []) three (more f [] third none)))))
+      worded a (b ∷ c ∷ d ∷ e ∷ f ∷ []) one
+      (more b (c ∷ d ∷ e ∷ f ∷ []) first
+      (worded c (d ∷ e ∷ f ∷ []) two (more d (e ∷ f ∷ []) second
+      (worded e (f ∷ []) three (more f [] third none)))))
 
-  pub reply_bytes : (set : SetData) (reply : Reply) → EachName P set → IsReplyOf set reply → HasProcessors reply → EachByte P (reply_fields set reply)
-  reply_bytes set (Placed chain) names about has = worded (codes "placed") (chain_text chain ∷ []) refl (more (chain_text chain) [] (chain_bytes chain has) none)
-  reply_bytes set (Displaced chain out reach) names about has = six_bytes (codes "displaced") (chain_text chain) (codes "out") (name_of set out) (codes "reach") (set_text reach) refl refl refl (chain_bytes chain has.0) (called_bytes set out names about) (set_bytes reach has.1)
-  reply_bytes set (Waits reach) names about has = worded (codes "waits") (set_text reach ∷ []) refl (more (set_text reach) [] (set_bytes reach has) none)
+  pub reply_bytes : (set : SetData) (reply : Reply) → EachName P set → IsReplyOf set reply → HasProcessors reply
+      → EachByte P (reply_fields set reply)
+  reply_bytes set (Placed chain) names about has =
+      worded (codes "placed") (chain_text chain ∷ []) refl
+      (more (chain_text chain) [] (chain_bytes chain (the_chain chain [] has)) none)
+  reply_bytes set (Displaced chain out reach) names about has =
+      six_bytes (codes "displaced") (chain_text chain) (codes "out") (name_of set out) (codes "reach") (set_text reach)
+      refl refl refl (chain_bytes chain (the_chain chain (reach ∷ []) has))
+      (called_bytes set out names (the_task set out about)) (set_bytes reach (the_set (chain ∷ []) reach has))
+  reply_bytes set (Waits reach) names about has =
+      worded (codes "waits") (set_text reach ∷ []) refl
+      (more (set_text reach) [] (set_bytes reach (the_set [] reach has)) none)
   reply_bytes set (Freed entered chain back) names about has =
-      six_bytes (codes "freed") (chain_text chain) (codes "enters") (somebody_text set entered) (codes "back") (set_text back) refl refl refl (chain_bytes chain has.0) (somebody_bytes set entered names about) (set_bytes back has.1)
-  reply_bytes set Left names about has = worded (codes "left") [] refl none
-  reply_bytes set Ticked names about has = worded (codes "ticked") [] refl none
-  reply_bytes set AlreadyReady names about has = worded (codes "already") [] refl none
-  reply_bytes set NotReady names about has = worded (codes "absent") [] refl none
+      six_bytes (codes "freed") (chain_text chain) (codes "enters") (somebody_text set entered) (codes "back")
+      (set_text back) refl refl refl (chain_bytes chain (the_chain chain (back ∷ []) has))
+      (somebody_bytes set entered names (the_somebody set entered about)) (set_bytes back (the_set (chain ∷ []) back has))
+  reply_bytes set _ names about has = worded _ [] refl none
 
   last_bytes : (last : Option ℕ) → IfSome last (λ p. p < 64) → All P (number_text last)
   last_bytes None below = dash_bytes
   last_bytes (Some p) below = number_bytes p (omega (arith, below))
 
   -- a word and a field, and then other fields
-  pair_bytes : (word field : List ℕ) (fields : List (List ℕ)) → is_high word ≡ true → All P field → EachByte P fields → EachByte P (word ∷ field ∷ fields)
+  pair_bytes : (word field : List ℕ) (fields : List (List ℕ)) → is_high word ≡ true → All P field
+      → EachByte P fields → EachByte P (word ∷ field ∷ fields)
   pair_bytes word field fields e here rest = worded word (field ∷ fields) e (more field fields here rest)
 
-  pub context_bytes : (set : SetData) (t : ℕ) (context : Context) → EachName P set → t < length set.tasks → IsContextOf t context → EachByte P (context_fields set context)
+  pub context_bytes : (set : SetData) (t : ℕ) (context : Context) → EachName P set → t < length set.tasks
+      → IsContextOf t context → EachByte P (context_fields set context)
   context_bytes set t context names within of =
-      more (name_of set context.task) (codes "units" ∷ canonical_number context.units ∷ codes "stints" ∷ canonical_number context.stints ∷ codes "moves" ∷ canonical_number context.moves ∷ codes "last" ∷ number_text context.last ∷ codes "trail" ∷ canonical_number context.trail ∷ []) (called_bytes set context.task names (let same = of.task in omega arith))
-      (pair_bytes (codes "units") (canonical_number context.units) (codes "stints" ∷ canonical_number context.stints ∷ codes "moves" ∷ canonical_number context.moves ∷ codes "last" ∷ number_text context.last ∷ codes "trail" ∷ canonical_number context.trail ∷ []) refl (number_bytes context.units of.units) (pair_bytes (codes "stints") (canonical_number context.stints) (codes "moves" ∷ canonical_number context.moves ∷ codes "last" ∷ number_text context.last ∷ codes "trail" ∷ canonical_number context.trail ∷ []) refl (number_bytes context.stints of.stints) (pair_bytes (codes "moves") (canonical_number context.moves) (codes "last" ∷ number_text context.last ∷ codes "trail" ∷ canonical_number context.trail ∷ []) refl (number_bytes context.moves of.moves) (pair_bytes (codes "last") (number_text context.last) (codes "trail" ∷ canonical_number context.trail ∷ []) refl (last_bytes context.last of.last) (pair_bytes (codes "trail") (canonical_number context.trail) [] refl (number_bytes context.trail of.trail) none)))))
+      more (name_of set context.task) (from_units context)
+      (called_bytes set context.task names (let same = of.task in omega arith))
+      (pair_bytes (codes "units") (canonical_number context.units) (from_stints context) refl
+      (number_bytes context.units of.units)
+      (pair_bytes (codes "stints") (canonical_number context.stints) (from_moves context) refl
+      (number_bytes context.stints of.stints)
+      (pair_bytes (codes "moves") (canonical_number context.moves) (from_last context) refl
+      (number_bytes context.moves of.moves)
+      (pair_bytes (codes "last") (number_text context.last) (from_trail context) refl (last_bytes context.last of.last)
+      (pair_bytes (codes "trail") (canonical_number context.trail) [] refl (number_bytes context.trail of.trail) none)))))
 
 -- ---- no spaces, and no line feeds
 
@@ -195,8 +259,13 @@ pub field_no_space : (field : List ℕ) → IsField field → All IsNoSpace fiel
 field_no_space field f = lacks_from_none 32 field f.no_space
 
 pub fields_no_space : (set : SetData) → HasFields set → EachName IsNoSpace set
-fields_no_space set names = All-weaker (λ (task : TaskData). IsField task.name) (λ (task : TaskData). All IsNoSpace task.name) (λ task field. field_no_space task.name field) set.tasks names
+fields_no_space set names =
+    All-weaker (λ (task : TaskData). IsField task.name) (λ (task : TaskData). All IsNoSpace task.name)
+    (λ task field. field_no_space task.name field) set.tasks names
 
--- the names of a lawful set have no line feed
+-- the names of a valid set have no line feed
 pub names_no_feed : (set : SetData) → IsTaskSet set → EachName IsNoFeed set
-names_no_feed set lawful = All-weaker (λ (task : TaskData). IsName task.name) (λ (task : TaskData). All IsNoFeed task.name) (λ task named. All-weaker (λ (b : ℕ). 44 ≤ b) IsNoFeed high_no_feed task.name (name_high task.name named)) set.tasks lawful.names
+names_no_feed set valid =
+    All-weaker (λ (task : TaskData). IsName task.name) (λ (task : TaskData). All IsNoFeed task.name)
+    (λ task named. All-weaker (λ (b : ℕ). 44 ≤ b) IsNoFeed high_no_feed task.name (name_high task.name named))
+    set.tasks valid.names

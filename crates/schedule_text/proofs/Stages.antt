@@ -1,60 +1,139 @@
--- What a line leads to, and its fault, by what is due.
+-- What a line leads to, and its fault, by what is expected.
 use Rattle.std.proofs.Common.{◌≡◌, ℕ, ◌<◌, ◌⊎◌, inl, inr, List, [], ◌∷◌, ◌++◌, length, refl, sym, ap, ◌∙◌, subst, arith}
 use Rattle.std.specs.Prelude.{codes}
 use Rattle.task_set.specs.TaskSet.{SetData, IsTaskSet}
 use Rattle.link_table.specs.declared.reply.Entry.{Entry}
-use Rattle.schedule_text.specs.ScheduleFault.{TasksDue, EntriesDue, IsProcessorsForm, IsHistoryForm, IsLineFault}
+use Rattle.schedule_text.specs.ScheduleFault.{IsLineFault}
+use Rattle.schedule_text.specs.Prefix.{TasksExpected, EntriesExpected}
+use Rattle.schedule_text.specs.LineForms.{IsProcessorsForm, IsHistoryForm}
 use Rattle.schedule_text.specs.declared.fault.TextKind.{TextKind}
-use Rattle.schedule_text.specs.Reading.{fields_of, IsNumberBehind, IsTaskFields, IsTaskFault, IsAdded, IsEntryFault, IsEntryFields, IsOutOfMemory, LeadsTasks, LeadsEntries}
-use Rattle.schedule_text.proofs.Spaces.{IsNoSpace, high_no_space, behind_bytes}
+use Rattle.schedule_text.specs.Reading.{IsOutOfMemory, LeadsTasks, LeadsEntries}
+use Rattle.schedule_text.specs.Fields.{spaced_fields_of, IsNumberAfter}
+use Rattle.schedule_text.specs.LineFields.{IsTaskFields, IsTaskFault, IsAdded, IsEntryFault, IsEntryFields}
+use Rattle.schedule_text.proofs.Spaces.{IsNoSpace, high_no_space, word_number_bytes}
 use Rattle.schedule_text.proofs.Bridges.{number_to_fields, number_to_text, task_to_fields, task_to_text, entry_to_fields, entry_to_text, form_to_fields, form_to_text}
 
 -- ---- the number of processors
 
-pub processors_none : (fields : List (List ℕ)) (text : List ℕ) → fields ≡ fields_of text → ((n : ℕ) → IsNumberBehind (codes "processors") 1 64 fields n → ⊥) → ((m : ℕ) × IsProcessorsForm text m) → ⊥
+pub processors_none : (fields : List (List ℕ)) (text : List ℕ) → fields ≡ spaced_fields_of text
+    → ((n : ℕ) → IsNumberAfter (codes "processors") 1 64 fields n → ⊥) → ((m : ℕ) × IsProcessorsForm text m) → ⊥
 processors_none fields text cut none (m, form) =
     let high = form.range.1 in
-    none m (record { range = form.range; each_field = cut ∙ number_to_fields (codes "processors") text m form.is_text (behind_bytes IsNoSpace high_no_space (codes "processors") m refl (omega arith)) })
+    none m (record {
+      range = form.range;
+      each_field = cut
+          ∙ number_to_fields (codes "processors") text m form.is_text
+          (word_number_bytes IsNoSpace high_no_space (codes "processors") m refl (omega arith));
+    })
 
-pub processors_read : (fields : List (List ℕ)) (text : List ℕ) (m : ℕ) → fields ≡ fields_of text → IsNumberBehind (codes "processors") 1 64 fields m → IsProcessorsForm text m
-processors_read fields text m cut f = record { range = f.range; is_text = number_to_text (codes "processors") text m (sym cut ∙ f.each_field) }
+pub processors_read : (fields : List (List ℕ)) (text : List ℕ) (m : ℕ) → fields ≡ spaced_fields_of text
+    → IsNumberAfter (codes "processors") 1 64 fields m → IsProcessorsForm text m
+processors_read fields text m cut f =
+    record { range = f.range; is_text = number_to_text (codes "processors") text m (sym cut ∙ f.each_field) }
 
 -- ---- the number of entries
 
-pub history_none : (fields : List (List ℕ)) (text : List ℕ) → fields ≡ fields_of text → ((n : ℕ) → IsNumberBehind (codes "history") 0 20000 fields n → ⊥) → (count : ℕ) → IsHistoryForm text count → ⊥
+pub history_none : (fields : List (List ℕ)) (text : List ℕ) → fields ≡ spaced_fields_of text
+    → ((n : ℕ) → IsNumberAfter (codes "history") 0 20000 fields n → ⊥) → (count : ℕ) → IsHistoryForm text count
+    → ⊥
 history_none fields text cut none count form =
     let high = form.few in
-    none count (record { range = (omega arith, high); each_field = cut ∙ number_to_fields (codes "history") text count form.is_text (behind_bytes IsNoSpace high_no_space (codes "history") count refl (omega arith)) })
+    none count (record {
+      range = (omega arith, high);
+      each_field = cut
+          ∙ number_to_fields (codes "history") text count form.is_text
+          (word_number_bytes IsNoSpace high_no_space (codes "history") count refl (omega arith));
+    })
 
-pub history_read : (set : SetData) (fields : List (List ℕ)) (text : List ℕ) (count : ℕ) (entries : List Entry) → fields ≡ fields_of text → IsNumberBehind (codes "history") 0 20000 fields count → entries ≡ [] → LeadsTasks set text (EntriesDue set count entries)
-history_read set fields text count entries cut f none = inr (count, ap (λ (start : List Entry). EntriesDue set count start) none, record { few = f.range.1; is_text = number_to_text (codes "history") text count (sym cut ∙ f.each_field) })
+pub history_read : (set : SetData) (fields : List (List ℕ)) (text : List ℕ) (count : ℕ) (entries : List Entry)
+    → fields ≡ spaced_fields_of text → IsNumberAfter (codes "history") 0 20000 fields count → entries ≡ []
+    → LeadsTasks set text (EntriesExpected set count entries)
+history_read set fields text count entries cut f none =
+    inr (
+      count,
+      ap (λ (start : List Entry). EntriesExpected set count start) none,
+      record
+          { few = f.range.1; is_text = number_to_text (codes "history") text count (sym cut ∙ f.each_field) },
+    )
 
 -- ---- tasks
 
-pub task_read : (set next : SetData) (fields : List (List ℕ)) (text : List ℕ) → fields ≡ fields_of text → IsAdded fields set next → LeadsTasks set text (TasksDue next)
-task_read set next fields text cut a = inl (a.task, ap TasksDue a.last, task_to_text text a.task (subst (λ (cut : List (List ℕ)). IsTaskFields cut a.task) cut a.form), a.allowed)
+pub task_read : (set next : SetData) (fields : List (List ℕ)) (text : List ℕ) → fields ≡ spaced_fields_of text
+    → IsAdded fields set next → LeadsTasks set text (TasksExpected next)
+task_read set next fields text cut a =
+    inl (
+      a.task,
+      ap TasksExpected a.last,
+      task_to_text text a.task
+          (subst (λ (cut : List (List ℕ)). IsTaskFields cut a.task) cut a.form),
+      a.allowed,
+    )
 
-pub task_fault : (set : SetData) (text : List ℕ) (kind : TextKind) → ((count : ℕ) → IsHistoryForm text count → ⊥) → IsTaskFault set (fields_of text) kind → IsLineFault (TasksDue set) text kind
-task_fault set text kind no_history (inl bad) =
-    subst (IsLineFault (TasksDue set) text) (sym bad.0) (λ form. elim form [ inl added ↦ bad.1 added.0 (task_to_fields text added.0 added.1) | inr history ↦ no_history history.0 history.1 ])
-task_fault set text kind no_history (inr refused) = subst (IsLineFault (TasksDue set) text) (sym refused.2) (set, refused.0, refl, task_to_text text refused.0 refused.3, refused.4)
+module _ (version : ℕ) where
+  pub task_fault : (set : SetData) (text : List ℕ) (kind : TextKind)
+      → ((count : ℕ) → IsHistoryForm text count → ⊥) → IsTaskFault set (spaced_fields_of text) kind
+      → IsLineFault version (TasksExpected set) text kind
+  task_fault set text kind no_history (inl bad) =
+      subst (IsLineFault version (TasksExpected set) text) (sym bad.0)
+      (λ form. elim form [
+        | inl added ↦ bad.1 added.0 (task_to_fields text added.0 added.1)
+        | inr history ↦ no_history history.0 history.1
+      ])
+  task_fault set text kind no_history (inr refused) =
+      subst (IsLineFault version (TasksExpected set) text) (sym refused.2)
+      (set, refused.0, refl, task_to_text text refused.0 refused.3, refused.4)
 
-pub task_refused_line : (set : SetData) (fields : List (List ℕ)) (text : List ℕ) (kind : TextKind) → fields ≡ fields_of text → ((n : ℕ) → IsNumberBehind (codes "history") 0 20000 fields n → ⊥) → IsOutOfMemory kind ⊎ IsTaskFault set fields kind → IsOutOfMemory kind ⊎ IsLineFault (TasksDue set) text kind
-task_refused_line set fields text kind cut none (inl memory) = inl memory
-task_refused_line set fields text kind cut none (inr fault) = inr (task_fault set text kind (history_none fields text cut none) (subst (λ (cut : List (List ℕ)). IsTaskFault set cut kind) cut fault))
+  pub task_refused_line : (set : SetData) (fields : List (List ℕ)) (text : List ℕ) (kind : TextKind) → fields
+      ≡ spaced_fields_of text → ((n : ℕ) → IsNumberAfter (codes "history") 0 20000 fields n → ⊥)
+      → IsOutOfMemory kind ⊎ IsTaskFault set fields kind → IsOutOfMemory kind
+      ⊎ IsLineFault version (TasksExpected set) text kind
+  task_refused_line set fields text kind cut none (inl memory) = inl memory
+  task_refused_line set fields text kind cut none (inr fault) =
+      inr (task_fault set text kind (history_none fields text cut none)
+      (subst (λ (cut : List (List ℕ)). IsTaskFault set cut kind) cut fault))
 
 -- ---- entries
 
-pub entry_read : (set : SetData) (count : ℕ) (entries next : List Entry) (entry : Entry) (fields : List (List ℕ)) (text : List ℕ) → fields ≡ fields_of text → length entries < count → IsEntryFields set fields entry → next ≡ entries ++ entry ∷ [] → LeadsEntries set count entries text (EntriesDue set count next)
-entry_read set count entries next entry fields text cut room f last = inl (entry, ap (λ (list : List Entry). EntriesDue set count list) last, room, entry_to_text set text entry (subst (λ (cut : List (List ℕ)). IsEntryFields set cut entry) cut f))
+pub entry_read : (set : SetData) (count : ℕ) (entries next : List Entry) (entry : Entry)
+    (fields : List (List ℕ)) (text : List ℕ) → fields ≡ spaced_fields_of text → length entries < count
+    → IsEntryFields set fields entry → next ≡ entries ++ entry ∷ []
+    → LeadsEntries set count entries text (EntriesExpected set count next)
+entry_read set count entries next entry fields text cut room f last =
+    inl (
+      entry,
+      ap (λ (list : List Entry). EntriesExpected set count list) last,
+      room,
+      entry_to_text set text
+          entry (subst (λ (cut : List (List ℕ)). IsEntryFields set cut entry) cut f),
+    )
 
-pub entry_fault : (set : SetData) (count : ℕ) (entries : List Entry) (text : List ℕ) (kind : TextKind) → IsTaskSet set → length entries < count → IsEntryFault set (fields_of text) kind → IsLineFault (EntriesDue set count entries) text kind
-entry_fault set count entries text kind lawful room (inl bad) =
-    subst (IsLineFault (EntriesDue set count entries) text) (sym bad.0) (λ form. elim form [ inl due ↦ bad.1 (form_to_fields text due.1) | inr other ↦ (let full = other.0 in omega arith) ])
-entry_fault set count entries text kind lawful room (inr unknown) =
-    subst (IsLineFault (EntriesDue set count entries) text) (sym unknown.0) (set, count, entries, refl, room, form_to_text text unknown.1, λ entry f. unknown.2 (entry, entry_to_fields set text entry lawful f))
+module _ (version : ℕ) where
+  pub entry_fault : (set : SetData) (count : ℕ) (entries : List Entry) (text : List ℕ) (kind : TextKind)
+      → IsTaskSet set → length entries < count → IsEntryFault set (spaced_fields_of text) kind
+      → IsLineFault version (EntriesExpected set count entries) text kind
+  entry_fault set count entries text kind valid room (inl bad) =
+      subst (IsLineFault version (EntriesExpected set count entries) text) (sym bad.0)
+      (λ form. elim form [
+        | inl expected ↦ bad.1 (form_to_fields text expected.1)
+        | inr other ↦ (let full = other.0 in omega arith)
+      ])
+  entry_fault set count entries text kind valid room (inr unknown) =
+      subst (IsLineFault version (EntriesExpected set count entries) text) (sym unknown.0) (
+        set,
+        count,
+        entries,
+        refl,
+        room,
+        form_to_text text unknown.1,
+        λ entry f. unknown.2
+            (entry, entry_to_fields set text entry valid f),
+      )
 
-pub entry_refused : (set : SetData) (count : ℕ) (entries : List Entry) (fields : List (List ℕ)) (text : List ℕ) (kind : TextKind) → fields ≡ fields_of text → IsTaskSet set → length entries < count → IsOutOfMemory kind ⊎ IsEntryFault set fields kind
-    → IsOutOfMemory kind ⊎ IsLineFault (EntriesDue set count entries) text kind
-entry_refused set count entries fields text kind cut lawful room (inl memory) = inl memory
-entry_refused set count entries fields text kind cut lawful room (inr fault) = inr (entry_fault set count entries text kind lawful room (subst (λ (cut : List (List ℕ)). IsEntryFault set cut kind) cut fault))
+  pub entry_refused : (set : SetData) (count : ℕ) (entries : List Entry) (fields : List (List ℕ))
+      (text : List ℕ) (kind : TextKind) → fields ≡ spaced_fields_of text → IsTaskSet set
+      → length entries < count → IsOutOfMemory kind ⊎ IsEntryFault set fields kind
+      → IsOutOfMemory kind ⊎ IsLineFault version (EntriesExpected set count entries) text kind
+  entry_refused set count entries fields text kind cut valid room (inl memory) = inl memory
+  entry_refused set count entries fields text kind cut valid room (inr fault) =
+      inr (entry_fault set count entries text kind valid room
+      (subst (λ (cut : List (List ℕ)). IsEntryFault set cut kind) cut fault))

@@ -1,4 +1,4 @@
--- Laws of the schedule text. What a reader must believe: nothing but the definitions that a law names.
+-- Laws of the schedule text. They rest on nothing but the definitions that they name.
 use Rattle.std.specs.Prelude.{◌≡◌, ℕ, ◌⊎◌, List}
 use Rattle.schedule_text.specs.ScheduleText.{schedule_text}
 use Rattle.schedule_text.specs.Schedule.{ScheduleData, IsSchedule}
@@ -11,16 +11,26 @@ text_of_schedule schedule = schedule_text schedule.set schedule.entries schedule
 
 -- two schedules with one text are equal
 abbrev pub TextHasOneSchedule : Type 0
-TextHasOneSchedule = (one other : ScheduleData) → IsSchedule one → IsSchedule other → text_of_schedule one ≡ text_of_schedule other → one ≡ other
+TextHasOneSchedule =
+    (one other : ScheduleData) → IsSchedule one → IsSchedule other
+    → text_of_schedule one ≡ text_of_schedule other → one ≡ other
 
 -- a text is refused with at most one line and one kind
 abbrev pub TextHasOneFault : Type 0
-TextHasOneFault = (bytes : List ℕ) (line other : ℕ) (kind another : TextKind) → IsScheduleRefused bytes line kind → IsScheduleRefused bytes other another → (line ≡ other) × (kind ≡ another)
+TextHasOneFault =
+    (bytes : List ℕ) (line other : ℕ) (kind another : TextKind)
+    → IsScheduleRefused bytes line kind → IsScheduleRefused bytes other another
+    → (line ≡ other) × (kind ≡ another)
 
 -- the text of no schedule is refused
 abbrev pub ScheduleHasNoFault : Type 0
-ScheduleHasNoFault = (schedule : ScheduleData) (line : ℕ) (kind : TextKind) → IsSchedule schedule → IsScheduleRefused (text_of_schedule schedule) line kind → ⊥
+ScheduleHasNoFault =
+    (schedule : ScheduleData) (line : ℕ) (kind : TextKind) → IsSchedule schedule
+    → IsScheduleRefused (text_of_schedule schedule) line kind → ⊥
 
 -- each text is that of a schedule or is refused
 abbrev pub AcceptedOrRefused : Type 0
-AcceptedOrRefused = (bytes : List ℕ) → ((schedule : ScheduleData) × IsSchedule schedule × (bytes ≡ text_of_schedule schedule)) ⊎ ((line : ℕ) × (kind : TextKind) × IsScheduleRefused bytes line kind)
+AcceptedOrRefused =
+    (bytes : List ℕ)
+    → ((schedule : ScheduleData) × IsSchedule schedule × (bytes ≡ text_of_schedule schedule))
+    ⊎ ((line : ℕ) × (kind : TextKind) × IsScheduleRefused bytes line kind)

@@ -1,4 +1,8 @@
+pub mod Fields
 pub mod Laws
+pub mod LineFields
+pub mod LineForms
+pub mod Prefix
 pub mod Reading
 pub mod Schedule
 pub mod ScheduleFault

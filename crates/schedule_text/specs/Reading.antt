@@ -1,239 +1,84 @@
--- One step of the reader. What a reader must believe: nothing; these are the contracts of private functions, and the
--- public one says by the definitions of the text and of its faults what was read.
-use Rattle.std.specs.Prelude.{◌≡◌, ◌≢◌, ℕ, ◌<◌, ◌≤◌, ◌^◌, ◌⊎◌, ◌==◌, List, [], ◌∷◌, ◌++◌, length, map, codes, Option, IfSome}
-use Rattle.std.specs.List.{slice_split}
-use Rattle.affinity_mask.specs.ProcSet.{empty}
-use Rattle.affinity_mask.specs.Number.{canonical_number}
-use Rattle.affinity_mask.specs.ListText.{canonical_list}
+-- One step of the reader. Private: the contracts of this crate's own functions. The public one says by
+-- the definitions of the text and of its faults what was read.
+use Rattle.std.specs.Prelude.{◌≡◌, ℕ, ◌<◌, ◌⊎◌, List, [], ◌∷◌, ◌++◌, length, codes, Result, IfOk, IfErr}
 use Rattle.task_set.specs.TaskSet.{TaskData, SetData, with_task}
-use Rattle.task_set.specs.Refusal.{CanAdd, IsNewName, IsRefusal}
+use Rattle.task_set.specs.Refusal.{CanAdd}
 use Rattle.task_set.specs.declared.context.Context.{Context}
-use Rattle.task_set.specs.declared.fault.TaskFault.{TaskFault}
-use Rattle.task_set.specs.declared.event.Event.{Event}
-use Rattle.task_set.specs.declared.event.Event.TheVariants.{Arrive, Depart, Tick}
-use Rattle.link_table.specs.declared.reply.Reply.{Reply}
-use Rattle.link_table.specs.declared.reply.Reply.TheVariants.{Placed, Displaced, Waits, Freed, Left, Ticked, AlreadyReady, NotReady}
 use Rattle.link_table.specs.declared.reply.Entry.{Entry}
-use Rattle.trace_reader.specs.EventText.{name_of, IsAboutSet}
-use Rattle.schedule_text.specs.ScheduleText.{chain_text, set_text, somebody_text, number_text, IsReplyOf}
-use Rattle.schedule_text.specs.Schedule.{IsRow, IsOfProcessors, HasUnits, HasProcessors, IsScheduled}
-use Rattle.schedule_text.specs.ScheduleFault.{Progress, HeaderDue, ProcessorsDue, TasksDue, EntriesDue, ContextsDue, Ended, IsField, IsProcessorsForm, IsTaskForm, IsHistoryForm, HasFields, IsEntryText, IsCountForm, IsContextText}
+use Rattle.schedule_text.specs.ScheduleText.{header, text_in}
+use Rattle.schedule_text.specs.Schedule.{ScheduleData, IsSchedule}
+use Rattle.schedule_text.specs.ScheduleFault.{IsRefusedIn}
+use Rattle.schedule_text.specs.Prefix.{Progress, HeaderExpected, ProcessorsExpected, TasksExpected, EntriesExpected, ContextsExpected, Ended}
+use Rattle.schedule_text.specs.LineForms.{IsProcessorsForm, IsTaskForm, IsHistoryForm, IsEntryText, IsCountForm, IsContextText}
+use Rattle.schedule_text.specs.declared.fault.TextFault.{TextFault}
 use Rattle.schedule_text.specs.declared.fault.TextKind.{TextKind}
-use Rattle.schedule_text.specs.declared.fault.TextKind.TheVariants.{BadLine, TaskRefused, UnknownTask, OutOfMemory}
+use Rattle.schedule_text.specs.declared.fault.TextKind.TheVariants.{OutOfMemory}
 use Rattle.schedule_text.specs.declared.stage.Stage.{Stage}
 use Rattle.schedule_text.specs.declared.stage.Stage.TheVariants as stage
 use Rattle.schedule_text.specs.declared.stage.Reached.{Reached}
 use Rattle.schedule_text.specs.declared.stage.Reached.TheVariants as reached
 
--- ---- fields
-
--- what stands between the spaces of a line, before the first and behind the last
-abbrev pub fields_of : List ℕ → List (List ℕ)
-fields_of text = slice_split (λ byte. byte == 32) text
-
--- what stands between the bytes '>' of a field
-abbrev pub links_of : List ℕ → List (List ℕ)
-links_of field = slice_split (λ byte. byte == 62) field
-
--- a canonical number within bounds
-pub record IsNumberField (least most : ℕ) (field : List ℕ) (n : ℕ) : Type 0 where
-  pub range : (least ≤ n) × (n ≤ most)
-  pub is_text : field ≡ canonical_number n
-
--- the canonical list of some processors
-pub record IsListField (field : List ℕ) (X : ℕ) : Type 0 where
-  pub some : X ≢ empty
-  pub processors : IsOfProcessors X
-  pub is_text : field ≡ canonical_list X
-
--- a set of processors, of which there may be none
-pub record IsSetField (field : List ℕ) (X : ℕ) : Type 0 where
-  pub processors : IsOfProcessors X
-  pub is_text : field ≡ set_text X
-
--- a chain
-pub record IsChainField (field chain : List ℕ) : Type 0 where
-  pub row : IsRow chain
-  pub is_text : field ≡ chain_text chain
-
--- some fields, each a processor of a row
-pub record IsRowOf (fields : List (List ℕ)) (chain : List ℕ) : Type 0 where
-  pub row : IsRow chain
-  pub each_field : fields ≡ map canonical_number chain
-
--- a processor, or '-' for none
-pub record IsLastField (field : List ℕ) (last : Option ℕ) : Type 0 where
-  pub processor : IfSome last (λ p. p < 64)
-  pub is_text : field ≡ number_text last
-
--- a word and a canonical number within bounds
-pub record IsNumberBehind (word : List ℕ) (least most : ℕ) (fields : List (List ℕ)) (n : ℕ) : Type 0 where
-  pub range : (least ≤ n) × (n ≤ most)
-  pub each_field : fields ≡ word ∷ canonical_number n ∷ []
-
--- the name of a task, or '-' for nobody
-pub record IsSomebodyField (set : SetData) (field : List ℕ) (entered : Option ℕ) : Type 0 where
-  pub about : IfSome entered (λ t. t < length set.tasks)
-  pub is_text : field ≡ somebody_text set entered
-
--- ---- fields of the lines
-
--- a task
-abbrev pub task_fields : TaskData → List (List ℕ)
-task_fields task = codes "task" ∷ task.name ∷ canonical_number task.priority ∷ canonical_list task.mask ∷ []
-
--- an event
-abbrev pub event_fields : SetData → Event → List (List ℕ)
-event_fields set (Arrive t) = codes "arrive" ∷ name_of set t ∷ []
-event_fields set (Depart t) = codes "depart" ∷ name_of set t ∷ []
-event_fields set (Tick units) = codes "tick" ∷ canonical_number units ∷ []
-
--- a reply
-abbrev pub reply_fields : SetData → Reply → List (List ℕ)
-reply_fields set (Placed chain) = codes "placed" ∷ chain_text chain ∷ []
-reply_fields set (Displaced chain out reach) = codes "displaced" ∷ chain_text chain ∷ codes "out" ∷ name_of set out ∷ codes "reach" ∷ set_text reach ∷ []
-reply_fields set (Waits reach) = codes "waits" ∷ set_text reach ∷ []
-reply_fields set (Freed entered chain back) = codes "freed" ∷ chain_text chain ∷ codes "enters" ∷ somebody_text set entered ∷ codes "back" ∷ set_text back ∷ []
-reply_fields set Left = codes "left" ∷ []
-reply_fields set Ticked = codes "ticked" ∷ []
-reply_fields set AlreadyReady = codes "already" ∷ []
-reply_fields set NotReady = codes "absent" ∷ []
-
--- an entry
-abbrev pub entry_fields : SetData → Entry → List (List ℕ)
-entry_fields set entry = canonical_number entry.caller ∷ (event_fields set entry.event ++ reply_fields set entry.reply)
-
--- a context
-abbrev pub context_fields : SetData → Context → List (List ℕ)
-context_fields set context =
-    name_of set context.task ∷ codes "units" ∷ canonical_number context.units ∷ codes "stints" ∷ canonical_number context.stints ∷ codes "moves" ∷ canonical_number context.moves ∷ codes "last" ∷ number_text context.last ∷ codes "trail"
-    ∷ canonical_number context.trail ∷ []
-
--- the six fields of a reply that a task was put out, and of one that a processor was freed
-abbrev pub displaced_fields : List ℕ → List ℕ → List ℕ → List (List ℕ)
-displaced_fields chain name processors = codes "displaced" ∷ chain ∷ codes "out" ∷ name ∷ codes "reach" ∷ processors ∷ []
-
-abbrev pub freed_fields : List ℕ → List ℕ → List ℕ → List (List ℕ)
-freed_fields chain name processors = codes "freed" ∷ chain ∷ codes "enters" ∷ name ∷ codes "back" ∷ processors ∷ []
-
--- the fields are those of a task
-pub record IsTaskFields (fields : List (List ℕ)) (task : TaskData) : Type 0 where
-  pub name : IsField task.name
-  pub priority : task.priority < 2 ^ 32
-  pub some : task.mask ≢ empty
-  pub processors : IsOfProcessors task.mask
-  pub each_field : fields ≡ task_fields task
-
--- the task of the fields was added
-pub record IsAdded (fields : List (List ℕ)) (set next : SetData) : Type 0 where
-  pub task : TaskData
-  pub form : IsTaskFields fields task
-  pub allowed : CanAdd set task
-  pub last : next ≡ with_task set task
-
--- the fault of the fields of a task
-abbrev pub IsTaskFault : SetData → List (List ℕ) → TextKind → Type 0
-IsTaskFault set fields kind =
-    ((kind ≡ BadLine) × ((task : TaskData) → IsTaskFields fields task → ⊥))
-    ⊎ ((task : TaskData) × (fault : TaskFault) × (kind ≡ TaskRefused fault) × IsTaskFields fields task × IsRefusal set task fault)
-
--- the fields are those of an event of the set
-pub record IsEventFields (set : SetData) (fields : List (List ℕ)) (event : Event) : Type 0 where
-  pub about : IsAboutSet set event
-  pub units : HasUnits event
-  pub each_field : fields ≡ event_fields set event
-
--- the fields are those of a reply of the set
-pub record IsReplyFields (set : SetData) (fields : List (List ℕ)) (reply : Reply) : Type 0 where
-  pub about : IsReplyOf set reply
-  pub processors : HasProcessors reply
-  pub each_field : fields ≡ reply_fields set reply
-
--- they are those of an event of some tasks
-abbrev pub IsSomeEvent : List (List ℕ) → Type 0
-IsSomeEvent fields = (tasks : SetData) × (event : Event) × HasFields tasks × IsEventFields tasks fields event
-
--- they are those of a reply of some tasks
-abbrev pub IsSomeReply : List (List ℕ) → Type 0
-IsSomeReply fields = (tasks : SetData) × (reply : Reply) × HasFields tasks × IsReplyFields tasks fields reply
-
--- they are those of an entry of the set
-pub record IsEntryFields (set : SetData) (fields : List (List ℕ)) (entry : Entry) : Type 0 where
-  pub scheduled : IsScheduled set entry
-  pub each_field : fields ≡ entry_fields set entry
-
--- they are those of an entry of some tasks
-pub record IsSomeEntry (fields : List (List ℕ)) : Type 0 where
-  pub stream : ℕ
-  pub event : List (List ℕ)
-  pub reply : List (List ℕ)
-  pub caller : stream < 16
-  pub is_event : IsSomeEvent event
-  pub is_reply : IsSomeReply reply
-  pub each_field : fields ≡ canonical_number stream ∷ (event ++ reply)
-
--- the fault of what has a form of which only some is known
-abbrev pub IsPartFault : Type 0 → Type 0 → TextKind → Type 0
-IsPartFault Form Known kind = ((kind ≡ BadLine) × (Form → ⊥)) ⊎ ((kind ≡ UnknownTask) × Form × (Known → ⊥))
-
--- the fault of an event
-abbrev pub IsEventFault : SetData → List (List ℕ) → TextKind → Type 0
-IsEventFault set fields kind = IsPartFault (IsSomeEvent fields) ((event : Event) × IsEventFields set fields event) kind
-
--- the fault of a reply
-abbrev pub IsReplyFault : SetData → List (List ℕ) → TextKind → Type 0
-IsReplyFault set fields kind = IsPartFault (IsSomeReply fields) ((reply : Reply) × IsReplyFields set fields reply) kind
-
--- the fault of an entry
-abbrev pub IsEntryFault : SetData → List (List ℕ) → TextKind → Type 0
-IsEntryFault set fields kind = IsPartFault (IsSomeEntry fields) ((entry : Entry) × IsEntryFields set fields entry) kind
-
--- the field is no name of a task, as it is no field or a new name
-abbrev pub IsNameFault : SetData → List ℕ → TextKind → Type 0
-IsNameFault set field kind = ((kind ≡ BadLine) × (IsField field → ⊥)) ⊎ ((kind ≡ UnknownTask) × IsField field × IsNewName set field)
-
--- want of memory
+-- out of memory
 abbrev pub IsOutOfMemory : TextKind → Type 0
 IsOutOfMemory kind = kind ≡ OutOfMemory
 
 -- ---- stages
 
--- what is due at a stage of the reader
+-- what is expected at a stage of the reader
 abbrev pub progress_of : Stage → Progress
-progress_of stage.HeaderDue = HeaderDue
-progress_of stage.ProcessorsDue = ProcessorsDue
-progress_of (stage.TasksDue set) = TasksDue set
-progress_of (stage.EntriesDue set count entries) = EntriesDue set count entries.items
-progress_of (stage.ContextsDue set entries contexts) = ContextsDue set entries.items contexts.items
+progress_of stage.HeaderExpected = HeaderExpected
+progress_of stage.ProcessorsExpected = ProcessorsExpected
+progress_of (stage.TasksExpected set) = TasksExpected set
+progress_of (stage.EntriesExpected set count entries) = EntriesExpected set count entries.items
+progress_of (stage.ContextsExpected set entries contexts) =
+    ContextsExpected set entries.items contexts.items
 
--- what is due behind a line
-abbrev pub progress_behind : Reached → Progress
-progress_behind (reached.Due next) = progress_of next
-progress_behind (reached.End schedule) = Ended schedule.set schedule.entries schedule.contexts
+-- what is expected after a line
+abbrev pub progress_after : Reached → Progress
+progress_after (reached.Expected next) = progress_of next
+progress_after (reached.End schedule) = Ended schedule.set schedule.entries schedule.contexts
 
 -- a task line adds its task, and the history line says how many entries there are
 abbrev pub LeadsTasks : SetData → List ℕ → Progress → Type 0
 LeadsTasks set text next =
-    ((added : TaskData) × (next ≡ TasksDue (with_task set added)) × IsTaskForm text added × CanAdd set added)
-    ⊎ ((count : ℕ) × (next ≡ EntriesDue set count []) × IsHistoryForm text count)
+    ((added : TaskData) × (next ≡ TasksExpected (with_task set added)) × IsTaskForm text added
+    × CanAdd set added)
+    ⊎ ((count : ℕ) × (next ≡ EntriesExpected set count []) × IsHistoryForm text count)
 
--- an entry comes behind the others, or the number of contexts behind all entries
+-- an entry comes after the others, or the number of contexts after all entries
 abbrev pub LeadsEntries : SetData → ℕ → List Entry → List ℕ → Progress → Type 0
 LeadsEntries set count entries text next =
-    ((entry : Entry) × (next ≡ EntriesDue set count (entries ++ entry ∷ [])) × (length entries < count) × IsEntryText set text entry)
-    ⊎ ((next ≡ ContextsDue set entries []) × (length entries ≡ count) × IsCountForm set text)
+    ((entry : Entry) × (next ≡ EntriesExpected set count (entries ++ entry ∷ []))
+    × (length entries < count) × IsEntryText set text entry)
+    ⊎ ((next ≡ ContextsExpected set entries []) × (length entries ≡ count) × IsCountForm set text)
 
--- a context comes behind the others, or the end behind all contexts
+-- a context comes after the others, or the end after all contexts
 abbrev pub LeadsContexts : SetData → List Entry → List Context → List ℕ → Progress → Type 0
 LeadsContexts set entries contexts text next =
-    ((context : Context) × (next ≡ ContextsDue set entries (contexts ++ context ∷ [])) × (length contexts < length set.tasks) × IsContextText set (length contexts) text context)
-    ⊎ ((next ≡ Ended set entries contexts) × (length contexts ≡ length set.tasks) × (text ≡ codes "end"))
+    ((context : Context) × (next ≡ ContextsExpected set entries (contexts ++ context ∷ []))
+    × (length contexts < length set.tasks) × IsContextText set (length contexts) text context)
+    ⊎ ((next ≡ Ended set entries contexts) × (length contexts ≡ length set.tasks)
+    × (text ≡ codes "end"))
 
--- a line without fault leads from what is due before it to what is due behind it
-abbrev pub Leads : Progress → List ℕ → Progress → Type 0
-Leads HeaderDue text next = (next ≡ ProcessorsDue) × (text ≡ codes "schedule 1")
-Leads ProcessorsDue text next = (m : ℕ) × (next ≡ TasksDue (record { processors = m; tasks = [] })) × IsProcessorsForm text m
-Leads (TasksDue set) text next = LeadsTasks set text next
-Leads (EntriesDue set count entries) text next = LeadsEntries set count entries text next
-Leads (ContextsDue set entries contexts) text next = LeadsContexts set entries contexts text next
-Leads (Ended set entries contexts) text next = ⊥
+-- a line without fault leads from what is expected before it to what is expected after it
+abbrev pub Leads : ℕ → Progress → List ℕ → Progress → Type 0
+Leads version HeaderExpected text next = (next ≡ ProcessorsExpected) × (text ≡ header version)
+Leads version ProcessorsExpected text next =
+    (m : ℕ) × (next ≡ TasksExpected (record { processors = m; tasks = [] }))
+    × IsProcessorsForm text m
+Leads version (TasksExpected set) text next = LeadsTasks set text next
+Leads version (EntriesExpected set count entries) text next =
+    LeadsEntries set count entries text next
+Leads version (ContextsExpected set entries contexts) text next =
+    LeadsContexts set entries contexts text next
+Leads version (Ended set entries contexts) text next = ⊥
+
+-- a reader of texts of this version answers a schedule of which it is the text, or the first fault, unless it is out of
+-- memory
+abbrev pub IsAnswerTo : ℕ → List ℕ → Result ScheduleData TextFault → Type 0
+IsAnswerTo version bytes result =
+    IfOk result
+    (λ schedule. IsSchedule schedule
+    × (bytes ≡ text_in version schedule.set schedule.entries schedule.contexts))
+    × IfErr result
+    (λ fault. IsOutOfMemory fault.kind ⊎ IsRefusedIn version bytes fault.line fault.kind)

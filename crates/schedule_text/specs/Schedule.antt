@@ -1,15 +1,15 @@
--- Schedules. What a reader must believe: a schedule is a lawful set of tasks, at most 20,000 entries and one context for
+-- Schedules. A schedule is a valid set of tasks, at most 20,000 entries and one context for
 -- each task, in the order of the tasks; each entry is on a stream below 16, a tick has from 1 to 1,000,000 units, the
 -- tasks that it names are of the set, and its chain and its sets are of processors below 64.
 use Rattle.std.specs.Prelude.{◌≡◌, ℕ, ◌<◌, ◌≤◌, ◌^◌, List, length, All, IfSome, slice_index_or}
 use Rattle.affinity_mask.specs.ProcSet.{all_below, Within}
-use Rattle.task_set.specs.TaskSet.{TaskData, SetData, IsTaskSet}
+use Rattle.text_fields.specs.LineText.{PrioritiesFit}
+use Rattle.task_set.specs.TaskSet.{SetData, IsTaskSet}
 use Rattle.task_set.specs.declared.context.Context.{Context}
-use Rattle.task_set.specs.declared.event.Event.{Event}
-use Rattle.task_set.specs.declared.event.Event.TheVariants.{Arrive, Depart, Tick}
+use Rattle.task_set.specs.Event.{HasUnits}
 use Rattle.link_table.specs.declared.reply.Reply.{Reply}
-use Rattle.link_table.specs.declared.reply.Reply.TheVariants.{Placed, Displaced, Waits, Freed, Left, Ticked, AlreadyReady, NotReady}
 use Rattle.link_table.specs.declared.reply.Entry.{Entry}
+use Rattle.link_table.specs.Reply.{chains_of, sets_of}
 use Rattle.schedule_text.specs.ScheduleText.{IsEntryOf}
 use Rattle.schedule_text.specs.declared.schedule.Schedule.TheInside.{Inside}
 
@@ -19,30 +19,17 @@ pub record ScheduleData : Type 0 where
   pub entries : List Entry
   pub contexts : List Context
 
--- at most 64 processors in a row
-abbrev pub IsRow : List ℕ → Type 0
-IsRow chain = (length chain ≤ 64) × All (λ p. p < 64) chain
+-- at most 64 processors in a list
+abbrev pub IsProcessorList : List ℕ → Type 0
+IsProcessorList chain = (length chain ≤ 64) × All (λ p. p < 64) chain
 
 -- a set of processors
 abbrev pub IsOfProcessors : ℕ → Type 0
 IsOfProcessors X = Within X (all_below 64)
 
--- a tick has from 1 to 1,000,000 units
-abbrev pub HasUnits : Event → Type 0
-HasUnits (Arrive t) = Unit {0}
-HasUnits (Depart t) = Unit {0}
-HasUnits (Tick units) = (1 ≤ units) × (units ≤ 1000000)
-
 -- the chain and the sets of a reply are of processors
 abbrev pub HasProcessors : Reply → Type 0
-HasProcessors (Placed chain) = IsRow chain
-HasProcessors (Displaced chain out reach) = IsRow chain × IsOfProcessors reach
-HasProcessors (Waits reach) = IsOfProcessors reach
-HasProcessors (Freed entered chain back) = IsRow chain × IsOfProcessors back
-HasProcessors Left = Unit {0}
-HasProcessors Ticked = Unit {0}
-HasProcessors AlreadyReady = Unit {0}
-HasProcessors NotReady = Unit {0}
+HasProcessors reply = All IsProcessorList (chains_of reply) × All IsOfProcessors (sets_of reply)
 
 -- an entry of tasks of the set, with the numbers of the format
 pub record IsScheduled (set : SetData) (entry : Entry) : Type 0 where
@@ -62,12 +49,14 @@ pub record IsContextOf (t : ℕ) (context : Context) : Type 0 where
 
 -- each context is that of the task whose number is its place
 abbrev pub AreInOrder : List Context → Type 0
-AreInOrder contexts = (t : ℕ) (context : Context) → t < length contexts → IsContextOf t (slice_index_or contexts t context)
+AreInOrder contexts =
+    (t : ℕ) (context : Context) → t < length contexts
+    → IsContextOf t (slice_index_or contexts t context)
 
 -- tasks with the priorities of the format
 pub record IsScheduleSet (set : SetData) : Type 0 where
-  pub lawful : IsTaskSet set
-  pub priorities : All (λ (task : TaskData). task.priority < 2 ^ 32) set.tasks
+  pub valid : IsTaskSet set
+  pub priorities : PrioritiesFit set
 
 -- what holds of each schedule
 pub record IsSchedule (schedule : ScheduleData) : Type 0 where

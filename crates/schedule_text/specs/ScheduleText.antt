@@ -1,7 +1,7 @@
--- The schedule text. What a reader must believe: there is one text for a task set, a history and the contexts of its
+-- The schedule text. There is one text for a task set, a history and the contexts of its
 -- tasks: a header, the tasks, a line for each entry with its reply, and a line for each context. It can be written
 -- where each task that an entry names is of the set.
-use Rattle.std.specs.Prelude.{ℕ, ◌<◌, List, [], ◌∷◌, ◌++◌, codes, length, map, Option, None, Some, IfSome, if◌then◌else◌, ◌==◌}
+use Rattle.std.specs.Prelude.{ℕ, ◌<◌, List, [], ◌∷◌, ◌++◌, codes, length, map, All, Option, None, Some, if◌then◌else◌, ◌==◌}
 use Rattle.std.specs.List.{flat_map, join_with_byte}
 use Rattle.affinity_mask.specs.ProcSet.{empty}
 use Rattle.affinity_mask.specs.Number.{canonical_number}
@@ -11,7 +11,9 @@ use Rattle.task_set.specs.declared.context.Context.{Context}
 use Rattle.link_table.specs.declared.reply.Reply.{Reply}
 use Rattle.link_table.specs.declared.reply.Reply.TheVariants.{Placed, Displaced, Waits, Freed, Left, Ticked, AlreadyReady, NotReady}
 use Rattle.link_table.specs.declared.reply.Entry.{Entry}
-use Rattle.trace_reader.specs.EventText.{line, name_of, event_text, processors_line, task_line, IsAboutSet}
+use Rattle.link_table.specs.Reply.{tasks_named}
+use Rattle.text_fields.specs.LineText.{line, processors_line, task_line}
+use Rattle.text_fields.specs.EventText.{name_of, event_text, IsAboutSet}
 
 -- the processors of a chain in order, joined by '>'; '-' where there is none
 abbrev pub chain_text : List ℕ → List ℕ
@@ -35,9 +37,13 @@ number_text (Some n) = canonical_number n
 -- a reply, with the chain or the set of processors that justifies it
 unfoldable pub reply_text : SetData → Reply → List ℕ
 reply_text set (Placed chain) = codes "placed " ++ chain_text chain
-reply_text set (Displaced chain out reach) = codes "displaced " ++ chain_text chain ++ codes " out " ++ name_of set out ++ codes " reach " ++ set_text reach
+reply_text set (Displaced chain out reach) =
+    codes "displaced " ++ chain_text chain ++ codes " out " ++ name_of set out ++ codes " reach "
+    ++ set_text reach
 reply_text set (Waits reach) = codes "waits " ++ set_text reach
-reply_text set (Freed entered chain back) = codes "freed " ++ chain_text chain ++ codes " enters " ++ somebody_text set entered ++ codes " back " ++ set_text back
+reply_text set (Freed entered chain back) =
+    codes "freed " ++ chain_text chain ++ codes " enters " ++ somebody_text set entered
+    ++ codes " back " ++ set_text back
 reply_text set Left = codes "left"
 reply_text set Ticked = codes "ticked"
 reply_text set AlreadyReady = codes "already"
@@ -45,32 +51,39 @@ reply_text set NotReady = codes "absent"
 
 -- an entry of the history: the stream that posted it, the event and the reply
 unfoldable pub entry_line : SetData → Entry → List ℕ
-entry_line set entry = line (canonical_number entry.caller ++ codes " " ++ event_text set entry.event ++ codes " " ++ reply_text set entry.reply)
+entry_line set entry =
+    line (canonical_number entry.caller ++ codes " " ++ event_text set entry.event ++ codes " "
+    ++ reply_text set entry.reply)
 
 -- what a task has run: its units of time, stints, moves between processors, last processor and trail
 unfoldable pub context_line : SetData → Context → List ℕ
 context_line set context =
-    line (name_of set context.task ++ codes " units " ++ canonical_number context.units ++ codes " stints " ++ canonical_number context.stints
-    ++ codes " moves " ++ canonical_number context.moves ++ codes " last " ++ number_text context.last ++ codes " trail " ++ canonical_number context.trail)
+    line (name_of set context.task ++ codes " units " ++ canonical_number context.units
+    ++ codes " stints " ++ canonical_number context.stints
+    ++ codes " moves " ++ canonical_number context.moves ++ codes " last "
+    ++ number_text context.last ++ codes " trail " ++ canonical_number context.trail)
 
--- the whole text
-unfoldable pub schedule_text : SetData → List Entry → List Context → List ℕ
-schedule_text set entries contexts =
-    line (codes "schedule 1") ++ processors_line set ++ flat_map task_line set.tasks
-    ++ line (codes "history " ++ canonical_number (length entries)) ++ flat_map (entry_line set) entries
-    ++ line (codes "contexts " ++ canonical_number (length contexts)) ++ flat_map (context_line set) contexts
+-- the header: the version
+abbrev pub header : ℕ → List ℕ
+header version = codes "schedule " ++ canonical_number version
+
+-- the whole text, in this version
+unfoldable pub text_in : ℕ → SetData → List Entry → List Context → List ℕ
+text_in version set entries contexts =
+    line (header version) ++ processors_line set ++ flat_map task_line set.tasks
+    ++ line (codes "history " ++ canonical_number (length entries))
+    ++ flat_map (entry_line set) entries
+    ++ line (codes "contexts " ++ canonical_number (length contexts))
+    ++ flat_map (context_line set) contexts
     ++ line (codes "end")
 
--- the tasks that a reply names are of the set: who was put out, and who entered, if somebody did
+-- the text of a schedule, which is in version 1
+abbrev pub schedule_text : SetData → List Entry → List Context → List ℕ
+schedule_text set entries contexts = text_in 1 set entries contexts
+
+-- the tasks that a reply names are of the set: who was displaced, and who entered, if somebody did
 abbrev pub IsReplyOf : SetData → Reply → Type 0
-IsReplyOf set (Placed chain) = Unit {0}
-IsReplyOf set (Displaced chain out reach) = out < length set.tasks
-IsReplyOf set (Waits reach) = Unit {0}
-IsReplyOf set (Freed entered chain back) = IfSome entered (λ t. t < length set.tasks)
-IsReplyOf set Left = Unit {0}
-IsReplyOf set Ticked = Unit {0}
-IsReplyOf set AlreadyReady = Unit {0}
-IsReplyOf set NotReady = Unit {0}
+IsReplyOf set reply = All (λ t. t < length set.tasks) (tasks_named reply)
 
 -- the tasks that an entry names, in its event and in its reply, are of the set
 pub record IsEntryOf (set : SetData) (entry : Entry) : Type 0 where

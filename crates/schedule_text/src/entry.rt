@@ -1,27 +1,25 @@
 //! The lines of entries.
-ghost use Rattle.std.specs.Prelude.{◌≡◌, ◌⊎◌, ◌∷◌, [], IfOk, IfErr};
-ghost use Rattle.trace_reader.specs.Reading.{texts};
-ghost use Rattle.schedule_text.specs.Reading.{IsEventFields, IsEventFault, IsEntryFields, IsEntryFault, IsOutOfMemory};
+ghost use Rattle.std.specs.Prelude.{◌⊎◌, ◌∷◌, [], IfOk, IfErr};
+ghost use Rattle.text_fields.specs.Fields.{texts};
+ghost use Rattle.schedule_text.specs.Reading.{IsOutOfMemory};
+ghost use Rattle.schedule_text.specs.LineFields.{IsEventFields, IsEventFault, IsEntryFields, IsEntryFault};
 
 use crate::fault::TextKind;
-use crate::field::{is_word, number_of, task_of};
+use crate::field::{known_task, number_of};
 use crate::reply::read_reply;
 use link_table::Entry;
 use std::alloc::Global;
 use task_set::{Event, TaskSet};
-
-/// The greatest number of a stream.
-const MAX_STREAM: u64 = 15;
-
-/// The most units of time that a tick has.
-const MAX_UNITS: u64 = 1_000_000;
+use text_fields::is_word;
+use text_fields::limits::{MAX_STREAM, MAX_UNITS};
 
 /// The entry of some fields.
 pub fn read_entry(alloc: Global, set: &TaskSet, fields: &[&[u8]]) -> Result<Entry, TextKind>
     ensures read { IfOk result (IsEntryFields set.now (texts fields.now)) }
-    ensures refused { IfErr result (λ kind. IsOutOfMemory kind ⊎ IsEntryFault set.now (texts fields.now) kind) }
+    ensures refused { IfErr result (λ kind. IsOutOfMemory kind
+        ⊎ IsEntryFault set.now (texts fields.now) kind) }
 {
-    let _lawful = set.len();
+    let _valid = set.len();
     let [number, word, value, rest @ ..] = fields else {
         return Err(TextKind::BadLine);
     };
@@ -38,7 +36,7 @@ pub fn read_entry(alloc: Global, set: &TaskSet, fields: &[&[u8]]) -> Result<Entr
             })
         }
         Err(TextKind::UnknownTask) => {
-            // A reply that is of no form is told first.
+            // A reply that is of no form is reported first.
             let _known = read_reply(alloc, set, rest)?;
             Err(TextKind::UnknownTask)
         }
@@ -52,9 +50,9 @@ fn read_event(set: &TaskSet, word: &[u8], value: &[u8]) -> Result<Event, TextKin
     ensures refused { IfErr result (IsEventFault set.now (word.now ∷ value.now ∷ [])) }
 {
     if is_word(word, "arrive") {
-        Ok(Event::Arrive(task_of(set, value)?))
+        Ok(Event::Arrive(known_task(set, value)?))
     } else if is_word(word, "depart") {
-        Ok(Event::Depart(task_of(set, value)?))
+        Ok(Event::Depart(known_task(set, value)?))
     } else if is_word(word, "tick") {
         match number_of(value, 1, MAX_UNITS) {
             Some(units) => Ok(Event::Tick(units as u32)),

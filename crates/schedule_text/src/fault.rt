@@ -1,10 +1,10 @@
-//! Why a text is no schedule.
+//! Why a text is not a schedule.
 ghost use Rattle.std.specs.Prelude.{◌≡◌};
 ghost use Rattle.schedule_text.specs.ScheduleFault.{kind_number};
 
 use task_set::TaskFault;
 
-/// The first line that has a fault, from 1, and the kind of its fault. For want of memory the line means nothing.
+/// The first line that has a fault, from 1, and the kind of its fault. Out of memory, the line means nothing.
 #[derive(Clone, Copy, Debug, PartialEq, Eq)]
 pub struct TextFault {
     pub line: u64,
@@ -15,20 +15,20 @@ pub struct TextFault {
 /// answered.
 #[derive(Clone, Copy, Debug, PartialEq, Eq)]
 pub enum TextKind {
-    /// The line is not of the form that is due, in which any field stands for the name of a new task and for the names
+    /// The line is not of the expected form, in which any field may stand for the name of a new task and for the names
     /// of an entry.
     BadLine,
 
-    /// The task of a task line cannot be added. It is never refused for want of memory here.
+    /// The task of a task line cannot be added. The cause is never out of memory here.
     TaskRefused(TaskFault),
 
     /// An entry has the name of a task that there is not.
     UnknownTask,
 
-    /// A line is due, and no further line feed comes.
+    /// A line is expected, and no further line feed comes.
     Short,
 
-    /// More bytes stand behind the end.
+    /// More bytes stand after the end.
     AfterEnd,
 
     /// The memory that the schedule needs was refused. It may come in place of any answer.
@@ -36,7 +36,7 @@ pub enum TextKind {
 }
 
 impl TextKind {
-    /// The number of the kind, from 21. Want of memory has none.
+    /// The number of the kind, from 21. Out of memory has none.
     pub fn number(&self) -> Option<u8>
         ensures { result ≡ kind_number self.now }
     {

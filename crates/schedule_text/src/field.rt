@@ -1,8 +1,10 @@
 //! The fields of a line, and what a field says.
-ghost use Rattle.std.specs.Prelude.{◌≡◌, ◌≢◌, ℕ, codes, ◌≤◌, ◌⊎◌, ◌↔◌, ◌++◌, ◌∷◌, IsTrue, List, Contains, IfOk, IfErr, MatchOption};
-ghost use Rattle.trace_reader.specs.Reading.{texts};
-ghost use Rattle.schedule_text.specs.ScheduleFault.{IsField};
-ghost use Rattle.schedule_text.specs.Reading.{fields_of, links_of, IsNumberField, IsListField, IsSetField, IsChainField, IsRowOf, IsNumberBehind, IsNameFault, IsSomebodyField, IsOutOfMemory};
+ghost use Rattle.std.specs.Prelude.{◌≡◌, ◌≢◌, ℕ, codes, ◌⊎◌, ◌↔◌, ◌++◌, ◌∷◌, IsTrue, List, Contains, IfOk, IfErr, MatchOption};
+ghost use Rattle.text_fields.specs.Fields.{texts};
+ghost use Rattle.schedule_text.specs.LineForms.{IsField};
+ghost use Rattle.schedule_text.specs.Reading.{IsOutOfMemory};
+ghost use Rattle.schedule_text.specs.Fields.{spaced_fields_of, links_of, IsNumberField, IsListField, IsSetField, IsChainField, AreProcessorFields, IsNumberAfter, IsSomebodyField};
+ghost use Rattle.schedule_text.specs.LineFields.{IsNameFault};
 ghost use Rattle.task_set.specs.Refusal.{IsNameOf};
 ghost use Rattle.schedule_text.specs.declared.fault.TextKind.TheVariants.{BadLine};
 
@@ -11,28 +13,27 @@ use affinity_mask::{OutOfMemory, ProcSet};
 use itoa::Buffer;
 use link_table::Chain;
 use std::alloc::Global;
-use std::str;
 use task_set::TaskSet;
-use trace_reader::read_number;
-
-/// The greatest number of a processor.
-pub const MAX_PROCESSOR: u64 = 63;
+use text_fields::limits::MAX_PROCESSOR;
+use text_fields::{is_word, read_number, task_of};
 
 /// The most processors of a chain.
 const MAX_CHAIN: usize = 64;
 
-/// The first line of some bytes, which a line feed ends, and what stands behind it.
-pub fn first_line(bytes: &[u8]) -> Option<(&[u8], &[u8])>
-    ensures { MatchOption result (Contains bytes.now 10 → ⊥)
-        (λ parts. (bytes.now ≡ parts.0.now ++ 10 ∷ parts.1.now) × (Contains parts.0.now 10 → ⊥)) }
+/// The first line of some bytes, which a line feed ends, and what stands after it.
+pub fn ended_line(bytes: &[u8]) -> Option<(&[u8], &[u8])>
+    ensures { MatchOption result
+        (Contains bytes.now 10 → ⊥)
+        (λ parts. (bytes.now ≡ parts.0.now ++ 10 ∷ parts.1.now)
+        × (Contains parts.0.now 10 → ⊥)) }
 {
     let end = bytes.iter().position(|byte| *byte == b'\n')?;
     Some((&bytes[..end], &bytes[end + 1..]))
 }
 
 /// The fields of a line: what stands between its spaces.
-pub fn fields(alloc: Global, text: &[u8]) -> Result<Vec<&[u8]>, OutOfMemory>
-    ensures { IfOk result (λ fields. texts fields.items ≡ fields_of text.now) }
+pub fn spaced_fields(alloc: Global, text: &[u8]) -> Result<Vec<&[u8]>, OutOfMemory>
+    ensures { IfOk result (λ fields. texts fields.items ≡ spaced_fields_of text.now) }
 {
     let mut fields = Vec::new(alloc);
     for field in text.split(|byte| *byte == b' ') {
@@ -52,13 +53,6 @@ fn links(alloc: Global, text: &[u8]) -> Result<Vec<&[u8]>, OutOfMemory>
     Ok(links)
 }
 
-/// Whether a field is this word.
-pub fn is_word(field: &[u8], word: &str) -> bool
-    ensures { IsTrue result ↔ (field.now ≡ word.now) }
-{
-    field == word.as_bytes()
-}
-
 /// Whether the bytes can stand for a name.
 pub fn is_field(bytes: &[u8]) -> bool
     ensures { IsTrue result ↔ IsField bytes.now }
@@ -68,7 +62,9 @@ pub fn is_field(bytes: &[u8]) -> bool
 
 /// The value of a canonical number, where it is from `least` to `most`.
 pub fn number_of(field: &[u8], least: u64, most: u64) -> Option<u64>
-    ensures { MatchOption result ((n : ℕ) → IsNumberField least most field.now n → ⊥) (IsNumberField least most field.now) }
+    ensures { MatchOption result
+        ((n : ℕ) → IsNumberField least most field.now n → ⊥)
+        (IsNumberField least most field.now) }
 {
     let number = read_number(field, least, most)?;
     let mut buffer = Buffer::new();
@@ -82,7 +78,8 @@ pub fn number_of(field: &[u8], least: u64, most: u64) -> Option<u64>
 /// The processors of a canonical list, which has one at least.
 pub fn list_of(alloc: Global, field: &[u8]) -> Result<ProcSet, TextKind>
     ensures read { IfOk result (IsListField field.now) }
-    ensures refused { IfErr result (λ kind. IsOutOfMemory kind ⊎ ((kind ≡ BadLine) × ((X : ℕ) → IsListField field.now X → ⊥))) }
+    ensures refused { IfErr result (λ kind. IsOutOfMemory kind
+        ⊎ ((kind ≡ BadLine) × ((X : ℕ) → IsListField field.now X → ⊥))) }
 {
     let Ok(set) = ProcSet::read_list(field) else {
         return Err(TextKind::BadLine);
@@ -100,7 +97,8 @@ pub fn list_of(alloc: Global, field: &[u8]) -> Result<ProcSet, TextKind>
 /// The processors of a canonical list, or none for '-'.
 pub fn set_of(alloc: Global, field: &[u8]) -> Result<ProcSet, TextKind>
     ensures read { IfOk result (IsSetField field.now) }
-    ensures refused { IfErr result (λ kind. IsOutOfMemory kind ⊎ ((kind ≡ BadLine) × ((X : ℕ) → IsSetField field.now X → ⊥))) }
+    ensures refused { IfErr result (λ kind. IsOutOfMemory kind
+        ⊎ ((kind ≡ BadLine) × ((X : ℕ) → IsSetField field.now X → ⊥))) }
 {
     if is_word(field, "-") {
         Ok(ProcSet::empty())
@@ -112,21 +110,24 @@ pub fn set_of(alloc: Global, field: &[u8]) -> Result<ProcSet, TextKind>
 /// The processors joined by '>', or none for '-'.
 pub fn chain_of(alloc: Global, field: &[u8]) -> Result<Chain, TextKind>
     ensures read { IfOk result (IsChainField field.now) }
-    ensures refused { IfErr result (λ kind. IsOutOfMemory kind ⊎ ((kind ≡ BadLine) × ((chain : List ℕ) → IsChainField field.now chain → ⊥))) }
+    ensures refused { IfErr result (λ kind. IsOutOfMemory kind
+        ⊎ ((kind ≡ BadLine) × ((chain : List ℕ) → IsChainField field.now chain → ⊥))) }
 {
     if is_word(field, "-") {
         return Ok(Chain::new());
     }
     let links = links(alloc, field)?;
-    match row_of(&links) {
+    match processors_of(&links) {
         Some(chain) => Ok(chain),
         None => Err(TextKind::BadLine),
     }
 }
 
 /// The processors that some fields name, at most 64.
-fn row_of(links: &[&[u8]]) -> Option<Chain>
-    ensures { MatchOption result ((chain : List ℕ) → IsRowOf (texts links.now) chain → ⊥) (IsRowOf (texts links.now)) }
+fn processors_of(links: &[&[u8]]) -> Option<Chain>
+    ensures { MatchOption result
+        ((chain : List ℕ) → AreProcessorFields (texts links.now) chain → ⊥)
+        (AreProcessorFields (texts links.now)) }
 {
     let mut chain = Chain::new();
     for link in links {
@@ -140,18 +141,14 @@ fn row_of(links: &[&[u8]]) -> Option<Chain>
 }
 
 /// The task that has this name.
-pub fn task_of(set: &TaskSet, name: &[u8]) -> Result<u32, TextKind>
+pub fn known_task(set: &TaskSet, name: &[u8]) -> Result<u32, TextKind>
     ensures read { IfOk result (λ t. IsNameOf set.now t name.now) }
     ensures refused { IfErr result (IsNameFault set.now name.now) }
 {
-    let _lawful = set.len();
     if !is_field(name) {
         return Err(TextKind::BadLine);
     }
-    let Ok(name) = str::from_utf8(name) else {
-        return Err(TextKind::UnknownTask);
-    };
-    match set.find(name) {
+    match task_of(set, name) {
         Some(t) => Ok(t),
         None => Err(TextKind::UnknownTask),
     }
@@ -160,20 +157,23 @@ pub fn task_of(set: &TaskSet, name: &[u8]) -> Result<u32, TextKind>
 /// The task that has this name, or nobody for '-'.
 pub fn somebody_of(set: &TaskSet, name: &[u8]) -> Result<Option<u32>, TextKind>
     ensures read { IfOk result (IsSomebodyField set.now name.now) }
-    ensures refused { IfErr result (λ kind. (name.now ≢ codes "-") × IsNameFault set.now name.now kind) }
+    ensures refused { IfErr result (λ kind. (name.now ≢ codes "-")
+        × IsNameFault set.now name.now kind) }
 {
     if is_word(name, "-") {
         return Ok(None);
     }
-    match task_of(set, name) {
+    match known_task(set, name) {
         Ok(t) => Ok(Some(t)),
         Err(kind) => Err(kind),
     }
 }
 
-/// The number behind a word, where it is from `least` to `most`.
-pub fn number_behind(fields: &[&[u8]], word: &str, least: u64, most: u64) -> Option<u64>
-    ensures { MatchOption result ((n : ℕ) → IsNumberBehind word.now least most (texts fields.now) n → ⊥) (IsNumberBehind word.now least most (texts fields.now)) }
+/// The number after a word, where it is from `least` to `most`.
+pub fn number_after(fields: &[&[u8]], word: &str, least: u64, most: u64) -> Option<u64>
+    ensures { MatchOption result
+        ((n : ℕ) → IsNumberAfter word.now least most (texts fields.now) n → ⊥)
+        (IsNumberAfter word.now least most (texts fields.now)) }
 {
     match fields {
         [first, number] if is_word(first, word) => number_of(number, least, most),

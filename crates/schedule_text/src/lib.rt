@@ -3,7 +3,7 @@
 //! [`write_schedule`] writes a task set, the history of a scheduler on it, and the contexts of the tasks. There is one
 //! text for each schedule: a header, the tasks, a line for each entry of the history with the reply and the chain or
 //! the set of processors that justifies it, and a line for each task with what it has run. [`read_schedule`] reads the
-//! text of a [`Schedule`]; a text that is none is refused with the first line that has a fault, and the kind of the
+//! text of a [`Schedule`]; any other text is refused with the first line that has a fault, and the kind of the
 //! fault.
 #![tactic(auto)]
 

@@ -1,31 +1,33 @@
 //! The lines of tasks and of contexts.
-ghost use Rattle.std.specs.Prelude.{◌≡◌, ℕ, ◌<◌, ◌⊎◌, ◌↔◌, IsTrue, IfOk, IfErr, IfSome, OnOk, MatchOption, MatchBool, Some, Option, length};
-ghost use Rattle.task_set.specs.TaskSet.{SetData, TaskData};
+ghost use Rattle.std.specs.Prelude.{◌≡◌, ℕ, ◌<◌, ◌⊎◌, ◌++◌, ◌↔◌, IsTrue, IfOk, IfErr, IfSome, OnOk, MatchBool, Some, Option, length};
+ghost use Rattle.task_set.specs.TaskSet.{SetData};
 ghost use Rattle.task_set.specs.declared.context.Context.{Context};
-ghost use Rattle.trace_reader.specs.Reading.{texts};
-ghost use Rattle.trace_reader.specs.EventText.{line};
+ghost use Rattle.text_fields.specs.Fields.{texts};
+ghost use Rattle.text_fields.specs.LineText.{line};
 ghost use Rattle.schedule_text.specs.ScheduleText.{context_line};
 ghost use Rattle.schedule_text.specs.Schedule.{IsContextOf};
-ghost use Rattle.schedule_text.specs.ScheduleFault.{IsCountForm, IsContextText};
-ghost use Rattle.schedule_text.specs.Reading.{context_fields, IsLastField, IsAdded, IsTaskFault, IsOutOfMemory};
+ghost use Rattle.affinity_mask.specs.Number.{canonical_number};
+ghost use Rattle.schedule_text.specs.LineForms.{IsContextText};
+ghost use Rattle.schedule_text.specs.Reading.{IsOutOfMemory};
+ghost use Rattle.schedule_text.specs.LineFields.{context_fields, IsAdded, IsTaskFault};
+ghost use Rattle.schedule_text.specs.Fields.{IsLastField};
 ghost use Rattle.schedule_text.specs.declared.fault.TextKind.TheVariants.{BadLine};
 
 use crate::fault::TextKind;
-use crate::field::{MAX_PROCESSOR, fields, is_field, is_word, list_of, number_of};
+use crate::field::{is_field, list_of, number_of, spaced_fields};
 use crate::write::write_context;
 use affinity_mask::OutOfMemory;
 use std::alloc::Global;
 use std::str;
 use task_set::{Context, TaskFault, TaskSet};
-use trace_reader::write::write_number;
-
-/// The greatest priority of a task.
-const MAX_PRIORITY: u64 = 4_294_967_295;
+use text_fields::limits::{MAX_PRIORITY, MAX_PROCESSOR};
+use text_fields::{is_word, read_number, write_number};
 
 /// Adds the task of some fields.
 pub fn add_task(alloc: Global, set: &mut TaskSet, fields: &[&[u8]]) -> Result<(), TextKind>
     ensures read { OnOk result (IsAdded (texts fields.now) set.old set.new) }
-    ensures refused { IfErr result (λ kind. IsOutOfMemory kind ⊎ IsTaskFault set.old (texts fields.now) kind) }
+    ensures refused { IfErr result (λ kind. IsOutOfMemory kind
+        ⊎ IsTaskFault set.old (texts fields.now) kind) }
 {
     let [word, name, number, list] = fields else {
         return Err(TextKind::BadLine);
@@ -44,23 +46,32 @@ pub fn add_task(alloc: Global, set: &mut TaskSet, fields: &[&[u8]]) -> Result<()
     Ok(())
 }
 
-/// Whether a line says how many contexts there are.
-pub fn is_count(alloc: Global, set: &TaskSet, text: &[u8]) -> Result<bool, OutOfMemory>
-    ensures { IfOk result (λ is. MatchBool is (IsCountForm set.now text.now) (IsCountForm set.now text.now → ⊥)) }
+/// Whether a line is a label and this number.
+pub fn is_numbered(
+    alloc: Global,
+    label: &[u8],
+    number: u64,
+    text: &[u8],
+) -> Result<bool, OutOfMemory>
+    ensures { IfOk result (λ is. MatchBool is
+        (text.now ≡ label.now ++ canonical_number number)
+        (text.now ≡ label.now ++ canonical_number number → ⊥)) }
 {
-    let mut count = Vec::from_slice(alloc, b"contexts ")?;
-    write_number(&mut count, set.len())?;
-    Ok(count.as_slice() == text)
+    let mut expected = Vec::from_slice(alloc, label)?;
+    write_number(&mut expected, number)?;
+    Ok(expected.as_slice() == text)
 }
 
 /// The context of a line, where it is that of this task.
 pub fn read_context(alloc: Global, set: &TaskSet, t: u32, text: &[u8]) -> Result<Context, TextKind>
     requires { t < length set.now.tasks }
     ensures read { IfOk result (IsContextText set.now t text.now) }
-    ensures refused { IfErr result (λ kind. IsOutOfMemory kind ⊎ ((kind ≡ BadLine) × ((context : Context) → IsContextText set.now t text.now context → ⊥))) }
+    ensures refused { IfErr result (λ kind. IsOutOfMemory kind
+        ⊎ ((kind ≡ BadLine)
+        × ((context : Context) → IsContextText set.now t text.now context → ⊥))) }
 {
-    let _lawful = set.len();
-    let fields = fields(alloc, text)?;
+    let _valid = set.len();
+    let fields = spaced_fields(alloc, text)?;
     let Some(context) = context_of(t, &fields) else {
         return Err(TextKind::BadLine);
     };
@@ -89,10 +100,11 @@ fn is_context_line(
     Ok(given.as_slice() == canonical.as_slice())
 }
 
-/// What eleven fields say of a context, whatever its words are.
+/// What eleven fields say of a context, whatever its words are and however its numbers are spelled.
 fn context_of(t: u32, fields: &[&[u8]]) -> Option<Context>
     ensures sizes { IfSome result (IsContextOf t) }
-    ensures finds { (set : SetData) (context : Context) → IsContextOf t context → texts fields.now ≡ context_fields set context → result ≡ Some context }
+    ensures finds { (set : SetData) (context : Context) → IsContextOf t context
+        → texts fields.now ≡ context_fields set context → result ≡ Some context }
 {
     let [
         _name,
@@ -110,11 +122,11 @@ fn context_of(t: u32, fields: &[&[u8]]) -> Option<Context>
     else {
         return None;
     };
-    let units = number_of(units, 0, u64::MAX)?;
-    let stints = number_of(stints, 0, u64::MAX)?;
-    let moves = number_of(moves, 0, u64::MAX)?;
+    let units = read_number(units, 0, u64::MAX)?;
+    let stints = read_number(stints, 0, u64::MAX)?;
+    let moves = read_number(moves, 0, u64::MAX)?;
     let last = last_of(last)?;
-    let trail = number_of(trail, 0, u64::MAX)?;
+    let trail = read_number(trail, 0, u64::MAX)?;
     Some(Context {
         task: t,
         units,
@@ -127,11 +139,12 @@ fn context_of(t: u32, fields: &[&[u8]]) -> Option<Context>
 
 /// The last processor, or none for '-'.
 fn last_of(field: &[u8]) -> Option<Option<u8>>
-    ensures { MatchOption result ((last : Option ℕ) → IsLastField field.now last → ⊥) (IsLastField field.now) }
+    ensures sizes { IfSome result (λ last. IfSome last (λ p. p < 64)) }
+    ensures finds { (last : Option ℕ) → IsLastField field.now last → result ≡ Some last }
 {
     if is_word(field, "-") {
         return Some(None);
     }
-    let p = number_of(field, 0, MAX_PROCESSOR)?;
+    let p = read_number(field, 0, MAX_PROCESSOR)?;
     Some(Some(p as u8))
 }

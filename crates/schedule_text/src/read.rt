@@ -3,63 +3,69 @@ ghost use Rattle.std.specs.Prelude.{◌≡◌, ◌≢◌, ℕ, ◌⊎◌, [], If
 ghost use Rattle.schedule_text.specs.ScheduleText.{schedule_text};
 ghost use Rattle.schedule_text.specs.Schedule.{ScheduleData, IsSchedule};
 ghost use Rattle.schedule_text.specs.ScheduleFault.{IsScheduleRefused};
-ghost use Rattle.schedule_text.specs.Reading.{IsOutOfMemory};
+ghost use Rattle.schedule_text.specs.Reading.{IsOutOfMemory, IsAnswerTo};
 ghost use Rattle.schedule_text.specs.declared.fault.TextKind.{TextKind};
 ghost use Rattle.schedule_text.specs.declared.fault.TextKind.TheVariants.{AfterEnd};
 
 use crate::fault::{TextFault, TextKind};
-use crate::field::first_line;
+use crate::field::ended_line;
 use crate::schedule::Schedule;
 use crate::stage::{Reached, Stage};
 use std::alloc::Global;
+use text_fields::limits::VERSION;
 
-/// The schedule of a text, or the first line that has a fault, with its kind. Want of memory may come in place of
+/// The schedule of a text, or the first line that has a fault, with its kind. `OutOfMemory` may come in place of
 /// either.
 pub fn read_schedule(alloc: Global, bytes: &[u8]) -> Result<Schedule, TextFault>
-    ensures schedule { IfOk result (λ schedule. bytes.now ≡ schedule_text schedule.set schedule.entries schedule.contexts) }
-    ensures refused { IfErr result (λ fault. IsOutOfMemory fault.kind ⊎ IsScheduleRefused bytes.now fault.line fault.kind) }
+    ensures schedule { IfOk result (λ schedule. bytes.now
+        ≡ schedule_text schedule.set schedule.entries schedule.contexts) }
+    ensures refused { IfErr result (λ fault. IsOutOfMemory fault.kind
+        ⊎ IsScheduleRefused bytes.now fault.line fault.kind) }
 
-    // Only want of memory comes in place of the answer that is due.
-    ensures accepts { (schedule : ScheduleData) → IsSchedule schedule → bytes.now ≡ schedule_text schedule.set schedule.entries schedule.contexts
-        → MatchResult result (λ answer. answer ≡ schedule) (λ fault. IsOutOfMemory fault.kind) }
+    // Only `OutOfMemory` comes in place of the expected answer.
+    ensures accepts { (schedule : ScheduleData) → IsSchedule schedule
+        → bytes.now ≡ schedule_text schedule.set schedule.entries schedule.contexts
+        → MatchResult result
+        (λ answer. answer ≡ schedule)
+        (λ fault. IsOutOfMemory fault.kind) }
     ensures refuses { (line : ℕ) (kind : TextKind) → IsScheduleRefused bytes.now line kind
-        → MatchResult result (λ schedule. ⊥) (λ fault. IsOutOfMemory fault.kind ⊎ ((fault.line ≡ line) × (fault.kind ≡ kind))) }
+        → MatchResult result (λ schedule. ⊥)
+        (λ fault. IsOutOfMemory fault.kind ⊎ ((fault.line ≡ line) × (fault.kind ≡ kind))) }
 {
-    read_lines(alloc, bytes)
+    read_lines(alloc, VERSION, bytes)
 }
 
-/// Reads line by line, front to back.
-fn read_lines(alloc: Global, bytes: &[u8]) -> Result<Schedule, TextFault>
-    ensures valid { IfOk result IsSchedule }
-    ensures schedule { IfOk result (λ schedule. bytes.now ≡ schedule_text schedule.set schedule.entries schedule.contexts) }
-    ensures refused { IfErr result (λ fault. IsOutOfMemory fault.kind ⊎ IsScheduleRefused bytes.now fault.line fault.kind) }
+/// Reads a text of this version line by line, from the first to the last.
+fn read_lines(alloc: Global, version: u64, bytes: &[u8]) -> Result<Schedule, TextFault>
+    ensures { IsAnswerTo version bytes.now result }
 {
-    let mut stage = Stage::HeaderDue;
+    let mut stage = Stage::HeaderExpected;
     let mut rest = bytes;
     let mut line = 1;
     loop {
-        let Some((text, behind)) = first_line(rest) else {
+        let Some((text, after)) = ended_line(rest) else {
             let kind = TextKind::Short;
             return Err(TextFault { line, kind });
         };
-        match stage.after_line(alloc, text) {
-            Ok(Reached::Due(next)) => {
+        match stage.after_line(alloc, version, text) {
+            Ok(Reached::Expected(next)) => {
                 stage = next;
-                rest = behind;
+                rest = after;
                 line += 1;
             }
-            Ok(Reached::End(schedule)) => return at_end(schedule, behind, line + 1),
+            Ok(Reached::End(schedule)) => return at_end(schedule, after, line + 1),
             Err(kind) => return Err(TextFault { line, kind }),
         }
     }
 }
 
-/// The schedule, where no byte stands behind its last line.
-fn at_end(schedule: Schedule, behind: &[u8], line: u64) -> Result<Schedule, TextFault>
-    ensures read { IfOk result (λ answer. (answer ≡ schedule) × (behind.now ≡ [])) }
-    ensures refused { IfErr result (λ fault. (fault.line ≡ line) × (fault.kind ≡ AfterEnd) × (behind.now ≢ [])) }
+/// The schedule, where no byte stands after its last line.
+fn at_end(schedule: Schedule, after: &[u8], line: u64) -> Result<Schedule, TextFault>
+    ensures read { IfOk result (λ answer. (answer ≡ schedule) × (after.now ≡ [])) }
+    ensures refused { IfErr result (λ fault. (fault.line ≡ line) × (fault.kind ≡ AfterEnd)
+        × (after.now ≢ [])) }
 {
-    if behind.is_empty() {
+    if after.is_empty() {
         Ok(schedule)
     } else {
         let kind = TextKind::AfterEnd;

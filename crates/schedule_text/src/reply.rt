@@ -1,20 +1,23 @@
 //! The reply of an entry.
 ghost use Rattle.std.specs.Prelude.{◌≡◌, ◌↔◌, IsTrue, ◌⊎◌, ◌∷◌, [], codes, IfOk, IfErr, MatchOption};
 ghost use Rattle.task_set.specs.TaskSet.{SetData};
-ghost use Rattle.trace_reader.specs.Reading.{texts};
-ghost use Rattle.schedule_text.specs.Reading.{displaced_fields, freed_fields, IsReplyFields, IsReplyFault, IsSomeReply, IsOutOfMemory};
+ghost use Rattle.text_fields.specs.Fields.{texts};
+ghost use Rattle.schedule_text.specs.Reading.{IsOutOfMemory};
+ghost use Rattle.schedule_text.specs.LineFields.{displaced_fields, freed_fields, IsReplyFields, IsReplyFault, IsSomeReply};
 ghost use Rattle.schedule_text.specs.declared.fault.TextKind.TheVariants.{BadLine};
 
 use crate::fault::TextKind;
-use crate::field::{chain_of, is_word, set_of, somebody_of, task_of};
+use crate::field::{chain_of, known_task, set_of, somebody_of};
 use link_table::Reply;
 use std::alloc::Global;
 use task_set::TaskSet;
+use text_fields::is_word;
 
 /// The reply of some fields.
 pub fn read_reply(alloc: Global, set: &TaskSet, fields: &[&[u8]]) -> Result<Reply, TextKind>
     ensures read { IfOk result (IsReplyFields set.now (texts fields.now)) }
-    ensures refused { IfErr result (λ kind. IsOutOfMemory kind ⊎ IsReplyFault set.now (texts fields.now) kind) }
+    ensures refused { IfErr result (λ kind. IsOutOfMemory kind
+        ⊎ IsReplyFault set.now (texts fields.now) kind) }
 {
     match fields {
         [word] => match word_reply(word) {
@@ -35,23 +38,26 @@ pub fn read_reply(alloc: Global, set: &TaskSet, fields: &[&[u8]]) -> Result<Repl
     }
 }
 
-/// Whether the words of six fields are those of a reply that a task was put out.
+/// Whether the words of six fields are those of a reply that a task was displaced.
 fn is_displaced(word: &[u8], middle: &[u8], last: &[u8]) -> bool
-    ensures { IsTrue result ↔ ((word.now ≡ codes "displaced") × (middle.now ≡ codes "out") × (last.now ≡ codes "reach")) }
+    ensures { IsTrue result ↔ ((word.now ≡ codes "displaced") × (middle.now ≡ codes "out")
+        × (last.now ≡ codes "reach")) }
 {
     is_word(word, "displaced") && is_word(middle, "out") && is_word(last, "reach")
 }
 
 /// Whether they are those of a reply that a processor was freed.
 fn is_freed(word: &[u8], middle: &[u8], last: &[u8]) -> bool
-    ensures { IsTrue result ↔ ((word.now ≡ codes "freed") × (middle.now ≡ codes "enters") × (last.now ≡ codes "back")) }
+    ensures { IsTrue result ↔ ((word.now ≡ codes "freed") × (middle.now ≡ codes "enters")
+        × (last.now ≡ codes "back")) }
 {
     is_word(word, "freed") && is_word(middle, "enters") && is_word(last, "back")
 }
 
 /// The reply of one word.
 fn word_reply(word: &[u8]) -> Option<Reply>
-    ensures { MatchOption result (IsSomeReply (word.now ∷ []) → ⊥) (λ reply. (tasks : SetData) → IsReplyFields tasks (word.now ∷ []) reply) }
+    ensures { MatchOption result (IsSomeReply (word.now ∷ []) → ⊥)
+        (λ reply. (tasks : SetData) → IsReplyFields tasks (word.now ∷ []) reply) }
 {
     if is_word(word, "left") {
         Some(Reply::Left)
@@ -68,8 +74,10 @@ fn word_reply(word: &[u8]) -> Option<Reply>
 
 /// The reply of a word and a chain or a set.
 fn valued_reply(alloc: Global, word: &[u8], value: &[u8]) -> Result<Reply, TextKind>
-    ensures read { IfOk result (λ reply. (tasks : SetData) → IsReplyFields tasks (word.now ∷ value.now ∷ []) reply) }
-    ensures refused { IfErr result (λ kind. IsOutOfMemory kind ⊎ ((kind ≡ BadLine) × (IsSomeReply (word.now ∷ value.now ∷ []) → ⊥))) }
+    ensures read { IfOk result (λ reply. (tasks : SetData)
+        → IsReplyFields tasks (word.now ∷ value.now ∷ []) reply) }
+    ensures refused { IfErr result (λ kind. IsOutOfMemory kind
+        ⊎ ((kind ≡ BadLine) × (IsSomeReply (word.now ∷ value.now ∷ []) → ⊥))) }
 {
     if is_word(word, "placed") {
         let chain = chain_of(alloc, value)?;
@@ -82,7 +90,7 @@ fn valued_reply(alloc: Global, word: &[u8], value: &[u8]) -> Result<Reply, TextK
     }
 }
 
-/// The reply that a task was put out.
+/// The reply that a task was displaced.
 fn displaced_reply(
     alloc: Global,
     set: &TaskSet,
@@ -90,12 +98,14 @@ fn displaced_reply(
     name: &[u8],
     processors: &[u8],
 ) -> Result<Reply, TextKind>
-    ensures read { IfOk result (IsReplyFields set.now (displaced_fields chain.now name.now processors.now)) }
-    ensures refused { IfErr result (λ kind. IsOutOfMemory kind ⊎ IsReplyFault set.now (displaced_fields chain.now name.now processors.now) kind) }
+    ensures read { IfOk result (IsReplyFields set.now
+        (displaced_fields chain.now name.now processors.now)) }
+    ensures refused { IfErr result (λ kind. IsOutOfMemory kind
+        ⊎ IsReplyFault set.now (displaced_fields chain.now name.now processors.now) kind) }
 {
     let chain = chain_of(alloc, chain)?;
     let reach = set_of(alloc, processors)?;
-    let out = task_of(set, name)?;
+    let out = known_task(set, name)?;
     Ok(Reply::Displaced { chain, out, reach })
 }
 
@@ -107,8 +117,10 @@ fn freed_reply(
     name: &[u8],
     processors: &[u8],
 ) -> Result<Reply, TextKind>
-    ensures read { IfOk result (IsReplyFields set.now (freed_fields chain.now name.now processors.now)) }
-    ensures refused { IfErr result (λ kind. IsOutOfMemory kind ⊎ IsReplyFault set.now (freed_fields chain.now name.now processors.now) kind) }
+    ensures read { IfOk result (IsReplyFields set.now
+        (freed_fields chain.now name.now processors.now)) }
+    ensures refused { IfErr result (λ kind. IsOutOfMemory kind
+        ⊎ IsReplyFault set.now (freed_fields chain.now name.now processors.now) kind) }
 {
     let chain = chain_of(alloc, chain)?;
     let back = set_of(alloc, processors)?;

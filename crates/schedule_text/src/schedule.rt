@@ -4,9 +4,10 @@ ghost use Rattle.std.specs.Prelude.{◌≡◌};
 use link_table::Entry;
 use std::marker::Model;
 use task_set::{Context, TaskSet};
+use text_fields::limits::MAX_EVENTS;
 
 /// The greatest number of entries of a schedule.
-pub const MAX_ENTRIES: u64 = 20_000;
+pub const MAX_ENTRIES: u64 = MAX_EVENTS as u64;
 
 /// The tasks, the entries in the order of their lines, and the contexts in the order of the tasks.
 #[derive(Drop)]
@@ -31,8 +32,17 @@ impl Schedule {
 
     /// A schedule of these parts, which are those of a schedule.
     pub(crate) fn new(set: TaskSet, entries: Vec<Entry>, contexts: Vec<Context>) -> Schedule
-        requires { IsSchedule (record { set = set; entries = entries.items; contexts = contexts.items }) }
-        ensures { result ≡ record { set = set; entries = entries.items; contexts = contexts.items } }
+        requires { IsSchedule (record {
+          set = set;
+          entries = entries.items;
+          contexts =
+              contexts.items;
+        }) }
+        ensures { result ≡ record {
+          set = set;
+          entries = entries.items;
+          contexts = contexts.items;
+        } }
     {
         Schedule {
             set,

@@ -1,43 +1,43 @@
-//! What was read so far, and what is due.
+//! What was read so far, and what is expected.
 ghost use Rattle.std.specs.Prelude.{◌≡◌, ◌<◌, ◌⊎◌, length, IfOk, IfErr};
-ghost use Rattle.schedule_text.specs.ScheduleFault.{IsFront, IsLineFault, HeaderDue, ProcessorsDue, TasksDue, EntriesDue, ContextsDue};
-ghost use Rattle.schedule_text.specs.Reading.{progress_of, progress_behind, Leads, IsOutOfMemory};
+ghost use Rattle.schedule_text.specs.ScheduleFault.{IsLineFault};
+ghost use Rattle.schedule_text.specs.Prefix.{IsPrefix, HeaderExpected, ProcessorsExpected, TasksExpected, EntriesExpected, ContextsExpected};
+ghost use Rattle.schedule_text.specs.Reading.{progress_of, progress_after, Leads, IsOutOfMemory};
 
 use crate::entry::read_entry;
 use crate::fault::TextKind;
-use crate::field::{fields, is_word, number_behind};
-use crate::line::{add_task, is_count, read_context};
+use crate::field::{number_after, spaced_fields};
+use crate::line::{add_task, is_numbered, read_context};
 use crate::schedule::{MAX_ENTRIES, Schedule};
 use link_table::Entry;
 use std::alloc::Global;
 use task_set::{Context, TaskSet};
+use text_fields::is_word;
+use text_fields::limits::MAX_PROCESSORS;
 
-/// The greatest number of processors.
-const MAX_PROCESSORS: u64 = 64;
-
-/// What some lines said, and so what is due behind them.
+/// What some lines said, and so what is expected after them.
 #[derive(Drop)]
 pub enum Stage {
-    /// The header is due.
-    HeaderDue,
+    /// The header is expected.
+    HeaderExpected,
 
-    /// The number of processors is due.
-    ProcessorsDue,
+    /// The number of processors is expected.
+    ProcessorsExpected,
 
-    /// Tasks, and then the number of entries, are due.
-    TasksDue {
+    /// Tasks, and then the number of entries, are expected.
+    TasksExpected {
         set: TaskSet,
     },
 
-    /// Entries up to a count, and then the number of contexts, are due.
-    EntriesDue {
+    /// Entries up to a count, and then the number of contexts, are expected.
+    EntriesExpected {
         set: TaskSet,
         count: u64,
         entries: Vec<Entry>,
     },
 
-    /// Contexts, one for each task, and then the end are due.
-    ContextsDue {
+    /// Contexts, one for each task, and then the end are expected.
+    ContextsExpected {
         set: TaskSet,
         entries: Vec<Entry>,
         contexts: Vec<Context>,
@@ -47,8 +47,8 @@ pub enum Stage {
 /// What a line led to.
 #[derive(Drop)]
 pub enum Reached {
-    /// More is due.
-    Due(Stage),
+    /// More is expected.
+    Expected(Stage),
 
     /// The end came.
     End(Schedule),
@@ -56,35 +56,37 @@ pub enum Reached {
 
 impl Stage {
     /// What a line leads to.
-    pub fn after_line(self, alloc: Global, text: &[u8]) -> Result<Reached, TextKind>
-        requires { IsFront (progress_of self) }
-        ensures read { IfOk result (λ next. Leads (progress_of self) text.now (progress_behind next)) }
-        ensures refused { IfErr result (λ kind. IsOutOfMemory kind ⊎ IsLineFault (progress_of self) text.now kind) }
+    pub fn after_line(self, alloc: Global, version: u64, text: &[u8]) -> Result<Reached, TextKind>
+        requires { IsPrefix (progress_of self) }
+        ensures read { IfOk result (λ next. Leads version (progress_of self) text.now
+            (progress_after next)) }
+        ensures refused { IfErr result (λ kind. IsOutOfMemory kind
+            ⊎ IsLineFault version (progress_of self) text.now kind) }
     {
         match self {
-            Stage::HeaderDue => read_header(text),
-            Stage::ProcessorsDue => start(alloc, text),
-            Stage::TasksDue { set } => read_task(alloc, set, text),
-            Stage::EntriesDue {
+            Stage::HeaderExpected => read_header(alloc, version, text),
+            Stage::ProcessorsExpected => start(alloc, version, text),
+            Stage::TasksExpected { set } => read_task(alloc, version, set, text),
+            Stage::EntriesExpected {
                 set,
                 count,
                 entries,
             } => {
                 if (entries.len() as u64) < count {
-                    list_entry(alloc, set, count, entries, text)
+                    list_entry(alloc, version, set, count, entries, text)
                 } else {
-                    begin_contexts(alloc, set, count, entries, text)
+                    begin_contexts(alloc, version, set, count, entries, text)
                 }
             }
-            Stage::ContextsDue {
+            Stage::ContextsExpected {
                 set,
                 entries,
                 contexts,
             } => {
                 if contexts.len() < set.len() as usize {
-                    list_context(alloc, set, entries, contexts, text)
+                    list_context(alloc, version, set, entries, contexts, text)
                 } else {
-                    end(set, entries, contexts, text)
+                    end(version, set, entries, contexts, text)
                 }
             }
         }
@@ -92,40 +94,51 @@ impl Stage {
 }
 
 /// Reads the header.
-fn read_header(text: &[u8]) -> Result<Reached, TextKind>
-    ensures read { IfOk result (λ next. Leads HeaderDue text.now (progress_behind next)) }
-    ensures refused { IfErr result (IsLineFault HeaderDue text.now) }
+fn read_header(alloc: Global, version: u64, text: &[u8]) -> Result<Reached, TextKind>
+    ensures read { IfOk result (λ next. Leads version HeaderExpected text.now
+        (progress_after next)) }
+    ensures refused { IfErr result (λ kind. IsOutOfMemory kind
+        ⊎ IsLineFault version HeaderExpected text.now kind) }
 {
-    if is_word(text, "schedule 1") {
-        Ok(Reached::Due(Stage::ProcessorsDue))
+    if is_numbered(alloc, b"schedule ", version, text)? {
+        Ok(Reached::Expected(Stage::ProcessorsExpected))
     } else {
         Err(TextKind::BadLine)
     }
 }
 
 /// No task yet, on as many processors as a line says.
-fn start(alloc: Global, text: &[u8]) -> Result<Reached, TextKind>
-    ensures read { IfOk result (λ next. Leads ProcessorsDue text.now (progress_behind next)) }
-    ensures refused { IfErr result (λ kind. IsOutOfMemory kind ⊎ IsLineFault ProcessorsDue text.now kind) }
+fn start(alloc: Global, version: u64, text: &[u8]) -> Result<Reached, TextKind>
+    ensures read { IfOk result (λ next. Leads version ProcessorsExpected text.now
+        (progress_after next)) }
+    ensures refused { IfErr result (λ kind. IsOutOfMemory kind
+        ⊎ IsLineFault version ProcessorsExpected text.now kind) }
 {
-    let fields = fields(alloc, text)?;
-    let Some(processors) = number_behind(&fields, "processors", 1, MAX_PROCESSORS) else {
+    let fields = spaced_fields(alloc, text)?;
+    let Some(processors) = number_after(&fields, "processors", 1, MAX_PROCESSORS) else {
         return Err(TextKind::BadLine);
     };
     let set = TaskSet::new(alloc, processors as u8)?;
-    Ok(Reached::Due(Stage::TasksDue { set }))
+    Ok(Reached::Expected(Stage::TasksExpected { set }))
 }
 
 /// Reads a task, or how many entries there are.
-fn read_task(alloc: Global, mut set: TaskSet, text: &[u8]) -> Result<Reached, TextKind>
-    ensures read { IfOk result (λ next. Leads (TasksDue set) text.now (progress_behind next)) }
-    ensures refused { IfErr result (λ kind. IsOutOfMemory kind ⊎ IsLineFault (TasksDue set) text.now kind) }
+fn read_task(
+    alloc: Global,
+    version: u64,
+    mut set: TaskSet,
+    text: &[u8],
+) -> Result<Reached, TextKind>
+    ensures read { IfOk result (λ next. Leads version (TasksExpected set) text.now
+        (progress_after next)) }
+    ensures refused { IfErr result (λ kind. IsOutOfMemory kind
+        ⊎ IsLineFault version (TasksExpected set) text.now kind) }
 {
-    let fields = fields(alloc, text)?;
-    match number_behind(&fields, "history", 0, MAX_ENTRIES) {
+    let fields = spaced_fields(alloc, text)?;
+    match number_after(&fields, "history", 0, MAX_ENTRIES) {
         Some(count) => {
             let entries = Vec::new(alloc);
-            Ok(Reached::Due(Stage::EntriesDue {
+            Ok(Reached::Expected(Stage::EntriesExpected {
                 set,
                 count,
                 entries,
@@ -133,7 +146,7 @@ fn read_task(alloc: Global, mut set: TaskSet, text: &[u8]) -> Result<Reached, Te
         }
         None => {
             add_task(alloc, &mut set, &fields)?;
-            Ok(Reached::Due(Stage::TasksDue { set }))
+            Ok(Reached::Expected(Stage::TasksExpected { set }))
         }
     }
 }
@@ -141,45 +154,51 @@ fn read_task(alloc: Global, mut set: TaskSet, text: &[u8]) -> Result<Reached, Te
 /// Lists the entry of a line.
 fn list_entry(
     alloc: Global,
+    version: u64,
     set: TaskSet,
     count: u64,
     mut entries: Vec<Entry>,
     text: &[u8],
 ) -> Result<Reached, TextKind>
     requires { length entries.items < count }
-    ensures read { IfOk result (λ next. Leads (EntriesDue set count entries.items) text.now (progress_behind next)) }
-    ensures refused { IfErr result (λ kind. IsOutOfMemory kind ⊎ IsLineFault (EntriesDue set count entries.items) text.now kind) }
+    ensures read { IfOk result (λ next. Leads version (EntriesExpected set count entries.items)
+        text.now (progress_after next)) }
+    ensures refused { IfErr result (λ kind. IsOutOfMemory kind
+        ⊎ IsLineFault version (EntriesExpected set count entries.items) text.now kind) }
 {
-    let _lawful = set.len();
-    let fields = fields(alloc, text)?;
+    let _valid = set.len();
+    let fields = spaced_fields(alloc, text)?;
     let entry = read_entry(alloc, &set, &fields)?;
     if entries.push(entry).is_err() {
         return Err(TextKind::OutOfMemory);
     }
-    Ok(Reached::Due(Stage::EntriesDue {
+    Ok(Reached::Expected(Stage::EntriesExpected {
         set,
         count,
         entries,
     }))
 }
 
-/// No context yet, behind the line that says how many there are.
+/// No context yet, after the line that says how many there are.
 fn begin_contexts(
     alloc: Global,
+    version: u64,
     set: TaskSet,
     count: u64,
     entries: Vec<Entry>,
     text: &[u8],
 ) -> Result<Reached, TextKind>
     requires { length entries.items ≡ count }
-    ensures read { IfOk result (λ next. Leads (EntriesDue set count entries.items) text.now (progress_behind next)) }
-    ensures refused { IfErr result (λ kind. IsOutOfMemory kind ⊎ IsLineFault (EntriesDue set count entries.items) text.now kind) }
+    ensures read { IfOk result (λ next. Leads version (EntriesExpected set count entries.items)
+        text.now (progress_after next)) }
+    ensures refused { IfErr result (λ kind. IsOutOfMemory kind
+        ⊎ IsLineFault version (EntriesExpected set count entries.items) text.now kind) }
 {
-    if !is_count(alloc, &set, text)? {
+    if !is_numbered(alloc, b"contexts ", set.len() as u64, text)? {
         return Err(TextKind::BadLine);
     }
     let contexts = Vec::new(alloc);
-    Ok(Reached::Due(Stage::ContextsDue {
+    Ok(Reached::Expected(Stage::ContextsExpected {
         set,
         entries,
         contexts,
@@ -189,21 +208,24 @@ fn begin_contexts(
 /// Lists the context of a line.
 fn list_context(
     alloc: Global,
+    version: u64,
     set: TaskSet,
     entries: Vec<Entry>,
     mut contexts: Vec<Context>,
     text: &[u8],
 ) -> Result<Reached, TextKind>
     requires { length contexts.items < length set.tasks }
-    ensures read { IfOk result (λ next. Leads (ContextsDue set entries.items contexts.items) text.now (progress_behind next)) }
-    ensures refused { IfErr result (λ kind. IsOutOfMemory kind ⊎ IsLineFault (ContextsDue set entries.items contexts.items) text.now kind) }
+    ensures read { IfOk result (λ next. Leads version
+        (ContextsExpected set entries.items contexts.items) text.now (progress_after next)) }
+    ensures refused { IfErr result (λ kind. IsOutOfMemory kind
+        ⊎ IsLineFault version (ContextsExpected set entries.items contexts.items) text.now kind) }
 {
-    let _lawful = set.len();
+    let _valid = set.len();
     let context = read_context(alloc, &set, contexts.len() as u32, text)?;
     if contexts.push(context).is_err() {
         return Err(TextKind::OutOfMemory);
     }
-    Ok(Reached::Due(Stage::ContextsDue {
+    Ok(Reached::Expected(Stage::ContextsExpected {
         set,
         entries,
         contexts,
@@ -212,15 +234,18 @@ fn list_context(
 
 /// The whole schedule, at its last line.
 fn end(
+    version: u64,
     set: TaskSet,
     entries: Vec<Entry>,
     contexts: Vec<Context>,
     text: &[u8],
 ) -> Result<Reached, TextKind>
-    requires front { IsFront (ContextsDue set entries.items contexts.items) }
+    requires prefix { IsPrefix (ContextsExpected set entries.items contexts.items) }
     requires one_each { length contexts.items ≡ length set.tasks }
-    ensures read { IfOk result (λ next. Leads (ContextsDue set entries.items contexts.items) text.now (progress_behind next)) }
-    ensures refused { IfErr result (IsLineFault (ContextsDue set entries.items contexts.items) text.now) }
+    ensures read { IfOk result (λ next. Leads version
+        (ContextsExpected set entries.items contexts.items) text.now (progress_after next)) }
+    ensures refused { IfErr result (IsLineFault version
+        (ContextsExpected set entries.items contexts.items) text.now) }
 {
     if is_word(text, "end") {
         Ok(Reached::End(Schedule::new(set, entries, contexts)))

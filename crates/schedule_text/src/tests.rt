@@ -1,6 +1,6 @@
 //! The words and the punctuation of a schedule text, spelled out by hand.
 ghost use Rattle.std.specs.Prelude.{◌<◌, length, All, IsTrue};
-ghost use Rattle.trace_reader.specs.EventText.{IsAboutSet};
+ghost use Rattle.text_fields.specs.EventText.{IsAboutSet};
 ghost use Rattle.schedule_text.specs.ScheduleText.{IsReplyOf, IsEntryOf};
 
 use crate::{TextFault, TextKind, read_schedule, write_schedule};
@@ -36,6 +36,7 @@ c units 18446744073709551615 stints 2 moves 1 last 63 trail 6364136223846793647\
 w1 units 10 stints 0 moves 3 last - trail 641\n\
 end\n";
 
+/// Whether the task of an event is of the set.
 fn is_known_event(set: &TaskSet, event: Event) -> bool
     ensures { IsTrue result → IsAboutSet set.now event }
 {
@@ -45,6 +46,7 @@ fn is_known_event(set: &TaskSet, event: Event) -> bool
     }
 }
 
+/// Whether the tasks that a reply names are of the set.
 fn is_known_reply(set: &TaskSet, reply: &Reply) -> bool
     ensures { IsTrue result → IsReplyOf set.now reply.now }
 {
@@ -58,6 +60,7 @@ fn is_known_reply(set: &TaskSet, reply: &Reply) -> bool
     }
 }
 
+/// Whether the tasks that entries name are of the set.
 fn are_known(set: &TaskSet, entries: &[Entry]) -> bool
     ensures { IsTrue result → All (IsEntryOf set.now) entries.now }
 {
@@ -69,6 +72,7 @@ fn are_known(set: &TaskSet, entries: &[Entry]) -> bool
     true
 }
 
+/// Whether each context is of a task of the set.
 fn have_tasks(set: &TaskSet, contexts: &[Context]) -> bool
     ensures { IsTrue result → All (λ c. c.task < length set.now.tasks) contexts.now }
 {
@@ -80,6 +84,7 @@ fn have_tasks(set: &TaskSet, contexts: &[Context]) -> bool
     true
 }
 
+/// A set of these processors.
 fn set_of(rt: &impl Abort, processors: &[u8]) -> ProcSet {
     let mut set = ProcSet::empty();
     for &p in processors {
@@ -89,6 +94,7 @@ fn set_of(rt: &impl Abort, processors: &[u8]) -> ProcSet {
     set
 }
 
+/// A chain of these processors.
 fn chain_of(rt: &impl Abort, processors: &[u8]) -> Chain {
     let mut chain = Chain::new();
     for &p in processors {
@@ -98,12 +104,14 @@ fn chain_of(rt: &impl Abort, processors: &[u8]) -> Chain {
     chain
 }
 
+/// A reply that a task was placed.
 fn placed(rt: &impl Abort, processors: &[u8]) -> Reply {
     Reply::Placed {
         chain: chain_of(rt, processors),
     }
 }
 
+/// A reply that a task was displaced.
 fn displaced(rt: &impl Abort, processors: &[u8], out: u32, reach: &[u8]) -> Reply {
     Reply::Displaced {
         chain: chain_of(rt, processors),
@@ -112,12 +120,14 @@ fn displaced(rt: &impl Abort, processors: &[u8], out: u32, reach: &[u8]) -> Repl
     }
 }
 
+/// A reply that a task waits.
 fn waits(rt: &impl Abort, reach: &[u8]) -> Reply {
     Reply::Waits {
         reach: set_of(rt, reach),
     }
 }
 
+/// A reply that a processor was freed.
 fn freed(rt: &impl Abort, processors: &[u8], entered: Option<u32>, back: &[u8]) -> Reply {
     Reply::Freed {
         entered,
@@ -126,6 +136,7 @@ fn freed(rt: &impl Abort, processors: &[u8], entered: Option<u32>, back: &[u8]) 
     }
 }
 
+/// An entry of these parts.
 fn entry(caller: u32, event: Event, reply: Reply) -> Entry {
     Entry {
         caller,
@@ -134,7 +145,7 @@ fn entry(caller: u32, event: Event, reply: Reply) -> Entry {
     }
 }
 
-// The text of a schedule is this one.
+/// The text of a schedule is this one.
 fn expect_text(
     rt: &impl Abort,
     alloc: Global,
@@ -210,7 +221,7 @@ fn each_reply(rt: HostRuntime) -> Result<(), Fail> {
     expect_text(&rt, rt.alloc(), &set, &entries, &contexts, EACH_REPLY)
 }
 
-/// Texts, each with the first line that has a fault, and its kind. Each begins with a front of the smallest schedule.
+/// Texts, each with the first line that has a fault, and its kind. Each begins with a prefix of the smallest schedule.
 const FIRST_FAULTS: [(&[u8], u64, TextKind); 30] = [
     (b"", 1, TextKind::Short),
     (b"schedule 1", 1, TextKind::Short),
@@ -358,7 +369,7 @@ c units 18446744073709551615 stints 2 moves 1 last 63 trail 6364136223846793647\
 w1 units 10 stints 0 moves 3 last - trail 641\n\
 end\n";
 
-// What is read from a text is written as this text.
+/// What is read from a text is written as this text.
 fn expect_round_trip(rt: &impl Abort, alloc: Global, text: &str) -> Result<(), Fail> {
     let schedule = read_schedule(alloc, text.as_bytes()).expect(rt, "a schedule");
     let (set, entries, contexts) = (schedule.set(), schedule.entries(), schedule.contexts());

@@ -2,7 +2,7 @@
 ghost use Rattle.std.specs.Prelude.{◌≡◌, ◌<◌, ◌++◌, length, codes, All, IfOk, OnOk, IfSome};
 ghost use Rattle.std.specs.List.{flat_map};
 ghost use Rattle.affinity_mask.specs.Number.{canonical_number};
-ghost use Rattle.trace_reader.specs.EventText.{name_of, line};
+ghost use Rattle.text_fields.specs.LineText.{line};
 ghost use Rattle.link_table.specs.declared.reply.Reply.TheVariants.{Displaced, Freed};
 ghost use Rattle.schedule_text.specs.ScheduleText.{
   chain_text,
@@ -18,14 +18,16 @@ ghost use Rattle.schedule_text.specs.ScheduleText.{
 };
 
 use affinity_mask::{OutOfMemory, ProcSet};
-use itoa::Buffer;
 use link_table::{Chain, Entry, Reply};
 use std::alloc::Global;
 use task_set::{Context, TaskSet};
-use trace_reader::write::{write_event_text, write_processors_line, write_task_lines};
+use text_fields::limits::VERSION;
+use text_fields::{
+    write_event_text, write_name, write_number, write_processors_line, write_task_lines,
+};
 
 /// The text of a schedule: a task set, the entries of a history, and the contexts of the tasks. The tasks that they
-/// name are of the set. Refused only for want of memory.
+/// name are of the set. Refused only when out of memory.
 pub fn write_schedule(
     alloc: Global,
     set: &TaskSet,
@@ -36,20 +38,23 @@ pub fn write_schedule(
     requires contexts { All (λ c. c.task < length set.now.tasks) contexts.now }
     ensures { IfOk result (λ text. text.items ≡ schedule_text set.now entries.now contexts.now) }
 {
-    let mut text = Vec::from_slice(alloc, b"schedule 1\n")?;
+    let mut text = Vec::new(alloc);
+    write_numbered_line(&mut text, b"schedule ", VERSION)?;
     write_processors_line(&mut text, set)?;
     write_task_lines(&mut text, set)?;
-    write_count_line(&mut text, b"history ", entries.len())?;
+    write_numbered_line(&mut text, b"history ", entries.len() as u64)?;
     write_entries(&mut text, set, entries)?;
-    write_count_line(&mut text, b"contexts ", contexts.len())?;
+    write_numbered_line(&mut text, b"contexts ", contexts.len() as u64)?;
     write_contexts(&mut text, set, contexts)?;
     text.extend_from_slice(b"end\n")?;
     Ok(text)
 }
 
+/// Appends the lines of entries.
 fn write_entries(text: &mut Vec<u8>, set: &TaskSet, entries: &[Entry]) -> Result<(), OutOfMemory>
     requires { All (IsEntryOf set.now) entries.now }
-    ensures { OnOk result (text.new.items ≡ text.old.items ++ flat_map (entry_line set.now) entries.now) }
+    ensures { OnOk result (text.new.items ≡ text.old.items
+        ++ flat_map (entry_line set.now) entries.now) }
 {
     for entry in entries {
         write_entry(text, set, entry)?;
@@ -57,6 +62,7 @@ fn write_entries(text: &mut Vec<u8>, set: &TaskSet, entries: &[Entry]) -> Result
     Ok(())
 }
 
+/// Appends the line of an entry: its stream, its event and its reply.
 fn write_entry(text: &mut Vec<u8>, set: &TaskSet, entry: &Entry) -> Result<(), OutOfMemory>
     requires { IsEntryOf set.now entry.now }
     ensures { OnOk result (text.new.items ≡ text.old.items ++ entry_line set.now entry.now) }
@@ -70,6 +76,7 @@ fn write_entry(text: &mut Vec<u8>, set: &TaskSet, entry: &Entry) -> Result<(), O
     Ok(())
 }
 
+/// Appends a reply.
 #[tactic(auto, unfolding(crate::specs::ScheduleText::reply_text))]
 fn write_reply(text: &mut Vec<u8>, set: &TaskSet, reply: &Reply) -> Result<(), OutOfMemory>
     requires { IsReplyOf set.now reply.now }
@@ -91,13 +98,16 @@ fn write_reply(text: &mut Vec<u8>, set: &TaskSet, reply: &Reply) -> Result<(), O
     }
 }
 
+/// Appends the reply that a task was placed along a chain.
 fn write_placed(text: &mut Vec<u8>, chain: &Chain) -> Result<(), OutOfMemory>
-    ensures { OnOk result (text.new.items ≡ text.old.items ++ (codes "placed " ++ chain_text chain.now)) }
+    ensures { OnOk result (text.new.items ≡ text.old.items
+        ++ (codes "placed " ++ chain_text chain.now)) }
 {
     write_word(text, b"placed ")?;
     write_chain(text, chain)
 }
 
+/// Appends the reply that a task was displaced at the end of a chain, with what the arriving task reaches.
 fn write_displaced(
     text: &mut Vec<u8>,
     set: &TaskSet,
@@ -106,7 +116,8 @@ fn write_displaced(
     reach: &ProcSet,
 ) -> Result<(), OutOfMemory>
     requires { out < length set.now.tasks }
-    ensures { OnOk result (text.new.items ≡ text.old.items ++ reply_text set.now (Displaced chain.now out reach.now)) }
+    ensures { OnOk result (text.new.items ≡ text.old.items
+        ++ reply_text set.now (Displaced chain.now out reach.now)) }
 {
     write_word(text, b"displaced ")?;
     write_chain(text, chain)?;
@@ -116,13 +127,16 @@ fn write_displaced(
     write_set(text, reach)
 }
 
+/// Appends the reply that a task waits, with what it reaches.
 fn write_waits(text: &mut Vec<u8>, reach: &ProcSet) -> Result<(), OutOfMemory>
-    ensures { OnOk result (text.new.items ≡ text.old.items ++ (codes "waits " ++ set_text reach.now)) }
+    ensures { OnOk result (text.new.items ≡ text.old.items
+        ++ (codes "waits " ++ set_text reach.now)) }
 {
     write_word(text, b"waits ")?;
     write_set(text, reach)
 }
 
+/// Appends the reply that a processor was freed: the chain, who came in, and the processors from which it is reached.
 fn write_freed(
     text: &mut Vec<u8>,
     set: &TaskSet,
@@ -131,7 +145,8 @@ fn write_freed(
     back: &ProcSet,
 ) -> Result<(), OutOfMemory>
     requires { IfSome entered (λ t. t < length set.now.tasks) }
-    ensures { OnOk result (text.new.items ≡ text.old.items ++ reply_text set.now (Freed entered chain.now back.now)) }
+    ensures { OnOk result (text.new.items ≡ text.old.items
+        ++ reply_text set.now (Freed entered chain.now back.now)) }
 {
     write_word(text, b"freed ")?;
     write_chain(text, chain)?;
@@ -177,20 +192,15 @@ fn write_name_or_dash(text: &mut Vec<u8>, set: &TaskSet, t: Option<u32>) -> Resu
     }
 }
 
-fn write_name(text: &mut Vec<u8>, set: &TaskSet, t: u32) -> Result<(), OutOfMemory>
-    requires { t < length set.now.tasks }
-    ensures { OnOk result (text.new.items ≡ text.old.items ++ name_of set.now t) }
-{
-    write_word(text, set.name(t).as_bytes())
-}
-
+/// Appends the lines of contexts.
 fn write_contexts(
     text: &mut Vec<u8>,
     set: &TaskSet,
     contexts: &[Context],
 ) -> Result<(), OutOfMemory>
     requires { All (λ c. c.task < length set.now.tasks) contexts.now }
-    ensures { OnOk result (text.new.items ≡ text.old.items ++ flat_map (context_line set.now) contexts.now) }
+    ensures { OnOk result (text.new.items ≡ text.old.items
+        ++ flat_map (context_line set.now) contexts.now) }
 {
     for context in contexts {
         write_context(text, set, context)?;
@@ -198,7 +208,7 @@ fn write_contexts(
     Ok(())
 }
 
-/// Appends the line of a context, whose task is of the set. Refused only for want of memory.
+/// Appends the line of a context, whose task is of the set. Refused only when out of memory.
 pub(crate) fn write_context(
     text: &mut Vec<u8>,
     set: &TaskSet,
@@ -228,32 +238,29 @@ fn write_number_or_dash(text: &mut Vec<u8>, number: Option<u8>) -> Result<(), Ou
     }
 }
 
-/// Appends a line that says how many lines of a kind follow.
-fn write_count_line(text: &mut Vec<u8>, label: &[u8], count: usize) -> Result<(), OutOfMemory>
-    ensures { OnOk result (text.new.items ≡ text.old.items ++ line (label.now ++ canonical_number count)) }
+/// Appends a line of a label and a number: the version, or how many lines of a kind follow.
+fn write_numbered_line(text: &mut Vec<u8>, label: &[u8], number: u64) -> Result<(), OutOfMemory>
+    ensures { OnOk result
+        (text.new.items ≡ text.old.items ++ line (label.now ++ canonical_number number)) }
 {
-    write_labelled_number(text, label, count as u64)?;
+    write_labelled_number(text, label, number)?;
     text.push(b'\n')?;
     Ok(())
 }
 
+/// Appends a label and a number.
 fn write_labelled_number(text: &mut Vec<u8>, label: &[u8], number: u64) -> Result<(), OutOfMemory>
-    ensures { OnOk result (text.new.items ≡ text.old.items ++ (label.now ++ canonical_number number)) }
+    ensures { OnOk result (text.new.items ≡ text.old.items
+        ++ (label.now ++ canonical_number number)) }
 {
     write_word(text, label)?;
     write_number(text, number)
 }
 
+/// Appends some bytes.
 fn write_word(text: &mut Vec<u8>, word: &[u8]) -> Result<(), OutOfMemory>
     ensures { OnOk result (text.new.items ≡ text.old.items ++ word.now) }
 {
     text.extend_from_slice(word)?;
     Ok(())
-}
-
-fn write_number(text: &mut Vec<u8>, number: u64) -> Result<(), OutOfMemory>
-    ensures { OnOk result (text.new.items ≡ text.old.items ++ canonical_number number) }
-{
-    let mut buffer = Buffer::new();
-    write_word(text, buffer.format(number).as_bytes())
 }

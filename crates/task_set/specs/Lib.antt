@@ -1,5 +1,6 @@
 pub mod Name
 pub mod TaskSet
+pub mod Event
 pub mod Refusal
 pub mod SetView
 pub mod Orders

@@ -1,5 +1,5 @@
 -- Words, numbers, names and processor lists as fields of a line.
-use Rattle.std.proofs.Common.{◌≡◌, ◌≢◌, ℕ, zero, suc, ◌+◌, ◌*◌, ◌<◌, ◌≤◌, ◌^◌, Bool, true, false, ◌==◌, ◌&&◌, nat_lt, nat_le, ◌⊎◌, inl, inr, ⊎_elim, IsTrue, List, [], ◌∷◌, ◌++◌, length, map, All, get_or, refl, sym, ap, ◌∙◌, arith, eq-eqb, ne_eqb, length-append}
+use Rattle.std.proofs.Common.{◌≡◌, ◌≢◌, ℕ, zero, suc, ◌*◌, ◌<◌, ◌≤◌, ◌^◌, Bool, true, false, ◌&&◌, nat_lt, nat_le, inl, inr, ⊎_elim, IsTrue, List, [], ◌∷◌, length, map, All, ap, arith, eq-eqb, ne_eqb, length-append}
 use Rattle.std.specs.List.{list_all, zip, join_with_byte}
 use Rattle.std.specs.Str.Parse.{AllDigits}
 use Rattle.std.proofs.lemmas.Bool.{cases_eq, cases_Bool, ltb-true, leb-true}
@@ -12,38 +12,42 @@ use Rattle.affinity_mask.specs.ProcSet.{passing_below}
 use Rattle.affinity_mask.specs.ListText.{comma, dash, Item, IsItem, IsLawful, IsListText, begins_run, ends_run, run_text, runs, canonical_list}
 use Rattle.affinity_mask.proofs.Lists.{passing_more, passing_same}
 use Rattle.task_set.specs.Name.{IsName, begins_name, continues_name}
-use Rattle.trace_reader.specs.InputText.{IsNumberOf}
+use Rattle.text_fields.specs.Number.{IsNumberOf}
 use Rattle.trace_reader.specs.Lines.{is_skipped}
+use Rattle.text_fields.proofs.Words.{and_left, and_right}
 use Rattle.trace_reader.proofs.CanonicalFields.{IsVisible, IsField}
 
 -- ---- words
 
 -- whether a word can stand as a field
 abbrev pub is_word : List ℕ → Bool
-is_word word = nat_lt 0 (length word) && (nat_le (length word) 1023 && list_all (λ (byte : ℕ). nat_le 33 byte && nat_le byte 126) word)
+is_word word =
+    nat_lt 0 (length word) &&
+    (nat_le (length word) 1023 && list_all (λ (byte : ℕ). nat_le 33 byte && nat_le byte 126) word)
 
-and_left : (a b : Bool) → (a && b) ≡ true → a ≡ true
-and_left a b e = grind arith
-
-and_right : (a b : Bool) → (a && b) ≡ true → b ≡ true
-and_right a b e = grind arith
-
-word-visible : (word : List ℕ) → list_all (λ (byte : ℕ). nat_le 33 byte && nat_le byte 126) word ≡ true → All IsVisible word
+word-visible : (word : List ℕ) → list_all (λ (byte : ℕ). nat_le 33 byte && nat_le byte 126) word ≡ true
+    → All IsVisible word
 word-visible [] e = All-nil IsVisible
 word-visible (byte ∷ word) e =
     let here = and_left _ _ e in
-    All-cons IsVisible byte word (leb-true _ _ (and_left _ _ here), leb-true _ _ (and_right _ _ here)) (word-visible word (and_right _ _ e))
+    All-cons IsVisible byte word (leb-true _ _ (and_left _ _ here), leb-true _ _ (and_right _ _ here))
+    (word-visible word (and_right _ _ e))
 
 pub word-field : (word : List ℕ) → is_word word ≡ true → IsField word
 word-field word e =
     let rest = and_right _ _ e in
-    record { some = ltb-true _ _ (and_left _ _ e); short = leb-true _ _ (and_left _ _ rest); visible = word-visible word (and_right _ _ rest) }
+    record {
+      some = ltb-true _ _ (and_left _ _ e);
+      short = leb-true _ _ (and_left _ _ rest);
+      visible = word-visible word (and_right _ _ rest);
+    }
 
 -- ---- numbers
 
 digits-visible : (text : List ℕ) → AllDigits 10 text → All IsVisible text
 digits-visible text digits =
-    All-from_get_or IsVisible text 0 (λ i lt. let range = digit_at text i digits lt in (omega (arith, range.0), omega (arith, range.1)))
+    All-from_get_or IsVisible text 0
+    (λ i lt. let range = digit_at text i digits lt in (omega (arith, range.0), omega (arith, range.1)))
 
 pub number-value : (n : ℕ) → n < 2 ^ 64 → IsNumberOf (canonical_number n) n
 number-value n small = decimal_is_IsNumeral n small
@@ -85,14 +89,20 @@ name-field (first ∷ others) is_name = record {
 
 -- ---- processor lists
 
-passing-below : (test : ℕ → Bool) (n : ℕ) → All (λ (p : ℕ). p < n) (passing_below test n) × (length (passing_below test n) ≤ n)
+passing-below : (test : ℕ → Bool) (n : ℕ) → All (λ (p : ℕ). p < n) (passing_below test n)
+    × (length (passing_below test n) ≤ n)
 unfolding passing_below
 passing-below test zero = (All-nil (λ (p : ℕ). p < 0), omega arith)
 passing-below test (suc n) =
     let before = passing-below test n in
-    let all : All (λ (p : ℕ). p < suc n) (passing_below test n) = All-weaker (λ (p : ℕ). p < n) (λ (p : ℕ). p < suc n) (λ p lt. omega (arith, lt)) (passing_below test n) before.0 in
+    let all : All (λ (p : ℕ). p < suc n) (passing_below test n) = All-weaker (λ (p : ℕ). p < n)
+    (λ (p : ℕ). p < suc n) (λ p lt. omega (arith, lt)) (passing_below test n) before.0 in
     ⊎_elim
-    (λ (passes : test n ≡ true). rw (passing_more test n passes) (All-push (λ (p : ℕ). p < suc n) (passing_below test n) n all (omega arith), omega (arith, before.1, length-append (passing_below test n) (n ∷ []))))
+    (λ (passes : test n ≡ true). rw (passing_more test n passes) (
+      All-push (λ (p : ℕ). p < suc n) (passing_below test n) n all (omega arith),
+      omega
+          (arith, before.1, length-append (passing_below test n) (n ∷ [])),
+    ))
     (λ (fails : test n ≡ false). rw (passing_same test n fails) (all, omega (arith, before.1)))
     (cases_Bool (test n))
 
@@ -100,12 +110,19 @@ passing-below test (suc n) =
 abbrev IsOfProcessors : ℕ × ℕ → Type 0
 IsOfProcessors run = (run.0 < 64) × (run.1 < 64)
 
-zip-processors : (starts ends : List ℕ) → All (λ (p : ℕ). p < 64) starts → All (λ (p : ℕ). p < 64) ends → All IsOfProcessors (zip starts ends) × (length (zip starts ends) ≤ length starts)
+zip-processors : (starts ends : List ℕ) → All (λ (p : ℕ). p < 64) starts → All (λ (p : ℕ). p < 64) ends
+    → All IsOfProcessors (zip starts ends) × (length (zip starts ends) ≤ length starts)
 zip-processors [] ends first second = (All-nil IsOfProcessors, omega arith)
 zip-processors (start ∷ starts) [] first second = (All-nil IsOfProcessors, omega arith)
 zip-processors (start ∷ starts) (end ∷ ends) first second =
-    let rest = zip-processors starts ends (All-tail (λ (p : ℕ). p < 64) start starts first) (All-tail (λ (p : ℕ). p < 64) end ends second) in
-    let here : IsOfProcessors (start, end) = (All-head (λ (p : ℕ). p < 64) start starts first, All-head (λ (p : ℕ). p < 64) end ends second) in
+    let rest = zip-processors starts ends (All-tail (λ (p : ℕ). p < 64) start starts first)
+    (All-tail (λ (p : ℕ). p < 64) end ends second) in
+    let here : IsOfProcessors
+    (start, end) = (
+      All-head (λ (p : ℕ). p < 64) start starts first,
+      All-head (λ (p : ℕ). p < 64) end ends
+          second,
+    ) in
     (All-cons IsOfProcessors (start, end) (zip starts ends) here rest.0, omega (arith, rest.1))
 
 -- the text of a run has at most five bytes
@@ -125,11 +142,13 @@ run-text low high p q =
     (λ (e : low ≡ high). rw (eq-eqb low high e) (omega (arith, one.0), one.1))
     (λ (ne : low ≢ high). rw (ne_eqb low high ne) (
       omega (arith, one.0, two.0, length-append (canonical_number low) (dash ∷ canonical_number high)),
-      All-append IsVisible (canonical_number low) (dash ∷ canonical_number high) one.1 (All-cons IsVisible dash (canonical_number high) (omega arith, omega arith) two.1),
+      All-append IsVisible (canonical_number low) (dash ∷ canonical_number high) one.1
+          (All-cons IsVisible dash (canonical_number high) (omega arith, omega arith) two.1),
     ))
     (cases_eq low high)
 
-joined-items : (items : List (List ℕ)) → All IsShortItem items → (length (join_with_byte comma items) ≤ 6 * length items) × All IsVisible (join_with_byte comma items)
+joined-items : (items : List (List ℕ)) → All IsShortItem items
+    → (length (join_with_byte comma items) ≤ 6 * length items) × All IsVisible (join_with_byte comma items)
 joined-items [] all = (omega arith, All-nil IsVisible)
 joined-items (item ∷ []) all =
     let here = All-head IsShortItem item [] all in (omega (arith, here.0), here.1)
@@ -137,7 +156,8 @@ joined-items (item ∷ next ∷ items) all =
     let here = All-head IsShortItem item (next ∷ items) all in
     let rest = joined-items (next ∷ items) (All-tail IsShortItem item (next ∷ items) all) in (
       omega (arith, here.0, rest.0, length-append item (comma ∷ join_with_byte comma (next ∷ items))),
-      All-append IsVisible item (comma ∷ join_with_byte comma (next ∷ items)) here.1 (All-cons IsVisible comma (join_with_byte comma (next ∷ items)) (omega arith, omega arith) rest.1),
+      All-append IsVisible item (comma ∷ join_with_byte comma (next ∷ items)) here.1
+          (All-cons IsVisible comma (join_with_byte comma (next ∷ items)) (omega arith, omega arith) rest.1),
     )
 
 list-bytes : (X : ℕ) → (length (canonical_list X) ≤ 384) × All IsVisible (canonical_list X)
@@ -145,7 +165,9 @@ list-bytes X =
     let starts = passing-below (begins_run X) 64 in
     let ends = passing-below (ends_run X) 64 in
     let found = zip-processors (passing_below (begins_run X) 64) (passing_below (ends_run X) 64) starts.0 ends.0 in
-    let items : All IsShortItem (map run_text (runs X)) = All-map IsShortItem run_text (runs X) (All-weaker IsOfProcessors (λ (run : ℕ × ℕ). IsShortItem (run_text run)) (λ run h. run-text run.0 run.1 h.0 h.1) (runs X) found.0) in
+    let items : All IsShortItem (map run_text (runs X)) = All-map IsShortItem run_text (runs X)
+    (All-weaker IsOfProcessors (λ (run : ℕ × ℕ). IsShortItem (run_text run))
+    (λ run h. run-text run.0 run.1 h.0 h.1) (runs X) found.0) in
     let bytes = joined-items (map run_text (runs X)) items in
     (omega (arith, bytes.0, found.1, starts.1, length-map (runs X) run_text), bytes.1)
 
@@ -153,14 +175,17 @@ item-some : (text : List ℕ) (low high : ℕ) → IsItem text low high → 0 < 
 item-some text low high (inl number) = number.0.0
 item-some text low high (inr range) = omega (arith, ap length range.2, length-append range.0 (dash ∷ range.1))
 
-joined-some : (first : List ℕ) (more : List (List ℕ)) → 0 < length first → 0 < length (join_with_byte comma (first ∷ more))
+joined-some : (first : List ℕ) (more : List (List ℕ)) → 0 < length first
+    → 0 < length (join_with_byte comma (first ∷ more))
 joined-some first [] some = some
-joined-some first (second ∷ more) some = omega (arith, some, length-append first (comma ∷ join_with_byte comma (second ∷ more)))
+joined-some first (second ∷ more) some =
+    omega (arith, some, length-append first (comma ∷ join_with_byte comma (second ∷ more)))
 
 list-some : (text : List ℕ) (X : ℕ) → IsListText text X → 0 < length text
 list-some text X (first, more, list) =
     let item = All-head IsLawful first more list.lawful in
-    rw list.joined (joined-some first.text (map (λ (item : Item). item.text) more) (item-some first.text first.low first.high item.form))
+    rw list.joined (joined-some first.text (map (λ (item : Item). item.text) more)
+    (item-some first.text first.low first.high item.form))
 
 pub list-field : (X : ℕ) → IsListText (canonical_list X) X → IsField (canonical_list X)
 list-field X list =

@@ -9,17 +9,21 @@ use Rattle.trace_reader.specs.Lines.{fields_of, is_skipped, said_by}
 pub said_by-append : (before after : List (List ℕ)) → said_by (before ++ after) ≡ said_by before ++ said_by after
 said_by-append before after =
     let test = λ (fields : List (List ℕ)). not (is_skipped fields) in
-    ap (λ (all : List (List (List ℕ))). filter test all) (map-append fields_of before after) ∙ filter-append test (map fields_of before) (map fields_of after)
+    ap (λ (all : List (List (List ℕ))). filter test all) (map-append fields_of before after)
+    ∙ filter-append test (map fields_of before) (map fields_of after)
 
 -- a line that is not skipped says its fields, and a skipped one says nothing
-pub said_by-kept : (line : List ℕ) (after : List (List ℕ)) → is_skipped (fields_of line) ≡ false → said_by (line ∷ after) ≡ fields_of line ∷ said_by after
+pub said_by-kept : (line : List ℕ) (after : List (List ℕ)) → is_skipped (fields_of line) ≡ false
+    → said_by (line ∷ after) ≡ fields_of line ∷ said_by after
 said_by-kept line after kept = rw kept refl
 
-pub said_by-skipped : (line : List ℕ) (after : List (List ℕ)) → is_skipped (fields_of line) ≡ true → said_by (line ∷ after) ≡ said_by after
+pub said_by-skipped : (line : List ℕ) (after : List (List ℕ)) → is_skipped (fields_of line) ≡ true
+    → said_by (line ∷ after) ≡ said_by after
 said_by-skipped line after skipped = rw skipped refl
 
 -- what holds of each item holds of the one between two parts
-pub All-middle : {A : Type 0} (P : A → Type 0) (before after : List A) (item : A) → All P (before ++ item ∷ after) → P item
+pub All-middle : {A : Type 0} (P : A → Type 0) (before after : List A) (item : A)
+    → All P (before ++ item ∷ after) → P item
 All-middle P before after item each =
     let within : length before < length (before ++ item ∷ after) = omega (arith, length-append before (item ∷ after)) in
     rw (get_or_at before item after item (length before) refl) at (each (length before) item within)

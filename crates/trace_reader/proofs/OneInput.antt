@@ -7,121 +7,194 @@ use Rattle.trace_reader.specs.declared.posted.Posted.{Posted}
 use Rattle.trace_reader.specs.declared.fault.InputKind.{InputKind}
 use Rattle.trace_reader.specs.declared.fault.InputKind.TheVariants.{BadByte, LongLine}
 use Rattle.trace_reader.specs.Lines.{lines_of, fields_of, is_skipped, said_by, IsPlain, IsClean}
-use Rattle.trace_reader.specs.InputText.{IsInputText}
-use Rattle.trace_reader.specs.InputFault.{Progress, HeaderDue, Ended, IsFront, IsFieldsFault, IsLineFault, IsFirstFault}
+use Rattle.trace_reader.specs.InputText.{IsTextOf}
+use Rattle.trace_reader.specs.InputFault.{IsFieldsFault, IsLineFault, IsFirstFault, IsRefusedIn}
+use Rattle.trace_reader.specs.Progress.{Progress, HeaderExpected, Ended, Expects}
 use Rattle.trace_reader.specs.Reading.{Says}
 use Rattle.trace_reader.specs.Laws.{TextHasOneInput, TextHasOneFault, InputHasNoFault}
-use Rattle.trace_reader.proofs.Fronts.{front_more}
-use Rattle.trace_reader.proofs.Paths.{folds_parts, front_steps, steps_front}
-use Rattle.trace_reader.proofs.Steps.{IsLawfulDue, front_lawful, says_once}
+use Rattle.trace_reader.proofs.Expected.{expects_more}
+use Rattle.trace_reader.proofs.Paths.{expects_steps, steps_expect}
+use Rattle.text_fields.proofs.Folds.{folds_parts}
+use Rattle.trace_reader.proofs.Steps.{IsValidProgress, expects_valid, says_once}
 use Rattle.trace_reader.proofs.Faults.{says_no_fault, fault_once}
 use Rattle.trace_reader.proofs.LinesCut.{said_by-append, said_by-kept, All-middle, cut_cases}
 
--- ---- what is due
-steps_once : (front rest : List (List (List ℕ))) (due next other : Progress) → IsFront front due → FoldsTo Says due rest next → FoldsTo Says due rest other → next ≡ other
-steps_once front [] due next other before one two = sym one ∙ two
-steps_once front (fields ∷ rest) due next other before one two =
-    let same = says_once due fields two.0 one.0 (front_lawful front due before) two.1 one.1 in
-    steps_once (front ++ fields ∷ []) rest one.0 next other (front_more front fields due one.0 before one.1) one.2 (subst (λ (j : Progress). FoldsTo Says j rest other) same two.2)
+module _ (version : ℕ) where
+  -- ---- what is expected
+  steps_once : (said rest : List (List (List ℕ))) (expected next other : Progress)
+      → Expects version said expected → FoldsTo (Says version) expected rest next
+      → FoldsTo (Says version) expected rest other → next ≡ other
+  steps_once said [] expected next other before one two = sym one ∙ two
+  steps_once said (fields ∷ rest) expected next other before one two =
+      let same = says_once version expected fields two.0 one.0 (expects_valid version said expected before) two.1 one.1 in
+      steps_once (said ++ fields ∷ []) rest one.0 next other
+      (expects_more version said fields expected one.0 before one.1) one.2
+      (subst (λ (j : Progress). FoldsTo (Says version) j rest other) same two.2)
 
--- after some lines one thing is due
-pub front_once : (said : List (List (List ℕ))) (due other : Progress) → IsFront said due → IsFront said other → due ≡ other
-front_once said due other one two = steps_once [] said HeaderDue due other refl (front_steps said due one) (front_steps said other two)
+  -- after some lines one thing is expected
+  pub expects_once : (said : List (List (List ℕ))) (expected other : Progress) → Expects version said expected
+      → Expects version said other → expected ≡ other
+  expects_once said expected other one two =
+      steps_once [] said HeaderExpected expected other refl (expects_steps version said expected one)
+      (expects_steps version said other two)
 
--- what is due after the first of some lines leads to what is due after all of them
-front_parts : (said rest : List (List (List ℕ))) (due last : Progress) → IsFront said due → IsFront (said ++ rest) last → FoldsTo Says due rest last
-front_parts said rest due last front whole =
-    let parts = folds_parts Says HeaderDue said rest last (front_steps (said ++ rest) last whole) in
-    let same = front_once said parts.0 due (steps_front [] said HeaderDue parts.0 refl parts.1) front in
-    subst (λ (j : Progress). FoldsTo Says j rest last) same parts.2
+  -- what is expected after the first of some lines leads to what is expected after all of them
+  expects_parts : (said rest : List (List (List ℕ))) (expected last : Progress) → Expects version said expected
+      → Expects version (said ++ rest) last → FoldsTo (Says version) expected rest last
+  expects_parts said rest expected last expects whole =
+      let parts = folds_parts (Says version) HeaderExpected said rest last
+      (expects_steps version (said ++ rest) last whole) in
+      let same = expects_once said parts.0 expected
+      (steps_expect version [] said HeaderExpected parts.0 refl parts.1) expects in
+      subst (λ (j : Progress). FoldsTo (Says version) j rest last) same parts.2
 
--- ---- the fault of a line
--- the three sorts of a line's fault
-abbrev IsSortedFault : Progress → List ℕ → InputKind → Type 0
-IsSortedFault due line kind =
-    ((kind ≡ BadByte) × (All IsPlain line → ⊥))
-    ⊎ (((kind ≡ LongLine) × All IsPlain line × (4096 < length line))
-    ⊎ (IsClean line × (is_skipped (fields_of line) ≡ false) × IsFieldsFault due (fields_of line) kind))
+  -- ---- the fault of a line
+  -- the three sorts of a line's fault
+  abbrev IsSortedFault : Progress → List ℕ → InputKind → Type 0
+  IsSortedFault expected line kind =
+      ((kind ≡ BadByte) × (All IsPlain line → ⊥))
+      ⊎ (((kind ≡ LongLine) × All IsPlain line × (4096 < length line))
+      ⊎ (IsClean line × (is_skipped (fields_of line) ≡ false) × IsFieldsFault version expected (fields_of line) kind))
 
-line_fault : (due : Progress) (line : List ℕ) (kind : InputKind) → IsLineFault due line kind → IsSortedFault due line kind
-line_fault due line BadByte fault = inl (refl, fault)
-line_fault due line LongLine fault = inr (inl (refl, fault.0, fault.1))
-line_fault due line kind fault = inr (inr fault)
+  line_fault : (expected : Progress) (line : List ℕ) (kind : InputKind) → IsLineFault version expected line kind
+      → IsSortedFault expected line kind
+  line_fault expected line BadByte fault = inl (refl, fault)
+  line_fault expected line LongLine fault = inr (inl (refl, fault.0, fault.1))
+  line_fault expected line kind fault = inr (inr fault)
 
-sorted_once : (due : Progress) (line : List ℕ) (kind other : InputKind) → IsLawfulDue due → IsSortedFault due line kind → IsSortedFault due line other → kind ≡ other
-sorted_once due line kind other lawful (inl one) (inl two) = one.0 ∙ sym two.0
-sorted_once due line kind other lawful (inl one) (inr (inl two)) = absurd (one.1 two.1)
-sorted_once due line kind other lawful (inl one) (inr (inr two)) = absurd (one.1 two.0.0)
-sorted_once due line kind other lawful (inr (inl one)) (inl two) = absurd (two.1 one.1)
-sorted_once due line kind other lawful (inr (inl one)) (inr (inl two)) = one.0 ∙ sym two.0
-sorted_once due line kind other lawful (inr (inl one)) (inr (inr two)) = let long : 4096 < length line = one.2 in let short : length line ≤ 4096 = two.0.1 in absurd (omega arith)
-sorted_once due line kind other lawful (inr (inr one)) (inl two) = absurd (two.1 one.0.0)
-sorted_once due line kind other lawful (inr (inr one)) (inr (inl two)) = let long : 4096 < length line = two.2 in let short : length line ≤ 4096 = one.0.1 in absurd (omega arith)
-sorted_once due line kind other lawful (inr (inr one)) (inr (inr two)) = fault_once due (fields_of line) kind other lawful one.2 two.2
+  sorted_once : (expected : Progress) (line : List ℕ) (kind other : InputKind) → IsValidProgress expected
+      → IsSortedFault expected line kind → IsSortedFault expected line other → kind ≡ other
+  sorted_once expected line kind other valid (inl one) (inl two) = one.0 ∙ sym two.0
+  sorted_once expected line kind other valid (inl one) (inr (inl two)) = absurd (one.1 two.1)
+  sorted_once expected line kind other valid (inl one) (inr (inr two)) = absurd (one.1 two.0.0)
+  sorted_once expected line kind other valid (inr (inl one)) (inl two) = absurd (two.1 one.1)
+  sorted_once expected line kind other valid (inr (inl one)) (inr (inl two)) = one.0 ∙ sym two.0
+  sorted_once expected line kind other valid (inr (inl one)) (inr (inr two)) =
+      let long : 4096 < length line = one.2 in
+      let short : length line ≤ 4096 = two.0.1 in
+      absurd (omega arith)
+  sorted_once expected line kind other valid (inr (inr one)) (inl two) = absurd (two.1 one.0.0)
+  sorted_once expected line kind other valid (inr (inr one)) (inr (inl two)) =
+      let long : 4096 < length line = two.2 in
+      let short : length line ≤ 4096 = one.0.1 in
+      absurd (omega arith)
+  sorted_once expected line kind other valid (inr (inr one)) (inr (inr two)) =
+      fault_once version expected (fields_of line) kind other valid one.2 two.2
 
--- a line has one fault
-pub line_fault_once : (due : Progress) (line : List ℕ) (kind other : InputKind) → IsLawfulDue due → IsLineFault due line kind → IsLineFault due line other → kind ≡ other
-line_fault_once due line kind other lawful one two = sorted_once due line kind other lawful (line_fault due line kind one) (line_fault due line other two)
+  -- a line has one fault
+  pub line_fault_once : (expected : Progress) (line : List ℕ) (kind other : InputKind)
+      → IsValidProgress expected → IsLineFault version expected line kind
+      → IsLineFault version expected line other → kind ≡ other
+  line_fault_once expected line kind other valid one two =
+      sorted_once expected line kind other valid (line_fault expected line kind one)
+      (line_fault expected line other two)
 
--- a line among lines without fault has none
-pub no_fault_inside : (before after : List (List ℕ)) (line : List ℕ) (due last : Progress) (kind : InputKind) → All IsClean (before ++ line ∷ after) → IsFront (said_by (before ++ line ∷ after)) last
-    → IsFront (said_by before) due → IsLineFault due line kind → ⊥
-no_fault_inside before after line due last kind clean whole front fault = by (line_fault due line kind fault)
-  where
-    itself : IsClean line
-    itself = All-middle IsClean before after line clean
+  -- a line among lines without fault has none
+  pub no_fault_inside : (before after : List (List ℕ)) (line : List ℕ) (expected last : Progress)
+      (kind : InputKind) → All IsClean (before ++ line ∷ after)
+      → Expects version (said_by (before ++ line ∷ after)) last
+      → Expects version (said_by before) expected → IsLineFault version expected line kind → ⊥
+  no_fault_inside before after line expected last kind clean whole expects fault =
+      by (line_fault expected line kind fault)
+    where
+      itself : IsClean line
+      itself = All-middle IsClean before after line clean
 
-    by : IsSortedFault due line kind → ⊥
-    by (inl bad) = bad.1 itself.0
-    by (inr (inl long)) = let many : 4096 < length line = long.2 in let few : length line ≤ 4096 = itself.1 in omega arith
-    by (inr (inr found)) =
-        let parts = said_by-append before (line ∷ after) ∙ ap (λ (rest : List (List (List ℕ))). said_by before ++ rest) (said_by-kept line after found.1) in
-        let steps = front_parts (said_by before) (fields_of line ∷ said_by after) due last front (subst (λ (said : List (List (List ℕ))). IsFront said last) parts whole) in
-        says_no_fault due (fields_of line) steps.0 kind steps.1 found.2
+      by : IsSortedFault expected line kind → ⊥
+      by (inl bad) = bad.1 itself.0
+      by (inr (inl long)) =
+          let many : 4096 < length line = long.2 in
+          let few : length line ≤ 4096 = itself.1 in
+          omega arith
+      by (inr (inr found)) =
+          let parts = said_by-append before (line ∷ after)
+          ∙ ap (λ (rest : List (List (List ℕ))). said_by before ++ rest) (said_by-kept line after found.1) in
+          let steps = expects_parts (said_by before) (fields_of line ∷ said_by after) expected last expects
+          (subst (λ (said : List (List (List ℕ))). Expects version said last) parts whole) in
+          says_no_fault version expected (fields_of line) steps.0 kind steps.1 found.2
 
--- ---- one input, one fault, never both
-input_front : (bytes : List ℕ) (set : SetData) (events : List Posted) → IsInputText bytes set events → IsFront (said_by (lines_of bytes)) (Ended set events)
-input_front bytes set events input = (input.body, input.order, input.says)
+  -- ---- one input, one fault, never both
+  input_expects : (bytes : List ℕ) (set : SetData) (events : List Posted) → IsTextOf version bytes set events
+      → Expects version (said_by (lines_of bytes)) (Ended set events)
+  input_expects bytes set events input = (input.body, input.order, input.says)
+
+  one_input : (bytes : List ℕ) (set other : SetData) (events others : List Posted) → IsTextOf version bytes set events
+      → IsTextOf version bytes other others → (set ≡ other) × (events ≡ others)
+  one_input bytes set other events others one two =
+      let same = expects_once (said_by (lines_of bytes)) (Ended set events) (Ended other others)
+      (input_expects bytes set events one) (input_expects bytes other others two) in
+      (cc, cc)
+
+  -- lines that have no fault have no first one
+  no_first_fault : (bytes : List ℕ) (number : ℕ) (kind : InputKind) (last : Progress)
+      → All IsClean (lines_of bytes) → Expects version (said_by (lines_of bytes)) last
+      → IsFirstFault version bytes number kind → ⊥
+  no_first_fault bytes number kind last clean whole fault =
+      no_fault_inside fault.before fault.after fault.line fault.expected last kind
+      (subst (λ (lines : List (List ℕ)). All IsClean lines) fault.order clean)
+      (subst (λ (lines : List (List ℕ)). Expects version (said_by lines) last) fault.order whole) fault.expects
+      fault.fault
+
+  no_fault : (bytes : List ℕ) (set : SetData) (events : List Posted) (number : ℕ) (kind : InputKind)
+      → IsTextOf version bytes set events → IsRefusedIn version bytes number kind → ⊥
+  no_fault bytes set events number kind input (inl fault) =
+      no_first_fault bytes number kind (Ended set events) input.clean (input_expects bytes set events input)
+      fault
+  no_fault bytes set events number kind input (inr endless) =
+      let none = endless.0 in
+      none.unended set events (expects_once (said_by (lines_of bytes)) none.expected (Ended set events)
+      none.expects (input_expects bytes set events input))
+
+  -- a fault at a line where lines without fault go on
+  not_before : (before more : List (List ℕ)) (line : List ℕ) (others : List (List ℕ)) (expected last : Progress)
+      (kind : InputKind) → others ≡ before ++ line ∷ more → All IsClean others
+      → Expects version (said_by others) last
+      → Expects version (said_by before) expected → IsLineFault version expected line kind → ⊥
+  not_before before more line others expected last kind cut clean whole expects fault =
+      no_fault_inside before more line expected last kind
+      (subst (λ (lines : List (List ℕ)). All IsClean lines) cut clean)
+      (subst (λ (lines : List (List ℕ)). Expects version (said_by lines) last) cut whole) expects fault
+
+  first_fault_once : (bytes : List ℕ) (number other : ℕ) (kind another : InputKind)
+      → IsFirstFault version bytes number kind → IsFirstFault version bytes other another → (number ≡ other)
+      × (kind ≡ another)
+  first_fault_once bytes number other kind another one two =
+      elim (cut_cases one.before two.before one.after two.after one.line two.line (sym one.order ∙ two.order)) [
+        | inl same ↦ (
+            let both_expect = subst (λ (lines : List (List ℕ)). Expects version (said_by lines) one.expected) same.0
+            one.expects in
+            let dues = expects_once (said_by two.before) one.expected two.expected both_expect two.expects in
+            let valid = expects_valid version (said_by two.before) two.expected two.expects in
+            let here = subst (λ (expected : Progress). IsLineFault version expected one.line kind) dues one.fault in
+            let there = subst (λ (line : List ℕ). IsLineFault version two.expected line another) (sym same.1) two.fault in (
+              one.place ∙ ap (λ (lines : List (List ℕ)). length lines + 1) same.0
+                  ∙ sym two.place,
+              line_fault_once two.expected one.line kind another valid here there,
+            ))
+        | inr (inl later) ↦ absurd
+            (not_before one.before later.0 one.line two.before one.expected two.expected kind later.1 two.clean
+            two.expects one.expects one.fault)
+        | inr (inr sooner) ↦ absurd
+            (not_before two.before sooner.0 two.line one.before two.expected one.expected another sooner.1 one.clean
+            one.expects two.expects two.fault)
+      ]
+
+  one_fault : (bytes : List ℕ) (number other : ℕ) (kind another : InputKind) → IsRefusedIn version bytes number kind
+      → IsRefusedIn version bytes other another → (number ≡ other) × (kind ≡ another)
+  one_fault bytes number other kind another (inl one) (inl two) = first_fault_once bytes number other kind another one two
+  one_fault bytes number other kind another (inl one) (inr two) =
+      absurd (no_first_fault bytes number kind two.0.expected two.0.clean two.0.expects one)
+  one_fault bytes number other kind another (inr one) (inl two) =
+      absurd (no_first_fault bytes other another one.0.expected one.0.clean one.0.expects two)
+  one_fault bytes number other kind another (inr one) (inr two) = (one.0.place ∙ sym two.0.place, one.1 ∙ sym two.1)
+
+-- ---- the laws, of version 1
 
 pub text_has_one_input : TextHasOneInput
-text_has_one_input bytes set other events others one two =
-    let same = front_once (said_by (lines_of bytes)) (Ended set events) (Ended other others) (input_front bytes set events one) (input_front bytes other others two) in
-    (cc, cc)
-
--- lines that have no fault have no first one
-no_first_fault : (bytes : List ℕ) (number : ℕ) (kind : InputKind) (last : Progress) → All IsClean (lines_of bytes) → IsFront (said_by (lines_of bytes)) last → IsFirstFault bytes number kind → ⊥
-no_first_fault bytes number kind last clean whole fault =
-    no_fault_inside fault.before fault.after fault.line fault.due last kind
-    (subst (λ (lines : List (List ℕ)). All IsClean lines) fault.order clean)
-    (subst (λ (lines : List (List ℕ)). IsFront (said_by lines) last) fault.order whole) fault.front fault.fault
+text_has_one_input bytes set other events others one two = one_input 1 bytes set other events others one two
 
 pub input_has_no_fault : InputHasNoFault
-input_has_no_fault bytes set events number kind input (inl fault) = no_first_fault bytes number kind (Ended set events) input.clean (input_front bytes set events input) fault
-input_has_no_fault bytes set events number kind input (inr endless) =
-    let none = endless.0 in
-    none.unended set events (front_once (said_by (lines_of bytes)) none.due (Ended set events) none.front (input_front bytes set events input))
-
--- a fault at a line where lines without fault go on
-not_before : (before more : List (List ℕ)) (line : List ℕ) (others : List (List ℕ)) (due last : Progress) (kind : InputKind) → others ≡ before ++ line ∷ more → All IsClean others → IsFront (said_by others) last
-    → IsFront (said_by before) due → IsLineFault due line kind → ⊥
-not_before before more line others due last kind cut clean whole front fault =
-    no_fault_inside before more line due last kind (subst (λ (lines : List (List ℕ)). All IsClean lines) cut clean) (subst (λ (lines : List (List ℕ)). IsFront (said_by lines) last) cut whole) front fault
-
-first_fault_once : (bytes : List ℕ) (number other : ℕ) (kind another : InputKind) → IsFirstFault bytes number kind → IsFirstFault bytes other another → (number ≡ other) × (kind ≡ another)
-first_fault_once bytes number other kind another one two = elim (cut_cases one.before two.before one.after two.after one.line two.line (sym one.order ∙ two.order)) [
-  | inl same ↦ (
-      let fronts = subst (λ (lines : List (List ℕ)). IsFront (said_by lines) one.due) same.0 one.front in
-      let dues = front_once (said_by two.before) one.due two.due fronts two.front in
-      let lawful = front_lawful (said_by two.before) two.due two.front in
-      let here = subst (λ (due : Progress). IsLineFault due one.line kind) dues one.fault in
-      let there = subst (λ (line : List ℕ). IsLineFault two.due line another) (sym same.1) two.fault in
-      (one.place ∙ ap (λ (lines : List (List ℕ)). length lines + 1) same.0 ∙ sym two.place, line_fault_once two.due one.line kind another lawful here there))
-  | inr (inl later) ↦ absurd (not_before one.before later.0 one.line two.before one.due two.due kind later.1 two.clean two.front one.front one.fault)
-  | inr (inr sooner) ↦ absurd (not_before two.before sooner.0 two.line one.before two.due one.due another sooner.1 one.clean one.front two.front two.fault)
-]
+input_has_no_fault bytes set events number kind input fault = no_fault 1 bytes set events number kind input fault
 
 pub text_has_one_fault : TextHasOneFault
-text_has_one_fault bytes number other kind another (inl one) (inl two) = first_fault_once bytes number other kind another one two
-text_has_one_fault bytes number other kind another (inl one) (inr two) = absurd (no_first_fault bytes number kind two.0.due two.0.clean two.0.front one)
-text_has_one_fault bytes number other kind another (inr one) (inl two) = absurd (no_first_fault bytes other another one.0.due one.0.clean one.0.front two)
-text_has_one_fault bytes number other kind another (inr one) (inr two) = (one.0.place ∙ sym two.0.place, one.1 ∙ sym two.1)
+text_has_one_fault bytes number other kind another one two = one_fault 1 bytes number other kind another one two

@@ -1,101 +1,102 @@
--- Lines without fault, one step after another: each leads from what is due before it to what is due next.
-use Rattle.std.proofs.Common.{◌≡◌, ℕ, ◌+◌, ◌<◌, ◌≤◌, List, [], ◌∷◌, ◌++◌, length, refl, sym, ap, ◌∙◌, subst, inl, inr, arith, append_assoc, append-nil, length-append}
-use Rattle.std.specs.Prelude.{All}
+-- Lines without fault, one step after another: each leads from what is expected before it to what is expected next.
+use Rattle.std.proofs.Common.{ℕ, ◌≤◌, List, [], ◌∷◌, ◌++◌, length, refl, sym, ap, subst, inl, inr, arith, append_assoc, append-nil, length-append}
 use Rattle.std.specs.List.{AllZip, FoldsTo}
-use Rattle.std.proofs.lemmas.List.{get_or_append_left, get_or_at}
-use Rattle.task_set.specs.TaskSet.{TaskData, SetData, IsTaskSet, Differ}
-use Rattle.task_set.specs.Refusal.{CanAdd}
+use Rattle.task_set.specs.TaskSet.{TaskData, SetData, IsTaskSet}
 use Rattle.trace_reader.specs.declared.posted.Posted.{Posted}
 use Rattle.trace_reader.specs.InputText.{IsTaskLine, IsEventLine, IsBody, end_line}
-use Rattle.trace_reader.specs.InputFault.{Progress, HeaderDue, ProcessorsDue, Listed, Ended, IsFront}
+use Rattle.trace_reader.specs.Progress.{Progress, HeaderExpected, ProcessorsExpected, Listed, Ended, Expects}
 use Rattle.trace_reader.specs.Reading.{Says}
-use Rattle.trace_reader.proofs.Fronts.{front_more}
+use Rattle.text_fields.proofs.Folds.{folds_append}
+use Rattle.text_fields.proofs.Addable.{can_add_next}
+use Rattle.trace_reader.proofs.Expected.{expects_more}
 
--- ---- steps of any relation
-module _ {P A : Type 0} (R : P → A → P → Type 0) where
-  -- the steps over some items, and then those over more
-  pub folds_append : (p : P) (xs ys : List A) (q r : P) → FoldsTo R p xs q → FoldsTo R q ys r → FoldsTo R p (xs ++ ys) r
-  folds_append p [] ys q r same rest = subst (λ (j : P). FoldsTo R j ys r) (sym same) rest
-  folds_append p (x ∷ xs) ys q r steps rest = (steps.0, steps.1, folds_append steps.0 xs ys q r steps.2 rest)
+module _ (version : ℕ) where
+  -- ---- the steps of the lines
 
-  -- where the steps over a front of the items lead
-  pub folds_parts : (p : P) (xs ys : List A) (r : P) → FoldsTo R p (xs ++ ys) r → (q : P) × FoldsTo R p xs q × FoldsTo R q ys r
-  folds_parts p [] ys r steps = (p, refl, steps)
-  folds_parts p (x ∷ xs) ys r steps = let more = folds_parts steps.0 xs ys r steps.2 in (more.0, (steps.0, steps.1, more.1), more.2)
+  -- the lines of tasks add them
+  task_steps : (m : ℕ) (before tasks : List TaskData) (lines : List (List (List ℕ)))
+      → AllZip IsTaskLine lines tasks → IsTaskSet (record { processors = m; tasks = before ++ tasks })
+      → FoldsTo (Says version) (Listed (record { processors = m; tasks = before }) []) lines
+      (Listed (record { processors = m; tasks = before ++ tasks }) [])
+  task_steps m before [] [] each valid =
+      ap (λ (tasks : List TaskData). Listed (record { processors = m; tasks = tasks }) [])
+      (sym (append-nil before))
+  task_steps m before [] (line ∷ lines) each valid = absurd each
+  task_steps m before (task ∷ tasks) [] each valid = absurd each
+  task_steps m before (task ∷ tasks) (line ∷ lines) each valid =
+      let regroup = append_assoc before (task ∷ []) tasks in
+      let more = task_steps m (before ++ task ∷ []) tasks lines each.1 (rw regroup valid) in (
+        Listed (record { processors = m; tasks = before ++ task ∷ [] }) [],
+        inl (
+          refl,
+          refl,
+          record {
+            task = task;
+            line = each.0;
+            added = can_add_next m before tasks task valid;
+            last = refl;
+          },
+        ),
+        rw regroup at more,
+      )
 
--- ---- the steps of the lines
+  -- the lines of events append them
+  event_steps : (set : SetData) (before events : List Posted) (lines : List (List (List ℕ)))
+      → AllZip (IsEventLine set) lines events → length (before ++ events) ≤ 20000
+      → FoldsTo (Says version) (Listed set before) lines (Listed set (before ++ events))
+  event_steps set before [] [] each few = ap (λ (events : List Posted). Listed set events) (sym (append-nil before))
+  event_steps set before [] (line ∷ lines) each few = absurd each
+  event_steps set before (posted ∷ events) [] each few = absurd each
+  event_steps set before (posted ∷ events) (line ∷ lines) each few =
+      let regroup = append_assoc before (posted ∷ []) events in
+      let more = event_steps set (before ++ posted ∷ []) events lines each.1 (rw regroup few) in (
+        Listed set (before ++ posted ∷ []),
+        inr (
+          refl,
+          record {
+            posted = posted;
+            line = each.0;
+            room = omega
+                (arith, length-append before (posted ∷ events));
+            last = refl;
+          },
+        ),
+        rw regroup at more,
+      )
 
--- a task of a lawful set can be added to those before it
-can_add_next : (m : ℕ) (before rest : List TaskData) (task : TaskData) → IsTaskSet (record { processors = m; tasks = before ++ task ∷ rest }) → CanAdd (record { processors = m; tasks = before }) task
-can_add_next m before rest task lawful =
-    let long : length (before ++ task ∷ rest) ≡ length before + (length rest + 1) = omega (arith, length-append before (task ∷ rest)) in
-    let within : length before < length (before ++ task ∷ rest) = omega arith in
-    let count = lawful.count in
-    let here = get_or_at before task rest task (length before) refl in
-    let differs : All (λ (other : TaskData). Differ other task) before =
-    λ k d below. rw (get_or_append_left before (task ∷ rest) d k below, get_or_at before task rest d (length before) refl) at (lawful.differ k (length before) d below within) in
-    record {
-      name = rw here at (lawful.names (length before) task within);
-      room = omega arith;
-      new_name = λ k d below. (differs k d below).names;
-      new_priority = λ k d below. (differs k d below).priorities;
-      mask = rw here at (lawful.masks (length before) task within);
-    }
+  -- a body leads to its tasks and events
+  body_steps : (said : List (List (List ℕ))) (set : SetData) (events : List Posted)
+      → IsBody version said set events → FoldsTo (Says version) HeaderExpected said (Listed set events)
+  body_steps said set events body =
+      let tasks = task_steps set.processors [] set.tasks body.task_lines body.each_task body.valid in
+      let more = event_steps set [] events body.event_lines body.each_event body.few in
+      rw body.order (
+        ProcessorsExpected,
+        body.is_header,
+        (
+          Listed (record { processors = set.processors; tasks = [] }) [],
+          (body.is_processors, refl, refl),
+          folds_append (Says version) (Listed (record { processors = set.processors; tasks = [] }) [])
+              body.task_lines body.event_lines (Listed set []) (Listed set events) tasks more,
+        ),
+      )
 
--- the lines of tasks add them
-task_steps : (m : ℕ) (before tasks : List TaskData) (lines : List (List (List ℕ))) → AllZip IsTaskLine lines tasks → IsTaskSet (record { processors = m; tasks = before ++ tasks })
-    → FoldsTo Says (Listed (record { processors = m; tasks = before }) []) lines (Listed (record { processors = m; tasks = before ++ tasks }) [])
-task_steps m before [] [] each lawful = ap (λ (tasks : List TaskData). Listed (record { processors = m; tasks = tasks }) []) (sym (append-nil before))
-task_steps m before [] (line ∷ lines) each lawful = absurd each
-task_steps m before (task ∷ tasks) [] each lawful = absurd each
-task_steps m before (task ∷ tasks) (line ∷ lines) each lawful =
-    let regroup = append_assoc before (task ∷ []) tasks in
-    let more = task_steps m (before ++ task ∷ []) tasks lines each.1 (rw regroup lawful) in (
-      Listed (record { processors = m; tasks = before ++ task ∷ [] }) [],
-      inl (refl, refl, record { task = task; line = each.0; added = can_add_next m before tasks task lawful; last = refl }),
-      rw regroup at more,
-    )
+  -- lines without fault lead from the header to what is expected
+  pub expects_steps : (said : List (List (List ℕ))) (expected : Progress) → Expects version said expected
+      → FoldsTo (Says version) HeaderExpected said expected
+  expects_steps said HeaderExpected expects = rw expects refl
+  expects_steps said ProcessorsExpected expects = rw expects.1 (ProcessorsExpected, expects.2, refl)
+  expects_steps said (Listed set events) expects = body_steps said set events expects
+  expects_steps said (Ended set events) expects = rw expects.1
+      (folds_append (Says version) HeaderExpected expects.0 (end_line ∷ []) (Listed set events)
+      (Ended set events) (body_steps expects.0 set events expects.2)
+      (Ended set events, (refl, refl, refl), refl))
 
--- the lines of events append them
-event_steps : (set : SetData) (before events : List Posted) (lines : List (List (List ℕ))) → AllZip (IsEventLine set) lines events → length (before ++ events) ≤ 20000
-    → FoldsTo Says (Listed set before) lines (Listed set (before ++ events))
-event_steps set before [] [] each few = ap (λ (events : List Posted). Listed set events) (sym (append-nil before))
-event_steps set before [] (line ∷ lines) each few = absurd each
-event_steps set before (posted ∷ events) [] each few = absurd each
-event_steps set before (posted ∷ events) (line ∷ lines) each few =
-    let regroup = append_assoc before (posted ∷ []) events in
-    let more = event_steps set (before ++ posted ∷ []) events lines each.1 (rw regroup few) in (
-      Listed set (before ++ posted ∷ []),
-      inr (refl, record { posted = posted; line = each.0; room = omega (arith, length-append before (posted ∷ events)); last = refl }),
-      rw regroup at more,
-    )
-
--- a body leads to its tasks and events
-body_steps : (said : List (List (List ℕ))) (set : SetData) (events : List Posted) → IsBody said set events → FoldsTo Says HeaderDue said (Listed set events)
-body_steps said set events body =
-    let tasks = task_steps set.processors [] set.tasks body.task_lines body.each_task body.lawful in
-    let more = event_steps set [] events body.event_lines body.each_event body.few in
-    rw body.order (
-      ProcessorsDue,
-      body.is_header,
-      (
-        Listed (record { processors = set.processors; tasks = [] }) [],
-        (body.is_processors, refl, refl),
-        folds_append Says (Listed (record { processors = set.processors; tasks = [] }) []) body.task_lines body.event_lines (Listed set []) (Listed set events) tasks more,
-      ),
-    )
-
--- lines without fault lead from the header to what is due
-pub front_steps : (said : List (List (List ℕ))) (due : Progress) → IsFront said due → FoldsTo Says HeaderDue said due
-front_steps said HeaderDue front = rw front refl
-front_steps said ProcessorsDue front = rw front.1 (ProcessorsDue, front.2, refl)
-front_steps said (Listed set events) front = body_steps said set events front
-front_steps said (Ended set events) front = rw front.1
-    (folds_append Says HeaderDue front.0 (end_line ∷ []) (Listed set events) (Ended set events) (body_steps front.0 set events front.2) (Ended set events, (refl, refl, refl), refl))
-
--- and what leads from the header is without fault
-pub steps_front : (front rest : List (List (List ℕ))) (due next : Progress) → IsFront front due → FoldsTo Says due rest next → IsFront (front ++ rest) next
-steps_front front [] due next before same = rw append-nil (subst (IsFront front) same before)
-steps_front front (fields ∷ rest) due next before steps =
-    let one = front_more front fields due steps.0 before steps.1 in
-    rw append_assoc at (steps_front (front ++ fields ∷ []) rest steps.0 next one steps.2)
+  -- and what leads from the header is without fault
+  pub steps_expect : (said rest : List (List (List ℕ))) (expected next : Progress)
+      → Expects version said expected → FoldsTo (Says version) expected rest next
+      → Expects version (said ++ rest) next
+  steps_expect said [] expected next before same = rw append-nil (subst (Expects version said) same before)
+  steps_expect said (fields ∷ rest) expected next before steps =
+      let one = expects_more version said fields expected steps.0 before steps.1 in
+      rw append_assoc at (steps_expect (said ++ fields ∷ []) rest steps.0 next one steps.2)

@@ -1,9 +1,9 @@
--- Inputs. What a reader must believe: an input is a task set and a list of events, each on a stream; there are at most
+-- Inputs. An input is a task set and a list of events, each on a stream; there are at most
 -- 20,000 events, their streams are below 16, their tasks are of the set, and a tick has from 1 to 1,000,000 units.
-use Rattle.std.specs.Prelude.{ℕ, ◌<◌, ◌≤◌, List, length, All}
+use Rattle.std.specs.Prelude.{◌<◌, ◌≤◌, List, length, All}
 use Rattle.task_set.specs.TaskSet.{SetData, IsTaskSet}
 use Rattle.task_set.specs.declared.event.Event.{Event}
-use Rattle.task_set.specs.declared.event.Event.TheVariants.{Arrive, Depart, Tick}
+use Rattle.task_set.specs.Event.{IsOfTasks, HasUnits}
 use Rattle.trace_reader.specs.declared.posted.Posted.{Posted}
 use Rattle.trace_reader.specs.declared.input.Input.TheInside.{Inside}
 
@@ -12,11 +12,9 @@ pub record InputData : Type 0 where
   pub set : SetData
   pub events : List Posted
 
--- the event is of a task of the set, or a tick of so many units
+-- the event is of a task of the set, or a tick, of so many units
 abbrev pub IsEventOf : SetData → Event → Type 0
-IsEventOf set (Arrive t) = t < length set.tasks
-IsEventOf set (Depart t) = t < length set.tasks
-IsEventOf set (Tick units) = (1 ≤ units) × (units ≤ 1000000)
+IsEventOf set event = IsOfTasks (length set.tasks) event × HasUnits event
 
 -- the stream is one of the 16, and the event is of the set
 pub record IsPostedOf (set : SetData) (posted : Posted) : Type 0 where
@@ -25,7 +23,7 @@ pub record IsPostedOf (set : SetData) (posted : Posted) : Type 0 where
 
 -- what holds of each input
 pub record IsInput (input : InputData) : Type 0 where
-  pub lawful : IsTaskSet input.set
+  pub valid : IsTaskSet input.set
   pub few : length input.events ≤ 20000
   pub each_event : All (IsPostedOf input.set) input.events
 

@@ -1,8 +1,9 @@
 pub mod CanonicalText
-pub mod EventText
 pub mod Input
 pub mod InputFault
 pub mod InputText
 pub mod Laws
+pub mod LineForms
 pub mod Lines
+pub mod Progress
 pub mod Reading

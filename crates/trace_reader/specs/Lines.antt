@@ -1,7 +1,7 @@
--- Lines and fields. What a reader must believe: a text is cut into lines at its line feeds, and what follows the last
+-- Lines and fields. A text is cut into lines at its line feeds, and what follows the last
 -- line feed is a line only where it has bytes; a line is cut into fields by blanks, which are spaces and tabs; a line is
 -- skipped where it has no field, or where its first field begins with '#'.
-use Rattle.std.specs.Prelude.{ℕ, ◌<◌, ◌≤◌, ◌⊎◌, ◌≡◌, Bool, true, false, not, ◌==◌, ◌||◌, List, [], ◌∷◌, length, map, filter, All, if◌then◌else◌}
+use Rattle.std.specs.Prelude.{ℕ, ◌≤◌, ◌⊎◌, ◌≡◌, Bool, true, false, not, ◌==◌, ◌||◌, List, [], ◌∷◌, length, map, filter, All, if◌then◌else◌}
 use Rattle.std.specs.List.{slice_split, onto_first}
 
 -- the byte is a line feed
@@ -11,7 +11,8 @@ is_line_feed byte = byte == 10
 -- the lines of a text: a line feed ends a line, and what no line feed ends is a line where it has bytes
 abbrev pub lines_of : List ℕ → List (List ℕ)
 lines_of [] = []
-lines_of (byte ∷ rest) = if is_line_feed byte then [] ∷ lines_of rest else onto_first byte (lines_of rest)
+lines_of (byte ∷ rest) =
+    if is_line_feed byte then [] ∷ lines_of rest else onto_first byte (lines_of rest)
 
 -- the byte is a space or a tab
 abbrev pub is_blank : ℕ → Bool

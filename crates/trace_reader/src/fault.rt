@@ -1,4 +1,4 @@
-//! Why a text is no input.
+//! Why a text is not an input.
 ghost use Rattle.std.specs.Prelude.{◌≡◌};
 ghost use Rattle.trace_reader.specs.InputFault.{kind_number};
 
@@ -6,7 +6,7 @@ use affinity_mask::MaskFault;
 use task_set::TaskFault;
 
 /// The first line that has a fault, from 1, and the kind of its fault. A text without `end` is refused at the line
-/// behind its last one. For want of memory the line means nothing.
+/// after its last one. Out of memory, the line means nothing.
 #[derive(Clone, Copy, Debug, PartialEq, Eq)]
 pub struct InputFault {
     pub line: u64,
@@ -22,10 +22,10 @@ pub enum InputKind {
     /// The line has more than 4,096 bytes.
     LongLine,
 
-    /// The header is due, and this is none.
+    /// The header is expected, and the line is not one.
     BadHeader,
 
-    /// The number of processors is due, and this is no such line.
+    /// The number of processors is expected, and the line does not say it.
     BadProcessors,
 
     /// A task line has not four fields, or its third is no number below 2 to the power of 32.
@@ -34,10 +34,10 @@ pub enum InputKind {
     /// The fourth field of a task line is no processor list.
     BadMask(MaskFault),
 
-    /// The task of a task line cannot be added. It is never refused for want of memory here.
+    /// The task of a task line cannot be added. The cause is never out of memory here.
     TaskRefused(TaskFault),
 
-    /// The line is none of those that are due: a task before the first event, an event, or the end.
+    /// The line is none of those that are expected: a task before the first event, an event, or the end.
     BadEvent,
 
     /// The event is of a task that there is not.
@@ -46,7 +46,7 @@ pub enum InputKind {
     /// There are 20,000 events before this one.
     ManyEvents,
 
-    /// The line stands behind the end.
+    /// The line stands after the end.
     AfterEnd,
 
     /// All lines were read, and the end did not come.
@@ -57,7 +57,7 @@ pub enum InputKind {
 }
 
 impl InputKind {
-    /// The number of the kind, from 1. Want of memory has none.
+    /// The number of the kind, from 1. Out of memory has none.
     pub fn number(&self) -> Option<u8>
         ensures { result ≡ kind_number self.now }
     {

@@ -1,12 +1,13 @@
 //! Lines, and the fields of a line.
 ghost use Rattle.std.specs.Prelude.{◌≡◌, ◌≢◌, ℕ, ◌<◌, ◌≤◌, ◌↔◌, ◌⊎◌, IsTrue, All, List, [], ◌∷◌, ◌++◌, length, IfOk, map, MatchOption, not};
 ghost use Rattle.trace_reader.specs.Lines.{lines_of, fields_of, is_blank, is_skipped, IsPlain};
-ghost use Rattle.trace_reader.specs.Reading.{texts, IsFirstLine};
+ghost use Rattle.trace_reader.specs.Reading.{IsFirstLine};
+ghost use Rattle.text_fields.specs.Fields.{texts};
 
 use affinity_mask::OutOfMemory;
 use std::alloc::Global;
 
-/// The first line of some bytes, and what stands behind it.
+/// The first line of some bytes, and what stands after it.
 pub fn first_line(bytes: &[u8]) -> (&[u8], &[u8])
     ensures { IsFirstLine bytes.now result.0.now result.1.now }
 {

@@ -4,21 +4,7 @@ ghost use Rattle.std.specs.Prelude.{◌≡◌, ◌≤◌, All, length};
 use crate::posted::Posted;
 use std::marker::Model;
 use task_set::TaskSet;
-
-/// The greatest number of events of an input.
-pub const MAX_EVENTS: usize = 20_000;
-
-/// The greatest number of processors.
-pub const MAX_PROCESSORS: u64 = 64;
-
-/// The greatest priority of a task.
-pub const MAX_PRIORITY: u64 = 4_294_967_295;
-
-/// The greatest number of a stream.
-pub const MAX_STREAM: u64 = 15;
-
-/// The most units of time that a tick has.
-pub const MAX_UNITS: u64 = 1_000_000;
+pub use text_fields::limits::{MAX_EVENTS, MAX_PRIORITY, MAX_PROCESSORS, MAX_STREAM, MAX_UNITS};
 
 /// The tasks, and the events in the order of their lines.
 #[derive(Drop)]
@@ -47,7 +33,7 @@ impl Input {
         requires events { All (IsPostedOf set) events.items }
         ensures { result ≡ record { set = set; events = events.items } }
     {
-        let _lawful = set.len();
+        let _valid = set.len();
         Input { set, events }
     }
 

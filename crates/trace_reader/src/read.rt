@@ -1,47 +1,50 @@
 //! The reader of a whole text.
-ghost use Rattle.std.specs.Prelude.{◌≡◌, ◌≢◌, ℕ, ◌<◌, ◌⊎◌, List, IfOk, IfErr, MatchOption, MatchResult};
+ghost use Rattle.std.specs.Prelude.{◌≡◌, ℕ, ◌<◌, ◌⊎◌, List, IfOk, IfErr, MatchResult};
 ghost use Rattle.task_set.specs.TaskSet.{SetData};
 ghost use Rattle.trace_reader.specs.declared.posted.Posted.{Posted};
 ghost use Rattle.trace_reader.specs.declared.fault.InputKind.{InputKind};
 ghost use Rattle.trace_reader.specs.InputText.{IsInputText};
 ghost use Rattle.trace_reader.specs.InputFault.{IsInputRefused};
-ghost use Rattle.trace_reader.specs.Reading.{IsOutOfMemory};
+ghost use Rattle.trace_reader.specs.Reading.{IsOutOfMemory, IsAnswerTo};
 
 use crate::fault::{InputFault, InputKind};
 use crate::fields::first_line;
 use crate::input::Input;
 use crate::stage::Stage;
 use std::alloc::Global;
+use text_fields::limits::VERSION;
 
-/// The input of a text, or the first line that has a fault, with its kind. Want of memory may come in place of either.
+/// The input of a text, or the first line that has a fault, with its kind. `OutOfMemory` may come in place of either.
 pub fn read_input(alloc: Global, bytes: &[u8]) -> Result<Input, InputFault>
     ensures input { IfOk result (λ input. IsInputText bytes.now input.set input.events) }
-    ensures refused { IfErr result (λ fault. IsOutOfMemory fault.kind ⊎ IsInputRefused bytes.now fault.line fault.kind) }
+    ensures refused { IfErr result (λ fault. IsOutOfMemory fault.kind
+        ⊎ IsInputRefused bytes.now fault.line fault.kind) }
 
-    // Only want of memory comes in place of the answer that is due.
+    // Only `OutOfMemory` comes in place of the expected answer.
     ensures accepts { (set : SetData) (events : List Posted) → IsInputText bytes.now set events
-        → MatchResult result (λ input. (input.set ≡ set) × (input.events ≡ events)) (λ fault. IsOutOfMemory fault.kind) }
+        → MatchResult result (λ input. (input.set ≡ set) × (input.events ≡ events))
+        (λ fault. IsOutOfMemory fault.kind) }
     ensures refuses { (line : ℕ) (kind : InputKind) → IsInputRefused bytes.now line kind
-        → MatchResult result (λ input. ⊥) (λ fault. IsOutOfMemory fault.kind ⊎ ((fault.line ≡ line) × (fault.kind ≡ kind))) }
+        → MatchResult result (λ input. ⊥)
+        (λ fault. IsOutOfMemory fault.kind ⊎ ((fault.line ≡ line) × (fault.kind ≡ kind))) }
 {
-    read_lines(alloc, bytes)
+    read_lines(alloc, VERSION, bytes)
 }
 
-/// Reads line by line, front to back.
-fn read_lines(alloc: Global, bytes: &[u8]) -> Result<Input, InputFault>
-    ensures input { IfOk result (λ input. IsInputText bytes.now input.set input.events) }
-    ensures refused { IfErr result (λ fault. IsOutOfMemory fault.kind ⊎ IsInputRefused bytes.now fault.line fault.kind) }
+/// Reads a text of this version line by line, from the first to the last.
+fn read_lines(alloc: Global, version: u64, bytes: &[u8]) -> Result<Input, InputFault>
+    ensures { IsAnswerTo version bytes.now result }
 {
-    let mut stage = Stage::HeaderDue;
+    let mut stage = Stage::HeaderExpected;
     let mut rest = bytes;
     let mut line = 1;
     while !rest.is_empty() {
-        let (text, behind) = first_line(rest);
-        stage = match stage.after_line(alloc, text) {
+        let (text, after) = first_line(rest);
+        stage = match stage.after_line(alloc, version, text) {
             Ok(next) => next,
             Err(kind) => return Err(InputFault { line, kind }),
         };
-        rest = behind;
+        rest = after;
         line += 1;
     }
     match stage.into_input() {

@@ -1,36 +1,40 @@
-//! What was read so far, and what is due.
-ghost use Rattle.std.specs.Prelude.{◌≡◌, ◌≢◌, ℕ, ◌<◌, ◌≤◌, ◌↔◌, ◌⊎◌, IsTrue, List, [], ◌∷◌, length, IfOk, IfErr, OnOk, IfSome, IfNone, MatchOption, MatchBool, codes, string_bytes};
+//! What was read so far, and what is expected.
+ghost use Rattle.std.specs.Prelude.{◌≡◌, ◌≢◌, ℕ, ◌<◌, ◌≤◌, ◌↔◌, ◌⊎◌, IsTrue, List, [], ◌∷◌, length, IfOk, IfErr, OnOk, MatchOption, MatchBool};
 ghost use Rattle.task_set.specs.TaskSet.{SetData};
 ghost use Rattle.task_set.specs.Refusal.{IsNameOf, IsNewName};
 ghost use Rattle.trace_reader.specs.declared.posted.Posted.{Posted};
 ghost use Rattle.trace_reader.specs.declared.fault.InputKind.TheVariants.{UnknownTask};
+ghost use Rattle.text_fields.specs.Number.{IsNumberOf};
 ghost use Rattle.trace_reader.specs.InputText.{IsHeader, IsProcessorsLine, IsEventFields, IsEventLine, end_line};
-ghost use Rattle.trace_reader.specs.InputFault.{IsFieldsFault, IsLineFault, BeginsTask, IsForTask, IsFront, Progress, HeaderDue, ProcessorsDue, Listed, Ended};
-ghost use Rattle.trace_reader.specs.Reading.{texts, progress_of, Says, SaysLine, SaysTask, IsOutOfMemory, IsEventFault, IsChangeFault};
+ghost use Rattle.trace_reader.specs.InputFault.{IsFieldsFault, IsLineFault};
+ghost use Rattle.trace_reader.specs.LineForms.{BeginsTask, IsForTask};
+ghost use Rattle.trace_reader.specs.Progress.{Expects, HeaderExpected, ProcessorsExpected, Listed, Ended};
+ghost use Rattle.trace_reader.specs.Reading.{progress_of, Says, SaysLine, SaysTask, IsOutOfMemory, IsEventFault, IsChangeFault};
+ghost use Rattle.text_fields.specs.Fields.{texts};
 
 use crate::fault::InputKind;
 use crate::fields::{fields, is_comment, is_plain};
 use crate::input::{Input, MAX_EVENTS, MAX_PRIORITY, MAX_PROCESSORS, MAX_STREAM, MAX_UNITS};
-use crate::number::read_number;
 use crate::posted::Posted;
 use affinity_mask::ProcSet;
 use std::alloc::Global;
 use std::str;
 use task_set::{Event, TaskFault, TaskSet};
+use text_fields::{is_word, read_number, task_of};
 
 /// The most bytes of a line, without its line feed.
 const MAX_LINE: usize = 4096;
 
-/// What some lines said, and so what is due behind them.
+/// What some lines said, and so what is expected after them.
 #[derive(Drop)]
 pub enum Stage {
-    /// The header is due.
-    HeaderDue,
+    /// The header is expected.
+    HeaderExpected,
 
-    /// The number of processors is due.
-    ProcessorsDue,
+    /// The number of processors is expected.
+    ProcessorsExpected,
 
-    /// Tasks, then events, then the end are due.
+    /// Tasks, then events, then the end are expected.
     Listed { set: TaskSet, events: Vec<Posted> },
 
     /// The end came.
@@ -38,11 +42,13 @@ pub enum Stage {
 }
 
 impl Stage {
-    /// What is due behind one more line.
-    pub fn after_line(self, alloc: Global, line: &[u8]) -> Result<Stage, InputKind>
-        requires { (said : List (List (List ℕ))) × IsFront said (progress_of self) }
-        ensures read { IfOk result (λ next. SaysLine (progress_of self) line.now (progress_of next)) }
-        ensures refused { IfErr result (λ kind. IsOutOfMemory kind ⊎ IsLineFault (progress_of self) line.now kind) }
+    /// What is expected after one more line.
+    pub fn after_line(self, alloc: Global, version: u64, line: &[u8]) -> Result<Stage, InputKind>
+        requires { (said : List (List (List ℕ))) × Expects version said (progress_of self) }
+        ensures read { IfOk result (λ next. SaysLine version (progress_of self) line.now
+            (progress_of next)) }
+        ensures refused { IfErr result (λ kind. IsOutOfMemory kind
+            ⊎ IsLineFault version (progress_of self) line.now kind) }
     {
         if !is_plain(line) {
             return Err(InputKind::BadByte);
@@ -54,14 +60,16 @@ impl Stage {
         if is_comment(&fields) {
             Ok(self)
         } else {
-            self.after(alloc, &fields)
+            self.after(alloc, version, &fields)
         }
     }
 
     /// The input, if the end came.
     pub fn into_input(self) -> Option<Input>
-        requires { (said : List (List (List ℕ))) × IsFront said (progress_of self) }
-        ensures { MatchOption result ((set : SetData) (events : List Posted) → progress_of self ≢ Ended set events)
+        requires { (version : ℕ) × (said : List (List (List ℕ)))
+            × Expects version said (progress_of self) }
+        ensures { MatchOption result
+            ((set : SetData) (events : List Posted) → progress_of self ≢ Ended set events)
             (λ input. progress_of self ≡ Ended input.set input.events) }
     {
         match self {
@@ -70,44 +78,49 @@ impl Stage {
         }
     }
 
-    /// What is due behind a line that is not skipped, by its fields.
-    fn after(self, alloc: Global, fields: &[&[u8]]) -> Result<Stage, InputKind>
-        requires { (said : List (List (List ℕ))) × IsFront said (progress_of self) }
-        ensures read { IfOk result (λ next. Says (progress_of self) (texts fields.now) (progress_of next)) }
-        ensures refused { IfErr result (λ kind. IsOutOfMemory kind ⊎ IsFieldsFault (progress_of self) (texts fields.now) kind) }
+    /// What is expected after a line that is not skipped, by its fields.
+    fn after(self, alloc: Global, version: u64, fields: &[&[u8]]) -> Result<Stage, InputKind>
+        requires { (said : List (List (List ℕ))) × Expects version said (progress_of self) }
+        ensures read { IfOk result (λ next. Says version (progress_of self) (texts fields.now)
+            (progress_of next)) }
+        ensures refused { IfErr result (λ kind. IsOutOfMemory kind
+            ⊎ IsFieldsFault version (progress_of self) (texts fields.now) kind) }
     {
         match self {
-            Stage::HeaderDue => read_header(fields),
-            Stage::ProcessorsDue => start(alloc, fields),
-            Stage::Listed { set, events } => read_listed(set, events, fields),
+            Stage::HeaderExpected => read_header(version, fields),
+            Stage::ProcessorsExpected => start(alloc, version, fields),
+            Stage::Listed { set, events } => read_listed(version, set, events, fields),
             Stage::Ended { .. } => Err(InputKind::AfterEnd),
         }
     }
 }
 
-/// Whether a field is this word.
-fn is_word(field: &[u8], word: &str) -> bool
-    ensures { IsTrue result ↔ (field.now ≡ word.now) }
-{
-    field == word.as_bytes()
-}
-
 /// Reads the header.
-fn read_header(fields: &[&[u8]]) -> Result<Stage, InputKind>
-    ensures read { IfOk result (λ next. (progress_of next ≡ ProcessorsDue) × IsHeader (texts fields.now)) }
-    ensures refused { IfErr result (IsFieldsFault HeaderDue (texts fields.now)) }
+fn read_header(version: u64, fields: &[&[u8]]) -> Result<Stage, InputKind>
+    ensures read { IfOk result (λ next. (progress_of next ≡ ProcessorsExpected)
+        × IsHeader version (texts fields.now)) }
+    ensures refused { IfErr result (IsFieldsFault version HeaderExpected (texts fields.now)) }
 {
     match fields {
-        [word, version] if is_word(word, "apa") && read_number(version, 1, 1).is_some() => {
-            Ok(Stage::ProcessorsDue)
+        [word, number] if is_word(word, "apa") && is_version(number, version) => {
+            Ok(Stage::ProcessorsExpected)
         }
         _ => Err(InputKind::BadHeader),
     }
 }
 
+/// Whether a field is the number of this version.
+fn is_version(number: &[u8], version: u64) -> bool
+    ensures { IsTrue result ↔ IsNumberOf number.now version }
+{
+    read_number(number, version, version).is_some()
+}
+
 /// How many processors a line says that there are, from 1 to 64.
 fn read_processors(fields: &[&[u8]]) -> Option<u8>
-    ensures { MatchOption result ((m : ℕ) → IsProcessorsLine m (texts fields.now) → ⊥) (λ m. IsProcessorsLine m (texts fields.now)) }
+    ensures { MatchOption result
+        ((m : ℕ) → IsProcessorsLine m (texts fields.now) → ⊥)
+        (λ m. IsProcessorsLine m (texts fields.now)) }
 {
     match fields {
         [word, count] if is_word(word, "processors") => {
@@ -119,9 +132,11 @@ fn read_processors(fields: &[&[u8]]) -> Option<u8>
 }
 
 /// Nothing is listed yet, on as many processors as a line says.
-fn start(alloc: Global, fields: &[&[u8]]) -> Result<Stage, InputKind>
-    ensures read { IfOk result (λ next. Says ProcessorsDue (texts fields.now) (progress_of next)) }
-    ensures refused { IfErr result (λ kind. IsOutOfMemory kind ⊎ IsFieldsFault ProcessorsDue (texts fields.now) kind) }
+fn start(alloc: Global, version: u64, fields: &[&[u8]]) -> Result<Stage, InputKind>
+    ensures read { IfOk result (λ next. Says version ProcessorsExpected (texts fields.now)
+        (progress_of next)) }
+    ensures refused { IfErr result (λ kind. IsOutOfMemory kind
+        ⊎ IsFieldsFault version ProcessorsExpected (texts fields.now) kind) }
 {
     let Some(processors) = read_processors(fields) else {
         return Err(InputKind::BadProcessors);
@@ -131,45 +146,68 @@ fn start(alloc: Global, fields: &[&[u8]]) -> Result<Stage, InputKind>
     Ok(Stage::Listed { set, events })
 }
 
-/// Reads a task, an event or the end behind what was listed.
-fn read_listed(set: TaskSet, events: Vec<Posted>, fields: &[&[u8]]) -> Result<Stage, InputKind>
+/// Reads a task, an event or the end after what was listed.
+fn read_listed(
+    version: u64,
+    set: TaskSet,
+    events: Vec<Posted>,
+    fields: &[&[u8]],
+) -> Result<Stage, InputKind>
     requires { length events.items ≤ 20000 }
-    ensures read { IfOk result (λ next. Says (Listed set events.items) (texts fields.now) (progress_of next)) }
-    ensures refused { IfErr result (λ kind. IsOutOfMemory kind ⊎ IsFieldsFault (Listed set events.items) (texts fields.now) kind) }
+    ensures read { IfOk result (λ next. Says version (Listed set events.items) (texts fields.now)
+        (progress_of next)) }
+    ensures refused { IfErr result (λ kind. IsOutOfMemory kind
+        ⊎ IsFieldsFault version (Listed set events.items) (texts fields.now) kind) }
 {
     if is_end(fields) {
         Ok(Stage::Ended { set, events })
     } else if is_for_task(&events, fields) {
-        list_task(set, events, fields)
+        list_task(version, set, events, fields)
     } else {
-        list_event(set, events, fields)
+        list_event(version, set, events, fields)
     }
 }
 
 /// Whether tasks may still be listed, and the line is for one.
 fn is_for_task(events: &[Posted], fields: &[&[u8]]) -> bool
-    ensures { MatchBool result (IsForTask events.now (texts fields.now)) (IsForTask events.now (texts fields.now) → ⊥) }
+    ensures { MatchBool result
+        (IsForTask events.now (texts fields.now))
+        (IsForTask events.now (texts fields.now) → ⊥) }
 {
     events.is_empty() && begins_task(fields)
 }
 
 /// Lists the task of a line.
-fn list_task(mut set: TaskSet, events: Vec<Posted>, fields: &[&[u8]]) -> Result<Stage, InputKind>
+fn list_task(
+    version: u64,
+    mut set: TaskSet,
+    events: Vec<Posted>,
+    fields: &[&[u8]],
+) -> Result<Stage, InputKind>
     requires { IsForTask events.items (texts fields.now) }
-    ensures read { IfOk result (λ next. Says (Listed set events.items) (texts fields.now) (progress_of next)) }
-    ensures refused { IfErr result (λ kind. IsOutOfMemory kind ⊎ IsFieldsFault (Listed set events.items) (texts fields.now) kind) }
+    ensures read { IfOk result (λ next. Says version (Listed set events.items) (texts fields.now)
+        (progress_of next)) }
+    ensures refused { IfErr result (λ kind. IsOutOfMemory kind
+        ⊎ IsFieldsFault version (Listed set events.items) (texts fields.now) kind) }
 {
-    add_task(&mut set, fields)?;
+    add_task(version, &mut set, fields)?;
     Ok(Stage::Listed { set, events })
 }
 
 /// Lists the event of a line.
-fn list_event(set: TaskSet, mut events: Vec<Posted>, fields: &[&[u8]]) -> Result<Stage, InputKind>
+fn list_event(
+    version: u64,
+    set: TaskSet,
+    mut events: Vec<Posted>,
+    fields: &[&[u8]],
+) -> Result<Stage, InputKind>
     requires task { IsForTask events.items (texts fields.now) → ⊥ }
     requires end { texts fields.now ≢ end_line }
     requires few { length events.items ≤ 20000 }
-    ensures read { IfOk result (λ next. Says (Listed set events.items) (texts fields.now) (progress_of next)) }
-    ensures refused { IfErr result (λ kind. IsOutOfMemory kind ⊎ IsFieldsFault (Listed set events.items) (texts fields.now) kind) }
+    ensures read { IfOk result (λ next. Says version (Listed set events.items) (texts fields.now)
+        (progress_of next)) }
+    ensures refused { IfErr result (λ kind. IsOutOfMemory kind
+        ⊎ IsFieldsFault version (Listed set events.items) (texts fields.now) kind) }
 {
     let posted = read_event(&set, fields)?;
     if events.len() == MAX_EVENTS {
@@ -202,10 +240,11 @@ fn begins_task(fields: &[&[u8]]) -> bool
 }
 
 /// Adds the task of a line that begins with `task`.
-fn add_task(set: &mut TaskSet, fields: &[&[u8]]) -> Result<(), InputKind>
+fn add_task(version: u64, set: &mut TaskSet, fields: &[&[u8]]) -> Result<(), InputKind>
     requires { BeginsTask (texts fields.now) }
     ensures read { OnOk result (SaysTask (texts fields.now) set.old set.new) }
-    ensures refused { IfErr result (λ kind. IsOutOfMemory kind ⊎ IsFieldsFault (Listed set.old []) (texts fields.now) kind) }
+    ensures refused { IfErr result (λ kind. IsOutOfMemory kind
+        ⊎ IsFieldsFault version (Listed set.old []) (texts fields.now) kind) }
 {
     let [_word, name, number, list] = fields else {
         return Err(InputKind::BadTask);
@@ -245,9 +284,9 @@ fn event_of(set: &TaskSet, word: &[u8], value: &[u8]) -> Result<Event, InputKind
     ensures refused { IfErr result (IsChangeFault set.now word.now value.now) }
 {
     if is_word(word, "arrive") {
-        Ok(Event::Arrive(task_of(set, value)?))
+        Ok(Event::Arrive(known_task(set, value)?))
     } else if is_word(word, "depart") {
-        Ok(Event::Depart(task_of(set, value)?))
+        Ok(Event::Depart(known_task(set, value)?))
     } else if is_word(word, "tick") {
         match read_number(value, 1, MAX_UNITS) {
             Some(units) => Ok(Event::Tick(units as u32)),
@@ -259,15 +298,11 @@ fn event_of(set: &TaskSet, word: &[u8], value: &[u8]) -> Result<Event, InputKind
 }
 
 /// The task that has this name.
-fn task_of(set: &TaskSet, name: &[u8]) -> Result<u32, InputKind>
+fn known_task(set: &TaskSet, name: &[u8]) -> Result<u32, InputKind>
     ensures read { IfOk result (λ t. IsNameOf set.now t name.now) }
     ensures refused { IfErr result (λ kind. (kind ≡ UnknownTask) × IsNewName set.now name.now) }
 {
-    let _lawful = set.len();
-    let Ok(name) = str::from_utf8(name) else {
-        return Err(InputKind::UnknownTask);
-    };
-    match set.find(name) {
+    match task_of(set, name) {
         Some(t) => Ok(t),
         None => Err(InputKind::UnknownTask),
     }

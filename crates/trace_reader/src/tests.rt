@@ -1,3 +1,4 @@
+//! Texts of inputs, spelled out by hand.
 use crate::{InputFault, InputKind, Posted, read_input, read_number, write_input};
 use affinity_mask::MaskFault;
 use std::str;

@@ -1,5 +1,5 @@
 use Rattle.std.proofs.lemmas.Result.{err_from_is_err_and}
-use Rattle.schedule_text.proofs.LegalEntries.{legal_entries}
+use Rattle.event_replay.proofs.LegalNames.{legal_names}
 use Rattle.event_replay.proofs.Known.{about_entries, known_events}
 use Rattle.event_replay.proofs.Running.{contexts_known}
 use Rattle.plain_replay.proofs.Refusals.{cause_of_fault, memory_of_fault, status_of_refused}
@@ -24,8 +24,12 @@ pub write_schedule-requires-clause-entries : goal.write_schedule-requires-clause
 write_schedule-requires-clause-entries c =
     let valid = c.set.ensures.valid in
     let schedule = rw (c.set.ensures.value, c.events.ensures.value) at c.in_ok-made.ensures.schedules in
-    rw (c.set-2.ensures.value, c.history.ensures.value) (legal_entries c.in_ok-input.input.set c.in_ok-made.made.core.history valid.lawful schedule.legal
-    (about_entries c.in_ok-input.input.set c.in_ok-input.input.events c.in_ok-made.made.core.history valid.each_event schedule.each_event))
+    let names = legal_names c.in_ok-input.input.set c.in_ok-made.made.core.history valid.valid schedule.legal in
+    let about =
+    about_entries c.in_ok-input.input.set c.in_ok-input.input.events c.in_ok-made.made.core.history valid.each_event
+    schedule.each_event in
+    rw (c.set-2.ensures.value, c.history.ensures.value)
+    (λ k d within. record { event = about k d within; reply = names k d within })
 
 pub write_schedule-requires-clause-contexts : goal.write_schedule-requires-clause-contexts
 write_schedule-requires-clause-contexts c =

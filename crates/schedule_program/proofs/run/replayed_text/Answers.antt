@@ -1,5 +1,5 @@
 use Rattle.std.proofs.lemmas.Result.{err_from_is_err_and}
-use Rattle.schedule_text.proofs.LegalEntries.{legal_entries}
+use Rattle.event_replay.proofs.LegalNames.{legal_names}
 use Rattle.schedule_program.proofs.Headline.{headline}
 use Rattle.schedule_program.proofs.MergedCounts.{about_merged}
 use Rattle.schedule_program.proofs.Refusals.{memory_of_fault, status_of_refused}
@@ -21,8 +21,12 @@ pub write_schedule-requires-clause-entries : goal.write_schedule-requires-clause
 write_schedule-requires-clause-entries g c =
     let valid = c.set.ensures.valid in
     let core = rw (c.set.ensures.value, c.events.ensures.value) at c.in_ok-made.ensures.core in
-    rw (c.set-2.ensures.value, c.history.ensures.value) (legal_entries c.in_ok-input.input.set c.in_ok-made.made.core.history valid.lawful core.over.legal
-    (about_merged c.in_ok-input.input.set c.in_ok-input.input.events c.in_ok-made.made.core.history valid.each_event core.merge))
+    let names = legal_names c.in_ok-input.input.set c.in_ok-made.made.core.history valid.valid core.over.legal in
+    let about =
+    about_merged c.in_ok-input.input.set c.in_ok-input.input.events c.in_ok-made.made.core.history valid.each_event
+    core.merge in
+    rw (c.set-2.ensures.value, c.history.ensures.value)
+    (λ k d within. record { event = about k d within; reply = names k d within })
 
 pub write_schedule-requires-clause-contexts : goal.write_schedule-requires-clause-contexts
 write_schedule-requires-clause-contexts g c =

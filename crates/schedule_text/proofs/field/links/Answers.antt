@@ -5,6 +5,7 @@ use Rattle.schedule_text.proofs.field.links.Goals as goal
 
 pub returns : goal.returns
 returns c =
-    let cut = YieldsList-from_slice_split _ (λ byte. byte == 62) c.args.text.now (search rules) (search rules) (search rules) (λ x b q k. search rules) in
+    let cut = YieldsList-from_slice_split _ (λ byte. byte == 62) c.args.text.now (search rules) (search rules)
+    (search rules) (λ x b q k. search rules) in
     let all = YieldsList-end cut c.loop-link.yielded _ c.loop-link.yielded_by _ _ c.in-None.is c.next.ensures.steps in
     c.loop-link.invariant ∙ all.0

@@ -10,4 +10,5 @@ returns-in_err-number c =
 pub returns-else-eq : goal.returns-else-eq
 returns-else-eq c =
     let small : c.args.most < 2 ^ 64 = omega (arith, c.ranges.most) in
-    number_differs c.args.least c.args.most c.args.field.now c.in_ok-number.number small c.in_ok-number.ensures (search rules)
+    number_differs c.args.least c.args.most c.args.field.now c.in_ok-number.number small c.in_ok-number.ensures
+    (search rules)

@@ -1,9 +1,27 @@
-use Rattle.std.proofs.Common.{inr}
+use Rattle.std.proofs.Common.{inl, inr}
 use Rattle.std.proofs.lemmas.Result.{err_from_is_err_and}
-use Rattle.schedule_text.proofs.Replies.{freed_fault}
+use Rattle.schedule_text.proofs.Replies.{freed_no_chain, freed_no_set, freed_fault}
 use Rattle.schedule_text.proofs.reply.freed_reply.Goals as goal
 
 pub returns-in_err-entered-clause-refused : goal.returns-in_err-entered-clause-refused
 returns-in_err-entered-clause-refused c =
     let p = err_from_is_err_and c.from_residual-in_err-entered.result c.from_residual-in_err-entered.ensures.1 in
-    rw (p.1, p.2) (inr (freed_fault c.args.set.now c.args.chain.now c.args.name.now c.args.processors.now c.in_ok-chain.chain c.in_ok-back.back c.in_err-entered.field-0.0 c.in_ok-chain.ensures.read c.in_ok-back.ensures.read c.in_err-entered.ensures.refused))
+    rw (p.1, p.2) (inr (freed_fault c.args.set.now c.args.chain.now c.args.name.now c.args.processors.now
+    c.in_ok-chain.chain c.in_ok-back.back c.in_err-entered.field-0.0 c.in_ok-chain.ensures.read
+    c.in_ok-back.ensures.read c.in_err-entered.ensures.refused))
+
+pub returns-in_err-chain-clause-refused : goal.returns-in_err-chain-clause-refused
+returns-in_err-chain-clause-refused c =
+    let p = err_from_is_err_and c.from_residual.result c.from_residual.ensures.1 in
+    rw (p.1, p.2) (elim c.in_err-chain.ensures.refused [
+      | inl memory ↦ inl memory
+      | inr bad ↦ inr (inl (bad.0, freed_no_chain c.args.chain.now c.args.name.now c.args.processors.now bad.1))
+    ])
+
+pub returns-in_err-back-clause-refused : goal.returns-in_err-back-clause-refused
+returns-in_err-back-clause-refused c =
+    let p = err_from_is_err_and c.from_residual-in_err-back.result c.from_residual-in_err-back.ensures.1 in
+    rw (p.1, p.2) (elim c.in_err-back.ensures.refused [
+      | inl memory ↦ inl memory
+      | inr bad ↦ inr (inl (bad.0, freed_no_set c.args.chain.now c.args.name.now c.args.processors.now bad.1))
+    ])

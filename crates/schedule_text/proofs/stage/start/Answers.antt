@@ -1,11 +1,19 @@
 use Rattle.std.proofs.Common.{inr, ap, ◌∙◌}
-use Rattle.trace_reader.specs.Reading.{texts}
-use Rattle.schedule_text.specs.ScheduleFault.{TasksDue}
+use Rattle.text_fields.specs.Fields.{texts}
+use Rattle.schedule_text.specs.Prefix.{TasksExpected}
 use Rattle.schedule_text.proofs.Stages.{processors_none, processors_read}
 use Rattle.schedule_text.proofs.stage.start.Goals as goal
 
 pub returns-in_default-clause-refused : goal.returns-in_default-clause-refused
-returns-in_default-clause-refused c = inr (processors_none (texts c.deref.result.now) c.args.text.now (ap texts c.deref.ensures.value ∙ c.in_ok-fields.ensures) c.in_default.ensures)
+returns-in_default-clause-refused c =
+    inr (processors_none (texts c.deref.result.now) c.args.text.now
+    (ap texts c.deref.ensures.value ∙ c.in_ok-fields.ensures) c.in_default.ensures)
 
 pub returns-clause-read : goal.returns-clause-read
-returns-clause-read c = (c.in-Some.processors, ap TasksDue c.in_ok-set.ensures, processors_read (texts c.deref.result.now) c.args.text.now c.in-Some.processors (ap texts c.deref.ensures.value ∙ c.in_ok-fields.ensures) c.in-Some.ensures)
+returns-clause-read c = (
+  c.in-Some.processors,
+  ap TasksExpected c.in_ok-set.ensures,
+  processors_read (texts c.deref.result.now)
+      c.args.text.now c.in-Some.processors (ap texts c.deref.ensures.value ∙ c.in_ok-fields.ensures)
+      c.in-Some.ensures,
+)

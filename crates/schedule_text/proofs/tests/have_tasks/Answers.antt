@@ -11,5 +11,7 @@ loop-context-preserved c = λ k d below.
     elim (cases_lt k i) [
       | inl lt ↦ c.loop-context.invariant k d lt
       | inr ge ↦ let last : k ≡ i = omega arith in
-          subst (λ (context : Context). context.task < length c.args.set.now.tasks) (get_or_default contexts i _ d (omega (arith, c.loop-context-test.true)) ∙ ap (λ (n : ℕ). get_or contexts n d) (sym last)) (rw c.len.ensures.value at c.if-context-len.false)
+          subst (λ (context : Context). context.task < length c.args.set.now.tasks)
+          (get_or_default contexts i _ d (omega (arith, c.loop-context-test.true))
+          ∙ ap (λ (n : ℕ). get_or contexts n d) (sym last)) (rw c.len.ensures.value at c.if-context-len.false)
     ]

@@ -1,7 +1,7 @@
 use Rattle.std.proofs.Common.{◌≡◌}
 use Rattle.std.specs.Prelude.{filter, not}
 use Rattle.trace_reader.specs.Lines.{is_nothing}
-use Rattle.trace_reader.specs.Reading.{texts}
+use Rattle.text_fields.specs.Fields.{texts}
 use Rattle.trace_reader.proofs.fields.fields.Given as goal
 
 abbrev pub invariant-loop-field : goal.invariant-loop-field

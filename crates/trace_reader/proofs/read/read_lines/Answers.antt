@@ -1,17 +1,28 @@
-use Rattle.std.proofs.Common.{rules, arith, inl, inr, ◌≢◌, []}
+use Rattle.std.proofs.Common.{rules, arith, inl, inr}
 use Rattle.std.proofs.lemmas.List.{nil_from_length}
 use Rattle.trace_reader.proofs.ReadLines.{read_more, read_refused, read_end}
 use Rattle.trace_reader.proofs.read.read_lines.Goals as goal
 
-pub returns-in-Err-clause-refused : goal.returns-in-Err-clause-refused
-returns-in-Err-clause-refused c =
-    elim c.in-Err.ensures.refused [
-      | inl none ↦ inl none
-      | inr fault ↦ inr (read_refused c.args.bytes.now c.loop-rest.rest.now _ _ c.loop-rest.line _ c.in-Err.kind c.loop-rest.invariant (search rules) c.first_line.ensures fault)
-    ]
+pub returns-in-Err : goal.returns-in-Err
+returns-in-Err c = (
+  tt,
+  elim c.in-Err.ensures.refused [
+    | inl none ↦ inl none
+    | inr fault ↦ inr (read_refused c.args.version c.args.bytes.now c.loop-rest.rest.now _ _ c.loop-rest.line _
+        c.in-Err.kind
+        c.loop-rest.invariant (search rules) c.first_line.ensures fault)
+  ],
+)
 
 pub loop-rest-preserved : goal.loop-rest-preserved
-loop-rest-preserved c = read_more c.args.bytes.now c.loop-rest.rest.now _ _ c.loop-rest.line _ _ c.loop-rest.invariant (search rules) c.first_line.ensures c.in-Ok.ensures.read
+loop-rest-preserved c =
+    read_more c.args.version c.args.bytes.now c.loop-rest.rest.now _ _ c.loop-rest.line _ _ c.loop-rest.invariant
+    (search rules) c.first_line.ensures c.in-Ok.ensures.read
 
-pub returns-in-Some-clause-input : goal.returns-in-Some-clause-input
-returns-in-Some-clause-input c = read_end c.args.bytes.now c.loop-rest.rest.now c.loop-rest.line _ c.loop-rest.invariant (nil_from_length c.loop-rest.rest.now (search (rules, arith))) c.in-Some.input.set c.in-Some.input.events c.in-Some.ensures
+pub returns-in-Some : goal.returns-in-Some
+returns-in-Some c = (
+  read_end c.args.version c.args.bytes.now c.loop-rest.rest.now c.loop-rest.line _ c.loop-rest.invariant
+      (nil_from_length c.loop-rest.rest.now (search (rules, arith))) c.in-Some.input.set c.in-Some.input.events
+      c.in-Some.ensures,
+  tt,
+)

@@ -1,4 +1,3 @@
-use Rattle.std.proofs.Common.{rules}
 use Rattle.trace_reader.proofs.stage.Stage.after.Goals as goal
 
 pub returns-in-Listed-clause-refused : goal.returns-in-Listed-clause-refused

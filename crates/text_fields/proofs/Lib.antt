@@ -1,0 +1,9 @@
+pub mod Words
+pub mod Folds
+mod Utf8
+pub mod Names
+pub mod NamedTasks
+pub mod FieldLists
+pub mod Decisions
+pub mod Addable
+mod Written

@@ -1,0 +1,17 @@
+use Rattle.text_fields.proofs.Written.{arrival_written, departure_written, tick_written}
+use Rattle.text_fields.proofs.event.write_event_text.Goals as goal
+
+pub returns-in_ok-write_name-in-Arrive : goal.returns-in_ok-write_name-in-Arrive
+returns-in_ok-write_name-in-Arrive c =
+    arrival_written c.args.set.now c.args.event c.in-Arrive.t _ _ _ c.in-Arrive.is
+    c.in_ok-extend_from_slice-in-Arrive.ensures.items c.in_ok-write_name-in-Arrive.ensures
+
+pub returns-in_ok-write_name-in-Depart : goal.returns-in_ok-write_name-in-Depart
+returns-in_ok-write_name-in-Depart c =
+    departure_written c.args.set.now c.args.event c.in-Depart.t _ _ _ c.in-Depart.is
+    c.in_ok-extend_from_slice-in-Depart.ensures.items c.in_ok-write_name-in-Depart.ensures
+
+pub returns-in_ok-write_number-in-Tick : goal.returns-in_ok-write_number-in-Tick
+returns-in_ok-write_number-in-Tick c =
+    tick_written c.args.set.now c.args.event c.in-Tick.units _ _ _ c.in-Tick.is
+    c.in_ok-extend_from_slice-in-Tick.ensures.items c.in_ok-write_number-in-Tick.ensures

@@ -1,0 +1,4 @@
+pub mod EventText
+pub mod Fields
+pub mod LineText
+pub mod Number

@@ -1,0 +1,28 @@
+//! Names of tasks.
+ghost use Rattle.std.specs.Prelude.{◌≡◌, ◌<◌, ◌++◌, length, OnOk, MatchOption};
+ghost use Rattle.task_set.specs.Refusal.{IsNameOf, IsNewName};
+ghost use Rattle.text_fields.specs.EventText.{name_of};
+
+use affinity_mask::OutOfMemory;
+use std::str;
+use task_set::TaskSet;
+
+/// The task that has this name. Bytes that are not a text are the name of no task.
+pub fn task_of(set: &TaskSet, name: &[u8]) -> Option<u32>
+    ensures { MatchOption result (IsNewName set.now name.now) (λ t. IsNameOf set.now t name.now) }
+{
+    let _valid = set.len();
+    let Ok(name) = str::from_utf8(name) else {
+        return None;
+    };
+    set.find(name)
+}
+
+/// Appends the name of a task. Refused only when out of memory.
+pub fn write_name(text: &mut Vec<u8>, set: &TaskSet, t: u32) -> Result<(), OutOfMemory>
+    requires { t < length set.now.tasks }
+    ensures { OnOk result (text.new.items ≡ text.old.items ++ name_of set.now t) }
+{
+    text.extend_from_slice(set.name(t).as_bytes())?;
+    Ok(())
+}
