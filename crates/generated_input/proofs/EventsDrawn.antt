@@ -67,10 +67,11 @@ event_of_task_is_of : (set : SetData) (t : ℕ) (ready : Bool) → t < length se
 event_of_task_is_of set t true below = (below, tt)
 event_of_task_is_of set t false below = (below, tt)
 
-event_is_of : (set : SetData) (number draws : ℕ) (earlier : List Event) (tick : Bool) → 0 < length set.tasks
-    → IsEventOf set (if tick then Tick (1 + drawn number (draws + 1) 100) else event_of_task (drawn number (draws + 1) (length set.tasks)) earlier)
-event_is_of set number draws earlier true some = (tt, (omega arith, omega (arith, drawn_below number (draws + 1) 100 (omega arith))))
-event_is_of set number draws earlier false some = event_of_task_is_of set _ (is_ready_after (drawn number (draws + 1) (length set.tasks)) earlier) (drawn_below number (draws + 1) (length set.tasks) some)
+event_is_of : (set : SetData) (number tasks draws : ℕ) (earlier : List Event) (tick : Bool) → length set.tasks ≡ tasks → 0 < tasks
+    → IsEventOf set (if tick then Tick (1 + drawn number (draws + 1) 100) else event_of_task (drawn number (draws + 1) tasks) earlier)
+event_is_of set number tasks draws earlier true size some = (tt, (omega arith, omega (arith, drawn_below number (draws + 1) 100 (omega arith))))
+event_is_of set number tasks draws earlier false size some =
+    event_of_task_is_of set _ (is_ready_after (drawn number (draws + 1) tasks) earlier) (omega (arith, size, drawn_below number (draws + 1) tasks some))
 
 -- each generated event is one of a set with as many tasks
 pub drawn_are_posted : (set : SetData) (number tasks count : ℕ) (posted : List Posted) → length set.tasks ≡ tasks → 0 < tasks → AreDrawnEvents number tasks count posted → All (IsPostedOf set) posted
@@ -79,8 +80,8 @@ drawn_are_posted set number tasks count posted size some drawn_events = λ k d w
     let fits : k < length (events_of posted) = rw (length-map posted (λ (one : Posted). one.event)) within in
     let generated = get_or_from_slice_get (events_of posted) k _ d.event (drawn_events.each_event k fits) in
     let before = take k (events_of posted) in
-    let of_set = event_is_of set number (draws_before tasks before) before (nat_eq (drawn number (draws_before tasks before) 8) 0) (rw size some) in
+    let of_set = event_is_of set number tasks (draws_before tasks before) before (nat_eq (drawn number (draws_before tasks before) 8) 0) size some in
     record {
       stream = omega (arith, drawn_events.one_stream k d within);
-      event = rw (← there, generated) (rw size at of_set);
+      event = rw (← there, generated) of_set;
     }
