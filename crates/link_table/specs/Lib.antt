@@ -5,5 +5,6 @@ pub mod History
 pub mod Laws
 pub mod LinksView
 pub mod Placement
+pub mod Reply
 pub mod State
 pub mod Step
