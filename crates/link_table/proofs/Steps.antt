@@ -20,25 +20,18 @@ arrive_reply : (s : State) (t : ℕ) (reply : Reply) (new : State) → ArriveSte
 arrive_reply s t (Placed chain) new step = step.shifted
 arrive_reply s t (Displaced chain out reach) new step = step.shifted
 arrive_reply s t (Waits reach) new step = step.waits
-arrive_reply s t (Freed entered chain back) new step = absurd step
-arrive_reply s t Left new step = absurd step
-arrive_reply s t Ticked new step = absurd step
 arrive_reply s t AlreadyReady new step = step.1
-arrive_reply s t NotReady new step = absurd step
+arrive_reply s t _ new step = absurd step
 
 enter_reply : (s : State) (p : ℕ) (entered : Option ℕ) (chain : List ℕ) (back : ℕ) (new : State) → EnterStep s p entered chain back new → new ≡ state_after_entering s entered chain
 enter_reply s p None chain back new step = step.2
 enter_reply s p (Some w) chain back new step = step.2
 
 depart_reply : (s : State) (t : ℕ) (reply : Reply) (new : State) → DepartStep s t reply new → new ≡ state_after_reply s t reply
-depart_reply s t (Placed chain) new step = absurd step
-depart_reply s t (Displaced chain out reach) new step = absurd step
-depart_reply s t (Waits reach) new step = absurd step
 depart_reply s t (Freed entered chain back) new step = enter_reply (state_after_leaving s t) step.place entered chain back new step.enters
 depart_reply s t Left new step = step.1
-depart_reply s t Ticked new step = absurd step
-depart_reply s t AlreadyReady new step = absurd step
 depart_reply s t NotReady new step = step.1
+depart_reply s t _ new step = absurd step
 
 pub reply_gives_new_state : ReplyGivesNewState
 reply_gives_new_state s (Arrive t) reply new step = arrive_reply s t reply new step.1
@@ -65,25 +58,18 @@ arrive_keeps : (s : State) (t : ℕ) (reply : Reply) (new : State) → IsState s
 arrive_keeps s t (Placed chain) new ok number step = rw step.shifted (IsState-arrived s ok t chain step.least.itself.0 number step.absent step.least.itself.1 (least_chain_is_simple s ok t (IsIdle s) chain step.least))
 arrive_keeps s t (Displaced chain out reach) new ok number step = rw step.shifted (IsState-arrived s ok t chain step.least.itself.0 number step.absent step.least.itself.1 (least_chain_is_simple s ok t (λ q. task_on s q ≡ Some out) chain step.least))
 arrive_keeps s t (Waits reach) new ok number step = rw step.waits (IsState-state_with_ready s ok t number)
-arrive_keeps s t (Freed entered chain back) new ok number step = absurd step
-arrive_keeps s t Left new ok number step = absurd step
-arrive_keeps s t Ticked new ok number step = absurd step
 arrive_keeps s t AlreadyReady new ok number step = rw step.1 ok
-arrive_keeps s t NotReady new ok number step = absurd step
+arrive_keeps s t _ new ok number step = absurd step
 
 enter_keeps : (s : State) (p : ℕ) (entered : Option ℕ) (chain : List ℕ) (back : ℕ) (new : State) → IsState s → EnterStep s p entered chain back new → IsState new
 enter_keeps s p None chain back new ok step = rw step.2 ok
 enter_keeps s p (Some w) chain back new ok step = rw step.2 (IsState-entered s ok p w chain step.0.waits step.1)
 
 depart_keeps : (s : State) (t : ℕ) (reply : Reply) (new : State) → IsState s → DepartStep s t reply new → IsState new
-depart_keeps s t (Placed chain) new ok step = absurd step
-depart_keeps s t (Displaced chain out reach) new ok step = absurd step
-depart_keeps s t (Waits reach) new ok step = absurd step
 depart_keeps s t (Freed entered chain back) new ok step = enter_keeps (state_after_leaving s t) step.place entered chain back new (IsState-state_after_leaving s ok t) step.enters
 depart_keeps s t Left new ok step = rw step.1 (IsState-state_with_absent s ok t step.0)
-depart_keeps s t Ticked new ok step = absurd step
-depart_keeps s t AlreadyReady new ok step = absurd step
 depart_keeps s t NotReady new ok step = rw step.1 ok
+depart_keeps s t _ new ok step = absurd step
 
 pub step_keeps_state : StepKeepsState
 step_keeps_state s (Arrive t) reply new ok step = arrive_keeps s t reply new ok step.0 step.1

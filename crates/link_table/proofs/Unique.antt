@@ -53,11 +53,8 @@ module _ (s : State) (ok : IsState s) (t : ℕ) where
       let end = step.least.itself in
       let occupant = step'.more_urgent end.0 ((step'.reached end.0).1 (chain, end.1)) in
       let on = occupant.1 in let idle = end.2.1 in absurd (cc)
-  placed_only chain new step (Freed entered chain' back) next step' = absurd step'
-  placed_only chain new step Left next step' = absurd step'
-  placed_only chain new step Ticked next step' = absurd step'
   placed_only chain new step AlreadyReady next step' = absurd (true≢false (sym step'.0 ∙ step.absent))
-  placed_only chain new step NotReady next step' = absurd step'
+  placed_only chain new step _ next step' = absurd step'
 
   -- of the tasks that it reaches, the least urgent one is put out, and the set and the chain are one
   displaced_same : (chain chain' : List ℕ) (out out' reach reach' : ℕ) (new next : State) → ArriveDisplaced s t chain out reach new → ArriveDisplaced s t chain' out' reach' next → Displaced chain out reach ≡ Displaced chain' out' reach'
@@ -84,41 +81,29 @@ module _ (s : State) (ok : IsState s) (t : ℕ) where
   displaced_only chain out reach new step (Placed chain') next step' = sym (placed_only chain' next step' (Displaced chain out reach) new step)
   displaced_only chain out reach new step (Displaced chain' out' reach') next step' = displaced_same chain chain' out out' reach reach' new next step step'
   displaced_only chain out reach new step (Waits reach') next step' = absurd (displaced_not_waits chain out reach reach' new next step step')
-  displaced_only chain out reach new step (Freed entered chain' back) next step' = absurd step'
-  displaced_only chain out reach new step Left next step' = absurd step'
-  displaced_only chain out reach new step Ticked next step' = absurd step'
   displaced_only chain out reach new step AlreadyReady next step' = absurd (true≢false (sym step'.0 ∙ step.absent))
-  displaced_only chain out reach new step NotReady next step' = absurd step'
+  displaced_only chain out reach new step _ next step' = absurd step'
 
   waits_only : (reach : ℕ) (new : State) → ArriveWaits s t reach new → (other : Reply) (next : State) → ArriveStep s t other next → Waits reach ≡ other
   waits_only reach new step (Placed chain) next step' = sym (placed_only chain next step' (Waits reach) new step)
   waits_only reach new step (Displaced chain out reach') next step' = absurd (displaced_not_waits chain out reach' reach next new step' step)
   waits_only reach new step (Waits reach') next step' = ap (λ (X : ℕ). Waits X) (same_members reach reach' (Reaches s t) step.reached step'.reached)
-  waits_only reach new step (Freed entered chain back) next step' = absurd step'
-  waits_only reach new step Left next step' = absurd step'
-  waits_only reach new step Ticked next step' = absurd step'
   waits_only reach new step AlreadyReady next step' = absurd (true≢false (sym step'.0 ∙ step.absent))
-  waits_only reach new step NotReady next step' = absurd step'
+  waits_only reach new step _ next step' = absurd step'
 
   already_only : (new : State) → ArriveStep s t AlreadyReady new → (other : Reply) (next : State) → ArriveStep s t other next → AlreadyReady ≡ other
   already_only new step (Placed chain) next step' = absurd (true≢false (sym step.0 ∙ step'.absent))
   already_only new step (Displaced chain out reach) next step' = absurd (true≢false (sym step.0 ∙ step'.absent))
   already_only new step (Waits reach) next step' = absurd (true≢false (sym step.0 ∙ step'.absent))
-  already_only new step (Freed entered chain back) next step' = absurd step'
-  already_only new step Left next step' = absurd step'
-  already_only new step Ticked next step' = absurd step'
   already_only new step AlreadyReady next step' = refl
-  already_only new step NotReady next step' = absurd step'
+  already_only new step _ next step' = absurd step'
 
   arrive_unique : (reply : Reply) (new : State) (other : Reply) (next : State) → ArriveStep s t reply new → ArriveStep s t other next → reply ≡ other
   arrive_unique (Placed chain) new other next step step' = placed_only chain new step other next step'
   arrive_unique (Displaced chain out reach) new other next step step' = displaced_only chain out reach new step other next step'
   arrive_unique (Waits reach) new other next step step' = waits_only reach new step other next step'
-  arrive_unique (Freed entered chain back) new other next step step' = absurd step
-  arrive_unique Left new other next step step' = absurd step
-  arrive_unique Ticked new other next step step' = absurd step
   arrive_unique AlreadyReady new other next step step' = already_only new step other next step'
-  arrive_unique NotReady new other next step step' = absurd step
+  arrive_unique _ new other next step step' = absurd step
 
 -- ---- departures
 -- one task comes in, or nobody, and along one chain
@@ -144,44 +129,28 @@ module _ (s : State) (ok : IsState s) (t : ℕ) where
       enter_unique gone (IsState-state_after_leaving s ok t) step.place back entered entered' chain chain' new next step.enters enters' ∙ ap (λ (X : ℕ). Freed entered' chain' X) (sym same_back)
 
   freed_only : (entered : Option ℕ) (chain : List ℕ) (back : ℕ) (new : State) → DepartFreed s t entered chain back new → (other : Reply) (next : State) → DepartStep s t other next → Freed entered chain back ≡ other
-  freed_only entered chain back new step (Placed chain') next step' = absurd step'
-  freed_only entered chain back new step (Displaced chain' out reach) next step' = absurd step'
-  freed_only entered chain back new step (Waits reach) next step' = absurd step'
   freed_only entered chain back new step (Freed entered' chain' back') next step' = freed_same entered entered' chain chain' back back' new next step step'
   freed_only entered chain back new step Left next step' = absurd (not_on s step.place t step'.0.not_linked step.linked)
-  freed_only entered chain back new step Ticked next step' = absurd step'
-  freed_only entered chain back new step AlreadyReady next step' = absurd step'
   freed_only entered chain back new step NotReady next step' = absurd (true≢false (sym (ok.linked_ready step.place t step.linked) ∙ step'.0))
+  freed_only entered chain back new step _ next step' = absurd step'
 
   left_only : (new : State) → DepartStep s t Left new → (other : Reply) (next : State) → DepartStep s t other next → Left ≡ other
-  left_only new step (Placed chain) next step' = absurd step'
-  left_only new step (Displaced chain out reach) next step' = absurd step'
-  left_only new step (Waits reach) next step' = absurd step'
   left_only new step (Freed entered chain back) next step' = sym (freed_only entered chain back next step' Left new step)
   left_only new step Left next step' = refl
-  left_only new step Ticked next step' = absurd step'
-  left_only new step AlreadyReady next step' = absurd step'
   left_only new step NotReady next step' = absurd (true≢false (sym step.0.ready ∙ step'.0))
+  left_only new step _ next step' = absurd step'
 
   not_ready_only : (new : State) → DepartStep s t NotReady new → (other : Reply) (next : State) → DepartStep s t other next → NotReady ≡ other
-  not_ready_only new step (Placed chain) next step' = absurd step'
-  not_ready_only new step (Displaced chain out reach) next step' = absurd step'
-  not_ready_only new step (Waits reach) next step' = absurd step'
   not_ready_only new step (Freed entered chain back) next step' = sym (freed_only entered chain back next step' NotReady new step)
   not_ready_only new step Left next step' = sym (left_only next step' NotReady new step)
-  not_ready_only new step Ticked next step' = absurd step'
-  not_ready_only new step AlreadyReady next step' = absurd step'
   not_ready_only new step NotReady next step' = refl
+  not_ready_only new step _ next step' = absurd step'
 
   depart_unique : (reply : Reply) (new : State) (other : Reply) (next : State) → DepartStep s t reply new → DepartStep s t other next → reply ≡ other
-  depart_unique (Placed chain) new other next step step' = absurd step
-  depart_unique (Displaced chain out reach) new other next step step' = absurd step
-  depart_unique (Waits reach) new other next step step' = absurd step
   depart_unique (Freed entered chain back) new other next step step' = freed_only entered chain back new step other next step'
   depart_unique Left new other next step step' = left_only new step other next step'
-  depart_unique Ticked new other next step step' = absurd step
-  depart_unique AlreadyReady new other next step step' = absurd step
   depart_unique NotReady new other next step step' = not_ready_only new step other next step'
+  depart_unique _ new other next step step' = absurd step
 
 reply_unique : (s : State) (event : Event) (reply other : Reply) (new next : State) → IsState s → SchedulerStep s event reply new → SchedulerStep s event other next → reply ≡ other
 reply_unique s (Arrive t) reply other new next ok step step' = arrive_unique s ok t reply new other next step.1 step'.1

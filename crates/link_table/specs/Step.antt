@@ -50,10 +50,7 @@ ArriveStep s t AlreadyReady new = (is_ready s t ≡ true) × (new ≡ s)
 ArriveStep s t (Placed chain) new = ArrivePlaced s t chain new
 ArriveStep s t (Displaced chain out reach) new = ArriveDisplaced s t chain out reach new
 ArriveStep s t (Waits reach) new = ArriveWaits s t reach new
-ArriveStep s t (Freed entered chain back) new = ⊥
-ArriveStep s t Left new = ⊥
-ArriveStep s t Ticked new = ⊥
-ArriveStep s t NotReady new = ⊥
+ArriveStep s t _ new = ⊥
 
 -- w is the most urgent waiting task that can enter at a processor of the set
 pub record IsMostUrgentInto (s : State) (back w : ℕ) : Type 0 where
@@ -79,11 +76,7 @@ abbrev pub DepartStep : State → ℕ → Reply → State → Type 0
 DepartStep s t NotReady new = (is_ready s t ≡ false) × (new ≡ s)
 DepartStep s t Left new = IsWaiting s t × (new ≡ state_with_absent s t)
 DepartStep s t (Freed entered chain back) new = DepartFreed s t entered chain back new
-DepartStep s t (Placed chain) new = ⊥
-DepartStep s t (Displaced chain out reach) new = ⊥
-DepartStep s t (Waits reach) new = ⊥
-DepartStep s t Ticked new = ⊥
-DepartStep s t AlreadyReady new = ⊥
+DepartStep s t _ new = ⊥
 
 -- the scheduler's step at an event of one of the tasks; a tick changes nothing
 abbrev pub SchedulerStep : State → Event → Reply → State → Type 0

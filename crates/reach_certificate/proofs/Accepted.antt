@@ -20,26 +20,14 @@ use Rattle.reach_certificate.proofs.Passed.{passing_keeps_certificates, passing_
 
 -- ---- tasks and processors are the same after a reply
 pub tasks_stay : (s : State) (t : ℕ) (reply : Reply) → task_count (state_after_reply s t reply) ≡ task_count s
-tasks_stay s t (Placed chain) = refl
-tasks_stay s t (Displaced chain out reach) = refl
-tasks_stay s t (Waits reach) = refl
 tasks_stay s t (Freed None chain back) = refl
 tasks_stay s t (Freed (Some w) chain back) = refl
-tasks_stay s t Left = refl
-tasks_stay s t Ticked = refl
-tasks_stay s t AlreadyReady = refl
-tasks_stay s t NotReady = refl
+tasks_stay s t _ = refl
 
 pub processors_stay : (s : State) (t : ℕ) (reply : Reply) → (state_after_reply s t reply).processors ≡ s.processors
-processors_stay s t (Placed chain) = refl
-processors_stay s t (Displaced chain out reach) = refl
-processors_stay s t (Waits reach) = refl
 processors_stay s t (Freed None chain back) = refl
 processors_stay s t (Freed (Some w) chain back) = refl
-processors_stay s t Left = refl
-processors_stay s t Ticked = refl
-processors_stay s t AlreadyReady = refl
-processors_stay s t NotReady = refl
+processors_stay s t _ = refl
 
 -- ---- a context is always that of its task
 takes_keep_task : (c : Context) (places : List ℕ) → (context_after_takes c places).task ≡ c.task

@@ -25,52 +25,36 @@ module _ (s : State) (ok : IsState s) (t : ℕ) where
   chain_fits_or_not : (reply : Reply) (i : ℕ) → ChainFits s t reply → HasBadChain s t reply i → ⊥
   chain_fits_or_not (Placed chain) i all bad = all_fit_no_misfit (PlacedFits s t chain) _ i all bad
   chain_fits_or_not (Displaced chain out reach) i all bad = all_fit_no_misfit (DisplacedFits s t chain) _ i all bad
-  chain_fits_or_not (Waits reach) i all bad = bad
   chain_fits_or_not (Freed entered chain back) i all bad =
       all_fit_no_misfit (FreedFits left bad.0 entered chain) _ i (subst (λ (p : ℕ). AllFit (FreedFits left p entered chain) _) (place_unique all.0 bad.0 all.1 bad.1) all.2) bad.2
-  chain_fits_or_not Left i all bad = bad
-  chain_fits_or_not Ticked i all bad = bad
-  chain_fits_or_not AlreadyReady i all bad = bad
-  chain_fits_or_not NotReady i all bad = bad
+  chain_fits_or_not _ i all bad = bad
 
   bad_chain_unique : (reply : Reply) (i j : ℕ) → HasBadChain s t reply i → HasBadChain s t reply j → i ≡ j
   bad_chain_unique (Placed chain) i j one other = misfit_unique (PlacedFits s t chain) _ i j one other
   bad_chain_unique (Displaced chain out reach) i j one other = misfit_unique (DisplacedFits s t chain) _ i j one other
-  bad_chain_unique (Waits reach) i j one other = absurd one
   bad_chain_unique (Freed entered chain back) i j one other =
       misfit_unique (FreedFits left other.0 entered chain) _ i j (subst (λ (p : ℕ). IsFirstMisfit (FreedFits left p entered chain) _ i) (place_unique one.0 other.0 one.1 other.1) one.2) other.2
-  bad_chain_unique Left i j one other = absurd one
-  bad_chain_unique Ticked i j one other = absurd one
-  bad_chain_unique AlreadyReady i j one other = absurd one
-  bad_chain_unique NotReady i j one other = absurd one
+  bad_chain_unique _ i j one other = absurd one
 
   -- ---- sets
   abbrev Over : ℕ → ℕ → ℕ → Type 0
   Over reach d q = ReachFits s t reach (λ u. IsNoLessUrgent s u d) q
 
   set_fits_or_not : (reply : Reply) (q : ℕ) → SetFits s t reply → HasBadSet s t reply q → ⊥
-  set_fits_or_not (Placed chain) q all bad = bad
   set_fits_or_not (Displaced chain out reach) q all bad =
       all_fit_no_misfit (Over reach bad.0) processor_count q (subst (λ (d : ℕ). AllFit (Over reach d) processor_count) (same_Some all.0 bad.0 (sym all.1 ∙ bad.1)) all.2) bad.2
   set_fits_or_not (Waits reach) q all bad = all_fit_no_misfit (ReachFits s t reach (λ u. IsMoreUrgent s u t)) processor_count q all bad
   set_fits_or_not (Freed entered chain back) q all bad =
       all_fit_no_misfit (BackFits left bad.0 back) processor_count q (subst (λ (p : ℕ). AllFit (BackFits left p back) processor_count) (place_unique all.0 bad.0 all.1 bad.1) all.2) bad.2
-  set_fits_or_not Left q all bad = bad
-  set_fits_or_not Ticked q all bad = bad
-  set_fits_or_not AlreadyReady q all bad = bad
-  set_fits_or_not NotReady q all bad = bad
+  set_fits_or_not _ q all bad = bad
 
   bad_set_unique : (reply : Reply) (q r : ℕ) → HasBadSet s t reply q → HasBadSet s t reply r → q ≡ r
-  bad_set_unique (Placed chain) q r one other = absurd one
   bad_set_unique (Displaced chain out reach) q r one other =
       misfit_unique (Over reach other.0) processor_count q r (subst (λ (d : ℕ). IsFirstMisfit (Over reach d) processor_count q) (same_Some one.0 other.0 (sym one.1 ∙ other.1)) one.2) other.2
   bad_set_unique (Waits reach) q r one other = misfit_unique (ReachFits s t reach (λ u. IsMoreUrgent s u t)) processor_count q r one other
   bad_set_unique (Freed entered chain back) q r one other =
       misfit_unique (BackFits left other.0 back) processor_count q r (subst (λ (p : ℕ). IsFirstMisfit (BackFits left p back) processor_count q) (place_unique one.0 other.0 one.1 other.1) one.2) other.2
-  bad_set_unique Left q r one other = absurd one
-  bad_set_unique Ticked q r one other = absurd one
-  bad_set_unique AlreadyReady q r one other = absurd one
-  bad_set_unique NotReady q r one other = absurd one
+  bad_set_unique _ q r one other = absurd one
 
 -- ---- tasks
 module _ (s : State) (ok : IsState s) where
@@ -99,29 +83,19 @@ module _ (s : State) (ok : IsState s) where
 
 module _ (s : State) (ok : IsState s) (t : ℕ) where
   tasks_right_or_not : (reply : Reply) (x : ℕ) → TasksAreRight s t reply → HasWrongTask s t reply x → ⊥
-  tasks_right_or_not (Placed chain) x right wrong = wrong
   tasks_right_or_not (Displaced chain out reach) x right wrong =
       let same : out ≡ x = same_Some out x (sym right.0 ∙ wrong.0) in
       elim wrong.1 [
         | inl another ↦ another same
         | inr no_less ↦ let e = ap (priority_of s) same in let less = right.1 in omega arith
       ]
-  tasks_right_or_not (Waits reach) x right wrong = wrong
   tasks_right_or_not (Freed entered chain back) x right wrong = enters_rightly_or_not (state_after_leaving s t) (IsState-state_after_leaving s ok t) entered chain back x right wrong
-  tasks_right_or_not Left x right wrong = wrong
-  tasks_right_or_not Ticked x right wrong = wrong
-  tasks_right_or_not AlreadyReady x right wrong = wrong
-  tasks_right_or_not NotReady x right wrong = wrong
+  tasks_right_or_not _ x right wrong = wrong
 
   wrong_task_unique : (reply : Reply) (x y : ℕ) → HasWrongTask s t reply x → HasWrongTask s t reply y → x ≡ y
-  wrong_task_unique (Placed chain) x y one other = absurd one
   wrong_task_unique (Displaced chain out reach) x y one other = same_Some x y (sym one.0 ∙ other.0)
-  wrong_task_unique (Waits reach) x y one other = absurd one
   wrong_task_unique (Freed entered chain back) x y one other = enters_wrongly_unique (state_after_leaving s t) (IsState-state_after_leaving s ok t) entered chain back x y one other
-  wrong_task_unique Left x y one other = absurd one
-  wrong_task_unique Ticked x y one other = absurd one
-  wrong_task_unique AlreadyReady x y one other = absurd one
-  wrong_task_unique NotReady x y one other = absurd one
+  wrong_task_unique _ x y one other = absurd one
 
 -- ---- whole replies
 pub passing_has_no_defect : PassingHasNoDefect

@@ -12,7 +12,7 @@ use Rattle.link_table.proofs.Ends.{has_decided, CanShift_decided}
 use Rattle.link_table.proofs.Least.{Decided}
 use Rattle.link_table.proofs.Leaving.{IsState-state_after_leaving}
 use Rattle.link_table.proofs.Linked.{task_on-linked, place_in}
-use Rattle.reach_certificate.specs.Defect.{IsAllowed, BeginsFor, MovesBack, PlacedFits, DisplacedFits, FreedFits, ReachFits, BackFits, IsNoLessUrgent, processor_count, ChainFits, HasBadChain, SetFits, HasBadSet, TasksAreRight, HasWrongTask}
+use Rattle.reach_certificate.specs.Defect.{IsAllowed, IsAllowedToArrival, IsAllowedToDeparture, BeginsFor, MovesBack, PlacedFits, DisplacedFits, FreedFits, ReachFits, BackFits, IsNoLessUrgent, processor_count, ChainFits, HasBadChain, SetFits, HasBadSet, TasksAreRight, HasWrongTask}
 use Rattle.reach_certificate.specs.DefectLaws.{PassesOrHasDefect}
 use Rattle.reach_certificate.specs.Judging.{HasPlace}
 use Rattle.reach_certificate.specs.declared.defect.Defect.TheVariants.{WrongReply, BadChain, BadSet, WrongTask}
@@ -30,32 +30,25 @@ is_decided false true = inr (λ e. false≢true e)
 is_decided false false = inl refl
 
 ticked_decided : (reply : Reply) → Decided (reply ≡ Ticked)
-ticked_decided (Placed chain) = inr (λ e. cc)
-ticked_decided (Displaced chain out reach) = inr (λ e. cc)
-ticked_decided (Waits reach) = inr (λ e. cc)
-ticked_decided (Freed entered chain back) = inr (λ e. cc)
-ticked_decided Left = inr (λ e. cc)
 ticked_decided Ticked = inl refl
-ticked_decided AlreadyReady = inr (λ e. cc)
-ticked_decided NotReady = inr (λ e. cc)
+ticked_decided _ = inr (λ e. cc)
+
+arrival_decided : (s : State) (t : ℕ) (reply : Reply) → Decided (IsAllowedToArrival s t reply)
+arrival_decided s t (Placed chain) = is_decided (is_ready s t) false
+arrival_decided s t (Displaced chain out reach) = is_decided (is_ready s t) false
+arrival_decided s t (Waits reach) = is_decided (is_ready s t) false
+arrival_decided s t AlreadyReady = is_decided (is_ready s t) true
+arrival_decided s t _ = inr (λ h. h)
+
+departure_decided : (s : State) (t : ℕ) (reply : Reply) → Decided (IsAllowedToDeparture s t reply)
+departure_decided s t (Freed entered chain back) = is_decided (is_linked s t) true
+departure_decided s t Left = waiting_decided s t
+departure_decided s t NotReady = is_decided (is_ready s t) false
+departure_decided s t _ = inr (λ h. h)
 
 allowed_decided : (s : State) (event : Event) (reply : Reply) → Decided (IsAllowed s event reply)
-allowed_decided s (Arrive t) (Placed chain) = is_decided (is_ready s t) false
-allowed_decided s (Arrive t) (Displaced chain out reach) = is_decided (is_ready s t) false
-allowed_decided s (Arrive t) (Waits reach) = is_decided (is_ready s t) false
-allowed_decided s (Arrive t) (Freed entered chain back) = inr (λ h. h)
-allowed_decided s (Arrive t) Left = inr (λ h. h)
-allowed_decided s (Arrive t) Ticked = inr (λ h. h)
-allowed_decided s (Arrive t) AlreadyReady = is_decided (is_ready s t) true
-allowed_decided s (Arrive t) NotReady = inr (λ h. h)
-allowed_decided s (Depart t) (Placed chain) = inr (λ h. h)
-allowed_decided s (Depart t) (Displaced chain out reach) = inr (λ h. h)
-allowed_decided s (Depart t) (Waits reach) = inr (λ h. h)
-allowed_decided s (Depart t) (Freed entered chain back) = is_decided (is_linked s t) true
-allowed_decided s (Depart t) Left = waiting_decided s t
-allowed_decided s (Depart t) Ticked = inr (λ h. h)
-allowed_decided s (Depart t) AlreadyReady = inr (λ h. h)
-allowed_decided s (Depart t) NotReady = is_decided (is_ready s t) false
+allowed_decided s (Arrive t) reply = arrival_decided s t reply
+allowed_decided s (Depart t) reply = departure_decided s t reply
 allowed_decided s (Tick units) reply = ticked_decided reply
 
 -- ---- the parts
@@ -72,17 +65,13 @@ module _ (s : State) (ok : IsState s) (t : ℕ) where
   chain_judged : (reply : Reply) → HasPlace s t reply → ChainFits s t reply ⊎ ((i : ℕ) × HasBadChain s t reply i)
   chain_judged (Placed chain) place = fit_or_misfit (PlacedFits s t chain) (place_decided s (BeginsFor s t) (CanShift s) (λ q. task_on s q ≡ None) (λ q. has_decided (effective_mask s t) q) (CanShift_decided s) (idle_end_decided s) chain) (length chain)
   chain_judged (Displaced chain out reach) place = fit_or_misfit (DisplacedFits s t chain) (place_decided s (BeginsFor s t) (CanShift s) (λ q. (u : ℕ) × (task_on s q ≡ Some u)) (λ q. has_decided (effective_mask s t) q) (CanShift_decided s) (occupied_end_decided s) chain) (length chain)
-  chain_judged (Waits reach) place = inl tt
   chain_judged (Freed entered chain back) place =
-      let p = place_of place in
+      let p = place_of (place entered chain back refl) in
       elim (fit_or_misfit (FreedFits left p.0 entered chain) (place_decided left (λ q. q ≡ p.0) (MovesBack left entered) (λ q. Unit {0}) (place_is_decided p.0) (moves_back_decided left entered) (λ q. inl tt) chain) (length chain)) [
         | inl all ↦ inl (p.0, p.1, all)
         | inr bad ↦ inr (bad.0, (p.0, p.1, bad.1))
       ]
-  chain_judged Left place = inl tt
-  chain_judged Ticked place = inl tt
-  chain_judged AlreadyReady place = inl tt
-  chain_judged NotReady place = inl tt
+  chain_judged _ place = inl tt
 
   less_urgent_decided : (a b : ℕ) → Decided (IsMoreUrgent s a b)
   less_urgent_decided a b = elim (cases_lt (priority_of s a) (priority_of s b)) [ inl lt ↦ inl lt | inr ge ↦ inr (λ lt. omega arith) ]
@@ -91,7 +80,6 @@ module _ (s : State) (ok : IsState s) (t : ℕ) where
   no_less_decided a b = elim (cases_lt (priority_of s b) (priority_of s a)) [ inl lt ↦ inr (λ le. omega arith) | inr ge ↦ inl ge ]
 
   set_judged : (reply : Reply) → HasPlace s t reply → ChainFits s t reply → SetFits s t reply ⊎ ((q : ℕ) × HasBadSet s t reply q)
-  set_judged (Placed chain) place fits = inl tt
   set_judged (Displaced chain out reach) place fits =
       let d = displaced_end s t (Displaced chain out reach) fits chain out reach refl in
       elim (fit_or_misfit (ReachFits s t reach (λ u. IsNoLessUrgent s u d.0)) (reach_decided s ok t reach (λ u. IsNoLessUrgent s u d.0) (λ u. no_less_decided u d.0)) processor_count) [
@@ -100,18 +88,14 @@ module _ (s : State) (ok : IsState s) (t : ℕ) where
       ]
   set_judged (Waits reach) place fits = fit_or_misfit (ReachFits s t reach (λ u. IsMoreUrgent s u t)) (reach_decided s ok t reach (λ u. IsMoreUrgent s u t) (λ u. less_urgent_decided u t)) processor_count
   set_judged (Freed entered chain back) place fits =
-      let p = place_of place in
+      let p = place_of (place entered chain back refl) in
       elim (fit_or_misfit (BackFits left p.0 back) (back_decided left left_ok p.0 back) processor_count) [
         | inl all ↦ inl (p.0, p.1, all)
         | inr bad ↦ inr (bad.0, (p.0, p.1, bad.1))
       ]
-  set_judged Left place fits = inl tt
-  set_judged Ticked place fits = inl tt
-  set_judged AlreadyReady place fits = inl tt
-  set_judged NotReady place fits = inl tt
+  set_judged _ place fits = inl tt
 
   tasks_judged : (reply : Reply) → ChainFits s t reply → TasksAreRight s t reply ⊎ ((x : ℕ) × HasWrongTask s t reply x)
-  tasks_judged (Placed chain) fits = inl tt
   tasks_judged (Displaced chain out reach) fits =
       let d = displaced_end s t (Displaced chain out reach) fits chain out reach refl in
       elim (cases_eq out d.0) [
@@ -121,12 +105,8 @@ module _ (s : State) (ok : IsState s) (t : ℕ) where
           | inr no_less ↦ inr (d.0, (d.1, inr no_less))
         ]
       ]
-  tasks_judged (Waits reach) fits = inl tt
   tasks_judged (Freed entered chain back) fits = enters_rightly_or_wrongly left left_ok entered chain back
-  tasks_judged Left fits = inl tt
-  tasks_judged Ticked fits = inl tt
-  tasks_judged AlreadyReady fits = inl tt
-  tasks_judged NotReady fits = inl tt
+  tasks_judged _ fits = inl tt
 
 -- ---- whole replies
 pub passes_or_has_defect : PassesOrHasDefect

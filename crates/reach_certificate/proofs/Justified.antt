@@ -1,6 +1,8 @@
 -- A reply passes just where its kind may stand with the event, and its chain, its set and its tasks are right.
 use Rattle.std.proofs.Common.{◌≡◌, ℕ, zero, suc, ◌<◌, false, List, [], ◌∷◌, length, get_or, Option, Some, None, refl, sym, ap, ◌∙◌, subst, inl, inr, IsTrue, arith}
+use Rattle.std.specs.Prelude.{All}
 use Rattle.std.proofs.lemmas.Bool.{cases_Bool, true≢false, ltb-true}
+use Rattle.std.proofs.lemmas.List.Elements.{All-head}
 use Rattle.std.proofs.lemmas.Option.{same_Some}
 use Rattle.affinity_mask.specs.ProcSet.{has, all_below, Within}
 use Rattle.affinity_mask.proofs.Sets.{has-all_below}
@@ -222,26 +224,22 @@ module _ (s : State) (ok : IsState s) (t : ℕ) where
       }
 
 -- ---- whole replies
+-- the set of a reply that has one
+only_set : (set : ℕ) → All (λ X. Within X (all_below processor_count)) (set ∷ []) → Within set (all_below processor_count)
+only_set set small = All-head (λ X. Within X (all_below processor_count)) set [] small
 
 arrival_justified : (s : State) (t : ℕ) (reply : Reply) → IsState s → ArrivalPasses s t reply → IsAllowed s (Arrive t) reply × IsJustified s t reply
 arrival_justified s t (Placed chain) ok passes = (passes.absent, record { chain = placed_fits s ok t chain passes; set = tt; tasks = tt })
 arrival_justified s t (Displaced chain out reach) ok passes = (passes.absent, displaced_justified s ok t chain out reach passes)
 arrival_justified s t (Waits reach) ok passes = (passes.absent, record { chain = tt; set = waits_fits s ok t reach passes; tasks = tt })
-arrival_justified s t (Freed entered chain back) ok passes = absurd passes
-arrival_justified s t Left ok passes = absurd passes
-arrival_justified s t Ticked ok passes = absurd passes
 arrival_justified s t AlreadyReady ok passes = (passes, record { chain = tt; set = tt; tasks = tt })
-arrival_justified s t NotReady ok passes = absurd passes
+arrival_justified s t _ ok passes = absurd passes
 
 departure_justified : (s : State) (t : ℕ) (reply : Reply) → IsState s → DeparturePasses s t reply → IsAllowed s (Depart t) reply × IsJustified s t reply
-departure_justified s t (Placed chain) ok passes = absurd passes
-departure_justified s t (Displaced chain out reach) ok passes = absurd passes
-departure_justified s t (Waits reach) ok passes = absurd passes
 departure_justified s t (Freed entered chain back) ok passes = (is_linked-from_on s passes.place t passes.linked, freed_justified s ok t entered chain back passes)
 departure_justified s t Left ok passes = (passes, record { chain = tt; set = tt; tasks = tt })
-departure_justified s t Ticked ok passes = absurd passes
-departure_justified s t AlreadyReady ok passes = absurd passes
 departure_justified s t NotReady ok passes = (passes, record { chain = tt; set = tt; tasks = tt })
+departure_justified s t _ ok passes = absurd passes
 
 -- a reply that passes is of an allowed kind, and justified
 pub passing_is_justified : (s : State) (event : Event) (reply : Reply) → IsState s → Passes s event reply → IsAllowed s event reply × IsJustified s (event_task event) reply
@@ -251,23 +249,16 @@ passing_is_justified s (Tick units) reply ok passes = (passes, subst (λ (r : Re
 
 justified_arrival_passes : (s : State) (t : ℕ) (reply : Reply) → IsState s → IsOfProcessors reply → IsAllowed s (Arrive t) reply → IsJustified s t reply → ArrivalPasses s t reply
 justified_arrival_passes s t (Placed chain) ok small allowed justified = placed_passes s ok t chain allowed justified.chain
-justified_arrival_passes s t (Displaced chain out reach) ok small allowed justified = displaced_passes s ok t chain out reach allowed justified small
-justified_arrival_passes s t (Waits reach) ok small allowed justified = waits_passes s ok t reach allowed justified.set small
-justified_arrival_passes s t (Freed entered chain back) ok small allowed justified = absurd allowed
-justified_arrival_passes s t Left ok small allowed justified = absurd allowed
-justified_arrival_passes s t Ticked ok small allowed justified = absurd allowed
+justified_arrival_passes s t (Displaced chain out reach) ok small allowed justified = displaced_passes s ok t chain out reach allowed justified (only_set reach small)
+justified_arrival_passes s t (Waits reach) ok small allowed justified = waits_passes s ok t reach allowed justified.set (only_set reach small)
 justified_arrival_passes s t AlreadyReady ok small allowed justified = allowed
-justified_arrival_passes s t NotReady ok small allowed justified = absurd allowed
+justified_arrival_passes s t _ ok small allowed justified = absurd allowed
 
 justified_departure_passes : (s : State) (t : ℕ) (reply : Reply) → IsState s → IsOfProcessors reply → IsAllowed s (Depart t) reply → IsJustified s t reply → DeparturePasses s t reply
-justified_departure_passes s t (Placed chain) ok small allowed justified = absurd allowed
-justified_departure_passes s t (Displaced chain out reach) ok small allowed justified = absurd allowed
-justified_departure_passes s t (Waits reach) ok small allowed justified = absurd allowed
-justified_departure_passes s t (Freed entered chain back) ok small allowed justified = freed_passes s ok t entered chain back justified small
+justified_departure_passes s t (Freed entered chain back) ok small allowed justified = freed_passes s ok t entered chain back justified (only_set back small)
 justified_departure_passes s t Left ok small allowed justified = allowed
-justified_departure_passes s t Ticked ok small allowed justified = absurd allowed
-justified_departure_passes s t AlreadyReady ok small allowed justified = absurd allowed
 justified_departure_passes s t NotReady ok small allowed justified = allowed
+justified_departure_passes s t _ ok small allowed justified = absurd allowed
 
 -- and the other way round
 pub justified_passes : (s : State) (event : Event) (reply : Reply) → IsState s → IsOfTask (task_count s) event → IsOfProcessors reply → IsAllowed s event reply → IsJustified s (event_task event) reply → Passes s event reply

@@ -75,18 +75,13 @@ module _ (s : State) (ok : IsState s) (certificates : HasCertificates s) (t : �
   kept_by_arrival (Placed chain) passes = kept_by_placed chain passes
   kept_by_arrival (Displaced chain out reach) passes = kept_by_displaced chain out reach passes
   kept_by_arrival (Waits reach) passes = kept_by_waits reach passes
-  kept_by_arrival (Freed entered chain back) passes = absurd passes
-  kept_by_arrival Left passes = absurd passes
-  kept_by_arrival Ticked passes = absurd passes
   kept_by_arrival AlreadyReady passes = certificates
-  kept_by_arrival NotReady passes = absurd passes
+  kept_by_arrival _ passes = absurd passes
 
   pub arrival_ground : (reply : Reply) → ArrivalPasses s t reply → HasGround (state_after_reply s t reply) t reply
-  arrival_ground (Placed chain) passes = tt
   arrival_ground (Displaced chain out reach) passes = displaced_ground chain out reach passes
   arrival_ground (Waits reach) passes = waits_ground reach passes
   arrival_ground (Freed entered chain back) passes = absurd passes
-  arrival_ground Left passes = tt
-  arrival_ground Ticked passes = tt
+  arrival_ground (Placed chain) passes = tt
   arrival_ground AlreadyReady passes = tt
-  arrival_ground NotReady passes = tt
+  arrival_ground _ passes = absurd passes

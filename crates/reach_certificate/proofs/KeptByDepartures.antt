@@ -180,21 +180,13 @@ module _ (s : State) (ok : IsState s) (certificates : HasCertificates s) (t : �
       kept_by_entering place linked back back_first back_next w enters.0 (reverse chain) (IsChainOf-reverse (state_after_leaving s t) place w chain end.0 end.1 end.2) (IsSimple-reverse chain enters.2)
 
   pub kept_by_departure : (reply : Reply) → DeparturePasses s t reply → HasCertificates (state_after_reply s t reply)
-  kept_by_departure (Placed chain) passes = absurd passes
-  kept_by_departure (Displaced chain out reach) passes = absurd passes
-  kept_by_departure (Waits reach) passes = absurd passes
   kept_by_departure (Freed entered chain back) passes = kept_by_entry passes.place passes.linked back passes.has_place passes.closed entered chain passes.enters
   kept_by_departure Left passes = kept_by_left
-  kept_by_departure Ticked passes = absurd passes
-  kept_by_departure AlreadyReady passes = absurd passes
   kept_by_departure NotReady passes = certificates
+  kept_by_departure _ passes = absurd passes
 
   pub departure_ground : (reply : Reply) → DeparturePasses s t reply → HasGround (state_after_reply s t reply) t reply
-  departure_ground (Placed chain) passes = tt
-  departure_ground (Displaced chain out reach) passes = absurd passes
-  departure_ground (Waits reach) passes = absurd passes
   departure_ground (Freed entered chain back) passes = entry_ground passes.place passes.linked back entered chain passes.enters
   departure_ground Left passes = tt
-  departure_ground Ticked passes = tt
-  departure_ground AlreadyReady passes = tt
   departure_ground NotReady passes = tt
+  departure_ground _ passes = absurd passes

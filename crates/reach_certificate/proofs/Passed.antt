@@ -40,11 +40,8 @@ arrival_keeps_state : (s : State) (t : ℕ) (reply : Reply) → IsState s → t 
 arrival_keeps_state s t (Placed chain) ok number passes = let end = passes.ends in IsState-arrived s ok t chain end.0 number passes.absent end.1 passes.simple
 arrival_keeps_state s t (Displaced chain out reach) ok number passes = let end = passes.ends in IsState-arrived s ok t chain end.0 number passes.absent end.1 passes.simple
 arrival_keeps_state s t (Waits reach) ok number passes = IsState-state_with_ready s ok t number
-arrival_keeps_state s t (Freed entered chain back) ok number passes = absurd passes
-arrival_keeps_state s t Left ok number passes = absurd passes
-arrival_keeps_state s t Ticked ok number passes = absurd passes
 arrival_keeps_state s t AlreadyReady ok number passes = ok
-arrival_keeps_state s t NotReady ok number passes = absurd passes
+arrival_keeps_state s t _ ok number passes = absurd passes
 
 entry_keeps_state : (s : State) (p : ℕ) (entered : Option ℕ) (chain : List ℕ) (back : ℕ) → IsState s → EntryPasses s p entered chain back → IsState (state_after_entering s entered chain)
 entry_keeps_state s p None chain back ok enters = ok
@@ -53,14 +50,10 @@ entry_keeps_state s p (Some w) chain back ok enters =
     IsState-state_after_shift s ok w _ p enters.0.waits (IsChainOf-reverse s p w chain end.0 end.1 end.2) (IsSimple-reverse chain enters.2)
 
 departure_keeps_state : (s : State) (t : ℕ) (reply : Reply) → IsState s → DeparturePasses s t reply → IsState (state_after_reply s t reply)
-departure_keeps_state s t (Placed chain) ok passes = absurd passes
-departure_keeps_state s t (Displaced chain out reach) ok passes = absurd passes
-departure_keeps_state s t (Waits reach) ok passes = absurd passes
 departure_keeps_state s t (Freed entered chain back) ok passes = entry_keeps_state (state_after_leaving s t) passes.place entered chain back (IsState-state_after_leaving s ok t) passes.enters
 departure_keeps_state s t Left ok passes = IsState-state_with_absent s ok t passes
-departure_keeps_state s t Ticked ok passes = absurd passes
-departure_keeps_state s t AlreadyReady ok passes = absurd passes
 departure_keeps_state s t NotReady ok passes = ok
+departure_keeps_state s t _ ok passes = absurd passes
 
 pub passing_keeps_state : (s : State) (event : Event) (reply : Reply) → IsState s → Passes s event reply → IsState (state_after_reply s (event_task event) reply)
 passing_keeps_state s (Arrive t) reply ok passes = arrival_keeps_state s t reply ok passes.0 passes.1
@@ -93,11 +86,8 @@ arrival_step_passes s t (Waits reach) new ok step = record {
         (occupant.0, occupant.1, occupant.2, IsReach-closed s t reach step.reached p occupant.0 inside occupant.1);
   };
 }
-arrival_step_passes s t (Freed entered chain back) new ok step = absurd step
-arrival_step_passes s t Left new ok step = absurd step
-arrival_step_passes s t Ticked new ok step = absurd step
 arrival_step_passes s t AlreadyReady new ok step = step.0
-arrival_step_passes s t NotReady new ok step = absurd step
+arrival_step_passes s t _ new ok step = absurd step
 
 enter_step_passes : (s : State) (p : ℕ) (entered : Option ℕ) (chain : List ℕ) (back : ℕ) (new : State) → IsState s → EnterStep s p entered chain back new → EntryPasses s p entered chain back
 enter_step_passes s p None chain back new ok step = (step.0, step.1)
@@ -136,9 +126,6 @@ back_reach-below s ok t p back linked is_back q inside =
     ]
 
 departure_step_passes : (s : State) (t : ℕ) (reply : Reply) (new : State) → IsState s → DepartStep s t reply new → DeparturePasses s t reply
-departure_step_passes s t (Placed chain) new ok step = absurd step
-departure_step_passes s t (Displaced chain out reach) new ok step = absurd step
-departure_step_passes s t (Waits reach) new ok step = absurd step
 departure_step_passes s t (Freed entered chain back) new ok step =
     let left = state_after_leaving s t in
     record {
@@ -150,9 +137,8 @@ departure_step_passes s t (Freed entered chain back) new ok step =
       enters = enter_step_passes left step.place entered chain back new (IsState-state_after_leaving s ok t) step.enters;
     }
 departure_step_passes s t Left new ok step = step.0
-departure_step_passes s t Ticked new ok step = absurd step
-departure_step_passes s t AlreadyReady new ok step = absurd step
 departure_step_passes s t NotReady new ok step = step.0
+departure_step_passes s t _ new ok step = absurd step
 
 pub step_passes : (s : State) (event : Event) (reply : Reply) (new : State) → IsState s → SchedulerStep s event reply new → Passes s event reply
 step_passes s (Arrive t) reply new ok step = (step.0, arrival_step_passes s t reply new ok step.1)

@@ -8,7 +8,7 @@ use Rattle.link_table.specs.declared.reply.Reply.TheVariants.{Placed, Displaced,
 use Rattle.link_table.specs.State.{State, IsState, task_count}
 use Rattle.link_table.specs.History.{event_task}
 use Rattle.reach_certificate.specs.Passing.{IsOfTask, Passes}
-use Rattle.reach_certificate.specs.Defect.{IsAllowed, IsOfProcessors, IsReplyDefect}
+use Rattle.reach_certificate.specs.Defect.{IsAllowed, IsAllowedToArrival, IsAllowedToDeparture, IsOfProcessors, IsReplyDefect}
 use Rattle.reach_certificate.specs.Judging.{HasPlace, IsJustified, IsUnjustified}
 use Rattle.reach_certificate.specs.declared.defect.Defect.{Defect}
 use Rattle.reach_certificate.specs.declared.defect.Defect.TheVariants.{WrongReply, BadChain, BadSet, WrongTask}
@@ -16,23 +16,9 @@ use Rattle.reach_certificate.proofs.Justified.{justified_passes}
 
 -- where a departing task leaves a processor it was linked
 pub allowed_has_place : (s : State) (event : Event) (reply : Reply) → IsAllowed s event reply → HasPlace s (event_task event) reply
-allowed_has_place s (Arrive t) (Placed chain) allowed = tt
-allowed_has_place s (Arrive t) (Displaced chain out reach) allowed = tt
-allowed_has_place s (Arrive t) (Waits reach) allowed = tt
-allowed_has_place s (Arrive t) (Freed entered chain back) allowed = absurd allowed
-allowed_has_place s (Arrive t) Left allowed = tt
-allowed_has_place s (Arrive t) Ticked allowed = tt
-allowed_has_place s (Arrive t) AlreadyReady allowed = tt
-allowed_has_place s (Arrive t) NotReady allowed = tt
-allowed_has_place s (Depart t) (Placed chain) allowed = tt
-allowed_has_place s (Depart t) (Displaced chain out reach) allowed = tt
-allowed_has_place s (Depart t) (Waits reach) allowed = tt
-allowed_has_place s (Depart t) (Freed entered chain back) allowed = allowed
-allowed_has_place s (Depart t) Left allowed = tt
-allowed_has_place s (Depart t) Ticked allowed = tt
-allowed_has_place s (Depart t) AlreadyReady allowed = tt
-allowed_has_place s (Depart t) NotReady allowed = tt
-allowed_has_place s (Tick units) reply allowed = subst (HasPlace s 0) (sym allowed) tt
+allowed_has_place s (Arrive t) reply allowed entered chain back frees = absurd (subst (IsAllowedToArrival s t) frees allowed)
+allowed_has_place s (Depart t) reply allowed entered chain back frees = subst (IsAllowedToDeparture s t) frees allowed
+allowed_has_place s (Tick units) reply allowed entered chain back frees = absurd (cc)
 
 pub entry_judged : (s : State) (event : Event) (reply : Reply) (found : Option Defect) → IsState s → IsOfTask (task_count s) event → IsAllowed s event reply → IfNone found (IsOfProcessors reply)
     → MatchOption found (IsJustified s (event_task event) reply) (IsUnjustified s (event_task event) reply) → MatchOption found (Passes s event reply) (IsReplyDefect s event reply)

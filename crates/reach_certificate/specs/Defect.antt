@@ -2,13 +2,14 @@
 -- may stand with the event; each place of its chain fits; each processor fits the set; the tasks that it names are the
 -- right ones. The first part that fails is the defect, told with its first place, its least processor, or the right task.
 -- A chain need not be the least, nor a set the smallest.
-use Rattle.std.specs.Prelude.{◌≡◌, ◌≢◌, ℕ, ◌+◌, ◌-◌, ◌<◌, ◌≤◌, ◌⊎◌, true, false, List, length, slice_index, IsTrue, Option, Some, None, IsSome}
+use Rattle.std.specs.Prelude.{◌≡◌, ◌≢◌, ℕ, ◌+◌, ◌-◌, ◌<◌, ◌≤◌, ◌⊎◌, true, false, List, length, slice_index, IsTrue, Option, Some, None, IsSome, All}
 use Rattle.affinity_mask.specs.ProcSet.{has, all_below, Within}
 use Rattle.task_set.specs.declared.event.Event.{Event}
 use Rattle.task_set.specs.declared.event.Event.TheVariants.{Arrive, Depart, Tick}
 use Rattle.link_table.specs.declared.reply.Reply.{Reply}
 use Rattle.link_table.specs.declared.reply.Reply.TheVariants.{Placed, Displaced, Waits, Freed, Left, Ticked, AlreadyReady, NotReady}
 use Rattle.link_table.specs.declared.reply.Entry.{Entry}
+use Rattle.link_table.specs.Reply.{sets_of}
 use Rattle.link_table.specs.State.{State, effective_mask, task_on, is_ready, is_linked, priority_of, IsWaiting, IsMoreUrgent, state_after_leaving}
 use Rattle.link_table.specs.Chain.{CanShift, CanEnterAt}
 use Rattle.link_table.specs.Step.{IsMostUrgentInto}
@@ -38,21 +39,14 @@ IsAllowedToArrival s t AlreadyReady = is_ready s t ≡ true
 IsAllowedToArrival s t (Placed chain) = is_ready s t ≡ false
 IsAllowedToArrival s t (Displaced chain out reach) = is_ready s t ≡ false
 IsAllowedToArrival s t (Waits reach) = is_ready s t ≡ false
-IsAllowedToArrival s t (Freed entered chain back) = ⊥
-IsAllowedToArrival s t Left = ⊥
-IsAllowedToArrival s t Ticked = ⊥
-IsAllowedToArrival s t NotReady = ⊥
+IsAllowedToArrival s t _ = ⊥
 
 -- the kinds of reply that may stand with the departure of t
 abbrev pub IsAllowedToDeparture : State → ℕ → Reply → Type 0
 IsAllowedToDeparture s t NotReady = is_ready s t ≡ false
 IsAllowedToDeparture s t Left = IsWaiting s t
 IsAllowedToDeparture s t (Freed entered chain back) = is_linked s t ≡ true
-IsAllowedToDeparture s t (Placed chain) = ⊥
-IsAllowedToDeparture s t (Displaced chain out reach) = ⊥
-IsAllowedToDeparture s t (Waits reach) = ⊥
-IsAllowedToDeparture s t Ticked = ⊥
-IsAllowedToDeparture s t AlreadyReady = ⊥
+IsAllowedToDeparture s t _ = ⊥
 
 -- the kind of the reply may stand with the event
 abbrev pub IsAllowed : State → Event → Reply → Type 0
@@ -107,11 +101,7 @@ abbrev pub HasBadChain : State → ℕ → Reply → ℕ → Type 0
 HasBadChain s t (Placed chain) i = IsFirstMisfit (PlacedFits s t chain) (length chain) i
 HasBadChain s t (Displaced chain out reach) i = IsFirstMisfit (DisplacedFits s t chain) (length chain) i
 HasBadChain s t (Freed entered chain back) i = (p : ℕ) × (task_on s p ≡ Some t) × IsFirstMisfit (FreedFits (state_after_leaving s t) p entered chain) (length chain) i
-HasBadChain s t (Waits reach) i = ⊥
-HasBadChain s t Left i = ⊥
-HasBadChain s t Ticked i = ⊥
-HasBadChain s t AlreadyReady i = ⊥
-HasBadChain s t NotReady i = ⊥
+HasBadChain s t _ i = ⊥
 
 -- ---- the set
 -- q fits a set behind which t stays: the set has it where the mask of t does, and where the set has it, its occupant may
@@ -155,11 +145,7 @@ abbrev pub HasBadSet : State → ℕ → Reply → ℕ → Type 0
 HasBadSet s t (Displaced chain out reach) q = (d : ℕ) × (task_on s (last_processor chain) ≡ Some d) × IsFirstMisfit (ReachFits s t reach (λ u. IsNoLessUrgent s u d)) processor_count q
 HasBadSet s t (Waits reach) q = IsFirstMisfit (ReachFits s t reach (λ u. IsMoreUrgent s u t)) processor_count q
 HasBadSet s t (Freed entered chain back) q = (p : ℕ) × (task_on s p ≡ Some t) × IsFirstMisfit (BackFits (state_after_leaving s t) p back) processor_count q
-HasBadSet s t (Placed chain) q = ⊥
-HasBadSet s t Left q = ⊥
-HasBadSet s t Ticked q = ⊥
-HasBadSet s t AlreadyReady q = ⊥
-HasBadSet s t NotReady q = ⊥
+HasBadSet s t _ q = ⊥
 
 -- ---- the tasks
 -- no waiting task may run on a processor of the set
@@ -195,12 +181,7 @@ TasksAreRight s t NotReady = Unit {0}
 abbrev pub HasWrongTask : State → ℕ → Reply → ℕ → Type 0
 HasWrongTask s t (Displaced chain out reach) x = (task_on s (last_processor chain) ≡ Some x) × ((out ≢ x) ⊎ IsNoLessUrgent s x t)
 HasWrongTask s t (Freed entered chain back) x = EntersWrongly (state_after_leaving s t) entered chain back x
-HasWrongTask s t (Placed chain) x = ⊥
-HasWrongTask s t (Waits reach) x = ⊥
-HasWrongTask s t Left x = ⊥
-HasWrongTask s t Ticked x = ⊥
-HasWrongTask s t AlreadyReady x = ⊥
-HasWrongTask s t NotReady x = ⊥
+HasWrongTask s t _ x = ⊥
 
 -- ---- the first part that fails
 abbrev pub IsReplyDefect : State → Event → Reply → Defect → Type 0
@@ -220,13 +201,6 @@ number_of (BadChain i) = 2
 number_of (BadSet q) = 3
 number_of (WrongTask x) = 4
 
--- the set of a reply, if it has one, has no number beyond those of processors
+-- the sets of a reply have no number beyond those of processors
 abbrev pub IsOfProcessors : Reply → Type 0
-IsOfProcessors (Displaced chain out reach) = Within reach (all_below processor_count)
-IsOfProcessors (Waits reach) = Within reach (all_below processor_count)
-IsOfProcessors (Freed entered chain back) = Within back (all_below processor_count)
-IsOfProcessors (Placed chain) = Unit {0}
-IsOfProcessors Left = Unit {0}
-IsOfProcessors Ticked = Unit {0}
-IsOfProcessors AlreadyReady = Unit {0}
-IsOfProcessors NotReady = Unit {0}
+IsOfProcessors reply = All (λ set. Within set (all_below processor_count)) (sets_of reply)

@@ -5,7 +5,7 @@ use Rattle.affinity_mask.specs.ProcSet.{has, Within}
 use Rattle.link_table.specs.State.{State, effective_mask, task_on, is_linked, IsWaiting, IsMoreUrgent, state_after_leaving}
 use Rattle.link_table.specs.Chain.{CanShift, CanEnterAt}
 use Rattle.link_table.specs.declared.reply.Reply.{Reply}
-use Rattle.link_table.specs.declared.reply.Reply.TheVariants.{Placed, Displaced, Waits, Freed, Left, Ticked, AlreadyReady, NotReady}
+use Rattle.link_table.specs.declared.reply.Reply.TheVariants.{Freed}
 use Rattle.reach_certificate.specs.Defect.{AllFit, IsFirstMisfit, FitsAt, BeginsFor, MovesBack, ReachFits, BackFits, IsNoLessUrgent, ChainFits, HasBadChain, SetFits, HasBadSet, TasksAreRight, HasWrongTask}
 use Rattle.reach_certificate.specs.declared.defect.Defect.{Defect}
 use Rattle.reach_certificate.specs.declared.defect.Defect.TheVariants.{WrongReply, BadChain, BadSet, WrongTask}
@@ -94,16 +94,9 @@ abbrev pub CanEnterInto : State → ℕ → ℕ → Type 0
 CanEnterInto s set v = IsWaiting s v × ((q : ℕ) × IsTrue (has set q) × CanEnterAt s v q)
 
 -- ---- replies
--- the task that departs is linked, where the reply frees its processor
+-- where the reply frees the processor of t, t is linked to one
 abbrev pub HasPlace : State → ℕ → Reply → Type 0
-HasPlace s t (Freed entered chain back) = is_linked s t ≡ true
-HasPlace s t (Placed chain) = Unit {0}
-HasPlace s t (Displaced chain out reach) = Unit {0}
-HasPlace s t (Waits reach) = Unit {0}
-HasPlace s t Left = Unit {0}
-HasPlace s t Ticked = Unit {0}
-HasPlace s t AlreadyReady = Unit {0}
-HasPlace s t NotReady = Unit {0}
+HasPlace s t reply = (entered : Option ℕ) (chain : List ℕ) (back : ℕ) → reply ≡ Freed entered chain back → is_linked s t ≡ true
 
 -- the chain, the set and the tasks of a reply are all right
 pub record IsJustified (s : State) (t : ℕ) (reply : Reply) : Type 0 where

@@ -43,10 +43,7 @@ ArrivalPasses s t AlreadyReady = is_ready s t ≡ true
 ArrivalPasses s t (Placed chain) = PlacedPasses s t chain
 ArrivalPasses s t (Displaced chain out reach) = DisplacedPasses s t chain out reach
 ArrivalPasses s t (Waits reach) = WaitsPasses s t reach
-ArrivalPasses s t (Freed entered chain back) = ⊥
-ArrivalPasses s t Left = ⊥
-ArrivalPasses s t Ticked = ⊥
-ArrivalPasses s t NotReady = ⊥
+ArrivalPasses s t _ = ⊥
 
 -- no shift leads into the set from a processor outside
 abbrev pub IsBackClosed : State → ℕ → Type 0
@@ -72,11 +69,7 @@ abbrev pub DeparturePasses : State → ℕ → Reply → Type 0
 DeparturePasses s t NotReady = is_ready s t ≡ false
 DeparturePasses s t Left = IsWaiting s t
 DeparturePasses s t (Freed entered chain back) = FreedPasses s t entered chain back
-DeparturePasses s t (Placed chain) = ⊥
-DeparturePasses s t (Displaced chain out reach) = ⊥
-DeparturePasses s t (Waits reach) = ⊥
-DeparturePasses s t Ticked = ⊥
-DeparturePasses s t AlreadyReady = ⊥
+DeparturePasses s t _ = ⊥
 
 -- the task of the event, if it has one, is one of so many
 abbrev pub IsOfTask : ℕ → Event → Type 0

@@ -52,15 +52,9 @@ module _ (P : Order → Type 0) where
 -- ---- tasks
 -- a reply leaves the number of the tasks as it was
 pub task_count-reply : (s : State) (t : ℕ) (reply : Reply) → task_count (state_after_reply s t reply) ≡ task_count s
-task_count-reply s t (Placed chain) = refl
-task_count-reply s t (Displaced chain out reach) = refl
-task_count-reply s t (Waits reach) = refl
 task_count-reply s t (Freed None chain back) = refl
 task_count-reply s t (Freed (Some w) chain back) = refl
-task_count-reply s t Left = refl
-task_count-reply s t Ticked = refl
-task_count-reply s t AlreadyReady = refl
-task_count-reply s t NotReady = refl
+task_count-reply s t _ = refl
 
 -- and so does a history
 pub task_count-history : (s : State) (history : List Entry) → task_count (state_after s history) ≡ task_count s

@@ -12,15 +12,9 @@ use Rattle.placement_laws.specs.Admission.{HasSameTasks}
 use Rattle.sched_core.specs.CoreData.{state_before_events}
 
 pub same_tasks-reply : (s : State) (t : ℕ) (reply : Reply) → HasSameTasks s (state_after_reply s t reply)
-same_tasks-reply s t (Placed chain) = record { processors = refl; priorities = refl; masks = refl; online = refl }
-same_tasks-reply s t (Displaced chain out reach) = record { processors = refl; priorities = refl; masks = refl; online = refl }
-same_tasks-reply s t (Waits reach) = record { processors = refl; priorities = refl; masks = refl; online = refl }
 same_tasks-reply s t (Freed None chain back) = record { processors = refl; priorities = refl; masks = refl; online = refl }
 same_tasks-reply s t (Freed (Some w) chain back) = record { processors = refl; priorities = refl; masks = refl; online = refl }
-same_tasks-reply s t Left = record { processors = refl; priorities = refl; masks = refl; online = refl }
-same_tasks-reply s t Ticked = record { processors = refl; priorities = refl; masks = refl; online = refl }
-same_tasks-reply s t AlreadyReady = record { processors = refl; priorities = refl; masks = refl; online = refl }
-same_tasks-reply s t NotReady = record { processors = refl; priorities = refl; masks = refl; online = refl }
+same_tasks-reply s t _ = record { processors = refl; priorities = refl; masks = refl; online = refl }
 
 pub same_tasks-effect : (s : State) (entry : Entry) → HasSameTasks s (effect_of s entry)
 same_tasks-effect s entry = same_tasks-reply s (event_task entry.event) entry.reply
