@@ -23,6 +23,10 @@ intersection X Y = bit_and X Y
 abbrev pub Within : ℕ → ℕ → Type 0
 Within X Y = (p : ℕ) → IsTrue (has X p) → IsTrue (has Y p)
 
+-- some processor is in both sets
+abbrev pub Meets : ℕ → ℕ → Type 0
+Meets X Y = (p : ℕ) × IsTrue (has X p) × IsTrue (has Y p)
+
 -- p is in X, and no member of X is less
 abbrev pub IsLeastMember : ℕ → ℕ → Type 0
 IsLeastMember X p = IsTrue (has X p) × ((q : ℕ) → IsTrue (has X q) → p ≤ q)

@@ -2,7 +2,9 @@ pub mod BestOnce
 pub mod Contexts
 pub mod Ends
 pub mod Histories
+mod IdleSets
 pub mod Idling
+pub mod Leaders
 pub mod Least
 pub mod Leaving
 pub mod Linked

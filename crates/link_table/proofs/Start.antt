@@ -22,7 +22,7 @@ IsState-start set ok =
       masks_count = length-map _ _ ∙ sym (length-map _ _);
       ready_count = length-replicate _ _ ∙ sym (length-map _ _);
       on_count = length-replicate _ _;
-      online = refl;
+      online = λ p h. h;
       masks = λ t number.
           let below : t < length set.tasks = rw (← length-map set.tasks (λ (x : TaskData). x.mask)) (omega (arith, length-map set.tasks (λ (x : TaskData). x.mask), length-map set.tasks (λ (x : TaskData). x.priority))) in
           rw (get_or-map (λ (x : TaskData). x.mask) set.tasks t no_task 0 below) (ok.masks t no_task below);

@@ -20,6 +20,10 @@ pub record IsLeastUrgentOn (s : State) (set d : ℕ) : Type 0 where
   pub there : (p : ℕ) × IsTrue (has set p) × (task_on s p ≡ Some d)
   pub least_urgent : (p u : ℕ) → IsTrue (has set p) → task_on s p ≡ Some u → priority_of s u ≤ priority_of s d
 
+-- no processor of the set is occupied
+abbrev pub IsNobodyOn : State → ℕ → Type 0
+IsNobodyOn s set = (p u : ℕ) → IsTrue (has set p) → task_on s p ≡ Some u → ⊥
+
 -- t arrives and reaches an idle processor: it is shifted along the least of all its chains to idle processors
 pub record ArrivePlaced (s : State) (t : ℕ) (chain : List ℕ) (new : State) : Type 0 where
   pub absent : is_ready s t ≡ false
@@ -52,6 +56,14 @@ ArriveStep s t (Displaced chain out reach) new = ArriveDisplaced s t chain out r
 ArriveStep s t (Waits reach) new = ArriveWaits s t reach new
 ArriveStep s t _ new = ⊥
 
+-- w waits, and can enter at a processor of the set
+abbrev pub CanEnterInto : State → ℕ → ℕ → Type 0
+CanEnterInto s set w = IsWaiting s w × ((p : ℕ) × IsTrue (has set p) × CanEnterAt s w p)
+
+-- no waiting task can enter at a processor of the set
+abbrev pub IsNobodyInto : State → ℕ → Type 0
+IsNobodyInto s set = (w p : ℕ) → IsWaiting s w → IsTrue (has set p) → CanEnterAt s w p → ⊥
+
 -- w is the most urgent waiting task that can enter at a processor of the set
 pub record IsMostUrgentInto (s : State) (back w : ℕ) : Type 0 where
   pub waits : IsWaiting s w
@@ -61,7 +73,7 @@ pub record IsMostUrgentInto (s : State) (back w : ℕ) : Type 0 where
 -- who comes in, where p has become idle in the state s: the most urgent waiting task that can, along its least back
 -- chain, or nobody, and then the chain is p alone
 abbrev pub EnterStep : State → ℕ → Option ℕ → List ℕ → ℕ → State → Type 0
-EnterStep s p None chain back new = ((v q : ℕ) → IsWaiting s v → IsTrue (has back q) → CanEnterAt s v q → ⊥) × (chain ≡ p ∷ []) × (new ≡ s)
+EnterStep s p None chain back new = IsNobodyInto s back × (chain ≡ p ∷ []) × (new ≡ s)
 EnterStep s p (Some w) chain back new = IsMostUrgentInto s back w × IsLeastSuch (EntersBy s p w) chain × Shifted s w (reverse chain) new
 
 -- t departs from a processor

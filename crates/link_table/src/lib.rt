@@ -16,6 +16,7 @@ pub mod links;
 pub mod reply;
 #[cfg(test)]
 mod tests;
+mod urgency;
 
 pub use chain::Chain;
 pub use links::Links;

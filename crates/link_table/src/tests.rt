@@ -15,7 +15,7 @@ fn is_chain(links: &Links, t: u32, chain: &Chain) -> bool
     ensures { IsTrue result → (q : ℕ) × IsChainOf links.now t chain.now q }
 {
     let processors = links.processors();
-    if chain.is_empty() || !links.mask(t).has(chain.at(0)) {
+    if chain.is_empty() || !links.effective(t).has(chain.at(0)) {
         return false;
     }
     for i in 1..chain.len() {
@@ -26,7 +26,7 @@ fn is_chain(links: &Links, t: u32, chain: &Chain) -> bool
         let Some(occupant) = links.on(before) else {
             return false;
         };
-        if !links.mask(occupant).has(chain.at(i)) {
+        if !links.effective(occupant).has(chain.at(i)) {
             return false;
         }
     }

@@ -1,10 +1,9 @@
 -- Steps, and the sets of processors before and after them.
 use Rattle.std.proofs.Common.{◌≡◌, ℕ, ◌+◌, ◌<◌, ◌≤◌, ◌||◌, ◌&&◌, Option, Some, None, nat_eq, refl, sym, ap, ◌∙◌, subst, inl, inr, ◌⊎◌, ◌↔◌, IsTrue, arith, eq-eqb, eqb-true}
 use Rattle.std.proofs.lemmas.Bool.{cases_eq, or_cases, or_left, or_right, and_parts, and_from, true≢false, false≢true}
-use Rattle.std.specs.Prelude.{IsNone, IfSome, is_some}
 use Rattle.std.proofs.lemmas.Option.{same_Some}
-use Rattle.affinity_mask.specs.ProcSet.{has, empty, IsLeastMember}
-use Rattle.affinity_mask.proofs.Sets.{has-zero}
+use Rattle.affinity_mask.specs.ProcSet.{has, empty}
+use Rattle.affinity_mask.proofs.Meetings.{no_member}
 use Rattle.link_table.specs.State.{State, IsState, task_on, effective_mask}
 use Rattle.link_table.specs.Chain.{CanShift}
 use Rattle.link_table.proofs.Linked.{occupied_number}
@@ -17,15 +16,6 @@ use Rattle.path_search.specs.Paths.{Steps, StepsInto}
 pub Steps-below : (s : State) → IsState s → (direction : Direction) (p q : ℕ) → Steps s direction p q → q < s.processors
 Steps-below s ok Onward p q step = effective_mask_below s ok step.0 q step.2
 Steps-below s ok Back p q step = occupied_number s q step.0 ok step.1
-
--- the empty set has no member
-pub no_member : (X p : ℕ) → X ≡ empty → IsTrue (has X p) → ⊥
-no_member X p none h = true≢false (sym h ∙ ap (λ (Y : ℕ). has Y p) none ∙ has-zero p)
-
--- a least common member tells whether there is a common member
-pub common_member : (X Y both : ℕ) → ((q : ℕ) → has both q ≡ (has X q && has Y q)) → (least : Option ℕ) → IsNone least ↔ (both ≡ empty) → IfSome least (IsLeastMember both) → IsTrue (is_some least) ↔ ((p : ℕ) × IsTrue (has X p) × IsTrue (has Y p))
-common_member X Y both is_both None none member = (λ h. absurd (false≢true h), λ common. absurd (no_member both common.0 (none.0 refl) (is_both common.0 ∙ and_from (has X common.0) (has Y common.0) common.1 common.2)))
-common_member X Y both is_both (Some p) none member = (λ h. let parts = and_parts (has X p) (has Y p) (sym (is_both p) ∙ member.0) in (p, parts.0, parts.1), λ common. refl)
 
 -- who can be shifted from a processor follows from its occupant
 pub CanShift-occupant : (s : State) (p q u : ℕ) → task_on s p ≡ Some u → CanShift s p q → IsTrue (has (effective_mask s u) q)

@@ -174,7 +174,7 @@ fn link(rt: &impl Abort, links: &mut Links, t: u32, p: u8) {
     assert!(rt; p < 64 && t < links.len());
     assert!(rt; !links.is_ready(t));
     links.make_ready(t);
-    let allowed = links.mask(t).has(p);
+    let allowed = links.effective(t).has(p);
     assert!(rt; allowed);
     let mut chain = Chain::new();
     chain.push(p);

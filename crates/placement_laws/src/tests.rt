@@ -14,7 +14,7 @@ use task_set::TaskSet;
 fn link(rt: &impl Abort, links: &mut Links, t: u32, p: u8) {
     assert!(rt; p < 64);
     wait(rt, links, t);
-    let allowed = links.mask(t).has(p);
+    let allowed = links.effective(t).has(p);
     assert!(rt; allowed);
     let mut chain = Chain::new();
     chain.push(p);

@@ -4,11 +4,11 @@ use Rattle.std.proofs.lemmas.Option.{same_Some}
 use Rattle.link_table.specs.declared.reply.Reply.{Reply}
 use Rattle.link_table.specs.declared.reply.Reply.TheVariants.{Placed, Displaced, Waits, Freed, Left, Ticked, AlreadyReady, NotReady}
 use Rattle.link_table.specs.State.{State, IsState, IsMoreUrgent, task_on, priority_of, state_after_leaving}
-use Rattle.link_table.specs.Step.{IsMostUrgentInto}
+use Rattle.link_table.specs.Step.{IsNobodyInto, IsMostUrgentInto}
 use Rattle.link_table.specs.History.{event_task}
 use Rattle.link_table.proofs.Leaving.{IsState-state_after_leaving}
 use Rattle.link_table.proofs.Unique.{ready_number}
-use Rattle.reach_certificate.specs.Defect.{AllFit, IsFirstMisfit, PlacedFits, DisplacedFits, FreedFits, ChainFits, HasBadChain, ReachFits, BackFits, IsNoLessUrgent, processor_count, SetFits, HasBadSet, IsNobodyInto, EntersRightly, EntersWrongly, TasksAreRight, HasWrongTask}
+use Rattle.reach_certificate.specs.Defect.{AllFit, IsFirstMisfit, PlacedFits, DisplacedFits, FreedFits, ChainFits, HasBadChain, ReachFits, BackFits, IsNoLessUrgent, processor_count, SetFits, HasBadSet, EntersRightly, EntersWrongly, TasksAreRight, HasWrongTask}
 use Rattle.reach_certificate.specs.DefectLaws.{PassingHasNoDefect, DefectIsUnique}
 use Rattle.reach_certificate.specs.declared.defect.Defect.TheVariants.{WrongReply, BadChain, BadSet, WrongTask}
 use Rattle.reach_certificate.proofs.ChainPlaces.{all_fit_no_misfit, misfit_unique}

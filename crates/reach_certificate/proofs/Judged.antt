@@ -1,9 +1,6 @@
--- The state once a task has left: it is a state, and who waits in it waited before. And what two sets have in common.
+-- The state once a task has left: it is a state, and who waits in it waited before.
 use Rattle.std.proofs.Common.{◌≡◌, ◌≢◌, ℕ, zero, suc, Bool, false, ◌&&◌, List, [], ◌∷◌, get_or, set, Option, Some, None, refl, sym, ap, ◌∙◌, subst, IsTrue, ◌↔◌, get_or-set_other}
-use Rattle.std.proofs.lemmas.Bool.{and_parts, and_from, true≢false, false≢true}
-use Rattle.std.specs.Prelude.{IsNone, IfSome, is_some}
-use Rattle.affinity_mask.specs.ProcSet.{has, empty, IsLeastMember}
-use Rattle.affinity_mask.proofs.Sets.{has-zero}
+use Rattle.std.proofs.lemmas.Bool.{true≢false}
 use Rattle.link_table.specs.State.{State, IsState, IsWaiting, state_after_leaving}
 use Rattle.link_table.proofs.Leaving.{IsState-state_after_leaving, task_on-state_after_leaving, task_on-stays}
 use Rattle.link_table.proofs.Linked.{not_on, not_linked-from_on}
@@ -42,12 +39,3 @@ waits_once_left left s now t v is some other = subst (λ (x : State). IsWaiting 
 pub gone_once_left : (left : Option ℕ) (s now : State) (t v : ℕ) → state_without left s ≡ now → left ≡ Some t → v ≡ t → IsWaiting now v → ⊥
 gone_once_left left s now t v is some same waits =
     gone s t (subst (IsWaiting (state_after_leaving s t)) same (subst (λ (x : State). IsWaiting x v) (sym (ap (λ (l : Option ℕ). state_without l s) (sym some) ∙ is)) waits))
-
--- ---- two sets
-no_member : (X p : ℕ) → X ≡ empty → IsTrue (has X p) → ⊥
-no_member X p none h = true≢false (sym h ∙ ap (λ (Y : ℕ). has Y p) none ∙ has-zero p)
-
--- a least common member tells whether there is a common member
-pub common_member : (X Y both : ℕ) → ((q : ℕ) → has both q ≡ (has X q && has Y q)) → (least : Option ℕ) → IsNone least ↔ (both ≡ empty) → IfSome least (IsLeastMember both) → IsTrue (is_some least) ↔ ((p : ℕ) × IsTrue (has X p) × IsTrue (has Y p))
-common_member X Y both is_both None none member = (λ h. absurd (false≢true h), λ common. absurd (no_member both common.0 (none.0 refl) (is_both common.0 ∙ and_from (has X common.0) (has Y common.0) common.1 common.2)))
-common_member X Y both is_both (Some p) none member = (λ h. let parts = and_parts (has X p) (has Y p) (sym (is_both p) ∙ member.0) in (p, parts.0, parts.1), λ common. refl)

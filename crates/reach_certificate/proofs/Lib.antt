@@ -7,7 +7,6 @@ pub mod Counts
 pub mod Decisions
 pub mod Defects
 pub mod Entering
-pub mod Entrants
 pub mod Following
 pub mod Fullness
 pub mod Judged
@@ -17,7 +16,6 @@ pub mod Kept
 pub mod KeptByArrivals
 pub mod KeptByDepartures
 pub mod KeptByShifts
-pub mod Left
 pub mod Parts
 pub mod Passed
 pub mod Ranked

@@ -12,7 +12,7 @@ use Rattle.link_table.specs.declared.reply.Entry.{Entry}
 use Rattle.link_table.specs.Reply.{sets_of}
 use Rattle.link_table.specs.State.{State, effective_mask, task_on, is_ready, is_linked, priority_of, IsWaiting, IsMoreUrgent, state_after_leaving}
 use Rattle.link_table.specs.Chain.{CanShift, CanEnterAt}
-use Rattle.link_table.specs.Step.{IsMostUrgentInto}
+use Rattle.link_table.specs.Step.{IsNobodyInto, IsMostUrgentInto}
 use Rattle.link_table.specs.History.{event_task}
 use Rattle.reach_certificate.specs.declared.defect.Defect.{Defect}
 use Rattle.reach_certificate.specs.declared.defect.Defect.TheVariants.{WrongReply, BadChain, BadSet, WrongTask}
@@ -148,10 +148,6 @@ HasBadSet s t (Freed entered chain back) q = (p : ℕ) × (task_on s p ≡ Some 
 HasBadSet s t _ q = ⊥
 
 -- ---- the tasks
--- no waiting task may run on a processor of the set
-abbrev pub IsNobodyInto : State → ℕ → Type 0
-IsNobodyInto s back = (v q : ℕ) → IsWaiting s v → IsTrue (has back q) → CanEnterAt s v q → ⊥
-
 -- the right one enters: the most urgent waiting task that may run on a processor of the set, and it may run on the last
 -- processor of the chain; or nobody, where nobody may
 abbrev pub EntersRightly : State → Option ℕ → List ℕ → ℕ → Type 0

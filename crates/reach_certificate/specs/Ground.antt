@@ -7,6 +7,7 @@ use Rattle.link_table.specs.declared.reply.Reply.{Reply}
 use Rattle.link_table.specs.declared.reply.Reply.TheVariants.{Placed, Displaced, Waits, Freed, Left, Ticked, AlreadyReady, NotReady}
 use Rattle.link_table.specs.State.{State, IsWaiting, IsMoreUrgent}
 use Rattle.link_table.specs.Chain.{CanEnterAt}
+use Rattle.link_table.specs.Step.{IsNobodyInto}
 use Rattle.link_table.specs.Certificate.{IsCertificate}
 
 -- the set certifies a task that waits
@@ -16,7 +17,7 @@ pub record WaitsBehind (s : State) (t set : ℕ) : Type 0 where
 
 -- who waits after a departure may not run on a processor of the set, or is less urgent than the one that came in
 abbrev pub LeavesNobody : State → Option ℕ → ℕ → Type 0
-LeavesNobody s None back = (v q : ℕ) → IsWaiting s v → IsTrue (has back q) → CanEnterAt s v q → ⊥
+LeavesNobody s None back = IsNobodyInto s back
 LeavesNobody s (Some w) back = (v q : ℕ) → IsWaiting s v → IsMoreUrgent s v w → IsTrue (has back q) → CanEnterAt s v q → ⊥
 
 -- what the set of a reply shows of the state after it, where t is the task of the event

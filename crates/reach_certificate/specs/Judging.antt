@@ -2,8 +2,8 @@
 -- these words; each is a case of the definitions of defects.
 use Rattle.std.specs.Prelude.{◌≡◌, ℕ, ◌+◌, ◌<◌, true, List, slice_index, IsTrue, Option, Some, None, MatchOption}
 use Rattle.affinity_mask.specs.ProcSet.{has, Within}
-use Rattle.link_table.specs.State.{State, effective_mask, task_on, is_linked, IsWaiting, IsMoreUrgent, state_after_leaving}
-use Rattle.link_table.specs.Chain.{CanShift, CanEnterAt}
+use Rattle.link_table.specs.State.{State, effective_mask, task_on, is_linked, IsMoreUrgent, state_after_leaving}
+use Rattle.link_table.specs.Chain.{CanShift}
 use Rattle.link_table.specs.declared.reply.Reply.{Reply}
 use Rattle.link_table.specs.declared.reply.Reply.TheVariants.{Freed}
 use Rattle.reach_certificate.specs.Defect.{AllFit, IsFirstMisfit, FitsAt, BeginsFor, MovesBack, ReachFits, BackFits, IsNoLessUrgent, ChainFits, HasBadChain, SetFits, HasBadSet, TasksAreRight, HasWrongTask}
@@ -87,11 +87,6 @@ abbrev pub FitsSetRule : State → SetRule → ℕ → ℕ → Type 0
 FitsSetRule s (HeldAgainst t) set q = ReachFits s t set (λ u. IsMoreUrgent s u t) q
 FitsSetRule s (HeldOver t out) set q = ReachFits s t set (λ u. IsNoLessUrgent s u out) q
 FitsSetRule s (LeadsBack place) set q = BackFits s place set q
-
--- ---- tasks
--- v waits, and may run on a processor of the set
-abbrev pub CanEnterInto : State → ℕ → ℕ → Type 0
-CanEnterInto s set v = IsWaiting s v × ((q : ℕ) × IsTrue (has set q) × CanEnterAt s v q)
 
 -- ---- replies
 -- where the reply frees the processor of t, t is linked to one

@@ -11,9 +11,9 @@ use Rattle.link_table.specs.declared.reply.Reply.{Reply}
 use Rattle.link_table.specs.declared.reply.Reply.TheVariants.{Placed, Displaced, Waits, Freed, Left, Ticked, AlreadyReady, NotReady}
 use Rattle.link_table.specs.declared.reply.Entry.{Entry}
 use Rattle.link_table.specs.State.{State, effective_mask, task_on, task_count, is_ready, priority_of, start_of, IsWaiting, IsMoreUrgent, state_after_leaving}
-use Rattle.link_table.specs.Chain.{CanShift, IsSimple, EndsIdle, EndsOnTask, EntersBy, CanEnterAt}
+use Rattle.link_table.specs.Chain.{CanShift, IsSimple, EndsIdle, EndsOnTask, EntersBy}
 use Rattle.link_table.specs.Certificate.{IsCertificate}
-use Rattle.link_table.specs.Step.{IsMostUrgentInto}
+use Rattle.link_table.specs.Step.{IsNobodyInto, IsMostUrgentInto}
 use Rattle.link_table.specs.History.{effect_of}
 
 -- t arrives and is placed: the chain ends on an idle processor
@@ -52,7 +52,7 @@ IsBackClosed s back = (p q : ℕ) → IsTrue (has back q) → CanShift s p q →
 -- who comes in, where p has become idle in the state s: the most urgent waiting task that may run on a processor of the
 -- set, by a back chain to p, or nobody, and then the chain is p alone
 abbrev pub EntryPasses : State → ℕ → Option ℕ → List ℕ → ℕ → Type 0
-EntryPasses s p None chain back = ((v q : ℕ) → IsWaiting s v → IsTrue (has back q) → CanEnterAt s v q → ⊥) × (chain ≡ p ∷ [])
+EntryPasses s p None chain back = IsNobodyInto s back × (chain ≡ p ∷ [])
 EntryPasses s p (Some w) chain back = IsMostUrgentInto s back w × EntersBy s p w chain × IsSimple chain
 
 -- t departs from a processor, which is in the set

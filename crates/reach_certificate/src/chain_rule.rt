@@ -40,7 +40,7 @@ impl ChainRule {
         None
     }
 
-    // Whether place i of a chain fits, where the chain has come to the processors that were seen.
+    /// Whether place i of a chain fits, where the chain has come to the processors that were seen.
     fn fits(self, links: &JudgedLinks, chain: &Chain, i: usize, seen: &ProcSet) -> bool
         requires task { IsChainRuleOf (task_count links.now) self }
         requires place { i < length chain.now }
@@ -55,7 +55,7 @@ impl ChainRule {
             && (i != last || self.ends(links, q))
     }
 
-    // Whether the processor at place i begins the chain, or follows the one before it.
+    /// Whether the processor at place i begins the chain, or follows the one before it.
     fn goes_on(self, links: &JudgedLinks, chain: &Chain, i: usize) -> bool
         requires task { IsChainRuleOf (task_count links.now) self }
         requires place { i < length chain.now }
@@ -68,19 +68,19 @@ impl ChainRule {
         }
     }
 
-    // Whether a chain may begin with q.
+    /// Whether a chain may begin with q.
     fn begins(self, links: &JudgedLinks, q: u8) -> bool
         requires task { IsChainRuleOf (task_count links.now) self }
         requires processor { q < 64 }
         ensures { IsTrue result ↔ Begins links.now self q }
     {
         match self {
-            ChainRule::ToIdle(t) | ChainRule::ToOccupied(t) => links.mask(t).has(q),
+            ChainRule::ToIdle(t) | ChainRule::ToOccupied(t) => links.effective(t).has(q),
             ChainRule::Back { place, .. } => q == place,
         }
     }
 
-    // Whether q may follow a processor of the chain.
+    /// Whether q may follow a processor of the chain.
     fn follows(self, links: &JudgedLinks, before: u8, q: u8) -> bool
         requires before { before < 64 }
         requires processor { q < 64 }
@@ -92,7 +92,7 @@ impl ChainRule {
         }
     }
 
-    // Whether a chain may end on q.
+    /// Whether a chain may end on q.
     fn ends(self, links: &JudgedLinks, q: u8) -> bool
         ensures { IsTrue result ↔ Ends links.now self q }
     {

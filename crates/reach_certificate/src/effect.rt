@@ -20,7 +20,7 @@ pub fn follow_reply(links: &mut Links, event: Event, reply: &Reply)
     }
 }
 
-// The effect of an arrival.
+/// The effect of an arrival.
 fn follow_arrival(links: &mut Links, t: u32, reply: &Reply)
     requires number { t < task_count links.old }
     requires passes { ArrivalPasses links.old t reply.now }
@@ -34,7 +34,7 @@ fn follow_arrival(links: &mut Links, t: u32, reply: &Reply)
     }
 }
 
-// The effect of a departure.
+/// The effect of a departure.
 fn follow_departure(links: &mut Links, t: u32, reply: &Reply)
     requires number { t < task_count links.old }
     requires passes { DeparturePasses links.old t reply.now }
@@ -42,7 +42,7 @@ fn follow_departure(links: &mut Links, t: u32, reply: &Reply)
 {
     match reply {
         Reply::Freed { entered, chain, .. } => {
-            leave(links, t);
+            links.leave(t);
             if let Some(w) = *entered {
                 links.shift(w, &chain.reversed());
             }
@@ -52,7 +52,7 @@ fn follow_departure(links: &mut Links, t: u32, reply: &Reply)
     }
 }
 
-// An absent task becomes ready, and is shifted along one of its chains.
+/// An absent task becomes ready, and is shifted along one of its chains.
 fn enter(links: &mut Links, t: u32, chain: &Chain)
     requires number { t < task_count links.old }
     requires absent { is_ready links.old t ≡ false }
@@ -62,17 +62,4 @@ fn enter(links: &mut Links, t: u32, chain: &Chain)
 {
     links.make_ready(t);
     links.shift(t, chain);
-}
-
-// A linked task becomes absent, and its processor idle.
-fn leave(links: &mut Links, t: u32)
-    requires number { t < task_count links.old }
-    requires linked { (p : ℕ) × (task_on links.old p ≡ Some t) }
-    ensures left { links.new ≡ state_after_leaving links.old t }
-    ensures valid { IsState links.new }
-{
-    let p = links.of(t).unwrap();
-    prove!(p < links.processors());
-    links.unlink(p);
-    links.make_absent(t);
 }

@@ -2,8 +2,8 @@
 ghost use Rattle.std.specs.Prelude.{◌≡◌, ◌≢◌, ℕ, ◌<◌, ◌≤◌, ◌⊎◌, ◌↔◌, [], Some, IfSome, MatchOption};
 ghost use Rattle.std.specs.Option.{ForSome};
 ghost use Rattle.link_table.specs.State.{IsState, task_count, priority_of};
-ghost use Rattle.link_table.specs.Step.{IsMostUrgentInto};
-ghost use Rattle.reach_certificate.specs.Defect.{IsNobodyInto, EntersRightly, EntersWrongly, last_processor};
+ghost use Rattle.link_table.specs.Step.{IsNobodyInto, IsMostUrgentInto};
+ghost use Rattle.reach_certificate.specs.Defect.{EntersRightly, EntersWrongly, last_processor};
 
 use crate::judged_links::JudgedLinks;
 use affinity_mask::ProcSet;
@@ -23,7 +23,7 @@ pub fn wrong_entrant(
     let Some(v) = most_urgent_into(links, back) else {
         return entered;
     };
-    if entered == Some(v) && links.mask(v).has(last_of(chain)) {
+    if entered == Some(v) && links.effective(v).has(last_of(chain)) {
         None
     } else {
         Some(v)
@@ -39,7 +39,7 @@ pub fn last_of(chain: &Chain) -> u8
     chain.at(chain.len() - 1)
 }
 
-// The most urgent waiting task that may run on a processor of the set, if any may.
+/// The most urgent waiting task that may run on a processor of the set, if any may.
 fn most_urgent_into(links: &JudgedLinks, set: ProcSet) -> Option<u32>
     ensures valid { IsState links.now }
     ensures test { MatchOption result (IsNobodyInto links.now set) (IsMostUrgentInto links.now set) }
@@ -53,7 +53,7 @@ fn most_urgent_into(links: &JudgedLinks, set: ProcSet) -> Option<u32>
     found
 }
 
-// The more urgent one of a task and of the one found before, if there is one.
+/// The more urgent one of a task and of the one found before, if there is one.
 fn more_urgent(links: &JudgedLinks, found: Option<u32>, t: u32) -> u32
     requires number { t < task_count links.now }
     requires found_number { ForSome found (λ u. u < task_count links.now) }

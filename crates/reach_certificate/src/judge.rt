@@ -29,7 +29,7 @@ pub fn entry_defect(links: &Links, entry: &Entry) -> Option<Defect>
     }
 }
 
-// Whether a reply of this kind may stand with the event.
+/// Whether a reply of this kind may stand with the event.
 fn is_allowed(links: &Links, event: Event, reply: &Reply) -> bool
     requires { IsOfTask (task_count links.now) event }
     ensures { IsTrue result ↔ IsAllowed links.now event reply.now }
@@ -41,7 +41,7 @@ fn is_allowed(links: &Links, event: Event, reply: &Reply) -> bool
     }
 }
 
-// Whether it may stand with the arrival of a task.
+/// Whether it may stand with the arrival of a task.
 fn is_allowed_to_arrival(links: &Links, t: u32, reply: &Reply) -> bool
     requires { t < task_count links.now }
     ensures { IsTrue result ↔ IsAllowedToArrival links.now t reply.now }
@@ -54,21 +54,21 @@ fn is_allowed_to_arrival(links: &Links, t: u32, reply: &Reply) -> bool
     }
 }
 
-// Whether it may stand with the departure of a task.
+/// Whether it may stand with the departure of a task.
 fn is_allowed_to_departure(links: &Links, t: u32, reply: &Reply) -> bool
     requires { t < task_count links.now }
     ensures { IsTrue result ↔ IsAllowedToDeparture links.now t reply.now }
 {
     match reply {
         Reply::NotReady => !links.is_ready(t),
-        Reply::Left => links.is_ready(t) && links.of(t).is_none(),
+        Reply::Left => links.is_waiting(t),
         Reply::Freed { .. } => links.of(t).is_some(),
         Reply::Placed { .. } | Reply::Displaced { .. } | Reply::Waits { .. } => false,
         Reply::Ticked | Reply::AlreadyReady => false,
     }
 }
 
-// What is wrong first with the chain, the set and the tasks of a reply about t.
+/// What is wrong first with the chain, the set and the tasks of a reply about t.
 fn reply_defect(links: &Links, t: u32, reply: &Reply) -> Option<Defect>
     requires number { t < task_count links.now }
     requires place { HasPlace links.now t reply.now }
@@ -90,7 +90,7 @@ fn reply_defect(links: &Links, t: u32, reply: &Reply) -> Option<Defect>
     }
 }
 
-// The first place at which the chain of a reply does not fit.
+/// The first place at which the chain of a reply does not fit.
 fn chain_misfit(links: &Links, t: u32, reply: &Reply) -> Option<u8>
     requires number { t < task_count links.now }
     requires place { HasPlace links.now t reply.now }
@@ -116,7 +116,7 @@ fn chain_misfit(links: &Links, t: u32, reply: &Reply) -> Option<u8>
     }
 }
 
-// The least processor that does not fit the set of a reply.
+/// The least processor that does not fit the set of a reply.
 fn set_misfit(links: &Links, t: u32, reply: &Reply) -> Option<u8>
     requires number { t < task_count links.now }
     requires place { HasPlace links.now t reply.now }
@@ -142,7 +142,7 @@ fn set_misfit(links: &Links, t: u32, reply: &Reply) -> Option<u8>
     }
 }
 
-// The task that a reply should name, or should not, where it names the wrong one.
+/// The task that a reply should name, or should not, where it names the wrong one.
 fn wrong_task(links: &Links, t: u32, reply: &Reply) -> Option<u32>
     requires number { t < task_count links.now }
     requires chain { ChainFits links.now t reply.now }
@@ -152,7 +152,7 @@ fn wrong_task(links: &Links, t: u32, reply: &Reply) -> Option<u32>
     match reply {
         Reply::Displaced { chain, out, .. } => {
             let last = last_occupant(links, chain);
-            if *out == last && links.priority(t) < links.priority(last) {
+            if *out == last && links.is_more_urgent(t, last) {
                 None
             } else {
                 Some(last)
@@ -168,7 +168,7 @@ fn wrong_task(links: &Links, t: u32, reply: &Reply) -> Option<u32>
     }
 }
 
-// The processor of a linked task.
+/// The processor of a linked task.
 fn place_of(links: &Links, t: u32) -> u8
     requires number { t < task_count links.now }
     requires linked { is_linked links.now t ≡ true }
@@ -177,7 +177,7 @@ fn place_of(links: &Links, t: u32) -> u8
     links.of(t).unwrap()
 }
 
-// The occupant of the processor on which a chain ends.
+/// The occupant of the processor on which a chain ends.
 fn last_occupant(links: &Links, chain: &Chain) -> u32
     requires some { chain.now ≢ [] }
     requires occupied { (d : ℕ) × (task_on links.now (last_processor chain.now) ≡ Some d) }

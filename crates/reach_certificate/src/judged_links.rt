@@ -1,9 +1,8 @@
 //! The links on which an entry is judged.
-ghost use Rattle.std.specs.Prelude.{◌≡◌, ℕ, ◌<◌, ◌↔◌, IsTrue, None, Some};
+ghost use Rattle.std.specs.Prelude.{◌≡◌, ◌<◌, ◌↔◌, IsTrue, None, Some};
 ghost use Rattle.link_table.specs.State.{State, IsState, task_count, effective_mask, task_on, occupant_but, IsWaiting, IsMoreUrgent, state_after_leaving};
-ghost use Rattle.affinity_mask.specs.ProcSet.{has};
 ghost use Rattle.link_table.specs.Chain.{CanShift};
-ghost use Rattle.reach_certificate.specs.Judging.{CanEnterInto};
+ghost use Rattle.link_table.specs.Step.{CanEnterInto};
 
 use affinity_mask::ProcSet;
 use link_table::Links;
@@ -74,14 +73,12 @@ impl<'a> JudgedLinks<'a> {
         }
     }
 
-    /// The processors that a task may run on.
-    pub fn mask(&self, t: u32) -> ProcSet
+    /// The processors that a task may run on now.
+    pub fn effective(&self, t: u32) -> ProcSet
         requires { t < task_count self.now }
         ensures { result ≡ effective_mask self.now t }
     {
-        self.links
-            .mask(t)
-            .both(&ProcSet::first(self.links.processors()))
+        self.links.effective(t)
     }
 
     /// Whether a task is more urgent than another.
@@ -90,7 +87,7 @@ impl<'a> JudgedLinks<'a> {
         requires second { b < task_count self.now }
         ensures { IsTrue result ↔ IsMoreUrgent self.now a b }
     {
-        self.links.priority(a) < self.links.priority(b)
+        self.links.is_more_urgent(a, b)
     }
 
     /// Whether the occupant of a processor may run on another one.
@@ -99,7 +96,7 @@ impl<'a> JudgedLinks<'a> {
         ensures { IsTrue result ↔ CanShift self.now p q }
     {
         match self.on(p) {
-            Some(u) => self.mask(u).has(q),
+            Some(u) => self.effective(u).has(q),
             None => false,
         }
     }
@@ -109,30 +106,22 @@ impl<'a> JudgedLinks<'a> {
         requires { t < task_count self.now }
         ensures { IsTrue result ↔ CanEnterInto self.now set.now t }
     {
-        self.is_waiting(t) && meets(set, &self.mask(t))
+        self.is_waiting(t) && set.meets(&self.effective(t))
     }
 
-    // Whether a task is ready, and linked to no processor.
+    /// Whether a task is ready, and linked to no processor.
     fn is_waiting(&self, t: u32) -> bool
         requires { t < task_count self.now }
         ensures { IsTrue result ↔ IsWaiting self.now t }
     {
         match self.left {
-            Some(left) => t != left && waits(self.links, t),
-            None => waits(self.links, t),
+            Some(left) => t != left && self.links.is_waiting(t),
+            None => self.links.is_waiting(t),
         }
     }
 }
 
-// Whether a task is ready, and linked to no processor.
-fn waits(links: &Links, t: u32) -> bool
-    requires { t < task_count links.now }
-    ensures { IsTrue result ↔ IsWaiting links.now t }
-{
-    links.is_ready(t) && links.of(t).is_none()
-}
-
-// The occupant, where it is not t.
+/// The occupant, where it is not t.
 fn other_than(occupant: Option<u32>, t: u32) -> Option<u32>
     ensures { result ≡ occupant_but t occupant }
 {
@@ -140,11 +129,4 @@ fn other_than(occupant: Option<u32>, t: u32) -> Option<u32>
         Some(u) if u == t => None,
         _ => occupant,
     }
-}
-
-/// Whether some processor is in both sets.
-pub fn meets(a: &ProcSet, b: &ProcSet) -> bool
-    ensures { IsTrue result ↔ ((p : ℕ) × IsTrue (has a.now p) × IsTrue (has b.now p)) }
-{
-    a.both(b).least().is_some()
 }

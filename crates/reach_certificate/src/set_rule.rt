@@ -4,7 +4,7 @@ ghost use Rattle.affinity_mask.specs.ProcSet.{all_below, Within};
 ghost use Rattle.link_table.specs.State.{task_count};
 ghost use Rattle.reach_certificate.specs.Judging.{IsFirstMisfitIfAny, IsSetRuleOf, FitsSetRule, IsHeld, Holds, ShiftsInto};
 
-use crate::judged_links::{JudgedLinks, meets};
+use crate::judged_links::JudgedLinks;
 use affinity_mask::ProcSet;
 
 /// What a set has to be.
@@ -40,7 +40,7 @@ impl SetRule {
         None
     }
 
-    // Whether q fits a set.
+    /// Whether q fits a set.
     fn fits(self, links: &JudgedLinks, set: ProcSet, q: u8) -> bool
         requires tasks { IsSetRuleOf (task_count links.now) self }
         requires processor { q < 64 }
@@ -51,7 +51,7 @@ impl SetRule {
                 if set.has(q) {
                     self.is_held(links, set, q)
                 } else {
-                    !links.mask(t).has(q)
+                    !links.effective(t).has(q)
                 }
             }
             SetRule::LeadsBack(place) => {
@@ -64,18 +64,18 @@ impl SetRule {
         }
     }
 
-    // Whether the occupant of q may run only within the set, and holds its place there.
+    /// Whether the occupant of q may run only within the set, and holds its place there.
     fn is_held(self, links: &JudgedLinks, set: ProcSet, q: u8) -> bool
         requires tasks { IsSetRuleOf (task_count links.now) self }
         ensures { IsTrue result ↔ IsHeld links.now self set q }
     {
         match links.on(q) {
-            Some(u) => links.mask(u).within(&set) && self.holds(links, u),
+            Some(u) => links.effective(u).within(&set) && self.holds(links, u),
             None => false,
         }
     }
 
-    // Whether an occupant is urgent enough to hold its place.
+    /// Whether an occupant is urgent enough to hold its place.
     fn holds(self, links: &JudgedLinks, u: u32) -> bool
         requires tasks { IsSetRuleOf (task_count links.now) self }
         requires occupant { u < task_count links.now }
@@ -89,12 +89,12 @@ impl SetRule {
     }
 }
 
-// Whether the occupant of q may run on a processor of the set.
+/// Whether the occupant of q may run on a processor of the set.
 fn shifts_into(links: &JudgedLinks, q: u8, set: ProcSet) -> bool
     ensures { IsTrue result ↔ ShiftsInto links.now q set }
 {
     match links.on(q) {
-        Some(u) => meets(&set, &links.mask(u)),
+        Some(u) => set.meets(&links.effective(u)),
         None => false,
     }
 }

@@ -14,7 +14,7 @@ use Rattle.link_table.proofs.Ends.{has_decided, least_chain_to_idle, least_chain
 use Rattle.link_table.proofs.Least.{Decided}
 use Rattle.link_table.proofs.Leaving.{IsState-state_after_leaving}
 use Rattle.link_table.proofs.Linked.{place_in, task_on-linked, linked_number, occupied_number}
-use Rattle.link_table.proofs.Masks.{effective_mask_below}
+use Rattle.link_table.proofs.Masks.{online_below, effective_mask_below}
 use Rattle.link_table.proofs.Paths.{Reaches-online}
 use Rattle.sched_core.specs.StepLaws.{StepExists}
 use Rattle.sched_core.proofs.StepReach.{reach_exists, back_reach_exists}
@@ -26,10 +26,6 @@ nobody_decided (Some u) = inr (λ e. cc)
 
 either : (x y : ℕ) → (x ≤ y) ⊎ (y ≤ x)
 either x y = elim (cases_lt x y) [ inl lt ↦ inl (omega arith) | inr ge ↦ inr ge ]
-
--- a processor that is on line is one of the processors
-online_below : (s : State) → IsState s → (p : ℕ) → IsTrue (has s.online p) → p < s.processors
-online_below s ok p h = ltb-true p s.processors (sym (has-all_below s.processors p) ∙ subst (λ (X : ℕ). IsTrue (has X p)) ok.online h)
 
 -- ---- arrivals
 abbrev SomeArriveStep : State → ℕ → Type 0

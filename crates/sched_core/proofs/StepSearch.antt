@@ -4,7 +4,8 @@ use Rattle.std.proofs.lemmas.Bool.{cases_lt}
 use Rattle.affinity_mask.specs.ProcSet.{has, empty}
 use Rattle.affinity_mask.proofs.Sets.{has-or, has-pow}
 use Rattle.link_table.proofs.Least.{Decided}
-use Rattle.path_search.proofs.Moves.{no_member, added_here, added_keeps, added_cases}
+use Rattle.affinity_mask.proofs.Meetings.{no_member}
+use Rattle.path_search.proofs.Moves.{added_here, added_keeps, added_cases}
 
 -- of the numbers below n with a property, one that comes before all of them, or there is none
 abbrev pub FirstBelow : (ℕ → Type 0) → (ℕ → ℕ → Type 0) → ℕ → Type 0

@@ -4,7 +4,6 @@ ghost use Rattle.link_table.specs.State.{IsState, task_count, is_ready, state_wi
 ghost use Rattle.link_table.specs.Chain.{IsChainOf, IsSimple, Shifted};
 ghost use Rattle.link_table.specs.Step.{ArriveStep};
 
-use crate::urgency::{is_more_urgent, least_urgent_on};
 use link_table::{Chain, Links, Reply};
 use path_search::{chain_to, chain_to_idle, reach};
 
@@ -23,8 +22,8 @@ pub fn arrive(links: &mut Links, t: u32) -> Reply
         return Reply::Placed { chain };
     }
     let reach = reach(links, t);
-    match least_urgent_on(links, reach) {
-        Some(out) if is_more_urgent(links, t, out) => {
+    match links.least_urgent_on(reach) {
+        Some(out) if links.is_more_urgent(t, out) => {
             let p = links.of(out).unwrap();
             let chain = chain_to(links, t, p).unwrap();
             enter(links, t, &chain);
@@ -37,7 +36,7 @@ pub fn arrive(links: &mut Links, t: u32) -> Reply
     }
 }
 
-// An absent task becomes ready, and is shifted along one of its chains.
+/// An absent task becomes ready, and is shifted along one of its chains.
 fn enter(links: &mut Links, t: u32, chain: &Chain)
     requires number { t < task_count links.old }
     requires absent { is_ready links.old t ≡ false }

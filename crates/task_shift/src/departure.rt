@@ -3,7 +3,6 @@ ghost use Rattle.std.specs.Prelude.{◌≡◌, ◌<◌, [], ◌∷◌};
 ghost use Rattle.link_table.specs.State.{IsState, task_count};
 ghost use Rattle.link_table.specs.Step.{DepartStep};
 
-use crate::urgency::most_urgent_into;
 use link_table::{Chain, Links, Reply};
 use path_search::{back_chain, back_set};
 
@@ -17,14 +16,13 @@ pub fn depart(links: &mut Links, t: u32) -> Reply
     if !links.is_ready(t) {
         return Reply::NotReady;
     }
-    let Some(p) = links.of(t) else {
+    if links.is_waiting(t) {
         links.make_absent(t);
         return Reply::Left;
-    };
-    links.unlink(p);
-    links.make_absent(t);
+    }
+    let p = links.leave(t);
     let back = back_set(links, p);
-    let Some(w) = most_urgent_into(links, back) else {
+    let Some(w) = links.most_urgent_in(back) else {
         return Reply::Freed {
             entered: None,
             chain: one_processor(p),
@@ -40,7 +38,7 @@ pub fn depart(links: &mut Links, t: u32) -> Reply
     }
 }
 
-// The list of one processor.
+/// The list of one processor.
 fn one_processor(p: u8) -> Chain
     requires { p < 64 }
     ensures { result ≡ p ∷ [] }

@@ -1,6 +1,6 @@
 use Rattle.std.proofs.Common.{◌+◌, sym, ◌∙◌, subst, arith}
 use Rattle.std.proofs.lemmas.Bool.{true≢false}
-use Rattle.reach_certificate.proofs.Entrants.{IsFoundInto, into_number, into_more, into_passed, into_whole}
+use Rattle.link_table.proofs.Leaders.{IsFoundInto, into_number, into_more, into_passed, into_whole}
 use Rattle.reach_certificate.proofs.entrant.most_urgent_into.Goals as goal
 use Rattle.reach_certificate.proofs.entrant.most_urgent_into.Goals.{then-can_enter, else-can_enter}
 

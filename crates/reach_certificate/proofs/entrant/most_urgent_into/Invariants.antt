@@ -1,4 +1,4 @@
-use Rattle.reach_certificate.proofs.Entrants.{IsFoundInto}
+use Rattle.link_table.proofs.Leaders.{IsFoundInto}
 use Rattle.reach_certificate.proofs.entrant.most_urgent_into.Given as goal
 
 abbrev pub invariant-loop-t : goal.invariant-loop-t

@@ -1,4 +1,5 @@
 use Rattle.std.proofs.Common.{◌≡◌, false, sym, ◌∙◌}
+use Rattle.std.proofs.lemmas.Bool.{true≢false}
 use Rattle.link_table.specs.State.{is_ready}
 use Rattle.link_table.specs.Chain.{IsLeastSuch, EndsOnTask}
 use Rattle.link_table.proofs.Ends.{least_chain_to_idle, least_chain_to_task}
@@ -11,7 +12,7 @@ pub enter-requires-clause-simple : goal.enter-requires-clause-simple
 enter-requires-clause-simple c = (least_chain_to_idle c.args.links.now c.args.t c.is_ready.ensures.valid).simple c.in-Some.chain c.in-Some.ensures
 
 pub is_more_urgent-requires-clause-second : goal.is_more_urgent-requires-clause-second
-is_more_urgent-requires-clause-second c = linked_number c.args.links.now _ c.in-Some-least_urgent_on.out c.is_ready.ensures.valid c.in-Some-least_urgent_on.ensures.there.2
+is_more_urgent-requires-clause-second c = linked_number c.args.links.now _ c.in-Some-least_urgent_on.out c.is_ready.ensures.valid c.in-Some-least_urgent_on.ensures.test.there.2
 
 -- the chain found is the least one to the task that goes out
 least : (c : After-unwrap-chain) → IsLeastSuch (EndsOnTask c.args.links.now c.args.t c.in-Some-least_urgent_on.out) c.unwrap-chain.result
@@ -26,8 +27,8 @@ returns-in-Some-least_urgent_on-clause-step c = record {
   absent = sym c.is_ready.ensures.value ∙ c.if-is_ready.false;
   reached = c.reach-reach.ensures;
   occupied = occupied_reach c.args.links.now c.is_ready.ensures.valid c.args.t c.reach-reach.result c.reach-reach.ensures c.in_default.ensures;
-  out_there = c.in-Some-least_urgent_on.ensures;
-  out_less_urgent = rw c.if-is_more_urgent.true at c.is_more_urgent.ensures;
+  out_there = c.in-Some-least_urgent_on.ensures.test;
+  out_less_urgent = c.is_more_urgent.ensures.0 c.if-is_more_urgent.true;
   least = least (goal.at.returns-in-Some-least_urgent_on-clause-step c).After-unwrap-chain;
   shifted = c.enter-in-Some-least_urgent_on.ensures.shifted;
 }
@@ -43,8 +44,8 @@ returns-in_default-least_urgent_on-clause-step c =
       absent = absent;
       reached = c.reach-reach.ensures;
       more_urgent = elim c.in_default-least_urgent_on.branch [
-        | in_default-least_urgent_on-via-in-Some-least_urgent_on+else-is_more_urgent w ↦ more_urgent_reach s ok c.args.t reach c.reach-reach.ensures c.requires absent occupied w.in-Some-least_urgent_on.out w.in-Some-least_urgent_on.ensures (rw w.if-is_more_urgent.false at w.is_more_urgent.ensures)
-        | in_default-least_urgent_on-via-in_default-least_urgent_on w ↦ nobody_reached s ok c.args.t reach c.reach-reach.ensures occupied w.in_default-least_urgent_on.ensures
+        | in_default-least_urgent_on-via-in-Some-least_urgent_on+else-is_more_urgent w ↦ more_urgent_reach s ok c.args.t reach c.reach-reach.ensures c.requires absent occupied w.in-Some-least_urgent_on.out w.in-Some-least_urgent_on.ensures.test (λ less. true≢false (sym (w.is_more_urgent.ensures.1 less) ∙ w.if-is_more_urgent.false))
+        | in_default-least_urgent_on-via-in_default-least_urgent_on w ↦ nobody_reached s ok c.args.t reach c.reach-reach.ensures occupied w.in_default-least_urgent_on.ensures.test
       ];
       waits = c.make_ready.ensures.ready;
     }

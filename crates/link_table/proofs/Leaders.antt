@@ -1,14 +1,13 @@
--- Who leads among the tasks that a loop has come to: the least urgent occupant, or the most urgent task that can enter.
+-- Who leads among the tasks that a loop has visited: the least urgent occupant, or the most urgent task that can enter.
 use Rattle.std.proofs.Common.{◌≡◌, ℕ, ◌+◌, ◌<◌, ◌≤◌, Option, Some, None, refl, sym, ◌∙◌, subst, inl, inr, ◌⊎◌, IsTrue, arith, below_more}
 use Rattle.std.specs.Prelude.{IfSome, MatchOption}
 use Rattle.std.specs.Option.{ForSome}
 use Rattle.std.proofs.lemmas.Option.{same_Some}
 use Rattle.affinity_mask.specs.ProcSet.{has}
 use Rattle.link_table.specs.State.{State, IsState, task_count, task_on, priority_of}
-use Rattle.link_table.specs.Step.{IsLeastUrgentOn, IsMostUrgentInto}
 use Rattle.link_table.proofs.Linked.{linked_number, occupied_number}
 use Rattle.link_table.proofs.Unique.{ready_number}
-use Rattle.task_shift.specs.Entry.{CanEnterInto, IsNobodyOn, IsNobodyInto}
+use Rattle.link_table.specs.Step.{CanEnterInto, IsNobodyOn, IsNobodyInto, IsLeastUrgentOn, IsMostUrgentInto}
 
 -- ---- tasks at places, of which each two are compared
 module _ (At : ℕ → ℕ → Type 0) (Leads : ℕ → ℕ → Type 0) where
