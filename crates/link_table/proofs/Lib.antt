@@ -14,6 +14,7 @@ pub mod Readiness
 pub mod Simple
 pub mod LegalRows
 pub mod Rows
+pub mod SameTasks
 pub mod Shifts
 pub mod Shortest
 pub mod Start

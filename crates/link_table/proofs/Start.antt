@@ -6,7 +6,8 @@ use Rattle.affinity_mask.specs.ProcSet.{all_below}
 use Rattle.task_set.specs.TaskSet.{TaskData, SetData, IsTaskSet, priorities, masks}
 use Rattle.link_table.specs.State.{IsState, start_of}
 
-none_on : (n p : ℕ) → get_or {A = Option ℕ} (replicate n None) p None ≡ None
+-- nobody is linked before anything has happened
+pub none_on : (n p : ℕ) → get_or {A = Option ℕ} (replicate n None) p None ≡ None
 none_on zero p = refl
 none_on (suc n) zero = refl
 none_on (suc n) (suc p) = none_on n p

@@ -3,7 +3,7 @@
 use Rattle.std.specs.Prelude.{◌≡◌, ℕ, ◌<◌, ◌≤◌, true, List, length}
 use Rattle.task_set.specs.declared.event.Event.{Event}
 use Rattle.link_table.specs.declared.reply.Reply.{Reply}
-use Rattle.link_table.specs.State.{State, IsState, task_count}
+use Rattle.link_table.specs.State.{State, IsState, HasSameTasks, HasSameMasks, task_count}
 use Rattle.link_table.specs.Chain.{IsSimple, IsLeastSuch, EndsIdle, EndsOnTask, EntersBy}
 use Rattle.link_table.specs.Placement.{TaskTest, IsBest}
 use Rattle.link_table.specs.Step.{SchedulerStep}
@@ -17,11 +17,19 @@ StepIsUnique = (s : State) (event : Event) (reply other : Reply) (new next : Sta
 abbrev pub ReplyGivesNewState : Type 0
 ReplyGivesNewState = (s : State) (event : Event) (reply : Reply) (new : State) → SchedulerStep s event reply new → new ≡ state_after_reply s (event_task event) reply
 
+-- no reply changes the tasks and the processors
+abbrev pub ReplyKeepsTasks : Type 0
+ReplyKeepsTasks = (s : State) (t : ℕ) (reply : Reply) → HasSameTasks s (state_after_reply s t reply)
+
+-- no reply changes the masks, nor which processors are on line
+abbrev pub ReplyKeepsMasks : Type 0
+ReplyKeepsMasks = (s : State) (t : ℕ) (reply : Reply) → HasSameMasks s (state_after_reply s t reply)
+
 -- a step leads from a state to a state: its links are a placement of ready tasks again
 abbrev pub StepKeepsState : Type 0
 StepKeepsState = (s : State) (event : Event) (reply : Reply) (new : State) → IsState s → SchedulerStep s event reply new → IsState new
 
--- a least list with the property comes to no processor twice, and so it has at most 64
+-- a least list with the property visits no processor twice, and so it has at most 64
 pub record LeastIsShort (Has : List ℕ → Type 0) : Type 0 where
   pub exists : (chain : List ℕ) → Has chain → (least : List ℕ) × IsLeastSuch Has least
   pub simple : (least : List ℕ) → IsLeastSuch Has least → IsSimple least

@@ -87,6 +87,16 @@ start_of set = record {
   on = replicate set.processors None;
 }
 
+-- two states have the same processors, and the same tasks with the same priorities: so it stays for ever
+pub record HasSameTasks (old new : State) : Type 0 where
+  pub processors : new.processors ≡ old.processors
+  pub priorities : new.priorities ≡ old.priorities
+
+-- two states have the same masks, and the same processors on line: so it stays while no event changes either
+pub record HasSameMasks (old new : State) : Type 0 where
+  pub masks : new.masks ≡ old.masks
+  pub online : new.online ≡ old.online
+
 -- t is ready, and all else stays
 abbrev pub state_with_ready : State → ℕ → State
 state_with_ready s t = record s { ready = set s.ready t true }

@@ -22,7 +22,7 @@ use Rattle.sched_core.proofs.CarriedAlong.{ended, IsFollowed, ended_on}
 use Rattle.sched_core.proofs.CarriedByChanges.{followed-change}
 use Rattle.sched_core.proofs.CarriedByTicks.{followed-tick}
 use Rattle.sched_core.proofs.OrderLists.{task_on-start, close_orders, closed_orders_of-split}
-use Rattle.sched_core.proofs.SameTasks.{same_tasks-effect, same_tasks-history}
+use Rattle.link_table.proofs.SameTasks.{same_tasks-effect, same_tasks-history}
 use Rattle.sched_core.proofs.StintsOfTask.{flat_range-same, own, stints_of_task-flat_map, stints_of_task-closed, carried_context-more}
 use Rattle.sched_core.proofs.StintsOrdered.{under_way_on, task_of-under_way, own-other, own-one, ended-close, next_state}
 

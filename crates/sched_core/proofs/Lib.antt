@@ -9,7 +9,7 @@ pub mod OrderLists
 pub mod OrderNames
 pub mod OrderPrefixes
 pub mod RowLoops
-pub mod SameTasks
+mod RowsStarted
 pub mod StepExists
 pub mod StepHistories
 pub mod StepImproving

@@ -10,15 +10,14 @@ use Rattle.task_set.specs.declared.event.Event.{Event}
 use Rattle.task_set.specs.declared.event.Event.TheVariants.{Arrive, Depart, Tick}
 use Rattle.task_set.specs.declared.order.Order.{Order}
 use Rattle.task_set.specs.declared.order.Order.TheVariants.{Release, Take, Run, Stop}
-use Rattle.link_table.specs.declared.reply.Reply.{Reply}
-use Rattle.link_table.specs.declared.reply.Reply.TheVariants.{Placed, Displaced, Waits, Freed, Left, Ticked, AlreadyReady, NotReady}
 use Rattle.link_table.specs.declared.reply.Entry.{Entry}
 use Rattle.link_table.specs.State.{State, IsState, start_of, task_on, task_count, is_task}
 use Rattle.link_table.specs.Step.{SchedulerStep}
-use Rattle.link_table.specs.History.{IsLegalFrom, effect_of, event_task, state_after, state_after_reply}
+use Rattle.link_table.specs.History.{IsLegalFrom, effect_of, state_after}
 use Rattle.link_table.specs.Dispatch.{change_orders, tick_orders, taken_between, orders_from, orders_of, closed_orders_of}
 use Rattle.link_table.proofs.Histories.{entry_orders, IsState-state_after}
 use Rattle.link_table.proofs.Linked.{is_task-true, linked_number}
+use Rattle.link_table.proofs.SameTasks.{same_tasks-effect, same_tasks-history, same_count}
 use Rattle.link_table.proofs.Start.{IsState-start}
 use Rattle.link_table.proofs.Steps.{step_keeps_state}
 use Rattle.task_set.specs.Orders.{NamesTaskBelow, TakesBelow}
@@ -50,17 +49,6 @@ module _ (P : Order → Type 0) where
   all-close (Some a) released stop = All-cons P (Release a) (Stop ∷ []) (released a refl) (All-cons P Stop [] stop (All-nil P))
 
 -- ---- tasks
--- a reply leaves the number of the tasks as it was
-pub task_count-reply : (s : State) (t : ℕ) (reply : Reply) → task_count (state_after_reply s t reply) ≡ task_count s
-task_count-reply s t (Freed None chain back) = refl
-task_count-reply s t (Freed (Some w) chain back) = refl
-task_count-reply s t _ = refl
-
--- and so does a history
-pub task_count-history : (s : State) (history : List Entry) → task_count (state_after s history) ≡ task_count s
-task_count-history s [] = refl
-task_count-history s (first ∷ rest) = task_count-history (effect_of s first) rest ∙ task_count-reply s (event_task first.event) first.reply
-
 -- an occupant is one of n tasks
 occupant_below : (s : State) (n : ℕ) → IsState s → task_count s ≡ n → (p t : ℕ) → task_on s p ≡ Some t → t < n
 occupant_below s n ok count p t on = let below = linked_number s p t ok on in omega arith
@@ -74,7 +62,7 @@ names-orders_from s takes (first ∷ rest) p n ok count legal =
     let next = effect_of s first in
     let takes' : ℕ → ℕ = λ t. takes t + length (taken_between s next t) in
     let ok' : IsState next = next_state s first ok legal.0 in
-    let count' : task_count next ≡ n = task_count-reply s (event_task first.event) first.reply ∙ count in
+    let count' : task_count next ≡ n = same_count s next (same_tasks-effect s first) ∙ count in
     All-append (NamesTaskBelow n) (entry_orders s takes first p) (orders_from next takes' rest p)
     (all-event (NamesTaskBelow n) takes first.event (task_on s p) (task_on next p) (occupant_below s n ok count p) (occupant_below next n ok' count' p) (λ units. tt))
     (names-orders_from next takes' rest p n ok' count' legal.1)
@@ -84,7 +72,7 @@ names-closed_orders_of s history p n ok count legal =
     let last = state_after s history in
     rw (closed_orders_of-split s history p) (All-append (NamesTaskBelow n) (orders_of s history p) (close_orders (task_on last p))
     (names-orders_from s (λ t. 0) history p n ok count legal)
-    (all-close (NamesTaskBelow n) (task_on last p) (occupant_below last n (IsState-state_after s history ok legal) (task_count-history s history ∙ count) p) tt))
+    (all-close (NamesTaskBelow n) (task_on last p) (occupant_below last n (IsState-state_after s history ok legal) (same_count s last (same_tasks-history s history) ∙ count) p) tt))
 
 pub orders_name_tasks : OrdersNameTasks
 orders_name_tasks set history p lawful legal =

@@ -8,13 +8,13 @@ use Rattle.task_set.specs.declared.event.Event.{Event}
 use Rattle.link_table.specs.declared.reply.Entry.{Entry}
 use Rattle.link_table.specs.State.{State, IsState, start_of, task_count}
 use Rattle.link_table.specs.Step.{SchedulerStep}
-use Rattle.link_table.specs.History.{IsLegalFrom, effect_of, event_task}
+use Rattle.link_table.specs.History.{IsLegalFrom, effect_of}
+use Rattle.link_table.proofs.SameTasks.{same_tasks-effect, same_count}
 use Rattle.link_table.proofs.Start.{IsState-start}
 use Rattle.link_table.proofs.Steps.{reply_gives_new_state, step_keeps_state}
 use Rattle.link_table.proofs.Unique.{step_is_unique}
 use Rattle.reach_certificate.specs.Passing.{IsOfTask}
 use Rattle.sched_core.specs.StepLaws.{LegalHistoryExists, LegalHistoryIsUnique, caller_and_event}
-use Rattle.sched_core.proofs.OrderNames.{task_count-reply}
 use Rattle.sched_core.proofs.StepExists.{step_exists}
 
 -- ---- there is one
@@ -30,7 +30,7 @@ history_exists-from s n (posted ∷ rest) ok count known =
     let entry : Entry = record { caller = posted.0; event = event; reply = found.0 } in
     let next = effect_of s entry in
     let step : SchedulerStep s event found.0 next = subst (SchedulerStep s event found.0) (reply_gives_new_state s event found.0 found.1 found.2) found.2 in
-    let later = history_exists-from next n rest (step_keeps_state s event found.0 next ok step) (task_count-reply s (event_task event) found.0 ∙ count) (All-tail (λ (p : ℕ × Event). IsOfTask n p.1) posted rest known) in
+    let later = history_exists-from next n rest (step_keeps_state s event found.0 next ok step) (same_count s next (same_tasks-effect s entry) ∙ count) (All-tail (λ (p : ℕ × Event). IsOfTask n p.1) posted rest known) in
     (entry ∷ later.0, (step, later.1), ap (λ (events : List (ℕ × Event)). posted ∷ events) later.2)
 
 pub legal_history_exists : LegalHistoryExists

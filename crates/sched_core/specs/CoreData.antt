@@ -1,8 +1,8 @@
 -- The scheduler on one thread. What a reader must believe: a core has a history from the state in which it began, and
 -- the links after it; each event that is applied adds one entry, which is the scheduler's step; the orders of each
 -- processor are those of the history, and of the close once the core is closed.
-use Rattle.std.specs.Prelude.{◌≡◌, ℕ, ◌+◌, ◌≤◌, Bool, false, List, [], ◌∷◌, ◌++◌, length, replicate, None, if◌then◌else◌}
-use Rattle.affinity_mask.specs.ProcSet.{all_below}
+use Rattle.std.specs.Prelude.{◌≡◌, ◌≢◌, ℕ, ◌+◌, ◌≤◌, ◌↔◌, IsTrue, Bool, false, List, [], ◌∷◌, ◌++◌, length, Result, Err, IfOk, if◌then◌else◌}
+use Rattle.std.specs.Result.{OnErr}
 use Rattle.task_set.specs.declared.event.Event.{Event}
 use Rattle.task_set.specs.declared.order.Order.{Order}
 use Rattle.link_table.specs.declared.reply.Reply.{Reply}
@@ -13,6 +13,8 @@ use Rattle.link_table.specs.History.{event_task, IsLegalFrom, state_after}
 use Rattle.link_table.specs.Dispatch.{orders_of, closed_orders_of}
 use Rattle.reach_certificate.specs.Certified.{HasCertificates}
 use Rattle.reach_certificate.specs.Ground.{HasGround}
+use Rattle.sched_core.specs.declared.fault.CoreFault.{CoreFault}
+use Rattle.sched_core.specs.declared.fault.CoreFault.TheVariants.{Closed, Full, OutOfMemory}
 
 -- the state in which a core began, its history, the links now, whether it is closed, and for how many more entries
 -- there is room
@@ -26,17 +28,6 @@ pub record CoreData : Type 0 where
 -- a history has at most so many entries
 abbrev pub max_entries : ℕ
 max_entries = 20000
-
--- the state in which the tasks and the processors are those of s, every task is absent and every processor idle
-abbrev pub state_before_events : State → State
-state_before_events s = record {
-  processors = s.processors;
-  priorities = s.priorities;
-  masks = s.masks;
-  online = all_below s.processors;
-  ready = replicate (task_count s) false;
-  on = replicate s.processors None;
-}
 
 -- what holds of every core: the history is legal, the links are those after it, and each waiting task has a certificate
 pub record IsCore (core : CoreData) : Type 0 where
@@ -77,3 +68,12 @@ pub record OnlyMadeRoom (old new : CoreData) : Type 0 where
   pub links : new.links ≡ old.links
   pub closed : new.closed ≡ old.closed
   pub spare : old.spare ≤ new.spare
+
+-- the answer to an event of a caller: it was applied, at this place; or it was refused, since the core was closed, or
+-- full, or memory ran out, which cannot be where room for an entry was made
+pub record AppliedOrRefused (old : CoreData) (caller : ℕ) (event : Event) (result : Result ℕ CoreFault) (new : CoreData) : Type 0 where
+  pub applied : IfOk result (λ place. Applied old caller event place new)
+  pub closed : (result ≡ Err Closed) ↔ IsTrue old.closed
+  pub full : (result ≡ Err Full) ↔ (old.closed ≡ false) × (length old.history ≡ max_entries)
+  pub memory : 1 ≤ old.spare → result ≢ Err OutOfMemory
+  pub refused : OnErr result (OnlyMadeRoom old new)

@@ -18,7 +18,7 @@ use Rattle.reach_certificate.specs.Defect.{IsDefect, number_of}
 use Rattle.reach_certificate.specs.Passing.{Passes, IsPassingFrom, IsOfTask}
 use Rattle.reach_certificate.specs.declared.defect.Defect.{Defect}
 use Rattle.reach_certificate.proofs.ContextsFollow.{contexts-follow}
-use Rattle.sched_core.proofs.SameTasks.{same_tasks-history}
+use Rattle.link_table.proofs.SameTasks.{same_tasks-history}
 use Rattle.trace_reader.specs.EventText.{IsAboutSet}
 use Rattle.schedule_text.specs.Schedule.{ScheduleData, IsSchedule, IsScheduled}
 use Rattle.schedule_program.specs.Check.{HasBadEntry, entry_line_number}
