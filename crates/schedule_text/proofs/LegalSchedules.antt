@@ -60,7 +60,7 @@ module _ (s : State) (ok : IsState s) where
   set_below X below p inside = has-all_below 64 p ∙ lt-ltb p 64 (place_below p (below p inside))
 
   online_below : (p : ℕ) → IsTrue (has s.online p) → p < s.processors
-  online_below p inside = ltb-true p s.processors (sym (has-all_below s.processors p) ∙ rw ok.online at inside)
+  online_below p inside = ltb-true p s.processors (sym (has-all_below s.processors p) ∙ ok.online p inside)
 
   -- what a task reaches is on line
   reach_below : (t reach : ℕ) → IsReach s t reach → IsOfProcessors reach
