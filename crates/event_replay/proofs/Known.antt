@@ -9,7 +9,7 @@ use Rattle.trace_reader.specs.declared.posted.Posted.{Posted}
 use Rattle.trace_reader.specs.Input.{IsEventOf, IsPostedOf}
 use Rattle.link_table.specs.declared.reply.Entry.{Entry}
 use Rattle.trace_reader.specs.EventText.{IsAboutSet}
-use Rattle.reach_certificate.specs.Passing.{IsOfTask}
+use Rattle.certificate_laws.specs.Passing.{IsOfTask}
 use Rattle.event_replay.specs.Replay.{IsKnown, posted_of}
 
 pub known_event : (set : SetData) (event : Event) → IsEventOf set event → IsOfTask (length set.tasks) event

@@ -13,10 +13,10 @@ use Rattle.link_table.proofs.Linked.{place_in, task_on-linked, is_linked-from_on
 use Rattle.link_table.proofs.Shifts.{occupant_from, task_on-state_after_shift}
 use Rattle.link_table.proofs.Simple.{Avoids-none}
 use Rattle.placement_laws.specs.Admission.{Admitted}
-use Rattle.reach_certificate.specs.Certified.{HasCertificates}
+use Rattle.certificate_laws.specs.Certified.{HasCertificates}
 use Rattle.placement_laws.specs.Search.{IsWay, IsFull}
-use Rattle.reach_certificate.proofs.KeptByArrivals.{others_have}
-use Rattle.reach_certificate.proofs.KeptByShifts.{linked_or_out, kept_by_placing}
+use Rattle.certificate_laws.proofs.KeptByArrivals.{others_have}
+use Rattle.certificate_laws.proofs.KeptByShifts.{linked_or_out, kept_by_placing}
 
 -- two answers that follow from one another are the same
 pub same_answer : (a b : Bool) → (a ≡ true → b ≡ true) → (b ≡ true → a ≡ true) → a ≡ b

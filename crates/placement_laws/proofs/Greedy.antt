@@ -14,11 +14,11 @@ use Rattle.link_table.specs.Placement.{TaskTest, IsSubset, IsBest}
 use Rattle.link_table.proofs.Linked.{place_in, task_on-linked}
 use Rattle.link_table.proofs.SameTasks.{same_count}
 use Rattle.placement_laws.specs.Admission.{is_among, IsMostUrgentAbsent, Admitted}
-use Rattle.reach_certificate.specs.Certified.{HasCertificates}
+use Rattle.certificate_laws.specs.Certified.{HasCertificates}
 use Rattle.placement_laws.proofs.Admissions.{same_answer}
-use Rattle.reach_certificate.proofs.Best.{linked_is_best}
-use Rattle.reach_certificate.proofs.Counts.{count_below, count_below-one_more}
-use Rattle.reach_certificate.proofs.Kept.{none_ready, HasCertificates-start}
+use Rattle.certificate_laws.proofs.Best.{linked_is_best}
+use Rattle.certificate_laws.proofs.Counts.{count_below, count_below-one_more}
+use Rattle.certificate_laws.proofs.Kept.{none_ready, HasCertificates-start}
 use Rattle.placement_laws.proofs.MostUrgent.{among_place}
 
 -- ---- states with the same tasks have the same best sets

@@ -9,7 +9,7 @@ use Rattle.link_table.specs.State.{State, IsState, task_on, effective_mask}
 use Rattle.link_table.proofs.Masks.{effective_mask_online, effective_mask_below}
 use Rattle.link_table.proofs.Simple.{IsSimple-cons}
 use Rattle.placement_laws.specs.Search.{IsWay, IsFull}
-use Rattle.reach_certificate.proofs.Counts.{count_below-bound, count_below-one_more, count_below-injection}
+use Rattle.certificate_laws.proofs.Counts.{count_below-bound, count_below-one_more, count_below-injection}
 
 -- how many processors a set has
 abbrev pub size_of : ℕ → ℕ

@@ -5,7 +5,7 @@ use Rattle.std.specs.Prelude.{◌≡◌, ℕ, ◌≤◌, Bool, true, false, List
 use Rattle.std.specs.List.{list_any}
 use Rattle.link_table.specs.State.{State, HasSameTasks, HasSameMasks, priority_of, is_ready, is_linked}
 use Rattle.link_table.specs.Placement.{TaskTest}
-use Rattle.reach_certificate.specs.Certified.{HasCertificates}
+use Rattle.certificate_laws.specs.Certified.{HasCertificates}
 
 -- whether a task is in the list
 abbrev pub is_among : List ℕ → TaskTest

@@ -5,8 +5,8 @@ use Rattle.std.specs.Prelude.{List}
 use Rattle.task_set.specs.TaskSet.{SetData, IsTaskSet}
 use Rattle.link_table.specs.declared.reply.Entry.{Entry}
 use Rattle.link_table.specs.History.{IsBestThroughout}
-use Rattle.reach_certificate.specs.Certified.{IsCertifiedThroughout}
-use Rattle.reach_certificate.specs.Passing.{IsPassing}
+use Rattle.certificate_laws.specs.Certified.{IsCertifiedThroughout}
+use Rattle.certificate_laws.specs.Passing.{IsPassing}
 
 -- after every entry of a history whose replies pass each waiting task has a certificate
 abbrev pub PassingHistoryHasCertificates : Type 0

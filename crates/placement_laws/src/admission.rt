@@ -3,7 +3,7 @@ ghost use Rattle.std.specs.Prelude.{◌≡◌, ℕ, ◌<◌, true, false, length
 ghost use Rattle.link_table.specs.State.{IsState, task_count, is_ready, start_of, IsMoreUrgent};
 ghost use Rattle.link_table.specs.Placement.{IsSubset, IsBest};
 ghost use Rattle.placement_laws.specs.Admission.{is_among, IsMostUrgentAbsent, Admitted};
-ghost use Rattle.reach_certificate.specs.Certified.{HasCertificates};
+ghost use Rattle.certificate_laws.specs.Certified.{HasCertificates};
 
 use crate::search::{Found, find_way};
 use affinity_mask::{OutOfMemory, ProcSet};

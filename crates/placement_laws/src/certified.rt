@@ -1,8 +1,8 @@
 //! The test of a certificate for each waiting task.
 ghost use Rattle.std.specs.Prelude.{◌≡◌, ◌↔◌, length, IsTrue};
 ghost use Rattle.link_table.specs.State.{task_count};
-ghost use Rattle.reach_certificate.specs.Certified.{IsCertifiedBy};
-ghost use Rattle.reach_certificate.specs.Laws.{LinkedIsBest, LinkedIsLargest, LinkedIsAsUrgent};
+ghost use Rattle.certificate_laws.specs.Certified.{IsCertifiedBy};
+ghost use Rattle.certificate_laws.specs.Laws.{LinkedIsBest, LinkedIsLargest, LinkedIsAsUrgent};
 
 use affinity_mask::ProcSet;
 use link_table::Links;

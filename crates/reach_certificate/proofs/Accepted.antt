@@ -9,13 +9,13 @@ use Rattle.link_table.specs.Dispatch.{taken_between, places_of, tick_runs}
 use Rattle.link_table.specs.History.{effect_of}
 use Rattle.link_table.proofs.Linked.{linked_number}
 use Rattle.link_table.proofs.SameTasks.{same_tasks-effect, same_count}
-use Rattle.reach_certificate.specs.Certified.{HasCertificates}
+use Rattle.certificate_laws.specs.Certified.{HasCertificates}
 use Rattle.reach_certificate.specs.Checker.{CheckerData, IsChecker}
 use Rattle.reach_certificate.specs.Contexts.{context_after_takes, context_after_all_runs, context_after_entry, EachBecomes, WereOn}
-use Rattle.reach_certificate.specs.Laws.{LinkedIsBest}
-use Rattle.reach_certificate.specs.Passing.{Passes}
-use Rattle.reach_certificate.proofs.Best.{linked_is_best}
-use Rattle.reach_certificate.proofs.Passed.{passing_keeps_certificates, passing_keeps_state}
+use Rattle.certificate_laws.specs.Laws.{LinkedIsBest}
+use Rattle.certificate_laws.specs.Passing.{Passes}
+use Rattle.certificate_laws.proofs.Best.{linked_is_best}
+use Rattle.certificate_laws.proofs.Passed.{passing_keeps_certificates, passing_keeps_state}
 
 -- ---- a context is always that of its task
 takes_keep_task : (c : Context) (places : List ℕ) → (context_after_takes c places).task ≡ c.task

@@ -11,7 +11,7 @@ use Rattle.link_table.proofs.Least.{Decided}
 use Rattle.link_table.proofs.Masks.{effective_mask_below}
 use Rattle.reach_certificate.specs.Defect.{AllFit, IsFirstMisfit, FitsAt, MovesBack, ReachFits, BackFits, EntersRightly, EntersWrongly, last_processor}
 use Rattle.link_table.proofs.Leaders.{IsFoundInto, IsFound-nothing, IsComing, IsNotLessUrgent, into_more, into_passed, into_whole}
-use Rattle.reach_certificate.proofs.Fullness.{waiting_decided}
+use Rattle.certificate_laws.proofs.Fullness.{waiting_decided}
 
 -- ---- what can be decided
 and_decided : {A B : Type 0} → Decided A → Decided B → Decided (A × B)

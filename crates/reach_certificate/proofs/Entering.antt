@@ -6,7 +6,7 @@ use Rattle.link_table.specs.State.{State, state_after_leaving}
 use Rattle.link_table.specs.Chain.{IsChainOf, IsSimple}
 use Rattle.link_table.proofs.Paths.{IsChainOf-reverse}
 use Rattle.link_table.proofs.Simple.{IsSimple-reverse}
-use Rattle.reach_certificate.specs.Passing.{DeparturePasses, EntryPasses, FreedPasses}
+use Rattle.certificate_laws.specs.Passing.{DeparturePasses, EntryPasses, FreedPasses}
 
 module _ (s : State) (t : ℕ) (reply : Reply) (entered : Option ℕ) (chain : List ℕ) (back w : ℕ) (passes : DeparturePasses s t reply) (freed : reply ≡ Freed entered chain back) (some : entered ≡ Some w) where
   abbrev left : State

@@ -17,7 +17,7 @@ use Rattle.reach_certificate.specs.DefectLaws.{PassesOrHasDefect}
 use Rattle.reach_certificate.specs.Judging.{HasPlace}
 use Rattle.reach_certificate.specs.declared.defect.Defect.TheVariants.{WrongReply, BadChain, BadSet, WrongTask}
 use Rattle.reach_certificate.proofs.Decisions.{fit_or_misfit, place_decided, moves_back_decided, idle_end_decided, occupied_end_decided, place_is_decided, reach_decided, back_decided, enters_rightly_or_wrongly}
-use Rattle.reach_certificate.proofs.Fullness.{waiting_decided}
+use Rattle.certificate_laws.proofs.Fullness.{waiting_decided}
 use Rattle.reach_certificate.proofs.Justified.{justified_passes}
 use Rattle.reach_certificate.proofs.Parts.{displaced_end}
 use Rattle.reach_certificate.proofs.Whole.{allowed_has_place}

@@ -19,7 +19,7 @@ use Rattle.link_table.proofs.Masks.{effective_mask_below}
 use Rattle.link_table.proofs.Paths.{Reaches-online}
 use Rattle.link_table.proofs.Shifts.{chain_below}
 use Rattle.link_table.proofs.Simple.{IsSimple-cons}
-use Rattle.reach_certificate.specs.Passing.{PlacedPasses, DisplacedPasses, WaitsPasses, ArrivalPasses, IsBackClosed, EntryPasses, FreedPasses, DeparturePasses, IsOfTask, Passes}
+use Rattle.certificate_laws.specs.Passing.{PlacedPasses, DisplacedPasses, WaitsPasses, ArrivalPasses, IsBackClosed, EntryPasses, FreedPasses, DeparturePasses, IsOfTask, Passes}
 use Rattle.reach_certificate.specs.Defect.{AllFit, IsAllowed, FitsAt, BeginsFor, PlacedFits, MovesBack, FreedFits, ReachFits, BackFits, IsNoLessUrgent, last_processor, processor_count, EntersRightly, IsOfProcessors}
 use Rattle.reach_certificate.specs.Judging.{IsJustified}
 use Rattle.reach_certificate.proofs.ChainPlaces.{path_map, path_last, fit_is_simple, fit_begins, fit_path, fit_ends, all_places_fit}

@@ -7,7 +7,7 @@ use Rattle.link_table.specs.declared.reply.Reply.{Reply}
 use Rattle.link_table.specs.declared.reply.Reply.TheVariants.{Placed, Displaced, Waits, Freed, Left, Ticked, AlreadyReady, NotReady}
 use Rattle.link_table.specs.State.{State, IsState, task_count}
 use Rattle.link_table.specs.History.{event_task}
-use Rattle.reach_certificate.specs.Passing.{IsOfTask, Passes}
+use Rattle.certificate_laws.specs.Passing.{IsOfTask, Passes}
 use Rattle.reach_certificate.specs.Defect.{IsAllowed, IsAllowedToArrival, IsAllowedToDeparture, IsOfProcessors, IsReplyDefect}
 use Rattle.reach_certificate.specs.Judging.{HasPlace, IsJustified, IsUnjustified}
 use Rattle.reach_certificate.specs.declared.defect.Defect.{Defect}

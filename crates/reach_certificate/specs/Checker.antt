@@ -3,7 +3,7 @@
 use Rattle.std.specs.Prelude.{◌≡◌, ℕ, ◌<◌, List, length, get_or}
 use Rattle.task_set.specs.declared.context.Context.{Context}
 use Rattle.link_table.specs.State.{State, IsState, task_count}
-use Rattle.reach_certificate.specs.Certified.{HasCertificates}
+use Rattle.certificate_laws.specs.Certified.{HasCertificates}
 
 -- the links, and the contexts by the numbers of their tasks
 pub record CheckerData : Type 0 where

@@ -11,7 +11,7 @@ use Rattle.link_table.specs.History.{effect_of, state_after}
 use Rattle.link_table.specs.Dispatch.{context_of}
 use Rattle.reach_certificate.specs.Contexts.{EachBecomes, context_after_entry}
 use Rattle.reach_certificate.specs.Defect.{IsReplyDefect, IsOfProcessors}
-use Rattle.reach_certificate.specs.Passing.{IsOfTask, Passes}
+use Rattle.certificate_laws.specs.Passing.{IsOfTask, Passes}
 use Rattle.reach_certificate.specs.declared.defect.Defect.{Defect}
 
 -- no reply passes and has a defect

@@ -2,7 +2,7 @@
 ghost use Rattle.std.specs.Prelude.{◌≡◌, ℕ, ◌<◌, ◌↔◌, IsTrue};
 ghost use Rattle.link_table.specs.State.{task_count, effective_mask};
 ghost use Rattle.link_table.specs.Certificate.{IsCertificate};
-ghost use Rattle.reach_certificate.specs.Held.{IsHeldAgainst};
+ghost use Rattle.certificate_laws.specs.Held.{IsHeldAgainst};
 
 use affinity_mask::ProcSet;
 use link_table::Links;

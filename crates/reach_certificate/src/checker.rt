@@ -8,8 +8,8 @@ ghost use Rattle.link_table.specs.History.{effect_of};
 ghost use Rattle.reach_certificate.specs.Checker.{IsChecker};
 ghost use Rattle.reach_certificate.specs.Contexts.{EachBecomes, context_after_entry};
 ghost use Rattle.reach_certificate.specs.Defect.{IsDefect};
-ghost use Rattle.reach_certificate.specs.Laws.{LinkedIsBest};
-ghost use Rattle.reach_certificate.specs.Passing.{IsOfTask, Passes};
+ghost use Rattle.certificate_laws.specs.Laws.{LinkedIsBest};
+ghost use Rattle.certificate_laws.specs.Passing.{IsOfTask, Passes};
 ghost use Rattle.reach_certificate.specs.declared.defect.Defect.{Defect};
 
 use crate::contexts::{Occupants, follow, fresh_contexts};

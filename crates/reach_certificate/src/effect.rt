@@ -3,7 +3,7 @@ ghost use Rattle.std.specs.Prelude.{◌≡◌, ℕ, ◌<◌, false, Some};
 ghost use Rattle.link_table.specs.State.{IsState, state_after_leaving, state_with_ready, task_count, is_ready, task_on};
 ghost use Rattle.link_table.specs.Chain.{IsChainOf, IsSimple, state_after_shift};
 ghost use Rattle.link_table.specs.History.{event_task, state_after_reply};
-ghost use Rattle.reach_certificate.specs.Passing.{ArrivalPasses, DeparturePasses, Passes};
+ghost use Rattle.certificate_laws.specs.Passing.{ArrivalPasses, DeparturePasses, Passes};
 
 use link_table::{Chain, Links, Reply};
 use task_set::Event;

@@ -1,7 +1,7 @@
 //! The judgement of an entry, which is looked at part by part and changes nothing.
 ghost use Rattle.std.specs.Prelude.{◌≡◌, ◌≢◌, ℕ, ◌<◌, ◌↔◌, [], true, IsTrue, IfNone, Some, MatchOption};
 ghost use Rattle.link_table.specs.State.{IsState, is_linked, is_ready, task_count, task_on};
-ghost use Rattle.reach_certificate.specs.Passing.{IsOfTask, Passes};
+ghost use Rattle.certificate_laws.specs.Passing.{IsOfTask, Passes};
 ghost use Rattle.reach_certificate.specs.Defect.{IsAllowed, IsAllowedToArrival, IsAllowedToDeparture, ChainFits, HasBadChain, SetFits, HasBadSet, TasksAreRight, HasWrongTask, IsDefect, IsOfProcessors, last_processor};
 ghost use Rattle.reach_certificate.specs.Judging.{HasPlace, IsJustified, IsUnjustified};
 

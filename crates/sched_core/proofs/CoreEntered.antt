@@ -9,8 +9,8 @@ use Rattle.link_table.specs.History.{state_after, effect_of}
 use Rattle.link_table.specs.Dispatch.{processors_of, taken_between, orders_of}
 use Rattle.link_table.proofs.Histories.{state_after-push, IsLegalFrom-push, processors_of-push, orders_of-push}
 use Rattle.link_table.proofs.Steps.{reply_gives_new_state, step_keeps_state}
-use Rattle.reach_certificate.specs.Certified.{HasCertificates}
-use Rattle.reach_certificate.proofs.Kept.{step_keeps_certificates}
+use Rattle.certificate_laws.specs.Certified.{HasCertificates}
+use Rattle.certificate_laws.proofs.Kept.{step_keeps_certificates}
 use Rattle.sched_core.specs.CoreData.{CoreData, IsCore, core_orders, max_entries}
 use Rattle.sched_core.specs.CoreRows.{RowData, row_at, RowFollows, NumbersBecome, came, came_below}
 use Rattle.sched_core.proofs.RowLoops.{filtered_count-bound, filtered_count-same, change_orders-same_number}

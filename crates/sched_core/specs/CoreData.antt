@@ -11,8 +11,8 @@ use Rattle.link_table.specs.State.{State, IsState, task_count}
 use Rattle.link_table.specs.Step.{SchedulerStep}
 use Rattle.link_table.specs.History.{event_task, IsLegalFrom, state_after}
 use Rattle.link_table.specs.Dispatch.{orders_of, closed_orders_of}
-use Rattle.reach_certificate.specs.Certified.{HasCertificates}
-use Rattle.reach_certificate.specs.Ground.{HasGround}
+use Rattle.certificate_laws.specs.Certified.{HasCertificates}
+use Rattle.certificate_laws.specs.Justification.{HasJustification}
 use Rattle.sched_core.specs.declared.fault.CoreFault.{CoreFault}
 use Rattle.sched_core.specs.declared.fault.CoreFault.TheVariants.{Closed, Full, OutOfMemory}
 
@@ -49,14 +49,14 @@ abbrev pub entry_of : ℕ → Event → Reply → Entry
 entry_of caller event reply = record { caller = caller; event = event; reply = reply }
 
 -- the event of this caller was applied: the history has one more entry, at this place, which is the scheduler's step
--- from the links before it to the links after it; its reply has its ground in the links after it, and it takes the room
+-- from the links before it to the links after it; its reply is justified by the links after it, and it takes the room
 -- of one entry at most
 pub record Applied (old : CoreData) (caller : ℕ) (event : Event) (place : ℕ) (new : CoreData) : Type 0 where
   pub reply : Reply
   pub at_place : place ≡ length old.history
   pub history : new.history ≡ old.history ++ entry_of caller event reply ∷ []
   pub step : SchedulerStep old.links event reply new.links
-  pub ground : HasGround new.links (event_task event) reply
+  pub justified : HasJustification new.links (event_task event) reply
   pub start : new.start ≡ old.start
   pub closed : new.closed ≡ old.closed
   pub spare : old.spare ≤ new.spare + 1

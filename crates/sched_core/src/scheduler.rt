@@ -3,11 +3,11 @@ ghost use Rattle.std.specs.Prelude.{◌≡◌, ℕ, ◌<◌, ◌≤◌, IfOk, tr
 ghost use Rattle.std.specs.Result.{OnOk, IsOk};
 ghost use Rattle.link_table.specs.State.{task_count, start_of};
 ghost use Rattle.link_table.specs.Step.{SchedulerStep};
-ghost use Rattle.reach_certificate.specs.Certified.{HasCertificates};
-ghost use Rattle.reach_certificate.specs.Laws.{LinkedIsBest, LinkedIsLargest, LinkedIsAsUrgent};
-ghost use Rattle.reach_certificate.specs.Passing.{IsOfTask};
+ghost use Rattle.certificate_laws.specs.Certified.{HasCertificates};
+ghost use Rattle.certificate_laws.specs.Laws.{LinkedIsBest, LinkedIsLargest, LinkedIsAsUrgent};
+ghost use Rattle.certificate_laws.specs.Passing.{IsOfTask};
 ghost use Rattle.sched_core.specs.CoreData.{CoreData, IsCore, Applied, AppliedOrRefused, OnlyMadeRoom, core_orders, max_entries};
-ghost use Rattle.sched_core.specs.ImprovingLaw.{HasNoImprovingChain};
+ghost use Rattle.history_laws.specs.ImprovingLaw.{HasNoImprovingChain};
 
 use crate::fault::CoreFault;
 use crate::order_row::OrderRow;

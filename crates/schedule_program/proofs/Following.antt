@@ -15,7 +15,7 @@ use Rattle.link_table.proofs.Histories.{state_after-push}
 use Rattle.reach_certificate.specs.Checker.{CheckerData}
 use Rattle.reach_certificate.specs.Contexts.{EachBecomes, context_after_entry}
 use Rattle.reach_certificate.specs.Defect.{IsDefect, number_of}
-use Rattle.reach_certificate.specs.Passing.{Passes, IsPassingFrom, IsOfTask}
+use Rattle.certificate_laws.specs.Passing.{Passes, IsPassingFrom, IsOfTask}
 use Rattle.reach_certificate.specs.declared.defect.Defect.{Defect}
 use Rattle.reach_certificate.proofs.ContextsFollow.{contexts-follow}
 use Rattle.link_table.proofs.SameTasks.{same_tasks-history}

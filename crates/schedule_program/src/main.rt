@@ -5,6 +5,8 @@ mod check;
 #[cfg(test)]
 mod check_tests;
 #[cfg(test)]
+mod checker_tests;
+#[cfg(test)]
 mod generated_tests;
 #[cfg(test)]
 mod histories;

@@ -4,9 +4,9 @@ use Rattle.std.proofs.lemmas.List.{get_or_default}
 use Rattle.link_table.specs.State.{State, IsState, IsWaiting, task_count}
 use Rattle.link_table.specs.Certificate.{IsCertificate}
 use Rattle.link_table.proofs.Unique.{ready_number}
-use Rattle.reach_certificate.specs.Certified.{HasCertificates}
-use Rattle.reach_certificate.proofs.Best.{linked_is_best, linked_is_largest}
-use Rattle.reach_certificate.proofs.Ranked.{linked_is_as_urgent}
+use Rattle.certificate_laws.specs.Certified.{HasCertificates}
+use Rattle.certificate_laws.proofs.Best.{linked_is_best, linked_is_largest}
+use Rattle.certificate_laws.proofs.Ranked.{linked_is_as_urgent}
 use Rattle.placement_laws.proofs.certified.all_certified.Goals as goal
 use Rattle.placement_laws.proofs.certified.all_certified.Goals.{else-is_waiting-via-then-is_waiting+else-not-is_certificate, else-is_waiting-via-else-is_waiting}
 

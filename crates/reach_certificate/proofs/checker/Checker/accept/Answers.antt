@@ -3,13 +3,13 @@ use Rattle.reach_certificate.specs.Checker.{CheckerData, IsChecker}
 use Rattle.reach_certificate.specs.CheckerView.{checker_view}
 use Rattle.reach_certificate.specs.Contexts.{EachBecomes, context_after_entry}
 use Rattle.reach_certificate.specs.Defect.{IsDefect}
-use Rattle.reach_certificate.specs.Laws.{LinkedIsBest}
-use Rattle.reach_certificate.specs.Passing.{Passes}
+use Rattle.certificate_laws.specs.Laws.{LinkedIsBest}
+use Rattle.certificate_laws.specs.Passing.{Passes}
 use Rattle.reach_certificate.specs.declared.defect.Defect.{Defect}
 use Rattle.reach_certificate.proofs.Accepted.{occupants_known, occupants_were, best_kept, checker_kept}
-use Rattle.reach_certificate.proofs.Best.{linked_is_best}
+use Rattle.certificate_laws.proofs.Best.{linked_is_best}
 use Rattle.reach_certificate.proofs.Defects.{passing_has_no_defect, defect_is_unique}
-use Rattle.reach_certificate.proofs.Passed.{step_passes}
+use Rattle.certificate_laws.proofs.Passed.{step_passes}
 use Rattle.reach_certificate.proofs.checker.Checker.accept.Goals as goal
 use Rattle.reach_certificate.proofs.checker.Checker.accept.Goals.{In-Some, After-follow}
 

@@ -1,6 +1,6 @@
 use Rattle.reach_certificate.specs.Checker.{CheckerData}
-use Rattle.reach_certificate.specs.Laws.{LinkedIsBest}
-use Rattle.reach_certificate.proofs.Best.{linked_is_best}
+use Rattle.certificate_laws.specs.Laws.{LinkedIsBest}
+use Rattle.certificate_laws.proofs.Best.{linked_is_best}
 use Rattle.reach_certificate.proofs.checker.Checker.links.Goals as goal
 use Rattle.std.proofs.Common.{subst}
 

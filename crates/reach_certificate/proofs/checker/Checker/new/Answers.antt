@@ -2,8 +2,8 @@ use Rattle.std.proofs.Common.{List, length, get_or, sym, ap, ◌∙◌, subst, a
 use Rattle.std.proofs.lemmas.List.FromFn.{get_or-map-range_with_len, length-map-range_with_len}
 use Rattle.task_set.specs.Context.{fresh_context}
 use Rattle.task_set.specs.declared.context.Context.{Context}
-use Rattle.reach_certificate.specs.Certified.{HasCertificates}
-use Rattle.reach_certificate.proofs.Kept.{HasCertificates-start}
+use Rattle.certificate_laws.specs.Certified.{HasCertificates}
+use Rattle.certificate_laws.proofs.Kept.{HasCertificates-start}
 use Rattle.reach_certificate.specs.Checker.{IsChecker}
 use Rattle.reach_certificate.proofs.checker.Checker.new.Goals as goal
 use Rattle.reach_certificate.proofs.checker.Checker.new.Goals.{In_ok-contexts}

@@ -5,7 +5,7 @@ use Rattle.link_table.specs.History.{effect_of}
 use Rattle.link_table.specs.Dispatch.{orders_of, processors_of}
 use Rattle.link_table.proofs.Linked.{linked_number}
 use Rattle.link_table.proofs.Steps.{reply_gives_new_state, step_keeps_state}
-use Rattle.reach_certificate.proofs.Kept.{step_has_ground}
+use Rattle.certificate_laws.proofs.Kept.{step_has_justification}
 use Rattle.sched_core.specs.CoreData.{CoreData, IsCore, Applied, entry_of, max_entries}
 use Rattle.sched_core.specs.CoreView.{core_view}
 use Rattle.sched_core.specs.CoreRows.{row_at}
@@ -86,7 +86,7 @@ returns-clause-applied c =
       at_place = refl;
       history = c.push_reserved.ensures.items;
       step = step;
-      ground = step_has_ground inside.links c.args.event reply new kept.core.state kept.core.certificates step;
+      justified = step_has_justification inside.links c.args.event reply new kept.core.state kept.core.certificates step;
       start = refl;
       closed = refl;
       spare = omega arith;

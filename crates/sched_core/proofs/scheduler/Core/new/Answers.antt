@@ -1,8 +1,8 @@
 use Rattle.std.proofs.Common.{rules, ◌≡◌, false, sym, ap, ◌∙◌, subst, length}
 use Rattle.std.proofs.lemmas.List.{length-replicate}
 use Rattle.link_table.specs.State.{State}
-use Rattle.reach_certificate.specs.Certified.{HasCertificates}
-use Rattle.reach_certificate.proofs.Kept.{HasCertificates-start}
+use Rattle.certificate_laws.specs.Certified.{HasCertificates}
+use Rattle.certificate_laws.proofs.Kept.{HasCertificates-start}
 use Rattle.sched_core.specs.CoreView.{IsKept}
 use Rattle.sched_core.proofs.CoreEntered.{core_started}
 use Rattle.sched_core.proofs.RowsStarted.{rows_counted, rows_say_nothing, nobody_is_held, never_taken}
