@@ -8,7 +8,7 @@ use Rattle.link_table.specs.declared.reply.Reply.{Reply}
 use Rattle.link_table.specs.declared.reply.Entry.{Entry}
 use Rattle.link_table.specs.State.{State, IsState, start_of}
 use Rattle.link_table.specs.Step.{SchedulerStep}
-use Rattle.link_table.specs.History.{event_task, effect_of, state_after, state_at, IsLegal, IsLegalFrom, IsBestThroughout}
+use Rattle.link_table.specs.History.{effect_of, state_after, state_at, IsLegal, IsLegalFrom, IsBestThroughout}
 use Rattle.link_table.proofs.Start.{IsState-start}
 use Rattle.link_table.proofs.Steps.{reply_gives_new_state}
 use Rattle.certificate_laws.specs.Certified.{HasCertificates, IsCertifiedThroughout}
@@ -71,6 +71,6 @@ pub step_keeps_certificates : (s : State) (event : Event) (reply : Reply) (new :
 step_keeps_certificates s event reply new ok certificates step =
     subst HasCertificates (sym (reply_gives_new_state s event reply new step)) (passing_keeps_certificates s event reply ok certificates (step_passes s event reply new ok step))
 
-pub step_has_justification : (s : State) (event : Event) (reply : Reply) (new : State) → IsState s → HasCertificates s → SchedulerStep s event reply new → HasJustification new (event_task event) reply
+pub step_has_justification : (s : State) (event : Event) (reply : Reply) (new : State) → IsState s → HasCertificates s → SchedulerStep s event reply new → HasJustification new event reply
 step_has_justification s event reply new ok certificates step =
-    subst (λ (s' : State). HasJustification s' (event_task event) reply) (sym (reply_gives_new_state s event reply new step)) (passing_has_justification s event reply ok certificates (step_passes s event reply new ok step))
+    subst (λ (s' : State). HasJustification s' event reply) (sym (reply_gives_new_state s event reply new step)) (passing_has_justification s event reply ok certificates (step_passes s event reply new ok step))

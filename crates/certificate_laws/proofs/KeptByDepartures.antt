@@ -7,13 +7,12 @@ use Rattle.std.proofs.lemmas.Bool.{cases_eq, cases_lt, cases_Bool, true≢false,
 use Rattle.std.proofs.lemmas.Option.{same_Some}
 use Rattle.std.proofs.lemmas.Nat.Bits.{bit_at_xor, bit_at_and, bit_at-lt}
 use Rattle.affinity_mask.specs.ProcSet.{has}
-use Rattle.link_table.specs.declared.reply.Reply.{Reply}
-use Rattle.link_table.specs.declared.reply.Reply.TheVariants.{Placed, Displaced, Waits, Freed, Left, Ticked, AlreadyReady, NotReady}
+use Rattle.link_table.specs.declared.reply.Gone.{Gone}
 use Rattle.link_table.specs.State.{State, IsState, IsWaiting, IsMoreUrgent, is_ready, task_count, task_on, priority_of, state_with_absent, state_after_leaving}
 use Rattle.link_table.specs.Chain.{IsChainOf, IsSimple, CanEnterAt, state_after_shift}
 use Rattle.link_table.specs.Certificate.{IsCertificate}
 use Rattle.link_table.specs.Step.{IsMostUrgentInto}
-use Rattle.link_table.specs.History.{state_after_entering, state_after_reply}
+use Rattle.link_table.specs.History.{state_after_entering, state_after_gone}
 use Rattle.link_table.proofs.Leaving.{task_on-state_after_leaving, task_on-stays, task_on-left, IsState-state_after_leaving}
 use Rattle.link_table.proofs.Linked.{not_on, not_linked-from_on}
 use Rattle.link_table.proofs.Paths.{IsChainOf-reverse}
@@ -21,8 +20,8 @@ use Rattle.link_table.proofs.Simple.{IsSimple-reverse}
 use Rattle.link_table.proofs.Unique.{ready_number}
 use Rattle.certificate_laws.specs.Held.{IsHeldAgainst}
 use Rattle.certificate_laws.specs.Certified.{HasCertificates}
-use Rattle.certificate_laws.specs.Justification.{HasJustification, LeavesNobody}
-use Rattle.certificate_laws.specs.Passing.{IsBackClosed, EntryPasses, DeparturePasses}
+use Rattle.certificate_laws.specs.Justification.{LeavesNobody}
+use Rattle.certificate_laws.specs.Passing.{IsBackClosed, EntryPasses, GonePasses}
 use Rattle.certificate_laws.proofs.Closed.{IsClosed, IsCertificate-closed, chain_inside}
 use Rattle.certificate_laws.proofs.KeptByShifts.{waited, certificate_past, full_then, certificate_joined}
 
@@ -55,7 +54,7 @@ module _ (s : State) (ok : IsState s) (certificates : HasCertificates s) (t : �
   ready_before v ready = sym (get_or-set_other s.ready t v false false (another v ready)) ∙ ready
 
   -- it waited, so no link changes
-  kept_by_left : HasCertificates (state_with_absent s t)
+  pub kept_by_left : HasCertificates (state_with_absent s t)
   kept_by_left v h =
       let old = certificates v record { ready = ready_before v h.ready; not_linked = h.not_linked } in
       (old.0, record { within = old.1.within; occupied = old.1.occupied })
@@ -179,14 +178,9 @@ module _ (s : State) (ok : IsState s) (certificates : HasCertificates s) (t : �
       let end = enters.1 in
       kept_by_entering place linked back back_first back_next w enters.0 (reverse chain) (IsChainOf-reverse (state_after_leaving s t) place w chain end.0 end.1 end.2) (IsSimple-reverse chain enters.2)
 
-  pub kept_by_departure : (reply : Reply) → DeparturePasses s t reply → HasCertificates (state_after_reply s t reply)
-  kept_by_departure (Freed entered chain back) passes = kept_by_entry passes.place passes.linked back passes.has_place passes.closed entered chain passes.enters
-  kept_by_departure Left passes = kept_by_left
-  kept_by_departure NotReady passes = certificates
-  kept_by_departure _ passes = absurd passes
+  -- who comes in at the processor of t, once t has left
+  pub kept_by_gone : (place : ℕ) → task_on s place ≡ Some t → (gone : Gone) → GonePasses (state_after_leaving s t) place gone → HasCertificates (state_after_gone (state_after_leaving s t) gone)
+  kept_by_gone place linked gone passes = kept_by_entry place linked gone.back passes.has_place passes.closed gone.entered gone.chain passes.enters
 
-  pub departure_justification : (reply : Reply) → DeparturePasses s t reply → HasJustification (state_after_reply s t reply) t reply
-  departure_justification (Freed entered chain back) passes = entry_justification passes.place passes.linked back entered chain passes.enters
-  departure_justification Left passes = tt
-  departure_justification NotReady passes = tt
-  departure_justification _ passes = absurd passes
+  pub gone_justified : (place : ℕ) → task_on s place ≡ Some t → (gone : Gone) → GonePasses (state_after_leaving s t) place gone → LeavesNobody (state_after_gone (state_after_leaving s t) gone) gone.entered gone.back
+  gone_justified place linked gone passes = entry_justification place linked gone.back gone.entered gone.chain passes.enters

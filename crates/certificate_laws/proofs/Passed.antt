@@ -1,48 +1,83 @@
 -- Each reply that passes leaves every waiting task with a certificate, and is justified by the state after it; and each
 -- step of the scheduler has such a reply.
-use Rattle.std.proofs.Common.{◌≡◌, ℕ, ◌<◌, List, [], ◌∷◌, ◌++◌, Option, Some, None, refl, sym, ap, ◌∙◌, subst, inl, inr, ◌⊎◌, IsTrue}
+use Rattle.std.proofs.Common.{◌≡◌, ℕ, ◌<◌, false, List, [], ◌∷◌, ◌++◌, Option, Some, None, refl, sym, ap, ◌∙◌, subst, inl, inr, ◌⊎◌, IsTrue}
 use Rattle.affinity_mask.specs.ProcSet.{has}
 use Rattle.task_set.specs.declared.event.Event.{Event}
 use Rattle.task_set.specs.declared.event.Event.TheVariants.{Arrive, Depart, Tick}
+use Rattle.link_table.specs.declared.reply.Came.{Came}
+use Rattle.link_table.specs.declared.reply.Came.TheVariants.{Placed, Displaced, Waits}
+use Rattle.link_table.specs.declared.reply.Gone.{Gone}
 use Rattle.link_table.specs.declared.reply.Reply.{Reply}
-use Rattle.link_table.specs.declared.reply.Reply.TheVariants.{Placed, Displaced, Waits, Freed, Left, Ticked, AlreadyReady, NotReady}
-use Rattle.link_table.specs.State.{State, IsState, IsIdle, task_count, task_on, state_after_leaving}
+use Rattle.link_table.specs.Reply.{came_of, gone_of}
+use Rattle.link_table.specs.State.{State, IsState, IsIdle, is_ready, task_count, task_on, state_after_leaving}
 use Rattle.link_table.specs.Chain.{CanShift, IsBackChain, IsBackReach, IsPath}
-use Rattle.link_table.specs.Step.{ArriveStep, EnterStep, DepartStep, SchedulerStep}
-use Rattle.link_table.specs.History.{event_task, state_after_entering, state_after_reply}
+use Rattle.link_table.specs.Step.{Comes, ArriveStep, EnterStep, DepartStep}
+use Rattle.link_table.specs.History.{state_after_entering, state_after_came, state_after_reply}
 use Rattle.link_table.proofs.Ends.{least_chain_is_simple, least_back_chain_is_simple}
 use Rattle.link_table.proofs.Leaving.{IsState-state_with_absent, IsState-state_after_leaving, task_on-state_after_leaving}
 use Rattle.link_table.proofs.Linked.{occupied_number}
 use Rattle.link_table.proofs.Paths.{IsPath-push, IsChainOf-reverse}
 use Rattle.link_table.proofs.Readiness.{IsState-state_with_ready}
+use Rattle.link_table.proofs.Replies.{came_said, gone_said, one_came, one_gone}
 use Rattle.link_table.proofs.Shifts.{IsState-state_after_shift}
 use Rattle.link_table.proofs.Simple.{IsSimple-reverse}
-use Rattle.link_table.proofs.Steps.{IsState-arrived}
+use Rattle.link_table.proofs.Steps.{IsState-arrived, effect_of_came}
 use Rattle.certificate_laws.specs.PassingLaws.{PassingKeepsState, PassingKeepsCertificates, PassingHasJustification, StepPasses}
 use Rattle.certificate_laws.specs.Certified.{HasCertificates}
-use Rattle.certificate_laws.specs.Justification.{HasJustification}
-use Rattle.certificate_laws.specs.Passing.{ArrivalPasses, DeparturePasses, EntryPasses, Passes, IsBackClosed}
+use Rattle.certificate_laws.specs.Justification.{JustifiesCame, LeavesNobody, HasJustification}
+use Rattle.certificate_laws.specs.Passing.{CamePasses, ArrivalPasses, DeparturePasses, EntryPasses, IsBackClosed}
 use Rattle.certificate_laws.proofs.Closed.{IsReach-first, IsReach-closed}
-use Rattle.certificate_laws.proofs.KeptByArrivals.{kept_by_arrival, arrival_justification}
-use Rattle.certificate_laws.proofs.KeptByDepartures.{kept_by_departure, departure_justification}
+use Rattle.certificate_laws.proofs.KeptByArrivals.{kept_by_came, came_justified}
+use Rattle.certificate_laws.proofs.KeptByDepartures.{kept_by_left, kept_by_gone, gone_justified}
 
 -- ---- a reply that passes
+arrival_keeps : (s : State) (t : ℕ) (reply : Reply) → IsState s → HasCertificates s → t < task_count s → ArrivalPasses s t reply → HasCertificates (state_after_reply s (Arrive t) reply)
+arrival_keeps s t reply ok certificates number (inl again) = subst (λ (r : Reply). HasCertificates (state_after_reply s (Arrive t) r)) (sym again.1) certificates
+arrival_keeps s t reply ok certificates number (inr new) =
+    subst (λ (r : Reply). HasCertificates (state_after_reply s (Arrive t) r)) (sym new.answer)
+    (subst HasCertificates (sym (effect_of_came s t new.came)) (kept_by_came s ok certificates t number new.absent new.came new.passes))
+
+departure_keeps : (s : State) (t : ℕ) (reply : Reply) → IsState s → HasCertificates s → t < task_count s → DeparturePasses s t reply → HasCertificates (state_after_reply s (Depart t) reply)
+departure_keeps s t reply ok certificates number (inl again) = subst (λ (r : Reply). HasCertificates (state_after_reply s (Depart t) r)) (sym again.1) certificates
+departure_keeps s t reply ok certificates number (inr (inl waiting)) = subst (λ (r : Reply). HasCertificates (state_after_reply s (Depart t) r)) (sym waiting.1) (kept_by_left s ok certificates t number)
+departure_keeps s t reply ok certificates number (inr (inr linked)) =
+    subst (λ (r : Reply). HasCertificates (state_after_reply s (Depart t) r)) (sym linked.answer) (kept_by_gone s ok certificates t number linked.place linked.linked linked.gone linked.passes)
+
 pub passing_keeps_certificates : PassingKeepsCertificates
-passing_keeps_certificates s (Arrive t) reply ok certificates passes = kept_by_arrival s ok certificates t passes.0 reply passes.1
-passing_keeps_certificates s (Depart t) reply ok certificates passes = kept_by_departure s ok certificates t passes.0 reply passes.1
-passing_keeps_certificates s (Tick units) reply ok certificates passes = subst (λ (r : Reply). HasCertificates (state_after_reply s 0 r)) (sym passes) certificates
+passing_keeps_certificates s (Arrive t) reply ok certificates passes = arrival_keeps s t reply ok certificates passes.0 passes.1
+passing_keeps_certificates s (Depart t) reply ok certificates passes = departure_keeps s t reply ok certificates passes.0 passes.1
+passing_keeps_certificates s (Tick units) reply ok certificates passes = certificates
+
+-- a reply that says what an arrival came to is not one to a task that was ready
+arrival_justified : (s : State) (t : ℕ) (reply : Reply) → IsState s → HasCertificates s → t < task_count s → ArrivalPasses s t reply → HasJustification (state_after_reply s (Arrive t) reply) (Arrive t) reply
+arrival_justified s t reply ok certificates number (inl again) came says = absurd (let said = came_said reply came says in let other = ap came_of again.1 in cc)
+arrival_justified s t reply ok certificates number (inr new) came says =
+    let same : new.came ≡ came = one_came new.came came (sym new.answer ∙ says) in
+    subst (λ (c : Came). JustifiesCame (state_after_reply s (Arrive t) reply) t c) same
+    (subst (λ (x : State). JustifiesCame x t new.came) (sym (ap (state_after_reply s (Arrive t)) new.answer ∙ effect_of_came s t new.came)) (came_justified s ok certificates t number new.absent new.came new.passes))
+
+departure_justified : (s : State) (t : ℕ) (reply : Reply) → IsState s → HasCertificates s → t < task_count s → DeparturePasses s t reply → HasJustification (state_after_reply s (Depart t) reply) (Depart t) reply
+departure_justified s t reply ok certificates number (inl again) gone says = absurd (let said = gone_said reply gone says in let other = ap gone_of again.1 in cc)
+departure_justified s t reply ok certificates number (inr (inl waiting)) gone says = absurd (let said = gone_said reply gone says in let other = ap gone_of waiting.1 in cc)
+departure_justified s t reply ok certificates number (inr (inr linked)) gone says =
+    let same : linked.gone ≡ gone = one_gone linked.gone gone (sym linked.answer ∙ says) in
+    subst (λ (g : Gone). LeavesNobody (state_after_reply s (Depart t) reply) g.entered g.back) same
+    (subst (λ (x : State). LeavesNobody x linked.gone.entered linked.gone.back) (sym (ap (state_after_reply s (Depart t)) linked.answer)) (gone_justified s ok certificates t number linked.place linked.linked linked.gone linked.passes))
 
 pub passing_has_justification : PassingHasJustification
-passing_has_justification s (Arrive t) reply ok certificates passes = arrival_justification s ok certificates t passes.0 reply passes.1
-passing_has_justification s (Depart t) reply ok certificates passes = departure_justification s ok certificates t passes.0 reply passes.1
-passing_has_justification s (Tick units) reply ok certificates passes = subst (λ (r : Reply). HasJustification (state_after_reply s 0 r) 0 r) (sym passes) tt
+passing_has_justification s (Arrive t) reply ok certificates passes = arrival_justified s t reply ok certificates passes.0 passes.1
+passing_has_justification s (Depart t) reply ok certificates passes = departure_justified s t reply ok certificates passes.0 passes.1
+passing_has_justification s (Tick units) reply ok certificates passes = tt
 
-arrival_keeps_state : (s : State) (t : ℕ) (reply : Reply) → IsState s → t < task_count s → ArrivalPasses s t reply → IsState (state_after_reply s t reply)
-arrival_keeps_state s t (Placed chain) ok number passes = let end = passes.ends in IsState-arrived s ok t chain end.0 number passes.absent end.1 passes.simple
-arrival_keeps_state s t (Displaced chain out reach) ok number passes = let end = passes.ends in IsState-arrived s ok t chain end.0 number passes.absent end.1 passes.simple
-arrival_keeps_state s t (Waits reach) ok number passes = IsState-state_with_ready s ok t number
-arrival_keeps_state s t AlreadyReady ok number passes = ok
-arrival_keeps_state s t _ ok number passes = absurd passes
+pub came_keeps_state : (s : State) (t : ℕ) (came : Came) → IsState s → t < task_count s → is_ready s t ≡ false → CamePasses s t came → IsState (state_after_came s t came)
+came_keeps_state s t (Placed chain) ok number absent passes = let end = passes.ends in IsState-arrived s ok t chain end.0 number absent end.1 passes.simple
+came_keeps_state s t (Displaced chain out reach) ok number absent passes = let end = passes.ends in IsState-arrived s ok t chain end.0 number absent end.1 passes.simple
+came_keeps_state s t (Waits reach) ok number absent passes = IsState-state_with_ready s ok t number
+
+arrival_keeps_state : (s : State) (t : ℕ) (reply : Reply) → IsState s → t < task_count s → ArrivalPasses s t reply → IsState (state_after_reply s (Arrive t) reply)
+arrival_keeps_state s t reply ok number (inl again) = subst (λ (r : Reply). IsState (state_after_reply s (Arrive t) r)) (sym again.1) ok
+arrival_keeps_state s t reply ok number (inr new) =
+    subst IsState (sym (ap (state_after_reply s (Arrive t)) new.answer ∙ effect_of_came s t new.came)) (came_keeps_state s t new.came ok number new.absent new.passes)
 
 entry_keeps_state : (s : State) (p : ℕ) (entered : Option ℕ) (chain : List ℕ) (back : ℕ) → IsState s → EntryPasses s p entered chain back → IsState (state_after_entering s entered chain)
 entry_keeps_state s p None chain back ok enters = ok
@@ -50,26 +85,25 @@ entry_keeps_state s p (Some w) chain back ok enters =
     let end = enters.1 in
     IsState-state_after_shift s ok w _ p enters.0.waits (IsChainOf-reverse s p w chain end.0 end.1 end.2) (IsSimple-reverse chain enters.2)
 
-departure_keeps_state : (s : State) (t : ℕ) (reply : Reply) → IsState s → DeparturePasses s t reply → IsState (state_after_reply s t reply)
-departure_keeps_state s t (Freed entered chain back) ok passes = entry_keeps_state (state_after_leaving s t) passes.place entered chain back (IsState-state_after_leaving s ok t) passes.enters
-departure_keeps_state s t Left ok passes = IsState-state_with_absent s ok t passes
-departure_keeps_state s t NotReady ok passes = ok
-departure_keeps_state s t _ ok passes = absurd passes
+departure_keeps_state : (s : State) (t : ℕ) (reply : Reply) → IsState s → DeparturePasses s t reply → IsState (state_after_reply s (Depart t) reply)
+departure_keeps_state s t reply ok (inl again) = subst (λ (r : Reply). IsState (state_after_reply s (Depart t) r)) (sym again.1) ok
+departure_keeps_state s t reply ok (inr (inl waiting)) = subst (λ (r : Reply). IsState (state_after_reply s (Depart t) r)) (sym waiting.1) (IsState-state_with_absent s ok t waiting.0)
+departure_keeps_state s t reply ok (inr (inr linked)) =
+    subst (λ (r : Reply). IsState (state_after_reply s (Depart t) r)) (sym linked.answer)
+    (entry_keeps_state (state_after_leaving s t) linked.place linked.gone.entered linked.gone.chain linked.gone.back (IsState-state_after_leaving s ok t) linked.passes.enters)
 
 pub passing_keeps_state : PassingKeepsState
 passing_keeps_state s (Arrive t) reply ok passes = arrival_keeps_state s t reply ok passes.0 passes.1
 passing_keeps_state s (Depart t) reply ok passes = departure_keeps_state s t reply ok passes.1
-passing_keeps_state s (Tick units) reply ok passes = subst (λ (r : Reply). IsState (state_after_reply s 0 r)) (sym passes) ok
+passing_keeps_state s (Tick units) reply ok passes = ok
 
 -- ---- a step of the scheduler
-arrival_step_passes : (s : State) (t : ℕ) (reply : Reply) (new : State) → IsState s → ArriveStep s t reply new → ArrivalPasses s t reply
-arrival_step_passes s t (Placed chain) new ok step = record {
-  absent = step.absent;
+came_step_passes : (s : State) (t : ℕ) (came : Came) (new : State) → IsState s → Comes s t came new → CamePasses s t came
+came_step_passes s t (Placed chain) new ok step = record {
   ends = step.least.itself;
   simple = least_chain_is_simple s ok t (IsIdle s) chain step.least;
 }
-arrival_step_passes s t (Displaced chain out reach) new ok step = record {
-  absent = step.absent;
+came_step_passes s t (Displaced chain out reach) new ok step = record {
   ends = step.least.itself;
   simple = least_chain_is_simple s ok t (λ q. task_on s q ≡ Some out) chain step.least;
   out_less_urgent = step.out_less_urgent;
@@ -78,17 +112,16 @@ arrival_step_passes s t (Displaced chain out reach) new ok step = record {
       let occupant = step.occupied p inside in
       (occupant.0, occupant.1, IsReach-closed s t reach step.reached p occupant.0 inside occupant.1, step.out_there.least_urgent p occupant.0 inside occupant.1);
 }
-arrival_step_passes s t (Waits reach) new ok step = record {
-  absent = step.absent;
-  certified = record {
-    within = IsReach-first s t reach step.reached;
-    occupied = λ p inside.
-        let occupant = step.more_urgent p inside in
-        (occupant.0, occupant.1, occupant.2, IsReach-closed s t reach step.reached p occupant.0 inside occupant.1);
-  };
+came_step_passes s t (Waits reach) new ok step = record {
+  within = IsReach-first s t reach step.reached;
+  occupied = λ p inside.
+      let occupant = step.more_urgent p inside in
+      (occupant.0, occupant.1, occupant.2, IsReach-closed s t reach step.reached p occupant.0 inside occupant.1);
 }
-arrival_step_passes s t AlreadyReady new ok step = step.0
-arrival_step_passes s t _ new ok step = absurd step
+
+arrival_step_passes : (s : State) (t : ℕ) (reply : Reply) (new : State) → IsState s → ArriveStep s t reply new → ArrivalPasses s t reply
+arrival_step_passes s t reply new ok (inl again) = inl (again.ready, again.answer)
+arrival_step_passes s t reply new ok (inr arrives) = inr record { absent = arrives.absent; came = arrives.came; answer = arrives.answer; passes = came_step_passes s t arrives.came new ok arrives.comes }
 
 enter_step_passes : (s : State) (p : ℕ) (entered : Option ℕ) (chain : List ℕ) (back : ℕ) (new : State) → IsState s → EnterStep s p entered chain back new → EntryPasses s p entered chain back
 enter_step_passes s p None chain back new ok step = (step.0, step.1)
@@ -127,19 +160,22 @@ back_reach-below s ok t p back linked is_back q inside =
     ]
 
 departure_step_passes : (s : State) (t : ℕ) (reply : Reply) (new : State) → IsState s → DepartStep s t reply new → DeparturePasses s t reply
-departure_step_passes s t (Freed entered chain back) new ok step =
+departure_step_passes s t reply new ok (inl again) = inl (again.absent, again.answer)
+departure_step_passes s t reply new ok (inr (inl waiting)) = inr (inl (waiting.waits, waiting.answer))
+departure_step_passes s t reply new ok (inr (inr step)) =
     let left = state_after_leaving s t in
-    record {
+    inr (inr record {
       place = step.place;
       linked = step.linked;
-      has_place = back_reach-first left step.place back step.reached;
-      below = back_reach-below s ok t step.place back step.linked step.reached;
-      closed = back_reach-closed left step.place back step.reached;
-      enters = enter_step_passes left step.place entered chain back new (IsState-state_after_leaving s ok t) step.enters;
-    }
-departure_step_passes s t Left new ok step = step.0
-departure_step_passes s t NotReady new ok step = step.0
-departure_step_passes s t _ new ok step = absurd step
+      gone = step.gone;
+      answer = step.answer;
+      passes = record {
+        has_place = back_reach-first left step.place step.gone.back step.fills.reached;
+        below = back_reach-below s ok t step.place step.gone.back step.linked step.fills.reached;
+        closed = back_reach-closed left step.place step.gone.back step.fills.reached;
+        enters = enter_step_passes left step.place step.gone.entered step.gone.chain step.gone.back new (IsState-state_after_leaving s ok t) step.fills.enters;
+      };
+    })
 
 pub step_passes : StepPasses
 step_passes s (Arrive t) reply new ok step = (step.0, arrival_step_passes s t reply new ok step.1)

@@ -1,14 +1,18 @@
--- Replies that pass, whoever gave them. What a reader must believe: a chain passes where it is a chain of the task that
--- enters, comes to no processor twice, and ends as the reply says; it need not be the least. A set passes where no shift
+-- Replies that pass, whoever gave them: a chain passes where it is a chain of the task that
+-- enters, visits no processor twice, and ends as the reply says; it need not be the least. A set passes where no shift
 -- leads out of it, or, after a departure, where none leads into it from outside; it need not be the smallest. A history
 -- passes where each reply does in the state to which the replies before it lead.
-use Rattle.std.specs.Prelude.{◌≡◌, ℕ, ◌<◌, ◌≤◌, false, true, List, [], ◌∷◌, IsTrue, Option, Some, None}
+use Rattle.std.specs.Prelude.{◌≡◌, ℕ, ◌<◌, ◌≤◌, ◌⊎◌, false, true, List, [], ◌∷◌, IsTrue, Option, Some, None}
 use Rattle.affinity_mask.specs.ProcSet.{has, Within}
 use Rattle.task_set.specs.TaskSet.{SetData}
 use Rattle.task_set.specs.declared.event.Event.{Event}
 use Rattle.task_set.specs.declared.event.Event.TheVariants.{Arrive, Depart, Tick}
+use Rattle.link_table.specs.declared.reply.Came.{Came}
+use Rattle.link_table.specs.declared.reply.Came.TheVariants.{Placed, Displaced, Waits}
+use Rattle.link_table.specs.declared.reply.Gone.{Gone}
 use Rattle.link_table.specs.declared.reply.Reply.{Reply}
-use Rattle.link_table.specs.declared.reply.Reply.TheVariants.{Placed, Displaced, Waits, Freed, Left, Ticked, AlreadyReady, NotReady}
+use Rattle.link_table.specs.declared.reply.Reply.TheVariants.{Left, Ticked, AlreadyReady, NotReady}
+use Rattle.link_table.specs.Reply.{reply_of_came, reply_of_gone}
 use Rattle.link_table.specs.declared.reply.Entry.{Entry}
 use Rattle.link_table.specs.State.{State, effective_mask, task_on, task_count, is_ready, priority_of, start_of, IsWaiting, IsMoreUrgent, state_after_leaving}
 use Rattle.link_table.specs.Chain.{CanShift, IsSimple, EndsIdle, EndsOnTask, EntersBy}
@@ -16,34 +20,36 @@ use Rattle.link_table.specs.Certificate.{IsCertificate}
 use Rattle.link_table.specs.Step.{IsNobodyInto, IsMostUrgentInto}
 use Rattle.link_table.specs.History.{effect_of}
 
--- t arrives and is placed: the chain ends on an idle processor
+-- t is placed: the chain ends on an idle processor
 pub record PlacedPasses (s : State) (t : ℕ) (chain : List ℕ) : Type 0 where
-  pub absent : is_ready s t ≡ false
   pub ends : EndsIdle s t chain
   pub simple : IsSimple chain
 
--- t arrives and displaces a less urgent task: the chain ends on the processor of that task, and the set, which has the
+-- t displaces a less urgent task: the chain ends on the processor of that task, and the set, which has the
 -- mask of t, is full of tasks that are no less urgent than it and may run only within the set
 pub record DisplacedPasses (s : State) (t : ℕ) (chain : List ℕ) (out reach : ℕ) : Type 0 where
-  pub absent : is_ready s t ≡ false
   pub ends : EndsOnTask s t out chain
   pub simple : IsSimple chain
   pub out_less_urgent : IsMoreUrgent s t out
   pub mask : Within (effective_mask s t) reach
   pub full : (p : ℕ) → IsTrue (has reach p) → (u : ℕ) × (task_on s p ≡ Some u) × Within (effective_mask s u) reach × (priority_of s u ≤ priority_of s out)
 
--- t arrives and waits: the set certifies it
-pub record WaitsPasses (s : State) (t reach : ℕ) : Type 0 where
+-- what t, which is absent, comes to passes; where t waits, the set certifies it
+abbrev pub CamePasses : State → ℕ → Came → Type 0
+CamePasses s t (Placed chain) = PlacedPasses s t chain
+CamePasses s t (Displaced chain out reach) = DisplacedPasses s t chain out reach
+CamePasses s t (Waits reach) = IsCertificate s t reach
+
+-- t was absent, and what it comes to passes
+pub record NewPasses (s : State) (t : ℕ) (reply : Reply) : Type 0 where
   pub absent : is_ready s t ≡ false
-  pub certified : IsCertificate s t reach
+  pub came : Came
+  pub answer : reply ≡ reply_of_came came
+  pub passes : CamePasses s t came
 
 -- t arrives, and the reply passes
 abbrev pub ArrivalPasses : State → ℕ → Reply → Type 0
-ArrivalPasses s t AlreadyReady = is_ready s t ≡ true
-ArrivalPasses s t (Placed chain) = PlacedPasses s t chain
-ArrivalPasses s t (Displaced chain out reach) = DisplacedPasses s t chain out reach
-ArrivalPasses s t (Waits reach) = WaitsPasses s t reach
-ArrivalPasses s t _ = ⊥
+ArrivalPasses s t reply = ((is_ready s t ≡ true) × (reply ≡ AlreadyReady)) ⊎ NewPasses s t reply
 
 -- no shift leads into the set from a processor outside
 abbrev pub IsBackClosed : State → ℕ → Type 0
@@ -55,21 +61,24 @@ abbrev pub EntryPasses : State → ℕ → Option ℕ → List ℕ → ℕ → T
 EntryPasses s p None chain back = IsNobodyInto s back × (chain ≡ p ∷ [])
 EntryPasses s p (Some w) chain back = IsMostUrgentInto s back w × EntersBy s p w chain × IsSimple chain
 
--- t departs from a processor, which is in the set
-pub record FreedPasses (s : State) (t : ℕ) (entered : Option ℕ) (chain : List ℕ) (back : ℕ) : Type 0 where
+-- who comes in passes, where p has become idle: the set has p, and no shift leads into it from outside
+pub record GonePasses (s : State) (p : ℕ) (gone : Gone) : Type 0 where
+  pub has_place : IsTrue (has gone.back p)
+  pub below : (q : ℕ) → IsTrue (has gone.back q) → q < s.processors
+  pub closed : IsBackClosed s gone.back
+  pub enters : EntryPasses s p gone.entered gone.chain gone.back
+
+-- t departs from a processor, and who comes in there passes
+pub record LinkedPasses (s : State) (t : ℕ) (reply : Reply) : Type 0 where
   pub place : ℕ
   pub linked : task_on s place ≡ Some t
-  pub has_place : IsTrue (has back place)
-  pub below : (q : ℕ) → IsTrue (has back q) → q < s.processors
-  pub closed : IsBackClosed (state_after_leaving s t) back
-  pub enters : EntryPasses (state_after_leaving s t) place entered chain back
+  pub gone : Gone
+  pub answer : reply ≡ reply_of_gone gone
+  pub passes : GonePasses (state_after_leaving s t) place gone
 
 -- t departs, and the reply passes
 abbrev pub DeparturePasses : State → ℕ → Reply → Type 0
-DeparturePasses s t NotReady = is_ready s t ≡ false
-DeparturePasses s t Left = IsWaiting s t
-DeparturePasses s t (Freed entered chain back) = FreedPasses s t entered chain back
-DeparturePasses s t _ = ⊥
+DeparturePasses s t reply = ((is_ready s t ≡ false) × (reply ≡ NotReady)) ⊎ ((IsWaiting s t × (reply ≡ Left)) ⊎ LinkedPasses s t reply)
 
 -- the task of the event, if it has one, is one of so many
 abbrev pub IsOfTask : ℕ → Event → Type 0

@@ -1,15 +1,17 @@
 -- In every state there is a step at every event of a task.
-use Rattle.std.proofs.Common.{◌≡◌, ℕ, ◌<◌, ◌≤◌, false, List, [], ◌∷◌, reverse, Option, Some, None, refl, sym, ap, ◌∙◌, subst, inl, inr, ◌⊎◌, IsTrue, arith, le_antisymm, ltb-true}
+use Rattle.std.proofs.Common.{◌≡◌, ℕ, ◌<◌, ◌≤◌, false, List, [], ◌∷◌, reverse, Option, Some, None, refl, sym, ap, ◌∙◌, subst, inl, inr, ◌⊎◌, IsTrue, arith, le_antisymm}
 use Rattle.std.proofs.lemmas.Bool.{cases_lt, cases_Bool, true≢false}
 use Rattle.std.proofs.lemmas.List.{get_or_past}
 use Rattle.affinity_mask.specs.ProcSet.{has}
-use Rattle.affinity_mask.proofs.Sets.{has-all_below}
 use Rattle.task_set.specs.declared.event.Event.TheVariants.{Arrive, Depart, Tick}
 use Rattle.link_table.specs.declared.reply.Reply.{Reply}
-use Rattle.link_table.specs.declared.reply.Reply.TheVariants.{Placed, Displaced, Waits, Freed, Left, Ticked, AlreadyReady, NotReady}
+use Rattle.link_table.specs.declared.reply.Came.{Came}
+use Rattle.link_table.specs.declared.reply.Came.TheVariants.{Placed, Displaced, Waits}
+use Rattle.link_table.specs.declared.reply.Reply.TheVariants.{Freed, Left, Ticked, AlreadyReady, NotReady}
+use Rattle.link_table.specs.Reply.{reply_of_came}
 use Rattle.link_table.specs.State.{State, IsState, IsWaiting, IsMoreUrgent, task_on, task_count, is_ready, is_linked, priority_of, effective_mask, state_with_ready, state_with_absent, state_after_leaving}
 use Rattle.link_table.specs.Chain.{IsReach, IsBackReach, EndsIdle, CanEnterAt, state_after_shift}
-use Rattle.link_table.specs.Step.{IsOccupied, ArriveStep, DepartStep, EnterStep}
+use Rattle.link_table.specs.Step.{IsOccupied, Comes, ArriveStep, DepartStep, EnterStep}
 use Rattle.link_table.proofs.Ends.{has_decided, least_chain_to_idle, least_chain_to_task, least_back_chain}
 use Rattle.link_table.proofs.Least.{Decided}
 use Rattle.link_table.proofs.Leaving.{IsState-state_after_leaving}
@@ -37,14 +39,18 @@ priority_on s None = 0
 priority_on s (Some u) = priority_of s u
 
 module _ (s : State) (ok : IsState s) (t : ℕ) (number : t < task_count s) (absent : is_ready s t ≡ false) where
+  -- what t comes to is the reply
+  comes : (came : Came) (new : State) → Comes s t came new → SomeArriveStep s t
+  comes came new step = (reply_of_came came, new, inr record { absent = absent; came = came; answer = refl; comes = step })
+
   placed : (chain : List ℕ) → EndsIdle s t chain → SomeArriveStep s t
   placed chain ends =
       let least = (least_chain_to_idle s t ok).exists chain ends in
-      (Placed least.0, state_after_shift (state_with_ready s t) t least.0, record { absent = absent; least = least.1; shifted = refl })
+      comes (Placed least.0) (state_after_shift (state_with_ready s t) t least.0) record { least = least.1; shifted = refl }
 
   module _ (reach : ℕ) (reached : IsReach s t reach) (occupied : IsOccupied s reach) where
     waits : ((p : ℕ) → IsTrue (has reach p) → (u : ℕ) × (task_on s p ≡ Some u) × IsMoreUrgent s u t) → SomeArriveStep s t
-    waits more_urgent = (Waits reach, state_with_ready s t, record { absent = absent; reached = reached; more_urgent = more_urgent; waits = refl })
+    waits more_urgent = comes (Waits reach) (state_with_ready s t) record { reached = reached; more_urgent = more_urgent; waits = refl }
 
     -- the occupants of p are the least urgent ones that are reached
     module _ (p : ℕ) (inside : IsTrue (has reach p)) (least_urgent : (q : ℕ) → IsTrue (has reach q) → priority_on s (task_on s q) ≤ priority_on s (task_on s p)) (d : ℕ) (on : task_on s p ≡ Some d) where
@@ -58,19 +64,15 @@ module _ (s : State) (ok : IsState s) (t : ℕ) (number : t < task_count s) (abs
       displaced : priority_of s t < priority_of s d → SomeArriveStep s t
       displaced lt =
           let path = (reached p).0 inside in
-          let least = (least_chain_to_task s t d ok).exists path.0 (p, path.1, on) in (
-            Displaced least.0 d reach,
-            state_after_shift (state_with_ready s t) t least.0,
-            record {
-              absent = absent;
-              reached = reached;
-              occupied = occupied;
-              out_there = record { there = (p, inside, on); least_urgent = λ q u there on_q. no_less_urgent q u there on_q };
-              out_less_urgent = lt;
-              least = least.1;
-              shifted = refl;
-            },
-          )
+          let least = (least_chain_to_task s t d ok).exists path.0 (p, path.1, on) in
+          comes (Displaced least.0 d reach) (state_after_shift (state_with_ready s t) t least.0) record {
+            reached = reached;
+            occupied = occupied;
+            out_there = record { there = (p, inside, on); least_urgent = λ q u there on_q. no_less_urgent q u there on_q };
+            out_less_urgent = lt;
+            least = least.1;
+            shifted = refl;
+          }
 
       -- an occupant is another task than the one that arrives, and so it has another priority
       kept_out : priority_of s d ≤ priority_of s t → SomeArriveStep s t
@@ -122,7 +124,7 @@ module _ (s : State) (ok : IsState s) (t : ℕ) (number : t < task_count s) (abs
 
 arrive_exists : (s : State) → IsState s → (t : ℕ) → t < task_count s → SomeArriveStep s t
 arrive_exists s ok t number = elim (cases_Bool (is_ready s t)) [
-  | inl ready ↦ (AlreadyReady, s, (ready, refl))
+  | inl ready ↦ (AlreadyReady, s, inl record { ready = ready; answer = refl; same = refl })
   | inr absent ↦ arrives_absent s ok t number absent
 ]
 
@@ -205,15 +207,25 @@ depart_linked s ok t p on =
     let inside : p < s.processors = occupied_number s p t ok on in
     let back = back_reach_exists left left_ok p inside in
     let step = enter_exists left left_ok p inside back.0 back.1 in
-    (Freed step.0 step.1 back.0, step.2, record { place = p; linked = on; reached = back.1; enters = step.3 })
+    (
+      Freed step.0 step.1 back.0,
+      step.2,
+      inr (inr record {
+        place = p;
+        linked = on;
+        gone = record { entered = step.0; chain = step.1; back = back.0 };
+        answer = refl;
+        fills = record { reached = back.1; enters = step.3 };
+      }),
+    )
 
 depart_exists : (s : State) → IsState s → (t : ℕ) → SomeDepartStep s t
 depart_exists s ok t = elim (cases_Bool (is_ready s t)) [
   | inl ready ↦ elim (cases_Bool (is_linked s t)) [
     | inl linked ↦ depart_linked s ok t (place_in t s.on) (task_on-linked s t linked)
-    | inr free ↦ (Left, state_with_absent s t, (record { ready = ready; not_linked = free }, refl))
+    | inr free ↦ (Left, state_with_absent s t, inr (inl record { waits = record { ready = ready; not_linked = free }; answer = refl; left = refl }))
   ]
-  | inr absent ↦ (NotReady, s, (absent, refl))
+  | inr absent ↦ (NotReady, s, inl record { absent = absent; answer = refl; same = refl })
 ]
 
 -- ---- all events

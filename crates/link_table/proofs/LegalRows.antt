@@ -1,19 +1,23 @@
 -- Of the small histories: replies that are the scheduler's are legal, and a chain that is not the least, or a set that
 -- is not the reach, is not.
-use Rattle.std.proofs.Common.{◌≡◌, ℕ, zero, suc, ◌<◌, ◌≤◌, List, [], ◌∷◌, length, Some, refl, sym, ap, ◌∙◌, inl, inr, ◌⊎◌, IsTrue, arith, eqb-true, subst}
+use Rattle.std.proofs.Common.{◌≡◌, ℕ, zero, suc, ◌<◌, ◌≤◌, false, List, [], ◌∷◌, length, Some, refl, sym, ap, ◌∙◌, inl, inr, ◌⊎◌, IsTrue, arith, eqb-true, subst}
 use Rattle.std.proofs.lemmas.Bool.{ltb-true, true≢false, false≢true, cases_order}
 use Rattle.std.proofs.lemmas.Option.{same_Some}
 use Rattle.affinity_mask.specs.ProcSet.{has, all_below, intersection}
 use Rattle.affinity_mask.proofs.Sets.{has-all_below, has-pow}
 use Rattle.task_set.specs.TaskSet.{SetData}
 use Rattle.task_set.specs.declared.event.Event.TheVariants.{Arrive}
-use Rattle.link_table.specs.declared.reply.Reply.TheVariants.{Placed, Waits}
+use Rattle.link_table.specs.declared.reply.Came.{Came}
+use Rattle.link_table.specs.declared.reply.Came.TheVariants as came
+use Rattle.link_table.specs.declared.reply.Reply.TheVariants.{Placed, Waits, AlreadyReady}
+use Rattle.link_table.specs.Reply.{reply_of_came}
 use Rattle.link_table.specs.declared.reply.Entry.{Entry}
-use Rattle.link_table.specs.State.{State, IsIdle, IsWaiting, task_on, effective_mask, priority_of, state_after_leaving}
+use Rattle.link_table.specs.State.{State, IsIdle, IsWaiting, is_ready, task_on, effective_mask, priority_of, state_after_leaving}
 use Rattle.link_table.specs.Chain.{CanShift, IsPath, IsWalk, IsChainOf, IsReach, IsBackReach, IsBackChain, Reaches, IsLess, IsLeastSuch, EndsIdle, EntersBy}
-use Rattle.link_table.specs.Step.{ArrivePlaced, ArriveWaits, IsMostUrgentInto}
+use Rattle.link_table.specs.Step.{Comes, ComesPlaced, ComesWaits, ArriveStep, IsMostUrgentInto}
 use Rattle.link_table.specs.History.{IsLegal, state_at}
 use Rattle.link_table.proofs.Paths.{Reaches-online}
+use Rattle.link_table.proofs.Replies.{one_came}
 use Rattle.link_table.proofs.Rows.{first_shift_set, first_shift, waits_with_a_reach_wider_than_its_mask_set, enters_through_a_back_chain_set, enters_through_a_back_chain, task, entry}
 
 -- ---- which processors the masks 1, 2 and 3 have
@@ -54,6 +58,25 @@ two_are_least Has p q h none no_one least = record { itself = h; least = compare
     ]
     compare (x ∷ y ∷ z ∷ rest) h' = inr (inl (omega arith))
 
+-- ---- what a step at an arrival is, by its reply
+not_already : (c : Came) → reply_of_came c ≡ AlreadyReady → ⊥
+not_already (came.Placed chain) e = cc
+not_already (came.Displaced chain out reach) e = cc
+not_already (came.Waits reach) e = cc
+
+arrives : {s : State} {t : ℕ} (came : Came) {new : State} → is_ready s t ≡ false → Comes s t came new → ArriveStep s t (reply_of_came came) new
+arrives came absent comes = inr record { absent = absent; came = came; answer = refl; comes = comes }
+
+said : {s : State} {t : ℕ} (came : Came) {new : State} → ArriveStep s t (reply_of_came came) new → Comes s t came new
+said came (inl again) = absurd (not_already came again.answer)
+said {s = s} {t = t} came {new = new} (inr step) = subst (λ (c : Came). Comes s t c new) (sym (one_came came step.came step.answer)) step.comes
+
+placed : {s : State} {t : ℕ} {chain : List ℕ} {new : State} → ArriveStep s t (Placed chain) new → ComesPlaced s t chain new
+placed {chain = chain} step = said (came.Placed chain) step
+
+waits : {s : State} {t reach : ℕ} {new : State} → ArriveStep s t (Waits reach) new → ComesWaits s t reach new
+waits {reach = reach} step = said (came.Waits reach) step
+
 -- ---- first_shift
 abbrev shift_state : ℕ → State
 shift_state n = state_at first_shift_set first_shift n
@@ -67,10 +90,9 @@ both_online : (shift_state 0).online ≡ 3
 unfolding all_below
 both_online = refl
 
-a_is_placed : ArrivePlaced (shift_state 0) 0 (0 ∷ []) (shift_state 1)
+a_is_placed : ComesPlaced (shift_state 0) 0 (0 ∷ []) (shift_state 1)
 unfolding has intersection all_below
 a_is_placed = record {
-  absent = refl;
   least = one_is_least (EndsIdle (shift_state 0) 0) 0 (0, (refl, refl), (refl, refl)) (λ h. h.1) (λ x h. omega arith);
   shifted = refl;
 }
@@ -87,10 +109,9 @@ idle_above : (p : ℕ) → IsIdle (shift_state 1) p → 1 ≤ p
 idle_above zero idle = let nobody = idle.1 in absurd (cc)
 idle_above (suc p) idle = omega arith
 
-b_is_placed : ArrivePlaced (shift_state 1) 1 (0 ∷ 1 ∷ []) (shift_state 2)
+b_is_placed : ComesPlaced (shift_state 1) 1 (0 ∷ 1 ∷ []) (shift_state 2)
 unfolding has intersection all_below
 b_is_placed = record {
-  absent = refl;
   least = two_are_least (EndsIdle (shift_state 1) 1) 0 1 (1, (refl, ((0, refl, refl), refl)), (refl, refl)) (λ h. h.1)
       (λ x h. let e = b_starts_on_0 x [] h in let above = idle_above h.0 h.2 in let end = h.1.1 in omega arith)
       (λ x y h. (sym (b_starts_on_0 x (y ∷ []) h), (let above = idle_above h.0 h.2 in let end = h.1.1.1 in omega arith)));
@@ -98,16 +119,15 @@ b_is_placed = record {
 }
 
 first_shift_legal : IsLegal first_shift_set first_shift
-first_shift_legal = ((omega arith, a_is_placed), ((omega arith, b_is_placed), tt))
+first_shift_legal = ((omega arith, arrives (came.Placed (0 ∷ [])) refl a_is_placed), ((omega arith, arrives (came.Placed (0 ∷ 1 ∷ [])) refl b_is_placed), tt))
 
 -- ---- enters_through_a_back_chain
 abbrev enter_state : ℕ → State
 enter_state n = state_at enters_through_a_back_chain_set enters_through_a_back_chain n
 
-x_is_placed : ArrivePlaced (enter_state 0) 0 (0 ∷ []) (enter_state 1)
+x_is_placed : ComesPlaced (enter_state 0) 0 (0 ∷ []) (enter_state 1)
 unfolding has intersection all_below
 x_is_placed = record {
-  absent = refl;
   least = one_is_least (EndsIdle (enter_state 0) 0) 0 (0, (refl, refl), (refl, refl)) (λ h. h.1) (λ x h. omega arith);
   shifted = refl;
 }
@@ -116,10 +136,9 @@ above_x : (p : ℕ) → IsIdle (enter_state 1) p → 1 ≤ p
 above_x zero idle = let nobody = idle.1 in absurd (cc)
 above_x (suc p) idle = omega arith
 
-y_is_placed : ArrivePlaced (enter_state 1) 1 (1 ∷ []) (enter_state 2)
+y_is_placed : ComesPlaced (enter_state 1) 1 (1 ∷ []) (enter_state 2)
 unfolding has intersection all_below
 y_is_placed = record {
-  absent = refl;
   least = one_is_least (EndsIdle (enter_state 1) 1) 1 (1, (refl, refl), (refl, refl)) (λ h. h.1) (λ x h. let above = above_x h.0 h.2 in let end = h.1.1 in omega arith);
   shifted = refl;
 }
@@ -134,9 +153,8 @@ w1_reaches q = ((λ h. reached q (in_three q h)), (λ r. Reaches-online (enter_s
     reached (suc zero) lt = (1 ∷ [], (refl, refl))
     reached (suc (suc q)) lt = absurd (omega arith)
 
-w1_waits : ArriveWaits (enter_state 2) 2 3 (enter_state 3)
+w1_waits : ComesWaits (enter_state 2) 2 3 (enter_state 3)
 w1_waits = record {
-  absent = refl;
   reached = w1_reaches;
   more_urgent = λ p h. above p (in_three p h);
   waits = refl;
@@ -173,9 +191,8 @@ w2_reaches q = ((λ h. (0 ∷ [], (refl, sym (in_one q h)))), (λ r. ends_on_0 r
         let start : p ≡ 0 = in_one p (rw mask_w2 at c.0) in
         rw (stays_on_0 rest q (subst (λ (r : ℕ). IsWalk (enter_state 3) r rest q) start c.1)) refl
 
-w2_waits : ArriveWaits (enter_state 3) 3 1 (enter_state 4)
+w2_waits : ComesWaits (enter_state 3) 3 1 (enter_state 4)
 w2_waits = record {
-  absent = refl;
   reached = w2_reaches;
   more_urgent = λ p h. (0, rw (in_one p h) refl, omega arith);
   waits = refl;
@@ -236,14 +253,17 @@ comes_in_by_1 = two_are_least (EntersBy left 0 2) 0 1 (1, (refl, ((1, refl, refl
 
 enters_through_a_back_chain_legal : IsLegal enters_through_a_back_chain_set enters_through_a_back_chain
 enters_through_a_back_chain_legal = (
-  (omega arith, x_is_placed),
+  (omega arith, arrives (came.Placed (0 ∷ [])) refl x_is_placed),
   (
-    (omega arith, y_is_placed),
+    (omega arith, arrives (came.Placed (1 ∷ [])) refl y_is_placed),
     (
-      (omega arith, w1_waits),
+      (omega arith, arrives (came.Waits 3) refl w1_waits),
       (
-        (omega arith, w2_waits),
-        ((omega arith, record { place = 0; linked = refl; reached = leads_back; enters = (w1_is_most_urgent, comes_in_by_1, refl) }), tt),
+        (omega arith, arrives (came.Waits 1) refl w2_waits),
+        (
+          (omega arith, inr (inr record { place = 0; linked = refl; gone = record { entered = Some 2; chain = 0 ∷ 1 ∷ []; back = 3 }; answer = refl; fills = record { reached = leads_back; enters = (w1_is_most_urgent, comes_in_by_1, refl) } })),
+          tt,
+        ),
       ),
     ),
   ),
@@ -261,7 +281,7 @@ longer_chain =
 
 longer_chain_not_legal : IsLegal longer_chain_set longer_chain → ⊥
 unfolding has intersection all_below
-longer_chain_not_legal legal = elim (legal.1.0.1.least.least (1 ∷ []) (1, (refl, refl), (refl, refl))) [
+longer_chain_not_legal legal = elim ((placed legal.1.0.1).least.least (1 ∷ []) (1, (refl, refl), (refl, refl))) [
   | inl same ↦ (let n = ap length same in absurd (omega arith))
   | inr (inl shorter) ↦ absurd (omega arith)
   | inr (inr as_long) ↦ (let n = as_long.0 in absurd (omega arith))
@@ -278,4 +298,4 @@ narrow_reach =
 
 narrow_reach_not_legal : IsLegal waits_with_a_reach_wider_than_its_mask_set narrow_reach → ⊥
 unfolding has intersection all_below
-narrow_reach_not_legal legal = false≢true ((legal.1.1.1.0.1.reached 1).1 (0 ∷ 1 ∷ [], (refl, ((0, refl, refl), refl))))
+narrow_reach_not_legal legal = false≢true (((waits legal.1.1.1.0.1).reached 1).1 (0 ∷ 1 ∷ [], (refl, ((0, refl, refl), refl))))

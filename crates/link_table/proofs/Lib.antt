@@ -13,6 +13,7 @@ pub mod Paths
 pub mod Readiness
 pub mod Simple
 pub mod LegalRows
+pub mod Replies
 pub mod Rows
 pub mod SameTasks
 pub mod Shifts

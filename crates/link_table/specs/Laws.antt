@@ -7,23 +7,23 @@ use Rattle.link_table.specs.State.{State, IsState, HasSameTasks, HasSameMasks, t
 use Rattle.link_table.specs.Chain.{IsSimple, IsLeastSuch, EndsIdle, EndsOnTask, EntersBy}
 use Rattle.link_table.specs.Placement.{TaskTest, IsBest}
 use Rattle.link_table.specs.Step.{SchedulerStep}
-use Rattle.link_table.specs.History.{event_task, state_after_reply}
+use Rattle.link_table.specs.History.{state_after_reply}
 
 -- one state and one event have at most one reply and one new state
 abbrev pub StepIsUnique : Type 0
 StepIsUnique = (s : State) (event : Event) (reply other : Reply) (new next : State) → IsState s → SchedulerStep s event reply new → SchedulerStep s event other next → (reply ≡ other) × (new ≡ next)
 
--- the new state follows from the reply alone
+-- the new state follows from the event and the reply
 abbrev pub ReplyGivesNewState : Type 0
-ReplyGivesNewState = (s : State) (event : Event) (reply : Reply) (new : State) → SchedulerStep s event reply new → new ≡ state_after_reply s (event_task event) reply
+ReplyGivesNewState = (s : State) (event : Event) (reply : Reply) (new : State) → SchedulerStep s event reply new → new ≡ state_after_reply s event reply
 
 -- no reply changes the tasks and the processors
 abbrev pub ReplyKeepsTasks : Type 0
-ReplyKeepsTasks = (s : State) (t : ℕ) (reply : Reply) → HasSameTasks s (state_after_reply s t reply)
+ReplyKeepsTasks = (s : State) (event : Event) (reply : Reply) → HasSameTasks s (state_after_reply s event reply)
 
 -- no reply changes the masks, nor which processors are on line
 abbrev pub ReplyKeepsMasks : Type 0
-ReplyKeepsMasks = (s : State) (t : ℕ) (reply : Reply) → HasSameMasks s (state_after_reply s t reply)
+ReplyKeepsMasks = (s : State) (event : Event) (reply : Reply) → HasSameMasks s (state_after_reply s event reply)
 
 -- a step leads from a state to a state: its links are a placement of ready tasks again
 abbrev pub StepKeepsState : Type 0

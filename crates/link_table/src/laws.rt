@@ -8,7 +8,7 @@ pub fn step_is_unique()
     ensures { StepIsUnique }
 {}
 
-/// What a step changes follows from its reply alone, so a history needs no more than the replies.
+/// What a step changes follows from its event and reply, so a history needs no more than those.
 pub fn reply_gives_new_state()
     ensures { ReplyGivesNewState }
 {}

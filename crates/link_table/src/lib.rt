@@ -20,4 +20,4 @@ mod urgency;
 
 pub use chain::Chain;
 pub use links::Links;
-pub use reply::{Entry, Reply};
+pub use reply::{Came, Entry, Gone, Reply};

@@ -121,7 +121,8 @@ impl Links {
 
     /// The idle processors: they are on line, and nobody is linked to them.
     pub fn idle(&self) -> ProcSet
-        ensures { (p : ℕ) → IsTrue (has result p) ↔ IsIdle self.now p }
+        ensures contents { (p : ℕ) → IsTrue (has result p) ↔ IsIdle self.now p }
+        ensures valid { IsState self.now }
     {
         self.online().minus(&self.linked())
     }

@@ -1,6 +1,6 @@
 //! Chains of a task.
 ghost use Rattle.std.specs.Prelude.{◌≡◌, ℕ, ◌<◌, Some};
-ghost use Rattle.link_table.specs.State.{task_count, task_on};
+ghost use Rattle.link_table.specs.State.{IsState, task_count, task_on};
 ghost use Rattle.link_table.specs.Chain.{IsReach, IsChainOf, EndsIdle, EndsOnTask};
 ghost use Rattle.path_search.specs.Paths.{IsLeastIfAny, EndsIn};
 
@@ -21,7 +21,8 @@ pub fn reach(links: &Links, t: u32) -> ProcSet
 /// The least of all chains of a task that end on an idle processor. `None` just where the task reaches none.
 pub fn chain_to_idle(links: &Links, t: u32) -> Option<Chain>
     requires { t < task_count links.now }
-    ensures { IsLeastIfAny (EndsIdle links.now t) result }
+    ensures least { IsLeastIfAny (EndsIdle links.now t) result }
+    ensures valid { IsState links.now }
 {
     let idle = links.idle();
     chain_into(links, t, idle)

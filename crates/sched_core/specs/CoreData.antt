@@ -9,7 +9,7 @@ use Rattle.link_table.specs.declared.reply.Reply.{Reply}
 use Rattle.link_table.specs.declared.reply.Entry.{Entry}
 use Rattle.link_table.specs.State.{State, IsState, task_count}
 use Rattle.link_table.specs.Step.{SchedulerStep}
-use Rattle.link_table.specs.History.{event_task, IsLegalFrom, state_after}
+use Rattle.link_table.specs.History.{IsLegalFrom, state_after}
 use Rattle.link_table.specs.Dispatch.{orders_of, closed_orders_of}
 use Rattle.certificate_laws.specs.Certified.{HasCertificates}
 use Rattle.certificate_laws.specs.Justification.{HasJustification}
@@ -56,7 +56,7 @@ pub record Applied (old : CoreData) (caller : ℕ) (event : Event) (place : ℕ)
   pub at_place : place ≡ length old.history
   pub history : new.history ≡ old.history ++ entry_of caller event reply ∷ []
   pub step : SchedulerStep old.links event reply new.links
-  pub justified : HasJustification new.links (event_task event) reply
+  pub justified : HasJustification new.links event reply
   pub start : new.start ≡ old.start
   pub closed : new.closed ≡ old.closed
   pub spare : old.spare ≤ new.spare + 1

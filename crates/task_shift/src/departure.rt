@@ -1,9 +1,9 @@
 //! A task departs.
 ghost use Rattle.std.specs.Prelude.{◌≡◌, ◌<◌, [], ◌∷◌};
 ghost use Rattle.link_table.specs.State.{IsState, task_count};
-ghost use Rattle.link_table.specs.Step.{DepartStep};
+ghost use Rattle.link_table.specs.Step.{DepartStep, Fills};
 
-use link_table::{Chain, Links, Reply};
+use link_table::{Chain, Gone, Links, Reply};
 use path_search::{back_chain, back_set};
 
 /// A task departs. Where it leaves a processor, the most urgent waiting task that can be shifted there comes in.
@@ -21,9 +21,18 @@ pub fn depart(links: &mut Links, t: u32) -> Reply
         return Reply::Left;
     }
     let p = links.leave(t);
+    fill(links, p).into()
+}
+
+/// Lets the most urgent waiting task in that can be shifted to processor `p`, which nobody is linked to.
+fn fill(links: &mut Links, p: u8) -> Gone
+    requires { p < links.old.processors }
+    ensures fills { Fills links.old p result links.new }
+    ensures valid { IsState links.new }
+{
     let back = back_set(links, p);
     let Some(w) = links.most_urgent_in(back) else {
-        return Reply::Freed {
+        return Gone {
             entered: None,
             chain: one_processor(p),
             back,
@@ -31,7 +40,7 @@ pub fn depart(links: &mut Links, t: u32) -> Reply
     };
     let chain = back_chain(links, w, p).unwrap();
     links.shift(w, &chain.reversed());
-    Reply::Freed {
+    Gone {
         entered: Some(w),
         chain,
         back,

@@ -3,8 +3,8 @@ use Rattle.path_search.specs.Paths.{EndsIn}
 use Rattle.path_search.proofs.ChainPaths.{IsLeastIfAny-same, EndsIn-idle, idle-EndsIn}
 use Rattle.path_search.proofs.forward.chain_to_idle.Goals as goal
 
-pub returns : goal.returns
-returns c =
+pub returns-clause-least : goal.returns-clause-least
+returns-clause-least c =
     let s = c.args.links.now in
-    IsLeastIfAny-same (EndsIn s c.args.t c.idle-idle.result) (EndsIdle s c.args.t) (EndsIn-idle s c.args.t c.idle-idle.result c.idle-idle.ensures) (idle-EndsIn s c.args.t c.idle-idle.result c.idle-idle.ensures)
+    IsLeastIfAny-same (EndsIn s c.args.t c.idle-idle.result) (EndsIdle s c.args.t) (EndsIn-idle s c.args.t c.idle-idle.result c.idle-idle.ensures.contents) (idle-EndsIn s c.args.t c.idle-idle.result c.idle-idle.ensures.contents)
     c.chain_into.result c.chain_into.ensures
