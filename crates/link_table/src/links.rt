@@ -33,7 +33,7 @@ impl Model for Links {
 }
 
 impl Links {
-    ghost use Rattle.link_table.specs.State.{State, IsState, task_count, priority_of, mask_of, is_ready, is_linked, effective_mask, task_on, IsIdle, IsWaiting, start_of, state_with_ready, state_with_absent, state_with_idle, state_after_leaving};
+    ghost use Rattle.link_table.specs.State.{State, IsState, HasSameTasks, task_count, priority_of, mask_of, is_ready, is_linked, effective_mask, task_on, IsIdle, IsWaiting, start_of, state_with_ready, state_with_absent, state_with_idle, state_after_leaving};
     ghost use Rattle.link_table.specs.Chain.{IsChainOf, IsSimple, Shifted, task_put_out};
 
     /// Every task of the set is absent, and every processor is idle. Refused only where memory runs out.
@@ -252,5 +252,16 @@ impl Links {
         self.unlink(p);
         self.make_absent(t);
         p
+    }
+
+    /// Becomes equal to another table of the same tasks. No memory is taken.
+    pub fn set_to(&mut self, other: &Links)
+        requires { HasSameTasks self.old other.now }
+        ensures { self.new ≡ other.now }
+    {
+        self.masks.copy_from_slice(&other.masks);
+        self.online = other.online;
+        self.ready.copy_from_slice(&other.ready);
+        self.on.copy_from_slice(&other.on);
     }
 }

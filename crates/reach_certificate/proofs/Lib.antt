@@ -4,10 +4,8 @@ pub mod ContextsFollow
 pub mod Decisions
 pub mod Defects
 pub mod Entering
+pub mod Fitting
 pub mod Following
-pub mod Judged
 pub mod Judgements
-pub mod Justified
 pub mod Parts
 pub mod Seen
-pub mod Whole

@@ -4,8 +4,9 @@ ghost use Rattle.affinity_mask.specs.ProcSet.{all_below, Within};
 ghost use Rattle.link_table.specs.State.{task_count};
 ghost use Rattle.reach_certificate.specs.Judging.{IsFirstMisfitIfAny, IsSetRuleOf, FitsSetRule, IsHeld, Holds, ShiftsInto};
 
-use crate::judged_links::JudgedLinks;
+use crate::occupants::occupant;
 use affinity_mask::ProcSet;
+use link_table::Links;
 
 /// What a set has to be.
 #[derive(Clone, Copy)]
@@ -25,7 +26,7 @@ pub enum SetRule {
 
 impl SetRule {
     /// The least processor that does not fit a set.
-    pub fn first_misfit(self, links: &JudgedLinks, set: ProcSet) -> Option<u8>
+    pub fn first_misfit(self, links: &Links, set: ProcSet) -> Option<u8>
         requires { IsSetRuleOf (task_count links.now) self }
         ensures test { IsFirstMisfitIfAny (FitsSetRule links.now self set) 64 result }
         ensures processors { Within set (all_below 64) }
@@ -41,7 +42,7 @@ impl SetRule {
     }
 
     /// Whether q fits a set.
-    fn fits(self, links: &JudgedLinks, set: ProcSet, q: u8) -> bool
+    fn fits(self, links: &Links, set: ProcSet, q: u8) -> bool
         requires tasks { IsSetRuleOf (task_count links.now) self }
         requires processor { q < 64 }
         ensures { IsTrue result ↔ FitsSetRule links.now self set q }
@@ -65,18 +66,18 @@ impl SetRule {
     }
 
     /// Whether the occupant of q may run only within the set, and holds its place there.
-    fn is_held(self, links: &JudgedLinks, set: ProcSet, q: u8) -> bool
+    fn is_held(self, links: &Links, set: ProcSet, q: u8) -> bool
         requires tasks { IsSetRuleOf (task_count links.now) self }
         ensures { IsTrue result ↔ IsHeld links.now self set q }
     {
-        match links.on(q) {
+        match occupant(links, q) {
             Some(u) => links.effective(u).within(&set) && self.holds(links, u),
             None => false,
         }
     }
 
     /// Whether an occupant is urgent enough to hold its place.
-    fn holds(self, links: &JudgedLinks, u: u32) -> bool
+    fn holds(self, links: &Links, u: u32) -> bool
         requires tasks { IsSetRuleOf (task_count links.now) self }
         requires occupant { u < task_count links.now }
         ensures { IsTrue result ↔ Holds links.now self u }
@@ -90,10 +91,10 @@ impl SetRule {
 }
 
 /// Whether the occupant of q may run on a processor of the set.
-fn shifts_into(links: &JudgedLinks, q: u8, set: ProcSet) -> bool
+fn shifts_into(links: &Links, q: u8, set: ProcSet) -> bool
     ensures { IsTrue result ↔ ShiftsInto links.now q set }
 {
-    match links.on(q) {
+    match occupant(links, q) {
         Some(u) => set.meets(&links.effective(u)),
         None => false,
     }

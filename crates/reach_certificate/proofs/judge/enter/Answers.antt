@@ -2,7 +2,7 @@ use Rattle.std.proofs.Common.{sym, subst}
 use Rattle.link_table.specs.State.{State}
 use Rattle.link_table.specs.Chain.{IsChainOf}
 use Rattle.link_table.proofs.Steps.{IsChainOf-state_with_ready}
-use Rattle.reach_certificate.proofs.effect.enter.Goals as goal
+use Rattle.reach_certificate.proofs.judge.enter.Goals as goal
 
 pub shift-requires-clause-chain : goal.shift-requires-clause-chain
 shift-requires-clause-chain c =

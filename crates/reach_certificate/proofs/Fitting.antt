@@ -1,4 +1,4 @@
--- A reply passes just where its kind may stand with the event, and its chain, its set and its tasks are right.
+-- What an arrival came to passes just where its chain, its set and its tasks are right, and so does who came in.
 use Rattle.std.proofs.Common.{◌≡◌, ℕ, zero, suc, ◌<◌, false, List, [], ◌∷◌, length, get_or, Option, Some, None, refl, sym, ap, ◌∙◌, subst, inl, inr, IsTrue, arith}
 use Rattle.std.specs.Prelude.{All}
 use Rattle.std.proofs.lemmas.Bool.{cases_Bool, true≢false, ltb-true}
@@ -6,29 +6,31 @@ use Rattle.std.proofs.lemmas.List.Elements.{All-head}
 use Rattle.std.proofs.lemmas.Option.{same_Some}
 use Rattle.affinity_mask.specs.ProcSet.{has, all_below, Within}
 use Rattle.affinity_mask.proofs.Sets.{has-all_below}
-use Rattle.task_set.specs.declared.event.Event.{Event}
-use Rattle.task_set.specs.declared.event.Event.TheVariants.{Arrive, Depart, Tick}
-use Rattle.link_table.specs.declared.reply.Reply.{Reply}
-use Rattle.link_table.specs.declared.reply.Reply.TheVariants.{Placed, Displaced, Waits, Freed, Left, Ticked, AlreadyReady, NotReady}
-use Rattle.link_table.specs.State.{State, IsState, IsMoreUrgent, task_on, task_count, is_ready, state_after_leaving}
+use Rattle.link_table.specs.declared.reply.Came.{Came}
+use Rattle.link_table.specs.declared.reply.Came.TheVariants.{Placed, Displaced, Waits}
+use Rattle.link_table.specs.declared.reply.Gone.{Gone}
+use Rattle.link_table.specs.Reply.{reply_of_came}
+use Rattle.link_table.specs.State.{State, IsState, task_on}
 use Rattle.link_table.specs.Chain.{CanShift, CanEnterAt, IsPath, IsChainOf, IsBackChain, IsSimple}
-use Rattle.link_table.specs.History.{event_task}
-use Rattle.link_table.proofs.Leaving.{IsState-state_after_leaving}
-use Rattle.link_table.proofs.Linked.{is_linked-from_on, occupied_number}
+use Rattle.link_table.specs.Certificate.{IsCertificate}
+use Rattle.link_table.proofs.Linked.{occupied_number}
 use Rattle.link_table.proofs.Masks.{effective_mask_below}
 use Rattle.link_table.proofs.Paths.{Reaches-online}
 use Rattle.link_table.proofs.Shifts.{chain_below}
 use Rattle.link_table.proofs.Simple.{IsSimple-cons}
-use Rattle.certificate_laws.specs.Passing.{PlacedPasses, DisplacedPasses, WaitsPasses, ArrivalPasses, IsBackClosed, EntryPasses, FreedPasses, DeparturePasses, IsOfTask, Passes}
-use Rattle.reach_certificate.specs.Defect.{AllFit, IsAllowed, FitsAt, BeginsFor, PlacedFits, MovesBack, FreedFits, ReachFits, BackFits, IsNoLessUrgent, last_processor, processor_count, EntersRightly, IsOfProcessors}
-use Rattle.reach_certificate.specs.Judging.{IsJustified}
+use Rattle.certificate_laws.specs.Passing.{PlacedPasses, DisplacedPasses, CamePasses, IsBackClosed, EntryPasses, GonePasses}
+use Rattle.reach_certificate.specs.Defect.{AllFit, FitsAt, BeginsFor, PlacedFits, MovesBack, FreedFits, ReachFits, BackFits, AgainstFits, IsNoLessUrgent, last_processor, processor_count, EntersRightly, DisplacedIsRight, CameIsRight, GoneIsRight, IsOfProcessors}
 use Rattle.reach_certificate.proofs.ChainPlaces.{path_map, path_last, fit_is_simple, fit_begins, fit_path, fit_ends, all_places_fit}
 
 -- a number of a set of processors is below their count
 below_count : (X q : ℕ) → Within X (all_below processor_count) → IsTrue (has X q) → q < processor_count
 below_count X q within h = ltb-true q processor_count (sym (has-all_below processor_count q) ∙ within q h)
 
--- ---- arrivals
+-- the set of a reply that has one
+pub only_set : (set : ℕ) → All (λ X. Within X (all_below processor_count)) (set ∷ []) → Within set (all_below processor_count)
+only_set set small = All-head (λ X. Within X (all_below processor_count)) set [] small
+
+-- ---- what an arrival came to
 module _ (s : State) (ok : IsState s) (t : ℕ) where
   processor_fits : (q : ℕ) → q < s.processors → q < processor_count
   processor_fits q lt = let m = ok.processors in omega arith
@@ -53,11 +55,10 @@ module _ (s : State) (ok : IsState s) (t : ℕ) where
   pub placed_fits : (chain : List ℕ) → PlacedPasses s t chain → AllFit (PlacedFits s t chain) (length chain)
   placed_fits chain passes = chain_fits (λ q. task_on s q ≡ None) chain passes.ends.0 passes.ends.1 passes.ends.2.1 passes.simple
 
-  pub placed_passes : (chain : List ℕ) → is_ready s t ≡ false → AllFit (PlacedFits s t chain) (length chain) → PlacedPasses s t chain
-  placed_passes chain absent all =
+  pub placed_passes : (chain : List ℕ) → AllFit (PlacedFits s t chain) (length chain) → PlacedPasses s t chain
+  placed_passes chain all =
       let c = fit_is_chain (λ q. task_on s q ≡ None) chain all in
       record {
-        absent = absent;
         ends = (last_processor chain, c.0, (Reaches-online s t (last_processor chain) (chain, c.0), c.1));
         simple = fit_is_simple s (BeginsFor s t) (CanShift s) (λ q. task_on s q ≡ None) chain all;
       }
@@ -69,45 +70,52 @@ module _ (s : State) (ok : IsState s) (t : ℕ) where
   displaced_last : (chain : List ℕ) (out reach : ℕ) → DisplacedPasses s t chain out reach → task_on s (last_processor chain) ≡ Some out
   displaced_last chain out reach passes = ap (task_on s) (chain_last chain passes.ends.0 passes.ends.1) ∙ passes.ends.2
 
-  pub displaced_justified : (chain : List ℕ) (out reach : ℕ) → DisplacedPasses s t chain out reach → IsJustified s t (Displaced chain out reach)
-  displaced_justified chain out reach passes = record {
-    chain = chain_fits Occupied chain passes.ends.0 passes.ends.1 (out, passes.ends.2) passes.simple;
+  pub displaced_right : (chain : List ℕ) (out reach : ℕ) → DisplacedPasses s t chain out reach → DisplacedIsRight s t chain out reach
+  displaced_right chain out reach passes = record {
+    places = chain_fits Occupied chain passes.ends.0 passes.ends.1 (out, passes.ends.2) passes.simple;
     set = (out, displaced_last chain out reach passes, λ q looked_at. record { mask = passes.mask q; held = passes.full q });
     tasks = (displaced_last chain out reach passes, passes.out_less_urgent);
   }
 
-  pub displaced_passes : (chain : List ℕ) (out reach : ℕ) → is_ready s t ≡ false → IsJustified s t (Displaced chain out reach) → Within reach (all_below processor_count) → DisplacedPasses s t chain out reach
-  displaced_passes chain out reach absent justified small =
-      let c = fit_is_chain Occupied chain justified.chain in
-      let d = justified.set.0 in
-      let same : d ≡ out = same_Some d out (sym justified.set.1 ∙ justified.tasks.0) in
-      let fits : AllFit (ReachFits s t reach (λ u. IsNoLessUrgent s u out)) processor_count = subst (λ (n : ℕ). AllFit (ReachFits s t reach (λ u. IsNoLessUrgent s u n)) processor_count) same justified.set.2 in
+  pub displaced_passes : (chain : List ℕ) (out reach : ℕ) → DisplacedIsRight s t chain out reach → Within reach (all_below processor_count) → DisplacedPasses s t chain out reach
+  displaced_passes chain out reach right small =
+      let c = fit_is_chain Occupied chain right.places in
+      let d = right.set.0 in
+      let same : d ≡ out = same_Some d out (sym right.set.1 ∙ right.tasks.0) in
+      let fits : AllFit (ReachFits s t reach (λ u. IsNoLessUrgent s u out)) processor_count = subst (λ (n : ℕ). AllFit (ReachFits s t reach (λ u. IsNoLessUrgent s u n)) processor_count) same right.set.2 in
       record {
-        absent = absent;
-        ends = (last_processor chain, c.0, justified.tasks.0);
-        simple = fit_is_simple s (BeginsFor s t) (CanShift s) Occupied chain justified.chain;
-        out_less_urgent = justified.tasks.1;
+        ends = (last_processor chain, c.0, right.tasks.0);
+        simple = fit_is_simple s (BeginsFor s t) (CanShift s) Occupied chain right.places;
+        out_less_urgent = right.tasks.1;
         mask = λ q h. (fits q (inr (processor_fits q (effective_mask_below s ok t q h)))).mask h;
         full = λ q h. (fits q (inr (below_count reach q small h))).held h;
       }
 
   -- waits
-  pub waits_fits : (reach : ℕ) → WaitsPasses s t reach → AllFit (ReachFits s t reach (λ u. IsMoreUrgent s u t)) processor_count
-  waits_fits reach passes q looked_at = record {
-    mask = passes.certified.within q;
-    held = λ h. let u = passes.certified.occupied q h in (u.0, u.1, u.3, u.2);
+  pub waits_fits : (reach : ℕ) → IsCertificate s t reach → AllFit (AgainstFits s t reach) processor_count
+  waits_fits reach certificate q looked_at = record {
+    mask = certificate.within q;
+    held = λ h. let u = certificate.occupied q h in (u.0, u.1, u.3, u.2);
   }
 
-  pub waits_passes : (reach : ℕ) → is_ready s t ≡ false → AllFit (ReachFits s t reach (λ u. IsMoreUrgent s u t)) processor_count → Within reach (all_below processor_count) → WaitsPasses s t reach
-  waits_passes reach absent fits small = record {
-    absent = absent;
-    certified = record {
-      within = λ q h. (fits q (inr (processor_fits q (effective_mask_below s ok t q h)))).mask h;
-      occupied = λ q h. let u = (fits q (inr (below_count reach q small h))).held h in (u.0, u.1, u.3, u.2);
-    };
+  pub waits_passes : (reach : ℕ) → AllFit (AgainstFits s t reach) processor_count → Within reach (all_below processor_count) → IsCertificate s t reach
+  waits_passes reach fits small = record {
+    within = λ q h. (fits q (inr (processor_fits q (effective_mask_below s ok t q h)))).mask h;
+    occupied = λ q h. let u = (fits q (inr (below_count reach q small h))).held h in (u.0, u.1, u.3, u.2);
   }
 
--- ---- departures, in the state s once the task has left p
+  -- whatever it is
+  pub came_right : (came : Came) → CamePasses s t came → CameIsRight s t came
+  came_right (Placed chain) passes = placed_fits chain passes
+  came_right (Displaced chain out reach) passes = displaced_right chain out reach passes
+  came_right (Waits reach) passes = waits_fits reach passes
+
+  pub came_passes : (came : Came) → IsOfProcessors (reply_of_came came) → CameIsRight s t came → CamePasses s t came
+  came_passes (Placed chain) small right = placed_passes chain right
+  came_passes (Displaced chain out reach) small right = displaced_passes chain out reach right (only_set reach small)
+  came_passes (Waits reach) small right = waits_passes reach right (only_set reach small)
+
+-- ---- who came in, where p has become idle in the state s
 module _ (s : State) (ok : IsState s) (p : ℕ) (below_p : p < s.processors) where
   abbrev StepsBack : ℕ → ℕ → Type 0
   StepsBack a b = CanShift s b a
@@ -190,78 +198,18 @@ module _ (s : State) (ok : IsState s) (p : ℕ) (below_p : p < s.processors) whe
       | inr outside ↦ absurd ((at_processor q (occupied_number s q shift.0 ok shift.1)).closed outside r inside shift)
     ]
 
-module _ (s : State) (ok : IsState s) (t : ℕ) where
-  abbrev left : State
-  left = state_after_leaving s t
+  -- all parts of who came in
+  pub gone_right : (gone : Gone) → GonePasses s p gone → GoneIsRight s p gone
+  gone_right gone passes = record {
+    chain = enters_fits gone.entered gone.chain gone.back passes.enters;
+    set = back_fits gone.back passes.has_place passes.below passes.closed;
+    tasks = enters_rightly gone.entered gone.chain gone.back passes.enters;
+  }
 
-  left_ok : IsState left
-  left_ok = IsState-state_after_leaving s ok t
-
-  pub freed_justified : (entered : Option ℕ) (chain : List ℕ) (back : ℕ) → FreedPasses s t entered chain back → IsJustified s t (Freed entered chain back)
-  freed_justified entered chain back passes =
-      let p = passes.place in
-      let below = occupied_number s p t ok passes.linked in
-      record {
-        chain = (p, passes.linked, enters_fits left left_ok p below entered chain back passes.enters);
-        set = (p, passes.linked, back_fits left left_ok p below back passes.has_place passes.below passes.closed);
-        tasks = enters_rightly left left_ok p below entered chain back passes.enters;
-      }
-
-  pub freed_passes : (entered : Option ℕ) (chain : List ℕ) (back : ℕ) → IsJustified s t (Freed entered chain back) → Within back (all_below processor_count) → FreedPasses s t entered chain back
-  freed_passes entered chain back justified small =
-      let p = justified.set.0 in
-      let on = justified.set.1 in
-      let below = occupied_number s p t ok on in
-      let same : justified.chain.0 ≡ p = ok.once justified.chain.0 p t justified.chain.1 on in
-      let all : AllFit (FreedFits left p entered chain) (length chain) = subst (λ (n : ℕ). AllFit (FreedFits left n entered chain) (length chain)) same justified.chain.2 in
-      record {
-        place = p;
-        linked = on;
-        has_place = fit_has_place left left_ok p below back justified.set.2 small;
-        below = fit_below left left_ok p below back justified.set.2 small;
-        closed = fit_closed left left_ok p below back justified.set.2 small;
-        enters = entry_passes left left_ok p below entered chain back all justified.tasks;
-      }
-
--- ---- whole replies
--- the set of a reply that has one
-only_set : (set : ℕ) → All (λ X. Within X (all_below processor_count)) (set ∷ []) → Within set (all_below processor_count)
-only_set set small = All-head (λ X. Within X (all_below processor_count)) set [] small
-
-arrival_justified : (s : State) (t : ℕ) (reply : Reply) → IsState s → ArrivalPasses s t reply → IsAllowed s (Arrive t) reply × IsJustified s t reply
-arrival_justified s t (Placed chain) ok passes = (passes.absent, record { chain = placed_fits s ok t chain passes; set = tt; tasks = tt })
-arrival_justified s t (Displaced chain out reach) ok passes = (passes.absent, displaced_justified s ok t chain out reach passes)
-arrival_justified s t (Waits reach) ok passes = (passes.absent, record { chain = tt; set = waits_fits s ok t reach passes; tasks = tt })
-arrival_justified s t AlreadyReady ok passes = (passes, record { chain = tt; set = tt; tasks = tt })
-arrival_justified s t _ ok passes = absurd passes
-
-departure_justified : (s : State) (t : ℕ) (reply : Reply) → IsState s → DeparturePasses s t reply → IsAllowed s (Depart t) reply × IsJustified s t reply
-departure_justified s t (Freed entered chain back) ok passes = (is_linked-from_on s passes.place t passes.linked, freed_justified s ok t entered chain back passes)
-departure_justified s t Left ok passes = (passes, record { chain = tt; set = tt; tasks = tt })
-departure_justified s t NotReady ok passes = (passes, record { chain = tt; set = tt; tasks = tt })
-departure_justified s t _ ok passes = absurd passes
-
--- a reply that passes is of an allowed kind, and justified
-pub passing_is_justified : (s : State) (event : Event) (reply : Reply) → IsState s → Passes s event reply → IsAllowed s event reply × IsJustified s (event_task event) reply
-passing_is_justified s (Arrive t) reply ok passes = arrival_justified s t reply ok passes.1
-passing_is_justified s (Depart t) reply ok passes = departure_justified s t reply ok passes.1
-passing_is_justified s (Tick units) reply ok passes = (passes, subst (λ (r : Reply). IsJustified s 0 r) (sym passes) record { chain = tt; set = tt; tasks = tt })
-
-justified_arrival_passes : (s : State) (t : ℕ) (reply : Reply) → IsState s → IsOfProcessors reply → IsAllowed s (Arrive t) reply → IsJustified s t reply → ArrivalPasses s t reply
-justified_arrival_passes s t (Placed chain) ok small allowed justified = placed_passes s ok t chain allowed justified.chain
-justified_arrival_passes s t (Displaced chain out reach) ok small allowed justified = displaced_passes s ok t chain out reach allowed justified (only_set reach small)
-justified_arrival_passes s t (Waits reach) ok small allowed justified = waits_passes s ok t reach allowed justified.set (only_set reach small)
-justified_arrival_passes s t AlreadyReady ok small allowed justified = allowed
-justified_arrival_passes s t _ ok small allowed justified = absurd allowed
-
-justified_departure_passes : (s : State) (t : ℕ) (reply : Reply) → IsState s → IsOfProcessors reply → IsAllowed s (Depart t) reply → IsJustified s t reply → DeparturePasses s t reply
-justified_departure_passes s t (Freed entered chain back) ok small allowed justified = freed_passes s ok t entered chain back justified (only_set back small)
-justified_departure_passes s t Left ok small allowed justified = allowed
-justified_departure_passes s t NotReady ok small allowed justified = allowed
-justified_departure_passes s t _ ok small allowed justified = absurd allowed
-
--- and the other way round
-pub justified_passes : (s : State) (event : Event) (reply : Reply) → IsState s → IsOfTask (task_count s) event → IsOfProcessors reply → IsAllowed s event reply → IsJustified s (event_task event) reply → Passes s event reply
-justified_passes s (Arrive t) reply ok number small allowed justified = (number, justified_arrival_passes s t reply ok small allowed justified)
-justified_passes s (Depart t) reply ok number small allowed justified = (number, justified_departure_passes s t reply ok small allowed justified)
-justified_passes s (Tick units) reply ok number small allowed justified = allowed
+  pub gone_passes : (gone : Gone) → Within gone.back (all_below processor_count) → GoneIsRight s p gone → GonePasses s p gone
+  gone_passes gone small right = record {
+    has_place = fit_has_place gone.back right.set small;
+    below = fit_below gone.back right.set small;
+    closed = fit_closed gone.back right.set small;
+    enters = entry_passes gone.entered gone.chain gone.back right.chain right.tasks;
+  }
