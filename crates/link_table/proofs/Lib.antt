@@ -19,5 +19,6 @@ pub mod SameTasks
 pub mod Shifts
 pub mod Shortest
 pub mod Start
+pub mod StepParts
 pub mod Steps
 pub mod Unique
