@@ -1,5 +1,5 @@
--- Sets of processors. What a reader must believe: a set of processors is a number, and p is in the set where the
--- number has a one at place p. So each number is just one finite set, and two sets with the same members are equal.
+-- Sets of processors. A set of processors is a number, and p is in the set where the number has a one at place p. So
+-- each number is just one finite set, and two sets with the same members are equal.
 use Rattle.std.specs.Prelude.{ℕ, zero, suc, ◌-◌, ◌^◌, ◌≤◌, Bool, IsTrue, ◌==◌, bit_and, List, [], ◌∷◌, ◌++◌, if◌then◌else◌}
 use Rattle.std.specs.Int.{bit_at}
 

@@ -119,7 +119,7 @@ walk_last s p (r ∷ rest) q walk = walk_last s r rest q walk.1
 abbrev pub IsOnce : State → Type 0
 IsOnce s = (p q t : ℕ) → task_on s p ≡ Some t → task_on s q ≡ Some t → p ≡ q
 
--- the task that a simple chain puts out is nowhere then
+-- the task that a simple chain displaces is nowhere then
 walk_puts_out : (s : State) → IsOnce s → (guest : Option ℕ) (x : ℕ) (rest : List ℕ) (q : ℕ) → IsWalk s x rest q → IsSimple (x ∷ rest) → (d : ℕ) → guest ≢ Some d → task_on s q ≡ Some d → (p : ℕ) → occupant_after_shift s guest (x ∷ rest) p ≢ Some d
 walk_puts_out s once guest x [] q walk simple d other_guest end p e = elim (cases_eq p x) [
   | inl same ↦ other_guest (sym (occupant-first s guest x []) ∙ rw same at e)

@@ -49,7 +49,7 @@ module _ (s : State) (ok : IsState s) (t : ℕ) (waits : IsWaiting s t) (chain :
     | inr out ↦ inr (sym (handed_on-end s t chain q is_chain ∙ task_put_out-end s t chain q is_chain) ∙ out)
   ]
 
-  -- who waits then is not t, and waited before or was put out
+  -- who waits then is not t, and waited before or was displaced
   pub waited : (v : ℕ) → IsWaiting (state_after_shift s t chain) v → (v ≢ t) × (IsWaiting s v ⊎ (task_on s q ≡ Some v))
   waited v h = (
     (λ same. elim (linked_or_out v (inl (sym same))) [
@@ -141,7 +141,7 @@ module _ (s : State) (ok : IsState s) (t : ℕ) (waits : IsWaiting s t) (chain :
 
   -- ---- where the others had certificates
   module _ (others : OthersHaveCertificates s t) where
-    -- it is enough that whoever had a certificate in which the chain ends has another one then, and so the task put out
+    -- it is enough that whoever had a certificate in which the chain ends has another one then, and so the displaced task
     kept_by_shift : ((v X : ℕ) → IsCertificate s v X → IsTrue (has X q) → (set : ℕ) × IsCertificate (state_after_shift s t chain) v set) → ((v : ℕ) → task_on s q ≡ Some v → (set : ℕ) × IsCertificate (state_after_shift s t chain) v set)
         → HasCertificates (state_after_shift s t chain)
     kept_by_shift met put_out v h =
@@ -162,7 +162,7 @@ module _ (s : State) (ok : IsState s) (t : ℕ) (waits : IsWaiting s t) (chain :
         (λ v X certificate ends. absurd (let occupant = certificate.occupied q ends in let on = occupant.1 in cc))
         (λ v out. absurd (cc))
 
-    -- the chain puts out the least urgent task of such a set
+    -- the chain displaces the least urgent task of such a set
     module _ (R : ℕ) (closed : IsClosed s R) (first : Within (effective_mask s t) R) (occupied : (p : ℕ) → IsTrue (has R p) → (u : ℕ) × (task_on s p ≡ Some u))
         (d : ℕ) (end : task_on s q ≡ Some d) (least_urgent : (p u : ℕ) → IsTrue (has R p) → task_on s p ≡ Some u → priority_of s u ≤ priority_of s d) (urgent : IsMoreUrgent s t d) where
       pub kept_by_displacing : HasCertificates (state_after_shift s t chain)

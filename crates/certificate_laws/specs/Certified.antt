@@ -1,6 +1,6 @@
--- Certificates of whole states. What a reader must believe: a state has certificates where each of its waiting tasks
--- has a set of processors that certifies it; sets listed by task certify a state where each waiting task is certified
--- by the set at its number. What the other tasks' sets are does not matter.
+-- Certificates of whole states. A state has certificates where each of its waiting tasks has a set of processors that
+-- certifies it; sets listed by task certify a state where each waiting task is certified by the set at its number. What
+-- the other tasks' sets are does not matter.
 use Rattle.std.specs.Prelude.{ℕ, ◌≤◌, List, length, slice_index}
 use Rattle.task_set.specs.TaskSet.{SetData}
 use Rattle.link_table.specs.declared.reply.Entry.{Entry}

@@ -1,6 +1,6 @@
--- One processor of a certificate. What a reader must believe: a processor of a set is held against a task where its
--- occupant is more urgent than the task and may run nowhere but on the set. A set certifies a task where the task may
--- run nowhere but on the set either, and each processor of the set is held against it.
+-- One processor of a certificate. A processor of a set is held against a task where its occupant is more urgent than
+-- the task and may run nowhere but on the set. A set certifies a task where the task may run nowhere but on the set
+-- either, and each processor of the set is held against it.
 use Rattle.std.specs.Prelude.{◌≡◌, ℕ, Some}
 use Rattle.affinity_mask.specs.ProcSet.{Within}
 use Rattle.link_table.specs.State.{State, effective_mask, task_on, IsMoreUrgent}

@@ -1,4 +1,4 @@
--- What certificates say of the linked tasks. What a reader must believe: nothing but the definitions that a law names.
+-- What certificates say of the linked tasks.
 use Rattle.std.specs.Prelude.{◌≡◌, ℕ, ◌≤◌, length}
 use Rattle.link_table.specs.State.{State, IsState, is_ready, is_linked}
 use Rattle.link_table.specs.Placement.{TaskTest, IsPlaceable, IsSubset, IsBest}

@@ -1,7 +1,6 @@
--- Sets of tasks compared rank by rank. What a reader must believe: the tasks of a set that are as urgent as a bound, or
--- more, are those whose priority number is at most the bound; a set keeps up with another where at no bound the other
--- has more of them; the k-th most urgent task of a set is the one up to whose priority the set has k tasks, itself
--- among them.
+-- Sets of tasks compared rank by rank. The tasks of a set that are as urgent as a bound, or more, are those whose
+-- priority number is at most the bound; a set keeps up with another where at no bound the other has more of them; the
+-- k-th most urgent task of a set is the one up to whose priority the set has k tasks, itself among them.
 use Rattle.std.specs.Prelude.{◌≡◌, ℕ, ◌≤◌, true, ◌&&◌, List, length, nat_le}
 use Rattle.affinity_mask.specs.ProcSet.{passing_below}
 use Rattle.link_table.specs.State.{State, task_count, priority_of}

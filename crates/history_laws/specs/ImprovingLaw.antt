@@ -1,5 +1,4 @@
--- No task waits that could be shifted in. What a reader must believe: nothing beyond what a legal history is, and what
--- an improving chain is.
+-- No task waits that could be shifted in.
 use Rattle.std.specs.Prelude.{ℕ, ◌≤◌, List, length}
 use Rattle.task_set.specs.TaskSet.{SetData, IsTaskSet}
 use Rattle.link_table.specs.declared.reply.Entry.{Entry}

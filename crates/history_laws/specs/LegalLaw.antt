@@ -1,6 +1,4 @@
--- The best set over histories. What a reader must believe: nothing beyond what a legal history is, and what it means
--- that a state has certificates and that the linked tasks are best throughout; masks, arrivals, departures and ticks
--- are any that a legal history has.
+-- The best set over legal histories, whatever their masks, arrivals, departures and ticks.
 use Rattle.std.specs.Prelude.{ℕ, ◌≤◌, List, length}
 use Rattle.task_set.specs.TaskSet.{SetData, IsTaskSet}
 use Rattle.link_table.specs.declared.reply.Entry.{Entry}

@@ -1,5 +1,4 @@
--- Laws of the orders that legal histories give. What a reader must believe: nothing beyond the definitions that the
--- laws speak of; each law is proved as the contract of a function of `laws`.
+-- Laws of the orders that legal histories give. Each law is proved as the contract of a function of `laws`.
 use Rattle.std.specs.Prelude.{◌≡◌, ℕ, ◌+◌, ◌*◌, ◌≤◌, None, List, ◌++◌, length, All}
 use mathlib.Core.List.{IsPrefix}
 use Rattle.task_set.specs.TaskSet.{SetData, IsTaskSet}

@@ -1,5 +1,4 @@
--- Laws of the scheduler's step: it is there. What a reader must believe: nothing beyond the definitions that the laws
--- speak of; each law is proved as the contract of a function of `laws`.
+-- Laws of the scheduler's step: it is there. Each law is proved as the contract of a function of `laws`.
 use Rattle.std.specs.Prelude.{◌≡◌, ℕ, List, length, map, All}
 use Rattle.task_set.specs.TaskSet.{SetData, IsTaskSet}
 use Rattle.task_set.specs.declared.event.Event.{Event}

@@ -1,6 +1,6 @@
--- Stints and contexts. What a reader must believe: after the close of a history the orders of all processors together
--- have the stints of each task; a task that went through its stints in the order of their numbers, and carried its
--- context from each to the next, has the context that the history gives it. Its stints are the takes of the history.
+-- Stints and contexts. After the close of a history the orders of all processors together have the stints of each task;
+-- a task that went through its stints in the order of their numbers, and carried its context from each to the next, has
+-- the context that the history gives it. Its stints are the takes of the history.
 use Rattle.std.specs.Prelude.{◌≡◌, ℕ, List, map, length}
 use Rattle.std.specs.List.{range_with_len, flat_map}
 use Rattle.task_set.specs.TaskSet.{SetData, IsTaskSet}

@@ -198,7 +198,7 @@ w2_waits = record {
   waits = refl;
 }
 
--- x leaves 0; y can be shifted there, so w1 can come in behind it
+-- x leaves 0; y can be shifted there, so w1 can come in after it
 abbrev left : State
 left = state_after_leaving (enter_state 4) 0
 

@@ -76,7 +76,7 @@ module _ (s : State) (ok : IsState s) where
   came_on t (Waits reach) new step = record { tasks = no_task s; chains = no_list s; sets = one_set s reach (reach_on t reach step.reached) }
 
   -- ---- where p has become idle
-  -- behind its first processor, a back chain visits occupied ones alone
+  -- after its first processor, a back chain visits occupied ones alone
   back_walk_on : (p : ℕ) (rest : List ℕ) (q : ℕ) → IsPath (λ a b. CanShift s b a) p rest q → All (λ p. p < s.processors) rest
   back_walk_on p [] q path = All-nil (λ p. p < s.processors)
   back_walk_on p (r ∷ rest) q path = All-cons (λ p. p < s.processors) r rest (occupied_number s r path.0.0 ok path.0.1) (back_walk_on r rest q path.1)

@@ -1,5 +1,5 @@
--- What holds of every scheduler's step, whatever program takes it. What a reader must believe: nothing beyond the
--- definitions that the laws speak of; each law is proved as the contract of a function of `laws`.
+-- What holds of every scheduler's step, whatever program takes it. Each law is proved as the contract of a function of
+-- `laws`.
 use Rattle.std.specs.Prelude.{◌≡◌, ℕ, ◌<◌, ◌≤◌, true, List, length}
 use Rattle.task_set.specs.declared.event.Event.{Event}
 use Rattle.link_table.specs.declared.reply.Reply.{Reply}

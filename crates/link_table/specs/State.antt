@@ -1,6 +1,6 @@
--- The state of a scheduler. What a reader must believe: a state is what is known of each task (its priority and its
--- mask), which processors are on line, which tasks are ready, and which task is linked to which processor. What is
--- known of a task is listed by the number of the task, and the links by the number of the processor.
+-- The state of a scheduler. A state is what is known of each task (its priority and its mask), which processors are on
+-- line, which tasks are ready, and which task is linked to which processor. What is known of a task is listed by the
+-- number of the task, and the links by the number of the processor.
 use Rattle.std.specs.Prelude.{◌≡◌, ℕ, ◌<◌, ◌≤◌, Bool, true, false, List, length, get_or, replicate, set, map, IsTrue, Option, Some, None, ◌==◌, if◌then◌else◌}
 use Rattle.std.specs.List.{list_any}
 use Rattle.affinity_mask.specs.ProcSet.{has, empty, all_below, intersection, Within}

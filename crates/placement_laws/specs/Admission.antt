@@ -1,6 +1,6 @@
--- Tasks that are admitted one by one. What a reader must believe: a list of tasks stands for the set of the tasks in
--- it; of the tasks of a list that are absent, the most urgent one has no other before it; a task is admitted where it
--- becomes ready, no linked task goes out, it is linked itself or not, and each waiting task has a certificate.
+-- Tasks that are admitted one by one. A list of tasks stands for the set of the tasks in it; of the tasks of a list
+-- that are absent, the most urgent one has no other before it; a task is admitted where it becomes ready, no linked
+-- task is displaced, it is linked itself or not, and each waiting task has a certificate.
 use Rattle.std.specs.Prelude.{◌≡◌, ℕ, ◌≤◌, Bool, true, false, List, ◌==◌, ◌&&◌, ◌||◌}
 use Rattle.std.specs.List.{list_any}
 use Rattle.link_table.specs.State.{State, HasSameTasks, HasSameMasks, priority_of, is_ready, is_linked}

@@ -1,5 +1,4 @@
--- Laws of defects, and of contexts that follow entries. What a reader must believe: nothing beyond the definitions that
--- the laws speak of; each law is proved as the contract of a function of `laws`.
+-- Laws of defects, and of contexts that follow entries. Each law is proved as the contract of a function of `laws`.
 use Rattle.std.specs.Prelude.{◌≡◌, ℕ, ◌⊎◌, List, [], ◌∷◌, ◌++◌, map}
 use Rattle.std.specs.List.{range_with_len}
 use Rattle.task_set.specs.declared.context.Context.{Context}

@@ -16,7 +16,7 @@ pub enum SetRule {
     HeldAgainst(u32),
 
     /// The same around the first task, where the tasks on the set need only be no less urgent than the second one, which
-    /// is put out.
+    /// is displaced.
     HeldOver(u32, u32),
 
     /// A set from which shifts lead to this processor: it has the processor, none that the machine lacks, and no shift

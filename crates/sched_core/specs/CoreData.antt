@@ -1,6 +1,6 @@
--- The scheduler on one thread. What a reader must believe: a core has a history from the state in which it began, and
--- the links after it; each event that is applied adds one entry, which is the scheduler's step; the orders of each
--- processor are those of the history, and of the close once the core is closed.
+-- The scheduler on one thread. A core has a history from the state in which it began, and the links after it; each
+-- event that is applied adds one entry, which is the scheduler's step; the orders of each processor are those of the
+-- history, and of the close once the core is closed.
 use Rattle.std.specs.Prelude.{◌≡◌, ◌≢◌, ℕ, ◌+◌, ◌≤◌, ◌↔◌, IsTrue, Bool, false, List, [], ◌∷◌, ◌++◌, length, Result, Err, IfOk, if◌then◌else◌}
 use Rattle.std.specs.Result.{OnErr}
 use Rattle.task_set.specs.declared.event.Event.{Event}

@@ -1,6 +1,6 @@
--- What contracts see of a core, and what its stored parts keep. What a reader must believe: a core keeps the state
--- in which it began; its rows have the orders of the history, and there is room in them for the
--- orders of the entries for which room was made, and of the close.
+-- What contracts see of a core, and what its stored parts keep. A core keeps the state in which it began; its rows have
+-- the orders of the history, and there is room in them for the orders of the entries for which room was made, and of
+-- the close.
 use Rattle.std.specs.Prelude.{◌≡◌, ℕ, ◌+◌, ◌*◌, ◌<◌, ◌≤◌, false, length, get_or}
 use Rattle.std.specs.Vec.{vec_len, vec_capacity}
 use Rattle.link_table.specs.State.{task_count, task_on}

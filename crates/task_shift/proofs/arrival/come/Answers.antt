@@ -14,7 +14,7 @@ enter-requires-clause-simple c = (least_chain_to_idle c.args.links.now c.args.t 
 pub is_more_urgent-requires-clause-second : goal.is_more_urgent-requires-clause-second
 is_more_urgent-requires-clause-second c = linked_number c.args.links.now _ c.in-Some-least_urgent_on.out c.chain_to_idle.ensures.valid c.in-Some-least_urgent_on.ensures.test.there.2
 
--- the chain found is the least one to the task that goes out
+-- the chain found is the least one to the task that is displaced
 least : (c : After-unwrap-chain) → IsLeastSuch (EndsOnTask c.args.links.now c.args.t c.in-Some-least_urgent_on.out) c.unwrap-chain.result
 least c = rw c.unwrap-chain.ensures at (c.chain_to.ensures.occupant c.in-Some-least_urgent_on.out (rw c.unwrap-p.ensures at c.of.ensures.place))
 
