@@ -21,7 +21,7 @@ use Rattle.link_table.proofs.Unique.{ready_number}
 use Rattle.certificate_laws.specs.Held.{IsHeldAgainst}
 use Rattle.certificate_laws.specs.Certified.{HasCertificates}
 use Rattle.certificate_laws.specs.Justification.{LeavesNobody}
-use Rattle.certificate_laws.specs.Passing.{IsBackClosed, EntryPasses, GonePasses}
+use Rattle.certificate_laws.specs.Passing.{IsBackClosed, EnteringPasses, GonePasses}
 use Rattle.certificate_laws.proofs.Closed.{IsClosed, IsCertificate-closed, chain_inside}
 use Rattle.certificate_laws.proofs.KeptByShifts.{waited, certificate_past, full_then, certificate_joined}
 
@@ -159,7 +159,7 @@ module _ (s : State) (ok : IsState s) (certificates : HasCertificates s) (t : �
           ]
 
   -- who waits behind the one that came in and may run on a processor of the set is less urgent
-  entry_justification : (place : ℕ) → task_on s place ≡ Some t → (back : ℕ) → (entered : Option ℕ) (chain : List ℕ) → EntryPasses (state_after_leaving s t) place entered chain back
+  entry_justification : (place : ℕ) → task_on s place ≡ Some t → (back : ℕ) → (entered : Option ℕ) (chain : List ℕ) → EnteringPasses (state_after_leaving s t) place entered chain back
       → LeavesNobody (state_after_entering (state_after_leaving s t) entered chain) entered back
   entry_justification place linked back None chain enters = enters.0
   entry_justification place linked back (Some w) chain enters = λ v q h urgent in_back allowed.
@@ -172,7 +172,7 @@ module _ (s : State) (ok : IsState s) (certificates : HasCertificates s) (t : �
       ]
 
   kept_by_entry : (place : ℕ) → task_on s place ≡ Some t → (back : ℕ) → IsTrue (has back place) → IsBackClosed (state_after_leaving s t) back
-      → (entered : Option ℕ) (chain : List ℕ) → EntryPasses (state_after_leaving s t) place entered chain back → HasCertificates (state_after_entering (state_after_leaving s t) entered chain)
+      → (entered : Option ℕ) (chain : List ℕ) → EnteringPasses (state_after_leaving s t) place entered chain back → HasCertificates (state_after_entering (state_after_leaving s t) entered chain)
   kept_by_entry place linked back back_first back_next None chain enters = kept_by_nobody place linked back back_first back_next enters.0
   kept_by_entry place linked back back_first back_next (Some w) chain enters =
       let end = enters.1 in

@@ -2,7 +2,6 @@
 -- step of the scheduler has such a reply.
 use Rattle.std.proofs.Common.{◌≡◌, ℕ, ◌<◌, false, List, [], ◌∷◌, ◌++◌, Option, Some, None, refl, sym, ap, ◌∙◌, subst, inl, inr, ◌⊎◌, IsTrue}
 use Rattle.affinity_mask.specs.ProcSet.{has}
-use Rattle.task_set.specs.declared.event.Event.{Event}
 use Rattle.task_set.specs.declared.event.Event.TheVariants.{Arrive, Depart, Tick}
 use Rattle.link_table.specs.declared.reply.Came.{Came}
 use Rattle.link_table.specs.declared.reply.Came.TheVariants.{Placed, Displaced, Waits}
@@ -25,7 +24,7 @@ use Rattle.link_table.proofs.Steps.{IsState-arrived, effect_of_came}
 use Rattle.certificate_laws.specs.PassingLaws.{PassingKeepsState, PassingKeepsCertificates, PassingHasJustification, StepPasses}
 use Rattle.certificate_laws.specs.Certified.{HasCertificates}
 use Rattle.certificate_laws.specs.Justification.{JustifiesCame, LeavesNobody, HasJustification}
-use Rattle.certificate_laws.specs.Passing.{CamePasses, ArrivalPasses, DeparturePasses, EntryPasses, IsBackClosed}
+use Rattle.certificate_laws.specs.Passing.{CamePasses, ArrivalPasses, DeparturePasses, EnteringPasses, IsBackClosed}
 use Rattle.certificate_laws.proofs.Closed.{IsReach-first, IsReach-closed}
 use Rattle.certificate_laws.proofs.KeptByArrivals.{kept_by_came, came_justified}
 use Rattle.certificate_laws.proofs.KeptByDepartures.{kept_by_left, kept_by_gone, gone_justified}
@@ -79,7 +78,7 @@ arrival_keeps_state s t reply ok number (inl again) = subst (λ (r : Reply). IsS
 arrival_keeps_state s t reply ok number (inr new) =
     subst IsState (sym (ap (state_after_reply s (Arrive t)) new.answer ∙ effect_of_came s t new.came)) (came_keeps_state s t new.came ok number new.absent new.passes)
 
-entry_keeps_state : (s : State) (p : ℕ) (entered : Option ℕ) (chain : List ℕ) (back : ℕ) → IsState s → EntryPasses s p entered chain back → IsState (state_after_entering s entered chain)
+entry_keeps_state : (s : State) (p : ℕ) (entered : Option ℕ) (chain : List ℕ) (back : ℕ) → IsState s → EnteringPasses s p entered chain back → IsState (state_after_entering s entered chain)
 entry_keeps_state s p None chain back ok enters = ok
 entry_keeps_state s p (Some w) chain back ok enters =
     let end = enters.1 in
@@ -123,7 +122,7 @@ arrival_step_passes : (s : State) (t : ℕ) (reply : Reply) (new : State) → Is
 arrival_step_passes s t reply new ok (inl again) = inl (again.ready, again.answer)
 arrival_step_passes s t reply new ok (inr arrives) = inr record { absent = arrives.absent; came = arrives.came; answer = arrives.answer; passes = came_step_passes s t arrives.came new ok arrives.comes }
 
-enter_step_passes : (s : State) (p : ℕ) (entered : Option ℕ) (chain : List ℕ) (back : ℕ) (new : State) → IsState s → EnterStep s p entered chain back new → EntryPasses s p entered chain back
+enter_step_passes : (s : State) (p : ℕ) (entered : Option ℕ) (chain : List ℕ) (back : ℕ) (new : State) → IsState s → EnterStep s p entered chain back new → EnteringPasses s p entered chain back
 enter_step_passes s p None chain back new ok step = (step.0, step.1)
 enter_step_passes s p (Some w) chain back new ok step = (step.0, step.1.itself, least_back_chain_is_simple s ok p w chain step.1)
 

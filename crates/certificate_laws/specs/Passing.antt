@@ -57,16 +57,16 @@ IsBackClosed s back = (p q : ℕ) → IsTrue (has back q) → CanShift s p q →
 
 -- who comes in, where p has become idle in the state s: the most urgent waiting task that may run on a processor of the
 -- set, by a back chain to p, or nobody, and then the chain is p alone
-abbrev pub EntryPasses : State → ℕ → Option ℕ → List ℕ → ℕ → Type 0
-EntryPasses s p None chain back = IsNobodyInto s back × (chain ≡ p ∷ [])
-EntryPasses s p (Some w) chain back = IsMostUrgentInto s back w × EntersBy s p w chain × IsSimple chain
+abbrev pub EnteringPasses : State → ℕ → Option ℕ → List ℕ → ℕ → Type 0
+EnteringPasses s p None chain back = IsNobodyInto s back × (chain ≡ p ∷ [])
+EnteringPasses s p (Some w) chain back = IsMostUrgentInto s back w × EntersBy s p w chain × IsSimple chain
 
 -- who comes in passes, where p has become idle: the set has p, and no shift leads into it from outside
 pub record GonePasses (s : State) (p : ℕ) (gone : Gone) : Type 0 where
   pub has_place : IsTrue (has gone.back p)
   pub below : (q : ℕ) → IsTrue (has gone.back q) → q < s.processors
   pub closed : IsBackClosed s gone.back
-  pub enters : EntryPasses s p gone.entered gone.chain gone.back
+  pub enters : EnteringPasses s p gone.entered gone.chain gone.back
 
 -- t departs from a processor, and who comes in there passes
 pub record LinkedPasses (s : State) (t : ℕ) (reply : Reply) : Type 0 where

@@ -1,5 +1,5 @@
 -- The orders of the beginning of a history begin those of the whole.
-use Rattle.std.proofs.Common.{◌≡◌, ℕ, List, [], ◌∷◌, ◌++◌, sym, refl, ap, ◌∙◌, subst, append_assoc, append-nil}
+use Rattle.std.proofs.Common.{ℕ, List, [], ◌∷◌, ◌++◌, sym, ap, ◌∙◌, subst, append_assoc, append-nil}
 use mathlib.Core.List.{IsPrefix}
 use Rattle.task_set.specs.declared.order.Order.{Order}
 use Rattle.link_table.specs.declared.reply.Entry.{Entry}

@@ -206,8 +206,7 @@ depart_linked s ok t p on =
     let left_ok = IsState-state_after_leaving s ok t in
     let inside : p < s.processors = occupied_number s p t ok on in
     let back = back_reach_exists left left_ok p inside in
-    let step = enter_exists left left_ok p inside back.0 back.1 in
-    (
+    let step = enter_exists left left_ok p inside back.0 back.1 in (
       Freed step.0 step.1 back.0,
       step.2,
       inr (inr record {

@@ -8,7 +8,7 @@ use Rattle.link_table.specs.declared.reply.Reply.TheVariants.{Placed, Freed, Tic
 use Rattle.link_table.specs.declared.reply.Entry.{Entry}
 use Rattle.link_table.specs.State.{start_of}
 use Rattle.link_table.specs.Dispatch.{context_of}
-use Rattle.link_table.proofs.Rows.{entry, context, first_shift_set}
+use Rattle.link_table.proofs.Examples.{entry, context, first_shift_set}
 use Rattle.history_laws.specs.StintLaw.{AreTakes, stints_of_history}
 
 -- ---- the first task runs on processor 0, is shifted to 1 and runs there, and then the second task leaves

@@ -1,5 +1,5 @@
 -- Which replies say what an arrival came to, and which say who came in.
-use Rattle.std.proofs.Common.{◌≡◌, Some, None, refl, sym, ap, ◌∙◌}
+use Rattle.std.proofs.Common.{◌≡◌, Some, refl, sym, ap, ◌∙◌}
 use Rattle.std.proofs.lemmas.Option.{same_Some}
 use Rattle.link_table.specs.declared.reply.Came.{Came}
 use Rattle.link_table.specs.declared.reply.Came.TheVariants as came

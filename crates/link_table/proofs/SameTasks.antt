@@ -1,14 +1,14 @@
 -- What no reply changes, and so no history: how many processors there are, which of them are on line, and what is known
 -- of each task.
-use Rattle.std.proofs.Common.{◌≡◌, ℕ, List, [], ◌∷◌, Some, None, refl, ap, ◌∙◌}
+use Rattle.std.proofs.Common.{◌≡◌, List, [], ◌∷◌, Some, None, refl, ap, ◌∙◌}
 use Rattle.std.specs.Prelude.{length}
 use Rattle.task_set.specs.declared.event.Event.{Event}
 use Rattle.task_set.specs.declared.event.Event.TheVariants.{Arrive, Depart}
 use Rattle.link_table.specs.declared.reply.Reply.{Reply}
 use Rattle.link_table.specs.declared.reply.Reply.TheVariants.{Placed, Displaced, Freed}
 use Rattle.link_table.specs.declared.reply.Entry.{Entry}
-use Rattle.link_table.specs.State.{State, HasSameTasks, HasSameMasks, task_count}
-use Rattle.link_table.specs.History.{state_after_reply, state_after, effect_of}
+use Rattle.link_table.specs.State.{State, HasSameTasks, task_count}
+use Rattle.link_table.specs.History.{state_after, effect_of}
 use Rattle.link_table.specs.Laws.{ReplyKeepsTasks, ReplyKeepsMasks}
 use Rattle.link_table.specs.Step.{SchedulerStep}
 use Rattle.link_table.proofs.Steps.{reply_gives_new_state}

@@ -1,5 +1,5 @@
 -- What the reply of a step carries: its tasks are tasks of the state, its chains and its sets are of the processors.
-use Rattle.std.proofs.Common.{◌≡◌, ℕ, zero, suc, ◌<◌, ◌≤◌, false, List, [], ◌∷◌, length, get_or, Option, Some, None, refl, sym, ◌∙◌, subst, inl, inr, arith, IsTrue, length-set}
+use Rattle.std.proofs.Common.{ℕ, ◌<◌, ◌≤◌, List, [], ◌∷◌, length, Option, Some, None, sym, subst, inl, inr, arith, IsTrue}
 use Rattle.std.specs.Prelude.{All}
 use Rattle.std.specs.List.{cons_option}
 use Rattle.std.proofs.lemmas.List.Elements.{All-nil, All-cons, All-from_get_or}
@@ -11,7 +11,7 @@ use Rattle.link_table.specs.declared.reply.Came.TheVariants.{Placed, Displaced, 
 use Rattle.link_table.specs.declared.reply.Gone.{Gone}
 use Rattle.link_table.specs.declared.reply.Reply.{Reply}
 use Rattle.link_table.specs.Reply.{reply_of_came, reply_of_gone, chains_of, sets_of, tasks_named}
-use Rattle.link_table.specs.State.{State, IsState, IsIdle, task_count, task_on, state_after_leaving}
+use Rattle.link_table.specs.State.{State, IsState, task_count, state_after_leaving}
 use Rattle.link_table.specs.Chain.{CanShift, IsPath, IsChainOf, IsReach, IsBackChain, IsBackReach}
 use Rattle.link_table.specs.Step.{Comes, EnterStep, Fills, SchedulerStep}
 use Rattle.link_table.proofs.Ends.{least_chain_to_idle, least_chain_to_task, least_back_chain}

@@ -1,8 +1,6 @@
 -- Chains and back chains as paths, and what a bounded search says of all of them.
-use Rattle.std.proofs.Common.{◌≡◌, ℕ, ◌<◌, ◌≤◌, false, not, ◌&&◌, List, [], ◌∷◌, length, Option, Some, None, nat_eq, refl, sym, ap, ◌∙◌, subst, IsTrue, ◌↔◌, arith, eq-eqb, eqb-true}
-use Rattle.std.specs.Prelude.{is_some}
-use Rattle.std.proofs.lemmas.Bool.{and_parts, and_from, not-true, not_from_false, true≢false}
-use Rattle.affinity_mask.specs.ProcSet.{has, all_below}
+use Rattle.std.proofs.Common.{◌≡◌, ℕ, ◌<◌, ◌≤◌, List, [], ◌∷◌, length, Option, Some, None, nat_eq, refl, sym, ◌∙◌, subst, IsTrue, ◌↔◌, arith, eq-eqb, eqb-true}
+use Rattle.affinity_mask.specs.ProcSet.{has}
 use Rattle.link_table.specs.State.{State, IsState, IsIdle, task_on, effective_mask}
 use Rattle.link_table.specs.Chain.{IsPath, IsChainOf, IsBackChain, EndsIdle, EndsOnTask, EntersBy}
 use Rattle.link_table.proofs.Ends.{has_decided, least_chain_exists, least_chain_is_simple, least_back_chain_exists, least_back_chain_is_simple}

@@ -7,11 +7,11 @@ use Rattle.link_table.specs.History.{state_after_entering, state_after_gone}
 use Rattle.link_table.proofs.Paths.{IsChainOf-reverse}
 use Rattle.link_table.proofs.Simple.{IsSimple-reverse}
 use Rattle.link_table.proofs.Unique.{ready_number}
-use Rattle.certificate_laws.specs.Passing.{EntryPasses, GonePasses}
+use Rattle.certificate_laws.specs.Passing.{EnteringPasses, GonePasses}
 
 module _ (s : State) (p : ℕ) (gone : Gone) (w : ℕ) (passes : GonePasses s p gone) (some : gone.entered ≡ Some w) where
-  entry : EntryPasses s p (Some w) gone.chain gone.back
-  entry = subst (λ (e : Option ℕ). EntryPasses s p e gone.chain gone.back) some passes.enters
+  entry : EnteringPasses s p (Some w) gone.chain gone.back
+  entry = subst (λ (e : Option ℕ). EnteringPasses s p e gone.chain gone.back) some passes.enters
 
   pub entering_waits : IsWaiting s w
   entering_waits = entry.0.waits

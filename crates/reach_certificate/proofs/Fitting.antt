@@ -18,7 +18,7 @@ use Rattle.link_table.proofs.Masks.{effective_mask_below}
 use Rattle.link_table.proofs.Paths.{Reaches-online}
 use Rattle.link_table.proofs.Shifts.{chain_below}
 use Rattle.link_table.proofs.Simple.{IsSimple-cons}
-use Rattle.certificate_laws.specs.Passing.{PlacedPasses, DisplacedPasses, CamePasses, IsBackClosed, EntryPasses, GonePasses}
+use Rattle.certificate_laws.specs.Passing.{PlacedPasses, DisplacedPasses, CamePasses, IsBackClosed, EnteringPasses, GonePasses}
 use Rattle.reach_certificate.specs.Defect.{AllFit, FitsAt, BeginsFor, PlacedFits, MovesBack, FreedFits, ReachFits, BackFits, AgainstFits, IsNoLessUrgent, last_processor, processor_count, EntersRightly, DisplacedIsRight, CameIsRight, GoneIsRight, IsOfProcessors}
 use Rattle.reach_certificate.proofs.ChainPlaces.{path_map, path_last, fit_is_simple, fit_begins, fit_path, fit_ends, all_places_fit}
 
@@ -140,7 +140,7 @@ module _ (s : State) (ok : IsState s) (p : ℕ) (below_p : p < s.processors) whe
       (IsSimple-cons p [] (λ i lt. absurd (omega arith)) (λ i j d lt fits. absurd (omega arith)))
       (λ i lt. subst (λ (n : ℕ). get_or (p ∷ []) n 0 < s.processors) (let e : 0 ≡ i = omega arith in e) below_p))
 
-  pub enters_fits : (entered : Option ℕ) (chain : List ℕ) (back : ℕ) → EntryPasses s p entered chain back → AllFit (FreedFits s p entered chain) (length chain)
+  pub enters_fits : (entered : Option ℕ) (chain : List ℕ) (back : ℕ) → EnteringPasses s p entered chain back → AllFit (FreedFits s p entered chain) (length chain)
   enters_fits None chain back passes = nobody_fits chain passes.1
   enters_fits (Some w) chain back passes = let end = passes.1 in entry_fits w chain end.0 end.1 passes.2
 
@@ -148,7 +148,7 @@ module _ (s : State) (ok : IsState s) (p : ℕ) (below_p : p < s.processors) whe
   back_last [] q c = absurd c
   back_last (x ∷ rest) q c = path_last StepsBack x rest q (subst (λ (y : ℕ). IsPath StepsBack y rest q) (sym c.0) c.1)
 
-  pub enters_rightly : (entered : Option ℕ) (chain : List ℕ) (back : ℕ) → EntryPasses s p entered chain back → EntersRightly s entered chain back
+  pub enters_rightly : (entered : Option ℕ) (chain : List ℕ) (back : ℕ) → EnteringPasses s p entered chain back → EntersRightly s entered chain back
   enters_rightly None chain back passes = passes.0
   enters_rightly (Some w) chain back passes = let end = passes.1 in (passes.0, subst (CanEnterAt s w) (sym (back_last chain end.0 end.1)) end.2)
 
@@ -167,7 +167,7 @@ module _ (s : State) (ok : IsState s) (p : ℕ) (below_p : p < s.processors) whe
             (path_map (MovesBack s (Some w)) StepsBack (λ a b step. step.1) x rest (last_processor (x ∷ rest)) (fit_path s (λ y. y ≡ p) (MovesBack s (Some w)) (λ y. Unit {0}) x rest all)),
       )
 
-  pub entry_passes : (entered : Option ℕ) (chain : List ℕ) (back : ℕ) → AllFit (FreedFits s p entered chain) (length chain) → EntersRightly s entered chain back → EntryPasses s p entered chain back
+  pub entry_passes : (entered : Option ℕ) (chain : List ℕ) (back : ℕ) → AllFit (FreedFits s p entered chain) (length chain) → EntersRightly s entered chain back → EnteringPasses s p entered chain back
   entry_passes None chain back all rightly = (rightly, fit_is_alone chain all)
   entry_passes (Some w) chain back all rightly = (
     rightly.0,

@@ -119,17 +119,29 @@ module _ (s : State) (ok : IsState s) (t : ℕ) (reply : Reply) where
   -- t was ready
   arrived_again : is_ready s t ≡ true → Decided (reply ≡ AlreadyReady) → Arrived
   arrived_again ready (inl said) = inl (inl (ready, said))
-  arrived_again ready (inr other) = inr (WrongReply, inl (refl, λ allowed. elim allowed [
-    | inl again ↦ other again.1
-    | inr new ↦ true≢false (sym ready ∙ new.0)
-  ]))
+  arrived_again ready (inr other) = inr (
+    WrongReply,
+    inl (
+      refl,
+      λ allowed. elim allowed [
+        | inl again ↦ other again.1
+        | inr new ↦ true≢false (sym ready ∙ new.0)
+      ],
+    ),
+  )
 
   -- t was absent
   arrived_new : is_ready s t ≡ false → IsOfProcessors reply → (came : Option Came) → came_of reply ≡ came → Arrived
-  arrived_new absent small None said = inr (WrongReply, inl (refl, λ allowed. elim allowed [
-    | inl again ↦ true≢false (sym again.0 ∙ absent)
-    | inr new ↦ let other = came_said reply new.1.0 new.1.1 in cc
-  ]))
+  arrived_new absent small None said = inr (
+    WrongReply,
+    inl (
+      refl,
+      λ allowed. elim allowed [
+        | inl again ↦ true≢false (sym again.0 ∙ absent)
+        | inr new ↦ let other = came_said reply new.1.0 new.1.1 in cc
+      ],
+    ),
+  )
   arrived_new absent small (Some came) said =
       let answer = came_says reply came said in
       elim (came_judged s ok t came) [
@@ -145,32 +157,50 @@ module _ (s : State) (ok : IsState s) (t : ℕ) (reply : Reply) where
 
   departed_again : is_ready s t ≡ false → Decided (reply ≡ NotReady) → Departed
   departed_again absent (inl said) = inl (inl (absent, said))
-  departed_again absent (inr other) = inr (WrongReply, inl (refl, λ allowed. elim allowed [
-    | inl again ↦ other again.1
-    | inr there ↦ elim there [
-      | inl waiting ↦ true≢false (sym waiting.0.ready ∙ absent)
-      | inr linked ↦ true≢false (sym (ok.linked_ready (place_in t s.on) t (task_on-linked s t linked.0)) ∙ absent)
-    ]
-  ]))
+  departed_again absent (inr other) = inr (
+    WrongReply,
+    inl (
+      refl,
+      λ allowed. elim allowed [
+        | inl again ↦ other again.1
+        | inr there ↦ elim there [
+          | inl waiting ↦ true≢false (sym waiting.0.ready ∙ absent)
+          | inr linked ↦ true≢false (sym (ok.linked_ready (place_in t s.on) t (task_on-linked s t linked.0)) ∙ absent)
+        ]
+      ],
+    ),
+  )
 
   departed_waiting : is_ready s t ≡ true → is_linked s t ≡ false → Decided (reply ≡ Left) → Departed
   departed_waiting ready free (inl said) = inl (inr (inl (record { ready = ready; not_linked = free }, said)))
-  departed_waiting ready free (inr other) = inr (WrongReply, inl (refl, λ allowed. elim allowed [
-    | inl again ↦ true≢false (sym ready ∙ again.0)
-    | inr there ↦ elim there [
-      | inl waiting ↦ other waiting.1
-      | inr linked ↦ true≢false (sym linked.0 ∙ free)
-    ]
-  ]))
+  departed_waiting ready free (inr other) = inr (
+    WrongReply,
+    inl (
+      refl,
+      λ allowed. elim allowed [
+        | inl again ↦ true≢false (sym ready ∙ again.0)
+        | inr there ↦ elim there [
+          | inl waiting ↦ other waiting.1
+          | inr linked ↦ true≢false (sym linked.0 ∙ free)
+        ]
+      ],
+    ),
+  )
 
   departed_linked : is_linked s t ≡ true → IsOfProcessors reply → (gone : Option Gone) → gone_of reply ≡ gone → Departed
-  departed_linked linked small None said = inr (WrongReply, inl (refl, λ allowed. elim allowed [
-    | inl again ↦ true≢false (sym (ok.linked_ready (place_in t s.on) t (task_on-linked s t linked)) ∙ again.0)
-    | inr there ↦ elim there [
-      | inl waiting ↦ true≢false (sym linked ∙ waiting.0.not_linked)
-      | inr here ↦ let other = gone_said reply here.1.0 here.1.1 in cc
-    ]
-  ]))
+  departed_linked linked small None said = inr (
+    WrongReply,
+    inl (
+      refl,
+      λ allowed. elim allowed [
+        | inl again ↦ true≢false (sym (ok.linked_ready (place_in t s.on) t (task_on-linked s t linked)) ∙ again.0)
+        | inr there ↦ elim there [
+          | inl waiting ↦ true≢false (sym linked ∙ waiting.0.not_linked)
+          | inr here ↦ let other = gone_said reply here.1.0 here.1.1 in cc
+        ]
+      ],
+    ),
+  )
   departed_linked linked small (Some gone) said =
       let answer = gone_says reply gone said in
       let p = place_in t s.on in

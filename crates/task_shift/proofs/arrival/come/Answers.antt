@@ -1,6 +1,5 @@
-use Rattle.std.proofs.Common.{◌≡◌, false, sym, ◌∙◌}
+use Rattle.std.proofs.Common.{sym, ◌∙◌}
 use Rattle.std.proofs.lemmas.Bool.{true≢false}
-use Rattle.link_table.specs.State.{is_ready}
 use Rattle.link_table.specs.Chain.{IsLeastSuch, EndsOnTask}
 use Rattle.link_table.proofs.Ends.{least_chain_to_idle, least_chain_to_task}
 use Rattle.link_table.proofs.Linked.{linked_number}

@@ -1,4 +1,4 @@
-use Rattle.std.proofs.Common.{sym, ◌∙◌, subst, ◌<◌, inl, inr}
+use Rattle.std.proofs.Common.{sym, ◌∙◌, subst, ◌<◌, inr}
 use Rattle.std.proofs.lemmas.Bool.{true≢false}
 use Rattle.link_table.specs.State.{State}
 use Rattle.link_table.proofs.Linked.{linked_from_not_waiting, occupied_number}

@@ -18,7 +18,7 @@ use Rattle.link_table.specs.Step.{Comes, ComesPlaced, ComesWaits, ArriveStep, Is
 use Rattle.link_table.specs.History.{IsLegal, state_at}
 use Rattle.link_table.proofs.Paths.{Reaches-online}
 use Rattle.link_table.proofs.Replies.{one_came}
-use Rattle.link_table.proofs.Rows.{first_shift_set, first_shift, waits_with_a_reach_wider_than_its_mask_set, enters_through_a_back_chain_set, enters_through_a_back_chain, task, entry}
+use Rattle.link_table.proofs.Examples.{first_shift_set, first_shift, waits_with_a_reach_wider_than_its_mask_set, enters_through_a_back_chain_set, enters_through_a_back_chain, task, entry}
 
 -- ---- which processors the masks 1, 2 and 3 have
 in_one : (p : ℕ) → IsTrue (has 1 p) → p ≡ 0
