@@ -1,5 +1,5 @@
 -- A reply that passes has no defect, and a reply has one defect at most.
-use Rattle.std.proofs.Common.{◌≡◌, ℕ, false, true, List, length, Option, Some, None, refl, sym, ap, ◌∙◌, subst, inl, inr, arith, le_antisymm}
+use Rattle.std.proofs.Common.{◌≡◌, ℕ, List, length, Option, Some, None, sym, ap, ◌∙◌, subst, inl, inr, arith, le_antisymm}
 use Rattle.std.proofs.lemmas.Bool.{true≢false}
 use Rattle.std.proofs.lemmas.Option.{same_Some}
 use Rattle.task_set.specs.declared.event.Event.{Event}
@@ -8,12 +8,11 @@ use Rattle.link_table.specs.declared.reply.Came.{Came}
 use Rattle.link_table.specs.declared.reply.Came.TheVariants.{Placed, Displaced, Waits}
 use Rattle.link_table.specs.declared.reply.Gone.{Gone}
 use Rattle.link_table.specs.declared.reply.Reply.{Reply}
-use Rattle.link_table.specs.Reply.{came_of, gone_of}
-use Rattle.link_table.specs.State.{State, IsState, task_on, is_ready, priority_of, state_after_leaving}
+use Rattle.link_table.specs.State.{State, IsState, priority_of, state_after_leaving}
 use Rattle.link_table.specs.Step.{IsNobodyInto, IsMostUrgentInto}
 use Rattle.link_table.proofs.Leaving.{IsState-state_after_leaving}
 use Rattle.link_table.proofs.Linked.{is_linked-from_on, not_on, occupied_number}
-use Rattle.link_table.proofs.Replies.{came_said, gone_said, one_came, one_gone}
+use Rattle.link_table.proofs.Replies.{one_came, one_gone}
 use Rattle.link_table.proofs.Unique.{ready_number}
 use Rattle.certificate_laws.specs.Passing.{ArrivalPasses, DeparturePasses, Passes}
 use Rattle.reach_certificate.specs.Defect.{AllFit, IsFirstMisfit, PlacedFits, DisplacedFits, FreedFits, ReachFits, BackFits, AgainstFits, IsNoLessUrgent, processor_count, OverFits, HasBadOver, EntersRightly, EntersWrongly, DisplacesRightly, DisplacesWrongly, CameIsRight, IsCameDefect, GoneIsRight, IsGoneDefect, IsAllowed, IsPartDefect}

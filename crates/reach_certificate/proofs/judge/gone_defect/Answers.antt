@@ -1,5 +1,4 @@
 use Rattle.reach_certificate.proofs.Fitting.{gone_passes}
-use Rattle.reach_certificate.proofs.Parts.{freed_not_empty}
 use Rattle.reach_certificate.proofs.judge.gone_defect.Goals as goal
 
 pub returns : goal.returns

@@ -2,7 +2,6 @@ use Rattle.std.proofs.Common.{◌≡◌, ℕ, List, get_or, Option, None, Err, s
 use Rattle.link_table.specs.State.{State, HasSameTasks}
 use Rattle.link_table.specs.declared.reply.Entry.{Entry}
 use Rattle.link_table.specs.History.{effect_of}
-use Rattle.certificate_laws.specs.Laws.{LinkedIsBest}
 use Rattle.certificate_laws.specs.Passing.{Passes}
 use Rattle.certificate_laws.proofs.Best.{linked_is_best}
 use Rattle.certificate_laws.proofs.Passed.{step_passes}
