@@ -1,5 +1,6 @@
 pub mod Sets
 pub mod Lists
+pub mod Meetings
 pub mod Unions
 pub mod Runs
 mod Words

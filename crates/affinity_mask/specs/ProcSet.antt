@@ -1,5 +1,5 @@
--- Sets of processors. What a reader must believe: a set of processors is a number, and p is in the set where the
--- number has a one at place p. So each number is just one finite set, and two sets with the same members are equal.
+-- Sets of processors. A set of processors is a number, and p is in the set where the number has a one at place p. So
+-- each number is just one finite set, and two sets with the same members are equal.
 use Rattle.std.specs.Prelude.{ℕ, zero, suc, ◌-◌, ◌^◌, ◌≤◌, Bool, IsTrue, ◌==◌, bit_and, List, [], ◌∷◌, ◌++◌, if◌then◌else◌}
 use Rattle.std.specs.Int.{bit_at}
 
@@ -22,6 +22,10 @@ intersection X Y = bit_and X Y
 -- each member of X is one of Y
 abbrev pub Within : ℕ → ℕ → Type 0
 Within X Y = (p : ℕ) → IsTrue (has X p) → IsTrue (has Y p)
+
+-- some processor is in both sets
+abbrev pub Meets : ℕ → ℕ → Type 0
+Meets X Y = (p : ℕ) × IsTrue (has X p) × IsTrue (has Y p)
 
 -- p is in X, and no member of X is less
 abbrev pub IsLeastMember : ℕ → ℕ → Type 0

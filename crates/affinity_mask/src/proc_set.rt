@@ -1,7 +1,7 @@
 //! A set of processors, and the operations on sets.
 
 ghost use Rattle.std.specs.Prelude.{◌≡◌, ℕ, ◌<◌, ◌≤◌, ◌==◌, ◌||◌, ◌&&◌, not, nat_lt, IsTrue, ◌↔◌, IsNone, IfSome, length};
-ghost use Rattle.affinity_mask.specs.ProcSet.{has, empty, all_below, intersection, Within, IsLeastMember, members};
+ghost use Rattle.affinity_mask.specs.ProcSet.{has, empty, all_below, intersection, Within, Meets, IsLeastMember, members};
 ghost use Rattle.affinity_mask.specs.ListText.{begins_run, ends_run};
 
 use std::marker::Model;
@@ -116,6 +116,13 @@ impl ProcSet {
         ensures { IsTrue result ↔ Within self.now other.now }
     {
         self.bits & !other.bits == 0
+    }
+
+    /// Whether some processor is in both sets.
+    pub fn meets(&self, other: &ProcSet) -> bool
+        ensures { IsTrue result ↔ Meets self.now other.now }
+    {
+        self.both(other).least().is_some()
     }
 
     /// Whether the set has no processor.

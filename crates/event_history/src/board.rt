@@ -1,6 +1,6 @@
 //! The board that the callers share, and the calls that they make with their passes.
 ghost use Rattle.std.specs.Prelude.{◌≡◌, ◌≤◌, length, map, true, IfOk, IfErr, MatchResult};
-ghost use Rattle.reach_certificate.specs.Passing.{IsOfTask};
+ghost use Rattle.certificate_laws.specs.Passing.{IsOfTask};
 ghost use Rattle.order_queues.specs.Ends.{new_eye, new_sender};
 ghost use Rattle.event_history.specs.Boards.{AreNew, AreAll, AreEyesOf, AreFor, Grown, IsMade};
 ghost use Rattle.event_history.specs.Holdings.{queues_of};

@@ -1,7 +1,7 @@
 //! The turn word: its rule, the kinds of step that change it, and the calls that are made of these steps.
 ghost use Rattle.std.specs.Prelude.{◌≡◌, ℕ, ◌+◌, ◌<◌, ◌≤◌, [], length, map, IfOk, IfErr, true};
 ghost use Rattle.task_set.specs.TaskSet.{IsTaskSet};
-ghost use Rattle.reach_certificate.specs.Passing.{IsOfTask};
+ghost use Rattle.certificate_laws.specs.Passing.{IsOfTask};
 ghost use Rattle.event_history.specs.Turn.{Setting, setting_of, TurnRule, fresh, loads_play, takes_play, posts_play, leaves_play, made_one, newcomer, note, informed, taken_in, spent};
 
 use crate::eyes::Eyes;

@@ -18,7 +18,7 @@ use Rattle.trace_reader.specs.declared.posted.Posted.{Posted}
 use Rattle.reach_certificate.specs.Contexts.{context_after_entry, EachBecomes}
 use Rattle.event_replay.specs.Replay.{contexts_of, posted_of}
 use Rattle.reach_certificate.proofs.ContextsFollow.{contexts-follow}
-use Rattle.sched_core.proofs.SameTasks.{same_tasks-history}
+use Rattle.link_table.proofs.SameTasks.{same_tasks-history}
 
 -- after n events
 pub record IsRunning (set : SetData) (events : List Posted) (n : ℕ) (links : State) (entries : List Entry) (contexts : List Context) : Type 0 where

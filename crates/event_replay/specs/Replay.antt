@@ -8,7 +8,7 @@ use Rattle.link_table.specs.declared.reply.Entry.{Entry}
 use Rattle.link_table.specs.State.{start_of}
 use Rattle.link_table.specs.History.{IsLegal}
 use Rattle.link_table.specs.Dispatch.{context_of}
-use Rattle.reach_certificate.specs.Passing.{IsOfTask}
+use Rattle.certificate_laws.specs.Passing.{IsOfTask}
 use Rattle.sched_core.specs.CoreData.{CoreData, Applied}
 use Rattle.trace_reader.specs.declared.posted.Posted.{Posted}
 

@@ -2,7 +2,7 @@
 ghost use Rattle.std.specs.Prelude.{◌≡◌, ◌<◌, ◌≤◌, IfOk, OnOk, All, length, true, false};
 ghost use Rattle.link_table.specs.State.{start_of, task_count};
 ghost use Rattle.event_replay.specs.Replay.{IsKnown, IsPosted, Schedules};
-ghost use Rattle.reach_certificate.specs.Passing.{IsOfTask};
+ghost use Rattle.certificate_laws.specs.Passing.{IsOfTask};
 ghost use Rattle.sched_core.specs.CoreData.{max_entries};
 
 use affinity_mask::OutOfMemory;

@@ -1,4 +1,4 @@
--- Least chains and least back chains to ends with a property: there is one where there is any, it comes to no processor
+-- Least chains and least back chains to ends with a property: there is one where there is any, it visits no processor
 -- twice, and so it has at most 64.
 use Rattle.std.proofs.Common.{◌≡◌, ℕ, ◌<◌, ◌≤◌, List, [], ◌∷◌, length, Option, Some, None, refl, sym, ap, ◌∙◌, inl, inr, IsTrue, arith}
 use Rattle.std.proofs.lemmas.Bool.{cases_Bool, cases_eq, true≢false}

@@ -1,19 +1,24 @@
 pub mod BestOnce
 pub mod Contexts
 pub mod Ends
+pub mod Examples
 pub mod Histories
+mod IdleSets
 pub mod Idling
+pub mod Leaders
 pub mod Least
 pub mod Leaving
+pub mod LegalExamples
 pub mod Linked
 pub mod Masks
 pub mod Paths
 pub mod Readiness
-pub mod Simple
-pub mod LegalRows
-pub mod Rows
+pub mod Replies
+pub mod SameTasks
 pub mod Shifts
 pub mod Shortest
+pub mod Simple
 pub mod Start
+pub mod StepParts
 pub mod Steps
 pub mod Unique

@@ -3,7 +3,7 @@ use Rattle.std.proofs.Common.{◌≡◌, ◌≢◌, ℕ, zero, suc, ◌<◌, Boo
 use Rattle.std.specs.List.{list_any}
 use Rattle.std.proofs.lemmas.Bool.{or_left, or_right, cases_lt, cases_Bool, true≢false, false≢true}
 use Rattle.std.proofs.lemmas.List.{get_or_past}
-use Rattle.link_table.specs.State.{State, IsState, task_count, task_on, is_task, is_linked}
+use Rattle.link_table.specs.State.{State, IsState, IsWaiting, task_count, task_on, is_task, is_ready, is_linked}
 
 -- the first processor with the occupant t
 abbrev pub place_in : ℕ → List (Option ℕ) → ℕ
@@ -61,4 +61,11 @@ pub occupied_number : (s : State) (p t : ℕ) → IsState s → task_on s p ≡ 
 occupied_number s p t ok e = elim (cases_lt p s.processors) [
   | inl lt ↦ lt
   | inr ge ↦ let past = get_or_past s.on p None (rw ok.on_count ge) in cc
+]
+
+-- a ready task that does not wait is linked
+pub linked_from_not_waiting : (s : State) (t : ℕ) → is_ready s t ≡ true → (IsWaiting s t → ⊥) → is_linked s t ≡ true
+linked_from_not_waiting s t ready not_waiting = elim (cases_Bool (is_linked s t)) [
+  | inl linked ↦ linked
+  | inr not_linked ↦ absurd (not_waiting record { ready = ready; not_linked = not_linked })
 ]

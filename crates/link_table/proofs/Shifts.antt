@@ -102,7 +102,7 @@ chain_below s ok t [] end c i lt = absurd c
 chain_below s ok t (x ∷ rest) end c zero lt = effective_mask_below s ok t x c.0
 chain_below s ok t (x ∷ rest) end c (suc i) lt = walk_below s ok x rest end c.1 i (omega arith)
 
--- a shift puts out the occupant of the processor on which the chain ends
+-- a shift displaces the occupant of the processor on which the chain ends
 walk_end : (s : State) (p : ℕ) (rest : List ℕ) (q : ℕ) → IsWalk s p rest q → task_put_out s (p ∷ rest) ≡ task_on s q
 walk_end s p [] q w = ap (task_on s) w
 walk_end s p (r ∷ rest) q w = walk_end s r rest q w.1

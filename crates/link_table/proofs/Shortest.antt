@@ -1,4 +1,4 @@
--- A shortest path comes to no processor twice.
+-- A shortest path visits no processor twice.
 use Rattle.std.proofs.Common.{ℕ, zero, suc, ◌<◌, ◌≤◌, List, [], ◌∷◌, length, get_or, subst, arith}
 use Rattle.link_table.specs.Chain.{IsPath, IsSimple}
 use Rattle.link_table.proofs.Simple.{IsSimple-cons}

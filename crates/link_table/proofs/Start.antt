@@ -6,7 +6,8 @@ use Rattle.affinity_mask.specs.ProcSet.{all_below}
 use Rattle.task_set.specs.TaskSet.{TaskData, SetData, IsTaskSet, priorities, masks}
 use Rattle.link_table.specs.State.{IsState, start_of}
 
-none_on : (n p : ℕ) → get_or {A = Option ℕ} (replicate n None) p None ≡ None
+-- nobody is linked before anything has happened
+pub none_on : (n p : ℕ) → get_or {A = Option ℕ} (replicate n None) p None ≡ None
 none_on zero p = refl
 none_on (suc n) zero = refl
 none_on (suc n) (suc p) = none_on n p
@@ -22,7 +23,7 @@ IsState-start set ok =
       masks_count = length-map _ _ ∙ sym (length-map _ _);
       ready_count = length-replicate _ _ ∙ sym (length-map _ _);
       on_count = length-replicate _ _;
-      online = refl;
+      online = λ p h. h;
       masks = λ t number.
           let below : t < length set.tasks = rw (← length-map set.tasks (λ (x : TaskData). x.mask)) (omega (arith, length-map set.tasks (λ (x : TaskData). x.mask), length-map set.tasks (λ (x : TaskData). x.priority))) in
           rw (get_or-map (λ (x : TaskData). x.mask) set.tasks t no_task 0 below) (ok.masks t no_task below);

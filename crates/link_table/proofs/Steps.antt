@@ -1,12 +1,15 @@
 -- The scheduler's step: what it changes follows from its reply, and it leads to a state again.
-use Rattle.std.proofs.Common.{◌≡◌, ℕ, ◌<◌, false, List, [], ◌∷◌, reverse, Option, Some, None, sym, ap, ◌∙◌}
+use Rattle.std.proofs.Common.{◌≡◌, ℕ, ◌<◌, false, List, [], ◌∷◌, reverse, Option, Some, None, refl, sym, ap, ◌∙◌, inl, inr}
 use Rattle.task_set.specs.declared.event.Event.TheVariants.{Arrive, Depart, Tick}
+use Rattle.link_table.specs.declared.reply.Came.{Came}
+use Rattle.link_table.specs.declared.reply.Came.TheVariants.{Placed, Displaced, Waits}
+use Rattle.link_table.specs.declared.reply.Gone.{Gone}
 use Rattle.link_table.specs.declared.reply.Reply.{Reply}
-use Rattle.link_table.specs.declared.reply.Reply.TheVariants.{Placed, Displaced, Waits, Freed, Left, Ticked, AlreadyReady, NotReady}
+use Rattle.link_table.specs.Reply.{reply_of_came, reply_of_gone}
 use Rattle.link_table.specs.State.{State, IsState, IsWaiting, IsIdle, is_ready, task_on, task_count, state_with_ready, state_after_leaving}
 use Rattle.link_table.specs.Chain.{IsChainOf, IsSimple, IsLeastSuch, EntersBy, state_after_shift}
-use Rattle.link_table.specs.Step.{ArriveStep, DepartStep, EnterStep}
-use Rattle.link_table.specs.History.{state_after_reply, state_after_entering}
+use Rattle.link_table.specs.Step.{Comes, ArriveStep, Fills, DepartStep, EnterStep}
+use Rattle.link_table.specs.History.{state_after_reply, state_after_came, state_after_gone, state_after_entering}
 use Rattle.link_table.specs.Laws.{ReplyGivesNewState, StepKeepsState}
 use Rattle.link_table.proofs.Ends.{least_chain_is_simple, least_back_chain_is_simple}
 use Rattle.link_table.proofs.Leaving.{IsState-state_with_absent, IsState-state_after_leaving}
@@ -16,34 +19,40 @@ use Rattle.link_table.proofs.Shifts.{IsState-state_after_shift}
 use Rattle.link_table.proofs.Simple.{IsSimple-reverse}
 
 -- ---- the new state follows from the reply
-arrive_reply : (s : State) (t : ℕ) (reply : Reply) (new : State) → ArriveStep s t reply new → new ≡ state_after_reply s t reply
-arrive_reply s t (Placed chain) new step = step.shifted
-arrive_reply s t (Displaced chain out reach) new step = step.shifted
-arrive_reply s t (Waits reach) new step = step.waits
-arrive_reply s t (Freed entered chain back) new step = absurd step
-arrive_reply s t Left new step = absurd step
-arrive_reply s t Ticked new step = absurd step
-arrive_reply s t AlreadyReady new step = step.1
-arrive_reply s t NotReady new step = absurd step
+-- the effect of a reply is that of what it says
+pub effect_of_came : (s : State) (t : ℕ) (came : Came) → state_after_reply s (Arrive t) (reply_of_came came) ≡ state_after_came s t came
+effect_of_came s t (Placed chain) = refl
+effect_of_came s t (Displaced chain out reach) = refl
+effect_of_came s t (Waits reach) = refl
 
-enter_reply : (s : State) (p : ℕ) (entered : Option ℕ) (chain : List ℕ) (back : ℕ) (new : State) → EnterStep s p entered chain back new → new ≡ state_after_entering s entered chain
-enter_reply s p None chain back new step = step.2
-enter_reply s p (Some w) chain back new step = step.2
+pub effect_of_gone : (s : State) (t : ℕ) (gone : Gone) → state_after_reply s (Depart t) (reply_of_gone gone) ≡ state_after_gone (state_after_leaving s t) gone
+effect_of_gone s t gone = refl
 
-depart_reply : (s : State) (t : ℕ) (reply : Reply) (new : State) → DepartStep s t reply new → new ≡ state_after_reply s t reply
-depart_reply s t (Placed chain) new step = absurd step
-depart_reply s t (Displaced chain out reach) new step = absurd step
-depart_reply s t (Waits reach) new step = absurd step
-depart_reply s t (Freed entered chain back) new step = enter_reply (state_after_leaving s t) step.place entered chain back new step.enters
-depart_reply s t Left new step = step.1
-depart_reply s t Ticked new step = absurd step
-depart_reply s t AlreadyReady new step = absurd step
-depart_reply s t NotReady new step = step.1
+pub comes_effect : (s : State) (t : ℕ) (came : Came) (new : State) → Comes s t came new → new ≡ state_after_came s t came
+comes_effect s t (Placed chain) new comes = comes.shifted
+comes_effect s t (Displaced chain out reach) new comes = comes.shifted
+comes_effect s t (Waits reach) new comes = comes.waits
+
+enter_effect : (s : State) (p : ℕ) (entered : Option ℕ) (chain : List ℕ) (back : ℕ) (new : State) → EnterStep s p entered chain back new → new ≡ state_after_entering s entered chain
+enter_effect s p None chain back new step = step.2
+enter_effect s p (Some w) chain back new step = step.2
+
+pub fills_effect : (s : State) (p : ℕ) (gone : Gone) (new : State) → Fills s p gone new → new ≡ state_after_gone s gone
+fills_effect s p gone new fills = enter_effect s p gone.entered gone.chain gone.back new fills.enters
+
+arrive_effect : (s : State) (t : ℕ) (reply : Reply) (new : State) → ArriveStep s t reply new → new ≡ state_after_reply s (Arrive t) reply
+arrive_effect s t reply new (inl again) = again.same ∙ sym (ap (state_after_reply s (Arrive t)) again.answer)
+arrive_effect s t reply new (inr arrives) = comes_effect s t arrives.came new arrives.comes ∙ sym (ap (state_after_reply s (Arrive t)) arrives.answer ∙ effect_of_came s t arrives.came)
+
+depart_effect : (s : State) (t : ℕ) (reply : Reply) (new : State) → DepartStep s t reply new → new ≡ state_after_reply s (Depart t) reply
+depart_effect s t reply new (inl again) = again.same ∙ sym (ap (state_after_reply s (Depart t)) again.answer)
+depart_effect s t reply new (inr (inl waiting)) = waiting.left ∙ sym (ap (state_after_reply s (Depart t)) waiting.answer)
+depart_effect s t reply new (inr (inr linked)) = fills_effect (state_after_leaving s t) linked.place linked.gone new linked.fills ∙ sym (ap (state_after_reply s (Depart t)) linked.answer)
 
 pub reply_gives_new_state : ReplyGivesNewState
-reply_gives_new_state s (Arrive t) reply new step = arrive_reply s t reply new step.1
-reply_gives_new_state s (Depart t) reply new step = depart_reply s t reply new step.1
-reply_gives_new_state s (Tick units) reply new step = step.1 ∙ sym (ap (state_after_reply s 0) step.0)
+reply_gives_new_state s (Arrive t) reply new step = arrive_effect s t reply new step.1
+reply_gives_new_state s (Depart t) reply new step = depart_effect s t reply new step.1
+reply_gives_new_state s (Tick units) reply new step = step.1
 
 -- ---- a step leads to a state
 -- a chain of a task stays one when the task becomes ready
@@ -61,29 +70,23 @@ pub IsState-entered : (s : State) → IsState s → (p w : ℕ) (chain : List �
 IsState-entered s ok p w chain waits least =
     IsState-state_after_shift s ok w (reverse chain) p waits (IsChainOf-reverse s p w chain least.itself.0 least.itself.1 least.itself.2) (IsSimple-reverse chain (least_back_chain_is_simple s ok p w chain least))
 
+pub comes_keeps : (s : State) (t : ℕ) (came : Came) (new : State) → IsState s → t < task_count s → is_ready s t ≡ false → Comes s t came new → IsState new
+comes_keeps s t (Placed chain) new ok number absent comes = rw comes.shifted (IsState-arrived s ok t chain comes.least.itself.0 number absent comes.least.itself.1 (least_chain_is_simple s ok t (IsIdle s) chain comes.least))
+comes_keeps s t (Displaced chain out reach) new ok number absent comes = rw comes.shifted (IsState-arrived s ok t chain comes.least.itself.0 number absent comes.least.itself.1 (least_chain_is_simple s ok t (λ q. task_on s q ≡ Some out) chain comes.least))
+comes_keeps s t (Waits reach) new ok number absent comes = rw comes.waits (IsState-state_with_ready s ok t number)
+
 arrive_keeps : (s : State) (t : ℕ) (reply : Reply) (new : State) → IsState s → t < task_count s → ArriveStep s t reply new → IsState new
-arrive_keeps s t (Placed chain) new ok number step = rw step.shifted (IsState-arrived s ok t chain step.least.itself.0 number step.absent step.least.itself.1 (least_chain_is_simple s ok t (IsIdle s) chain step.least))
-arrive_keeps s t (Displaced chain out reach) new ok number step = rw step.shifted (IsState-arrived s ok t chain step.least.itself.0 number step.absent step.least.itself.1 (least_chain_is_simple s ok t (λ q. task_on s q ≡ Some out) chain step.least))
-arrive_keeps s t (Waits reach) new ok number step = rw step.waits (IsState-state_with_ready s ok t number)
-arrive_keeps s t (Freed entered chain back) new ok number step = absurd step
-arrive_keeps s t Left new ok number step = absurd step
-arrive_keeps s t Ticked new ok number step = absurd step
-arrive_keeps s t AlreadyReady new ok number step = rw step.1 ok
-arrive_keeps s t NotReady new ok number step = absurd step
+arrive_keeps s t reply new ok number (inl again) = rw again.same ok
+arrive_keeps s t reply new ok number (inr arrives) = comes_keeps s t arrives.came new ok number arrives.absent arrives.comes
 
 enter_keeps : (s : State) (p : ℕ) (entered : Option ℕ) (chain : List ℕ) (back : ℕ) (new : State) → IsState s → EnterStep s p entered chain back new → IsState new
 enter_keeps s p None chain back new ok step = rw step.2 ok
 enter_keeps s p (Some w) chain back new ok step = rw step.2 (IsState-entered s ok p w chain step.0.waits step.1)
 
 depart_keeps : (s : State) (t : ℕ) (reply : Reply) (new : State) → IsState s → DepartStep s t reply new → IsState new
-depart_keeps s t (Placed chain) new ok step = absurd step
-depart_keeps s t (Displaced chain out reach) new ok step = absurd step
-depart_keeps s t (Waits reach) new ok step = absurd step
-depart_keeps s t (Freed entered chain back) new ok step = enter_keeps (state_after_leaving s t) step.place entered chain back new (IsState-state_after_leaving s ok t) step.enters
-depart_keeps s t Left new ok step = rw step.1 (IsState-state_with_absent s ok t step.0)
-depart_keeps s t Ticked new ok step = absurd step
-depart_keeps s t AlreadyReady new ok step = absurd step
-depart_keeps s t NotReady new ok step = rw step.1 ok
+depart_keeps s t reply new ok (inl again) = rw again.same ok
+depart_keeps s t reply new ok (inr (inl waiting)) = rw waiting.left (IsState-state_with_absent s ok t waiting.waits)
+depart_keeps s t reply new ok (inr (inr linked)) = enter_keeps (state_after_leaving s t) linked.place linked.gone.entered linked.gone.chain linked.gone.back new (IsState-state_after_leaving s ok t) linked.fills.enters
 
 pub step_keeps_state : StepKeepsState
 step_keeps_state s (Arrive t) reply new ok step = arrive_keeps s t reply new ok step.0 step.1

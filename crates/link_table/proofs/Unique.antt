@@ -7,12 +7,15 @@ use Rattle.affinity_mask.specs.ProcSet.{has}
 use Rattle.affinity_mask.proofs.Sets.{same_set}
 use Rattle.task_set.specs.declared.event.Event.{Event}
 use Rattle.task_set.specs.declared.event.Event.TheVariants.{Arrive, Depart, Tick}
+use Rattle.link_table.specs.declared.reply.Came.{Came}
+use Rattle.link_table.specs.declared.reply.Came.TheVariants.{Placed, Displaced, Waits}
+use Rattle.link_table.specs.declared.reply.Gone.{Gone}
 use Rattle.link_table.specs.declared.reply.Reply.{Reply}
-use Rattle.link_table.specs.declared.reply.Reply.TheVariants.{Placed, Displaced, Waits, Freed, Left, Ticked, AlreadyReady, NotReady}
-use Rattle.link_table.specs.State.{State, IsState, is_ready, task_count, priority_of, state_after_leaving}
-use Rattle.link_table.specs.Chain.{IsBackReach, Reaches, ReachesBack, IsLeastSuch, EndsIdle, EndsOnTask, EntersBy}
-use Rattle.link_table.specs.Step.{ArrivePlaced, ArriveDisplaced, ArriveWaits, ArriveStep, DepartFreed, DepartStep, EnterStep, SchedulerStep}
-use Rattle.link_table.specs.History.{event_task, state_after_reply}
+use Rattle.link_table.specs.Reply.{reply_of_came, reply_of_gone}
+use Rattle.link_table.specs.State.{State, IsState, IsWaiting, is_ready, task_count, priority_of, state_after_leaving}
+use Rattle.link_table.specs.Chain.{IsReach, Reaches, ReachesBack, IsLeastSuch, EndsIdle, EndsOnTask, EntersBy}
+use Rattle.link_table.specs.Step.{IsOccupied, ComesPlaced, ComesDisplaced, ComesWaits, Comes, ArriveStep, Fills, DepartsLinked, DepartStep, EnterStep, SchedulerStep}
+use Rattle.link_table.specs.History.{state_after_reply}
 use Rattle.link_table.specs.Laws.{StepIsUnique}
 use Rattle.link_table.proofs.Least.{least_unique}
 use Rattle.link_table.proofs.Leaving.{IsState-state_after_leaving}
@@ -40,27 +43,17 @@ ready_number s ok t ready = elim (cases_lt t (task_count s)) [
   | inr ge ↦ absurd (true≢false (sym ready ∙ get_or_past s.ready t false (rw ok.ready_count ge)))
 ]
 
--- ---- arrivals
+-- ---- what an arrival comes to
 module _ (s : State) (ok : IsState s) (t : ℕ) where
-  -- a task that reaches an idle processor is placed, and along one chain
-  placed_only : (chain : List ℕ) (new : State) → ArrivePlaced s t chain new → (other : Reply) (next : State) → ArriveStep s t other next → Placed chain ≡ other
-  placed_only chain new step (Placed chain') next step' = ap (λ (c : List ℕ). Placed c) (least_unique (EndsIdle s t) chain chain' step.least step'.least)
-  placed_only chain new step (Displaced chain' out reach) next step' =
-      let end = step.least.itself in
-      let occupant = step'.occupied end.0 ((step'.reached end.0).1 (chain, end.1)) in
-      let on = occupant.1 in let idle = end.2.1 in absurd (cc)
-  placed_only chain new step (Waits reach) next step' =
-      let end = step.least.itself in
-      let occupant = step'.more_urgent end.0 ((step'.reached end.0).1 (chain, end.1)) in
-      let on = occupant.1 in let idle = end.2.1 in absurd (cc)
-  placed_only chain new step (Freed entered chain' back) next step' = absurd step'
-  placed_only chain new step Left next step' = absurd step'
-  placed_only chain new step Ticked next step' = absurd step'
-  placed_only chain new step AlreadyReady next step' = absurd (true≢false (sym step'.0 ∙ step.absent))
-  placed_only chain new step NotReady next step' = absurd step'
+  -- a task that reaches an idle processor reaches no set of occupied ones
+  idle_reached : (chain : List ℕ) (new : State) → ComesPlaced s t chain new → (reach : ℕ) → IsReach s t reach → IsOccupied s reach → ⊥
+  idle_reached chain new comes reach reached occupied =
+      let end = comes.least.itself in
+      let occupant = occupied end.0 ((reached end.0).1 (chain, end.1)) in
+      let on = occupant.1 in let idle = end.2.1 in cc
 
-  -- of the tasks that it reaches, the least urgent one is put out, and the set and the chain are one
-  displaced_same : (chain chain' : List ℕ) (out out' reach reach' : ℕ) (new next : State) → ArriveDisplaced s t chain out reach new → ArriveDisplaced s t chain' out' reach' next → Displaced chain out reach ≡ Displaced chain' out' reach'
+  -- of the tasks that it reaches, the least urgent one is displaced, and the set and the chain are one
+  displaced_same : (chain chain' : List ℕ) (out out' reach reach' : ℕ) (new next : State) → ComesDisplaced s t chain out reach new → ComesDisplaced s t chain' out' reach' next → Displaced chain out reach ≡ Displaced chain' out' reach'
   displaced_same chain chain' out out' reach reach' new next step step' =
       let same_reach = same_members reach reach' (Reaches s t) step.reached step'.reached in
       let there = step.out_there.there in
@@ -72,7 +65,7 @@ module _ (s : State) (ok : IsState s) (t : ℕ) where
       rw (same_chain, same_out, same_reach) refl
 
   -- one that reaches a less urgent task does not wait
-  displaced_not_waits : (chain : List ℕ) (out reach reach' : ℕ) (new next : State) → ArriveDisplaced s t chain out reach new → ArriveWaits s t reach' next → ⊥
+  displaced_not_waits : (chain : List ℕ) (out reach reach' : ℕ) (new next : State) → ComesDisplaced s t chain out reach new → ComesWaits s t reach' next → ⊥
   displaced_not_waits chain out reach reach' new next step step' =
       let there = step.out_there.there in
       let above = step'.more_urgent there.0 ((step'.reached there.0).1 ((step.reached there.0).0 there.1)) in
@@ -80,115 +73,77 @@ module _ (s : State) (ok : IsState s) (t : ℕ) where
       let urgent = rw same at above.2 in
       let less = step.out_less_urgent in omega arith
 
-  displaced_only : (chain : List ℕ) (out reach : ℕ) (new : State) → ArriveDisplaced s t chain out reach new → (other : Reply) (next : State) → ArriveStep s t other next → Displaced chain out reach ≡ other
-  displaced_only chain out reach new step (Placed chain') next step' = sym (placed_only chain' next step' (Displaced chain out reach) new step)
-  displaced_only chain out reach new step (Displaced chain' out' reach') next step' = displaced_same chain chain' out out' reach reach' new next step step'
-  displaced_only chain out reach new step (Waits reach') next step' = absurd (displaced_not_waits chain out reach reach' new next step step')
-  displaced_only chain out reach new step (Freed entered chain' back) next step' = absurd step'
-  displaced_only chain out reach new step Left next step' = absurd step'
-  displaced_only chain out reach new step Ticked next step' = absurd step'
-  displaced_only chain out reach new step AlreadyReady next step' = absurd (true≢false (sym step'.0 ∙ step.absent))
-  displaced_only chain out reach new step NotReady next step' = absurd step'
+  all_occupied : (reach : ℕ) (new : State) → ComesWaits s t reach new → IsOccupied s reach
+  all_occupied reach new waits p inside = let occupant = waits.more_urgent p inside in (occupant.0, occupant.1)
 
-  waits_only : (reach : ℕ) (new : State) → ArriveWaits s t reach new → (other : Reply) (next : State) → ArriveStep s t other next → Waits reach ≡ other
-  waits_only reach new step (Placed chain) next step' = sym (placed_only chain next step' (Waits reach) new step)
-  waits_only reach new step (Displaced chain out reach') next step' = absurd (displaced_not_waits chain out reach' reach next new step' step)
-  waits_only reach new step (Waits reach') next step' = ap (λ (X : ℕ). Waits X) (same_members reach reach' (Reaches s t) step.reached step'.reached)
-  waits_only reach new step (Freed entered chain back) next step' = absurd step'
-  waits_only reach new step Left next step' = absurd step'
-  waits_only reach new step Ticked next step' = absurd step'
-  waits_only reach new step AlreadyReady next step' = absurd (true≢false (sym step'.0 ∙ step.absent))
-  waits_only reach new step NotReady next step' = absurd step'
+  pub comes_once : (came other : Came) (new next : State) → Comes s t came new → Comes s t other next → came ≡ other
+  comes_once (Placed chain) (Placed chain') new next step step' = ap (λ (c : List ℕ). Placed c) (least_unique (EndsIdle s t) chain chain' step.least step'.least)
+  comes_once (Placed chain) (Displaced chain' out reach) new next step step' = absurd (idle_reached chain new step reach step'.reached step'.occupied)
+  comes_once (Placed chain) (Waits reach) new next step step' = absurd (idle_reached chain new step reach step'.reached (all_occupied reach next step'))
+  comes_once (Displaced chain out reach) (Placed chain') new next step step' = absurd (idle_reached chain' next step' reach step.reached step.occupied)
+  comes_once (Displaced chain out reach) (Displaced chain' out' reach') new next step step' = displaced_same chain chain' out out' reach reach' new next step step'
+  comes_once (Displaced chain out reach) (Waits reach') new next step step' = absurd (displaced_not_waits chain out reach reach' new next step step')
+  comes_once (Waits reach) (Placed chain) new next step step' = absurd (idle_reached chain next step' reach step.reached (all_occupied reach new step))
+  comes_once (Waits reach) (Displaced chain out reach') new next step step' = absurd (displaced_not_waits chain out reach' reach next new step' step)
+  comes_once (Waits reach) (Waits reach') new next step step' = ap (λ (X : ℕ). Waits X) (same_members reach reach' (Reaches s t) step.reached step'.reached)
 
-  already_only : (new : State) → ArriveStep s t AlreadyReady new → (other : Reply) (next : State) → ArriveStep s t other next → AlreadyReady ≡ other
-  already_only new step (Placed chain) next step' = absurd (true≢false (sym step.0 ∙ step'.absent))
-  already_only new step (Displaced chain out reach) next step' = absurd (true≢false (sym step.0 ∙ step'.absent))
-  already_only new step (Waits reach) next step' = absurd (true≢false (sym step.0 ∙ step'.absent))
-  already_only new step (Freed entered chain back) next step' = absurd step'
-  already_only new step Left next step' = absurd step'
-  already_only new step Ticked next step' = absurd step'
-  already_only new step AlreadyReady next step' = refl
-  already_only new step NotReady next step' = absurd step'
-
-  arrive_unique : (reply : Reply) (new : State) (other : Reply) (next : State) → ArriveStep s t reply new → ArriveStep s t other next → reply ≡ other
-  arrive_unique (Placed chain) new other next step step' = placed_only chain new step other next step'
-  arrive_unique (Displaced chain out reach) new other next step step' = displaced_only chain out reach new step other next step'
-  arrive_unique (Waits reach) new other next step step' = waits_only reach new step other next step'
-  arrive_unique (Freed entered chain back) new other next step step' = absurd step
-  arrive_unique Left new other next step step' = absurd step
-  arrive_unique Ticked new other next step step' = absurd step
-  arrive_unique AlreadyReady new other next step step' = already_only new step other next step'
-  arrive_unique NotReady new other next step step' = absurd step
-
--- ---- departures
+-- ---- who comes in
 -- one task comes in, or nobody, and along one chain
-enter_unique : (s : State) → IsState s → (p back : ℕ) (entered entered' : Option ℕ) (chain chain' : List ℕ) (new next : State) → EnterStep s p entered chain back new → EnterStep s p entered' chain' back next → Freed entered chain back ≡ Freed entered' chain' back
-enter_unique s ok p back None None chain chain' new next step step' = ap (λ (c : List ℕ). Freed None c back) (step.1 ∙ sym step'.1)
-enter_unique s ok p back None (Some w) chain chain' new next step step' = absurd (step.0 w step'.0.there.0 step'.0.waits step'.0.there.1 step'.0.there.2)
-enter_unique s ok p back (Some w) None chain chain' new next step step' = absurd (step'.0 w step.0.there.0 step.0.waits step.0.there.1 step.0.there.2)
-enter_unique s ok p back (Some w) (Some w') chain chain' new next step step' =
+enter_once : (s : State) → IsState s → (p back : ℕ) (entered entered' : Option ℕ) (chain chain' : List ℕ) (new next : State) → EnterStep s p entered chain back new → EnterStep s p entered' chain' back next → (entered ≡ entered') × (chain ≡ chain')
+enter_once s ok p back None None chain chain' new next step step' = (refl, step.1 ∙ sym step'.1)
+enter_once s ok p back None (Some w) chain chain' new next step step' = absurd (step.0 w step'.0.there.0 step'.0.waits step'.0.there.1 step'.0.there.2)
+enter_once s ok p back (Some w) None chain chain' new next step step' = absurd (step'.0 w step.0.there.0 step.0.waits step.0.there.1 step.0.there.2)
+enter_once s ok p back (Some w) (Some w') chain chain' new next step step' =
     let same : w ≡ w' = same_urgency s ok w w' (ready_number s ok w step.0.waits.ready) (ready_number s ok w' step'.0.waits.ready)
     (step.0.most_urgent w' step'.0.there.0 step'.0.waits step'.0.there.1 step'.0.there.2)
     (step'.0.most_urgent w step.0.there.0 step.0.waits step.0.there.1 step.0.there.2) in
     let same_chain : chain ≡ chain' = least_unique (EntersBy s p w') chain chain' (subst (λ (v : ℕ). IsLeastSuch (EntersBy s p v) chain) same step.1) step'.1 in
-    rw (same, same_chain) refl
+    (ap (λ (v : ℕ). Some v) same, same_chain)
 
+pub fills_once : (s : State) → IsState s → (p : ℕ) (gone other : Gone) (new next : State) → Fills s p gone new → Fills s p other next → gone ≡ other
+fills_once s ok p gone other new next step step' =
+    let backs : other.back ≡ gone.back = same_members other.back gone.back (ReachesBack s p) step'.reached step.reached in
+    let enters = enter_once s ok p gone.back gone.entered other.entered gone.chain other.chain new next step.enters (subst (λ (X : ℕ). EnterStep s p other.entered other.chain X next) backs step'.enters) in
+    λ i. record { entered = enters.0 i; chain = enters.1 i; back = sym backs i }
+
+-- ---- whole steps, by the event and the state
 module _ (s : State) (ok : IsState s) (t : ℕ) where
-  freed_same : (entered entered' : Option ℕ) (chain chain' : List ℕ) (back back' : ℕ) (new next : State) → DepartFreed s t entered chain back new → DepartFreed s t entered' chain' back' next → Freed entered chain back ≡ Freed entered' chain' back'
-  freed_same entered entered' chain chain' back back' new next step step' =
-      let gone = state_after_leaving s t in
+  arrive_unique : (reply other : Reply) (new next : State) → ArriveStep s t reply new → ArriveStep s t other next → reply ≡ other
+  arrive_unique reply other new next (inl again) (inl again') = again.answer ∙ sym again'.answer
+  arrive_unique reply other new next (inl again) (inr arrives) = absurd (true≢false (sym again.ready ∙ arrives.absent))
+  arrive_unique reply other new next (inr arrives) (inl again) = absurd (true≢false (sym again.ready ∙ arrives.absent))
+  arrive_unique reply other new next (inr arrives) (inr arrives') = arrives.answer ∙ ap reply_of_came (comes_once s ok t arrives.came arrives'.came new next arrives.comes arrives'.comes) ∙ sym arrives'.answer
+
+  -- a task on a processor neither waits nor is absent
+  linked_not_waiting : (reply : Reply) (new : State) → DepartsLinked s t reply new → IsWaiting s t → ⊥
+  linked_not_waiting reply new linked waits = not_on s linked.place t waits.not_linked linked.linked
+
+  linked_not_absent : (reply : Reply) (new : State) → DepartsLinked s t reply new → is_ready s t ≡ false → ⊥
+  linked_not_absent reply new linked absent = true≢false (sym (ok.linked_ready linked.place t linked.linked) ∙ absent)
+
+  linked_once : (reply other : Reply) (new next : State) → DepartsLinked s t reply new → DepartsLinked s t other next → reply ≡ other
+  linked_once reply other new next step step' =
       let same_place : step'.place ≡ step.place = ok.once step'.place step.place t step'.linked step.linked in
-      let reached' = subst (λ (p : ℕ). IsBackReach gone p back') same_place step'.reached in
-      let same_back : back' ≡ back = same_members back' back (ReachesBack gone step.place) reached' step.reached in
-      let enters' = subst (λ (p : ℕ). EnterStep gone p entered' chain' back next) same_place (subst (λ (X : ℕ). EnterStep gone step'.place entered' chain' X next) same_back step'.enters) in
-      enter_unique gone (IsState-state_after_leaving s ok t) step.place back entered entered' chain chain' new next step.enters enters' ∙ ap (λ (X : ℕ). Freed entered' chain' X) (sym same_back)
+      let fills' = subst (λ (p : ℕ). Fills (state_after_leaving s t) p step'.gone next) same_place step'.fills in
+      step.answer ∙ ap reply_of_gone (fills_once (state_after_leaving s t) (IsState-state_after_leaving s ok t) step.place step.gone step'.gone new next step.fills fills') ∙ sym step'.answer
 
-  freed_only : (entered : Option ℕ) (chain : List ℕ) (back : ℕ) (new : State) → DepartFreed s t entered chain back new → (other : Reply) (next : State) → DepartStep s t other next → Freed entered chain back ≡ other
-  freed_only entered chain back new step (Placed chain') next step' = absurd step'
-  freed_only entered chain back new step (Displaced chain' out reach) next step' = absurd step'
-  freed_only entered chain back new step (Waits reach) next step' = absurd step'
-  freed_only entered chain back new step (Freed entered' chain' back') next step' = freed_same entered entered' chain chain' back back' new next step step'
-  freed_only entered chain back new step Left next step' = absurd (not_on s step.place t step'.0.not_linked step.linked)
-  freed_only entered chain back new step Ticked next step' = absurd step'
-  freed_only entered chain back new step AlreadyReady next step' = absurd step'
-  freed_only entered chain back new step NotReady next step' = absurd (true≢false (sym (ok.linked_ready step.place t step.linked) ∙ step'.0))
-
-  left_only : (new : State) → DepartStep s t Left new → (other : Reply) (next : State) → DepartStep s t other next → Left ≡ other
-  left_only new step (Placed chain) next step' = absurd step'
-  left_only new step (Displaced chain out reach) next step' = absurd step'
-  left_only new step (Waits reach) next step' = absurd step'
-  left_only new step (Freed entered chain back) next step' = sym (freed_only entered chain back next step' Left new step)
-  left_only new step Left next step' = refl
-  left_only new step Ticked next step' = absurd step'
-  left_only new step AlreadyReady next step' = absurd step'
-  left_only new step NotReady next step' = absurd (true≢false (sym step.0.ready ∙ step'.0))
-
-  not_ready_only : (new : State) → DepartStep s t NotReady new → (other : Reply) (next : State) → DepartStep s t other next → NotReady ≡ other
-  not_ready_only new step (Placed chain) next step' = absurd step'
-  not_ready_only new step (Displaced chain out reach) next step' = absurd step'
-  not_ready_only new step (Waits reach) next step' = absurd step'
-  not_ready_only new step (Freed entered chain back) next step' = sym (freed_only entered chain back next step' NotReady new step)
-  not_ready_only new step Left next step' = sym (left_only next step' NotReady new step)
-  not_ready_only new step Ticked next step' = absurd step'
-  not_ready_only new step AlreadyReady next step' = absurd step'
-  not_ready_only new step NotReady next step' = refl
-
-  depart_unique : (reply : Reply) (new : State) (other : Reply) (next : State) → DepartStep s t reply new → DepartStep s t other next → reply ≡ other
-  depart_unique (Placed chain) new other next step step' = absurd step
-  depart_unique (Displaced chain out reach) new other next step step' = absurd step
-  depart_unique (Waits reach) new other next step step' = absurd step
-  depart_unique (Freed entered chain back) new other next step step' = freed_only entered chain back new step other next step'
-  depart_unique Left new other next step step' = left_only new step other next step'
-  depart_unique Ticked new other next step step' = absurd step
-  depart_unique AlreadyReady new other next step step' = absurd step
-  depart_unique NotReady new other next step step' = not_ready_only new step other next step'
+  depart_unique : (reply other : Reply) (new next : State) → DepartStep s t reply new → DepartStep s t other next → reply ≡ other
+  depart_unique reply other new next (inl again) (inl again') = again.answer ∙ sym again'.answer
+  depart_unique reply other new next (inl again) (inr (inl waiting)) = absurd (true≢false (sym waiting.waits.ready ∙ again.absent))
+  depart_unique reply other new next (inl again) (inr (inr linked)) = absurd (linked_not_absent other next linked again.absent)
+  depart_unique reply other new next (inr (inl waiting)) (inl again) = absurd (true≢false (sym waiting.waits.ready ∙ again.absent))
+  depart_unique reply other new next (inr (inl waiting)) (inr (inl waiting')) = waiting.answer ∙ sym waiting'.answer
+  depart_unique reply other new next (inr (inl waiting)) (inr (inr linked)) = absurd (linked_not_waiting other next linked waiting.waits)
+  depart_unique reply other new next (inr (inr linked)) (inl again) = absurd (linked_not_absent reply new linked again.absent)
+  depart_unique reply other new next (inr (inr linked)) (inr (inl waiting)) = absurd (linked_not_waiting reply new linked waiting.waits)
+  depart_unique reply other new next (inr (inr linked)) (inr (inr linked')) = linked_once reply other new next linked linked'
 
 reply_unique : (s : State) (event : Event) (reply other : Reply) (new next : State) → IsState s → SchedulerStep s event reply new → SchedulerStep s event other next → reply ≡ other
-reply_unique s (Arrive t) reply other new next ok step step' = arrive_unique s ok t reply new other next step.1 step'.1
-reply_unique s (Depart t) reply other new next ok step step' = depart_unique s ok t reply new other next step.1 step'.1
+reply_unique s (Arrive t) reply other new next ok step step' = arrive_unique s ok t reply other new next step.1 step'.1
+reply_unique s (Depart t) reply other new next ok step step' = depart_unique s ok t reply other new next step.1 step'.1
 reply_unique s (Tick units) reply other new next ok step step' = step.0 ∙ sym step'.0
 
 pub step_is_unique : StepIsUnique
 step_is_unique s event reply other new next ok step step' =
     let same = reply_unique s event reply other new next ok step step' in
-    (same, reply_gives_new_state s event reply new step ∙ ap (state_after_reply s (event_task event)) same ∙ sym (reply_gives_new_state s event other next step'))
+    (same, reply_gives_new_state s event reply new step ∙ ap (state_after_reply s event) same ∙ sym (reply_gives_new_state s event other next step'))

@@ -1,6 +1,6 @@
--- Certificates. What a reader must believe: a set of processors certifies that a task rightly waits where the task may
--- run only there, and each processor of the set is occupied by a more urgent task that may run only there as well. As
--- many tasks as the set has processors, all more urgent, then compete for nothing but this set: it is full without w.
+-- Certificates. A set of processors certifies that a task rightly waits where the task may run only there, and each
+-- processor of the set is occupied by a more urgent task that may run only there as well. As many tasks as the set has
+-- processors, all more urgent, then compete for nothing but this set: it is full without w.
 use Rattle.std.specs.Prelude.{◌≡◌, ℕ, IsTrue, Some}
 use Rattle.affinity_mask.specs.ProcSet.{has, Within}
 use Rattle.link_table.specs.State.{State, effective_mask, task_on, IsMoreUrgent}

@@ -1,8 +1,8 @@
--- Chains of shifts. What a reader must believe: a chain of a task is a non-empty list of processors; the first is in
--- the effective mask of the task; each one before the last is occupied, and the effective mask of its occupant has the
--- next. To shift the task along the chain puts it on the first processor and each occupant on the next one. A back
--- chain to a processor is such a list read from there. Of chains the one with fewer processors is less, and of equally
--- many the lexicographically smaller one.
+-- Chains of shifts. A chain of a task is a non-empty list of processors; the first is in the effective mask of the
+-- task; each one before the last is occupied, and the effective mask of its occupant has the next. To shift the task
+-- along the chain puts it on the first processor and each occupant on the next one. A back chain to a processor is such
+-- a list read from there. Of chains the one with fewer processors is less, and of equally many the lexicographically
+-- smaller one.
 use Rattle.std.specs.Prelude.{◌≡◌, ◌≢◌, ℕ, ◌<◌, ◌⊎◌, List, [], ◌∷◌, length, IsTrue, ◌↔◌, Option, Some, None, AllPairs, map, if◌then◌else◌, ◌==◌}
 use Rattle.std.specs.List.{range_with_len}
 use Rattle.affinity_mask.specs.ProcSet.{has}
@@ -55,7 +55,7 @@ state_after_shift s t chain = record s { on = map (occupant_after_shift s (Some 
 abbrev pub Shifted : State → ℕ → List ℕ → State → Type 0
 Shifted old t chain new = new ≡ state_after_shift old t chain
 
--- the task that a shift puts out: the occupant of the last processor, if it had one
+-- the task that a shift displaces: the occupant of the last processor, if it had one
 abbrev pub task_put_out : State → List ℕ → Option ℕ
 task_put_out s [] = None
 task_put_out s (p ∷ []) = task_on s p

@@ -1,7 +1,7 @@
--- What a history tells each processor to do, and what it makes of each task. What a reader must believe: where an entry
--- changes the occupant of a processor, the processor releases the old one and takes the new one; a tick runs the
--- occupant. A task is taken on a processor where it is linked there after an entry and was not before the entry. The
--- context of a task is read off two lists: the processors on which it was taken, and its runs.
+-- What a history has each processor do, and what it makes of each task. Where an entry changes the occupant of a
+-- processor, the processor releases the old one and takes the new one; a tick runs the occupant. A task is taken on a
+-- processor where it is linked there after an entry and was not before the entry. The context of a task is read off two
+-- lists: the processors on which it was taken, and its runs.
 use Rattle.std.specs.Prelude.{ℕ, ◌+◌, ◌*◌, ◌-◌, ◌%◌, ◌^◌, Bool, true, false, List, [], ◌∷◌, ◌++◌, map, length, drop, slice_get, sum_by, count_by, Option, Some, None, if◌then◌else◌, ◌==◌, ◌&&◌, not, fold, filter}
 use Rattle.std.specs.List.{range_with_len, zip}
 use Rattle.task_set.specs.declared.context.Context.{Context}

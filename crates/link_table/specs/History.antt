@@ -1,43 +1,48 @@
--- Histories. What a reader must believe: a history is a list of entries, each with an event and the reply to it; what an
--- entry changes follows from its reply alone; a history is legal where each entry is the scheduler's step from the
+-- Histories. A history is a list of entries, each with an event and the reply to it; what an
+-- entry changes follows from its event and reply; a history is legal where each entry is the scheduler's step from the
 -- state before it to the state after it.
 use Rattle.std.specs.Prelude.{ℕ, ◌≤◌, List, [], ◌∷◌, reverse, take, length, Option, Some, None}
 use Rattle.task_set.specs.TaskSet.{SetData}
 use Rattle.task_set.specs.declared.event.Event.{Event}
-use Rattle.task_set.specs.declared.event.Event.TheVariants.{Arrive, Depart, Tick}
+use Rattle.task_set.specs.declared.event.Event.TheVariants.{Arrive, Depart}
+use Rattle.link_table.specs.declared.reply.Came.{Came}
+use Rattle.link_table.specs.declared.reply.Came.TheVariants as came
+use Rattle.link_table.specs.declared.reply.Gone.{Gone}
 use Rattle.link_table.specs.declared.reply.Reply.{Reply}
-use Rattle.link_table.specs.declared.reply.Reply.TheVariants.{Placed, Displaced, Waits, Freed, Left, Ticked, AlreadyReady, NotReady}
+use Rattle.link_table.specs.declared.reply.Reply.TheVariants.{Placed, Displaced, Waits, Freed, Left}
 use Rattle.link_table.specs.declared.reply.Entry.{Entry}
 use Rattle.link_table.specs.State.{State, start_of, is_ready, is_linked, state_with_ready, state_with_absent, state_after_leaving}
 use Rattle.link_table.specs.Chain.{state_after_shift}
 use Rattle.link_table.specs.Placement.{TaskTest, IsBest}
 use Rattle.link_table.specs.Step.{SchedulerStep}
 
--- the task of an event; a tick has none, and then this number is not used
-abbrev pub event_task : Event → ℕ
-event_task (Arrive t) = t
-event_task (Depart t) = t
-event_task (Tick units) = 0
-
 -- the state after a task came in against the direction of a back chain, if one did
 abbrev pub state_after_entering : State → Option ℕ → List ℕ → State
 state_after_entering s None chain = s
 state_after_entering s (Some w) chain = state_after_shift s w (reverse chain)
 
--- the state after a reply about t
-abbrev pub state_after_reply : State → ℕ → Reply → State
-state_after_reply s t (Placed chain) = state_after_shift (state_with_ready s t) t chain
-state_after_reply s t (Displaced chain out reach) = state_after_shift (state_with_ready s t) t chain
-state_after_reply s t (Waits reach) = state_with_ready s t
-state_after_reply s t (Freed entered chain back) = state_after_entering (state_after_leaving s t) entered chain
-state_after_reply s t Left = state_with_absent s t
-state_after_reply s t Ticked = s
-state_after_reply s t AlreadyReady = s
-state_after_reply s t NotReady = s
+-- the state after what t, which was absent, came to
+abbrev pub state_after_came : State → ℕ → Came → State
+state_after_came s t (came.Placed chain) = state_after_shift (state_with_ready s t) t chain
+state_after_came s t (came.Displaced chain out reach) = state_after_shift (state_with_ready s t) t chain
+state_after_came s t (came.Waits reach) = state_with_ready s t
+
+-- the state after somebody came in, or nobody
+abbrev pub state_after_gone : State → Gone → State
+state_after_gone s gone = state_after_entering s gone.entered gone.chain
+
+-- the state after a reply to an event; a reply that is none to the event changes nothing
+abbrev pub state_after_reply : State → Event → Reply → State
+state_after_reply s (Arrive t) (Placed chain) = state_after_came s t (came.Placed chain)
+state_after_reply s (Arrive t) (Displaced chain out reach) = state_after_came s t (came.Displaced chain out reach)
+state_after_reply s (Arrive t) (Waits reach) = state_after_came s t (came.Waits reach)
+state_after_reply s (Depart t) (Freed entered chain back) = state_after_gone (state_after_leaving s t) (record { entered = entered; chain = chain; back = back })
+state_after_reply s (Depart t) Left = state_with_absent s t
+state_after_reply s event reply = s
 
 -- the effect of an entry: the state after its reply
 abbrev pub effect_of : State → Entry → State
-effect_of s entry = state_after_reply s (event_task entry.event) entry.reply
+effect_of s entry = state_after_reply s entry.event entry.reply
 
 -- the state after the effects of all entries, in order
 abbrev pub state_after : State → List Entry → State

@@ -1,4 +1,4 @@
--- What contracts see of a table of links. What a reader must believe: its fields are the columns of a state.
+-- What contracts see of a table of links. Its fields are the columns of a state.
 use Rattle.link_table.specs.State.{State, IsState}
 use Rattle.link_table.specs.declared.links.Links.TheInside.{Inside}
 

@@ -1,7 +1,7 @@
--- Placements, and the best set. What a reader must believe: a set of tasks is placeable where its tasks can be assigned
--- to processors of their effective masks, no two to one; of two sets the better one has the most urgent task that is in
--- just one of them; the best subset of the ready tasks is placeable, and no placeable subset is better. A set of tasks
--- is given as a test, and a placement as the function from tasks to processors.
+-- Placements, and the best set. A set of tasks is placeable where its tasks can be assigned to processors of their
+-- effective masks, no two to one; of two sets the better one has the most urgent task that is in just one of them; the
+-- best subset of the ready tasks is placeable, and no placeable subset is better. A set of tasks is given as a test,
+-- and a placement as the function from tasks to processors.
 use Rattle.std.specs.Prelude.{◌≡◌, ◌≢◌, ℕ, ◌≤◌, Bool, true, false, IsTrue}
 use Rattle.affinity_mask.specs.ProcSet.{has}
 use Rattle.link_table.specs.State.{State, effective_mask, priority_of}

@@ -1,8 +1,34 @@
--- What a reply carries, whatever it means: its chains, its sets of processors, and the tasks that it names.
-use Rattle.std.specs.Prelude.{ℕ, List, [], ◌∷◌}
+-- What a reply is made of: what an arrival came to, or who came in at a processor that became idle; and what it carries,
+-- whatever it means: its chains, its sets of processors, and the tasks that it names.
+use Rattle.std.specs.Prelude.{ℕ, List, [], ◌∷◌, Option, Some, None}
 use Rattle.std.specs.List.{cons_option}
+use Rattle.link_table.specs.declared.reply.Came.{Came}
+use Rattle.link_table.specs.declared.reply.Came.TheVariants as came
+use Rattle.link_table.specs.declared.reply.Gone.{Gone}
 use Rattle.link_table.specs.declared.reply.Reply.{Reply}
 use Rattle.link_table.specs.declared.reply.Reply.TheVariants.{Placed, Displaced, Waits, Freed, Left, Ticked, AlreadyReady, NotReady}
+
+-- the reply that says what an arrival came to
+abbrev pub reply_of_came : Came → Reply
+reply_of_came (came.Placed chain) = Placed chain
+reply_of_came (came.Displaced chain out reach) = Displaced chain out reach
+reply_of_came (came.Waits reach) = Waits reach
+
+-- the reply that says who came in
+abbrev pub reply_of_gone : Gone → Reply
+reply_of_gone gone = Freed gone.entered gone.chain gone.back
+
+-- what an arrival came to, where a reply says that
+abbrev pub came_of : Reply → Option Came
+came_of (Placed chain) = Some (came.Placed chain)
+came_of (Displaced chain out reach) = Some (came.Displaced chain out reach)
+came_of (Waits reach) = Some (came.Waits reach)
+came_of _ = None
+
+-- who came in, where a reply says that
+abbrev pub gone_of : Reply → Option Gone
+gone_of (Freed entered chain back) = Some record { entered = entered; chain = chain; back = back }
+gone_of _ = None
 
 -- the chains of a reply
 abbrev pub chains_of : Reply → List (List ℕ)

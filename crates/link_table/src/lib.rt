@@ -16,7 +16,8 @@ pub mod links;
 pub mod reply;
 #[cfg(test)]
 mod tests;
+mod urgency;
 
 pub use chain::Chain;
 pub use links::Links;
-pub use reply::{Entry, Reply};
+pub use reply::{Came, Entry, Gone, Reply};

@@ -33,10 +33,10 @@ impl Model for Links {
 }
 
 impl Links {
-    ghost use Rattle.link_table.specs.State.{State, IsState, task_count, priority_of, mask_of, is_ready, is_linked, task_on, IsWaiting, start_of, state_with_ready, state_with_absent, state_with_idle};
+    ghost use Rattle.link_table.specs.State.{State, IsState, HasSameTasks, task_count, priority_of, mask_of, is_ready, is_linked, effective_mask, task_on, IsIdle, IsWaiting, start_of, state_with_ready, state_with_absent, state_with_idle, state_after_leaving};
     ghost use Rattle.link_table.specs.Chain.{IsChainOf, IsSimple, Shifted, task_put_out};
 
-    /// Every task of the set is absent, and every processor is idle. Refused only for want of memory.
+    /// Every task of the set is absent, and every processor is idle. Refused only where memory runs out.
     pub fn new(alloc: Global, set: &TaskSet) -> Result<Links, OutOfMemory>
         ensures { IfOk result (λ links. links ≡ start_of set.now) }
     {
@@ -102,6 +102,31 @@ impl Links {
         self.masks[t as usize]
     }
 
+    /// The processors that a task may run on now: those of its mask that are on line.
+    pub fn effective(&self, t: u32) -> ProcSet
+        requires { t < task_count self.now }
+        ensures value { result ≡ effective_mask self.now t }
+        ensures valid { IsState self.now }
+    {
+        self.mask(t).both(&self.online())
+    }
+
+    /// The processors on line.
+    pub fn online(&self) -> ProcSet
+        ensures value { result ≡ self.now.online }
+        ensures valid { IsState self.now }
+    {
+        self.online
+    }
+
+    /// The idle processors: they are on line, and nobody is linked to them.
+    pub fn idle(&self) -> ProcSet
+        ensures contents { (p : ℕ) → IsTrue (has result p) ↔ IsIdle self.now p }
+        ensures valid { IsState self.now }
+    {
+        self.online().minus(&self.linked())
+    }
+
     /// Whether a task is ready, linked or waiting. It is absent otherwise.
     pub fn is_ready(&self, t: u32) -> bool
         requires { t < task_count self.now }
@@ -109,6 +134,15 @@ impl Links {
         ensures valid { IsState self.now }
     {
         self.ready[t as usize]
+    }
+
+    /// Whether a task waits: it is ready, and linked to no processor.
+    pub fn is_waiting(&self, t: u32) -> bool
+        requires { t < task_count self.now }
+        ensures test { IsTrue result ↔ IsWaiting self.now t }
+        ensures valid { IsState self.now }
+    {
+        self.is_ready(t) && self.of(t).is_none()
     }
 
     /// The task that is linked to a processor.
@@ -125,6 +159,7 @@ impl Links {
         requires { t < task_count self.now }
         ensures place { IfSome result (λ p. task_on self.now p ≡ Some t) }
         ensures none { IsNone result ↔ (is_linked self.now t ≡ false) }
+        ensures valid { IsState self.now }
     {
         for p in 0..self.processors {
             if self.on[p as usize] == Some(t) {
@@ -158,7 +193,7 @@ impl Links {
         self.ready[t as usize] = true;
     }
 
-    /// Shifts a waiting task along one of its chains, and answers the task that this puts out, which waits then.
+    /// Shifts a waiting task along one of its chains, and answers the task that this displaces, which waits then.
     pub fn shift(&mut self, t: u32, chain: &Chain) -> Option<u32>
         requires number { t < task_count self.old }
         requires waits { IsWaiting self.old t }
@@ -202,5 +237,31 @@ impl Links {
         };
         self.on[p as usize] = None;
         t
+    }
+
+    /// A task departs from its processor, and answers which one that was. The task is absent then, and the processor
+    /// has nobody.
+    pub fn leave(&mut self, t: u32) -> u8
+        requires number { t < task_count self.old }
+        requires linked { is_linked self.old t ≡ true }
+        ensures place { task_on self.old result ≡ Some t }
+        ensures left { self.new ≡ state_after_leaving self.old t }
+        ensures valid { IsState self.new }
+    {
+        let p = self.of(t).unwrap();
+        self.unlink(p);
+        self.make_absent(t);
+        p
+    }
+
+    /// Becomes equal to another table of the same tasks. No memory is taken.
+    pub fn set_to(&mut self, other: &Links)
+        requires { HasSameTasks self.old other.now }
+        ensures { self.new ≡ other.now }
+    {
+        self.masks.copy_from_slice(&other.masks);
+        self.online = other.online;
+        self.ready.copy_from_slice(&other.ready);
+        self.on.copy_from_slice(&other.on);
     }
 }

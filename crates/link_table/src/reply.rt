@@ -41,7 +41,106 @@ pub enum Reply {
     NotReady,
 }
 
+/// What an arrival came to.
+#[derive(Debug, Drop, PartialEq)]
+pub enum Came {
+    /// The task was shifted along this chain, which ends on a processor that was idle.
+    Placed {
+        chain: Chain,
+    },
+    /// The task was shifted along this chain, and the task `out`, which was on its last processor, waits. `reach` has the
+    /// processors that the task reached before the shift.
+    Displaced {
+        chain: Chain,
+        out: u32,
+        reach: ProcSet,
+    },
+    /// The task waits: the processors that it reaches, `reach`, all run more urgent tasks.
+    Waits {
+        reach: ProcSet,
+    },
+}
+
+/// Who came in at a processor that became idle.
+#[derive(Debug, Drop, PartialEq)]
+pub struct Gone {
+    /// The waiting task that came in, if one did.
+    pub entered: Option<u32>,
+
+    /// The processors along which it was shifted, from its last one to its first, which became idle.
+    pub chain: Chain,
+
+    /// The processors from which a chain of shifts led to the one that became idle.
+    pub back: ProcSet,
+}
+
+impl From<Came> for Reply {
+    ghost use Rattle.link_table.specs.Reply.{reply_of_came};
+
+    ghost from_gives = { λ came reply. reply ≡ reply_of_came came };
+
+    fn from(came: Came) -> Reply {
+        match came {
+            Came::Placed { chain } => Reply::Placed { chain },
+            Came::Displaced { chain, out, reach } => Reply::Displaced { chain, out, reach },
+            Came::Waits { reach } => Reply::Waits { reach },
+        }
+    }
+}
+
+impl From<Gone> for Reply {
+    ghost use Rattle.link_table.specs.Reply.{reply_of_gone};
+
+    ghost from_gives = { λ gone reply. reply ≡ reply_of_gone gone };
+
+    fn from(gone: Gone) -> Reply {
+        Reply::Freed {
+            entered: gone.entered,
+            chain: gone.chain,
+            back: gone.back,
+        }
+    }
+}
+
 impl Reply {
+    ghost use Rattle.link_table.specs.Reply.{came_of, gone_of};
+
+    /// What an arrival came to, where the reply says that. No memory is taken.
+    pub fn came(&self) -> Option<Came>
+        ensures { result ≡ came_of self.now }
+    {
+        match self {
+            Reply::Placed { chain } => Some(Came::Placed {
+                chain: chain.copy(),
+            }),
+            Reply::Displaced { chain, out, reach } => Some(Came::Displaced {
+                chain: chain.copy(),
+                out: *out,
+                reach: *reach,
+            }),
+            Reply::Waits { reach } => Some(Came::Waits { reach: *reach }),
+            _ => None,
+        }
+    }
+
+    /// Who came in at a processor that became idle, where the reply says that. No memory is taken.
+    pub fn gone(&self) -> Option<Gone>
+        ensures { result ≡ gone_of self.now }
+    {
+        match self {
+            Reply::Freed {
+                entered,
+                chain,
+                back,
+            } => Some(Gone {
+                entered: *entered,
+                chain: chain.copy(),
+                back: *back,
+            }),
+            _ => None,
+        }
+    }
+
     /// An equal reply, for which no memory is taken.
     pub fn copy(&self) -> Reply
         ensures { result ≡ self.now }

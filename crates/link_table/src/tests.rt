@@ -9,13 +9,13 @@ use std::process::Abort;
 use std::test::Fail;
 use task_set::{Event, TaskSet};
 
-// Whether the list is a chain of the task.
+/// Whether the list is a chain of the task.
 fn is_chain(links: &Links, t: u32, chain: &Chain) -> bool
     requires { t < task_count links.now }
     ensures { IsTrue result → (q : ℕ) × IsChainOf links.now t chain.now q }
 {
     let processors = links.processors();
-    if chain.is_empty() || !links.mask(t).has(chain.at(0)) {
+    if chain.is_empty() || !links.effective(t).has(chain.at(0)) {
         return false;
     }
     for i in 1..chain.len() {
@@ -26,14 +26,14 @@ fn is_chain(links: &Links, t: u32, chain: &Chain) -> bool
         let Some(occupant) = links.on(before) else {
             return false;
         };
-        if !links.mask(occupant).has(chain.at(i)) {
+        if !links.effective(occupant).has(chain.at(i)) {
             return false;
         }
     }
     true
 }
 
-// Whether no processor stands twice in the list.
+/// Whether no processor stands twice in the list.
 fn is_simple(chain: &Chain) -> bool
     ensures { IsTrue result → IsSimple chain.now }
 {
@@ -48,7 +48,7 @@ fn is_simple(chain: &Chain) -> bool
     true
 }
 
-// Makes an absent task ready and shifts it along a list, which has to be a simple chain of it.
+/// Makes an absent task ready and shifts it along a list, which has to be a simple chain of it.
 fn arrive(rt: &impl Abort, links: &mut Links, t: u32, processors: &[u8]) -> Option<u32> {
     let mut chain = Chain::new();
     for &p in processors {

@@ -1,9 +1,7 @@
 -- Chains and back chains as paths, and what a bounded search says of all of them.
-use Rattle.std.proofs.Common.{◌≡◌, ℕ, ◌<◌, ◌≤◌, false, not, ◌&&◌, List, [], ◌∷◌, length, Option, Some, None, nat_eq, refl, sym, ap, ◌∙◌, subst, IsTrue, arith, eq-eqb, eqb-true}
-use Rattle.std.specs.Prelude.{is_some}
-use Rattle.std.proofs.lemmas.Bool.{and_parts, and_from, not-true, not_from_false, true≢false}
-use Rattle.affinity_mask.specs.ProcSet.{has, all_below}
-use Rattle.link_table.specs.State.{State, IsState, task_on, effective_mask}
+use Rattle.std.proofs.Common.{◌≡◌, ℕ, ◌<◌, ◌≤◌, List, [], ◌∷◌, length, Option, Some, None, nat_eq, refl, sym, ◌∙◌, subst, IsTrue, ◌↔◌, arith, eq-eqb, eqb-true}
+use Rattle.affinity_mask.specs.ProcSet.{has}
+use Rattle.link_table.specs.State.{State, IsState, IsIdle, task_on, effective_mask}
 use Rattle.link_table.specs.Chain.{IsPath, IsChainOf, IsBackChain, EndsIdle, EndsOnTask, EntersBy}
 use Rattle.link_table.proofs.Ends.{has_decided, least_chain_exists, least_chain_is_simple, least_back_chain_exists, least_back_chain_is_simple}
 use Rattle.link_table.proofs.Masks.{effective_mask_below}
@@ -66,22 +64,12 @@ module _ (s : State) (t p one : ℕ) (is_one : (q : ℕ) → has one q ≡ nat_e
     task-EndsIn chain h = one-EndsIn chain (subst (λ (x : ℕ). IsChainOf s t chain x) (ok.once h.0 p d h.2 on) h.1)
 
 -- chains that end in the set of the idle processors
-nobody_from : (o : Option ℕ) → is_some o ≡ false → o ≡ None
-nobody_from None e = refl
-nobody_from (Some u) e = absurd (true≢false e)
-
-module _ (s : State) (ok : IsState s) (t idle first linked : ℕ) (is_first : first ≡ all_below s.processors) (is_linked : (q : ℕ) → has linked q ≡ is_some (task_on s q)) (is_idle : (q : ℕ) → has idle q ≡ (has first q && not (has linked q))) where
-  first_online : first ≡ s.online
-  first_online = is_first ∙ sym ok.online
-
+module _ (s : State) (t idle : ℕ) (is_idle : (q : ℕ) → IsTrue (has idle q) ↔ IsIdle s q) where
   pub EndsIn-idle : (chain : List ℕ) → EndsIn s t idle chain → EndsIdle s t chain
-  EndsIn-idle chain h =
-      let parts = and_parts (has first h.0) (not (has linked h.0)) (sym (is_idle h.0) ∙ h.2) in
-      (h.0, h.1, (subst (λ (X : ℕ). IsTrue (has X h.0)) first_online parts.0, nobody_from (task_on s h.0) (sym (is_linked h.0) ∙ not-true (has linked h.0) parts.1)))
+  EndsIn-idle chain h = (h.0, h.1, (is_idle h.0).0 h.2)
 
   pub idle-EndsIn : (chain : List ℕ) → EndsIdle s t chain → EndsIn s t idle chain
-  idle-EndsIn chain h =
-      (h.0, h.1, is_idle h.0 ∙ and_from (has first h.0) (not (has linked h.0)) (subst (λ (X : ℕ). IsTrue (has X h.0)) (sym first_online) (h.2.0)) (not_from_false (has linked h.0) (is_linked h.0 ∙ ap (λ (o : Option ℕ). is_some o) (h.2.1))))
+  idle-EndsIn chain h = (h.0, h.1, (is_idle h.0).1 h.2)
 
 -- ---- back chains
 module _ (s : State) (p start : ℕ) (is_start : (q : ℕ) → has start q ≡ nat_eq q p) where

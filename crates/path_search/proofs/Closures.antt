@@ -2,10 +2,11 @@
 use Rattle.std.proofs.Common.{◌≡◌, ℕ, false, not, ◌&&◌, ◌||◌, List, [], ◌∷◌, ◌++◌, nat_eq, refl, sym, ◌∙◌, subst, inl, inr, ◌↔◌, IsTrue}
 use Rattle.std.proofs.lemmas.Bool.{cases_Bool, or_cases, or_left, or_right, and_parts, and_from, not-true, not_from_false}
 use Rattle.affinity_mask.specs.ProcSet.{has, empty, Within}
+use Rattle.affinity_mask.proofs.Meetings.{no_member}
 use Rattle.link_table.specs.Chain.{IsPath}
 use Rattle.path_search.specs.Paths.{IsPathFrom, LeadsTo}
 use Rattle.path_search.proofs.LeastPaths.{IsPathFrom-push}
-use Rattle.path_search.proofs.Moves.{no_member, added_cases}
+use Rattle.path_search.proofs.Moves.{added_cases}
 
 -- what is found is led to, and the steps from what is done lead to what is found
 pub record IsSearch (Step : ℕ → ℕ → Type 0) (start found done : ℕ) : Type 0 where

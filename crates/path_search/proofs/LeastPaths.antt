@@ -4,13 +4,14 @@ use Rattle.std.specs.Prelude.{slice_get}
 use Rattle.std.proofs.lemmas.Bool.{cases_eq, and_parts, and_from}
 use Rattle.std.proofs.lemmas.Option.{get_or_from_slice_get}
 use Rattle.affinity_mask.specs.ProcSet.{has, empty, IsLeastMember}
+use Rattle.affinity_mask.proofs.Meetings.{no_member}
 use Rattle.link_table.specs.State.{State, IsState}
 use Rattle.link_table.specs.Chain.{IsPath, IsLexicographicallyLess, IsLess, IsLeastSuch}
 use Rattle.link_table.proofs.Paths.{IsPath-push}
 use Rattle.link_table.proofs.Simple.{AllBelow}
 use Rattle.path_search.specs.declared.direction.Direction.{Direction}
 use Rattle.path_search.specs.Paths.{Steps, IsPathFrom, LeadsInto}
-use Rattle.path_search.proofs.Moves.{Steps-below, no_member}
+use Rattle.path_search.proofs.Moves.{Steps-below}
 
 -- ---- lists with one number more at the end
 lexicographic_behind : (xs ys : List ℕ) (p q : ℕ) → IsLexicographicallyLess xs ys → IsLexicographicallyLess (xs ++ p ∷ []) (ys ++ q ∷ [])

@@ -1,10 +1,9 @@
 -- Steps, and the sets of processors before and after them.
-use Rattle.std.proofs.Common.{◌≡◌, ℕ, ◌+◌, ◌<◌, ◌≤◌, ◌||◌, ◌&&◌, Option, Some, None, nat_eq, refl, sym, ap, ◌∙◌, subst, inl, inr, ◌⊎◌, ◌↔◌, IsTrue, arith, eq-eqb, eqb-true}
-use Rattle.std.proofs.lemmas.Bool.{cases_eq, or_cases, or_left, or_right, and_parts, and_from, true≢false, false≢true}
-use Rattle.std.specs.Prelude.{IsNone, IfSome, is_some}
+use Rattle.std.proofs.Common.{◌≡◌, ℕ, ◌+◌, ◌<◌, ◌≤◌, ◌||◌, Option, Some, None, nat_eq, refl, sym, ◌∙◌, subst, inl, inr, ◌⊎◌, ◌↔◌, IsTrue, arith, eq-eqb, eqb-true}
+use Rattle.std.proofs.lemmas.Bool.{cases_eq, or_cases, or_left, or_right}
 use Rattle.std.proofs.lemmas.Option.{same_Some}
-use Rattle.affinity_mask.specs.ProcSet.{has, empty, IsLeastMember}
-use Rattle.affinity_mask.proofs.Sets.{has-zero}
+use Rattle.affinity_mask.specs.ProcSet.{has, empty}
+use Rattle.affinity_mask.proofs.Meetings.{no_member}
 use Rattle.link_table.specs.State.{State, IsState, task_on, effective_mask}
 use Rattle.link_table.specs.Chain.{CanShift}
 use Rattle.link_table.proofs.Linked.{occupied_number}
@@ -17,15 +16,6 @@ use Rattle.path_search.specs.Paths.{Steps, StepsInto}
 pub Steps-below : (s : State) → IsState s → (direction : Direction) (p q : ℕ) → Steps s direction p q → q < s.processors
 Steps-below s ok Onward p q step = effective_mask_below s ok step.0 q step.2
 Steps-below s ok Back p q step = occupied_number s q step.0 ok step.1
-
--- the empty set has no member
-pub no_member : (X p : ℕ) → X ≡ empty → IsTrue (has X p) → ⊥
-no_member X p none h = true≢false (sym h ∙ ap (λ (Y : ℕ). has Y p) none ∙ has-zero p)
-
--- a least common member tells whether there is a common member
-pub common_member : (X Y both : ℕ) → ((q : ℕ) → has both q ≡ (has X q && has Y q)) → (least : Option ℕ) → IsNone least ↔ (both ≡ empty) → IfSome least (IsLeastMember both) → IsTrue (is_some least) ↔ ((p : ℕ) × IsTrue (has X p) × IsTrue (has Y p))
-common_member X Y both is_both None none member = (λ h. absurd (false≢true h), λ common. absurd (no_member both common.0 (none.0 refl) (is_both common.0 ∙ and_from (has X common.0) (has Y common.0) common.1 common.2)))
-common_member X Y both is_both (Some p) none member = (λ h. let parts = and_parts (has X p) (has Y p) (sym (is_both p) ∙ member.0) in (p, parts.0, parts.1), λ common. refl)
 
 -- who can be shifted from a processor follows from its occupant
 pub CanShift-occupant : (s : State) (p q u : ℕ) → task_on s p ≡ Some u → CanShift s p q → IsTrue (has (effective_mask s u) q)
@@ -49,19 +39,19 @@ module _ (X Y p : ℕ) (added : (q : ℕ) → has Y q ≡ (has X q || nat_eq q p
   ]
 
 -- ---- the processors whose occupant can be shifted into a set, found so far among those below p
-pub record IsSource (s : State) (set found p : ℕ) : Type 0 where
+pub record SourcesBelow (s : State) (set found p : ℕ) : Type 0 where
   pub sound : (q : ℕ) → IsTrue (has found q) → StepsInto s Onward q set
   pub complete : (q : ℕ) → q < p → StepsInto s Onward q set → IsTrue (has found q)
 
-pub IsSource-start : (s : State) (set found : ℕ) → found ≡ empty → IsSource s set found 0
-IsSource-start s set found none = record {
+pub SourcesBelow-start : (s : State) (set found : ℕ) → found ≡ empty → SourcesBelow s set found 0
+SourcesBelow-start s set found none = record {
   sound = λ q h. absurd (no_member found q none h);
   complete = λ q lt. absurd (omega arith);
 }
 
-module _ (s : State) (set found p : ℕ) (so_far : IsSource s set found p) where
-  pub IsSource-passed : (StepsInto s Onward p set → ⊥) → IsSource s set found (p + 1)
-  IsSource-passed out = record {
+module _ (s : State) (set found p : ℕ) (so_far : SourcesBelow s set found p) where
+  pub SourcesBelow-passed : (StepsInto s Onward p set → ⊥) → SourcesBelow s set found (p + 1)
+  SourcesBelow-passed out = record {
     sound = so_far.sound;
     complete = λ q lt step. elim (cases_eq q p) [
       | inl e ↦ absurd (out (subst (λ (x : ℕ). StepsInto s Onward x set) e step))
@@ -69,8 +59,8 @@ module _ (s : State) (set found p : ℕ) (so_far : IsSource s set found p) where
     ];
   }
 
-  pub IsSource-added : (more : ℕ) → ((q : ℕ) → has more q ≡ (has found q || nat_eq q p)) → StepsInto s Onward p set → IsSource s set more (p + 1)
-  IsSource-added more added here = record {
+  pub SourcesBelow-added : (more : ℕ) → ((q : ℕ) → has more q ≡ (has found q || nat_eq q p)) → StepsInto s Onward p set → SourcesBelow s set more (p + 1)
+  SourcesBelow-added more added here = record {
     sound = λ q h. elim (added_cases found more p added q h) [
       | inl before ↦ so_far.sound q before
       | inr e ↦ subst (λ (x : ℕ). StepsInto s Onward x set) (sym e) here
@@ -81,23 +71,23 @@ module _ (s : State) (set found p : ℕ) (so_far : IsSource s set found p) where
     ];
   }
 
-  pub IsSource-end : IsState s → s.processors ≤ p → (q : ℕ) → IsTrue (has found q) ↔ StepsInto s Onward q set
-  IsSource-end ok all q = (so_far.sound q, λ step. so_far.complete q (let below = occupied_number s q step.1.0 ok step.1.1 in omega arith) step)
+  pub SourcesBelow-end : IsState s → s.processors ≤ p → (q : ℕ) → IsTrue (has found q) ↔ StepsInto s Onward q set
+  SourcesBelow-end ok all q = (so_far.sound q, λ step. so_far.complete q (let below = occupied_number s q step.1.0 ok step.1.1 in omega arith) step)
 
 -- ---- the processors to which the occupants of a set can be shifted, found so far of those below p
-pub record IsSpread (s : State) (set found p : ℕ) : Type 0 where
+pub record ReachedBelow (s : State) (set found p : ℕ) : Type 0 where
   pub sound : (q : ℕ) → IsTrue (has found q) → StepsInto s Back q set
   pub complete : (r q : ℕ) → r < p → CanShift s r q → IsTrue (has set r) → IsTrue (has found q)
 
-pub IsSpread-start : (s : State) (set found : ℕ) → found ≡ empty → IsSpread s set found 0
-IsSpread-start s set found none = record {
+pub ReachedBelow-start : (s : State) (set found : ℕ) → found ≡ empty → ReachedBelow s set found 0
+ReachedBelow-start s set found none = record {
   sound = λ q h. absurd (no_member found q none h);
   complete = λ r q lt. absurd (omega arith);
 }
 
-module _ (s : State) (set found p : ℕ) (so_far : IsSpread s set found p) where
-  pub IsSpread-passed : ((q : ℕ) → CanShift s p q → IsTrue (has set p) → ⊥) → IsSpread s set found (p + 1)
-  IsSpread-passed out = record {
+module _ (s : State) (set found p : ℕ) (so_far : ReachedBelow s set found p) where
+  pub ReachedBelow-passed : ((q : ℕ) → CanShift s p q → IsTrue (has set p) → ⊥) → ReachedBelow s set found (p + 1)
+  ReachedBelow-passed out = record {
     sound = so_far.sound;
     complete = λ r q lt shift there. elim (cases_eq r p) [
       | inl e ↦ absurd (out q (subst (λ (x : ℕ). CanShift s x q) e shift) (subst (λ (x : ℕ). IsTrue (has set x)) e there))
@@ -105,8 +95,8 @@ module _ (s : State) (set found p : ℕ) (so_far : IsSpread s set found p) where
     ];
   }
 
-  pub IsSpread-added : (u mask more : ℕ) → task_on s p ≡ Some u → mask ≡ effective_mask s u → ((q : ℕ) → has more q ≡ (has found q || has mask q)) → IsTrue (has set p) → IsSpread s set more (p + 1)
-  IsSpread-added u mask more on is added there = record {
+  pub ReachedBelow-added : (u mask more : ℕ) → task_on s p ≡ Some u → mask ≡ effective_mask s u → ((q : ℕ) → has more q ≡ (has found q || has mask q)) → IsTrue (has set p) → ReachedBelow s set more (p + 1)
+  ReachedBelow-added u mask more on is added there = record {
     sound = λ q h. elim (or_cases (has found q) (has mask q) (sym (added q) ∙ h)) [
       | inl before ↦ so_far.sound q before
       | inr new ↦ (p, (u, on, subst (λ (X : ℕ). IsTrue (has X q)) is new), there)
@@ -117,5 +107,5 @@ module _ (s : State) (set found p : ℕ) (so_far : IsSpread s set found p) where
     ];
   }
 
-  pub IsSpread-end : IsState s → s.processors ≤ p → (q : ℕ) → IsTrue (has found q) ↔ StepsInto s Back q set
-  IsSpread-end ok all q = (so_far.sound q, λ step. so_far.complete step.0 q (let below = occupied_number s step.0 step.1.0 ok step.1.1 in omega arith) step.1 step.2)
+  pub ReachedBelow-end : IsState s → s.processors ≤ p → (q : ℕ) → IsTrue (has found q) ↔ StepsInto s Back q set
+  ReachedBelow-end ok all q = (so_far.sound q, λ step. so_far.complete step.0 q (let below = occupied_number s step.0 step.1.0 ok step.1.1 in omega arith) step.1 step.2)

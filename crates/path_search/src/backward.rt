@@ -7,7 +7,6 @@ ghost use Rattle.path_search.specs.Paths.{IsLeastIfAny};
 use crate::direction::Direction;
 use crate::ends::ends_from;
 use crate::least_path::least_path;
-use crate::shifts::allowed;
 use affinity_mask::ProcSet;
 use link_table::{Chain, Links};
 
@@ -28,7 +27,7 @@ pub fn back_chain(links: &Links, w: u32, p: u8) -> Option<Chain>
     requires processor { p < links.now.processors }
     ensures { IsLeastIfAny (EntersBy links.now p w) result }
 {
-    let entries = allowed(links, w);
+    let entries = links.effective(w);
     let start = ProcSet::one(p);
     least_path(links, Direction::Back, start, entries, links.processors())
 }

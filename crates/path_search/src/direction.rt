@@ -4,7 +4,7 @@ ghost use Rattle.affinity_mask.specs.ProcSet.{has};
 ghost use Rattle.link_table.specs.State.{IsState};
 ghost use Rattle.path_search.specs.Paths.{Steps, StepsInto};
 
-use crate::shifts::{allowed, shifts_from, shifts_into};
+use crate::shifts::{shifts_from, shifts_into};
 use affinity_mask::ProcSet;
 use link_table::Links;
 
@@ -27,7 +27,7 @@ impl Direction {
     {
         match self {
             Direction::Onward => match links.on(p) {
-                Some(u) => allowed(links, u),
+                Some(u) => links.effective(u),
                 None => ProcSet::empty(),
             },
             Direction::Back => {

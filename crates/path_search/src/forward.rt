@@ -1,13 +1,12 @@
 //! Chains of a task.
 ghost use Rattle.std.specs.Prelude.{◌≡◌, ℕ, ◌<◌, Some};
-ghost use Rattle.link_table.specs.State.{task_count, task_on};
+ghost use Rattle.link_table.specs.State.{IsState, task_count, task_on};
 ghost use Rattle.link_table.specs.Chain.{IsReach, IsChainOf, EndsIdle, EndsOnTask};
 ghost use Rattle.path_search.specs.Paths.{IsLeastIfAny, EndsIn};
 
 use crate::direction::Direction;
 use crate::ends::ends_from;
 use crate::least_path::least_path;
-use crate::shifts::allowed;
 use affinity_mask::ProcSet;
 use link_table::{Chain, Links};
 
@@ -16,15 +15,16 @@ pub fn reach(links: &Links, t: u32) -> ProcSet
     requires { t < task_count links.now }
     ensures { IsReach links.now t result }
 {
-    ends_from(links, Direction::Onward, allowed(links, t))
+    ends_from(links, Direction::Onward, links.effective(t))
 }
 
 /// The least of all chains of a task that end on an idle processor. `None` just where the task reaches none.
 pub fn chain_to_idle(links: &Links, t: u32) -> Option<Chain>
     requires { t < task_count links.now }
-    ensures { IsLeastIfAny (EndsIdle links.now t) result }
+    ensures least { IsLeastIfAny (EndsIdle links.now t) result }
+    ensures valid { IsState links.now }
 {
-    let idle = ProcSet::first(links.processors()).minus(&links.linked());
+    let idle = links.idle();
     chain_into(links, t, idle)
 }
 
@@ -40,11 +40,11 @@ pub fn chain_to(links: &Links, t: u32, p: u8) -> Option<Chain>
     chain_into(links, t, ProcSet::one(p))
 }
 
-// The least of all chains of a task that end in a set.
+/// The least of all chains of a task that end in a set.
 fn chain_into(links: &Links, t: u32, ends: ProcSet) -> Option<Chain>
     requires { t < task_count links.now }
     ensures { IsLeastIfAny (EndsIn links.now t ends) result }
 {
-    let start = allowed(links, t);
+    let start = links.effective(t);
     least_path(links, Direction::Onward, start, ends, links.processors())
 }

@@ -169,19 +169,19 @@ static ROWS: [Row; 9] = [
     },
 ];
 
-// An absent task becomes ready, and is linked to a processor of its mask.
+/// An absent task becomes ready, and is linked to a processor of its mask.
 fn link(rt: &impl Abort, links: &mut Links, t: u32, p: u8) {
     assert!(rt; p < 64 && t < links.len());
     assert!(rt; !links.is_ready(t));
     links.make_ready(t);
-    let allowed = links.mask(t).has(p);
+    let allowed = links.effective(t).has(p);
     assert!(rt; allowed);
     let mut chain = Chain::new();
     chain.push(p);
     let _ = links.shift(t, &chain);
 }
 
-// The set of these processors.
+/// The set of these processors.
 fn set_of(rt: &impl Abort, processors: &[u8]) -> ProcSet {
     let mut set = ProcSet::empty();
     for &p in processors {
@@ -191,7 +191,7 @@ fn set_of(rt: &impl Abort, processors: &[u8]) -> ProcSet {
     set
 }
 
-// The chain of these processors, if any are given.
+/// The chain of these processors, if any are given.
 fn chain_of(rt: &impl Abort, processors: Option<&[u8]>) -> Option<Chain> {
     let mut chain = Chain::new();
     for &p in processors? {
@@ -201,7 +201,7 @@ fn chain_of(rt: &impl Abort, processors: Option<&[u8]>) -> Option<Chain> {
     Some(chain)
 }
 
-// The set of the tasks of a row, with their numbers as priorities.
+/// The set of the tasks of a row, with their numbers as priorities.
 fn tasks_of(rt: &impl Abort, alloc: Global, row: &Row) -> Result<TaskSet, Fail> {
     assert!(rt; 0 < row.processors && row.processors <= 64);
     let mut set = TaskSet::new(alloc, row.processors)?;
@@ -213,7 +213,7 @@ fn tasks_of(rt: &impl Abort, alloc: Global, row: &Row) -> Result<TaskSet, Fail> 
     Ok(set)
 }
 
-// The state of a row.
+/// The state of a row.
 fn state_of(rt: &impl Abort, alloc: Global, row: &Row) -> Result<Links, Fail> {
     let set = tasks_of(rt, alloc, row)?;
     let mut links = Links::new(alloc, &set)?;
@@ -242,7 +242,7 @@ fn searches_by_calls(rt: HostRuntime) -> Result<(), Fail> {
     }
     Ok(())
 }
-// Each processor but the last is occupied, and its task may move on by one.
+/// Each processor but the last is occupied, and its task may move on by one.
 #[test]
 fn the_longest_chain(rt: HostRuntime) -> Result<(), Fail> {
     let mut set = TaskSet::new(rt.alloc(), 64)?;

@@ -6,17 +6,17 @@ use Rattle.std.proofs.lemmas.Bool.{cases_eq, true≢false, or_cases, or_left, or
 use Rattle.std.proofs.lemmas.Option.{same_Some}
 use Rattle.affinity_mask.specs.ProcSet.{empty}
 use Rattle.affinity_mask.proofs.Sets.{has-zero}
-use Rattle.link_table.specs.State.{State, IsState, IsWaiting, task_count, is_ready, is_linked, task_on, state_with_ready, IsMoreUrgent}
+use Rattle.link_table.specs.State.{State, IsState, HasSameTasks, HasSameMasks, IsWaiting, task_count, is_ready, is_linked, task_on, state_with_ready, IsMoreUrgent}
 use Rattle.link_table.specs.Chain.{state_after_shift}
 use Rattle.link_table.specs.Certificate.{IsCertificate}
 use Rattle.link_table.proofs.Linked.{place_in, task_on-linked, is_linked-from_on, not_on}
 use Rattle.link_table.proofs.Shifts.{occupant_from, task_on-state_after_shift}
 use Rattle.link_table.proofs.Simple.{Avoids-none}
-use Rattle.placement_laws.specs.Admission.{HasSameTasks, Admitted}
-use Rattle.reach_certificate.specs.Certified.{HasCertificates}
+use Rattle.placement_laws.specs.Admission.{Admitted}
+use Rattle.certificate_laws.specs.Certified.{HasCertificates}
 use Rattle.placement_laws.specs.Search.{IsWay, IsFull}
-use Rattle.reach_certificate.proofs.KeptByArrivals.{others_have}
-use Rattle.reach_certificate.proofs.KeptByShifts.{linked_or_out, kept_by_placing}
+use Rattle.certificate_laws.proofs.KeptByArrivals.{others_have}
+use Rattle.certificate_laws.proofs.KeptByShifts.{linked_or_out, kept_by_placing}
 
 -- two answers that follow from one another are the same
 pub same_answer : (a b : Bool) → (a ≡ true → b ≡ true) → (b ≡ true → a ≡ true) → a ≡ b
@@ -36,7 +36,10 @@ module _ (old : State) (t : ℕ) (number : t < task_count old) (absent : is_read
   ]
 
   same_tasks : HasSameTasks old s
-  same_tasks = record { processors = refl; priorities = refl; masks = refl; online = refl }
+  same_tasks = record { processors = refl; priorities = refl }
+
+  same_masks : HasSameMasks old s
+  same_masks = record { masks = refl; online = refl }
 
   -- a linked task is more urgent than t
   linked_first : (p u : ℕ) → task_on s p ≡ Some u → IsMoreUrgent s u t
@@ -46,6 +49,7 @@ module _ (old : State) (t : ℕ) (number : t < task_count old) (absent : is_read
   pub Admitted-full : (X : ℕ) → IsFull s t empty X → Admitted old t false s
   Admitted-full X full = record {
     tasks = same_tasks;
+    masks = same_masks;
     ready = ready_again;
     linked = λ u. sym (or-false (is_linked old u));
     certificates = λ w waiting. elim (cases_eq w t) [
@@ -90,7 +94,8 @@ module _ (old : State) (t : ℕ) (number : t < task_count old) (absent : is_read
 
     pub Admitted-way : Admitted old t true new
     Admitted-way = record {
-      tasks = record { processors = refl; priorities = refl; masks = refl; online = refl };
+      tasks = record { processors = refl; priorities = refl };
+      masks = record { masks = refl; online = refl };
       ready = ready_again;
       linked = linked_either;
       certificates = kept_by_placing s ok t waits chain end way.ends_idle.1 way.simple (others_have old certificates t) way.ends_idle.2.1;

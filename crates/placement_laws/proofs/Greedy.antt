@@ -9,27 +9,25 @@ use Rattle.std.proofs.lemmas.List.Folds.{list_any-append, list_any_at}
 use Rattle.std.proofs.lemmas.List.Quantifiers.{all_pairs_push}
 use Rattle.affinity_mask.specs.ProcSet.{has}
 use Rattle.task_set.specs.TaskSet.{TaskData, SetData}
-use Rattle.link_table.specs.State.{State, IsState, task_count, priority_of, effective_mask, is_ready, is_linked, is_task, start_of, IsMoreUrgent}
+use Rattle.link_table.specs.State.{State, IsState, HasSameTasks, HasSameMasks, task_count, priority_of, effective_mask, is_ready, is_linked, is_task, start_of, IsMoreUrgent}
 use Rattle.link_table.specs.Placement.{TaskTest, IsSubset, IsBest}
 use Rattle.link_table.proofs.Linked.{place_in, task_on-linked}
-use Rattle.placement_laws.specs.Admission.{is_among, IsMostUrgentAbsent, HasSameTasks, Admitted}
-use Rattle.reach_certificate.specs.Certified.{HasCertificates}
+use Rattle.link_table.proofs.SameTasks.{same_count}
+use Rattle.placement_laws.specs.Admission.{is_among, IsMostUrgentAbsent, Admitted}
+use Rattle.certificate_laws.specs.Certified.{HasCertificates}
 use Rattle.placement_laws.proofs.Admissions.{same_answer}
-use Rattle.reach_certificate.proofs.Best.{linked_is_best}
-use Rattle.reach_certificate.proofs.Counts.{count_below, count_below-one_more}
-use Rattle.reach_certificate.proofs.Kept.{none_ready, HasCertificates-start}
+use Rattle.certificate_laws.proofs.Best.{linked_is_best}
+use Rattle.certificate_laws.proofs.Counts.{count_below, count_below-one_more}
+use Rattle.certificate_laws.proofs.Kept.{none_ready, HasCertificates-start}
 use Rattle.placement_laws.proofs.MostUrgent.{among_place}
 
 -- ---- states with the same tasks have the same best sets
-module _ (old new : State) (same : HasSameTasks old new) where
+priority_of-same : (old new : State) → HasSameTasks old new → (t : ℕ) → priority_of new t ≡ priority_of old t
+priority_of-same old new same t = rw same.priorities refl
+
+module _ (old new : State) (same : HasSameTasks old new) (same_masks : HasSameMasks old new) where
   pub effective_mask-same : (t : ℕ) → effective_mask new t ≡ effective_mask old t
-  effective_mask-same t = rw (same.masks, same.online) refl
-
-  pub priority_of-same : (t : ℕ) → priority_of new t ≡ priority_of old t
-  priority_of-same t = rw same.priorities refl
-
-  pub task_count-same : task_count new ≡ task_count old
-  task_count-same = ap length same.priorities
+  effective_mask-same t = rw (same_masks.masks, same_masks.online) refl
 
   pub IsBest-same : (R R' best best' : TaskTest) → ((t : ℕ) → R t ≡ R' t) → ((t : ℕ) → best t ≡ best' t) → IsBest new R best → IsBest old R' best'
   IsBest-same R R' best best' same_R same_best is_best = record {
@@ -52,13 +50,14 @@ module _ (old new : State) (same : HasSameTasks old new) where
           task = better.task;
           in_first = better.in_first;
           not_in_second = same_best better.task ∙ better.not_in_second;
-          most_urgent = λ u differ. rw (priority_of-same better.task, priority_of-same u) (better.most_urgent u (λ e. differ (e ∙ sym (same_best u))));
+          most_urgent = λ u differ. rw (priority_of-same old new same better.task, priority_of-same old new same u) (better.most_urgent u (λ e. differ (e ∙ sym (same_best u))));
         };
   }
 
 -- the listed tasks are admitted up to some priority, and the list `best` has the linked ones
 pub record IsGreedy (set : SetData) (listed : List ℕ) (s : State) (best : List ℕ) : Type 0 where
   pub tasks : HasSameTasks (start_of set) s
+  pub masks : HasSameMasks (start_of set) s
   pub within : (u : ℕ) → is_ready s u ≡ true → is_among listed u ≡ true
   pub ahead : (u v : ℕ) → is_ready s u ≡ true → is_among listed v ≡ true → is_ready s v ≡ false → IsMoreUrgent s u v
   pub linked : (u : ℕ) → is_among best u ≡ is_linked s u
@@ -72,7 +71,8 @@ none_linked (suc n) u = none_linked n u
 -- before anything was admitted
 pub IsGreedy-start : (set : SetData) (listed : List ℕ) → IsGreedy set listed (start_of set) []
 IsGreedy-start set listed = record {
-  tasks = record { processors = refl; priorities = refl; masks = refl; online = refl };
+  tasks = record { processors = refl; priorities = refl };
+  masks = record { masks = refl; online = refl };
   within = λ u ready. absurd (true≢false (sym ready ∙ none_ready (length set.tasks) u));
   ahead = λ u v ready among absent. absurd (true≢false (sym ready ∙ none_ready (length set.tasks) u));
   linked = λ u. sym (none_linked set.processors u);
@@ -85,12 +85,12 @@ module _ (set : SetData) (listed : List ℕ) (s : State) (ok : IsState s) (best 
   listed_number t among =
       let place = among_place listed t among in
       let below : t < length set.tasks = rw place.2 at (numbers place.0 0 place.1) in
-      rw (task_count-same (start_of set) s greedy.tasks, length-map set.tasks (λ (x : TaskData). x.priority)) below
+      rw (same_count (start_of set) s greedy.tasks, length-map set.tasks (λ (x : TaskData). x.priority)) below
 
   -- all listed tasks were admitted
   pub IsBest-greedy : IsSubset (is_among listed) (is_ready s) → IsBest (start_of set) (is_among listed) (is_among best)
   IsBest-greedy all =
-      IsBest-same (start_of set) s greedy.tasks (is_ready s) (is_among listed) (is_linked s) (is_among best) (λ t. same_answer _ _ (greedy.within t) (all t)) (λ t. sym (greedy.linked t))
+      IsBest-same (start_of set) s greedy.tasks greedy.masks (is_ready s) (is_among listed) (is_linked s) (is_among best) (λ t. same_answer _ _ (greedy.within t) (all t)) (λ t. sym (greedy.linked t))
       (linked_is_best s ok greedy.certificates)
 
   pub order_at_start : AllPairs (IsMoreUrgent (start_of set)) best
@@ -122,8 +122,12 @@ module _ (set : SetData) (listed : List ℕ) (s : State) (ok : IsState s) (best 
       tasks_then = record {
         processors = admitted.tasks.processors ∙ greedy.tasks.processors;
         priorities = admitted.tasks.priorities ∙ greedy.tasks.priorities;
-        masks = admitted.tasks.masks ∙ greedy.tasks.masks;
-        online = admitted.tasks.online ∙ greedy.tasks.online;
+      }
+
+      masks_then : HasSameMasks (start_of set) new
+      masks_then = record {
+        masks = admitted.masks.masks ∙ greedy.masks.masks;
+        online = admitted.masks.online ∙ greedy.masks.online;
       }
 
       within_then : (u : ℕ) → is_ready new u ≡ true → is_among listed u ≡ true
@@ -158,12 +162,13 @@ module _ (set : SetData) (listed : List ℕ) (s : State) (ok : IsState s) (best 
       absent_falls =
           let fewer = count_below-one_more (λ u. not (is_ready s u)) (λ u. not (is_ready new u)) t (task_count s) next_number (rw next.absent refl) (rw (admitted.ready t, or_right (is_ready s t) (nat_eq t t) (eq-eqb t t refl)) refl)
           (λ u lt ne. rw (admitted.ready u, ne_eqb u t ne) (ap not (sym (or-false (is_ready s u))))) in
-          rw (task_count-same s new admitted.tasks) (omega arith)
+          rw (same_count s new admitted.tasks) (omega arith)
 
     -- t was left out
     pub IsGreedy-left_out : (new : State) → Admitted s t false new → IsGreedy set listed new best
     IsGreedy-left_out new admitted = record {
       tasks = tasks_then false new admitted;
+      masks = masks_then false new admitted;
       within = within_then false new admitted;
       ahead = ahead_then false new admitted;
       linked = λ u. greedy.linked u ∙ sym (admitted.linked u ∙ or-false (is_linked s u));
@@ -175,6 +180,7 @@ module _ (set : SetData) (listed : List ℕ) (s : State) (ok : IsState s) (best 
     pub IsGreedy-linked : (new : State) → Admitted s t true new → IsGreedy set listed new (best ++ t ∷ [])
     IsGreedy-linked new admitted = record {
       tasks = tasks_then true new admitted;
+      masks = masks_then true new admitted;
       within = within_then true new admitted;
       ahead = ahead_then true new admitted;
       linked = λ u. list_any-append (λ x. nat_eq x u) best (t ∷ []) ∙ sym (admitted.linked u ∙ rw (← greedy.linked u) (ap (λ (b : Bool). is_among best u || b) (flipped u)));

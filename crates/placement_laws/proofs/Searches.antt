@@ -1,16 +1,15 @@
 -- One turn of the search for an idle processor.
 use Rattle.std.proofs.Common.{◌≡◌, ℕ, suc, ◌+◌, ◌-◌, ◌<◌, ◌≤◌, true, false, ◌||◌, List, [], ◌∷◌, length, get_or, reverse, nat_eq, Some, None, refl, sym, ◌∙◌, inl, inr, ◌⊎◌, IsTrue, arith, eq-eqb, ne_eqb, eqb-true}
 use Rattle.std.proofs.Math.Bool.{or-false}
-use Rattle.std.proofs.lemmas.Bool.{cases_Bool, cases_eq, true≢false, or_cases, or_left, or_right, lt-ltb}
+use Rattle.std.proofs.lemmas.Bool.{cases_Bool, cases_eq, true≢false, or_cases, or_left, or_right}
 use Rattle.std.proofs.lemmas.List.{length-reverse}
 use Rattle.std.proofs.lemmas.List.Elements.{All-cons}
 use Rattle.affinity_mask.specs.ProcSet.{has, members, Within}
-use Rattle.affinity_mask.proofs.Sets.{has-all_below}
-use Rattle.link_table.specs.State.{State, IsState, task_on, mask_of, effective_mask}
-use Rattle.link_table.proofs.Masks.{effective_mask-state, effective_mask_below}
+use Rattle.link_table.specs.State.{State, IsState, task_on, effective_mask}
+use Rattle.link_table.proofs.Masks.{effective_mask_online, effective_mask_below}
 use Rattle.link_table.proofs.Simple.{IsSimple-cons}
 use Rattle.placement_laws.specs.Search.{IsWay, IsFull}
-use Rattle.reach_certificate.proofs.Counts.{count_below-bound, count_below-one_more, count_below-injection}
+use Rattle.certificate_laws.proofs.Counts.{count_below-bound, count_below-one_more, count_below-injection}
 
 -- how many processors a set has
 abbrev pub size_of : ℕ → ℕ
@@ -59,12 +58,12 @@ not_within X Y p within out = elim (cases_Bool (has X p)) [
 -- what the turns before p have seen
 pub record IsSeen (s : State) (t visited seen p : ℕ) : Type 0 where
   pub kept : Within visited seen
-  pub mask : (q : ℕ) → q < p → IsTrue (has (mask_of s t) q) → IsTrue (has seen q)
+  pub mask : (q : ℕ) → q < p → IsTrue (has (effective_mask s t) q) → IsTrue (has seen q)
   pub occupied : (q : ℕ) → IsTrue (has seen q) → IsTrue (has visited q) ⊎ ((u : ℕ) × (task_on s q ≡ Some u) × Within (effective_mask s u) seen)
 
 module _ (s : State) (ok : IsState s) (t visited seen p : ℕ) (so_far : IsSeen s t visited seen p) where
   -- a processor that is passed by
-  pub IsSeen-passed : (IsTrue (has (mask_of s t) p) → IsTrue (has seen p)) → IsSeen s t visited seen (p + 1)
+  pub IsSeen-passed : (IsTrue (has (effective_mask s t) p) → IsTrue (has seen p)) → IsSeen s t visited seen (p + 1)
   IsSeen-passed here = record {
     kept = so_far.kept;
     mask = λ q lt h. elim (cases_eq q p) [
@@ -78,14 +77,11 @@ module _ (s : State) (ok : IsState s) (t visited seen p : ℕ) (so_far : IsSeen 
   pub IsFull-seen : s.processors ≤ p → IsFull s t visited seen
   IsFull-seen all = record {
     kept = so_far.kept;
-    mask = λ q h. let below = effective_mask_below s ok t q h in so_far.mask q (omega arith) (rw (effective_mask-state s ok t) at h);
+    mask = λ q h. let below = effective_mask_below s ok t q h in so_far.mask q (omega arith) h;
     occupied = so_far.occupied;
   }
 
-  module _ (below : p < s.processors) (there : has (mask_of s t) p ≡ true) (fresh : has seen p ≡ false) where
-    in_mask : IsTrue (has (effective_mask s t) p)
-    in_mask = rw (effective_mask-state s ok t) there
-
+  module _ (below : p < s.processors) (in_mask : has (effective_mask s t) p ≡ true) (fresh : has seen p ≡ false) where
     below_64 : p < 64
     below_64 = let most = ok.processors in omega arith
 
@@ -95,7 +91,7 @@ module _ (s : State) (ok : IsState s) (t visited seen p : ℕ) (so_far : IsSeen 
     -- nobody is there: the chain ends
     pub IsWay-idle : task_on s p ≡ None → IsWay s t visited (p ∷ [])
     IsWay-idle nobody = record {
-      ends_idle = (p, (in_mask, refl), (rw ok.online (has-all_below s.processors p ∙ lt-ltb p s.processors below), nobody));
+      ends_idle = (p, (in_mask, refl), (effective_mask_online s t p in_mask, nobody));
       simple = λ i j d lt fits. absurd (omega arith);
       fresh = All-cons (λ q. has visited q ≡ false) p [] not_visited (λ k d lt. absurd (omega arith));
       fits = (let room = size_room visited p below_64 not_visited in omega arith);

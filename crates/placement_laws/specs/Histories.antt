@@ -1,12 +1,10 @@
--- The best set over histories. What a reader must believe: nothing beyond what it means that the replies of a history
--- pass, that each waiting task has a certificate after every entry, and that the linked tasks are the best set
--- throughout; who gave the replies does not matter.
+-- The best set over histories whose replies pass, whoever gave them.
 use Rattle.std.specs.Prelude.{List}
 use Rattle.task_set.specs.TaskSet.{SetData, IsTaskSet}
 use Rattle.link_table.specs.declared.reply.Entry.{Entry}
 use Rattle.link_table.specs.History.{IsBestThroughout}
-use Rattle.reach_certificate.specs.Certified.{IsCertifiedThroughout}
-use Rattle.reach_certificate.specs.Passing.{IsPassing}
+use Rattle.certificate_laws.specs.Certified.{IsCertifiedThroughout}
+use Rattle.certificate_laws.specs.Passing.{IsPassing}
 
 -- after every entry of a history whose replies pass each waiting task has a certificate
 abbrev pub PassingHistoryHasCertificates : Type 0

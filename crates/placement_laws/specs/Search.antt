@@ -1,7 +1,7 @@
--- The search for an idle processor. What a reader must believe: a way of a task past some visited processors is a
--- chain of the task that ends on an idle processor, comes to no processor twice, and to none of the visited ones. There
--- is none where the visited processors can be completed to a set from which no shift leads out: the task may run only
--- within it, each processor of it that was not visited is occupied, and its occupant may run only within it as well.
+-- The search for an idle processor. A way of a task past some visited processors is a chain of the task that ends on an
+-- idle processor, visits no processor twice, and none of the visited ones. There is none where the visited processors
+-- can be completed to a set from which no shift leads out: the task may run only within it, each processor of it that
+-- was not visited is occupied, and its occupant may run only within it as well.
 use Rattle.std.specs.Prelude.{◌≡◌, ℕ, ◌+◌, ◌≤◌, false, List, length, reverse, IsTrue, ◌⊎◌, Some, All}
 use Rattle.affinity_mask.specs.ProcSet.{has, members, Within}
 use Rattle.link_table.specs.State.{State, effective_mask, task_on}

@@ -1,64 +1,15 @@
 //! The best set of tasks, found by admitting one task after the other.
-ghost use Rattle.std.specs.Prelude.{◌≡◌, ℕ, ◌<◌, ◌≤◌, ◌⊎◌, Some, true, false, length, All, AllPairs, IfOk, IfSome, MatchOption};
-ghost use Rattle.std.specs.Option.{ForSome};
-ghost use Rattle.link_table.specs.State.{IsState, task_count, priority_of, is_ready, start_of, IsMoreUrgent};
+ghost use Rattle.std.specs.Prelude.{◌≡◌, ℕ, ◌<◌, true, false, length, All, AllPairs, IfOk, MatchOption};
+ghost use Rattle.link_table.specs.State.{IsState, task_count, is_ready, start_of, IsMoreUrgent};
 ghost use Rattle.link_table.specs.Placement.{IsSubset, IsBest};
 ghost use Rattle.placement_laws.specs.Admission.{is_among, IsMostUrgentAbsent, Admitted};
-ghost use Rattle.reach_certificate.specs.Certified.{HasCertificates};
+ghost use Rattle.certificate_laws.specs.Certified.{HasCertificates};
 
 use crate::search::{Found, find_way};
 use affinity_mask::{OutOfMemory, ProcSet};
 use link_table::Links;
 use std::alloc::Global;
 use task_set::TaskSet;
-
-// The more urgent one of a task and of the one found before, if there is one.
-fn more_urgent(links: &Links, found: Option<u32>, t: u32) -> u32
-    requires number { t < task_count links.now }
-    requires found_number { ForSome found (λ u. u < task_count links.now) }
-    ensures either { (result ≡ t) ⊎ (found ≡ Some result) }
-    ensures first { priority_of links.now result ≤ priority_of links.now t }
-    ensures first_of_found { IfSome found (λ u. priority_of links.now result ≤ priority_of links.now u) }
-{
-    match found {
-        Some(u) if links.priority(u) < links.priority(t) => u,
-        _ => t,
-    }
-}
-
-// Of the tasks of the list that are absent, the most urgent one.
-fn most_urgent_absent(links: &Links, tasks: &[u32]) -> Option<u32>
-    requires { All (λ t. t < task_count links.now) tasks.now }
-    ensures { MatchOption result (IsSubset (is_among tasks.now) (is_ready links.now)) (IsMostUrgentAbsent links.now tasks.now) }
-{
-    let mut found = None;
-    for &t in tasks {
-        if !links.is_ready(t) {
-            found = Some(more_urgent(links, found, t));
-        }
-    }
-    found
-}
-
-// Makes an absent task ready that is less urgent than every ready one, and shifts it along a chain to an idle
-// processor where it has one. Answers whether it was linked.
-fn admit(links: &mut Links, t: u32) -> bool
-    requires number { t < task_count links.old }
-    requires absent { is_ready links.old t ≡ false }
-    requires least_urgent { (u : ℕ) → is_ready links.old u ≡ true → IsMoreUrgent links.old u t }
-    requires certificates { HasCertificates links.old }
-    ensures admitted { Admitted links.old t result links.new }
-    ensures valid { IsState links.new }
-{
-    links.make_ready(t);
-    match find_way(links, t, ProcSet::empty()) {
-        Found::Way(back) => {
-            let _ = links.shift(t, &back.reversed());
-            true
-        }
-        Found::Full(_) => false,
-    }
-}
 
 /// The best placeable set of these tasks over the masks of the set, most urgent first. The list may be empty, and in
 /// any order. This is the plain, slow program beside the definition, for tests: it admits the tasks by urgency, and
@@ -77,4 +28,39 @@ pub fn best_set(alloc: Global, set: &TaskSet, ready: &[u32]) -> Result<Vec<u32>,
         best.push(t)?;
     }
     Ok(best)
+}
+
+/// Of the tasks of the list that are absent, the most urgent one.
+fn most_urgent_absent(links: &Links, tasks: &[u32]) -> Option<u32>
+    requires { All (λ t. t < task_count links.now) tasks.now }
+    ensures { MatchOption result (IsSubset (is_among tasks.now) (is_ready links.now))
+        (IsMostUrgentAbsent links.now tasks.now) }
+{
+    let mut found = None;
+    for &t in tasks {
+        if !links.is_ready(t) {
+            found = Some(links.more_urgent(found, t));
+        }
+    }
+    found
+}
+
+/// Makes an absent task ready that is less urgent than every ready one, and shifts it along a chain to an idle
+/// processor where it has one. Answers whether it was linked.
+fn admit(links: &mut Links, t: u32) -> bool
+    requires number { t < task_count links.old }
+    requires absent { is_ready links.old t ≡ false }
+    requires least_urgent { (u : ℕ) → is_ready links.old u ≡ true → IsMoreUrgent links.old u t }
+    requires certificates { HasCertificates links.old }
+    ensures admitted { Admitted links.old t result links.new }
+    ensures valid { IsState links.new }
+{
+    links.make_ready(t);
+    match find_way(links, t, ProcSet::empty()) {
+        Found::Way(back) => {
+            let _ = links.shift(t, &back.reversed());
+            true
+        }
+        Found::Full(_) => false,
+    }
 }

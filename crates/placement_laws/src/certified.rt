@@ -1,20 +1,12 @@
 //! The test of a certificate for each waiting task.
-ghost use Rattle.std.specs.Prelude.{◌≡◌, ◌<◌, ◌↔◌, length, IsTrue};
-ghost use Rattle.link_table.specs.State.{task_count, IsWaiting};
-ghost use Rattle.reach_certificate.specs.Certified.{IsCertifiedBy};
-ghost use Rattle.reach_certificate.specs.Laws.{LinkedIsBest, LinkedIsLargest, LinkedIsAsUrgent};
+ghost use Rattle.std.specs.Prelude.{◌≡◌, ◌↔◌, length, IsTrue};
+ghost use Rattle.link_table.specs.State.{task_count};
+ghost use Rattle.certificate_laws.specs.Certified.{IsCertifiedBy};
+ghost use Rattle.certificate_laws.specs.Laws.{LinkedIsBest, LinkedIsLargest, LinkedIsAsUrgent};
 
 use affinity_mask::ProcSet;
 use link_table::Links;
 use reach_certificate::is_certificate;
-
-// Whether a task waits: it is ready, and linked to no processor.
-fn waits(links: &Links, t: u32) -> bool
-    requires { t < task_count links.now }
-    ensures { IsTrue result ↔ IsWaiting links.now t }
-{
-    links.is_ready(t) && links.of(t).is_none()
-}
 
 /// Whether each waiting task is certified by the set at its number. The sets of the other tasks are not looked at.
 pub fn all_certified(links: &Links, sets: &[ProcSet]) -> bool
@@ -25,7 +17,7 @@ pub fn all_certified(links: &Links, sets: &[ProcSet]) -> bool
     ensures rank_by_rank { IsTrue result → LinkedIsAsUrgent links.now }
 {
     for t in 0..links.len() {
-        if waits(links, t) && !is_certificate(links, t, sets[t as usize]) {
+        if links.is_waiting(t) && !is_certificate(links, t, sets[t as usize]) {
             return false;
         }
     }

@@ -1,6 +1,6 @@
 //! What holds of each state whose waiting tasks all have a certificate, and of each history whose replies pass. Each law
 //! is the contract of a function that does nothing: a caller in a proof gets the law by its clause.
-ghost use Rattle.reach_certificate.specs.Laws.{HoldsWhereCertified, LinkedIsBest, LinkedIsOnlyBest, LinkedIsLargest, LinkedKeepsUp, LinkedIsAsUrgent};
+ghost use Rattle.certificate_laws.specs.Laws.{HoldsWhereCertified, LinkedIsBest, LinkedIsOnlyBest, LinkedIsLargest, LinkedKeepsUp, LinkedIsAsUrgent};
 ghost use Rattle.placement_laws.specs.Histories.{PassingHistoryHasCertificates, PassingHistoryIsBest};
 
 /// The linked tasks are the best placeable set of the ready tasks, and the only best one.

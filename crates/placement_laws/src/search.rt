@@ -9,7 +9,7 @@ use link_table::{Chain, Links};
 /// What a search found.
 #[derive(Drop)]
 pub enum Found {
-    /// The processors of a chain to an idle processor, from its end to its front.
+    /// The processors of a chain to an idle processor, from its end to its beginning.
     Way(Chain),
 
     /// The visited processors, and occupied ones, from which no shift leads out.
@@ -23,7 +23,7 @@ pub fn find_way(links: &Links, t: u32, visited: ProcSet) -> Found
 {
     let mut seen = visited;
     for p in 0..links.processors() {
-        if !links.mask(t).has(p) || seen.has(p) {
+        if !links.effective(t).has(p) || seen.has(p) {
             continue;
         }
         seen = seen.with(p);

@@ -10,18 +10,18 @@ use std::process::Abort;
 use std::test::Fail;
 use task_set::TaskSet;
 
-// An absent task becomes ready, and is linked to a processor of its mask.
+/// An absent task becomes ready, and is linked to a processor of its mask.
 fn link(rt: &impl Abort, links: &mut Links, t: u32, p: u8) {
     assert!(rt; p < 64);
     wait(rt, links, t);
-    let allowed = links.mask(t).has(p);
+    let allowed = links.effective(t).has(p);
     assert!(rt; allowed);
     let mut chain = Chain::new();
     chain.push(p);
     let _ = links.shift(t, &chain);
 }
 
-// An absent task becomes ready, and waits.
+/// An absent task becomes ready, and waits.
 fn wait(rt: &impl Abort, links: &mut Links, t: u32)
     ensures number { t < task_count links.new }
     ensures waits { IsWaiting links.new t }
@@ -32,7 +32,7 @@ fn wait(rt: &impl Abort, links: &mut Links, t: u32)
     links.make_ready(t);
 }
 
-// Whether each number of the list is below n.
+/// Whether each number of the list is below n.
 fn all_below(tasks: &[u32], n: u32) -> bool
     ensures { IsTrue result → All (λ t. t < n) tasks.now }
 {

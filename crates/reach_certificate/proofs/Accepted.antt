@@ -1,45 +1,21 @@
 -- A checker that follows an entry which passes is a checker again.
-use Rattle.std.proofs.Common.{◌≡◌, ℕ, ◌<◌, List, [], ◌∷◌, get_or, Option, Some, None, refl, sym, ap, ◌∙◌, subst, arith}
+use Rattle.std.proofs.Common.{◌≡◌, ℕ, ◌<◌, List, [], ◌∷◌, get_or, Option, Some, refl, sym, ap, ◌∙◌, subst, arith}
 use Rattle.task_set.specs.Context.{context_after_take, context_after_run}
 use Rattle.task_set.specs.declared.context.Context.{Context}
 use Rattle.task_set.specs.declared.event.Event.{Event}
-use Rattle.link_table.specs.declared.reply.Reply.{Reply}
-use Rattle.link_table.specs.declared.reply.Reply.TheVariants.{Placed, Displaced, Waits, Freed, Left, Ticked, AlreadyReady, NotReady}
 use Rattle.link_table.specs.declared.reply.Entry.{Entry}
 use Rattle.link_table.specs.State.{State, IsState, task_count, task_on}
 use Rattle.link_table.specs.Dispatch.{taken_between, places_of, tick_runs}
-use Rattle.link_table.specs.History.{event_task, state_after_reply, effect_of}
+use Rattle.link_table.specs.History.{effect_of}
 use Rattle.link_table.proofs.Linked.{linked_number}
-use Rattle.reach_certificate.specs.Certified.{HasCertificates}
+use Rattle.link_table.proofs.SameTasks.{same_tasks-effect, same_count}
+use Rattle.certificate_laws.specs.Certified.{HasCertificates}
 use Rattle.reach_certificate.specs.Checker.{CheckerData, IsChecker}
 use Rattle.reach_certificate.specs.Contexts.{context_after_takes, context_after_all_runs, context_after_entry, EachBecomes, WereOn}
-use Rattle.reach_certificate.specs.Laws.{LinkedIsBest}
-use Rattle.reach_certificate.specs.Passing.{Passes}
-use Rattle.reach_certificate.proofs.Best.{linked_is_best}
-use Rattle.reach_certificate.proofs.Passed.{passing_keeps_certificates, passing_keeps_state}
-
--- ---- tasks and processors are the same after a reply
-pub tasks_stay : (s : State) (t : ℕ) (reply : Reply) → task_count (state_after_reply s t reply) ≡ task_count s
-tasks_stay s t (Placed chain) = refl
-tasks_stay s t (Displaced chain out reach) = refl
-tasks_stay s t (Waits reach) = refl
-tasks_stay s t (Freed None chain back) = refl
-tasks_stay s t (Freed (Some w) chain back) = refl
-tasks_stay s t Left = refl
-tasks_stay s t Ticked = refl
-tasks_stay s t AlreadyReady = refl
-tasks_stay s t NotReady = refl
-
-pub processors_stay : (s : State) (t : ℕ) (reply : Reply) → (state_after_reply s t reply).processors ≡ s.processors
-processors_stay s t (Placed chain) = refl
-processors_stay s t (Displaced chain out reach) = refl
-processors_stay s t (Waits reach) = refl
-processors_stay s t (Freed None chain back) = refl
-processors_stay s t (Freed (Some w) chain back) = refl
-processors_stay s t Left = refl
-processors_stay s t Ticked = refl
-processors_stay s t AlreadyReady = refl
-processors_stay s t NotReady = refl
+use Rattle.certificate_laws.specs.Laws.{LinkedIsBest}
+use Rattle.certificate_laws.specs.Passing.{Passes}
+use Rattle.certificate_laws.proofs.Best.{linked_is_best}
+use Rattle.certificate_laws.proofs.Passed.{passing_keeps_certificates, passing_keeps_state}
 
 -- ---- a context is always that of its task
 takes_keep_task : (c : Context) (places : List ℕ) → (context_after_takes c places).task ≡ c.task
@@ -57,7 +33,7 @@ entry_keeps_task old new event t c =
 -- ---- an entry that passes
 module _ (old : CheckerData) (checker : IsChecker old) (entry : Entry) (passes : Passes old.links entry.event entry.reply) (links : State) (effect : links ≡ effect_of old.links entry) where
   tasks_same : task_count links ≡ task_count old.links
-  tasks_same = ap task_count effect ∙ tasks_stay old.links (event_task entry.event) entry.reply
+  tasks_same = ap task_count effect ∙ same_count old.links (effect_of old.links entry) (same_tasks-effect old.links entry)
 
   -- the occupants before the entry
   pub occupants_known : (p t : ℕ) → task_on old.links p ≡ Some t → t < task_count links
@@ -66,7 +42,7 @@ module _ (old : CheckerData) (checker : IsChecker old) (entry : Entry) (passes :
   pub occupants_were : (before : List (Option ℕ)) → before ≡ old.links.on → WereOn before old.links links
   occupants_were before e = record {
     on = sym e;
-    processors = sym (ap (λ (s : State). s.processors) effect ∙ processors_stay old.links (event_task entry.event) entry.reply);
+    processors = sym (ap (λ (s : State). s.processors) effect ∙ (same_tasks-effect old.links entry).processors);
   }
 
   certificates_kept : HasCertificates links

@@ -5,14 +5,13 @@ use Rattle.std.proofs.lemmas.Option.{same_Some}
 use Rattle.affinity_mask.specs.ProcSet.{has, Within}
 use Rattle.link_table.specs.State.{State, IsState, task_on, task_count, effective_mask, priority_of}
 use Rattle.link_table.specs.Chain.{CanShift, CanEnterAt}
-use Rattle.link_table.specs.Step.{IsMostUrgentInto}
+use Rattle.link_table.specs.Step.{CanEnterInto, IsNobodyInto, IsMostUrgentInto}
 use Rattle.link_table.proofs.Ends.{has_decided, CanShift_decided}
 use Rattle.link_table.proofs.Least.{Decided}
 use Rattle.link_table.proofs.Masks.{effective_mask_below}
-use Rattle.reach_certificate.specs.Defect.{AllFit, IsFirstMisfit, FitsAt, MovesBack, ReachFits, BackFits, IsNobodyInto, EntersRightly, EntersWrongly, last_processor}
-use Rattle.reach_certificate.specs.Judging.{CanEnterInto}
-use Rattle.reach_certificate.proofs.Entrants.{IsFoundInto, IsFound-nothing, IsComing, IsNotLessUrgent, into_more, into_passed, into_whole}
-use Rattle.reach_certificate.proofs.Fullness.{waiting_decided}
+use Rattle.reach_certificate.specs.Defect.{AllFit, IsFirstMisfit, FitsAt, MovesBack, ReachFits, BackFits, EntersRightly, EntersWrongly, last_processor}
+use Rattle.link_table.proofs.Leaders.{IsFoundInto, IsFound-nothing, IsComing, IsNotLessUrgent, into_more, into_passed, into_whole}
+use Rattle.certificate_laws.proofs.Fullness.{waiting_decided}
 
 -- ---- what can be decided
 and_decided : {A B : Type 0} → Decided A → Decided B → Decided (A × B)

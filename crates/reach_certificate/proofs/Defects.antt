@@ -1,76 +1,26 @@
 -- A reply that passes has no defect, and a reply has one defect at most.
-use Rattle.std.proofs.Common.{◌≡◌, ℕ, List, Option, Some, None, refl, sym, ap, ◌∙◌, subst, inl, inr, arith, le_antisymm}
+use Rattle.std.proofs.Common.{◌≡◌, ℕ, List, length, Option, Some, None, sym, ap, ◌∙◌, subst, inl, inr, arith, le_antisymm}
+use Rattle.std.proofs.lemmas.Bool.{true≢false}
 use Rattle.std.proofs.lemmas.Option.{same_Some}
+use Rattle.task_set.specs.declared.event.Event.{Event}
+use Rattle.task_set.specs.declared.event.Event.TheVariants.{Arrive, Depart, Tick}
+use Rattle.link_table.specs.declared.reply.Came.{Came}
+use Rattle.link_table.specs.declared.reply.Came.TheVariants.{Placed, Displaced, Waits}
+use Rattle.link_table.specs.declared.reply.Gone.{Gone}
 use Rattle.link_table.specs.declared.reply.Reply.{Reply}
-use Rattle.link_table.specs.declared.reply.Reply.TheVariants.{Placed, Displaced, Waits, Freed, Left, Ticked, AlreadyReady, NotReady}
-use Rattle.link_table.specs.State.{State, IsState, IsMoreUrgent, task_on, priority_of, state_after_leaving}
-use Rattle.link_table.specs.Step.{IsMostUrgentInto}
-use Rattle.link_table.specs.History.{event_task}
+use Rattle.link_table.specs.State.{State, IsState, priority_of, state_after_leaving}
+use Rattle.link_table.specs.Step.{IsNobodyInto, IsMostUrgentInto}
 use Rattle.link_table.proofs.Leaving.{IsState-state_after_leaving}
+use Rattle.link_table.proofs.Linked.{is_linked-from_on, not_on, occupied_number}
+use Rattle.link_table.proofs.Replies.{one_came, one_gone}
 use Rattle.link_table.proofs.Unique.{ready_number}
-use Rattle.reach_certificate.specs.Defect.{AllFit, IsFirstMisfit, PlacedFits, DisplacedFits, FreedFits, ChainFits, HasBadChain, ReachFits, BackFits, IsNoLessUrgent, processor_count, SetFits, HasBadSet, IsNobodyInto, EntersRightly, EntersWrongly, TasksAreRight, HasWrongTask}
+use Rattle.certificate_laws.specs.Passing.{ArrivalPasses, DeparturePasses, Passes}
+use Rattle.reach_certificate.specs.Defect.{AllFit, IsFirstMisfit, PlacedFits, DisplacedFits, FreedFits, ReachFits, BackFits, AgainstFits, IsNoLessUrgent, processor_count, OverFits, HasBadOver, EntersRightly, EntersWrongly, DisplacesRightly, DisplacesWrongly, CameIsRight, IsCameDefect, GoneIsRight, IsGoneDefect, IsAllowed, IsPartDefect}
 use Rattle.reach_certificate.specs.DefectLaws.{PassingHasNoDefect, DefectIsUnique}
+use Rattle.reach_certificate.specs.declared.defect.Defect.{Defect}
 use Rattle.reach_certificate.specs.declared.defect.Defect.TheVariants.{WrongReply, BadChain, BadSet, WrongTask}
 use Rattle.reach_certificate.proofs.ChainPlaces.{all_fit_no_misfit, misfit_unique}
-use Rattle.reach_certificate.proofs.Justified.{passing_is_justified}
-
-module _ (s : State) (ok : IsState s) (t : ℕ) where
-  abbrev left : State
-  left = state_after_leaving s t
-
-  -- ---- chains
-  place_unique : (p q : ℕ) → task_on s p ≡ Some t → task_on s q ≡ Some t → p ≡ q
-  place_unique p q on other = ok.once p q t on other
-
-  chain_fits_or_not : (reply : Reply) (i : ℕ) → ChainFits s t reply → HasBadChain s t reply i → ⊥
-  chain_fits_or_not (Placed chain) i all bad = all_fit_no_misfit (PlacedFits s t chain) _ i all bad
-  chain_fits_or_not (Displaced chain out reach) i all bad = all_fit_no_misfit (DisplacedFits s t chain) _ i all bad
-  chain_fits_or_not (Waits reach) i all bad = bad
-  chain_fits_or_not (Freed entered chain back) i all bad =
-      all_fit_no_misfit (FreedFits left bad.0 entered chain) _ i (subst (λ (p : ℕ). AllFit (FreedFits left p entered chain) _) (place_unique all.0 bad.0 all.1 bad.1) all.2) bad.2
-  chain_fits_or_not Left i all bad = bad
-  chain_fits_or_not Ticked i all bad = bad
-  chain_fits_or_not AlreadyReady i all bad = bad
-  chain_fits_or_not NotReady i all bad = bad
-
-  bad_chain_unique : (reply : Reply) (i j : ℕ) → HasBadChain s t reply i → HasBadChain s t reply j → i ≡ j
-  bad_chain_unique (Placed chain) i j one other = misfit_unique (PlacedFits s t chain) _ i j one other
-  bad_chain_unique (Displaced chain out reach) i j one other = misfit_unique (DisplacedFits s t chain) _ i j one other
-  bad_chain_unique (Waits reach) i j one other = absurd one
-  bad_chain_unique (Freed entered chain back) i j one other =
-      misfit_unique (FreedFits left other.0 entered chain) _ i j (subst (λ (p : ℕ). IsFirstMisfit (FreedFits left p entered chain) _ i) (place_unique one.0 other.0 one.1 other.1) one.2) other.2
-  bad_chain_unique Left i j one other = absurd one
-  bad_chain_unique Ticked i j one other = absurd one
-  bad_chain_unique AlreadyReady i j one other = absurd one
-  bad_chain_unique NotReady i j one other = absurd one
-
-  -- ---- sets
-  abbrev Over : ℕ → ℕ → ℕ → Type 0
-  Over reach d q = ReachFits s t reach (λ u. IsNoLessUrgent s u d) q
-
-  set_fits_or_not : (reply : Reply) (q : ℕ) → SetFits s t reply → HasBadSet s t reply q → ⊥
-  set_fits_or_not (Placed chain) q all bad = bad
-  set_fits_or_not (Displaced chain out reach) q all bad =
-      all_fit_no_misfit (Over reach bad.0) processor_count q (subst (λ (d : ℕ). AllFit (Over reach d) processor_count) (same_Some all.0 bad.0 (sym all.1 ∙ bad.1)) all.2) bad.2
-  set_fits_or_not (Waits reach) q all bad = all_fit_no_misfit (ReachFits s t reach (λ u. IsMoreUrgent s u t)) processor_count q all bad
-  set_fits_or_not (Freed entered chain back) q all bad =
-      all_fit_no_misfit (BackFits left bad.0 back) processor_count q (subst (λ (p : ℕ). AllFit (BackFits left p back) processor_count) (place_unique all.0 bad.0 all.1 bad.1) all.2) bad.2
-  set_fits_or_not Left q all bad = bad
-  set_fits_or_not Ticked q all bad = bad
-  set_fits_or_not AlreadyReady q all bad = bad
-  set_fits_or_not NotReady q all bad = bad
-
-  bad_set_unique : (reply : Reply) (q r : ℕ) → HasBadSet s t reply q → HasBadSet s t reply r → q ≡ r
-  bad_set_unique (Placed chain) q r one other = absurd one
-  bad_set_unique (Displaced chain out reach) q r one other =
-      misfit_unique (Over reach other.0) processor_count q r (subst (λ (d : ℕ). IsFirstMisfit (Over reach d) processor_count q) (same_Some one.0 other.0 (sym one.1 ∙ other.1)) one.2) other.2
-  bad_set_unique (Waits reach) q r one other = misfit_unique (ReachFits s t reach (λ u. IsMoreUrgent s u t)) processor_count q r one other
-  bad_set_unique (Freed entered chain back) q r one other =
-      misfit_unique (BackFits left other.0 back) processor_count q r (subst (λ (p : ℕ). IsFirstMisfit (BackFits left p back) processor_count q) (place_unique one.0 other.0 one.1 other.1) one.2) other.2
-  bad_set_unique Left q r one other = absurd one
-  bad_set_unique Ticked q r one other = absurd one
-  bad_set_unique AlreadyReady q r one other = absurd one
-  bad_set_unique NotReady q r one other = absurd one
+use Rattle.reach_certificate.proofs.Fitting.{came_right, gone_right}
 
 -- ---- tasks
 module _ (s : State) (ok : IsState s) where
@@ -97,56 +47,140 @@ module _ (s : State) (ok : IsState s) where
   enters_wrongly_unique entered chain back x y (inr one) (inl other) = absurd (somebody back y other.0 one.0)
   enters_wrongly_unique entered chain back x y (inr one) (inr other) = same_Some x y (sym one.1 ∙ other.1)
 
-module _ (s : State) (ok : IsState s) (t : ℕ) where
-  tasks_right_or_not : (reply : Reply) (x : ℕ) → TasksAreRight s t reply → HasWrongTask s t reply x → ⊥
-  tasks_right_or_not (Placed chain) x right wrong = wrong
-  tasks_right_or_not (Displaced chain out reach) x right wrong =
+-- ---- what an arrival came to
+module _ (s : State) (t : ℕ) where
+  abbrev Over : ℕ → ℕ → ℕ → Type 0
+  Over reach d q = ReachFits s t reach (λ u. IsNoLessUrgent s u d) q
+
+  over_fits_or_not : (chain : List ℕ) (reach q : ℕ) → OverFits s t chain reach → HasBadOver s t chain reach q → ⊥
+  over_fits_or_not chain reach q all bad =
+      all_fit_no_misfit (Over reach bad.0) processor_count q (subst (λ (d : ℕ). AllFit (Over reach d) processor_count) (same_Some all.0 bad.0 (sym all.1 ∙ bad.1)) all.2) bad.2
+
+  bad_over_unique : (chain : List ℕ) (reach q r : ℕ) → HasBadOver s t chain reach q → HasBadOver s t chain reach r → q ≡ r
+  bad_over_unique chain reach q r one other =
+      misfit_unique (Over reach other.0) processor_count q r (subst (λ (d : ℕ). IsFirstMisfit (Over reach d) processor_count q) (same_Some one.0 other.0 (sym one.1 ∙ other.1)) one.2) other.2
+
+  displaces_rightly_or_not : (chain : List ℕ) (out x : ℕ) → DisplacesRightly s t chain out → DisplacesWrongly s t chain out x → ⊥
+  displaces_rightly_or_not chain out x right wrong =
       let same : out ≡ x = same_Some out x (sym right.0 ∙ wrong.0) in
       elim wrong.1 [
         | inl another ↦ another same
         | inr no_less ↦ let e = ap (priority_of s) same in let less = right.1 in omega arith
       ]
-  tasks_right_or_not (Waits reach) x right wrong = wrong
-  tasks_right_or_not (Freed entered chain back) x right wrong = enters_rightly_or_not (state_after_leaving s t) (IsState-state_after_leaving s ok t) entered chain back x right wrong
-  tasks_right_or_not Left x right wrong = wrong
-  tasks_right_or_not Ticked x right wrong = wrong
-  tasks_right_or_not AlreadyReady x right wrong = wrong
-  tasks_right_or_not NotReady x right wrong = wrong
 
-  wrong_task_unique : (reply : Reply) (x y : ℕ) → HasWrongTask s t reply x → HasWrongTask s t reply y → x ≡ y
-  wrong_task_unique (Placed chain) x y one other = absurd one
-  wrong_task_unique (Displaced chain out reach) x y one other = same_Some x y (sym one.0 ∙ other.0)
-  wrong_task_unique (Waits reach) x y one other = absurd one
-  wrong_task_unique (Freed entered chain back) x y one other = enters_wrongly_unique (state_after_leaving s t) (IsState-state_after_leaving s ok t) entered chain back x y one other
-  wrong_task_unique Left x y one other = absurd one
-  wrong_task_unique Ticked x y one other = absurd one
-  wrong_task_unique AlreadyReady x y one other = absurd one
-  wrong_task_unique NotReady x y one other = absurd one
+  came_right_or_not : (came : Came) (defect : Defect) → CameIsRight s t came → IsCameDefect s t came defect → ⊥
+  came_right_or_not (Placed chain) (BadChain i) right bad = all_fit_no_misfit (PlacedFits s t chain) (length chain) i right bad
+  came_right_or_not (Displaced chain out reach) (BadChain i) right bad = all_fit_no_misfit (DisplacedFits s t chain) (length chain) i right.places bad
+  came_right_or_not (Displaced chain out reach) (BadSet q) right bad = over_fits_or_not chain reach q right.set bad.1
+  came_right_or_not (Displaced chain out reach) (WrongTask x) right bad = displaces_rightly_or_not chain out x right.tasks bad.2
+  came_right_or_not (Waits reach) (BadSet q) right bad = all_fit_no_misfit (AgainstFits s t reach) processor_count q right bad
+  came_right_or_not _ _ right bad = bad
+
+  displaced_defect_unique : (chain : List ℕ) (out reach : ℕ) (one other : Defect) → IsCameDefect s t (Displaced chain out reach) one → IsCameDefect s t (Displaced chain out reach) other → one ≡ other
+  displaced_defect_unique chain out reach (BadChain i) (BadChain j) one other = ap (λ (n : ℕ). BadChain n) (misfit_unique (DisplacedFits s t chain) (length chain) i j one other)
+  displaced_defect_unique chain out reach (BadChain i) (BadSet r) one other = absurd (all_fit_no_misfit (DisplacedFits s t chain) (length chain) i other.0 one)
+  displaced_defect_unique chain out reach (BadChain i) (WrongTask y) one other = absurd (all_fit_no_misfit (DisplacedFits s t chain) (length chain) i other.0 one)
+  displaced_defect_unique chain out reach (BadSet q) (BadChain j) one other = absurd (all_fit_no_misfit (DisplacedFits s t chain) (length chain) j one.0 other)
+  displaced_defect_unique chain out reach (BadSet q) (BadSet r) one other = ap (λ (n : ℕ). BadSet n) (bad_over_unique chain reach q r one.1 other.1)
+  displaced_defect_unique chain out reach (BadSet q) (WrongTask y) one other = absurd (over_fits_or_not chain reach q other.1 one.1)
+  displaced_defect_unique chain out reach (WrongTask x) (BadChain j) one other = absurd (all_fit_no_misfit (DisplacedFits s t chain) (length chain) j one.0 other)
+  displaced_defect_unique chain out reach (WrongTask x) (BadSet r) one other = absurd (over_fits_or_not chain reach r one.1 other.1)
+  displaced_defect_unique chain out reach (WrongTask x) (WrongTask y) one other = ap (λ (n : ℕ). WrongTask n) (same_Some x y (sym one.2.0 ∙ other.2.0))
+  displaced_defect_unique chain out reach WrongReply _ one other = absurd one
+  displaced_defect_unique chain out reach _ WrongReply one other = absurd other
+
+  came_defect_unique : (came : Came) (one other : Defect) → IsCameDefect s t came one → IsCameDefect s t came other → one ≡ other
+  came_defect_unique (Placed chain) (BadChain i) (BadChain j) one other = ap (λ (n : ℕ). BadChain n) (misfit_unique (PlacedFits s t chain) (length chain) i j one other)
+  came_defect_unique (Placed chain) (BadChain i) _ one other = absurd other
+  came_defect_unique (Placed chain) _ d one other = absurd one
+  came_defect_unique (Displaced chain out reach) d e one other = displaced_defect_unique chain out reach d e one other
+  came_defect_unique (Waits reach) (BadSet q) (BadSet r) one other = ap (λ (n : ℕ). BadSet n) (misfit_unique (AgainstFits s t reach) processor_count q r one other)
+  came_defect_unique (Waits reach) (BadSet q) _ one other = absurd other
+  came_defect_unique (Waits reach) _ d one other = absurd one
+
+-- ---- who came in
+module _ (s : State) (ok : IsState s) (p : ℕ) (gone : Gone) where
+  abbrev Chain : ℕ → Type 0
+  Chain i = FreedFits s p gone.entered gone.chain i
+
+  abbrev Set : ℕ → Type 0
+  Set q = BackFits s p gone.back q
+
+  gone_right_or_not : (defect : Defect) → GoneIsRight s p gone → IsGoneDefect s p gone defect → ⊥
+  gone_right_or_not (BadChain i) right bad = all_fit_no_misfit Chain (length gone.chain) i right.chain bad
+  gone_right_or_not (BadSet q) right bad = all_fit_no_misfit Set processor_count q right.set bad.1
+  gone_right_or_not (WrongTask x) right bad = enters_rightly_or_not s ok gone.entered gone.chain gone.back x right.tasks bad.2
+  gone_right_or_not _ right bad = bad
+
+  gone_defect_unique : (one other : Defect) → IsGoneDefect s p gone one → IsGoneDefect s p gone other → one ≡ other
+  gone_defect_unique (BadChain i) (BadChain j) one other = ap (λ (n : ℕ). BadChain n) (misfit_unique Chain (length gone.chain) i j one other)
+  gone_defect_unique (BadChain i) (BadSet r) one other = absurd (all_fit_no_misfit Chain (length gone.chain) i other.0 one)
+  gone_defect_unique (BadChain i) (WrongTask y) one other = absurd (all_fit_no_misfit Chain (length gone.chain) i other.0 one)
+  gone_defect_unique (BadSet q) (BadChain j) one other = absurd (all_fit_no_misfit Chain (length gone.chain) j one.0 other)
+  gone_defect_unique (BadSet q) (BadSet r) one other = ap (λ (n : ℕ). BadSet n) (misfit_unique Set processor_count q r one.1 other.1)
+  gone_defect_unique (BadSet q) (WrongTask y) one other = absurd (all_fit_no_misfit Set processor_count q other.1 one.1)
+  gone_defect_unique (WrongTask x) (BadChain j) one other = absurd (all_fit_no_misfit Chain (length gone.chain) j one.0 other)
+  gone_defect_unique (WrongTask x) (BadSet r) one other = absurd (all_fit_no_misfit Set processor_count r one.1 other.1)
+  gone_defect_unique (WrongTask x) (WrongTask y) one other = ap (λ (n : ℕ). WrongTask n) (enters_wrongly_unique s ok gone.entered gone.chain gone.back x y one.2 other.2)
+  gone_defect_unique WrongReply _ one other = absurd one
+  gone_defect_unique _ WrongReply one other = absurd other
 
 -- ---- whole replies
+-- a reply that passes is of an allowed kind
+passing_is_allowed : (s : State) (event : Event) (reply : Reply) → IsState s → Passes s event reply → IsAllowed s event reply
+passing_is_allowed s (Arrive t) reply ok (number, inl again) = inl again
+passing_is_allowed s (Arrive t) reply ok (number, inr new) = inr (new.absent, (new.came, new.answer))
+passing_is_allowed s (Depart t) reply ok (number, inl again) = inl again
+passing_is_allowed s (Depart t) reply ok (number, inr (inl waiting)) = inr (inl waiting)
+passing_is_allowed s (Depart t) reply ok (number, inr (inr linked)) = inr (inr (is_linked-from_on s linked.place t linked.linked, (linked.gone, linked.answer)))
+passing_is_allowed s (Tick units) reply ok passes = passes
+
+-- and so is one of which a part fails
+part_is_allowed : (s : State) (event : Event) (reply : Reply) (defect : Defect) → IsState s → IsPartDefect s event reply defect → IsAllowed s event reply
+part_is_allowed s (Arrive t) reply defect ok part = inr (part.2, (part.0, part.1))
+part_is_allowed s (Depart t) reply defect ok part = inr (inr (is_linked-from_on s part.2.0 t part.2.1, (part.0, part.1)))
+part_is_allowed s (Tick units) reply defect ok part = absurd part
+
+-- no part fails of a reply that passes
+arrival_part : (s : State) (t : ℕ) (reply : Reply) (defect : Defect) → IsState s → ArrivalPasses s t reply → IsPartDefect s (Arrive t) reply defect → ⊥
+arrival_part s t reply defect ok (inl again) part = true≢false (sym again.0 ∙ part.2)
+arrival_part s t reply defect ok (inr new) part =
+    let same : new.came ≡ part.0 = one_came new.came part.0 (sym new.answer ∙ part.1) in
+    came_right_or_not s t part.0 defect (subst (CameIsRight s t) same (came_right s ok t new.came new.passes)) part.3
+
+departure_part : (s : State) (t : ℕ) (reply : Reply) (defect : Defect) → IsState s → DeparturePasses s t reply → IsPartDefect s (Depart t) reply defect → ⊥
+departure_part s t reply defect ok (inl again) part = true≢false (sym (ok.linked_ready part.2.0 t part.2.1) ∙ again.0)
+departure_part s t reply defect ok (inr (inl waiting)) part = not_on s part.2.0 t waiting.0.not_linked part.2.1
+departure_part s t reply defect ok (inr (inr linked)) part =
+    let left = state_after_leaving s t in
+    let left_ok = IsState-state_after_leaving s ok t in
+    let same : linked.gone ≡ part.0 = one_gone linked.gone part.0 (sym linked.answer ∙ part.1) in
+    let place : linked.place ≡ part.2.0 = ok.once linked.place part.2.0 t linked.linked part.2.1 in
+    let right = gone_right left left_ok linked.place (occupied_number s linked.place t ok linked.linked) linked.gone linked.passes in
+    gone_right_or_not left left_ok part.2.0 part.0 defect (subst (λ (p : ℕ). GoneIsRight left p part.0) place (subst (GoneIsRight left linked.place) same right)) part.2.2
+
+passing_part : (s : State) (event : Event) (reply : Reply) (defect : Defect) → IsState s → Passes s event reply → IsPartDefect s event reply defect → ⊥
+passing_part s (Arrive t) reply defect ok passes part = arrival_part s t reply defect ok passes.1 part
+passing_part s (Depart t) reply defect ok passes part = departure_part s t reply defect ok passes.1 part
+passing_part s (Tick units) reply defect ok passes part = part
+
 pub passing_has_no_defect : PassingHasNoDefect
-passing_has_no_defect s event reply WrongReply ok passes defect = defect (passing_is_justified s event reply ok passes).0
-passing_has_no_defect s event reply (BadChain i) ok passes defect =
-    let right = (passing_is_justified s event reply ok passes).1 in chain_fits_or_not s ok (event_task event) reply i right.chain defect.1
-passing_has_no_defect s event reply (BadSet q) ok passes defect =
-    let right = (passing_is_justified s event reply ok passes).1 in set_fits_or_not s ok (event_task event) reply q right.set defect.2
-passing_has_no_defect s event reply (WrongTask x) ok passes defect =
-    let right = (passing_is_justified s event reply ok passes).1 in tasks_right_or_not s ok (event_task event) reply x right.tasks defect.3
+passing_has_no_defect s event reply defect ok passes (inl wrong) = wrong.1 (passing_is_allowed s event reply ok passes)
+passing_has_no_defect s event reply defect ok passes (inr part) = passing_part s event reply defect ok passes part
+
+part_unique : (s : State) (event : Event) (reply : Reply) (one other : Defect) → IsState s → IsPartDefect s event reply one → IsPartDefect s event reply other → one ≡ other
+part_unique s (Arrive t) reply one other ok part part' =
+    let same : part.0 ≡ part'.0 = one_came part.0 part'.0 (sym part.1 ∙ part'.1) in
+    came_defect_unique s t part'.0 one other (subst (λ (c : Came). IsCameDefect s t c one) same part.3) part'.3
+part_unique s (Depart t) reply one other ok part part' =
+    let left = state_after_leaving s t in
+    let same : part.0 ≡ part'.0 = one_gone part.0 part'.0 (sym part.1 ∙ part'.1) in
+    let place : part.2.0 ≡ part'.2.0 = ok.once part.2.0 part'.2.0 t part.2.1 part'.2.1 in
+    gone_defect_unique left (IsState-state_after_leaving s ok t) part'.2.0 part'.0 one other (subst (λ (p : ℕ). IsGoneDefect left p part'.0 one) place (subst (λ (g : Gone). IsGoneDefect left part.2.0 g one) same part.2.2)) part'.2.2
+part_unique s (Tick units) reply one other ok part part' = absurd part
 
 pub defect_is_unique : DefectIsUnique
-defect_is_unique s event reply WrongReply WrongReply ok one other = refl
-defect_is_unique s event reply WrongReply (BadChain j) ok one other = absurd (one other.0)
-defect_is_unique s event reply WrongReply (BadSet r) ok one other = absurd (one other.0)
-defect_is_unique s event reply WrongReply (WrongTask y) ok one other = absurd (one other.0)
-defect_is_unique s event reply (BadChain i) WrongReply ok one other = absurd (other one.0)
-defect_is_unique s event reply (BadChain i) (BadChain j) ok one other = ap (λ (n : ℕ). BadChain n) (bad_chain_unique s ok (event_task event) reply i j one.1 other.1)
-defect_is_unique s event reply (BadChain i) (BadSet r) ok one other = absurd (chain_fits_or_not s ok (event_task event) reply i other.1 one.1)
-defect_is_unique s event reply (BadChain i) (WrongTask y) ok one other = absurd (chain_fits_or_not s ok (event_task event) reply i other.1 one.1)
-defect_is_unique s event reply (BadSet q) WrongReply ok one other = absurd (other one.0)
-defect_is_unique s event reply (BadSet q) (BadChain j) ok one other = absurd (chain_fits_or_not s ok (event_task event) reply j one.1 other.1)
-defect_is_unique s event reply (BadSet q) (BadSet r) ok one other = ap (λ (n : ℕ). BadSet n) (bad_set_unique s ok (event_task event) reply q r one.2 other.2)
-defect_is_unique s event reply (BadSet q) (WrongTask y) ok one other = absurd (set_fits_or_not s ok (event_task event) reply q other.2 one.2)
-defect_is_unique s event reply (WrongTask x) WrongReply ok one other = absurd (other one.0)
-defect_is_unique s event reply (WrongTask x) (BadChain j) ok one other = absurd (chain_fits_or_not s ok (event_task event) reply j one.1 other.1)
-defect_is_unique s event reply (WrongTask x) (BadSet r) ok one other = absurd (set_fits_or_not s ok (event_task event) reply r one.2 other.2)
-defect_is_unique s event reply (WrongTask x) (WrongTask y) ok one other = ap (λ (n : ℕ). WrongTask n) (wrong_task_unique s ok (event_task event) reply x y one.3 other.3)
+defect_is_unique s event reply one other ok (inl wrong) (inl wrong') = wrong.0 ∙ sym wrong'.0
+defect_is_unique s event reply one other ok (inl wrong) (inr part) = absurd (wrong.1 (part_is_allowed s event reply other ok part))
+defect_is_unique s event reply one other ok (inr part) (inl wrong) = absurd (wrong.1 (part_is_allowed s event reply one ok part))
+defect_is_unique s event reply one other ok (inr part) (inr part') = part_unique s event reply one other ok part part'

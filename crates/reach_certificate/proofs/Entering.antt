@@ -1,25 +1,29 @@
--- The chain along which a task enters after a departure.
-use Rattle.std.proofs.Common.{◌≡◌, ℕ, List, reverse, Option, Some, subst}
-use Rattle.link_table.specs.declared.reply.Reply.{Reply}
-use Rattle.link_table.specs.declared.reply.Reply.TheVariants.{Freed}
-use Rattle.link_table.specs.State.{State, state_after_leaving}
-use Rattle.link_table.specs.Chain.{IsChainOf, IsSimple}
+-- The chain along which a task comes in where a processor has become idle.
+use Rattle.std.proofs.Common.{◌≡◌, ℕ, ◌<◌, reverse, Option, Some, sym, ap, subst}
+use Rattle.link_table.specs.declared.reply.Gone.{Gone}
+use Rattle.link_table.specs.State.{State, IsState, IsWaiting, task_count}
+use Rattle.link_table.specs.Chain.{IsChainOf, IsSimple, state_after_shift}
+use Rattle.link_table.specs.History.{state_after_entering, state_after_gone}
 use Rattle.link_table.proofs.Paths.{IsChainOf-reverse}
 use Rattle.link_table.proofs.Simple.{IsSimple-reverse}
-use Rattle.reach_certificate.specs.Passing.{DeparturePasses, EntryPasses, FreedPasses}
+use Rattle.link_table.proofs.Unique.{ready_number}
+use Rattle.certificate_laws.specs.Passing.{EnteringPasses, GonePasses}
 
-module _ (s : State) (t : ℕ) (reply : Reply) (entered : Option ℕ) (chain : List ℕ) (back w : ℕ) (passes : DeparturePasses s t reply) (freed : reply ≡ Freed entered chain back) (some : entered ≡ Some w) where
-  abbrev left : State
-  left = state_after_leaving s t
+module _ (s : State) (p : ℕ) (gone : Gone) (w : ℕ) (passes : GonePasses s p gone) (some : gone.entered ≡ Some w) where
+  entry : EnteringPasses s p (Some w) gone.chain gone.back
+  entry = subst (λ (e : Option ℕ). EnteringPasses s p e gone.chain gone.back) some passes.enters
 
-  reply_passes : FreedPasses s t entered chain back
-  reply_passes = subst (DeparturePasses s t) freed passes
+  pub entering_waits : IsWaiting s w
+  entering_waits = entry.0.waits
 
-  entry_passes : EntryPasses left reply_passes.place (Some w) chain back
-  entry_passes = subst (λ (e : Option ℕ). EntryPasses left reply_passes.place e chain back) some reply_passes.enters
+  pub entering_number : IsState s → w < task_count s
+  entering_number ok = ready_number s ok w entry.0.waits.ready
 
-  pub entering_chain : (p : ℕ) × IsChainOf left w (reverse chain) p
-  entering_chain = let end = entry_passes.1 in (reply_passes.place, IsChainOf-reverse left reply_passes.place w chain end.0 end.1 end.2)
+  pub entering_chain : (q : ℕ) × IsChainOf s w (reverse gone.chain) q
+  entering_chain = let end = entry.1 in (p, IsChainOf-reverse s p w gone.chain end.0 end.1 end.2)
 
-  pub entering_simple : IsSimple (reverse chain)
-  entering_simple = IsSimple-reverse chain entry_passes.2
+  pub entering_simple : IsSimple (reverse gone.chain)
+  entering_simple = IsSimple-reverse gone.chain entry.2
+
+  pub entered_state : state_after_shift s w (reverse gone.chain) ≡ state_after_gone s gone
+  entered_state = sym (ap (λ (e : Option ℕ). state_after_entering s e gone.chain) some)

@@ -1,9 +1,9 @@
--- The checker of schedules. What a reader must believe: a checker has the links after the entries that it accepted, in
--- which each waiting task has a certificate, and one context for each task.
+-- The checker of schedules. A checker has the links after the entries that it accepted, in which each waiting task has
+-- a certificate, and one context for each task.
 use Rattle.std.specs.Prelude.{◌≡◌, ℕ, ◌<◌, List, length, get_or}
 use Rattle.task_set.specs.declared.context.Context.{Context}
 use Rattle.link_table.specs.State.{State, IsState, task_count}
-use Rattle.reach_certificate.specs.Certified.{HasCertificates}
+use Rattle.certificate_laws.specs.Certified.{HasCertificates}
 
 -- the links, and the contexts by the numbers of their tasks
 pub record CheckerData : Type 0 where

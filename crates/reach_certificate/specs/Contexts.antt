@@ -1,5 +1,5 @@
--- Contexts that follow the entries of a history. What a reader must believe: at an entry a task is taken on each
--- processor to which it comes, and a tick then runs it where it was linked; no other context changes.
+-- Contexts that follow the entries of a history. At an entry a task is taken on each processor to which it comes, and a
+-- tick then runs it where it was linked; no other context changes.
 use Rattle.std.specs.Prelude.{◌≡◌, ℕ, ◌<◌, List, length, get_or, Option, fold}
 use Rattle.task_set.specs.Context.{context_after_take, context_after_run}
 use Rattle.task_set.specs.declared.context.Context.{Context}

@@ -1,18 +1,21 @@
--- Why a reply does not pass. What a reader must believe: a reply is looked at in four parts, one after the other. Its kind
--- may stand with the event; each place of its chain fits; each processor fits the set; the tasks that it names are the
--- right ones. The first part that fails is the defect, told with its first place, its least processor, or the right task.
+-- Why a reply does not pass. A reply is looked at in four parts, one after the other. Its kind may stand with the event;
+-- each place of its chain fits; each processor fits the set; the tasks that it names are the right ones. The first part
+-- that fails is the defect, reported with its first place, its least processor, or the right task.
 -- A chain need not be the least, nor a set the smallest.
-use Rattle.std.specs.Prelude.{◌≡◌, ◌≢◌, ℕ, ◌+◌, ◌-◌, ◌<◌, ◌≤◌, ◌⊎◌, true, false, List, length, slice_index, IsTrue, Option, Some, None, IsSome}
+use Rattle.std.specs.Prelude.{◌≡◌, ◌≢◌, ℕ, ◌+◌, ◌-◌, ◌<◌, ◌≤◌, ◌⊎◌, true, false, List, length, slice_index, IsTrue, Option, Some, None, IsSome, All}
 use Rattle.affinity_mask.specs.ProcSet.{has, all_below, Within}
 use Rattle.task_set.specs.declared.event.Event.{Event}
 use Rattle.task_set.specs.declared.event.Event.TheVariants.{Arrive, Depart, Tick}
+use Rattle.link_table.specs.declared.reply.Came.{Came}
+use Rattle.link_table.specs.declared.reply.Came.TheVariants as came
+use Rattle.link_table.specs.declared.reply.Gone.{Gone}
 use Rattle.link_table.specs.declared.reply.Reply.{Reply}
-use Rattle.link_table.specs.declared.reply.Reply.TheVariants.{Placed, Displaced, Waits, Freed, Left, Ticked, AlreadyReady, NotReady}
+use Rattle.link_table.specs.declared.reply.Reply.TheVariants.{Left, Ticked, AlreadyReady, NotReady}
 use Rattle.link_table.specs.declared.reply.Entry.{Entry}
+use Rattle.link_table.specs.Reply.{reply_of_came, reply_of_gone, sets_of}
 use Rattle.link_table.specs.State.{State, effective_mask, task_on, is_ready, is_linked, priority_of, IsWaiting, IsMoreUrgent, state_after_leaving}
 use Rattle.link_table.specs.Chain.{CanShift, CanEnterAt}
-use Rattle.link_table.specs.Step.{IsMostUrgentInto}
-use Rattle.link_table.specs.History.{event_task}
+use Rattle.link_table.specs.Step.{IsNobodyInto, IsMostUrgentInto}
 use Rattle.reach_certificate.specs.declared.defect.Defect.{Defect}
 use Rattle.reach_certificate.specs.declared.defect.Defect.TheVariants.{WrongReply, BadChain, BadSet, WrongTask}
 
@@ -32,36 +35,26 @@ pub record IsFirstMisfit (Fits : ℕ → Type 0) (count i : ℕ) : Type 0 where
   pub before : (k : ℕ) → k < i → Fits k
 
 -- ---- the kind of the reply
--- the kinds of reply that may stand with the arrival of t
+-- a reply of this kind may stand with the arrival of t: it was ready, or it was absent and came to something
 abbrev pub IsAllowedToArrival : State → ℕ → Reply → Type 0
-IsAllowedToArrival s t AlreadyReady = is_ready s t ≡ true
-IsAllowedToArrival s t (Placed chain) = is_ready s t ≡ false
-IsAllowedToArrival s t (Displaced chain out reach) = is_ready s t ≡ false
-IsAllowedToArrival s t (Waits reach) = is_ready s t ≡ false
-IsAllowedToArrival s t (Freed entered chain back) = ⊥
-IsAllowedToArrival s t Left = ⊥
-IsAllowedToArrival s t Ticked = ⊥
-IsAllowedToArrival s t NotReady = ⊥
+IsAllowedToArrival s t reply =
+    ((is_ready s t ≡ true) × (reply ≡ AlreadyReady))
+    ⊎ ((is_ready s t ≡ false) × ((came : Came) × (reply ≡ reply_of_came came)))
 
--- the kinds of reply that may stand with the departure of t
+-- and with the departure of t: it was absent, or waited, or was linked to a processor at which somebody comes in, or nobody
 abbrev pub IsAllowedToDeparture : State → ℕ → Reply → Type 0
-IsAllowedToDeparture s t NotReady = is_ready s t ≡ false
-IsAllowedToDeparture s t Left = IsWaiting s t
-IsAllowedToDeparture s t (Freed entered chain back) = is_linked s t ≡ true
-IsAllowedToDeparture s t (Placed chain) = ⊥
-IsAllowedToDeparture s t (Displaced chain out reach) = ⊥
-IsAllowedToDeparture s t (Waits reach) = ⊥
-IsAllowedToDeparture s t Ticked = ⊥
-IsAllowedToDeparture s t AlreadyReady = ⊥
+IsAllowedToDeparture s t reply =
+    ((is_ready s t ≡ false) × (reply ≡ NotReady))
+    ⊎ ((IsWaiting s t × (reply ≡ Left)) ⊎ ((is_linked s t ≡ true) × ((gone : Gone) × (reply ≡ reply_of_gone gone))))
 
--- the kind of the reply may stand with the event
+-- and with the event
 abbrev pub IsAllowed : State → Event → Reply → Type 0
 IsAllowed s (Arrive t) reply = IsAllowedToArrival s t reply
 IsAllowed s (Depart t) reply = IsAllowedToDeparture s t reply
 IsAllowed s (Tick units) reply = reply ≡ Ticked
 
 -- ---- the chain
--- place i of a chain fits: there is a processor, the machine has it, and the chain has not come to it before; the first
+-- place i of a chain fits: there is a processor, the machine has it, and the chain has not visited it before; the first
 -- one begins the chain, each other one follows the one before it, and the last one ends it
 pub record FitsAt (s : State) (Begins : ℕ → Type 0) (Follows : ℕ → ℕ → Type 0) (Ends : ℕ → Type 0) (chain : List ℕ) (i : ℕ) : Type 0 where
   pub there : i < length chain
@@ -91,28 +84,6 @@ MovesBack s entered before q = IsSome entered × CanShift s q before
 abbrev pub FreedFits : State → ℕ → Option ℕ → List ℕ → ℕ → Type 0
 FreedFits s p entered chain i = FitsAt s (λ q. q ≡ p) (MovesBack s entered) (λ q. Unit {0}) chain i
 
--- each place of the chain of a reply fits, where it has one
-abbrev pub ChainFits : State → ℕ → Reply → Type 0
-ChainFits s t (Placed chain) = AllFit (PlacedFits s t chain) (length chain)
-ChainFits s t (Displaced chain out reach) = AllFit (DisplacedFits s t chain) (length chain)
-ChainFits s t (Freed entered chain back) = (p : ℕ) × (task_on s p ≡ Some t) × AllFit (FreedFits (state_after_leaving s t) p entered chain) (length chain)
-ChainFits s t (Waits reach) = Unit {0}
-ChainFits s t Left = Unit {0}
-ChainFits s t Ticked = Unit {0}
-ChainFits s t AlreadyReady = Unit {0}
-ChainFits s t NotReady = Unit {0}
-
--- i is the first place of the chain of a reply that does not fit
-abbrev pub HasBadChain : State → ℕ → Reply → ℕ → Type 0
-HasBadChain s t (Placed chain) i = IsFirstMisfit (PlacedFits s t chain) (length chain) i
-HasBadChain s t (Displaced chain out reach) i = IsFirstMisfit (DisplacedFits s t chain) (length chain) i
-HasBadChain s t (Freed entered chain back) i = (p : ℕ) × (task_on s p ≡ Some t) × IsFirstMisfit (FreedFits (state_after_leaving s t) p entered chain) (length chain) i
-HasBadChain s t (Waits reach) i = ⊥
-HasBadChain s t Left i = ⊥
-HasBadChain s t Ticked i = ⊥
-HasBadChain s t AlreadyReady i = ⊥
-HasBadChain s t NotReady i = ⊥
-
 -- ---- the set
 -- q fits a set behind which t stays: the set has it where the mask of t does, and where the set has it, its occupant may
 -- run only within the set, and holds its place
@@ -139,33 +110,19 @@ last_processor chain = slice_index chain (length chain - 1)
 abbrev pub processor_count : ℕ
 processor_count = 64
 
--- each processor fits the set of a reply, where it has one
-abbrev pub SetFits : State → ℕ → Reply → Type 0
-SetFits s t (Displaced chain out reach) = (d : ℕ) × (task_on s (last_processor chain) ≡ Some d) × AllFit (ReachFits s t reach (λ u. IsNoLessUrgent s u d)) processor_count
-SetFits s t (Waits reach) = AllFit (ReachFits s t reach (λ u. IsMoreUrgent s u t)) processor_count
-SetFits s t (Freed entered chain back) = (p : ℕ) × (task_on s p ≡ Some t) × AllFit (BackFits (state_after_leaving s t) p back) processor_count
-SetFits s t (Placed chain) = Unit {0}
-SetFits s t Left = Unit {0}
-SetFits s t Ticked = Unit {0}
-SetFits s t AlreadyReady = Unit {0}
-SetFits s t NotReady = Unit {0}
+-- each processor fits a set around t, whose tasks are no less urgent than the one on which the chain ends
+abbrev pub OverFits : State → ℕ → List ℕ → ℕ → Type 0
+OverFits s t chain reach = (d : ℕ) × (task_on s (last_processor chain) ≡ Some d) × AllFit (ReachFits s t reach (λ u. IsNoLessUrgent s u d)) processor_count
 
--- q is the least processor that does not fit the set of a reply
-abbrev pub HasBadSet : State → ℕ → Reply → ℕ → Type 0
-HasBadSet s t (Displaced chain out reach) q = (d : ℕ) × (task_on s (last_processor chain) ≡ Some d) × IsFirstMisfit (ReachFits s t reach (λ u. IsNoLessUrgent s u d)) processor_count q
-HasBadSet s t (Waits reach) q = IsFirstMisfit (ReachFits s t reach (λ u. IsMoreUrgent s u t)) processor_count q
-HasBadSet s t (Freed entered chain back) q = (p : ℕ) × (task_on s p ≡ Some t) × IsFirstMisfit (BackFits (state_after_leaving s t) p back) processor_count q
-HasBadSet s t (Placed chain) q = ⊥
-HasBadSet s t Left q = ⊥
-HasBadSet s t Ticked q = ⊥
-HasBadSet s t AlreadyReady q = ⊥
-HasBadSet s t NotReady q = ⊥
+-- q is the least processor that does not fit it
+abbrev pub HasBadOver : State → ℕ → List ℕ → ℕ → ℕ → Type 0
+HasBadOver s t chain reach q = (d : ℕ) × (task_on s (last_processor chain) ≡ Some d) × IsFirstMisfit (ReachFits s t reach (λ u. IsNoLessUrgent s u d)) processor_count q
+
+-- each processor fits a set behind which t waits
+abbrev pub AgainstFits : State → ℕ → ℕ → ℕ → Type 0
+AgainstFits s t reach q = ReachFits s t reach (λ u. IsMoreUrgent s u t) q
 
 -- ---- the tasks
--- no waiting task may run on a processor of the set
-abbrev pub IsNobodyInto : State → ℕ → Type 0
-IsNobodyInto s back = (v q : ℕ) → IsWaiting s v → IsTrue (has back q) → CanEnterAt s v q → ⊥
-
 -- the right one enters: the most urgent waiting task that may run on a processor of the set, and it may run on the last
 -- processor of the chain; or nobody, where nobody may
 abbrev pub EntersRightly : State → Option ℕ → List ℕ → ℕ → Type 0
@@ -179,35 +136,59 @@ EntersWrongly s entered chain back x =
     (IsMostUrgentInto s back x × ((entered ≢ Some x) ⊎ (CanEnterAt s x (last_processor chain) → ⊥)))
     ⊎ (IsNobodyInto s back × (entered ≡ Some x))
 
--- the tasks that a reply names are the right ones: who is put out was on the last processor, and is less urgent than t
-abbrev pub TasksAreRight : State → ℕ → Reply → Type 0
-TasksAreRight s t (Displaced chain out reach) = (task_on s (last_processor chain) ≡ Some out) × IsMoreUrgent s t out
-TasksAreRight s t (Freed entered chain back) = EntersRightly (state_after_leaving s t) entered chain back
-TasksAreRight s t (Placed chain) = Unit {0}
-TasksAreRight s t (Waits reach) = Unit {0}
-TasksAreRight s t Left = Unit {0}
-TasksAreRight s t Ticked = Unit {0}
-TasksAreRight s t AlreadyReady = Unit {0}
-TasksAreRight s t NotReady = Unit {0}
+-- the right one is displaced: it was on the last processor, and is less urgent than t
+abbrev pub DisplacesRightly : State → ℕ → List ℕ → ℕ → Type 0
+DisplacesRightly s t chain out = (task_on s (last_processor chain) ≡ Some out) × IsMoreUrgent s t out
 
--- a reply names the wrong task: x was on the last processor, and another one is put out, or x is no less urgent than t;
--- or the wrong one enters
-abbrev pub HasWrongTask : State → ℕ → Reply → ℕ → Type 0
-HasWrongTask s t (Displaced chain out reach) x = (task_on s (last_processor chain) ≡ Some x) × ((out ≢ x) ⊎ IsNoLessUrgent s x t)
-HasWrongTask s t (Freed entered chain back) x = EntersWrongly (state_after_leaving s t) entered chain back x
-HasWrongTask s t (Placed chain) x = ⊥
-HasWrongTask s t (Waits reach) x = ⊥
-HasWrongTask s t Left x = ⊥
-HasWrongTask s t Ticked x = ⊥
-HasWrongTask s t AlreadyReady x = ⊥
-HasWrongTask s t NotReady x = ⊥
+-- x was on the last processor, and another one is displaced, or x is no less urgent than t
+abbrev pub DisplacesWrongly : State → ℕ → List ℕ → ℕ → ℕ → Type 0
+DisplacesWrongly s t chain out x = (task_on s (last_processor chain) ≡ Some x) × ((out ≢ x) ⊎ IsNoLessUrgent s x t)
 
--- ---- the first part that fails
+-- ---- what an arrival came to, and who came in
+-- the chain, the set and the displaced task are all right
+pub record DisplacedIsRight (s : State) (t : ℕ) (chain : List ℕ) (out reach : ℕ) : Type 0 where
+  pub places : AllFit (DisplacedFits s t chain) (length chain)
+  pub set : OverFits s t chain reach
+  pub tasks : DisplacesRightly s t chain out
+
+-- all parts of what t came to are right
+abbrev pub CameIsRight : State → ℕ → Came → Type 0
+CameIsRight s t (came.Placed chain) = AllFit (PlacedFits s t chain) (length chain)
+CameIsRight s t (came.Displaced chain out reach) = DisplacedIsRight s t chain out reach
+CameIsRight s t (came.Waits reach) = AllFit (AgainstFits s t reach) processor_count
+
+-- the first part of it that fails
+abbrev pub IsCameDefect : State → ℕ → Came → Defect → Type 0
+IsCameDefect s t (came.Placed chain) (BadChain i) = IsFirstMisfit (PlacedFits s t chain) (length chain) i
+IsCameDefect s t (came.Displaced chain out reach) (BadChain i) = IsFirstMisfit (DisplacedFits s t chain) (length chain) i
+IsCameDefect s t (came.Displaced chain out reach) (BadSet q) = AllFit (DisplacedFits s t chain) (length chain) × HasBadOver s t chain reach q
+IsCameDefect s t (came.Displaced chain out reach) (WrongTask x) = AllFit (DisplacedFits s t chain) (length chain) × OverFits s t chain reach × DisplacesWrongly s t chain out x
+IsCameDefect s t (came.Waits reach) (BadSet q) = IsFirstMisfit (AgainstFits s t reach) processor_count q
+IsCameDefect s t _ _ = ⊥
+
+-- all parts of who came in are right, where p has become idle
+pub record GoneIsRight (s : State) (p : ℕ) (gone : Gone) : Type 0 where
+  pub chain : AllFit (FreedFits s p gone.entered gone.chain) (length gone.chain)
+  pub set : AllFit (BackFits s p gone.back) processor_count
+  pub tasks : EntersRightly s gone.entered gone.chain gone.back
+
+-- the first part of it that fails
+abbrev pub IsGoneDefect : State → ℕ → Gone → Defect → Type 0
+IsGoneDefect s p gone (BadChain i) = IsFirstMisfit (FreedFits s p gone.entered gone.chain) (length gone.chain) i
+IsGoneDefect s p gone (BadSet q) = AllFit (FreedFits s p gone.entered gone.chain) (length gone.chain) × IsFirstMisfit (BackFits s p gone.back) processor_count q
+IsGoneDefect s p gone (WrongTask x) = AllFit (FreedFits s p gone.entered gone.chain) (length gone.chain) × AllFit (BackFits s p gone.back) processor_count × EntersWrongly s gone.entered gone.chain gone.back x
+IsGoneDefect s p gone _ = ⊥
+
+-- ---- the first part of a reply that fails
+-- the reply may stand with the event, and a part of it fails first
+abbrev pub IsPartDefect : State → Event → Reply → Defect → Type 0
+IsPartDefect s (Arrive t) reply defect = (came : Came) × (reply ≡ reply_of_came came) × (is_ready s t ≡ false) × IsCameDefect s t came defect
+IsPartDefect s (Depart t) reply defect = (gone : Gone) × (reply ≡ reply_of_gone gone) × ((place : ℕ) × (task_on s place ≡ Some t) × IsGoneDefect (state_after_leaving s t) place gone defect)
+IsPartDefect s (Tick units) reply defect = ⊥
+
+-- the reply may not stand with the event, or this part of it fails first
 abbrev pub IsReplyDefect : State → Event → Reply → Defect → Type 0
-IsReplyDefect s event reply WrongReply = IsAllowed s event reply → ⊥
-IsReplyDefect s event reply (BadChain i) = IsAllowed s event reply × HasBadChain s (event_task event) reply i
-IsReplyDefect s event reply (BadSet q) = IsAllowed s event reply × ChainFits s (event_task event) reply × HasBadSet s (event_task event) reply q
-IsReplyDefect s event reply (WrongTask x) = IsAllowed s event reply × ChainFits s (event_task event) reply × SetFits s (event_task event) reply × HasWrongTask s (event_task event) reply x
+IsReplyDefect s event reply defect = ((defect ≡ WrongReply) × (IsAllowed s event reply → ⊥)) ⊎ IsPartDefect s event reply defect
 
 -- the defect of an entry in the state before it
 abbrev pub IsDefect : State → Entry → Defect → Type 0
@@ -220,13 +201,6 @@ number_of (BadChain i) = 2
 number_of (BadSet q) = 3
 number_of (WrongTask x) = 4
 
--- the set of a reply, if it has one, has no number beyond those of processors
+-- the sets of a reply have no number beyond those of processors
 abbrev pub IsOfProcessors : Reply → Type 0
-IsOfProcessors (Displaced chain out reach) = Within reach (all_below processor_count)
-IsOfProcessors (Waits reach) = Within reach (all_below processor_count)
-IsOfProcessors (Freed entered chain back) = Within back (all_below processor_count)
-IsOfProcessors (Placed chain) = Unit {0}
-IsOfProcessors Left = Unit {0}
-IsOfProcessors Ticked = Unit {0}
-IsOfProcessors AlreadyReady = Unit {0}
-IsOfProcessors NotReady = Unit {0}
+IsOfProcessors reply = All (λ set. Within set (all_below processor_count)) (sets_of reply)

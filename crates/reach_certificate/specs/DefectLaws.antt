@@ -1,5 +1,4 @@
--- Laws of defects, and of contexts that follow entries. What a reader must believe: nothing beyond the definitions that
--- the laws speak of; each law is proved as the contract of a function of `laws`.
+-- Laws of defects, and of contexts that follow entries. Each law is proved as the contract of a function of `laws`.
 use Rattle.std.specs.Prelude.{◌≡◌, ℕ, ◌⊎◌, List, [], ◌∷◌, ◌++◌, map}
 use Rattle.std.specs.List.{range_with_len}
 use Rattle.task_set.specs.declared.context.Context.{Context}
@@ -11,7 +10,7 @@ use Rattle.link_table.specs.History.{effect_of, state_after}
 use Rattle.link_table.specs.Dispatch.{context_of}
 use Rattle.reach_certificate.specs.Contexts.{EachBecomes, context_after_entry}
 use Rattle.reach_certificate.specs.Defect.{IsReplyDefect, IsOfProcessors}
-use Rattle.reach_certificate.specs.Passing.{IsOfTask, Passes}
+use Rattle.certificate_laws.specs.Passing.{IsOfTask, Passes}
 use Rattle.reach_certificate.specs.declared.defect.Defect.{Defect}
 
 -- no reply passes and has a defect

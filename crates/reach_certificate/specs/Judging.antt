@@ -1,23 +1,14 @@
--- How an entry is judged, part by part. What a reader must believe: nothing, since only contracts within the crate name
--- these words; each is a case of the definitions of defects.
-use Rattle.std.specs.Prelude.{◌≡◌, ℕ, ◌+◌, ◌<◌, true, List, slice_index, IsTrue, Option, Some, None, MatchOption}
+-- How a chain and a set are judged. Private: contracts of this crate's own functions. Each word is a case of the
+-- definitions of defects.
+use Rattle.std.specs.Prelude.{◌≡◌, ℕ, ◌+◌, ◌<◌, List, slice_index, IsTrue, Option, Some, None, MatchOption}
 use Rattle.affinity_mask.specs.ProcSet.{has, Within}
-use Rattle.link_table.specs.State.{State, effective_mask, task_on, is_linked, IsWaiting, IsMoreUrgent, state_after_leaving}
-use Rattle.link_table.specs.Chain.{CanShift, CanEnterAt}
-use Rattle.link_table.specs.declared.reply.Reply.{Reply}
-use Rattle.link_table.specs.declared.reply.Reply.TheVariants.{Placed, Displaced, Waits, Freed, Left, Ticked, AlreadyReady, NotReady}
-use Rattle.reach_certificate.specs.Defect.{AllFit, IsFirstMisfit, FitsAt, BeginsFor, MovesBack, ReachFits, BackFits, IsNoLessUrgent, ChainFits, HasBadChain, SetFits, HasBadSet, TasksAreRight, HasWrongTask}
-use Rattle.reach_certificate.specs.declared.defect.Defect.{Defect}
-use Rattle.reach_certificate.specs.declared.defect.Defect.TheVariants.{WrongReply, BadChain, BadSet, WrongTask}
+use Rattle.link_table.specs.State.{State, effective_mask, task_on, IsMoreUrgent}
+use Rattle.link_table.specs.Chain.{CanShift}
+use Rattle.reach_certificate.specs.Defect.{AllFit, IsFirstMisfit, FitsAt, BeginsFor, MovesBack, ReachFits, BackFits, IsNoLessUrgent}
 use Rattle.reach_certificate.specs.declared.chain_rule.ChainRule.{ChainRule}
 use Rattle.reach_certificate.specs.declared.chain_rule.ChainRule.TheVariants.{ToIdle, ToOccupied, Back}
 use Rattle.reach_certificate.specs.declared.set_rule.SetRule.{SetRule}
 use Rattle.reach_certificate.specs.declared.set_rule.SetRule.TheVariants.{HeldAgainst, HeldOver, LeadsBack}
-
--- the state once this task has left, or as it is
-abbrev pub state_without : Option ℕ → State → State
-state_without None s = s
-state_without (Some t) s = state_after_leaving s t
 
 -- the answer is the first place that does not fit, or nothing, and then all fit
 abbrev pub IsFirstMisfitIfAny : (ℕ → Type 0) → ℕ → Option ℕ → Type 0
@@ -57,7 +48,7 @@ pub record GoesOn (s : State) (rule : ChainRule) (chain : List ℕ) (i : ℕ) : 
 abbrev pub FitsChainRule : State → ChainRule → List ℕ → ℕ → Type 0
 FitsChainRule s rule chain i = FitsAt s (Begins s rule) (Follows s rule) (Ends s rule) chain i
 
--- the chain comes to q at a place before place i
+-- the chain visits q at a place before place i
 abbrev pub ComesBefore : List ℕ → ℕ → ℕ → Type 0
 ComesBefore chain i q = (k : ℕ) × (k < i) × (slice_index chain k ≡ q)
 
@@ -87,33 +78,3 @@ abbrev pub FitsSetRule : State → SetRule → ℕ → ℕ → Type 0
 FitsSetRule s (HeldAgainst t) set q = ReachFits s t set (λ u. IsMoreUrgent s u t) q
 FitsSetRule s (HeldOver t out) set q = ReachFits s t set (λ u. IsNoLessUrgent s u out) q
 FitsSetRule s (LeadsBack place) set q = BackFits s place set q
-
--- ---- tasks
--- v waits, and may run on a processor of the set
-abbrev pub CanEnterInto : State → ℕ → ℕ → Type 0
-CanEnterInto s set v = IsWaiting s v × ((q : ℕ) × IsTrue (has set q) × CanEnterAt s v q)
-
--- ---- replies
--- the task that departs is linked, where the reply frees its processor
-abbrev pub HasPlace : State → ℕ → Reply → Type 0
-HasPlace s t (Freed entered chain back) = is_linked s t ≡ true
-HasPlace s t (Placed chain) = Unit {0}
-HasPlace s t (Displaced chain out reach) = Unit {0}
-HasPlace s t (Waits reach) = Unit {0}
-HasPlace s t Left = Unit {0}
-HasPlace s t Ticked = Unit {0}
-HasPlace s t AlreadyReady = Unit {0}
-HasPlace s t NotReady = Unit {0}
-
--- the chain, the set and the tasks of a reply are all right
-pub record IsJustified (s : State) (t : ℕ) (reply : Reply) : Type 0 where
-  pub chain : ChainFits s t reply
-  pub set : SetFits s t reply
-  pub tasks : TasksAreRight s t reply
-
--- the first of these that is wrong
-abbrev pub IsUnjustified : State → ℕ → Reply → Defect → Type 0
-IsUnjustified s t reply WrongReply = ⊥
-IsUnjustified s t reply (BadChain i) = HasBadChain s t reply i
-IsUnjustified s t reply (BadSet q) = ChainFits s t reply × HasBadSet s t reply q
-IsUnjustified s t reply (WrongTask x) = ChainFits s t reply × SetFits s t reply × HasWrongTask s t reply x

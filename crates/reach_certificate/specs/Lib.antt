@@ -1,12 +1,6 @@
-pub mod Certified
 pub mod Checker
 pub mod CheckerView
 pub mod Contexts
 pub mod Defect
 pub mod DefectLaws
-pub mod Ground
-pub mod Held
 pub mod Judging
-pub mod Laws
-pub mod Passing
-pub mod Ranks

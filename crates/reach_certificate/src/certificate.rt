@@ -2,27 +2,19 @@
 ghost use Rattle.std.specs.Prelude.{◌≡◌, ℕ, ◌<◌, ◌↔◌, IsTrue};
 ghost use Rattle.link_table.specs.State.{task_count, effective_mask};
 ghost use Rattle.link_table.specs.Certificate.{IsCertificate};
-ghost use Rattle.reach_certificate.specs.Held.{IsHeldAgainst};
+ghost use Rattle.certificate_laws.specs.Held.{IsHeldAgainst};
 
 use affinity_mask::ProcSet;
 use link_table::Links;
 
-// The processors that a task may run on. All processors are on line.
-fn effective_mask(links: &Links, t: u32) -> ProcSet
-    requires { t < task_count links.now }
-    ensures { result ≡ effective_mask links.now t }
-{
-    links.mask(t).both(&ProcSet::first(links.processors()))
-}
-
-// Whether the occupant of p is more urgent than w, and may run only within the set.
+/// Whether the occupant of p is more urgent than w, and may run only within the set.
 fn is_held_against(links: &Links, w: u32, x: ProcSet, p: u8) -> bool
     requires task { w < task_count links.now }
     requires processor { p < links.now.processors }
     ensures { IsTrue result ↔ IsHeldAgainst links.now w x p }
 {
     match links.on(p) {
-        Some(u) => links.priority(u) < links.priority(w) && effective_mask(links, u).within(&x),
+        Some(u) => links.is_more_urgent(u, w) && links.effective(u).within(&x),
         None => false,
     }
 }
@@ -34,7 +26,7 @@ pub fn is_certificate(links: &Links, w: u32, x: ProcSet) -> bool
     ensures { IsTrue result ↔ IsCertificate links.now w x }
 {
     let processors = links.processors();
-    if !x.within(&ProcSet::first(processors)) || !effective_mask(links, w).within(&x) {
+    if !x.within(&ProcSet::first(processors)) || !links.effective(w).within(&x) {
         return false;
     }
     for p in 0..processors {

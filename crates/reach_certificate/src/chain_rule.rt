@@ -4,9 +4,9 @@ ghost use Rattle.affinity_mask.specs.ProcSet.{has};
 ghost use Rattle.link_table.specs.State.{task_count};
 ghost use Rattle.reach_certificate.specs.Judging.{IsFirstMisfitIfAny, IsChainRuleOf, Begins, Follows, Ends, GoesOn, FitsChainRule, ComesBefore};
 
-use crate::judged_links::JudgedLinks;
+use crate::occupants::{can_shift, occupant};
 use affinity_mask::ProcSet;
-use link_table::Chain;
+use link_table::{Chain, Links};
 
 /// What a chain has to be.
 #[derive(Clone, Copy)]
@@ -23,7 +23,7 @@ pub enum ChainRule {
 
 impl ChainRule {
     /// The first place at which a chain does not fit.
-    pub fn first_misfit(self, links: &JudgedLinks, chain: &Chain) -> Option<u8>
+    pub fn first_misfit(self, links: &Links, chain: &Chain) -> Option<u8>
         requires { IsChainRuleOf (task_count links.now) self }
         ensures { IsFirstMisfitIfAny (FitsChainRule links.now self chain.now) (length chain.now) result }
     {
@@ -40,8 +40,8 @@ impl ChainRule {
         None
     }
 
-    // Whether place i of a chain fits, where the chain has come to the processors that were seen.
-    fn fits(self, links: &JudgedLinks, chain: &Chain, i: usize, seen: &ProcSet) -> bool
+    /// Whether place i of a chain fits, where the chain visited the processors that were seen before.
+    fn fits(self, links: &Links, chain: &Chain, i: usize, seen: &ProcSet) -> bool
         requires task { IsChainRuleOf (task_count links.now) self }
         requires place { i < length chain.now }
         requires seen { (q : ℕ) → IsTrue (has seen.now q) ↔ ComesBefore chain.now i q }
@@ -55,8 +55,8 @@ impl ChainRule {
             && (i != last || self.ends(links, q))
     }
 
-    // Whether the processor at place i begins the chain, or follows the one before it.
-    fn goes_on(self, links: &JudgedLinks, chain: &Chain, i: usize) -> bool
+    /// Whether the processor at place i begins the chain, or follows the one before it.
+    fn goes_on(self, links: &Links, chain: &Chain, i: usize) -> bool
         requires task { IsChainRuleOf (task_count links.now) self }
         requires place { i < length chain.now }
         ensures { IsTrue result ↔ GoesOn links.now self chain.now i }
@@ -68,37 +68,37 @@ impl ChainRule {
         }
     }
 
-    // Whether a chain may begin with q.
-    fn begins(self, links: &JudgedLinks, q: u8) -> bool
+    /// Whether a chain may begin with q.
+    fn begins(self, links: &Links, q: u8) -> bool
         requires task { IsChainRuleOf (task_count links.now) self }
         requires processor { q < 64 }
         ensures { IsTrue result ↔ Begins links.now self q }
     {
         match self {
-            ChainRule::ToIdle(t) | ChainRule::ToOccupied(t) => links.mask(t).has(q),
+            ChainRule::ToIdle(t) | ChainRule::ToOccupied(t) => links.effective(t).has(q),
             ChainRule::Back { place, .. } => q == place,
         }
     }
 
-    // Whether q may follow a processor of the chain.
-    fn follows(self, links: &JudgedLinks, before: u8, q: u8) -> bool
+    /// Whether q may follow a processor of the chain.
+    fn follows(self, links: &Links, before: u8, q: u8) -> bool
         requires before { before < 64 }
         requires processor { q < 64 }
         ensures { IsTrue result ↔ Follows links.now self before q }
     {
         match self {
-            ChainRule::ToIdle(_) | ChainRule::ToOccupied(_) => links.can_shift(before, q),
-            ChainRule::Back { entered, .. } => entered.is_some() && links.can_shift(q, before),
+            ChainRule::ToIdle(_) | ChainRule::ToOccupied(_) => can_shift(links, before, q),
+            ChainRule::Back { entered, .. } => entered.is_some() && can_shift(links, q, before),
         }
     }
 
-    // Whether a chain may end on q.
-    fn ends(self, links: &JudgedLinks, q: u8) -> bool
+    /// Whether a chain may end on q.
+    fn ends(self, links: &Links, q: u8) -> bool
         ensures { IsTrue result ↔ Ends links.now self q }
     {
         match self {
-            ChainRule::ToIdle(_) => links.on(q).is_none(),
-            ChainRule::ToOccupied(_) => links.on(q).is_some(),
+            ChainRule::ToIdle(_) => occupant(links, q).is_none(),
+            ChainRule::ToOccupied(_) => occupant(links, q).is_some(),
             ChainRule::Back { .. } => true,
         }
     }

@@ -8,14 +8,13 @@ ghost use Rattle.link_table.specs.History.{effect_of};
 ghost use Rattle.reach_certificate.specs.Checker.{IsChecker};
 ghost use Rattle.reach_certificate.specs.Contexts.{EachBecomes, context_after_entry};
 ghost use Rattle.reach_certificate.specs.Defect.{IsDefect};
-ghost use Rattle.reach_certificate.specs.Laws.{LinkedIsBest};
-ghost use Rattle.reach_certificate.specs.Passing.{IsOfTask, Passes};
+ghost use Rattle.certificate_laws.specs.Laws.{LinkedIsBest};
+ghost use Rattle.certificate_laws.specs.Passing.{IsOfTask, Passes};
 ghost use Rattle.reach_certificate.specs.declared.defect.Defect.{Defect};
 
 use crate::contexts::{Occupants, follow, fresh_contexts};
 use crate::defect::Defect;
-use crate::effect::follow_reply;
-use crate::judge::entry_defect;
+use crate::judge::follow_entry;
 use affinity_mask::OutOfMemory;
 use link_table::{Entry, Links};
 use std::alloc::Global;
@@ -27,6 +26,9 @@ use task_set::{Context, TaskSet};
 #[derive(Drop)]
 pub struct Checker {
     links: Links,
+
+    /// The links on which the next entry is judged. Between two calls they are the same.
+    trial: Links,
     contexts: Vec<Context>,
 }
 
@@ -44,7 +46,7 @@ impl Model for Checker {
 
 impl Checker {
     /// Before any entry: every task is absent, every processor is idle, and no task has run. All room is made here.
-    /// Refused only for want of memory.
+    /// Refused only where memory runs out.
     pub fn new(alloc: Global, set: &TaskSet) -> Result<Checker, OutOfMemory>
         ensures links { IfOk result (λ checker. checker.links ≡ start_of set.now) }
         ensures contexts { IfOk result (λ checker. checker.contexts
@@ -52,8 +54,13 @@ impl Checker {
         ensures valid { IfOk result IsChecker }
     {
         let links = Links::new(alloc, set)?;
+        let trial = Links::new(alloc, set)?;
         let contexts = fresh_contexts(alloc, links.len())?;
-        Ok(Checker { links, contexts })
+        Ok(Checker {
+            links,
+            trial,
+            contexts,
+        })
     }
 
     /// Judges an entry by its chain and its set alone, and follows it where it passes. An entry that is refused changes
@@ -77,11 +84,12 @@ impl Checker {
         ensures best { LinkedIsBest self.new.links }
         ensures valid { IsChecker self.new }
     {
-        if let Some(defect) = entry_defect(&self.links, entry) {
+        if let Some(defect) = follow_entry(&mut self.trial, entry) {
+            self.trial.set_to(&self.links);
             return Err(defect);
         }
         let before = Occupants::of(&self.links);
-        follow_reply(&mut self.links, entry.event, &entry.reply);
+        self.links.set_to(&self.trial);
         follow(&mut self.contexts, &before, &self.links, entry.event);
         Ok(())
     }

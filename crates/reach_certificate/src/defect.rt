@@ -14,7 +14,7 @@ pub enum Defect {
     /// Of the processors that do not fit the set, this is the least.
     BadSet(u8),
 
-    /// This task had to be put out, or had to come in, or had not to.
+    /// This task had to be displaced, or had to come in, or had not to.
     WrongTask(u32),
 }
 

@@ -1,188 +1,234 @@
-//! The judgement of an entry, which is looked at part by part and changes nothing.
-ghost use Rattle.std.specs.Prelude.{◌≡◌, ◌≢◌, ℕ, ◌<◌, ◌↔◌, [], true, IsTrue, IfNone, Some, MatchOption};
-ghost use Rattle.link_table.specs.State.{IsState, is_linked, is_ready, task_count, task_on};
-ghost use Rattle.reach_certificate.specs.Passing.{IsOfTask, Passes};
-ghost use Rattle.reach_certificate.specs.Defect.{IsAllowed, IsAllowedToArrival, IsAllowedToDeparture, ChainFits, HasBadChain, SetFits, HasBadSet, TasksAreRight, HasWrongTask, IsDefect, IsOfProcessors, last_processor};
-ghost use Rattle.reach_certificate.specs.Judging.{HasPlace, IsJustified, IsUnjustified};
+//! The judgement of an entry, which follows it where its reply passes.
+ghost use Rattle.std.specs.Prelude.{◌≡◌, ◌≢◌, ℕ, ◌<◌, [], false, IfNone, Some, MatchOption};
+ghost use Rattle.task_set.specs.declared.event.Event.TheVariants.{Arrive, Depart};
+ghost use Rattle.link_table.specs.declared.reply.Came.TheVariants as came;
+ghost use Rattle.link_table.specs.State.{HasSameTasks, is_ready, task_count, task_on, state_with_ready};
+ghost use Rattle.link_table.specs.Chain.{IsChainOf, IsSimple, state_after_shift};
+ghost use Rattle.link_table.specs.Certificate.{IsCertificate};
+ghost use Rattle.link_table.specs.History.{effect_of, state_after_came, state_after_gone, state_after_reply};
+ghost use Rattle.certificate_laws.specs.Passing.{IsOfTask, Passes, ArrivalPasses, DeparturePasses, CamePasses, GonePasses, PlacedPasses, DisplacedPasses};
+ghost use Rattle.reach_certificate.specs.Defect.{IsDefect, IsReplyDefect, IsCameDefect, IsGoneDefect, last_processor};
 
 use crate::chain_rule::ChainRule;
 use crate::defect::Defect;
 use crate::entrant::{last_of, wrong_entrant};
-use crate::judged_links::JudgedLinks;
+use crate::occupants::occupant;
 use crate::set_rule::SetRule;
-use link_table::{Chain, Entry, Links, Reply};
+use affinity_mask::ProcSet;
+use link_table::{Came, Chain, Entry, Gone, Links, Reply};
 use task_set::Event;
 
-/// The defect of an entry. `None` just where its reply passes.
-pub fn entry_defect(links: &Links, entry: &Entry) -> Option<Defect>
-    requires { IsOfTask (task_count links.now) entry.now.event }
-    ensures { MatchOption result (Passes links.now entry.now.event entry.now.reply)
-        (IsDefect links.now entry.now) }
+/// The defect of an entry. `None` just where its reply passes, and then the links are those after it. Where there is
+/// a defect they are left as far as it was followed.
+pub fn follow_entry(links: &mut Links, entry: &Entry) -> Option<Defect>
+    requires { IsOfTask (task_count links.old) entry.now.event }
+    ensures judged { MatchOption result (Passes links.old entry.now.event entry.now.reply)
+        (IsDefect links.old entry.now) }
+    ensures followed { IfNone result (links.new ≡ effect_of links.old entry.now) }
+    ensures tasks { HasSameTasks links.old links.new }
 {
-    if !is_allowed(links, entry.event, &entry.reply) {
-        return Some(Defect::WrongReply);
-    }
     match entry.event {
-        Event::Arrive(t) => reply_defect(links, t, &entry.reply),
-        Event::Depart(t) => reply_defect(links, t, &entry.reply),
-        Event::Tick(_) => None,
-    }
-}
-
-// Whether a reply of this kind may stand with the event.
-fn is_allowed(links: &Links, event: Event, reply: &Reply) -> bool
-    requires { IsOfTask (task_count links.now) event }
-    ensures { IsTrue result ↔ IsAllowed links.now event reply.now }
-{
-    match event {
-        Event::Arrive(t) => is_allowed_to_arrival(links, t, reply),
-        Event::Depart(t) => is_allowed_to_departure(links, t, reply),
-        Event::Tick(_) => *reply == Reply::Ticked,
-    }
-}
-
-// Whether it may stand with the arrival of a task.
-fn is_allowed_to_arrival(links: &Links, t: u32, reply: &Reply) -> bool
-    requires { t < task_count links.now }
-    ensures { IsTrue result ↔ IsAllowedToArrival links.now t reply.now }
-{
-    let ready = links.is_ready(t);
-    match reply {
-        Reply::AlreadyReady => ready,
-        Reply::Placed { .. } | Reply::Displaced { .. } | Reply::Waits { .. } => !ready,
-        Reply::Freed { .. } | Reply::Left | Reply::Ticked | Reply::NotReady => false,
-    }
-}
-
-// Whether it may stand with the departure of a task.
-fn is_allowed_to_departure(links: &Links, t: u32, reply: &Reply) -> bool
-    requires { t < task_count links.now }
-    ensures { IsTrue result ↔ IsAllowedToDeparture links.now t reply.now }
-{
-    match reply {
-        Reply::NotReady => !links.is_ready(t),
-        Reply::Left => links.is_ready(t) && links.of(t).is_none(),
-        Reply::Freed { .. } => links.of(t).is_some(),
-        Reply::Placed { .. } | Reply::Displaced { .. } | Reply::Waits { .. } => false,
-        Reply::Ticked | Reply::AlreadyReady => false,
-    }
-}
-
-// What is wrong first with the chain, the set and the tasks of a reply about t.
-fn reply_defect(links: &Links, t: u32, reply: &Reply) -> Option<Defect>
-    requires number { t < task_count links.now }
-    requires place { HasPlace links.now t reply.now }
-    ensures judged { MatchOption result (IsJustified links.now t reply.now)
-        (IsUnjustified links.now t reply.now) }
-    ensures processors { IfNone result (IsOfProcessors reply.now) }
-    ensures valid { IsState links.now }
-{
-    prove!(t < links.len());
-    if let Some(place) = chain_misfit(links, t, reply) {
-        return Some(Defect::BadChain(place));
-    }
-    if let Some(q) = set_misfit(links, t, reply) {
-        return Some(Defect::BadSet(q));
-    }
-    match wrong_task(links, t, reply) {
-        Some(task) => Some(Defect::WrongTask(task)),
-        None => None,
-    }
-}
-
-// The first place at which the chain of a reply does not fit.
-fn chain_misfit(links: &Links, t: u32, reply: &Reply) -> Option<u8>
-    requires number { t < task_count links.now }
-    requires place { HasPlace links.now t reply.now }
-    ensures { MatchOption result (ChainFits links.now t reply.now)
-        (HasBadChain links.now t reply.now) }
-{
-    match reply {
-        Reply::Placed { chain } => {
-            ChainRule::ToIdle(t).first_misfit(&JudgedLinks::now(links), chain)
-        }
-        Reply::Displaced { chain, .. } => {
-            ChainRule::ToOccupied(t).first_misfit(&JudgedLinks::now(links), chain)
-        }
-        Reply::Freed { entered, chain, .. } => {
-            let rule = ChainRule::Back {
-                place: place_of(links, t),
-                entered: *entered,
-            };
-            rule.first_misfit(&JudgedLinks::without(links, t), chain)
-        }
-        Reply::Waits { .. } | Reply::Left | Reply::Ticked => None,
-        Reply::AlreadyReady | Reply::NotReady => None,
-    }
-}
-
-// The least processor that does not fit the set of a reply.
-fn set_misfit(links: &Links, t: u32, reply: &Reply) -> Option<u8>
-    requires number { t < task_count links.now }
-    requires place { HasPlace links.now t reply.now }
-    requires chain { ChainFits links.now t reply.now }
-    ensures test { MatchOption result (SetFits links.now t reply.now)
-        (HasBadSet links.now t reply.now) }
-    ensures processors { IsOfProcessors reply.now }
-{
-    match reply {
-        Reply::Displaced { chain, reach, .. } => {
-            let rule = SetRule::HeldOver(t, last_occupant(links, chain));
-            rule.first_misfit(&JudgedLinks::now(links), *reach)
-        }
-        Reply::Waits { reach } => {
-            SetRule::HeldAgainst(t).first_misfit(&JudgedLinks::now(links), *reach)
-        }
-        Reply::Freed { back, .. } => {
-            let rule = SetRule::LeadsBack(place_of(links, t));
-            rule.first_misfit(&JudgedLinks::without(links, t), *back)
-        }
-        Reply::Placed { .. } | Reply::Left | Reply::Ticked => None,
-        Reply::AlreadyReady | Reply::NotReady => None,
-    }
-}
-
-// The task that a reply should name, or should not, where it names the wrong one.
-fn wrong_task(links: &Links, t: u32, reply: &Reply) -> Option<u32>
-    requires number { t < task_count links.now }
-    requires chain { ChainFits links.now t reply.now }
-    ensures { MatchOption result (TasksAreRight links.now t reply.now)
-        (HasWrongTask links.now t reply.now) }
-{
-    match reply {
-        Reply::Displaced { chain, out, .. } => {
-            let last = last_occupant(links, chain);
-            if *out == last && links.priority(t) < links.priority(last) {
+        Event::Arrive(t) => follow_arrival(links, t, &entry.reply),
+        Event::Depart(t) => follow_departure(links, t, &entry.reply),
+        Event::Tick(_) => {
+            if entry.reply == Reply::Ticked {
                 None
             } else {
-                Some(last)
+                Some(Defect::WrongReply)
             }
         }
-        Reply::Freed {
-            entered,
-            chain,
-            back,
-        } => wrong_entrant(&JudgedLinks::without(links, t), *entered, chain, *back),
-        Reply::Placed { .. } | Reply::Waits { .. } | Reply::Left => None,
-        Reply::Ticked | Reply::AlreadyReady | Reply::NotReady => None,
     }
 }
 
-// The processor of a linked task.
-fn place_of(links: &Links, t: u32) -> u8
-    requires number { t < task_count links.now }
-    requires linked { is_linked links.now t ≡ true }
-    ensures { task_on links.now result ≡ Some t }
+/// The defect of a reply to the arrival of a task.
+fn follow_arrival(links: &mut Links, t: u32, reply: &Reply) -> Option<Defect>
+    requires { t < task_count links.old }
+    ensures judged { MatchOption result (ArrivalPasses links.old t reply.now)
+        (IsReplyDefect links.old (Arrive t) reply.now) }
+    ensures followed { IfNone result (links.new ≡ state_after_reply links.old (Arrive t) reply.now) }
+    ensures tasks { HasSameTasks links.old links.new }
 {
-    links.of(t).unwrap()
+    if links.is_ready(t) {
+        if *reply == Reply::AlreadyReady {
+            return None;
+        }
+        return Some(Defect::WrongReply);
+    }
+    let Some(came) = reply.came() else {
+        return Some(Defect::WrongReply);
+    };
+    if let Some(defect) = came_defect(links, t, &came) {
+        return Some(defect);
+    }
+    take_in(links, t, &came);
+    None
 }
 
-// The occupant of the processor on which a chain ends.
+/// The defect of a reply to the departure of a task.
+fn follow_departure(links: &mut Links, t: u32, reply: &Reply) -> Option<Defect>
+    requires { t < task_count links.old }
+    ensures judged { MatchOption result (DeparturePasses links.old t reply.now)
+        (IsReplyDefect links.old (Depart t) reply.now) }
+    ensures followed { IfNone result (links.new ≡ state_after_reply links.old (Depart t) reply.now) }
+    ensures tasks { HasSameTasks links.old links.new }
+{
+    if !links.is_ready(t) {
+        if *reply == Reply::NotReady {
+            return None;
+        }
+        return Some(Defect::WrongReply);
+    }
+    if links.is_waiting(t) {
+        if *reply != Reply::Left {
+            return Some(Defect::WrongReply);
+        }
+        links.make_absent(t);
+        return None;
+    }
+    let Some(gone) = reply.gone() else {
+        return Some(Defect::WrongReply);
+    };
+    let p = links.leave(t);
+    if let Some(defect) = gone_defect(links, p, &gone) {
+        return Some(defect);
+    }
+    let_in(links, p, &gone);
+    None
+}
+
+/// The first part that fails of what an absent task came to.
+fn came_defect(links: &Links, t: u32, came: &Came) -> Option<Defect>
+    requires { t < task_count links.now }
+    ensures { MatchOption result (CamePasses links.now t came.now)
+        (IsCameDefect links.now t came.now) }
+{
+    match came {
+        Came::Placed { chain } => placed_defect(links, t, chain),
+        Came::Displaced { chain, out, reach } => displaced_defect(links, t, chain, *out, *reach),
+        Came::Waits { reach } => waits_defect(links, t, *reach),
+    }
+}
+
+/// The same where it was placed.
+fn placed_defect(links: &Links, t: u32, chain: &Chain) -> Option<Defect>
+    requires { t < task_count links.now }
+    ensures { MatchOption result (PlacedPasses links.now t chain.now)
+        (IsCameDefect links.now t (came.Placed chain.now)) }
+{
+    prove!(t < links.len());
+    if let Some(place) = ChainRule::ToIdle(t).first_misfit(links, chain) {
+        return Some(Defect::BadChain(place));
+    }
+    None
+}
+
+/// The same where it displaced another task.
+fn displaced_defect(
+    links: &Links,
+    t: u32,
+    chain: &Chain,
+    out: u32,
+    reach: ProcSet,
+) -> Option<Defect>
+    requires { t < task_count links.now }
+    ensures { MatchOption result (DisplacedPasses links.now t chain.now out reach)
+        (IsCameDefect links.now t (came.Displaced chain.now out reach)) }
+{
+    prove!(t < links.len());
+    if let Some(place) = ChainRule::ToOccupied(t).first_misfit(links, chain) {
+        return Some(Defect::BadChain(place));
+    }
+    let last = last_occupant(links, chain);
+    if let Some(q) = SetRule::HeldOver(t, last).first_misfit(links, reach) {
+        return Some(Defect::BadSet(q));
+    }
+    if out == last && links.is_more_urgent(t, last) {
+        None
+    } else {
+        Some(Defect::WrongTask(last))
+    }
+}
+
+/// The same where it waits.
+fn waits_defect(links: &Links, t: u32, reach: ProcSet) -> Option<Defect>
+    requires { t < task_count links.now }
+    ensures { MatchOption result (IsCertificate links.now t reach)
+        (IsCameDefect links.now t (came.Waits reach)) }
+{
+    prove!(t < links.len());
+    if let Some(q) = SetRule::HeldAgainst(t).first_misfit(links, reach) {
+        return Some(Defect::BadSet(q));
+    }
+    None
+}
+
+/// The first part that fails of who came in where processor `p` has become idle.
+fn gone_defect(links: &Links, p: u8, gone: &Gone) -> Option<Defect>
+    requires { p < links.now.processors }
+    ensures { MatchOption result (GonePasses links.now p gone.now)
+        (IsGoneDefect links.now p gone.now) }
+{
+    prove!(p < links.processors());
+    let rule = ChainRule::Back {
+        place: p,
+        entered: gone.entered,
+    };
+    if let Some(place) = rule.first_misfit(links, &gone.chain) {
+        return Some(Defect::BadChain(place));
+    }
+    if let Some(q) = SetRule::LeadsBack(p).first_misfit(links, gone.back) {
+        return Some(Defect::BadSet(q));
+    }
+    if let Some(task) = wrong_entrant(links, gone.entered, &gone.chain, gone.back) {
+        return Some(Defect::WrongTask(task));
+    }
+    None
+}
+
+/// What an absent task came to, where that passes, happens to the links.
+fn take_in(links: &mut Links, t: u32, came: &Came)
+    requires number { t < task_count links.old }
+    requires absent { is_ready links.old t ≡ false }
+    requires passes { CamePasses links.old t came.now }
+    ensures { links.new ≡ state_after_came links.old t came.now }
+{
+    match came {
+        Came::Placed { chain } => enter(links, t, chain),
+        Came::Displaced { chain, .. } => enter(links, t, chain),
+        Came::Waits { .. } => links.make_ready(t),
+    }
+}
+
+/// An absent task becomes ready, and is shifted along one of its chains.
+fn enter(links: &mut Links, t: u32, chain: &Chain)
+    requires number { t < task_count links.old }
+    requires absent { is_ready links.old t ≡ false }
+    requires chain { (q : ℕ) × IsChainOf links.old t chain.now q }
+    requires simple { IsSimple chain.now }
+    ensures { links.new ≡ state_after_shift (state_with_ready links.old t) t chain.now }
+{
+    links.make_ready(t);
+    links.shift(t, chain);
+}
+
+/// Who came in where processor `p` has become idle, where that passes, comes in.
+fn let_in(links: &mut Links, p: u8, gone: &Gone)
+    requires processor { p < links.old.processors }
+    requires passes { GonePasses links.old p gone.now }
+    ensures { links.new ≡ state_after_gone links.old gone.now }
+{
+    prove!(p < links.processors());
+    if let Some(w) = gone.entered {
+        links.shift(w, &gone.chain.reversed());
+    }
+}
+
+/// The occupant of the processor on which a chain ends.
 fn last_occupant(links: &Links, chain: &Chain) -> u32
     requires some { chain.now ≢ [] }
     requires occupied { (d : ℕ) × (task_on links.now (last_processor chain.now) ≡ Some d) }
     ensures there { task_on links.now (last_processor chain.now) ≡ Some result }
     ensures number { result < task_count links.now }
 {
-    JudgedLinks::now(links).on(last_of(chain)).unwrap()
+    occupant(links, last_of(chain)).unwrap()
 }

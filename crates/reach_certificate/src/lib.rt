@@ -15,11 +15,10 @@ mod chain_rule;
 mod checker;
 mod contexts;
 mod defect;
-mod effect;
 mod entrant;
 mod judge;
-mod judged_links;
 pub mod laws;
+mod occupants;
 mod set_rule;
 #[cfg(test)]
 mod tests;

@@ -4,8 +4,9 @@ ghost use Rattle.affinity_mask.specs.ProcSet.{all_below, Within};
 ghost use Rattle.link_table.specs.State.{task_count};
 ghost use Rattle.reach_certificate.specs.Judging.{IsFirstMisfitIfAny, IsSetRuleOf, FitsSetRule, IsHeld, Holds, ShiftsInto};
 
-use crate::judged_links::{JudgedLinks, meets};
+use crate::occupants::occupant;
 use affinity_mask::ProcSet;
+use link_table::Links;
 
 /// What a set has to be.
 #[derive(Clone, Copy)]
@@ -15,7 +16,7 @@ pub enum SetRule {
     HeldAgainst(u32),
 
     /// The same around the first task, where the tasks on the set need only be no less urgent than the second one, which
-    /// is put out.
+    /// is displaced.
     HeldOver(u32, u32),
 
     /// A set from which shifts lead to this processor: it has the processor, none that the machine lacks, and no shift
@@ -25,7 +26,7 @@ pub enum SetRule {
 
 impl SetRule {
     /// The least processor that does not fit a set.
-    pub fn first_misfit(self, links: &JudgedLinks, set: ProcSet) -> Option<u8>
+    pub fn first_misfit(self, links: &Links, set: ProcSet) -> Option<u8>
         requires { IsSetRuleOf (task_count links.now) self }
         ensures test { IsFirstMisfitIfAny (FitsSetRule links.now self set) 64 result }
         ensures processors { Within set (all_below 64) }
@@ -40,8 +41,8 @@ impl SetRule {
         None
     }
 
-    // Whether q fits a set.
-    fn fits(self, links: &JudgedLinks, set: ProcSet, q: u8) -> bool
+    /// Whether q fits a set.
+    fn fits(self, links: &Links, set: ProcSet, q: u8) -> bool
         requires tasks { IsSetRuleOf (task_count links.now) self }
         requires processor { q < 64 }
         ensures { IsTrue result ↔ FitsSetRule links.now self set q }
@@ -51,7 +52,7 @@ impl SetRule {
                 if set.has(q) {
                     self.is_held(links, set, q)
                 } else {
-                    !links.mask(t).has(q)
+                    !links.effective(t).has(q)
                 }
             }
             SetRule::LeadsBack(place) => {
@@ -64,19 +65,19 @@ impl SetRule {
         }
     }
 
-    // Whether the occupant of q may run only within the set, and holds its place there.
-    fn is_held(self, links: &JudgedLinks, set: ProcSet, q: u8) -> bool
+    /// Whether the occupant of q may run only within the set, and holds its place there.
+    fn is_held(self, links: &Links, set: ProcSet, q: u8) -> bool
         requires tasks { IsSetRuleOf (task_count links.now) self }
         ensures { IsTrue result ↔ IsHeld links.now self set q }
     {
-        match links.on(q) {
-            Some(u) => links.mask(u).within(&set) && self.holds(links, u),
+        match occupant(links, q) {
+            Some(u) => links.effective(u).within(&set) && self.holds(links, u),
             None => false,
         }
     }
 
-    // Whether an occupant is urgent enough to hold its place.
-    fn holds(self, links: &JudgedLinks, u: u32) -> bool
+    /// Whether an occupant is urgent enough to hold its place.
+    fn holds(self, links: &Links, u: u32) -> bool
         requires tasks { IsSetRuleOf (task_count links.now) self }
         requires occupant { u < task_count links.now }
         ensures { IsTrue result ↔ Holds links.now self u }
@@ -89,12 +90,12 @@ impl SetRule {
     }
 }
 
-// Whether the occupant of q may run on a processor of the set.
-fn shifts_into(links: &JudgedLinks, q: u8, set: ProcSet) -> bool
+/// Whether the occupant of q may run on a processor of the set.
+fn shifts_into(links: &Links, q: u8, set: ProcSet) -> bool
     ensures { IsTrue result ↔ ShiftsInto links.now q set }
 {
-    match links.on(q) {
-        Some(u) => meets(&set, &links.mask(u)),
+    match occupant(links, q) {
+        Some(u) => set.meets(&links.effective(u)),
         None => false,
     }
 }

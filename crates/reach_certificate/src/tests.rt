@@ -1,7 +1,7 @@
 //! What no clause says: that the checker answers on small tables what a reader works out by hand.
 ghost use Rattle.std.specs.Prelude.{◌≡◌, ◌<◌, IsTrue};
 ghost use Rattle.link_table.specs.State.{task_count};
-ghost use Rattle.reach_certificate.specs.Passing.{IsOfTask};
+ghost use Rattle.certificate_laws.specs.Passing.{IsOfTask};
 
 use crate::{Checker, Defect};
 use affinity_mask::ProcSet;
@@ -15,7 +15,7 @@ use task_set::{Context, Event, TaskSet};
 enum Answer {
     Placed(&'static [u8]),
 
-    /// The chain, who is put out, and the set.
+    /// The chain, who is displaced, and the set.
     Displaced(&'static [u8], u32, &'static [u8]),
     Waits(&'static [u8]),
 
@@ -237,7 +237,7 @@ static ROWS: [(Event, Answer, Option<Defect>); 41] = [
     (Event::Tick(3), Answer::Ticked, None),
 ];
 
-// The list of these processors.
+/// The list of these processors.
 fn chain_of(rt: &impl Abort, processors: &[u8]) -> Chain {
     let mut chain = Chain::new();
     for &p in processors {
@@ -247,7 +247,7 @@ fn chain_of(rt: &impl Abort, processors: &[u8]) -> Chain {
     chain
 }
 
-// The set of these processors.
+/// The set of these processors.
 fn set_of(rt: &impl Abort, processors: &[u8]) -> ProcSet {
     let mut set = ProcSet::empty();
     for &p in processors {
@@ -282,7 +282,7 @@ fn reply_of(rt: &impl Abort, answer: &Answer) -> Reply {
     }
 }
 
-// Whether the task of an event, if it has one, is one of the checker's.
+/// Whether the task of an event, if it has one, is one of the checker's.
 fn is_of_task(checker: &Checker, event: Event) -> bool
     ensures { IsTrue result → IsOfTask (task_count checker.now.links) event }
 {
@@ -293,7 +293,7 @@ fn is_of_task(checker: &Checker, event: Event) -> bool
     }
 }
 
-// The defect of an entry, if it has one.
+/// The defect of an entry, if it has one.
 fn judge(rt: &impl Abort, checker: &mut Checker, event: Event, answer: &Answer) -> Option<Defect> {
     let entry = Entry {
         caller: 0,

@@ -1,11 +1,11 @@
 -- In every core the linked tasks are the best set: each waiting task has a certificate.
-use Rattle.reach_certificate.specs.Certified.{HasCertificates}
-use Rattle.reach_certificate.specs.Laws.{LinkedIsBest, LinkedIsLargest, LinkedIsAsUrgent}
-use Rattle.reach_certificate.proofs.Best.{linked_is_best, linked_is_largest}
-use Rattle.reach_certificate.proofs.Ranked.{linked_is_as_urgent}
+use Rattle.certificate_laws.specs.Certified.{HasCertificates}
+use Rattle.certificate_laws.specs.Laws.{LinkedIsBest, LinkedIsLargest, LinkedIsAsUrgent}
+use Rattle.certificate_laws.proofs.Best.{linked_is_best, linked_is_largest}
+use Rattle.certificate_laws.proofs.Ranked.{linked_is_as_urgent}
 use Rattle.sched_core.specs.CoreData.{CoreData, IsCore}
-use Rattle.sched_core.specs.ImprovingLaw.{HasNoImprovingChain}
-use Rattle.sched_core.proofs.StepImproving.{no_improving_chain}
+use Rattle.history_laws.specs.ImprovingLaw.{HasNoImprovingChain}
+use Rattle.history_laws.proofs.StepImproving.{no_improving_chain}
 
 pub core_certified : (core : CoreData) → IsCore core → HasCertificates core.links
 core_certified core kept = kept.certificates

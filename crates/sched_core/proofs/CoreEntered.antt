@@ -1,19 +1,20 @@
--- What is kept by a core, one entry later.
+-- What is kept by a core, before any entry and one entry later.
 use Rattle.std.proofs.Common.{◌≡◌, ℕ, ◌+◌, ◌*◌, ◌<◌, ◌≤◌, false, not, ◌&&◌, List, [], ◌∷◌, ◌++◌, length, get_or, filter, Option, Some, refl, sym, ap, ◌∙◌, arith, append_assoc}
 use Rattle.std.specs.List.{range_with_len}
 use Rattle.std.proofs.lemmas.List.{length-append}
 use Rattle.link_table.specs.declared.reply.Entry.{Entry}
-use Rattle.link_table.specs.State.{State, task_on, is_task}
+use Rattle.link_table.specs.State.{State, IsState, task_on, is_task}
 use Rattle.link_table.specs.Step.{SchedulerStep}
 use Rattle.link_table.specs.History.{state_after, effect_of}
 use Rattle.link_table.specs.Dispatch.{processors_of, taken_between, orders_of}
 use Rattle.link_table.proofs.Histories.{state_after-push, IsLegalFrom-push, processors_of-push, orders_of-push}
 use Rattle.link_table.proofs.Steps.{reply_gives_new_state, step_keeps_state}
-use Rattle.reach_certificate.proofs.Kept.{step_keeps_certificates}
+use Rattle.certificate_laws.specs.Certified.{HasCertificates}
+use Rattle.certificate_laws.proofs.Kept.{step_keeps_certificates}
 use Rattle.sched_core.specs.CoreData.{CoreData, IsCore, core_orders, max_entries}
 use Rattle.sched_core.specs.CoreRows.{RowData, row_at, RowFollows, NumbersBecome, came, came_below}
 use Rattle.sched_core.proofs.RowLoops.{filtered_count-bound, filtered_count-same, change_orders-same_number}
-use Rattle.sched_core.proofs.SameTasks.{same_tasks-effect, same_tasks-step}
+use Rattle.link_table.proofs.SameTasks.{same_tasks-effect, same_tasks-step}
 
 -- while a core is open its orders are those of the history
 pub core_orders-open : (core : CoreData) (p : ℕ) → core.closed ≡ false → core_orders core p ≡ orders_of core.start core.history p
@@ -29,6 +30,11 @@ takes_bound s (entry ∷ rest) t few =
     let here = filtered_count-bound (λ p. is_task t (task_on next p) && not (is_task t (task_on s p))) s.processors in
     let both = length-append (taken_between s next t) (processors_of next rest t) in
     omega (arith, later, here, both, few)
+
+-- what holds of every core holds before any entry
+pub core_started : (s : State) (history : List Entry) → IsState s → HasCertificates s → history ≡ [] → IsCore (record { start = s; history = history; links = s; closed = false; spare = 0 })
+core_started s history ok certificates none =
+    rw none record { start = ok; state = ok; legal = tt; links = refl; certificates = certificates; processors = refl; tasks = refl; fits = omega arith }
 
 -- what holds of every core holds after one more entry
 pub core_entered : (old : CoreData) (entry : Entry) (new : State) (spare : ℕ) → IsCore old → SchedulerStep old.links entry.event entry.reply new → length old.history < max_entries

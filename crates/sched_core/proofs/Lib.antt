@@ -1,20 +1,4 @@
-pub mod CarriedAlong
-pub mod CarriedByChanges
-pub mod CarriedByTicks
-pub mod CarriedThroughout
 pub mod CoreBest
 pub mod CoreEntered
-pub mod OrderCounts
-pub mod OrderLists
-pub mod OrderNames
-pub mod OrderPrefixes
 pub mod RowLoops
-pub mod SameTasks
-pub mod StepExists
-pub mod StepHistories
-pub mod StepImproving
-pub mod StepReach
-pub mod StepSearch
-pub mod StintsOfTask
-pub mod StintsOrdered
-pub mod StintsRows
+mod RowsStarted

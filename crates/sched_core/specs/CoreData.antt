@@ -1,18 +1,20 @@
--- The scheduler on one thread. What a reader must believe: a core has a history from the state in which it began, and
--- the links after it; each event that is applied adds one entry, which is the scheduler's step; the orders of each
--- processor are those of the history, and of the close once the core is closed.
-use Rattle.std.specs.Prelude.{◌≡◌, ℕ, ◌+◌, ◌≤◌, Bool, false, List, [], ◌∷◌, ◌++◌, length, replicate, None, if◌then◌else◌}
-use Rattle.affinity_mask.specs.ProcSet.{all_below}
+-- The scheduler on one thread. A core has a history from the state in which it began, and the links after it; each
+-- event that is applied adds one entry, which is the scheduler's step; the orders of each processor are those of the
+-- history, and of the close once the core is closed.
+use Rattle.std.specs.Prelude.{◌≡◌, ◌≢◌, ℕ, ◌+◌, ◌≤◌, ◌↔◌, IsTrue, Bool, false, List, [], ◌∷◌, ◌++◌, length, Result, Err, IfOk, if◌then◌else◌}
+use Rattle.std.specs.Result.{OnErr}
 use Rattle.task_set.specs.declared.event.Event.{Event}
 use Rattle.task_set.specs.declared.order.Order.{Order}
 use Rattle.link_table.specs.declared.reply.Reply.{Reply}
 use Rattle.link_table.specs.declared.reply.Entry.{Entry}
 use Rattle.link_table.specs.State.{State, IsState, task_count}
 use Rattle.link_table.specs.Step.{SchedulerStep}
-use Rattle.link_table.specs.History.{event_task, IsLegalFrom, state_after}
+use Rattle.link_table.specs.History.{IsLegalFrom, state_after}
 use Rattle.link_table.specs.Dispatch.{orders_of, closed_orders_of}
-use Rattle.reach_certificate.specs.Certified.{HasCertificates}
-use Rattle.reach_certificate.specs.Ground.{HasGround}
+use Rattle.certificate_laws.specs.Certified.{HasCertificates}
+use Rattle.certificate_laws.specs.Justification.{HasJustification}
+use Rattle.sched_core.specs.declared.fault.CoreFault.{CoreFault}
+use Rattle.sched_core.specs.declared.fault.CoreFault.TheVariants.{Closed, Full, OutOfMemory}
 
 -- the state in which a core began, its history, the links now, whether it is closed, and for how many more entries
 -- there is room
@@ -26,17 +28,6 @@ pub record CoreData : Type 0 where
 -- a history has at most so many entries
 abbrev pub max_entries : ℕ
 max_entries = 20000
-
--- the state in which the tasks and the processors are those of s, every task is absent and every processor idle
-abbrev pub state_before_events : State → State
-state_before_events s = record {
-  processors = s.processors;
-  priorities = s.priorities;
-  masks = s.masks;
-  online = all_below s.processors;
-  ready = replicate (task_count s) false;
-  on = replicate s.processors None;
-}
 
 -- what holds of every core: the history is legal, the links are those after it, and each waiting task has a certificate
 pub record IsCore (core : CoreData) : Type 0 where
@@ -58,14 +49,14 @@ abbrev pub entry_of : ℕ → Event → Reply → Entry
 entry_of caller event reply = record { caller = caller; event = event; reply = reply }
 
 -- the event of this caller was applied: the history has one more entry, at this place, which is the scheduler's step
--- from the links before it to the links after it; its reply has its ground in the links after it, and it takes the room
+-- from the links before it to the links after it; its reply is justified by the links after it, and it takes the room
 -- of one entry at most
 pub record Applied (old : CoreData) (caller : ℕ) (event : Event) (place : ℕ) (new : CoreData) : Type 0 where
   pub reply : Reply
   pub at_place : place ≡ length old.history
   pub history : new.history ≡ old.history ++ entry_of caller event reply ∷ []
   pub step : SchedulerStep old.links event reply new.links
-  pub ground : HasGround new.links (event_task event) reply
+  pub justified : HasJustification new.links event reply
   pub start : new.start ≡ old.start
   pub closed : new.closed ≡ old.closed
   pub spare : old.spare ≤ new.spare + 1
@@ -77,3 +68,12 @@ pub record OnlyMadeRoom (old new : CoreData) : Type 0 where
   pub links : new.links ≡ old.links
   pub closed : new.closed ≡ old.closed
   pub spare : old.spare ≤ new.spare
+
+-- the answer to an event of a caller: it was applied, at this place; or it was refused, since the core was closed, or
+-- full, or memory ran out, which cannot be where room for an entry was made
+pub record AppliedOrRefused (old : CoreData) (caller : ℕ) (event : Event) (result : Result ℕ CoreFault) (new : CoreData) : Type 0 where
+  pub applied : IfOk result (λ place. Applied old caller event place new)
+  pub closed : (result ≡ Err Closed) ↔ IsTrue old.closed
+  pub full : (result ≡ Err Full) ↔ (old.closed ≡ false) × (length old.history ≡ max_entries)
+  pub memory : 1 ≤ old.spare → result ≢ Err OutOfMemory
+  pub refused : OnErr result (OnlyMadeRoom old new)

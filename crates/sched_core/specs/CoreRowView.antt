@@ -1,4 +1,4 @@
--- What contracts see of a row of orders. What a reader must believe: the room is the capacity that is not used yet.
+-- What contracts see of a row of orders. The room is the capacity that is not used yet.
 use Rattle.std.specs.Prelude.{◌-◌}
 use Rattle.std.specs.Vec.{vec_len, vec_capacity}
 use Rattle.sched_core.specs.CoreRows.{RowData}

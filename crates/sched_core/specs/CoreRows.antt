@@ -1,6 +1,6 @@
--- The orders to each processor, as a core keeps them. What a reader must believe: a row has the orders to one processor
--- so far, the task that the processor holds after them, and the room for further orders; a row follows an event by the
--- orders of that event, and then holds the occupant.
+-- The orders to each processor, as a core keeps them. A row has the orders to one processor so far, the task that the
+-- processor holds after them, and the room for further orders; a row follows an event by the orders of that event, and
+-- then holds the occupant.
 use Rattle.std.specs.Prelude.{◌≡◌, ℕ, ◌+◌, ◌<◌, ◌≤◌, Bool, List, [], ◌∷◌, ◌++◌, length, get_or, Option, None, ◌&&◌, not, filter}
 use Rattle.std.specs.List.{range_with_len}
 use Rattle.task_set.specs.declared.event.Event.{Event}

@@ -1,18 +1,18 @@
--- What contracts see of a core, and what its stored parts keep. What a reader must believe: a core began with every
--- task absent and every processor idle; its rows have the orders of the history, and there is room in them for the
--- orders of the entries for which room was made, and of the close.
+-- What contracts see of a core, and what its stored parts keep. A core keeps the state in which it began; its rows have
+-- the orders of the history, and there is room in them for the orders of the entries for which room was made, and of
+-- the close.
 use Rattle.std.specs.Prelude.{◌≡◌, ℕ, ◌+◌, ◌*◌, ◌<◌, ◌≤◌, false, length, get_or}
 use Rattle.std.specs.Vec.{vec_len, vec_capacity}
 use Rattle.link_table.specs.State.{task_count, task_on}
 use Rattle.link_table.specs.Dispatch.{processors_of}
-use Rattle.sched_core.specs.CoreData.{CoreData, IsCore, core_orders, state_before_events}
+use Rattle.sched_core.specs.CoreData.{CoreData, IsCore, core_orders}
 use Rattle.sched_core.specs.CoreRows.{row_at}
 use Rattle.sched_core.specs.declared.scheduler.Core.TheInside.{Inside}
 
--- the parts that are stored, and the state before any event, which has their tasks and processors
+-- the parts that are stored
 abbrev pub core_view : Inside → CoreData
 core_view a = record {
-  start = state_before_events a.links;
+  start = a.start;
   history = a.history.items;
   links = a.links;
   closed = a.closed;
@@ -30,6 +30,6 @@ pub record IsKept (a : Inside) : Type 0 where
   pub rows_count : length a.rows.items ≡ a.links.processors
   pub takes_count : length a.takes.items ≡ task_count a.links
   pub orders : (p : ℕ) → p < a.links.processors → (row_at a.rows.items p).orders ≡ core_orders (core_view a) p
-  pub takes : (t : ℕ) → t < task_count a.links → get_or a.takes.items t 0 ≡ length (processors_of (state_before_events a.links) a.history.items t)
+  pub takes : (t : ℕ) → t < task_count a.links → get_or a.takes.items t 0 ≡ length (processors_of a.start a.history.items t)
   pub rows_open : a.closed ≡ false → (p : ℕ) → p < a.links.processors → RowIsOpen a p
   pub room : vec_len a.history + a.spare ≤ vec_capacity a.history

@@ -2,8 +2,3 @@ pub mod CoreData
 pub mod CoreRowView
 pub mod CoreRows
 pub mod CoreView
-pub mod ImprovingLaw
-pub mod LegalLaw
-pub mod OrderLaws
-pub mod StepLaws
-pub mod StintLaw

@@ -6,7 +6,6 @@
 #![tactic(auto)]
 
 mod fault;
-pub mod laws;
 mod order_row;
 mod order_rows;
 mod scheduler;

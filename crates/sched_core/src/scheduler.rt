@@ -1,16 +1,13 @@
 //! The scheduler on one thread.
-ghost use Rattle.std.specs.Prelude.{◌≡◌, ◌≢◌, ℕ, ◌+◌, ◌<◌, ◌≤◌, ◌↔◌, IsTrue, IfOk, Ok, Err, true, false, [], length};
-ghost use Rattle.std.specs.Result.{OnOk, OnErr, IsOk};
-ghost use Rattle.task_set.specs.declared.event.Event.{Event};
-ghost use Rattle.sched_core.specs.declared.fault.CoreFault.{CoreFault};
-ghost use Rattle.sched_core.specs.declared.fault.CoreFault.TheVariants.{Closed, Full};
+ghost use Rattle.std.specs.Prelude.{◌≡◌, ℕ, ◌<◌, ◌≤◌, IfOk, true, false, [], length};
+ghost use Rattle.std.specs.Result.{OnOk, IsOk};
 ghost use Rattle.link_table.specs.State.{task_count, start_of};
 ghost use Rattle.link_table.specs.Step.{SchedulerStep};
-ghost use Rattle.reach_certificate.specs.Certified.{HasCertificates};
-ghost use Rattle.reach_certificate.specs.Laws.{LinkedIsBest, LinkedIsLargest, LinkedIsAsUrgent};
-ghost use Rattle.reach_certificate.specs.Passing.{IsOfTask};
-ghost use Rattle.sched_core.specs.CoreData.{CoreData, IsCore, Applied, OnlyMadeRoom, core_orders, max_entries};
-ghost use Rattle.sched_core.specs.ImprovingLaw.{HasNoImprovingChain};
+ghost use Rattle.certificate_laws.specs.Certified.{HasCertificates};
+ghost use Rattle.certificate_laws.specs.Laws.{LinkedIsBest, LinkedIsLargest, LinkedIsAsUrgent};
+ghost use Rattle.certificate_laws.specs.Passing.{IsOfTask};
+ghost use Rattle.sched_core.specs.CoreData.{CoreData, IsCore, Applied, AppliedOrRefused, OnlyMadeRoom, core_orders, max_entries};
+ghost use Rattle.history_laws.specs.ImprovingLaw.{HasNoImprovingChain};
 
 use crate::fault::CoreFault;
 use crate::order_row::OrderRow;
@@ -28,6 +25,8 @@ pub const MAX_ENTRIES: usize = 20_000;
 /// The history of the events applied so far, the links after it, and the orders that it gives each processor.
 #[derive(Drop)]
 pub struct Core {
+    /// The links before any event. They stay as they are.
+    start: Links,
     history: Vec<Entry>,
     links: Links,
     closed: bool,
@@ -53,8 +52,8 @@ impl Model for Core {
 }
 
 impl Core {
-    /// No event was applied: every task of the set is absent, and every processor is idle. Refused only for want of
-    /// memory.
+    /// No event was applied: every task of the set is absent, and every processor is idle. Refused only where memory
+    /// runs out.
     pub fn new(alloc: Global, set: &TaskSet) -> Result<Core, OutOfMemory>
         ensures { IfOk result (λ core. core ≡ record {
           start = start_of set.now;
@@ -64,11 +63,13 @@ impl Core {
           spare = 0;
         }) }
     {
+        let start = Links::new(alloc, set)?;
         let links = Links::new(alloc, set)?;
         let mut rows = empty_rows(alloc, links.processors())?;
         reserve_rows(&mut rows, 2)?;
         let takes = no_takes(alloc, links.len())?;
         Ok(Core {
+            start,
             history: Vec::new(alloc),
             links,
             closed: false,
@@ -78,7 +79,7 @@ impl Core {
         })
     }
 
-    /// Makes room for an entry, so that the next `apply` is not refused for want of memory. Nothing else changes.
+    /// Makes room for an entry, so that the next `apply` is not refused for lack of memory. Nothing else changes.
     pub fn reserve(&mut self) -> Result<(), OutOfMemory>
         ensures kept { OnlyMadeRoom self.old self.new }
         ensures valid { IsCore self.new }
@@ -101,11 +102,7 @@ impl Core {
     /// and each task that waits has a certificate of it.
     pub fn apply(&mut self, caller: u32, event: Event) -> Result<u64, CoreFault>
         requires { IsOfTask (task_count self.old.links) event }
-        ensures applied { IfOk result (λ place. Applied self.old caller event place self.new) }
-        ensures closed { (result ≡ Err Closed) ↔ IsTrue self.old.closed }
-        ensures full { (result ≡ Err Full) ↔ (self.old.closed ≡ false) × (length self.old.history ≡ max_entries) }
-        ensures memory { 1 ≤ self.old.spare → result ≢ Err CoreFault.OutOfMemory }
-        ensures refused { OnErr result (OnlyMadeRoom self.old self.new) }
+        ensures answer { AppliedOrRefused self.old caller event result self.new }
 
         // Whatever is answered, the links are those of a strong scheduler.
         ensures certified { HasCertificates self.new.links }
@@ -120,11 +117,7 @@ impl Core {
     /// One entry more, where the core is open and there is room.
     fn append(&mut self, caller: u32, event: Event) -> Result<u64, CoreFault>
         requires { IsOfTask (task_count self.old.links) event }
-        ensures applied { IfOk result (λ place. Applied self.old caller event place self.new) }
-        ensures closed { (result ≡ Err Closed) ↔ IsTrue self.old.closed }
-        ensures full { (result ≡ Err Full) ↔ (self.old.closed ≡ false) × (length self.old.history ≡ max_entries) }
-        ensures memory { 1 ≤ self.old.spare → result ≢ Err CoreFault.OutOfMemory }
-        ensures refused { OnErr result (OnlyMadeRoom self.old self.new) }
+        ensures answer { AppliedOrRefused self.old caller event result self.new }
         ensures valid { IsCore self.new }
     {
         let place = self.history().len();

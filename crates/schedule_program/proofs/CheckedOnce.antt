@@ -10,10 +10,10 @@ use Rattle.link_table.specs.State.{State, IsState, start_of}
 use Rattle.link_table.specs.History.{effect_of, state_after, state_at}
 use Rattle.link_table.proofs.Start.{IsState-start}
 use Rattle.reach_certificate.specs.Defect.{IsDefect, number_of}
-use Rattle.reach_certificate.specs.Passing.{Passes, IsPassing, IsPassingFrom}
+use Rattle.certificate_laws.specs.Passing.{Passes, IsPassing, IsPassingFrom}
 use Rattle.reach_certificate.specs.declared.defect.Defect.{Defect}
 use Rattle.reach_certificate.proofs.Defects.{passing_has_no_defect, defect_is_unique}
-use Rattle.reach_certificate.proofs.Kept.{IsState-passed, IsPassingFrom-take}
+use Rattle.certificate_laws.proofs.Kept.{IsState-passed, IsPassingFrom-take}
 use Rattle.schedule_text.specs.Schedule.{ScheduleData, IsSchedule}
 use Rattle.schedule_program.specs.Check.{IsValid, HasDefectAt, HasWrongContextAt, IsInvalid}
 

@@ -1,6 +1,6 @@
 -- The answer to the text of a schedule: it is the one that the schedule has, since a text has one schedule.
 use Rattle.std.proofs.Common.{◌≡◌, ℕ, ◌⊎◌, List, length, Result, Ok, Err, OnOk, IfErr, MatchResult, sym, ap, ◌∙◌, subst, inl, inr}
-use Rattle.reach_certificate.proofs.Kept.{passing_is_best}
+use Rattle.certificate_laws.proofs.Kept.{passing_is_best}
 use Rattle.schedule_text.specs.Laws.{text_of_schedule}
 use Rattle.schedule_text.specs.Schedule.{ScheduleData, IsSchedule}
 use Rattle.schedule_text.specs.ScheduleFault.{IsScheduleRefused}

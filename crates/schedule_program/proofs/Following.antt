@@ -13,10 +13,10 @@ use Rattle.link_table.proofs.Histories.{state_after-push}
 use Rattle.reach_certificate.specs.Checker.{CheckerData}
 use Rattle.reach_certificate.specs.Contexts.{EachBecomes, context_after_entry}
 use Rattle.reach_certificate.specs.Defect.{IsDefect, number_of}
-use Rattle.reach_certificate.specs.Passing.{Passes, IsPassingFrom, IsOfTask}
+use Rattle.certificate_laws.specs.Passing.{Passes, IsPassingFrom, IsOfTask}
 use Rattle.reach_certificate.specs.declared.defect.Defect.{Defect}
 use Rattle.reach_certificate.proofs.ContextsFollow.{contexts-follow}
-use Rattle.sched_core.proofs.SameTasks.{same_tasks-history}
+use Rattle.link_table.proofs.SameTasks.{same_tasks-history}
 use Rattle.text_fields.specs.EventText.{IsAboutSet}
 use Rattle.schedule_text.specs.Schedule.{ScheduleData, IsSchedule, IsScheduled}
 use Rattle.schedule_program.specs.Check.{HasBadEntry, entry_line_number}

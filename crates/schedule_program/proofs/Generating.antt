@@ -4,10 +4,10 @@ use Rattle.task_set.specs.TaskSet.{SetData, IsTaskSet}
 use Rattle.task_set.specs.declared.context.Context.{Context}
 use Rattle.task_set.specs.declared.event.Event.{Event}
 use Rattle.link_table.specs.declared.reply.Entry.{Entry}
-use Rattle.reach_certificate.proofs.Kept.{legal_is_best}
+use Rattle.certificate_laws.proofs.Kept.{legal_is_best}
 use Rattle.sched_core.specs.CoreData.{CoreData}
-use Rattle.sched_core.specs.StepLaws.{caller_and_event}
-use Rattle.sched_core.proofs.StepHistories.{legal_history_is_unique}
+use Rattle.history_laws.specs.StepLaws.{caller_and_event}
+use Rattle.history_laws.proofs.StepHistories.{legal_history_is_unique}
 use Rattle.trace_reader.specs.declared.posted.Posted.{Posted}
 use Rattle.trace_reader.specs.CanonicalText.{canonical_input_text}
 use Rattle.trace_reader.specs.InputText.{IsInputText}

@@ -2,7 +2,7 @@
 use Rattle.std.proofs.Common.{◌≡◌, ℕ, List}
 use Rattle.task_set.specs.TaskSet.{SetData}
 use Rattle.task_set.specs.declared.context.Context.{Context}
-use Rattle.reach_certificate.proofs.Kept.{legal_is_best}
+use Rattle.certificate_laws.proofs.Kept.{legal_is_best}
 use Rattle.sched_core.specs.CoreData.{CoreData}
 use Rattle.trace_reader.specs.declared.posted.Posted.{Posted}
 use Rattle.trace_reader.specs.InputText.{IsInputText}

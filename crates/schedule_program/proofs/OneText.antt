@@ -6,8 +6,8 @@ use Rattle.std.proofs.lemmas.List.{get_or-map, length-map}
 use Rattle.std.proofs.lemmas.List.Elements.{All-head, All-tail}
 use Rattle.task_set.specs.TaskSet.{SetData}
 use Rattle.link_table.specs.declared.reply.Entry.{Entry}
-use Rattle.sched_core.specs.StepLaws.{caller_and_event}
-use Rattle.sched_core.proofs.StepHistories.{legal_history_is_unique}
+use Rattle.history_laws.specs.StepLaws.{caller_and_event}
+use Rattle.history_laws.proofs.StepHistories.{legal_history_is_unique}
 use Rattle.schedule_text.specs.ScheduleText.{schedule_text}
 use Rattle.trace_reader.specs.declared.posted.Posted.{Posted}
 use Rattle.trace_reader.proofs.OneInput.{text_has_one_input}

@@ -4,7 +4,7 @@ use Rattle.std.proofs.Common.{ℕ, ◌<◌, ◌≤◌, List, length, All, sym, s
 use Rattle.task_set.specs.declared.context.Context.{Context}
 use Rattle.link_table.specs.State.{start_of}
 use Rattle.link_table.proofs.Start.{IsState-start}
-use Rattle.reach_certificate.proofs.Kept.{legal_passes}
+use Rattle.certificate_laws.proofs.Kept.{legal_passes}
 use Rattle.trace_reader.specs.declared.posted.Posted.{Posted}
 use Rattle.schedule_text.specs.Schedule.{IsSchedule, IsScheduleSet}
 use Rattle.task_set.specs.Event.{HasUnits}

@@ -6,7 +6,7 @@ use Rattle.affinity_mask.specs.Number.{canonical_number}
 use Rattle.link_table.specs.declared.reply.Entry.{Entry}
 use Rattle.link_table.specs.History.{state_at, IsBestThroughout}
 use Rattle.reach_certificate.specs.Defect.{IsDefect, number_of}
-use Rattle.reach_certificate.specs.Passing.{IsPassing}
+use Rattle.certificate_laws.specs.Passing.{IsPassing}
 use Rattle.reach_certificate.specs.declared.defect.Defect.{Defect}
 use Rattle.text_fields.specs.LineText.{line}
 use Rattle.event_replay.specs.Replay.{contexts_of}

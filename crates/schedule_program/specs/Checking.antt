@@ -4,7 +4,7 @@ use Rattle.event_replay.specs.Replay.{contexts_of}
 use Rattle.std.specs.Prelude.{◌≡◌, ℕ, take}
 use Rattle.link_table.specs.History.{state_at}
 use Rattle.reach_certificate.specs.Checker.{CheckerData}
-use Rattle.reach_certificate.specs.Passing.{IsPassing}
+use Rattle.certificate_laws.specs.Passing.{IsPassing}
 use Rattle.schedule_text.specs.Schedule.{ScheduleData}
 use Rattle.schedule_program.specs.Check.{HasBadEntry, HasBadContext, IsInvalid}
 use Rattle.schedule_program.specs.declared.status.Status.{Status}

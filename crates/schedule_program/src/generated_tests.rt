@@ -2,7 +2,7 @@
 //! that are written are valid.
 ghost use Rattle.std.specs.Prelude.{◌<◌, IsTrue};
 ghost use Rattle.link_table.specs.State.{task_count};
-ghost use Rattle.reach_certificate.specs.Passing.{IsOfTask};
+ghost use Rattle.certificate_laws.specs.Passing.{IsOfTask};
 
 use crate::search_tests::all_below;
 use crate::status::Status;

@@ -6,6 +6,8 @@ mod check;
 mod check_tests;
 mod generate;
 #[cfg(test)]
+mod checker_tests;
+#[cfg(test)]
 mod generated_tests;
 #[cfg(test)]
 mod histories;

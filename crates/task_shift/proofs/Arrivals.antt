@@ -4,10 +4,9 @@ use Rattle.std.proofs.lemmas.Bool.{cases_lt, true≢false}
 use Rattle.affinity_mask.specs.ProcSet.{has}
 use Rattle.link_table.specs.State.{State, IsState, IsMoreUrgent, task_on, task_count, is_ready, priority_of}
 use Rattle.link_table.specs.Chain.{IsReach, EndsIdle, EndsOnTask}
-use Rattle.link_table.specs.Step.{IsOccupied, IsLeastUrgentOn}
+use Rattle.link_table.specs.Step.{IsOccupied, IsNobodyOn, IsLeastUrgentOn}
 use Rattle.link_table.proofs.Linked.{linked_number}
 use Rattle.link_table.proofs.Paths.{Reaches-online}
-use Rattle.task_shift.specs.Entry.{IsNobodyOn}
 
 module _ (s : State) (ok : IsState s) (t : ℕ) where
   module _ (reach : ℕ) (reached : IsReach s t reach) where
@@ -24,11 +23,12 @@ module _ (s : State) (ok : IsState s) (t : ℕ) where
     chain_to_least_urgent d least = let path = (reached least.there.0).0 least.there.1 in (path.0, (least.there.0, path.1, least.there.2))
 
     -- where the least urgent one of them is not less urgent than t, all are more urgent
-    pub more_urgent_reach : t < task_count s → is_ready s t ≡ false → IsOccupied s reach → (d : ℕ) → IsLeastUrgentOn s reach d → priority_of s d ≤ priority_of s t → (p : ℕ) → IsTrue (has reach p) → (u : ℕ) × (task_on s p ≡ Some u) × IsMoreUrgent s u t
-    more_urgent_reach number absent occupied d least le p inside =
+    pub more_urgent_reach : t < task_count s → is_ready s t ≡ false → IsOccupied s reach → (d : ℕ) → IsLeastUrgentOn s reach d → (IsMoreUrgent s t d → ⊥) → (p : ℕ) → IsTrue (has reach p) → (u : ℕ) × (task_on s p ≡ Some u) × IsMoreUrgent s u t
+    more_urgent_reach number absent occupied d least not_less p inside =
         let u = (occupied p inside).0 in
         let on = (occupied p inside).1 in
-        let below = least.least_urgent p u inside on in (
+        let below = least.least_urgent p u inside on in
+        let le : priority_of s d ≤ priority_of s t = elim (cases_lt (priority_of s t) (priority_of s d)) [ inl lt ↦ absurd (not_less lt) | inr ge ↦ ge ] in (
           u,
           on,
           elim (cases_lt (priority_of s u) (priority_of s t)) [

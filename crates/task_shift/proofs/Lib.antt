@@ -1,4 +1,2 @@
 mod Arrivals
 mod Departures
-mod Leaders
-mod Meetings

@@ -2,10 +2,9 @@
 ghost use Rattle.std.specs.Prelude.{◌≡◌, ℕ, ◌<◌, false};
 ghost use Rattle.link_table.specs.State.{IsState, task_count, is_ready, state_with_ready};
 ghost use Rattle.link_table.specs.Chain.{IsChainOf, IsSimple, Shifted};
-ghost use Rattle.link_table.specs.Step.{ArriveStep};
+ghost use Rattle.link_table.specs.Step.{ArriveStep, Comes};
 
-use crate::urgency::{is_more_urgent, least_urgent_on};
-use link_table::{Chain, Links, Reply};
+use link_table::{Came, Chain, Links, Reply};
 use path_search::{chain_to, chain_to_idle, reach};
 
 /// A task arrives. It is placed where it reaches an idle processor, else it displaces the least urgent task that it
@@ -18,26 +17,36 @@ pub fn arrive(links: &mut Links, t: u32) -> Reply
     if links.is_ready(t) {
         return Reply::AlreadyReady;
     }
+    come(links, t).into()
+}
+
+/// An absent task becomes ready, and comes to an idle processor, or to that of a less urgent task, or waits.
+fn come(links: &mut Links, t: u32) -> Came
+    requires number { t < task_count links.old }
+    requires absent { is_ready links.old t ≡ false }
+    ensures comes { Comes links.old t result links.new }
+    ensures valid { IsState links.new }
+{
     if let Some(chain) = chain_to_idle(links, t) {
         enter(links, t, &chain);
-        return Reply::Placed { chain };
+        return Came::Placed { chain };
     }
     let reach = reach(links, t);
-    match least_urgent_on(links, reach) {
-        Some(out) if is_more_urgent(links, t, out) => {
+    match links.least_urgent_on(reach) {
+        Some(out) if links.is_more_urgent(t, out) => {
             let p = links.of(out).unwrap();
             let chain = chain_to(links, t, p).unwrap();
             enter(links, t, &chain);
-            Reply::Displaced { chain, out, reach }
+            Came::Displaced { chain, out, reach }
         }
         _ => {
             links.make_ready(t);
-            Reply::Waits { reach }
+            Came::Waits { reach }
         }
     }
 }
 
-// An absent task becomes ready, and is shifted along one of its chains.
+/// An absent task becomes ready, and is shifted along one of its chains.
 fn enter(links: &mut Links, t: u32, chain: &Chain)
     requires number { t < task_count links.old }
     requires absent { is_ready links.old t ≡ false }

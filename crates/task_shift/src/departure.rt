@@ -1,10 +1,9 @@
 //! A task departs.
 ghost use Rattle.std.specs.Prelude.{◌≡◌, ◌<◌, [], ◌∷◌};
 ghost use Rattle.link_table.specs.State.{IsState, task_count};
-ghost use Rattle.link_table.specs.Step.{DepartStep};
+ghost use Rattle.link_table.specs.Step.{DepartStep, Fills};
 
-use crate::urgency::most_urgent_into;
-use link_table::{Chain, Links, Reply};
+use link_table::{Chain, Gone, Links, Reply};
 use path_search::{back_chain, back_set};
 
 /// A task departs. Where it leaves a processor, the most urgent waiting task that can be shifted there comes in.
@@ -17,15 +16,23 @@ pub fn depart(links: &mut Links, t: u32) -> Reply
     if !links.is_ready(t) {
         return Reply::NotReady;
     }
-    let Some(p) = links.of(t) else {
+    if links.is_waiting(t) {
         links.make_absent(t);
         return Reply::Left;
-    };
-    links.unlink(p);
-    links.make_absent(t);
+    }
+    let p = links.leave(t);
+    fill(links, p).into()
+}
+
+/// Lets the most urgent waiting task in that can be shifted to processor `p`, which nobody is linked to.
+fn fill(links: &mut Links, p: u8) -> Gone
+    requires { p < links.old.processors }
+    ensures fills { Fills links.old p result links.new }
+    ensures valid { IsState links.new }
+{
     let back = back_set(links, p);
-    let Some(w) = most_urgent_into(links, back) else {
-        return Reply::Freed {
+    let Some(w) = links.most_urgent_in(back) else {
+        return Gone {
             entered: None,
             chain: one_processor(p),
             back,
@@ -33,14 +40,14 @@ pub fn depart(links: &mut Links, t: u32) -> Reply
     };
     let chain = back_chain(links, w, p).unwrap();
     links.shift(w, &chain.reversed());
-    Reply::Freed {
+    Gone {
         entered: Some(w),
         chain,
         back,
     }
 }
 
-// The list of one processor.
+/// The list of one processor.
 fn one_processor(p: u8) -> Chain
     requires { p < 64 }
     ensures { result ≡ p ∷ [] }

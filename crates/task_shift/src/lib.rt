@@ -9,7 +9,6 @@ mod arrival;
 mod departure;
 #[cfg(test)]
 mod tests;
-mod urgency;
 
 pub use arrival::arrive;
 pub use departure::depart;

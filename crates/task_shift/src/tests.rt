@@ -147,7 +147,7 @@ static ROWS: [Row; 7] = [
     },
 ];
 
-// The list of these processors.
+/// The list of these processors.
 fn chain_of(rt: &impl Abort, processors: &[u8]) -> Chain {
     let mut chain = Chain::new();
     for &p in processors {
@@ -157,7 +157,7 @@ fn chain_of(rt: &impl Abort, processors: &[u8]) -> Chain {
     chain
 }
 
-// The set of these processors.
+/// The set of these processors.
 fn set_of(rt: &impl Abort, processors: &[u8]) -> ProcSet {
     let mut set = ProcSet::empty();
     for &p in processors {
@@ -195,7 +195,7 @@ fn reply_of(rt: &impl Abort, answer: &Answer) -> Reply {
     }
 }
 
-// The reply to an event of a task of the table.
+/// The reply to an event of a task of the table.
 fn reply_to(rt: &impl Abort, links: &mut Links, event: Event) -> Reply {
     match event {
         Event::Arrive(t) => {

@@ -1,7 +1,7 @@
 -- Streams of events: what a pass has posted of its stream.
 use Rattle.std.specs.Prelude.{◌≡◌, ℕ, ◌<◌, ◌==◌, ◌⊎◌, Bool, true, false, List, [], ◌∷◌, ◌++◌, length, map, filter, All}
 use Rattle.task_set.specs.declared.event.Event.{Event}
-use Rattle.reach_certificate.specs.Passing.{IsOfTask}
+use Rattle.certificate_laws.specs.Passing.{IsOfTask}
 use Rattle.trace_reader.specs.declared.posted.Posted.{Posted}
 use Rattle.event_history.specs.Boards.{BoardData, PassData, AreEyesOf}
 use Rattle.event_history.specs.Merging.{AreEventsAt}

@@ -3,7 +3,7 @@
 //! A stream's thread gets the pass of its caller by value and gives it back when it is joined: the pass knows the places
 //! of its entries. Where no thread can be started, the caller posts the stream itself.
 ghost use Rattle.std.specs.Prelude.{◌≡◌, ◌≤◌, ◌<◌, ◌&&◌, ◌∷◌, [], All, Bool, true, length, vec_capacity, IfOk, IfSome, MatchResult};
-ghost use Rattle.reach_certificate.specs.Passing.{IsOfTask};
+ghost use Rattle.certificate_laws.specs.Passing.{IsOfTask};
 ghost use Rattle.event_history.specs.Boards.{AreAll, AreEyesOf, Grown};
 ghost use Rattle.thread_replay.specs.Merge.{events_of_stream};
 ghost use Rattle.thread_replay.specs.Places.{AllFrom};

@@ -9,8 +9,8 @@ use Rattle.link_table.specs.State.{start_of}
 use Rattle.link_table.specs.History.{IsLegal}
 use Rattle.link_table.specs.Dispatch.{closed_orders_of, context_of}
 use Rattle.link_table.specs.declared.reply.Entry.{Entry}
-use Rattle.sched_core.specs.StintLaw.{stints_of_history}
-use Rattle.sched_core.proofs.CarriedThroughout.{stints_give_context}
+use Rattle.history_laws.specs.StintLaw.{stints_of_history}
+use Rattle.history_laws.proofs.CarriedThroughout.{stints_give_context}
 use Rattle.context_slots.specs.Carried.{AllCarried}
 use Rattle.context_slots.specs.Hands.{SlotsData, HandData, AreFreeFrom, all_ended}
 use Rattle.event_replay.specs.Replay.{contexts_of}

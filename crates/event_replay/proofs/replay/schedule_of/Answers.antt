@@ -1,7 +1,7 @@
 use Rattle.std.proofs.Common.{◌≡◌, ◌<◌, length, refl, sym, ap, ◌∙◌, arith}
 use Rattle.link_table.proofs.Linked.{linked_number}
 use Rattle.sched_core.specs.CoreData.{entry_of}
-use Rattle.sched_core.proofs.SameTasks.{same_tasks-step}
+use Rattle.link_table.proofs.SameTasks.{same_tasks-step}
 use Rattle.event_replay.proofs.Running.{contexts_count, running_count, running_length, running_more}
 use Rattle.event_replay.proofs.replay.schedule_of.Goals as goal
 

@@ -5,7 +5,7 @@ use Rattle.path_search.proofs.ChainPaths.{chain_answer}
 use Rattle.path_search.proofs.forward.chain_into.Goals as goal
 
 pub least_path-requires-clause-start : goal.least_path-requires-clause-start
-least_path-requires-clause-start c = λ p h. effective_mask_below c.args.links.now c.allowed-start.ensures.valid c.args.t p (subst (λ (X : ℕ). IsTrue (has X p)) c.allowed-start.ensures.value h)
+least_path-requires-clause-start c = λ p h. effective_mask_below c.args.links.now c.effective-start.ensures.valid c.args.t p (subst (λ (X : ℕ). IsTrue (has X p)) c.effective-start.ensures.value h)
 
 pub returns : goal.returns
-returns c = chain_answer c.args.links.now c.allowed-start.ensures.valid c.args.t c.args.ends c.least_path.result (rw (c.allowed-start.ensures.value, c.processors.ensures.value) at c.least_path.ensures)
+returns c = chain_answer c.args.links.now c.effective-start.ensures.valid c.args.t c.args.ends c.least_path.result (rw (c.effective-start.ensures.value, c.processors.ensures.value) at c.least_path.ensures)

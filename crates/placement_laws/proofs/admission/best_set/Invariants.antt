@@ -1,6 +1,6 @@
 use Rattle.std.proofs.Common.{not}
 use Rattle.link_table.specs.State.{is_ready, task_count}
-use Rattle.reach_certificate.proofs.Counts.{count_below}
+use Rattle.certificate_laws.proofs.Counts.{count_below}
 use Rattle.placement_laws.proofs.Greedy.{IsGreedy}
 use Rattle.placement_laws.proofs.admission.best_set.Given as goal
 

@@ -4,16 +4,16 @@ use Rattle.std.proofs.lemmas.List.{get_or_default}
 use Rattle.link_table.specs.State.{State, IsState, IsWaiting, task_count}
 use Rattle.link_table.specs.Certificate.{IsCertificate}
 use Rattle.link_table.proofs.Unique.{ready_number}
-use Rattle.reach_certificate.specs.Certified.{HasCertificates}
-use Rattle.reach_certificate.proofs.Best.{linked_is_best, linked_is_largest}
-use Rattle.reach_certificate.proofs.Ranked.{linked_is_as_urgent}
+use Rattle.certificate_laws.specs.Certified.{HasCertificates}
+use Rattle.certificate_laws.proofs.Best.{linked_is_best, linked_is_largest}
+use Rattle.certificate_laws.proofs.Ranked.{linked_is_as_urgent}
 use Rattle.placement_laws.proofs.certified.all_certified.Goals as goal
-use Rattle.placement_laws.proofs.certified.all_certified.Goals.{else-waits-via-then-waits+else-not-is_certificate, else-waits-via-else-waits}
+use Rattle.placement_laws.proofs.certified.all_certified.Goals.{else-is_waiting-via-then-is_waiting+else-not-is_certificate, else-is_waiting-via-else-is_waiting}
 
 pub loop-t-preserved : goal.loop-t-preserved
-loop-t-preserved c = below_more _ _ c.loop-t.invariant (elim c.else-waits.branch [
-  | else-waits-via-then-waits+else-not-is_certificate w ↦ λ waits. subst (λ (x : ℕ). IsCertificate c.args.links.now c.loop-t.t x) (w.index-sets-t.is ∙ get_or_default c.args.sets.now c.loop-t.t w.index-sets-t.result 0 (omega arith)) (w.is_certificate.ensures.0 w.if-not-is_certificate.false)
-  | else-waits-via-else-waits w ↦ λ waits. absurd (false≢true (sym w.if-waits.false ∙ c.waits.ensures.1 waits))
+loop-t-preserved c = below_more _ _ c.loop-t.invariant (elim c.else-is_waiting.branch [
+  | else-is_waiting-via-then-is_waiting+else-not-is_certificate w ↦ λ waits. subst (λ (x : ℕ). IsCertificate c.args.links.now c.loop-t.t x) (w.index-sets-t.is ∙ get_or_default c.args.sets.now c.loop-t.t w.index-sets-t.result 0 (omega arith)) (w.is_certificate.ensures.0 w.if-not-is_certificate.false)
+  | else-is_waiting-via-else-is_waiting w ↦ λ waits. absurd (false≢true (sym w.if-is_waiting.false ∙ c.is_waiting.ensures.test.1 waits))
 ])
 
 -- once every task was looked at, each waiting one has the set at its number

@@ -1,6 +1,6 @@
-use Rattle.reach_certificate.proofs.Best.{linked_is_largest}
-use Rattle.reach_certificate.proofs.Fullness.{linked_keeps_up}
-use Rattle.reach_certificate.proofs.Ranked.{linked_is_as_urgent}
+use Rattle.certificate_laws.proofs.Best.{linked_is_largest}
+use Rattle.certificate_laws.proofs.Fullness.{linked_keeps_up}
+use Rattle.certificate_laws.proofs.Ranked.{linked_is_as_urgent}
 use Rattle.placement_laws.proofs.laws.certified_is_most_urgent.Goals as goal
 
 pub returns-clause-largest : goal.returns-clause-largest

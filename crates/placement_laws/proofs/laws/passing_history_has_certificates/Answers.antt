@@ -1,4 +1,4 @@
-use Rattle.reach_certificate.proofs.Kept.{passing_is_certified}
+use Rattle.certificate_laws.proofs.Kept.{passing_is_certified}
 use Rattle.placement_laws.proofs.laws.passing_history_has_certificates.Goals as goal
 
 pub returns : goal.returns

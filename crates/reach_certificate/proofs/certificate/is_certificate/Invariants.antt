@@ -1,6 +1,6 @@
 use Rattle.std.proofs.Common.{ℕ, ◌<◌, IsTrue}
 use Rattle.affinity_mask.specs.ProcSet.{has}
-use Rattle.reach_certificate.specs.Held.{IsHeldAgainst}
+use Rattle.certificate_laws.specs.Held.{IsHeldAgainst}
 use Rattle.reach_certificate.proofs.certificate.is_certificate.Given as goal
 
 abbrev pub invariant-loop-p : goal.invariant-loop-p

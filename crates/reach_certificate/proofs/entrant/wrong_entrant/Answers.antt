@@ -1,5 +1,5 @@
 use Rattle.link_table.proofs.Unique.{ready_number}
 use Rattle.reach_certificate.proofs.entrant.wrong_entrant.Goals as goal
 
-pub mask-requires : goal.mask-requires
-mask-requires c = ready_number c.args.links.now c.in-Some.ensures.valid c.in-Some.v c.in-Some.ensures.test.waits.ready
+pub effective-requires : goal.effective-requires
+effective-requires c = ready_number c.args.links.now c.in-Some.ensures.valid c.in-Some.v c.in-Some.ensures.test.waits.ready

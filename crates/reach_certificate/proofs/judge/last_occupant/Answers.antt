@@ -6,5 +6,5 @@ use Rattle.reach_certificate.proofs.judge.last_occupant.Goals as goal
 
 pub returns-clause-number : goal.returns-clause-number
 returns-clause-number c =
-    linked_number c.args.links.now (last_processor c.args.chain.now) c.unwrap.result (rw c.now.ensures at c.on.ensures.valid)
-    (ap (task_on c.args.links.now) (sym c.last_of.ensures.value) ∙ sym (rw c.now.ensures at c.on.ensures.value) ∙ c.unwrap.ensures)
+    linked_number c.args.links.now (last_processor c.args.chain.now) c.unwrap.result c.occupant.ensures.valid
+    (ap (task_on c.args.links.now) (sym c.last_of.ensures.value) ∙ sym c.occupant.ensures.value ∙ c.unwrap.ensures)

@@ -2,5 +2,5 @@ use Rattle.std.proofs.Common.{sym}
 use Rattle.link_table.proofs.Linked.{linked_number}
 use Rattle.reach_certificate.proofs.set_rule.shifts_into.Goals as goal
 
-pub mask-requires : goal.mask-requires
-mask-requires c = linked_number c.args.links.now c.args.q c.in-Some.u c.on.ensures.valid (sym c.in-Some.ensures.value)
+pub effective-requires : goal.effective-requires
+effective-requires c = linked_number c.args.links.now c.args.q c.in-Some.u c.occupant.ensures.valid (sym c.in-Some.ensures.value)

@@ -1,50 +1,10 @@
-use Rattle.std.proofs.Common.{◌≡◌, false, sym, ◌∙◌}
-use Rattle.link_table.specs.State.{is_ready}
-use Rattle.link_table.specs.Chain.{IsLeastSuch, EndsOnTask}
-use Rattle.link_table.proofs.Ends.{least_chain_to_idle, least_chain_to_task}
-use Rattle.link_table.proofs.Linked.{linked_number}
-use Rattle.task_shift.proofs.Arrivals.{occupied_reach, more_urgent_reach, nobody_reached}
+use Rattle.std.proofs.Common.{sym, ◌∙◌, inr}
 use Rattle.task_shift.proofs.arrival.arrive.Goals as goal
-use Rattle.task_shift.proofs.arrival.arrive.Goals.{After-unwrap-chain, in_default-least_urgent_on-via-in-Some-least_urgent_on+else-is_more_urgent, in_default-least_urgent_on-via-in_default-least_urgent_on}
 
-pub enter-requires-clause-simple : goal.enter-requires-clause-simple
-enter-requires-clause-simple c = (least_chain_to_idle c.args.links.now c.args.t c.is_ready.ensures.valid).simple c.in-Some.chain c.in-Some.ensures
-
-pub is_more_urgent-requires-clause-second : goal.is_more_urgent-requires-clause-second
-is_more_urgent-requires-clause-second c = linked_number c.args.links.now _ c.in-Some-least_urgent_on.out c.is_ready.ensures.valid c.in-Some-least_urgent_on.ensures.there.2
-
--- the chain found is the least one to the task that goes out
-least : (c : After-unwrap-chain) → IsLeastSuch (EndsOnTask c.args.links.now c.args.t c.in-Some-least_urgent_on.out) c.unwrap-chain.result
-least c = rw c.unwrap-chain.ensures at (c.chain_to.ensures.occupant c.in-Some-least_urgent_on.out (rw c.unwrap-p.ensures at c.of.ensures.place))
-
-pub enter-requires-in-Some-least_urgent_on-clause-simple : goal.enter-requires-in-Some-least_urgent_on-clause-simple
-enter-requires-in-Some-least_urgent_on-clause-simple c =
-    (least_chain_to_task c.args.links.now c.args.t c.in-Some-least_urgent_on.out c.is_ready.ensures.valid).simple c.unwrap-chain.result (least (goal.at.enter-requires-in-Some-least_urgent_on-clause-simple c).After-unwrap-chain)
-
-pub returns-in-Some-least_urgent_on-clause-step : goal.returns-in-Some-least_urgent_on-clause-step
-returns-in-Some-least_urgent_on-clause-step c = record {
+pub returns-clause-step : goal.returns-clause-step
+returns-clause-step c = inr record {
   absent = sym c.is_ready.ensures.value ∙ c.if-is_ready.false;
-  reached = c.reach-reach.ensures;
-  occupied = occupied_reach c.args.links.now c.is_ready.ensures.valid c.args.t c.reach-reach.result c.reach-reach.ensures c.in_default.ensures;
-  out_there = c.in-Some-least_urgent_on.ensures;
-  out_less_urgent = rw c.if-is_more_urgent.true at c.is_more_urgent.ensures;
-  least = least (goal.at.returns-in-Some-least_urgent_on-clause-step c).After-unwrap-chain;
-  shifted = c.enter-in-Some-least_urgent_on.ensures.shifted;
+  came = c.come.result;
+  answer = c.into.ensures;
+  comes = c.come.ensures.comes;
 }
-
-pub returns-in_default-least_urgent_on-clause-step : goal.returns-in_default-least_urgent_on-clause-step
-returns-in_default-least_urgent_on-clause-step c =
-    let s = c.args.links.now in
-    let ok = c.is_ready.ensures.valid in
-    let reach = c.reach-reach.result in
-    let absent : is_ready s c.args.t ≡ false = sym c.is_ready.ensures.value ∙ c.if-is_ready.false in
-    let occupied = occupied_reach s ok c.args.t reach c.reach-reach.ensures c.in_default.ensures in
-    record {
-      absent = absent;
-      reached = c.reach-reach.ensures;
-      more_urgent = elim c.in_default-least_urgent_on.branch [
-        | in_default-least_urgent_on-via-in-Some-least_urgent_on+else-is_more_urgent w ↦ more_urgent_reach s ok c.args.t reach c.reach-reach.ensures c.requires absent occupied w.in-Some-least_urgent_on.out w.in-Some-least_urgent_on.ensures (rw w.if-is_more_urgent.false at w.is_more_urgent.ensures)
-        | in_default-least_urgent_on-via-in_default-least_urgent_on w ↦ nobody_reached s ok c.args.t reach c.reach-reach.ensures occupied w.in_default-least_urgent_on.ensures
-      ];
-      waits = c.make_ready.ensures.ready;
-    }

@@ -2,8 +2,8 @@ use Rattle.std.proofs.Common.{List, length, get_or, sym, ap, ◌∙◌, subst, a
 use Rattle.std.proofs.lemmas.List.FromFn.{get_or-map-range_with_len, length-map-range_with_len}
 use Rattle.task_set.specs.Context.{fresh_context}
 use Rattle.task_set.specs.declared.context.Context.{Context}
-use Rattle.reach_certificate.specs.Certified.{HasCertificates}
-use Rattle.reach_certificate.proofs.Kept.{HasCertificates-start}
+use Rattle.certificate_laws.specs.Certified.{HasCertificates}
+use Rattle.certificate_laws.proofs.Kept.{HasCertificates-start}
 use Rattle.reach_certificate.specs.Checker.{IsChecker}
 use Rattle.reach_certificate.proofs.checker.Checker.new.Goals as goal
 use Rattle.reach_certificate.proofs.checker.Checker.new.Goals.{In_ok-contexts}
@@ -22,7 +22,7 @@ made c =
     }
 
 pub invariant_of-result : goal.invariant_of-result
-invariant_of-result c = made c
+invariant_of-result c = record { checker = made c; trial = c.in_ok-trial.ensures ∙ sym c.in_ok-links.ensures }
 
 pub returns-clause-valid : goal.returns-clause-valid
 returns-clause-valid c = made c

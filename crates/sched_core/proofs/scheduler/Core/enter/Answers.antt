@@ -1,16 +1,16 @@
-use Rattle.std.proofs.Common.{◌≡◌, ℕ, ◌-◌, ◌<◌, ◌≤◌, ◌++◌, ◌∷◌, [], List, length, get_or, false, refl, sym, ap, ◌∙◌, subst, arith}
+use Rattle.std.proofs.Common.{◌≡◌, ℕ, ◌-◌, ◌<◌, ◌≤◌, List, length, get_or, false, refl, sym, ap, ◌∙◌, subst, arith}
 use Rattle.link_table.specs.declared.reply.Entry.{Entry}
-use Rattle.link_table.specs.State.{State, IsState, task_count}
+use Rattle.link_table.specs.State.{IsState, task_count}
 use Rattle.link_table.specs.History.{effect_of}
 use Rattle.link_table.specs.Dispatch.{orders_of, processors_of}
 use Rattle.link_table.proofs.Linked.{linked_number}
 use Rattle.link_table.proofs.Steps.{reply_gives_new_state, step_keeps_state}
-use Rattle.reach_certificate.proofs.Kept.{step_has_ground}
-use Rattle.sched_core.specs.CoreData.{CoreData, IsCore, Applied, state_before_events, entry_of, max_entries}
+use Rattle.certificate_laws.proofs.Kept.{step_has_justification}
+use Rattle.sched_core.specs.CoreData.{CoreData, IsCore, Applied, entry_of, max_entries}
 use Rattle.sched_core.specs.CoreView.{core_view}
 use Rattle.sched_core.specs.CoreRows.{row_at}
 use Rattle.sched_core.proofs.CoreEntered.{takes_bound, core_entered, core_orders-open, orders_entered, takes_entered}
-use Rattle.sched_core.proofs.SameTasks.{same_tasks-step, same_start}
+use Rattle.link_table.proofs.SameTasks.{same_tasks-step}
 use Rattle.sched_core.proofs.scheduler.Core.enter.Goals as goal
 
 pub follow_links-requires-clause-small : goal.follow_links-requires-clause-small
@@ -19,7 +19,7 @@ follow_links-requires-clause-small c = λ t known.
     let kept = c.self.invariant in
     let same = same_tasks-step inside.links c.args.event c.reply_to-reply.result c.reply_to-reply.new.links c.reply_to-reply.ensures in
     let number : t < task_count inside.links = subst (λ (k : ℕ). t < k) (ap length same.priorities) known in
-    let bound = takes_bound (state_before_events inside.links) inside.history.items t kept.core.state.processors in
+    let bound = takes_bound inside.start inside.history.items t kept.core.start.processors in
     omega (arith, kept.takes t number, bound, kept.core.fits)
 
 pub invariant_of-self : goal.invariant_of-self
@@ -29,12 +29,11 @@ invariant_of-self c =
     let new = c.reply_to-reply.new.links in
     let step = c.reply_to-reply.ensures in
     let entry = entry_of c.args.caller c.args.event c.reply_to-reply.result in
-    let begin = state_before_events inside.links in
+    let begin = inside.start in
     let history = inside.history.items in
     let items = c.push_reserved.ensures.items in
     let now : new ≡ effect_of inside.links entry = reply_gives_new_state inside.links c.args.event c.reply_to-reply.result new step in
     let same = same_tasks-step inside.links c.args.event c.reply_to-reply.result new step in
-    let start = same_start inside.links new same in
     let open_before : inside.closed ≡ false = ap (λ (core : CoreData). core.closed) c.self.view_is ∙ c.requires.not_closed in
     let space : length history < max_entries = subst (λ (core : CoreData). length core.history < max_entries) (sym c.self.view_is) c.requires.not_full in
     let some_spare : 1 ≤ inside.spare = subst (λ (core : CoreData). 1 ≤ core.spare) (sym c.self.view_is) c.requires.room in
@@ -43,9 +42,8 @@ invariant_of-self c =
     let at_t : (t : ℕ) → t < task_count new → t < task_count inside.links = λ t fits. subst (λ (k : ℕ). t < k) (ap length same.priorities) fits in
     let in_rows : (p : ℕ) → p < inside.links.processors → p < length inside.rows.items = λ p fits. subst (λ (k : ℕ). p < k) (sym kept.rows_count) fits in
     record {
-      core = subst (λ (s : State). IsCore (record { start = s; history = c.push_reserved.new.self.items; links = new; closed = inside.closed; spare = inside.spare - 1 })) (sym start)
-          (subst (λ (h : List Entry). IsCore (record { start = begin; history = h; links = new; closed = inside.closed; spare = inside.spare - 1 })) (sym items)
-          (core_entered (core_view inside) entry new (inside.spare - 1) kept.core step space));
+      core = subst (λ (h : List Entry). IsCore (record { start = begin; history = h; links = new; closed = inside.closed; spare = inside.spare - 1 })) (sym items)
+          (core_entered (core_view inside) entry new (inside.spare - 1) kept.core step space);
       rows_count = c.follow_links.ensures.rows.count ∙ kept.rows_count ∙ sym same.processors;
       takes_count = c.follow_links.ensures.takes.count ∙ kept.takes_count ∙ sym (ap length same.priorities);
       orders = λ p fits.
@@ -54,15 +52,13 @@ invariant_of-self c =
           (λ t on. kept.takes t (at_t t (linked_number new p t state on)))
           (kept.orders p below ∙ core_orders-open (core_view inside) p open_before)
           (kept.rows_open open_before p below).held (c.follow_links.ensures.rows.each p (in_rows p below))
-          ∙ ap (λ (s : State). orders_of s (history ++ entry ∷ []) p) (sym start)
-          ∙ ap (λ (h : List Entry). orders_of (state_before_events new) h p) (sym items)
-          ∙ sym (core_orders-open (record { start = state_before_events new; history = c.push_reserved.new.self.items; links = new; closed = inside.closed; spare = inside.spare - 1 }) p open_before);
+          ∙ ap (λ (h : List Entry). orders_of begin h p) (sym items)
+          ∙ sym (core_orders-open (record { start = begin; history = c.push_reserved.new.self.items; links = new; closed = inside.closed; spare = inside.spare - 1 }) p open_before);
       takes = λ t fits.
           let below = at_t t fits in
           takes_entered begin history entry inside.links new t inside.rows.items inside.takes.items c.follow_links.new.takes.items kept.core.links now (subst (λ (k : ℕ). t < k) (sym kept.takes_count) below)
           (kept.takes t below) (λ p fits. (kept.rows_open open_before p (at_p p fits)).held) same.processors c.follow_links.ensures.takes
-          ∙ ap (λ (s : State). length (processors_of s (history ++ entry ∷ []) t)) (sym start)
-          ∙ ap (λ (h : List Entry). length (processors_of (state_before_events new) h t)) (sym items);
+          ∙ ap (λ (h : List Entry). length (processors_of begin h t)) (sym items);
       rows_open = λ still p fits.
           let below = at_p p fits in
           let follows = c.follow_links.ensures.rows.each p (in_rows p below) in
@@ -84,14 +80,14 @@ returns-clause-applied c =
     let new = c.reply_to-reply.new.links in
     let step = c.reply_to-reply.ensures in
     let some_spare : 1 ≤ inside.spare = subst (λ (core : CoreData). 1 ≤ core.spare) (sym c.self.view_is) c.requires.room in
-    let entered : CoreData = record { start = state_before_events new; history = c.push_reserved.new.self.items; links = new; closed = inside.closed; spare = inside.spare - 1 } in
+    let entered : CoreData = record { start = inside.start; history = c.push_reserved.new.self.items; links = new; closed = inside.closed; spare = inside.spare - 1 } in
     subst (λ (core : CoreData). Applied core c.args.caller c.args.event (length core.history) entered) c.self.view_is record {
       reply = reply;
       at_place = refl;
       history = c.push_reserved.ensures.items;
       step = step;
-      ground = step_has_ground inside.links c.args.event reply new kept.core.state kept.core.certificates step;
-      start = same_start inside.links new (same_tasks-step inside.links c.args.event reply new step);
+      justified = step_has_justification inside.links c.args.event reply new kept.core.state kept.core.certificates step;
+      start = refl;
       closed = refl;
       spare = omega arith;
     }

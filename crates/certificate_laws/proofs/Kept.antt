@@ -1,0 +1,76 @@
+-- Each history whose replies pass leaves every waiting task with a certificate, after every entry; and so does each legal
+-- history, whose replies pass.
+use Rattle.std.proofs.Common.{◌≡◌, ℕ, zero, suc, false, List, [], ◌∷◌, take, length, replicate, get_or, refl, sym, ◌∙◌, subst}
+use Rattle.std.proofs.lemmas.Bool.{true≢false}
+use Rattle.task_set.specs.TaskSet.{SetData, IsTaskSet}
+use Rattle.task_set.specs.declared.event.Event.{Event}
+use Rattle.link_table.specs.declared.reply.Reply.{Reply}
+use Rattle.link_table.specs.declared.reply.Entry.{Entry}
+use Rattle.link_table.specs.State.{State, IsState, start_of}
+use Rattle.link_table.specs.Step.{SchedulerStep}
+use Rattle.link_table.specs.History.{effect_of, state_after, state_at, IsLegal, IsLegalFrom, IsBestThroughout}
+use Rattle.link_table.proofs.Start.{IsState-start}
+use Rattle.link_table.proofs.Steps.{reply_gives_new_state}
+use Rattle.certificate_laws.specs.Certified.{HasCertificates, IsCertifiedThroughout}
+use Rattle.certificate_laws.specs.Justification.{HasJustification}
+use Rattle.certificate_laws.specs.Passing.{IsPassing, IsPassingFrom}
+use Rattle.certificate_laws.proofs.Best.{linked_is_best}
+use Rattle.certificate_laws.proofs.Passed.{passing_keeps_certificates, passing_keeps_state, passing_has_justification, step_passes}
+
+-- ---- from state to state
+pub IsState-passed : (s : State) (history : List Entry) → IsState s → IsPassingFrom s history → IsState (state_after s history)
+IsState-passed s [] ok passing = ok
+IsState-passed s (first ∷ rest) ok passing = IsState-passed (effect_of s first) rest (passing_keeps_state s first.event first.reply ok passing.0) passing.1
+
+pub HasCertificates-passed : (s : State) (history : List Entry) → IsState s → HasCertificates s → IsPassingFrom s history → HasCertificates (state_after s history)
+HasCertificates-passed s [] ok certificates passing = certificates
+HasCertificates-passed s (first ∷ rest) ok certificates passing =
+    HasCertificates-passed (effect_of s first) rest (passing_keeps_state s first.event first.reply ok passing.0) (passing_keeps_certificates s first.event first.reply ok certificates passing.0) passing.1
+
+pub IsPassingFrom-take : (s : State) (history : List Entry) (n : ℕ) → IsPassingFrom s history → IsPassingFrom s (take n history)
+IsPassingFrom-take s [] zero passing = tt
+IsPassingFrom-take s [] (suc n) passing = tt
+IsPassingFrom-take s (first ∷ rest) zero passing = tt
+IsPassingFrom-take s (first ∷ rest) (suc n) passing = (passing.0, IsPassingFrom-take (effect_of s first) rest n passing.1)
+
+-- a legal history passes
+pub legal_passes : (s : State) (history : List Entry) → IsState s → IsLegalFrom s history → IsPassingFrom s history
+legal_passes s [] ok legal = tt
+legal_passes s (first ∷ rest) ok legal =
+    let passes = step_passes s first.event first.reply (effect_of s first) ok legal.0 in
+    (passes, legal_passes (effect_of s first) rest (passing_keeps_state s first.event first.reply ok passes) legal.1)
+
+-- ---- from the start
+-- no task is ready, and so none waits
+pub none_ready : (n t : ℕ) → get_or (replicate n false) t false ≡ false
+none_ready zero t = refl
+none_ready (suc n) zero = refl
+none_ready (suc n) (suc t) = none_ready n t
+
+pub HasCertificates-start : (set : SetData) → HasCertificates (start_of set)
+HasCertificates-start set w waits = absurd (true≢false (sym waits.ready ∙ none_ready (length set.tasks) w))
+
+pub passing_is_certified : (set : SetData) → IsTaskSet set → (history : List Entry) → IsPassing set history → IsCertifiedThroughout set history
+passing_is_certified set lawful history passing n within =
+    let front = IsPassingFrom-take (start_of set) history n passing in (
+      IsState-passed (start_of set) (take n history) (IsState-start set lawful) front,
+      HasCertificates-passed (start_of set) (take n history) (IsState-start set lawful) (HasCertificates-start set) front,
+    )
+
+pub passing_is_best : (set : SetData) → IsTaskSet set → (history : List Entry) → IsPassing set history → IsBestThroughout set history
+passing_is_best set lawful history passing n within = let kept = passing_is_certified set lawful history passing n within in linked_is_best (state_at set history n) kept.0 kept.1
+
+pub legal_is_certified : (set : SetData) → IsTaskSet set → (history : List Entry) → IsLegal set history → IsCertifiedThroughout set history
+legal_is_certified set lawful history legal = passing_is_certified set lawful history (legal_passes (start_of set) history (IsState-start set lawful) legal)
+
+pub legal_is_best : (set : SetData) → IsTaskSet set → (history : List Entry) → IsLegal set history → IsBestThroughout set history
+legal_is_best set lawful history legal = passing_is_best set lawful history (legal_passes (start_of set) history (IsState-start set lawful) legal)
+
+-- ---- one step of the scheduler
+pub step_keeps_certificates : (s : State) (event : Event) (reply : Reply) (new : State) → IsState s → HasCertificates s → SchedulerStep s event reply new → HasCertificates new
+step_keeps_certificates s event reply new ok certificates step =
+    subst HasCertificates (sym (reply_gives_new_state s event reply new step)) (passing_keeps_certificates s event reply ok certificates (step_passes s event reply new ok step))
+
+pub step_has_justification : (s : State) (event : Event) (reply : Reply) (new : State) → IsState s → HasCertificates s → SchedulerStep s event reply new → HasJustification new event reply
+step_has_justification s event reply new ok certificates step =
+    subst (λ (s' : State). HasJustification s' event reply) (sym (reply_gives_new_state s event reply new step)) (passing_has_justification s event reply ok certificates (step_passes s event reply new ok step))

@@ -1,0 +1,10 @@
+pub mod Best
+pub mod Closed
+pub mod Counts
+pub mod Fullness
+pub mod Kept
+pub mod KeptByArrivals
+pub mod KeptByDepartures
+pub mod KeptByShifts
+pub mod Passed
+pub mod Ranked

@@ -1,0 +1,7 @@
+pub mod Certified
+pub mod Held
+pub mod Justification
+pub mod Laws
+pub mod Passing
+pub mod PassingLaws
+pub mod Ranks

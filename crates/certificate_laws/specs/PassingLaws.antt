@@ -1,0 +1,26 @@
+-- Laws of replies that pass, and of the scheduler's step, which is one of them. Each law is proved as the contract of a
+-- function of `laws`.
+use Rattle.task_set.specs.declared.event.Event.{Event}
+use Rattle.link_table.specs.declared.reply.Reply.{Reply}
+use Rattle.link_table.specs.State.{State, IsState}
+use Rattle.link_table.specs.Step.{SchedulerStep}
+use Rattle.link_table.specs.History.{state_after_reply}
+use Rattle.certificate_laws.specs.Certified.{HasCertificates}
+use Rattle.certificate_laws.specs.Justification.{HasJustification}
+use Rattle.certificate_laws.specs.Passing.{Passes}
+
+-- a reply that passes leads from a state to a state
+abbrev pub PassingKeepsState : Type 0
+PassingKeepsState = (s : State) (event : Event) (reply : Reply) → IsState s → Passes s event reply → IsState (state_after_reply s event reply)
+
+-- a reply that passes leaves each waiting task with a certificate
+abbrev pub PassingKeepsCertificates : Type 0
+PassingKeepsCertificates = (s : State) (event : Event) (reply : Reply) → IsState s → HasCertificates s → Passes s event reply → HasCertificates (state_after_reply s event reply)
+
+-- a reply that passes is justified by the state after it
+abbrev pub PassingHasJustification : Type 0
+PassingHasJustification = (s : State) (event : Event) (reply : Reply) → IsState s → HasCertificates s → Passes s event reply → HasJustification (state_after_reply s event reply) event reply
+
+-- the reply of each step of the scheduler passes
+abbrev pub StepPasses : Type 0
+StepPasses = (s : State) (event : Event) (reply : Reply) (new : State) → IsState s → SchedulerStep s event reply new → Passes s event reply

@@ -1,0 +1,5 @@
+pub mod ImprovingLaw
+pub mod LegalLaw
+pub mod OrderLaws
+pub mod StepLaws
+pub mod StintLaw

@@ -1,0 +1,84 @@
+//! Who has to go out, and who comes in first.
+ghost use Rattle.std.specs.Prelude.{◌≡◌, ℕ, ◌<◌, ◌≤◌, ◌⊎◌, ◌↔◌, Some, IsTrue, IfSome, MatchOption};
+ghost use Rattle.std.specs.Option.{ForSome};
+ghost use Rattle.link_table.specs.State.{IsState, IsMoreUrgent, task_count, priority_of};
+ghost use Rattle.link_table.specs.Step.{CanEnterInto, IsNobodyOn, IsNobodyInto, IsLeastUrgentOn, IsMostUrgentInto};
+
+use crate::links::Links;
+use affinity_mask::ProcSet;
+
+impl Links {
+    /// Whether a task is more urgent than another.
+    pub fn is_more_urgent(&self, a: u32, b: u32) -> bool
+        requires first { a < task_count self.now }
+        requires second { b < task_count self.now }
+        ensures { IsTrue result ↔ IsMoreUrgent self.now a b }
+    {
+        self.priority(a) < self.priority(b)
+    }
+
+    /// The more urgent one of a task and of the one found before, if there is one.
+    pub fn more_urgent(&self, found: Option<u32>, t: u32) -> u32
+        requires number { t < task_count self.now }
+        requires found_number { ForSome found (λ u. u < task_count self.now) }
+        ensures either { (result ≡ t) ⊎ (found ≡ Some result) }
+        ensures first { priority_of self.now result ≤ priority_of self.now t }
+        ensures first_of_found { IfSome found (λ u. priority_of self.now result ≤ priority_of self.now u) }
+    {
+        match found {
+            Some(u) if self.is_more_urgent(u, t) => u,
+            _ => t,
+        }
+    }
+
+    /// The least urgent task on the processors of a set, if any is occupied.
+    pub fn least_urgent_on(&self, set: ProcSet) -> Option<u32>
+        ensures test { MatchOption result (IsNobodyOn self.now set) (IsLeastUrgentOn self.now set) }
+        ensures valid { IsState self.now }
+    {
+        let mut found = None;
+        for p in 0..self.processors() {
+            match self.on(p) {
+                Some(t) if set.has(p) => found = Some(less_urgent(self, found, t)),
+                _ => {}
+            }
+        }
+        found
+    }
+
+    /// The most urgent waiting task that can enter at a processor of a set, if any can.
+    pub fn most_urgent_in(&self, set: ProcSet) -> Option<u32>
+        ensures test { MatchOption result (IsNobodyInto self.now set) (IsMostUrgentInto self.now set) }
+        ensures valid { IsState self.now }
+    {
+        let mut found = None;
+        for t in 0..self.len() {
+            if can_enter(self, set, t) {
+                found = Some(self.more_urgent(found, t));
+            }
+        }
+        found
+    }
+}
+
+/// Whether a task waits and can enter at a processor of a set.
+fn can_enter(links: &Links, set: ProcSet, t: u32) -> bool
+    requires { t < task_count links.now }
+    ensures { IsTrue result ↔ CanEnterInto links.now set t }
+{
+    links.is_waiting(t) && set.meets(&links.effective(t))
+}
+
+/// The less urgent one of a task and of the one found before, if there is one.
+fn less_urgent(links: &Links, found: Option<u32>, t: u32) -> u32
+    requires number { t < task_count links.now }
+    requires found_number { ForSome found (λ u. u < task_count links.now) }
+    ensures either { (result ≡ t) ⊎ (found ≡ Some result) }
+    ensures last { priority_of links.now t ≤ priority_of links.now result }
+    ensures last_of_found { IfSome found (λ u. priority_of links.now u ≤ priority_of links.now result) }
+{
+    match found {
+        Some(u) if links.is_more_urgent(t, u) => u,
+        _ => t,
+    }
+}

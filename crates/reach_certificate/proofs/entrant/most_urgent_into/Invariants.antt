@@ -1,5 +1,0 @@
-use Rattle.reach_certificate.proofs.Entrants.{IsFoundInto}
-use Rattle.reach_certificate.proofs.entrant.most_urgent_into.Given as goal
-
-abbrev pub invariant-loop-t : goal.invariant-loop-t
-invariant-loop-t l = IsFoundInto l.links l.set l.t l.found

@@ -1,0 +1,21 @@
+use Rattle.std.proofs.Common.{Some, ap, ◌∙◌, sym, subst, ℕ}
+use Rattle.link_table.specs.State.{IsMoreUrgent}
+use Rattle.reach_certificate.proofs.Fitting.{displaced_passes}
+use Rattle.reach_certificate.proofs.Parts.{displaced_not_empty, displaced_end}
+use Rattle.reach_certificate.proofs.judge.displaced_defect.Goals as goal
+
+pub last_occupant-last-requires-clause-some : goal.last_occupant-last-requires-clause-some
+last_occupant-last-requires-clause-some c = displaced_not_empty c.args.links.now c.args.t c.args.chain.now c.in_default.ensures
+
+pub last_occupant-last-requires-clause-occupied : goal.last_occupant-last-requires-clause-occupied
+last_occupant-last-requires-clause-occupied c = displaced_end c.args.links.now c.args.t c.args.chain.now c.in_default.ensures
+
+pub returns-then-is_more_urgent : goal.returns-then-is_more_urgent
+returns-then-is_more_urgent c =
+    let there = c.last_occupant-last.ensures.there in
+    let same = c.if-out-last.true in
+    displaced_passes c.args.links.now c.len.ensures.valid c.args.t c.args.chain.now c.args.out c.args.reach record {
+      places = c.in_default.ensures;
+      set = (c.last_occupant-last.result, there, c.in_default-first_misfit.ensures.test);
+      tasks = (there ∙ ap (λ (n : ℕ). Some n) (sym same), subst (IsMoreUrgent c.args.links.now c.args.t) (sym same) (c.is_more_urgent.ensures.0 c.if-is_more_urgent.true));
+    } c.in_default-first_misfit.ensures.processors

@@ -1,6 +1,0 @@
-use Rattle.std.proofs.Common.{sym}
-use Rattle.link_table.proofs.Linked.{linked_number}
-use Rattle.reach_certificate.proofs.judged_links.JudgedLinks.can_shift.Goals as goal
-
-pub mask-requires : goal.mask-requires
-mask-requires c = linked_number c.args.self.now c.args.p c.in-Some.u c.on.ensures.valid (sym c.in-Some.ensures.value)

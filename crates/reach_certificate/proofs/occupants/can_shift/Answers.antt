@@ -1,0 +1,6 @@
+use Rattle.std.proofs.Common.{sym}
+use Rattle.link_table.proofs.Linked.{linked_number}
+use Rattle.reach_certificate.proofs.occupants.can_shift.Goals as goal
+
+pub effective-requires : goal.effective-requires
+effective-requires c = linked_number c.args.links.now c.args.p c.in-Some.u c.occupant.ensures.valid (sym c.in-Some.ensures.value)

@@ -1,5 +1,0 @@
-use Rattle.sched_core.proofs.StepImproving as improving
-use Rattle.sched_core.proofs.laws.legal_history_has_no_improving_chain.Goals as goal
-
-pub returns : goal.returns
-returns c = improving.legal_history_has_no_improving_chain

@@ -1,5 +1,0 @@
-use Rattle.sched_core.proofs.CarriedThroughout as throughout
-use Rattle.sched_core.proofs.laws.stints_are_takes.Goals as goal
-
-pub returns : goal.returns
-returns c = throughout.stints_are_takes

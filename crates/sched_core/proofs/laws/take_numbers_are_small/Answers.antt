@@ -1,5 +1,0 @@
-use Rattle.sched_core.proofs.OrderNames.{take_numbers_small}
-use Rattle.sched_core.proofs.laws.take_numbers_are_small.Goals as goal
-
-pub returns : goal.returns
-returns c = take_numbers_small

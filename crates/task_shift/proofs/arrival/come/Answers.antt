@@ -1,0 +1,47 @@
+use Rattle.std.proofs.Common.{sym, ◌∙◌}
+use Rattle.std.proofs.lemmas.Bool.{true≢false}
+use Rattle.link_table.specs.Chain.{IsLeastSuch, EndsOnTask}
+use Rattle.link_table.proofs.Ends.{least_chain_to_idle, least_chain_to_task}
+use Rattle.link_table.proofs.Linked.{linked_number}
+use Rattle.task_shift.proofs.Arrivals.{occupied_reach, more_urgent_reach, nobody_reached}
+use Rattle.task_shift.proofs.arrival.come.Goals as goal
+use Rattle.task_shift.proofs.arrival.come.Goals.{After-unwrap-chain, in_default-least_urgent_on-via-in-Some-least_urgent_on+else-is_more_urgent, in_default-least_urgent_on-via-in_default-least_urgent_on}
+
+pub enter-requires-clause-simple : goal.enter-requires-clause-simple
+enter-requires-clause-simple c = (least_chain_to_idle c.args.links.now c.args.t c.chain_to_idle.ensures.valid).simple c.in-Some.chain c.in-Some.ensures.least
+
+pub is_more_urgent-requires-clause-second : goal.is_more_urgent-requires-clause-second
+is_more_urgent-requires-clause-second c = linked_number c.args.links.now _ c.in-Some-least_urgent_on.out c.chain_to_idle.ensures.valid c.in-Some-least_urgent_on.ensures.test.there.2
+
+-- the chain found is the least one to the task that is displaced
+least : (c : After-unwrap-chain) → IsLeastSuch (EndsOnTask c.args.links.now c.args.t c.in-Some-least_urgent_on.out) c.unwrap-chain.result
+least c = rw c.unwrap-chain.ensures at (c.chain_to.ensures.occupant c.in-Some-least_urgent_on.out (rw c.unwrap-p.ensures at c.of.ensures.place))
+
+pub enter-requires-in-Some-least_urgent_on-clause-simple : goal.enter-requires-in-Some-least_urgent_on-clause-simple
+enter-requires-in-Some-least_urgent_on-clause-simple c =
+    (least_chain_to_task c.args.links.now c.args.t c.in-Some-least_urgent_on.out c.chain_to_idle.ensures.valid).simple c.unwrap-chain.result (least (goal.at.enter-requires-in-Some-least_urgent_on-clause-simple c).After-unwrap-chain)
+
+pub returns-in-Some-least_urgent_on-clause-comes : goal.returns-in-Some-least_urgent_on-clause-comes
+returns-in-Some-least_urgent_on-clause-comes c = record {
+  reached = c.reach-reach.ensures;
+  occupied = occupied_reach c.args.links.now c.chain_to_idle.ensures.valid c.args.t c.reach-reach.result c.reach-reach.ensures c.in_default.ensures.least;
+  out_there = c.in-Some-least_urgent_on.ensures.test;
+  out_less_urgent = c.is_more_urgent.ensures.0 c.if-is_more_urgent.true;
+  least = least (goal.at.returns-in-Some-least_urgent_on-clause-comes c).After-unwrap-chain;
+  shifted = c.enter-in-Some-least_urgent_on.ensures.shifted;
+}
+
+pub returns-in_default-least_urgent_on-clause-comes : goal.returns-in_default-least_urgent_on-clause-comes
+returns-in_default-least_urgent_on-clause-comes c =
+    let s = c.args.links.now in
+    let ok = c.chain_to_idle.ensures.valid in
+    let reach = c.reach-reach.result in
+    let occupied = occupied_reach s ok c.args.t reach c.reach-reach.ensures c.in_default.ensures.least in
+    record {
+      reached = c.reach-reach.ensures;
+      more_urgent = elim c.in_default-least_urgent_on.branch [
+        | in_default-least_urgent_on-via-in-Some-least_urgent_on+else-is_more_urgent w ↦ more_urgent_reach s ok c.args.t reach c.reach-reach.ensures c.requires.number c.requires.absent occupied w.in-Some-least_urgent_on.out w.in-Some-least_urgent_on.ensures.test (λ less. true≢false (sym (w.is_more_urgent.ensures.1 less) ∙ w.if-is_more_urgent.false))
+        | in_default-least_urgent_on-via-in_default-least_urgent_on w ↦ nobody_reached s ok c.args.t reach c.reach-reach.ensures occupied w.in_default-least_urgent_on.ensures.test
+      ];
+      waits = c.make_ready.ensures.ready;
+    }
