@@ -1,4 +1,4 @@
--- One piece behind another, and what one piece gives.
+-- One piece after another, and what one piece gives.
 use Rattle.std.proofs.Common.{◌≡◌, ℕ, List, [], ◌++◌, ◌+◌, ◌-◌, ◌≤◌, length, take, drop, Option, Some, None, sym, ap, ◌∙◌, append_assoc, take-append-drop, arith, take-add, take_all, length-drop, length-append, length-take, min, Ok, ◌↔◌, ◌<◌}
 use Rattle.std.proofs.lemmas.Grind.{common_steps}
 use Rattle.std.proofs.lemmas.List.{nil_from_length, drop_all}
@@ -24,9 +24,9 @@ pub takes_more : {E : Type 0} (a b c : Option (List ℕ)) (bytes into : List ℕ
 takes_more a b c bytes into n before one =
     (bytes ++ take n into, consumes_more a b c bytes (take n into) before one.bytes.0, simp length-append (omega (arith, one.bound.1)))
 
--- a front of the bytes that was put before, and a front of the rest
-pub appends_front : (a b c : Option (List ℕ)) (xs : List ℕ) (done n : ℕ) → done ≤ length xs → Appends a b (take done xs) → n ≤ length (take (length xs - done) (drop done xs)) → Appends b c (take n (take (length xs - done) (drop done xs))) → (done + n ≤ length xs) × Appends a c (take (done + n) xs)
-appends_front a b c xs done n within before fits one =
+-- a prefix of the bytes that was put before, and a prefix of the rest
+pub appends_prefix : (a b c : Option (List ℕ)) (xs : List ℕ) (done n : ℕ) → done ≤ length xs → Appends a b (take done xs) → n ≤ length (take (length xs - done) (drop done xs)) → Appends b c (take n (take (length xs - done) (drop done xs))) → (done + n ≤ length xs) × Appends a c (take (done + n) xs)
+appends_prefix a b c xs done n within before fits one =
     let rest : take (length xs - done) (drop done xs) ≡ drop done xs = take_all (length xs - done) (drop done xs) (simp length-drop (omega arith)) in
     let fits_rest : n ≤ length (drop done xs) = rw rest at fits in
     (let left = length-drop done xs in omega arith, rw take-add (appends_more a b c (take done xs) (take n (drop done xs)) before (rw rest at one)))
@@ -36,13 +36,13 @@ none_fits : (left : List ℕ) (n room : ℕ) → 0 < room → n ≡ min (length 
 none_fits left n room some count = (λ none. nil_from_length left (omega arith), λ none. let short : length left ≡ 0 = ap length none in omega arith)
 
 -- the first bytes left, as many as there is room for, are one take
-pub takes_front : {E : Type 0} (left into : List ℕ) (n : ℕ) → n ≡ min (length left) (length into) → Takes {E = E} (Some left) (Some (drop n left)) (Ok n) (take n left ++ drop n into)
-takes_front left into n count =
+pub takes_prefix : {E : Type 0} (left into : List ℕ) (n : ℕ) → n ≡ min (length left) (length into) → Takes {E = E} (Some left) (Some (drop n left)) (Ok n) (take n left ++ drop n into)
+takes_prefix left into n count =
     let taken : length (take n left) ≡ n = simp length-take (omega arith) in
-    let front : take n (take n left ++ drop n into) ≡ take n left = grind (arith, common_steps) in
+    let prefix : take n (take n left ++ drop n into) ≡ take n left = grind (arith, common_steps) in
     let room : length (take n left ++ drop n into) ≡ length into = simp (length-append, length-drop, taken) (omega arith) in
     record {
-      bound = (rw room (omega arith), rw front (sym taken));
-      bytes = (rw front (sym (take-append-drop n left)), λ none some. drop_all n left (omega arith));
+      bound = (rw room (omega arith), rw prefix (sym taken));
+      bytes = (rw prefix (sym (take-append-drop n left)), λ none some. drop_all n left (omega arith));
       end = λ some. none_fits left n (length into) (rw room at some) count;
     }

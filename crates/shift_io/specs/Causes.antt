@@ -1,4 +1,4 @@
--- What a reader must believe: a count of faults never falls, and a call that failed has raised it.
+-- A count of faults never falls, and a call that failed has raised it.
 use Rattle.std.specs.Prelude.{◌≡◌, ℕ, ◌+◌, ◌-◌, ◌^◌, ◌<◌, ◌≤◌, ◌⊎◌, min, Result, OnErr}
 
 -- the last value of a counter of 64 bits, at which it stands still

@@ -1,5 +1,4 @@
--- What a reader must believe: a stream in memory numbers its calls from 0, and fails at those that it
--- was told to.
+-- A stream in memory numbers its calls from 0, and fails at those that a test asks for.
 use Rattle.std.specs.Prelude.{ℕ, List}
 use Rattle.shift_io.specs.Causes.{count_after}
 

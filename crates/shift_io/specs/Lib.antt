@@ -1,6 +1,7 @@
 pub mod Causes
 pub mod Stream
 pub mod FaultPlan
+pub mod SoundSource
 pub mod MemSource
 pub mod MemSink
 pub mod StdSource

@@ -1,4 +1,4 @@
--- What a reader must believe: the words in which a fault is told to a person.
+-- The words in which a fault is reported to a person.
 use Rattle.std.specs.Prelude.{ℕ, List, codes}
 use Rattle.shift_io.specs.declared.whole.ReadAllFault.{ReadAllFault}
 use Rattle.shift_io.specs.declared.whole.ReadAllFault.TheVariants.{ReadFault, TooLong, OutOfMemory}

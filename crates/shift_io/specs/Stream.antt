@@ -1,5 +1,5 @@
--- What a reader must believe: what one take, one put, a whole read and a whole put did to the bytes of
--- a stream. A stream that does not tell its bytes has `None`, and nothing is said of them.
+-- What one take, one put, a whole read and a whole put did to the bytes of a stream. A stream that does
+-- not report its bytes has `None`, and nothing is said of them.
 use Rattle.std.specs.Prelude.{◌≡◌, ℕ, ◌<◌, ◌≤◌, List, [], length, take, Option, Result, Ok, IfOk, IfSome, ◌↔◌}
 use Rattle.std.specs.Io.{ReadsAtMost}
 use Rattle.std.specs.Io.KnownBytes.{Consumes, Appends, IsAtEnd, ReadConsumes, WriteAppends}
@@ -8,14 +8,14 @@ use Rattle.std.specs.Io.KnownBytes.{Consumes, Appends, IsAtEnd, ReadConsumes, Wr
 abbrev pub ZeroIsEnd : {E : Type 0} → Option (List ℕ) → Result ℕ E → List ℕ → Type 0
 ZeroIsEnd before result into = IfOk result (λ n. 0 < length into → IfSome before (λ left. (n ≡ 0) ↔ (left ≡ [])))
 
--- one take: the first bytes left, as many as it answers, went to the front of the room; at a failure
+-- one take: the first bytes left, as many as it answers, went to the start of the room; at a failure
 -- none did
 pub record Takes {E : Type 0} (before after : Option (List ℕ)) (result : Result ℕ E) (into : List ℕ) : Type 0 where
   pub bound : ReadsAtMost result into
   pub bytes : ReadConsumes before after result into
   pub end : ZeroIsEnd before result into
 
--- one put: a front of the piece was appended, with at least a byte where the piece has one; at a
+-- one put: a prefix of the piece was appended, with at least a byte where the piece has one; at a
 -- failure nothing was
 pub record Puts {E : Type 0} (before after : Option (List ℕ)) (result : Result ℕ E) (from : List ℕ) : Type 0 where
   pub bound : IfOk result (λ n. n ≤ length from)
@@ -36,6 +36,6 @@ TakesAtMost before after n = (taken : List ℕ) × Consumes before after taken �
 abbrev pub TakesExactly : Option (List ℕ) → Option (List ℕ) → ℕ → Type 0
 TakesExactly before after n = (taken : List ℕ) × Consumes before after taken × (length taken ≡ n)
 
--- a front of the bytes was appended
+-- a prefix of the bytes was appended
 abbrev pub AppendsPrefix : Option (List ℕ) → Option (List ℕ) → List ℕ → Type 0
 AppendsPrefix before after bytes = (n : ℕ) × (n ≤ length bytes) × Appends before after (take n bytes)

@@ -1,4 +1,4 @@
-// Which calls of a stream in memory fail.
+//! Which calls of a stream in memory fail.
 ghost use Rattle.std.specs.Prelude.{◌≡◌, ℕ, [], IsTrue, IsErr, OnOk, OnErr, Contains, ◌⊎◌, ◌↔◌};
 ghost use Rattle.shift_io.specs.Causes.{HasCause};
 ghost use Rattle.shift_io.specs.FaultPlan.{FaultPlanView, plan_after_call, plan_after_fault};

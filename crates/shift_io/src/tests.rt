@@ -1,11 +1,11 @@
-// What no clause says: that calls succeed, that the whole rest is handed on, and that a failed
-// flush is a fault.
+//! What no clause says: that calls succeed, that the whole rest is handed on, that a failed flush is
+//! a fault, and what the reader or writer under a stream is called for.
 use crate::{
     Failed, MemSink, MemSource, ReadAllFault, Sink, SoundSource, StdSink, StdSource, put_all,
     read_all,
 };
 use std::io;
-use std::io::{ErrorKind, Write};
+use std::io::{ErrorKind, Read, Write};
 use std::test::Fail;
 
 #[test]
@@ -22,8 +22,8 @@ fn read_all_limit(rt: HostRuntime) -> Result<(), Fail> {
     Ok(())
 }
 
-// 45 bytes at 8 a call: six calls give them, and the seventh finds the end. A call behind these is
-// never made.
+/// 45 bytes at 8 a call: six calls give them, and the seventh finds the end. A call after these is
+/// never made.
 #[test]
 fn reads_fail_at_their_calls(rt: HostRuntime) -> Result<(), Fail> {
     let alloc = rt.alloc();
@@ -38,7 +38,7 @@ fn reads_fail_at_their_calls(rt: HostRuntime) -> Result<(), Fail> {
     Ok(())
 }
 
-// 20 bytes: how many arrive in what room, at what pace, with a fault at which call.
+/// 20 bytes: how many arrive in what room, at what pace, with a fault at which call.
 #[test]
 fn puts_fail_at_their_calls(rt: HostRuntime) -> Result<(), Fail> {
     let alloc = rt.alloc();
@@ -96,4 +96,139 @@ fn a_failed_flush_is_a_fault(rt: HostRuntime) {
     let mut sink = StdSink::new(Unflushed);
     assert_eq!(rt; sink.put(b"abc"), Err(Failed));
     assert_eq!(rt; sink.put(b""), Ok(0));
+}
+
+/// What a reader gives and a writer takes here.
+const TEXT: &[u8] = b"abcde";
+
+/// How many bytes a reader gives and a writer takes at one call.
+const PACE: usize = 2;
+
+/// A reader that counts its reads. The one of this number fails, and the later ones go on.
+#[derive(Drop)]
+struct OneFaultReader<'a> {
+    left: &'a [u8],
+    fails_at: u32,
+    reads: u32,
+}
+
+impl Read for OneFaultReader<'_> {
+    fn read(&mut self, into: &mut [u8]) -> io::Result<usize> {
+        self.reads = self.reads.saturating_add(1);
+        if self.reads == self.fails_at {
+            return Err(io::Error::from(ErrorKind::Interrupted));
+        }
+        let room = into.len().min(PACE);
+        self.left.read(&mut into[..room])
+    }
+}
+
+/// Three reads give the text, and the fourth finds its end. The failed one is the last of a whole
+/// read, also where it was interrupted; the next whole read gives what is left then.
+#[test]
+fn a_failed_read_is_not_tried_again(rt: HostRuntime) -> Result<(), Fail> {
+    let alloc = rt.alloc();
+    for (fails_at, left) in [(1, 5), (2, 3), (3, 1), (4, 0)] {
+        let mut reader = OneFaultReader {
+            left: TEXT,
+            fails_at,
+            reads: 0,
+        };
+        let result = read_all(alloc, &mut StdSource::new(&mut reader), 5);
+        assert_eq!(rt;
+            result.err(),
+            Some(ReadAllFault::ReadFault),
+            "at {fails_at}"
+        );
+        assert_eq!(rt; reader.reads, fails_at, "at {fails_at}");
+        let bytes = read_all(alloc, &mut StdSource::new(&mut reader), 5)?;
+        assert_eq!(rt; bytes.as_slice(), &TEXT[5 - left..], "at {fails_at}");
+    }
+    Ok(())
+}
+
+/// A writer that counts its calls. The write and the flush of these numbers, from 1, fail.
+#[derive(Drop)]
+struct CountedWriter {
+    fails_write: u32,
+    fails_flush: u32,
+    writes: u32,
+    flushes: u32,
+    taken: usize,
+}
+
+impl CountedWriter {
+    fn new(fails_write: u32, fails_flush: u32) -> CountedWriter {
+        CountedWriter {
+            fails_write,
+            fails_flush,
+            writes: 0,
+            flushes: 0,
+            taken: 0,
+        }
+    }
+}
+
+impl Write for CountedWriter {
+    fn write(&mut self, from: &[u8]) -> io::Result<usize> {
+        self.writes = self.writes.saturating_add(1);
+        if self.writes == self.fails_write {
+            return Err(io::Error::from(ErrorKind::Interrupted));
+        }
+        let count = from.len().min(PACE);
+        self.taken = self.taken.saturating_add(count);
+        Ok(count)
+    }
+
+    fn flush(&mut self) -> io::Result<()> {
+        self.flushes = self.flushes.saturating_add(1);
+        if self.flushes == self.fails_flush {
+            return Err(io::Error::from(ErrorKind::Interrupted));
+        }
+        Ok(())
+    }
+}
+
+/// Three writes take the text, with a flush after each. A failed one is the last call of a whole put,
+/// and the next whole put goes well.
+#[test]
+fn a_failed_write_or_flush_is_not_tried_again(rt: HostRuntime) {
+    for (fails_write, fails_flush, writes, flushes, taken) in [
+        (0, 0, 3, 3, 5),
+        (1, 0, 1, 0, 0),
+        (2, 0, 2, 1, 2),
+        (3, 0, 3, 2, 4),
+        (0, 1, 1, 1, 2),
+        (0, 3, 3, 3, 5),
+        (4, 4, 3, 3, 5),
+    ] {
+        let mut writer = CountedWriter::new(fails_write, fails_flush);
+        let result = put_all(&mut StdSink::new(&mut writer), TEXT);
+        let fails = (1..4).contains(&fails_write) || (1..4).contains(&fails_flush);
+        assert_eq!(rt; result.is_err(), fails, "at {fails_write}, {fails_flush}");
+        assert_eq!(rt; writer.writes, writes, "at {fails_write}, {fails_flush}");
+        assert_eq!(rt; writer.flushes, flushes, "at {fails_write}, {fails_flush}");
+        assert_eq!(rt; writer.taken, taken, "at {fails_write}, {fails_flush}");
+        if fails {
+            let result = put_all(&mut StdSink::new(&mut writer), TEXT);
+            assert!(rt; result.is_ok(), "after {fails_write}, {fails_flush}");
+            assert_eq!(rt;
+                writer.taken,
+                taken + 5,
+                "after {fails_write}, {fails_flush}"
+            );
+        }
+    }
+}
+
+/// An empty piece is no write and no flush.
+#[test]
+fn an_empty_piece_is_not_written(rt: HostRuntime) {
+    let mut writer = CountedWriter::new(1, 1);
+    let mut sink = StdSink::new(&mut writer);
+    assert_eq!(rt; sink.put(b""), Ok(0));
+    assert_eq!(rt; put_all(&mut sink, b""), Ok(()));
+    drop(sink);
+    assert_eq!(rt; writer.writes, 0);
+    assert_eq!(rt; writer.flushes, 0);
 }

@@ -1,4 +1,4 @@
-// Whole reads and whole puts.
+//! Whole reads and whole puts.
 ghost use Rattle.std.specs.Prelude.{◌≡◌, ◌+◌, ◌<◌, ◌≤◌, Some, length, vec_len, IfOk, OnOk, OnErr, IsErrOf};
 ghost use Rattle.std.specs.Io.KnownBytes.{Appends};
 ghost use Rattle.shift_io.specs.Causes.{Rose, HasCause};
@@ -8,12 +8,9 @@ ghost use Rattle.shift_io.specs.declared.whole.ReadAllFault.TheVariants.{ReadFau
 
 use crate::sink::Sink;
 use crate::source::{Failed, Source};
-use crate::steps::Steps;
 use std::alloc::{AllocError, Global};
 use std::error::Error;
 use std::fmt;
-use std::marker::Brand;
-use std::sync::ledger::{Blank, Ledger};
 
 /// The bytes of the buffer that each take fills.
 const PIECE: usize = 4096;
@@ -25,7 +22,7 @@ pub enum ReadAllFault {
     ReadFault,
     /// There are more bytes than the limit.
     TooLong,
-    /// There was no memory for the bytes.
+    /// Out of memory for the bytes.
     OutOfMemory,
 }
 
@@ -62,7 +59,7 @@ impl From<AllocError> for ReadAllFault {
 /// All bytes up to the end of input, if there are at most `limit`. A take that failed is not tried
 /// again, and what was taken before it is lost.
 ///
-/// `ReadFault`: a take failed. `TooLong`: there is a byte behind the limit, and it was taken too.
+/// `ReadFault`: a take failed. `TooLong`: there is a byte after the limit, and it was taken too.
 /// `OutOfMemory`: no memory for the bytes; it may come at any input.
 pub fn read_all<S: Source>(
     alloc: Global,
@@ -80,66 +77,18 @@ pub fn read_all<S: Source>(
     ensures out_of_memory { IsErrOf result OutOfMemory →
         TakesAtMost (S.left source.old) (S.left source.new) limit }
     ensures later { S.faults source.old ≤ S.faults source.new }
-{
-    read_all_from_blank::<S, Brand>(alloc, source, limit, Blank::new(1))
-}
-
-/// `read_all`, on a ledger that the caller picks.
-fn read_all_from_blank<S: Source, L: Ledger>(
-    alloc: Global,
-    source: &mut S,
-    limit: usize,
-    blank: Blank,
-) -> Result<Vec<u8>, ReadAllFault>
-    requires limit { limit < usize.MAX }
-    requires name { blank.name ≡ L.name }
-    requires parts { blank.parts ≡ L.parts }
-    requires a_part { 0 < blank.parts }
-    ensures ok { IfOk result (λ bytes. (vec_len bytes ≤ limit) ×
-        TakesAll (S.left source.old) (S.left source.new) bytes.items) }
-    ensures read_fault { IsErrOf result ReadFault →
-        Rose (S.faults source.old) (S.faults source.new) ×
-        TakesAtMost (S.left source.old) (S.left source.new) limit }
-    ensures too_long { IsErrOf result TooLong →
-        TakesExactly (S.left source.old) (S.left source.new) (limit + 1) }
-    ensures out_of_memory { IsErrOf result OutOfMemory →
-        TakesAtMost (S.left source.old) (S.left source.new) limit }
-    ensures later { S.faults source.old ≤ S.faults source.new }
-{
-    let mut steps = Steps::<L>::new(blank);
-    read_all_counted(alloc, source, limit, &mut steps)
-}
-
-/// `read_all`, which also counts its takes.
-pub fn read_all_counted<S: Source, L: Ledger>(
-    alloc: Global,
-    source: &mut S,
-    limit: usize,
-    steps: &mut Steps<L>,
-) -> Result<Vec<u8>, ReadAllFault>
-    requires { limit < usize.MAX }
-    ensures ok { IfOk result (λ bytes. (vec_len bytes ≤ limit) ×
-        TakesAll (S.left source.old) (S.left source.new) bytes.items) }
-    ensures read_fault { IsErrOf result ReadFault →
-        Rose (S.faults source.old) (S.faults source.new) ×
-        TakesAtMost (S.left source.old) (S.left source.new) limit }
-    ensures too_long { IsErrOf result TooLong →
-        TakesExactly (S.left source.old) (S.left source.new) (limit + 1) }
-    ensures out_of_memory { IsErrOf result OutOfMemory →
-        TakesAtMost (S.left source.old) (S.left source.new) limit }
-    ensures later { S.faults source.old ≤ S.faults source.new }
 
     // Each take but the last gave a byte.
-    ensures bounded_takes { steps.new ≤ steps.old + limit + 2 }
-    ensures no_retry { IfOk result (λ bytes. steps.new ≤ steps.old + vec_len bytes + 1) }
+    ensures bounded_takes { S.calls source.new ≤ S.calls source.old + limit + 2 }
+    ensures no_retry { IfOk result (λ bytes.
+        S.calls source.new ≤ S.calls source.old + vec_len bytes + 1) }
 {
     let mut bytes = Vec::new(alloc);
     let mut piece = [0u8; PIECE];
     'pieces: loop {
-        // One byte behind the limit is asked for, so that the end of input can be told from a
-        // longer one.
+        // One byte after the limit is asked for, to see whether the input ends there.
         let room = (limit + 1 - bytes.len()).min(PIECE);
-        let count = steps.take(source, &mut piece[..room])?;
+        let count = source.take(&mut piece[..room])?;
         if count == 0 {
             return Ok(bytes);
         }
@@ -152,47 +101,19 @@ pub fn read_all_counted<S: Source, L: Ledger>(
 
 /// Puts all the bytes, in order. Each put is handed the whole rest.
 ///
-/// Fails where a put failed, which is not tried again; a front of the bytes was appended then.
+/// Fails where a put failed, which is not tried again; a prefix of the bytes was appended then.
 /// Takes no memory.
 pub fn put_all<K: Sink>(sink: &mut K, bytes: &[u8]) -> Result<(), Failed>
     ensures ok { OnOk result (Appends (K.bytes sink.old) (K.bytes sink.new) bytes.now) }
     ensures failed { OnErr result (AppendsPrefix (K.bytes sink.old) (K.bytes sink.new) bytes.now) }
     ensures cause { HasCause (K.faults sink.old) (K.faults sink.new) result }
-{
-    put_all_from_blank::<K, Brand>(sink, bytes, Blank::new(1))
-}
 
-/// `put_all`, on a ledger that the caller picks.
-fn put_all_from_blank<K: Sink, L: Ledger>(
-    sink: &mut K,
-    bytes: &[u8],
-    blank: Blank,
-) -> Result<(), Failed>
-    requires name { blank.name ≡ L.name }
-    requires parts { blank.parts ≡ L.parts }
-    requires a_part { 0 < blank.parts }
-    ensures ok { OnOk result (Appends (K.bytes sink.old) (K.bytes sink.new) bytes.now) }
-    ensures failed { OnErr result (AppendsPrefix (K.bytes sink.old) (K.bytes sink.new) bytes.now) }
-    ensures cause { HasCause (K.faults sink.old) (K.faults sink.new) result }
-{
-    let mut steps = Steps::<L>::new(blank);
-    put_all_counted(sink, bytes, &mut steps)
-}
-
-/// `put_all`, which also counts its puts.
-pub fn put_all_counted<K: Sink, L: Ledger>(
-    sink: &mut K,
-    bytes: &[u8],
-    steps: &mut Steps<L>,
-) -> Result<(), Failed>
-    ensures ok { OnOk result (Appends (K.bytes sink.old) (K.bytes sink.new) bytes.now) }
-    ensures failed { OnErr result (AppendsPrefix (K.bytes sink.old) (K.bytes sink.new) bytes.now) }
-    ensures cause { HasCause (K.faults sink.old) (K.faults sink.new) result }
-    ensures bounded_puts { steps.new ≤ steps.old + length bytes.now }
+    // Each put but a failed one took a byte.
+    ensures bounded_puts { K.calls sink.new ≤ K.calls sink.old + length bytes.now }
 {
     let mut done = 0;
     while done < bytes.len() {
-        done += steps.put(sink, &bytes[done..])?;
+        done += sink.put(&bytes[done..])?;
     }
     Ok(())
 }

@@ -1,5 +1,14 @@
+use Rattle.std.proofs.Common.{◌≤◌, ◌+◌, ◌-◌, vec_len}
+use Rattle.std.specs.Io.KnownBytes.{Consumes}
 use Rattle.shift_io.proofs.whole.read_all.Given as goal
 
--- the ledger is the one that the blank opens
-abbrev pub ghosts-read_all_from_blank : goal.ghosts-read_all_from_blank
-ghosts-read_all_from_blank g a = record { name = a.blank.name; parts = a.blank.parts }
+abbrev pub invariant-pieces : goal.invariant-pieces
+invariant-pieces g l = record {
+  bound : vec_len l.bytes ≤ l.limit;
+  taken : Consumes (g.S.Source.left l.fn.source) (g.S.Source.left l.source) l.bytes.items;
+  later : g.S.Source.faults l.fn.source ≤ g.S.Source.faults l.source;
+  calls : g.S.Source.calls l.source ≤ g.S.Source.calls l.fn.source + vec_len l.bytes;
+}
+
+abbrev pub decreases-pieces : goal.decreases-pieces
+decreases-pieces g l = l.limit - vec_len l.bytes

@@ -1,6 +1,6 @@
 use Rattle.std.proofs.Common.{arith, length-take}
 use Rattle.shift_io.proofs.Bytes.{takes_more}
-use Rattle.shift_io.proofs.whole.read_all_counted.Goals as goal
+use Rattle.shift_io.proofs.whole.read_all.Goals as goal
 
 pub returns-then-len-count-clause-too_long : goal.returns-then-len-count-clause-too_long
 returns-then-len-count-clause-too_long g c _ =
