@@ -1,5 +1,5 @@
 //! The top call: from the words and the bytes read to the bytes put.
-ghost use Rattle.std.specs.Prelude.{◌≡◌, ◌≢◌, ℕ, ◌+◌, ◌↔◌, ◌≤◌, ◌⊎◌, List, map, IfOk, IfErr, IsErrOf, IsOk, MatchResult, string_bytes};
+ghost use Rattle.std.specs.Prelude.{◌≡◌, ◌≢◌, ℕ, ◌+◌, ◌↔◌, ◌≤◌, ◌⊎◌, List, length, map, IfOk, IfErr, IsErrOf, IsOk, MatchResult, string_bytes};
 ghost use Rattle.std.specs.Io.KnownBytes.{Appends};
 ghost use Rattle.shift_io.specs.declared.whole.ReadAllFault.{ReadAllFault};
 ghost use Rattle.shift_io.specs.declared.whole.ReadAllFault.TheVariants as fault;
@@ -45,7 +45,8 @@ pub fn run<R: Threads + Wait + Clock + Sync, S: Source, K: Sink, G: Gate + Sync>
     // The text that the command makes of the bytes that it read, whole.
     ensures done { result ≡ Status.Done → (text : List ℕ)
         × ReadsAndMakes (map string_bytes words.now) (S.left source.old) (S.left source.new) text
-        × Appends (K.bytes sink.old) (K.bytes sink.new) text }
+        × Appends (K.bytes sink.old) (K.bytes sink.new) text
+        × (K.calls sink.new ≤ K.calls sink.old + length text) }
 
     // The words come first, then the source, then what was read, then the sink.
     ensures usage { (result ≡ Status.Usage)
@@ -65,7 +66,11 @@ pub fn run<R: Threads + Wait + Clock + Sync, S: Source, K: Sink, G: Gate + Sync>
     ensures write_fault { result ≡ Status.WriteFault → Rose (K.faults sink.old) (K.faults sink.new)
         × ((text : List ℕ)
         × ReadsAndMakes (map string_bytes words.now) (S.left source.old) (S.left source.new) text
-        × AppendsPrefix (K.bytes sink.old) (K.bytes sink.new) text) }
+        × AppendsPrefix (K.bytes sink.old) (K.bytes sink.new) text
+        × (K.calls sink.new ≤ K.calls sink.old + length text)) }
+
+    // A take that failed is not tried again, and each other one but the last gave a byte.
+    ensures takes { S.calls source.new ≤ S.calls source.old + byte_limit + 2 }
 
     // Where nothing fails, the bytes alone decide, unless memory is out.
     ensures complete { (command : Command) (read : List ℕ)
@@ -116,6 +121,7 @@ fn bytes_for<S: Source>(
         TakesExactly (S.left source.old) (S.left source.new) (byte_limit + 1) }
     ensures within { IsErrOf result fault.TooLong
         ⊎ TakesAtMost (S.left source.old) (S.left source.new) byte_limit }
+    ensures takes { S.calls source.new ≤ S.calls source.old + byte_limit + 2 }
 {
     match command {
         Command::Run | Command::Check => read_all(alloc, source, MAX_BYTES),
