@@ -4,9 +4,9 @@
 mod check;
 #[cfg(test)]
 mod check_tests;
-mod generate;
 #[cfg(test)]
 mod checker_tests;
+mod generate;
 #[cfg(test)]
 mod generated_tests;
 #[cfg(test)]

@@ -1,3 +1,4 @@
+use Rattle.std.proofs.Common.{◌≡◌, refl, inr}
 use Rattle.std.proofs.lemmas.Result.{err_from_is_err_and}
 use Rattle.event_replay.proofs.LegalNames.{legal_names}
 use Rattle.schedule_program.proofs.Headline.{headline}
@@ -41,3 +42,13 @@ returns-clause-replays g c = is_run_of c.args.bytes.now _ (
 
 pub returns-clause-refuses : goal.returns-clause-refuses
 returns-clause-refuses g c = λ due why. c.in_ok-input.ensures.refuses why.number why.cause.cause why.cause.refused
+
+pub returns-in_err-text-clause-accepts : goal.returns-in_err-text-clause-accepts
+returns-in_err-text-clause-accepts g c = λ accepted.
+    let p = err_from_is_err_and c.from_residual-in_err-text.result c.from_residual-in_err-text.ensures.1 in
+    rw (p.1, p.2) refl
+
+pub returns-in_err-text-clause-refuses : goal.returns-in_err-text-clause-refuses
+returns-in_err-text-clause-refuses g c = λ due why.
+    let p = err_from_is_err_and c.from_residual-in_err-text.result c.from_residual-in_err-text.ensures.1 in
+    rw (p.1, p.2) (inr refl)
