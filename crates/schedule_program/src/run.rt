@@ -69,7 +69,7 @@ pub fn run<R: Threads + Wait + Clock + Sync, S: Source, K: Sink, G: Gate + Sync>
         × AppendsPrefix (K.bytes sink.old) (K.bytes sink.new) text
         × (K.calls sink.new ≤ K.calls sink.old + length text)) }
 
-    // A take that failed is not tried again, and each other one but the last gave a byte.
+    // At most two more takes than the most bytes that are read.
     ensures takes { S.calls source.new ≤ S.calls source.old + byte_limit + 2 }
 
     // Where nothing fails, the bytes alone decide, unless memory is out.
