@@ -4,7 +4,7 @@ pub mod Meetings
 pub mod Unions
 pub mod Runs
 mod Words
-mod Rows
+mod Examples
 pub mod Numbers
 pub mod Items
 pub mod ListTexts

@@ -9,7 +9,7 @@ use Rattle.std.proofs.lemmas.List.Elements.{All-nil, All-push, All-weaker, All-m
 use Rattle.std.proofs.lemmas.Fmt.{decimal_is_IsNumeral}
 use Rattle.affinity_mask.specs.Number.{IsNumber, number_value, canonical_number}
 use Rattle.affinity_mask.specs.ProcSet.{has, empty, all_below, Within, passing_below}
-use Rattle.affinity_mask.specs.ListText.{comma, IsItem, Item, IsLawful, IsListText, begins_run, ends_run, run_text, canonical_list}
+use Rattle.affinity_mask.specs.ListText.{comma, IsItem, Item, IsWellFormed, IsListText, begins_run, ends_run, run_text, canonical_list}
 use Rattle.affinity_mask.proofs.Sets.{has-all_below, has-intersection, intersection-all_below, empty_from_none}
 use Rattle.affinity_mask.specs.ListSteps.{item_covers}
 use Rattle.affinity_mask.proofs.Lists.{passing_more, passing_same}
@@ -233,7 +233,7 @@ item_form low high p q =
     (inr (canonical_number low, canonical_number high, refl, (number_of low p).0, (number_of high q).0, (number_of low p).1, (number_of high q).1)))
     (cases_eq low high)
 
-item_lawful : (run : ℕ × ℕ) → Ascends 64 run → IsLawful (item_of run)
+item_lawful : (run : ℕ × ℕ) → Ascends 64 run → IsWellFormed (item_of run)
 item_lawful run h = record {
   form = item_form run.0 run.1 (omega (arith, h.0, h.1)) h.1;
   ascends = h.0;
@@ -270,9 +270,9 @@ list_of_runs X (run ∷ more) c some within =
         joined =
             ap (λ (found : List (ℕ × ℕ)). join_with_byte comma (map run_text found)) (ap₂ zip c.starts c.ends ∙ zip_back (run ∷ more))
             ∙ sym (ap (join_with_byte comma) (texts_of_items (run ∷ more)));
-        lawful =
-            All-map IsLawful item_of (run ∷ more)
-            (All-weaker (Ascends 64) (λ (run : ℕ × ℕ). IsLawful (item_of run)) item_lawful (run ∷ more) c.ascending);
+        well_formed =
+            All-map IsWellFormed item_of (run ∷ more)
+            (All-weaker (Ascends 64) (λ (run : ℕ × ℕ). IsWellFormed (item_of run)) item_lawful (run ∷ more) c.ascending);
         union = λ p. (λ h. covered-Any (run ∷ more) p (same p ∙ h), λ any. sym (same p) ∙ Any-covered (run ∷ more) p any);
       },
     )

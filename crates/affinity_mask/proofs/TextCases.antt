@@ -8,8 +8,8 @@ use Rattle.std.proofs.lemmas.List.Splits.{length-slice_split}
 use Rattle.affinity_mask.specs.declared.mask_fault.MaskFault.{MaskFault}
 use Rattle.affinity_mask.specs.declared.mask_fault.MaskFault.TheVariants.{Empty, BadItem, Backward, Large}
 use Rattle.affinity_mask.specs.Number.{IsNumber, number_value}
-use Rattle.affinity_mask.specs.ListText.{comma, dash, Item, IsItem, IsLawful, IsListText}
-use Rattle.affinity_mask.specs.ListFault.{pieces, place_behind, IsLawfulPiece, IsPieceFault, IsListFault}
+use Rattle.affinity_mask.specs.ListText.{comma, dash, Item, IsItem, IsWellFormed, IsListText}
+use Rattle.affinity_mask.specs.ListFault.{pieces, place_behind, IsWellFormedPiece, IsPieceFault, IsListFault}
 use Rattle.affinity_mask.specs.ListSteps.{AreEnds}
 use Rattle.affinity_mask.proofs.Numbers.{digits_model}
 use Rattle.affinity_mask.proofs.Items.{ends_item, ends_none, join-pieces}
@@ -59,7 +59,7 @@ item_cases piece =
     (λ na. inr (ends_none piece (ends.0) (ends.1) ends.2 (λ both. na both.0)))
     (number_cases (ends.0))
 
-piece_cases : (piece : List ℕ) (place : ℕ) → IsLawfulPiece piece ⊎ ((fault : MaskFault) × IsPieceFault piece place fault)
+piece_cases : (piece : List ℕ) (place : ℕ) → IsWellFormedPiece piece ⊎ ((fault : MaskFault) × IsPieceFault piece place fault)
 piece_cases piece place = elim (item_cases piece) [
   | inl item ↦ ⊎_elim
       (λ (back : item.1 < item.0). inr (Backward place, (refl, (item.0, item.1, item.2, back))))
@@ -73,40 +73,40 @@ piece_cases piece place = elim (item_cases piece) [
 
 -- ---- all pieces
 
--- the pieces behind lawful ones are lawful too, or one of them is the first that has a fault
-pieces_cases : (whole before rest : List (List ℕ)) → whole ≡ before ++ rest → All IsLawfulPiece before → All IsLawfulPiece whole ⊎ ((done : List (List ℕ)) × (piece : List ℕ) × (after : List (List ℕ)) × (fault : MaskFault) × (whole ≡ done ++ piece ∷ after) × All IsLawfulPiece done × IsPieceFault piece (place_behind done) fault)
-pieces_cases whole before [] e lawful = inl (rw (e, append-nil) lawful)
-pieces_cases whole before (piece ∷ rest) e lawful = elim (piece_cases piece (place_behind before)) [
-  | inl item ↦ pieces_cases whole (before ++ piece ∷ []) rest (e ∙ sym (append_assoc before (piece ∷ []) rest)) (All-push IsLawfulPiece before piece lawful item)
-  | inr found ↦ inr (before, piece, rest, found.0, e, lawful, found.1)
+-- the pieces after well-formed ones are well-formed too, or one of them is the first that has a fault
+pieces_cases : (whole before rest : List (List ℕ)) → whole ≡ before ++ rest → All IsWellFormedPiece before → All IsWellFormedPiece whole ⊎ ((done : List (List ℕ)) × (piece : List ℕ) × (after : List (List ℕ)) × (fault : MaskFault) × (whole ≡ done ++ piece ∷ after) × All IsWellFormedPiece done × IsPieceFault piece (place_behind done) fault)
+pieces_cases whole before [] e well_formed = inl (rw (e, append-nil) well_formed)
+pieces_cases whole before (piece ∷ rest) e well_formed = elim (piece_cases piece (place_behind before)) [
+  | inl item ↦ pieces_cases whole (before ++ piece ∷ []) rest (e ∙ sym (append_assoc before (piece ∷ []) rest)) (All-push IsWellFormedPiece before piece well_formed item)
+  | inr found ↦ inr (before, piece, rest, found.0, e, well_formed, found.1)
 ]
 
-items_of : (texts : List (List ℕ)) → All IsLawfulPiece texts → (items : List Item) × (texts_of items ≡ texts) × All IsLawful items
-items_of [] lawful = ([], refl, All-nil IsLawful)
-items_of (text ∷ texts) lawful =
-    let first = All-head IsLawfulPiece text texts lawful in
-    let more = items_of texts (All-tail IsLawfulPiece text texts lawful) in
+items_of : (texts : List (List ℕ)) → All IsWellFormedPiece texts → (items : List Item) × (texts_of items ≡ texts) × All IsWellFormed items
+items_of [] well_formed = ([], refl, All-nil IsWellFormed)
+items_of (text ∷ texts) well_formed =
+    let first = All-head IsWellFormedPiece text texts well_formed in
+    let more = items_of texts (All-tail IsWellFormedPiece text texts well_formed) in
     let item : Item = record { text = text; low = first.0; high = first.1 } in
-    (item ∷ more.0, ap (λ (others : List (List ℕ)). text ∷ others) more.1, All-cons IsLawful item (more.0) first.2 more.2)
+    (item ∷ more.0, ap (λ (others : List (List ℕ)). text ∷ others) more.1, All-cons IsWellFormed item (more.0) first.2 more.2)
 
-list_from_items : (text : List ℕ) (items : List Item) → texts_of items ≡ pieces text → All IsLawful items → (X : ℕ) × IsListText text X
-list_from_items text [] e lawful = absurd (omega (arith, ap length e, length-slice_split (λ byte. nat_eq byte comma) text))
-list_from_items text (first ∷ more) e lawful =
-    let set = union_of (first ∷ more) lawful in (
+list_from_items : (text : List ℕ) (items : List Item) → texts_of items ≡ pieces text → All IsWellFormed items → (X : ℕ) × IsListText text X
+list_from_items text [] e well_formed = absurd (omega (arith, ap length e, length-slice_split (λ byte. nat_eq byte comma) text))
+list_from_items text (first ∷ more) e well_formed =
+    let set = union_of (first ∷ more) well_formed in (
       set.0,
       (
         first,
         more,
-        record { joined = sym (join-pieces text) ∙ ap (join_with_byte comma) (sym e); lawful = lawful; union = set.1 },
+        record { joined = sym (join-pieces text) ∙ ap (join_with_byte comma) (sym e); well_formed = well_formed; union = set.1 },
       ),
     )
 
 some_text_cases : (text : List ℕ) → text ≢ [] → ((X : ℕ) × IsListText text X) ⊎ ((fault : MaskFault) × IsListFault text fault)
-some_text_cases text some = elim (pieces_cases (pieces text) [] (pieces text) refl (All-nil IsLawfulPiece)) [
-  | inl lawful ↦ let items = items_of (pieces text) lawful in inl (list_from_items text (items.0) items.1 items.2)
+some_text_cases text some = elim (pieces_cases (pieces text) [] (pieces text) refl (All-nil IsWellFormedPiece)) [
+  | inl well_formed ↦ let items = items_of (pieces text) well_formed in inl (list_from_items text (items.0) items.1 items.2)
   | inr found ↦ inr (
     found.3,
-    inr (some, (found.0, found.1, found.2, record { cut = found.4; lawful = found.5; fault_of = found.6 })),
+    inr (some, (found.0, found.1, found.2, record { cut = found.4; well_formed = found.5; fault_of = found.6 })),
   )
 ]
 

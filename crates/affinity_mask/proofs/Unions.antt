@@ -6,7 +6,7 @@ use Rattle.std.proofs.lemmas.List.Elements.{All-head, All-tail}
 use Rattle.std.proofs.lemmas.List.Folds.{list_any-append, Any-from_list_any, list_any-from_Any}
 use Rattle.std.proofs.Math.Bool.{or-false, and-false}
 use Rattle.affinity_mask.specs.ProcSet.{has}
-use Rattle.affinity_mask.specs.ListText.{Item, IsLawful}
+use Rattle.affinity_mask.specs.ListText.{Item, IsWellFormed}
 use Rattle.affinity_mask.specs.ListSteps.{item_covers}
 use Rattle.affinity_mask.proofs.Sets.{has-or, has-pow, has-zero, same_set}
 
@@ -80,18 +80,18 @@ collected test (suc n) =
     (λ (out : test n ≡ false). (before.0, λ p. before.1 p ∙ below_same test n p out))
     (cases_Bool (test n))
 
-covers_small : (p : ℕ) (items : List Item) → All IsLawful items → (list_any (item_covers p) items && nat_lt p 64) ≡ list_any (item_covers p) items
-covers_small p [] lawful = refl
-covers_small p (item ∷ items) lawful =
-    let head : IsLawful item = All-head IsLawful item items lawful in
-    by p item (list_any (item_covers p) items) head.small (covers_small p items (All-tail IsLawful item items lawful))
+covers_small : (p : ℕ) (items : List Item) → All IsWellFormed items → (list_any (item_covers p) items && nat_lt p 64) ≡ list_any (item_covers p) items
+covers_small p [] well_formed = refl
+covers_small p (item ∷ items) well_formed =
+    let head : IsWellFormed item = All-head IsWellFormed item items well_formed in
+    by p item (list_any (item_covers p) items) head.small (covers_small p items (All-tail IsWellFormed item items well_formed))
   where
     by : (p : ℕ) (item : Item) (others : Bool) → item.high ≤ 63 → (others && nat_lt p 64) ≡ others → ((item_covers p item || others) && nat_lt p 64) ≡ (item_covers p item || others)
     by p item others small rest = grind arith
 
--- the union of lawful items is a set
-pub union_of : (items : List Item) → All IsLawful items → (X : ℕ) × ((p : ℕ) → IsTrue (has X p) ↔ Any (λ (item : Item). (item.low ≤ p) × (p ≤ item.high)) items)
-union_of items lawful =
+-- the union of well-formed items is a set
+pub union_of : (items : List Item) → All IsWellFormed items → (X : ℕ) × ((p : ℕ) → IsTrue (has X p) ↔ Any (λ (item : Item). (item.low ≤ p) × (p ≤ item.high)) items)
+union_of items well_formed =
     let found = collected (λ p. list_any (item_covers p) items) 64 in
-    let same : (p : ℕ) → has (found.0) p ≡ list_any (item_covers p) items = λ p. found.1 p ∙ covers_small p items lawful in
+    let same : (p : ℕ) → has (found.0) p ≡ list_any (item_covers p) items = λ p. found.1 p ∙ covers_small p items well_formed in
     (found.0, λ p. (λ h. Any-from_covers p items (sym (same p) ∙ h), λ any. same p ∙ covers_from_Any p items any))

@@ -1,4 +1,4 @@
--- Laws that tie definitions to one another. What a reader must believe: nothing but the definitions that a law names.
+-- Laws that tie definitions to one another. Each is proved as the contract of a function of `laws`.
 use Rattle.std.specs.Prelude.{◌≡◌, ◌≢◌, ℕ, ◌⊎◌, List}
 use Rattle.affinity_mask.specs.ProcSet.{empty, all_below, Within}
 use Rattle.affinity_mask.specs.ListText.{IsListText, canonical_list}

@@ -1,11 +1,11 @@
--- Single steps of reading and of writing a processor list. What a reader must believe: nothing, since only contracts
--- within the crate name them.
+-- Single steps of reading and of writing a processor list. Private: the
+-- contracts of this crate's own functions.
 use Rattle.std.specs.Prelude.{◌≡◌, ◌≢◌, ℕ, zero, suc, ◌+◌, ◌<◌, ◌⊎◌, Bool, nat_le, ◌==◌, ◌&&◌, List, [], ◌∷◌, ◌++◌, length, map, slice_index, All, Contains, if◌then◌else◌}
 use Rattle.std.specs.List.{list_any}
 use Rattle.std.specs.Str.Parse.{AllDigits}
 use Rattle.affinity_mask.specs.ProcSet.{has}
 use Rattle.affinity_mask.specs.Number.{number_value, canonical_number}
-use Rattle.affinity_mask.specs.ListText.{comma, dash, Item, IsLawful, begins_run, ends_run}
+use Rattle.affinity_mask.specs.ListText.{comma, dash, Item, IsWellFormed, begins_run, ends_run}
 use Rattle.affinity_mask.specs.ListFault.{pieces, place_behind}
 
 -- digits of the same value, of which the first is not zero
@@ -18,7 +18,7 @@ pub record IsSignificant (number digits : List ℕ) : Type 0 where
 pub record ReadsItem (piece : List ℕ) (X : ℕ) : Type 0 where
   pub low : ℕ
   pub high : ℕ
-  pub lawful : IsLawful (record { text = piece; low = low; high = high })
+  pub well_formed : IsWellFormed (record { text = piece; low = low; high = high })
   pub contents : (p : ℕ) → has X p ≡ (nat_le low p && nat_le p high)
 
 -- what a processor adds to the canonical list: where a run begins its number, behind a comma unless it is the first,
@@ -47,5 +47,5 @@ item_covers p item = nat_le item.low p && nat_le p item.high
 pub record IsReadSoFar (text : List ℕ) (X : ℕ) (rest : List ℕ) (done : List Item) : Type 0 where
   pub cut : pieces text ≡ map (λ (item : Item). item.text) done ++ pieces rest
   pub place : place_behind (map (λ (item : Item). item.text) done) + length rest ≡ length text
-  pub lawful : All IsLawful done
+  pub well_formed : All IsWellFormed done
   pub union : (p : ℕ) → has X p ≡ list_any (item_covers p) done

@@ -1,4 +1,4 @@
--- Processor lists, as Linux writes them. What a reader must believe: a list is items joined by commas, an item is a
+-- Processor lists, as Linux writes them. A list is items joined by commas, an item is a
 -- number a, or two numbers a-b, and the list stands for all numbers of its items. The canonical list of a set has its
 -- longest runs of consecutive numbers in ascending order.
 use Rattle.std.specs.Prelude.{◌≡◌, ℕ, ◌+◌, ◌-◌, ◌≤◌, ◌⊎◌, ◌↔◌, Bool, not, ◌&&◌, ◌||◌, ◌==◌, IsTrue, List, ◌∷◌, ◌++◌, map, zip, if◌then◌else◌, Any, All}
@@ -26,7 +26,7 @@ pub record Item : Type 0 where
   pub high : ℕ
 
 -- an item of processors, in ascending order
-pub record IsLawful (item : Item) : Type 0 where
+pub record IsWellFormed (item : Item) : Type 0 where
   pub form : IsItem item.text item.low item.high
   pub ascends : item.low ≤ item.high
   pub small : item.high ≤ 63
@@ -34,7 +34,7 @@ pub record IsLawful (item : Item) : Type 0 where
 -- the text is these items joined by commas, and the set is their union
 pub record IsListOf (text : List ℕ) (X : ℕ) (first : Item) (more : List Item) : Type 0 where
   pub joined : text ≡ join_with_byte comma (map (λ (item : Item). item.text) (first ∷ more))
-  pub lawful : All IsLawful (first ∷ more)
+  pub well_formed : All IsWellFormed (first ∷ more)
   pub union : (p : ℕ) → IsTrue (has X p) ↔ Any (λ (item : Item). (item.low ≤ p) × (p ≤ item.high)) (first ∷ more)
 
 -- the text is a processor list of the set

@@ -1,4 +1,4 @@
--- Numbers as text. What a reader must believe: a number is written by one or more digits, and leading zeros are no
+-- Numbers as text. A number is written by one or more digits, and leading zeros are no
 -- fault; its canonical text has none.
 use Rattle.std.specs.Prelude.{ℕ, List, decimal}
 use Rattle.std.specs.Str.Parse.{IsNumeral, digits_value}

@@ -1,4 +1,4 @@
--- Want of memory. What a reader must believe: there is one such answer, and it says nothing more.
+-- Out of memory: one answer, which says nothing more.
 use Rattle.affinity_mask.specs.declared.out_of_memory.OutOfMemory.{OutOfMemory}
 
 -- the one value of the type

@@ -14,7 +14,7 @@ const MEMBER_BYTES: usize = 3;
 
 impl ProcSet {
     /// Appends the canonical list of the set: its longest runs in ascending order, and nothing for the empty set.
-    /// Refused only for want of memory.
+    /// Refused only where memory runs out.
     pub fn write_list(&self, into: &mut Vec<u8>) -> Result<(), OutOfMemory>
         ensures written { OnOk result (into.new.items ≡ into.old.items ++ canonical_list self.now) }
         ensures unchanged { OnErr result (into.new.items ≡ into.old.items) }

@@ -1,4 +1,4 @@
-//! Want of memory, as each crate above reports it.
+//! Out of memory, as each crate above reports it.
 
 ghost use Rattle.std.specs.Prelude.{◌≡◌};
 ghost use Rattle.affinity_mask.specs.OutOfMemory.{out_of_memory};

@@ -4,8 +4,8 @@ use Rattle.std.proofs.Common.{◌≡◌, ℕ, zero, suc, false, List, [], ◌∷
 use Rattle.std.proofs.lemmas.Bool.{true≢false}
 use Rattle.task_set.specs.TaskSet.{SetData, IsTaskSet}
 use Rattle.task_set.specs.declared.event.Event.{Event}
-use Rattle.link_table.specs.declared.reply.Reply.{Reply}
-use Rattle.link_table.specs.declared.reply.Entry.{Entry}
+use Rattle.scheduler_reply.specs.declared.reply.Reply.{Reply}
+use Rattle.scheduler_reply.specs.declared.reply.Entry.{Entry}
 use Rattle.link_table.specs.State.{State, IsState, start_of}
 use Rattle.link_table.specs.Step.{SchedulerStep}
 use Rattle.link_table.specs.History.{effect_of, state_after, state_at, IsLegal, IsLegalFrom, IsBestThroughout}
@@ -51,20 +51,20 @@ pub HasCertificates-start : (set : SetData) → HasCertificates (start_of set)
 HasCertificates-start set w waits = absurd (true≢false (sym waits.ready ∙ none_ready (length set.tasks) w))
 
 pub passing_is_certified : (set : SetData) → IsTaskSet set → (history : List Entry) → IsPassing set history → IsCertifiedThroughout set history
-passing_is_certified set lawful history passing n within =
+passing_is_certified set valid_set history passing n within =
     let front = IsPassingFrom-take (start_of set) history n passing in (
-      IsState-passed (start_of set) (take n history) (IsState-start set lawful) front,
-      HasCertificates-passed (start_of set) (take n history) (IsState-start set lawful) (HasCertificates-start set) front,
+      IsState-passed (start_of set) (take n history) (IsState-start set valid_set) front,
+      HasCertificates-passed (start_of set) (take n history) (IsState-start set valid_set) (HasCertificates-start set) front,
     )
 
 pub passing_is_best : (set : SetData) → IsTaskSet set → (history : List Entry) → IsPassing set history → IsBestThroughout set history
-passing_is_best set lawful history passing n within = let kept = passing_is_certified set lawful history passing n within in linked_is_best (state_at set history n) kept.0 kept.1
+passing_is_best set valid_set history passing n within = let kept = passing_is_certified set valid_set history passing n within in linked_is_best (state_at set history n) kept.0 kept.1
 
 pub legal_is_certified : (set : SetData) → IsTaskSet set → (history : List Entry) → IsLegal set history → IsCertifiedThroughout set history
-legal_is_certified set lawful history legal = passing_is_certified set lawful history (legal_passes (start_of set) history (IsState-start set lawful) legal)
+legal_is_certified set valid_set history legal = passing_is_certified set valid_set history (legal_passes (start_of set) history (IsState-start set valid_set) legal)
 
 pub legal_is_best : (set : SetData) → IsTaskSet set → (history : List Entry) → IsLegal set history → IsBestThroughout set history
-legal_is_best set lawful history legal = passing_is_best set lawful history (legal_passes (start_of set) history (IsState-start set lawful) legal)
+legal_is_best set valid_set history legal = passing_is_best set valid_set history (legal_passes (start_of set) history (IsState-start set valid_set) legal)
 
 -- ---- one step of the scheduler
 pub step_keeps_certificates : (s : State) (event : Event) (reply : Reply) (new : State) → IsState s → HasCertificates s → SchedulerStep s event reply new → HasCertificates new

@@ -7,7 +7,7 @@ use Rattle.std.proofs.lemmas.Bool.{cases_eq, cases_lt, cases_Bool, true≢false,
 use Rattle.std.proofs.lemmas.Option.{same_Some}
 use Rattle.std.proofs.lemmas.Nat.Bits.{bit_at_xor, bit_at_and, bit_at-lt}
 use Rattle.affinity_mask.specs.ProcSet.{has}
-use Rattle.link_table.specs.declared.reply.Gone.{Gone}
+use Rattle.scheduler_reply.specs.declared.reply.Gone.{Gone}
 use Rattle.link_table.specs.State.{State, IsState, IsWaiting, IsMoreUrgent, is_ready, task_count, task_on, priority_of, state_with_absent, state_after_leaving}
 use Rattle.link_table.specs.Chain.{IsChainOf, IsSimple, CanEnterAt, state_after_shift}
 use Rattle.link_table.specs.Certificate.{IsCertificate}

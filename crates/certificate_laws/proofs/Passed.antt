@@ -3,11 +3,11 @@
 use Rattle.std.proofs.Common.{◌≡◌, ℕ, ◌<◌, false, List, [], ◌∷◌, ◌++◌, Option, Some, None, refl, sym, ap, ◌∙◌, subst, inl, inr, ◌⊎◌, IsTrue}
 use Rattle.affinity_mask.specs.ProcSet.{has}
 use Rattle.task_set.specs.declared.event.Event.TheVariants.{Arrive, Depart, Tick}
-use Rattle.link_table.specs.declared.reply.Came.{Came}
-use Rattle.link_table.specs.declared.reply.Came.TheVariants.{Placed, Displaced, Waits}
-use Rattle.link_table.specs.declared.reply.Gone.{Gone}
-use Rattle.link_table.specs.declared.reply.Reply.{Reply}
-use Rattle.link_table.specs.Reply.{came_of, gone_of}
+use Rattle.scheduler_reply.specs.declared.reply.Came.{Came}
+use Rattle.scheduler_reply.specs.declared.reply.Came.TheVariants.{Placed, Displaced, Waits}
+use Rattle.scheduler_reply.specs.declared.reply.Gone.{Gone}
+use Rattle.scheduler_reply.specs.declared.reply.Reply.{Reply}
+use Rattle.scheduler_reply.specs.Reply.{came_of, gone_of}
 use Rattle.link_table.specs.State.{State, IsState, IsIdle, is_ready, task_count, task_on, state_after_leaving}
 use Rattle.link_table.specs.Chain.{CanShift, IsBackChain, IsBackReach, IsPath}
 use Rattle.link_table.specs.Step.{Comes, ArriveStep, EnterStep, DepartStep}
@@ -17,7 +17,7 @@ use Rattle.link_table.proofs.Leaving.{IsState-state_with_absent, IsState-state_a
 use Rattle.link_table.proofs.Linked.{occupied_number}
 use Rattle.link_table.proofs.Paths.{IsPath-push, IsChainOf-reverse}
 use Rattle.link_table.proofs.Readiness.{IsState-state_with_ready}
-use Rattle.link_table.proofs.Replies.{came_said, gone_said, one_came, one_gone}
+use Rattle.scheduler_reply.proofs.Replies.{came_said, gone_said, one_came, one_gone}
 use Rattle.link_table.proofs.Shifts.{IsState-state_after_shift}
 use Rattle.link_table.proofs.Simple.{IsSimple-reverse}
 use Rattle.link_table.proofs.Steps.{IsState-arrived, effect_of_came}

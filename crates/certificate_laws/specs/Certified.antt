@@ -3,7 +3,7 @@
 -- the other tasks' sets are does not matter.
 use Rattle.std.specs.Prelude.{ℕ, ◌≤◌, List, length, slice_index}
 use Rattle.task_set.specs.TaskSet.{SetData}
-use Rattle.link_table.specs.declared.reply.Entry.{Entry}
+use Rattle.scheduler_reply.specs.declared.reply.Entry.{Entry}
 use Rattle.link_table.specs.State.{State, IsState, IsWaiting}
 use Rattle.link_table.specs.History.{state_at}
 use Rattle.link_table.specs.Certificate.{IsCertificate}

@@ -8,13 +8,13 @@ use Rattle.task_set.specs.TaskSet.{SetData}
 use Rattle.task_set.specs.Event.{IsOfTasks}
 use Rattle.task_set.specs.declared.event.Event.{Event}
 use Rattle.task_set.specs.declared.event.Event.TheVariants.{Arrive, Depart, Tick}
-use Rattle.link_table.specs.declared.reply.Came.{Came}
-use Rattle.link_table.specs.declared.reply.Came.TheVariants.{Placed, Displaced, Waits}
-use Rattle.link_table.specs.declared.reply.Gone.{Gone}
-use Rattle.link_table.specs.declared.reply.Reply.{Reply}
-use Rattle.link_table.specs.declared.reply.Reply.TheVariants.{Left, Ticked, AlreadyReady, NotReady}
-use Rattle.link_table.specs.Reply.{reply_of_came, reply_of_gone}
-use Rattle.link_table.specs.declared.reply.Entry.{Entry}
+use Rattle.scheduler_reply.specs.declared.reply.Came.{Came}
+use Rattle.scheduler_reply.specs.declared.reply.Came.TheVariants.{Placed, Displaced, Waits}
+use Rattle.scheduler_reply.specs.declared.reply.Gone.{Gone}
+use Rattle.scheduler_reply.specs.declared.reply.Reply.{Reply}
+use Rattle.scheduler_reply.specs.declared.reply.Reply.TheVariants.{Left, Ticked, AlreadyReady, NotReady}
+use Rattle.scheduler_reply.specs.Reply.{reply_of_came, reply_of_gone}
+use Rattle.scheduler_reply.specs.declared.reply.Entry.{Entry}
 use Rattle.link_table.specs.State.{State, effective_mask, task_on, task_count, is_ready, priority_of, start_of, IsWaiting, IsMoreUrgent, state_after_leaving}
 use Rattle.link_table.specs.Chain.{CanShift, IsSimple, EndsIdle, EndsOnTask, EntersBy}
 use Rattle.link_table.specs.Certificate.{IsCertificate}

@@ -1,7 +1,7 @@
 -- Laws of replies that pass, and of the scheduler's step, which is one of them. Each law is proved as the contract of a
 -- function of `laws`.
 use Rattle.task_set.specs.declared.event.Event.{Event}
-use Rattle.link_table.specs.declared.reply.Reply.{Reply}
+use Rattle.scheduler_reply.specs.declared.reply.Reply.{Reply}
 use Rattle.link_table.specs.State.{State, IsState}
 use Rattle.link_table.specs.Step.{SchedulerStep}
 use Rattle.link_table.specs.History.{state_after_reply}

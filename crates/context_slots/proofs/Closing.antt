@@ -8,7 +8,8 @@ use Rattle.atomic_table.specs.Table.{Final, Seen}
 use Rattle.task_set.specs.declared.context.Context.{Context}
 use Rattle.task_set.specs.Orders.{Stint}
 use Rattle.context_slots.specs.declared.view.HandView.{HandView}
-use Rattle.context_slots.specs.HandOver.{total, of_task, HandOverRule}
+use Rattle.context_slots.specs.HandOver.{of_task, HandOverRule}
+use Rattle.task_set.specs.Sum.{total}
 use Rattle.context_slots.specs.Homes.{Came, AllCame}
 use Rattle.context_slots.proofs.Keeps.{all_home}
 

@@ -6,12 +6,13 @@ use Rattle.atomic_table.specs.Seated.{TableId}
 use Rattle.task_set.specs.declared.context.Context.{Context}
 use Rattle.task_set.specs.Orders.{Stint}
 use Rattle.context_slots.specs.declared.hand_seat.HandSeat.{HandSeat}
-use Rattle.context_slots.specs.HandOver.{total, of_task}
+use Rattle.context_slots.specs.HandOver.{of_task}
+use Rattle.task_set.specs.Sum.{total}
 use Rattle.context_slots.specs.Hands.{HandData, new_hand, AreNewFrom, AreFreeFrom, all_ended}
 use Rattle.context_slots.specs.HandSteps.{SeatState, IsFree, fresh_view, joined}
 use Rattle.context_slots.specs.HandSeats.{data_of, slots_of, IsWhole}
 use Rattle.context_slots.specs.Homes.{AllCame}
-use Rattle.context_slots.proofs.Sums.{total-append}
+use Rattle.task_set.proofs.Sums.{total-append}
 
 abbrev FreeOf : TableId → ℕ → HandData → Type 0
 FreeOf table n h = (h.slots ≡ table) × (h.holds ≡ None) × (h.number ≡ n)

@@ -13,12 +13,13 @@ use Rattle.context_slots.specs.declared.view.OpenStint.{OpenStint}
 use Rattle.task_set.specs.Orders.{Stint}
 use Rattle.context_slots.specs.declared.view.HandView.{HandView}
 use Rattle.context_slots.specs.Contexts.{context_after_stints}
-use Rattle.context_slots.specs.HandOver.{total, of_task, runs, IsNumbered, IsRun, IdleIsEmpty, HandOverRule}
+use Rattle.context_slots.specs.HandOver.{of_task, runs, IsNumbered, IsRun, IdleIsEmpty, HandOverRule}
+use Rattle.task_set.specs.Sum.{total}
 use Rattle.context_slots.specs.Hands.{begun, with_run, closed}
 use Rattle.context_slots.specs.HandSteps.{SeatState, looked, holding, looks_play, takes_play, runs_play, releases_play, IsFree, TookHeld, dealt, next_hand, joined, spent}
 use Rattle.context_slots.specs.Homes.{Came}
 use Rattle.task_set.specs.Context.{fresh_context, context_after_take, context_after_run, context_after_runs, context_after_stint}
-use Rattle.context_slots.proofs.Sums.{total-set, total-append, term_le, terms_le}
+use Rattle.task_set.proofs.Sums.{total-set, total-append, term_le, terms_le}
 
 abbrev St : Type 0
 St = State (Option Context) HandView

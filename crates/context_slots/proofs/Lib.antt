@@ -1,4 +1,3 @@
-pub mod Sums
 pub mod Keeps
 pub mod Gathering
 pub mod Closing

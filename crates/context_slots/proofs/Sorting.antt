@@ -5,7 +5,8 @@ use mathlib.Core.Logic.{dite}
 use native.Mathlib.Decide.{ℕ_discrete, dec_le}
 use Rattle.task_set.specs.Orders.{Stint}
 use Rattle.task_set.specs.Context.{with_stint, stints_of_task}
-use Rattle.context_slots.specs.HandOver.{total, of_task, IsNumbered}
+use Rattle.context_slots.specs.HandOver.{of_task, IsNumbered}
+use Rattle.task_set.specs.Sum.{total}
 use Rattle.context_slots.specs.Homes.{StintsAreTheLog}
 
 abbrev AtLeast : ℕ → List Stint → Type 0

@@ -10,11 +10,7 @@ use Rattle.task_set.specs.Orders.{Stint}
 use Rattle.context_slots.specs.declared.view.OpenStint.{OpenStint}
 use Rattle.context_slots.specs.declared.view.HandView.{HandView}
 use Rattle.context_slots.specs.Contexts.{context_after_stints}
-
--- the sum of f over a list
-abbrev pub total : {A : Type 0} → (A → ℕ) → List A → ℕ
-total f [] = 0
-total f (x ∷ xs) = f x + total f xs
+use Rattle.task_set.specs.Sum.{total}
 
 -- the weight of a stint, where it is one of the task t, and else 0
 abbrev pub of_task : ℕ → (Stint → ℕ) → Stint → ℕ

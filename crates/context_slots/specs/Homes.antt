@@ -4,7 +4,8 @@ use Rattle.task_set.specs.Orders.{Stint}
 use Rattle.task_set.specs.Context.{fresh_context, stints_of_task}
 use Rattle.task_set.specs.declared.context.Context.{Context}
 use Rattle.context_slots.specs.Contexts.{context_after_stints}
-use Rattle.context_slots.specs.HandOver.{total, of_task, IsNumbered}
+use Rattle.context_slots.specs.HandOver.{of_task, IsNumbered}
+use Rattle.task_set.specs.Sum.{total}
 
 -- the context is the fresh one after a numbered log of the task's stints, which has each of these stints of the task once
 abbrev pub Came : List Stint → ℕ → Context → Type 0

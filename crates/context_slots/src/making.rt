@@ -1,7 +1,7 @@
 //! How hands are made, how one takes in the others at the end, and how the contexts come out.
 ghost use Rattle.std.specs.Prelude.{◌≡◌, ℕ, ◌+◌, ◌<◌, ◌≤◌, [], length, vec_len, vec_capacity, All};
 ghost use Rattle.task_set.specs.Orders.{Stint};
-ghost use Rattle.context_slots.specs.HandOver.{total};
+ghost use Rattle.task_set.specs.Sum.{total};
 ghost use Rattle.context_slots.specs.Hands.{AreFreeFrom, all_ended};
 ghost use Rattle.context_slots.specs.HandSteps.{IsFree, dealing, fresh_view};
 ghost use Rattle.context_slots.specs.Homes.{AllCame};

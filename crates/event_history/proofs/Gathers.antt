@@ -9,7 +9,7 @@ use lib.ListN.{get_elem?}
 use Rattle.atomic_table.specs.Table.{Final, Seen}
 use Rattle.atomic_table.specs.Seated.{TableId}
 use Rattle.order_queues.specs.Ends.{EyeData}
-use Rattle.link_table.specs.declared.reply.Entry.{Entry}
+use Rattle.scheduler_reply.specs.declared.reply.Entry.{Entry}
 use Rattle.link_table.specs.History.{IsLegal}
 use Rattle.event_history.specs.declared.view.PassView.{PassView}
 use Rattle.event_history.specs.Boards.{BoardData, PassData, AreFrom}
@@ -18,8 +18,9 @@ use Rattle.event_history.specs.Places.{places_of, CallersBelow}
 use Rattle.event_history.specs.Closing.{Tells, AllTell}
 use Rattle.event_history.specs.Gathering.{Has, IsIn, AllIn, AllOf, Gathered}
 use Rattle.event_history.specs.PassStates.{data_of}
-use Rattle.event_history.specs.Turn.{Setting, IsOver, total, turns, turn_count, ended_pass, passes_of, AllSaw, AllMine, Fits, TurnRule, taken_in}
-use Rattle.event_history.proofs.Sums.{terms_le}
+use Rattle.event_history.specs.Turn.{Setting, IsOver, turns, turn_count, ended_pass, passes_of, AllSaw, AllMine, Fits, TurnRule, taken_in}
+use Rattle.task_set.specs.Sum.{total}
+use Rattle.task_set.proofs.Sums.{terms_le}
 use Rattle.event_history.proofs.Passes.{first_removed}
 use Rattle.event_history.proofs.Prefixes.{prefix_trans}
 use Rattle.event_history.proofs.Keeps.{St, by_same}

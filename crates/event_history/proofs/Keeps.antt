@@ -10,15 +10,16 @@ use prog.Atomic.{either}
 use Rattle.atomic_table.specs.Table.{State, step, Act, keeps, takes, gives, Valid, carried_after, stepped, Allows, rest}
 use Rattle.atomic_table.proofs.Lists.{at_set, set_here}
 use Rattle.task_set.specs.TaskSet.{SetData}
-use Rattle.link_table.specs.declared.reply.Entry.{Entry}
+use Rattle.scheduler_reply.specs.declared.reply.Entry.{Entry}
 use Rattle.link_table.specs.State.{start_of}
 use Rattle.link_table.specs.History.{IsLegal, IsLegalFrom}
 use Rattle.sched_core.specs.CoreData.{CoreData, IsCore}
 use Rattle.event_history.specs.declared.view.PassView.{PassView}
 use Rattle.event_history.specs.Holdings.{HeldData, queues_of}
 use Rattle.event_history.specs.Places.{places_of, CallersBelow}
-use Rattle.event_history.specs.Turn.{Setting, total, turns, turn_count, Holds, own_pass, unmade_pass, ended_pass, passes_of, AllBegin, AllSaw, AllMine, Fits, TurnRule, TurnSeat, IsOver, GoesOn, loaded, looked, with_turn, loads_play, takes_play, posts_play, leaves_play, after_post, after_leave, IsFree, MayRecord, MayLeave}
-use Rattle.event_history.proofs.Sums.{total-set, term_le, terms_le}
+use Rattle.event_history.specs.Turn.{Setting, turns, turn_count, Holds, own_pass, unmade_pass, ended_pass, passes_of, AllBegin, AllSaw, AllMine, Fits, TurnRule, TurnSeat, IsOver, GoesOn, loaded, looked, with_turn, loads_play, takes_play, posts_play, leaves_play, after_post, after_leave, IsFree, MayRecord, MayLeave}
+use Rattle.task_set.specs.Sum.{total}
+use Rattle.task_set.proofs.Sums.{total-set, term_le, terms_le}
 use Rattle.event_history.proofs.Prefixes.{prefix_refl, prefix_trans, prefix_length, places_here, places_else}
 
 abbrev pub St : Type 0

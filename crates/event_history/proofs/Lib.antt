@@ -10,5 +10,4 @@ pub mod Owes
 pub mod Passes
 pub mod Prefixes
 pub mod Sending
-pub mod Sums
 pub mod Turns

@@ -1,7 +1,7 @@
 -- What a closed board gives back: one history, of which each pass saw a beginning, and a sender for each processor.
 use Rattle.std.specs.Prelude.{◌≡◌, Bool, true, List, [], ◌∷◌}
 use mathlib.Core.List.{IsPrefix}
-use Rattle.link_table.specs.declared.reply.Entry.{Entry}
+use Rattle.scheduler_reply.specs.declared.reply.Entry.{Entry}
 use Rattle.link_table.specs.State.{start_of}
 use Rattle.link_table.specs.History.{IsLegal}
 use Rattle.sched_core.specs.CoreData.{CoreData}

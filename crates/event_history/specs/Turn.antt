@@ -5,7 +5,7 @@ use mathlib.Core.List.{IsPrefix}
 use lib.ListN.{get_elem?}
 use Rattle.atomic_table.specs.Table.{State, Me, Step}
 use Rattle.task_set.specs.TaskSet.{SetData}
-use Rattle.link_table.specs.declared.reply.Entry.{Entry}
+use Rattle.scheduler_reply.specs.declared.reply.Entry.{Entry}
 use Rattle.link_table.specs.State.{start_of}
 use Rattle.link_table.specs.History.{IsLegal}
 use Rattle.sched_core.specs.CoreData.{CoreData}
@@ -15,11 +15,7 @@ use Rattle.event_history.specs.declared.turn.About.{About}
 use Rattle.event_history.specs.declared.view.PassView.{PassView}
 use Rattle.event_history.specs.Places.{places_of, CallersBelow}
 use Rattle.event_history.specs.Posting.{BusyLooks}
-
--- what f gives of each element, summed
-abbrev pub total : {A : Type 0} → (A → ℕ) → List A → ℕ
-total f [] = 0
-total f (x ∷ xs) = f x + total f xs
+use Rattle.task_set.specs.Sum.{total}
 
 -- how many turns are held
 abbrev pub turn_count : Option (List Entry × Bool) → ℕ

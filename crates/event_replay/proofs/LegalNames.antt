@@ -3,9 +3,9 @@ use Rattle.std.proofs.Common.{◌≡◌, ℕ, ◌<◌, List, [], ◌∷◌, leng
 use Rattle.std.proofs.lemmas.List.{length-map}
 use Rattle.std.proofs.lemmas.List.Elements.{All-nil, All-cons}
 use Rattle.task_set.specs.TaskSet.{TaskData, SetData, IsTaskSet}
-use Rattle.link_table.specs.declared.reply.Reply.{Reply}
-use Rattle.link_table.specs.declared.reply.Entry.{Entry}
-use Rattle.link_table.specs.Reply.{tasks_named}
+use Rattle.scheduler_reply.specs.declared.reply.Reply.{Reply}
+use Rattle.scheduler_reply.specs.declared.reply.Entry.{Entry}
+use Rattle.scheduler_reply.specs.Reply.{tasks_named}
 use Rattle.link_table.specs.State.{State, IsState, task_count, start_of}
 use Rattle.link_table.specs.History.{IsLegal, IsLegalFrom, effect_of}
 use Rattle.link_table.proofs.SameTasks.{same_tasks-effect, same_count}

@@ -6,7 +6,7 @@ use Rattle.std.proofs.lemmas.List.FromFn.{get_or-map-range_with_len, length-map-
 use Rattle.task_set.specs.TaskSet.{SetData, IsTaskSet, TaskData}
 use Rattle.task_set.specs.Context.{fresh_context}
 use Rattle.task_set.specs.declared.context.Context.{Context}
-use Rattle.link_table.specs.declared.reply.Entry.{Entry}
+use Rattle.scheduler_reply.specs.declared.reply.Entry.{Entry}
 use Rattle.link_table.specs.State.{State, IsState, start_of, task_count}
 use Rattle.link_table.specs.Step.{SchedulerStep}
 use Rattle.link_table.specs.History.{IsLegal, state_after, effect_of}
@@ -33,7 +33,7 @@ running_count set events n links entries contexts running =
     ap task_count running.state ∙ ap length (same_tasks-history (start_of set) entries).priorities ∙ length-map set.tasks (λ (task : TaskData). task.priority)
 
 pub running_state : (set : SetData) (events : List Posted) (n : ℕ) (links : State) (entries : List Entry) (contexts : List Context) → IsTaskSet set → IsRunning set events n links entries contexts → IsState links
-running_state set events n links entries contexts lawful running = rw running.state (IsState-state_after (start_of set) entries (IsState-start set lawful) running.legal)
+running_state set events n links entries contexts valid_set running = rw running.state (IsState-state_after (start_of set) entries (IsState-start set valid_set) running.legal)
 
 -- one event more
 pub running_more : (set : SetData) (events : List Posted) (n : ℕ) (d : Posted) (links new : State) (entries : List Entry) (contexts after : List Context) (entry : Entry) → n < length events → IsRunning set events n links entries contexts

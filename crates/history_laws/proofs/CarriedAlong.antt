@@ -9,7 +9,7 @@ use Rattle.task_set.specs.declared.context.Context.{Context}
 use Rattle.task_set.specs.declared.order.Order.{Order}
 use Rattle.task_set.specs.Orders.{Stint, stints_from, stints_in}
 use Rattle.task_set.specs.Context.{context_after_stint, carried_context, stints_of_task}
-use Rattle.link_table.specs.declared.reply.Entry.{Entry}
+use Rattle.scheduler_reply.specs.declared.reply.Entry.{Entry}
 use Rattle.link_table.specs.State.{State, task_on, is_task}
 use Rattle.link_table.specs.History.{state_after}
 use Rattle.link_table.specs.Dispatch.{orders_of, taken_between, places_of, processors_of, runs_of, tick_runs, context_of, context_from}

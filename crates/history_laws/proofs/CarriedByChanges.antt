@@ -6,7 +6,7 @@ use Rattle.task_set.specs.declared.context.Context.{Context}
 use Rattle.task_set.specs.declared.order.Order.{Order}
 use Rattle.task_set.specs.Orders.{Stint, stint_after}
 use Rattle.task_set.specs.Context.{context_after_take, stints_of_task}
-use Rattle.link_table.specs.declared.reply.Entry.{Entry}
+use Rattle.scheduler_reply.specs.declared.reply.Entry.{Entry}
 use Rattle.link_table.specs.State.{State, IsState, task_on, is_task, is_linked}
 use Rattle.link_table.specs.History.{state_after}
 use Rattle.link_table.specs.Dispatch.{change_orders, tick_orders, taken_between, processors_of, runs_of, tick_runs, context_of, context_from}

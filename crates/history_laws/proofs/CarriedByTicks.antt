@@ -7,7 +7,7 @@ use Rattle.task_set.specs.declared.order.Order.TheVariants.{Run}
 use Rattle.task_set.specs.Orders.{Stint, stint_after}
 use Rattle.task_set.specs.Context.{context_after_take, context_after_run, context_after_stint, carried_context, stints_of_task}
 use Rattle.task_set.proofs.Carried.{context_after_runs-push}
-use Rattle.link_table.specs.declared.reply.Entry.{Entry}
+use Rattle.scheduler_reply.specs.declared.reply.Entry.{Entry}
 use Rattle.link_table.specs.State.{State, IsState, task_on}
 use Rattle.link_table.specs.History.{state_after}
 use Rattle.link_table.specs.Dispatch.{tick_orders, taken_between, places_of, processors_of, runs_of, tick_runs, context_of, context_from}

@@ -8,7 +8,7 @@ use Rattle.task_set.specs.declared.event.Event.TheVariants.{Arrive, Depart, Tick
 use Rattle.task_set.specs.Orders.{Stint, stints_in}
 use Rattle.task_set.specs.Context.{carried_context, context_after_stint, fresh_context, stints_of_task}
 use Rattle.task_set.proofs.Stints.{stints_from-append}
-use Rattle.link_table.specs.declared.reply.Entry.{Entry}
+use Rattle.scheduler_reply.specs.declared.reply.Entry.{Entry}
 use Rattle.link_table.specs.State.{State, IsState, start_of, task_on}
 use Rattle.link_table.specs.Step.{SchedulerStep}
 use Rattle.link_table.specs.History.{effect_of, state_after, IsLegalFrom}
@@ -109,7 +109,7 @@ stints-history start ok idle history t legal =
 
 -- the laws
 pub stints_give_context : StintsGiveContext
-stints_give_context set history t lawful legal = (stints-history (start_of set) (IsState-start set lawful) (task_on-start set) history t legal).1
+stints_give_context set history t valid_set legal = (stints-history (start_of set) (IsState-start set valid_set) (task_on-start set) history t legal).1
 
 pub stints_are_takes : StintsAreTakes
-stints_are_takes set history t lawful legal = (stints-history (start_of set) (IsState-start set lawful) (task_on-start set) history t legal).0
+stints_are_takes set history t valid_set legal = (stints-history (start_of set) (IsState-start set valid_set) (task_on-start set) history t legal).0

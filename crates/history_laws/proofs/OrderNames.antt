@@ -10,7 +10,7 @@ use Rattle.task_set.specs.declared.event.Event.{Event}
 use Rattle.task_set.specs.declared.event.Event.TheVariants.{Arrive, Depart, Tick}
 use Rattle.task_set.specs.declared.order.Order.{Order}
 use Rattle.task_set.specs.declared.order.Order.TheVariants.{Release, Take, Run, Stop}
-use Rattle.link_table.specs.declared.reply.Entry.{Entry}
+use Rattle.scheduler_reply.specs.declared.reply.Entry.{Entry}
 use Rattle.link_table.specs.State.{State, IsState, start_of, task_on, task_count, is_task}
 use Rattle.link_table.specs.Step.{SchedulerStep}
 use Rattle.link_table.specs.History.{IsLegalFrom, effect_of, state_after}
@@ -75,9 +75,9 @@ names-closed_orders_of s history p n ok count legal =
     (all-close (NamesTaskBelow n) (task_on last p) (occupant_below last n (IsState-state_after s history ok legal) (same_count s last (same_tasks-history s history) ∙ count) p) tt))
 
 pub orders_name_tasks : OrdersNameTasks
-orders_name_tasks set history p lawful legal =
+orders_name_tasks set history p valid_set legal =
     let s = start_of set in
-    let ok = IsState-start set lawful in
+    let ok = IsState-start set valid_set in
     let count = length-map set.tasks (λ (t : TaskData). t.priority) in
     (names-orders_from s (λ t. 0) history p (length set.tasks) ok count legal, names-closed_orders_of s history p (length set.tasks) ok count legal)
 
@@ -123,7 +123,7 @@ takes-closed_orders_of s history p ok legal =
     (all-close (TakesBelow n) last (λ a e. tt) tt))
 
 pub take_numbers_small : TakeNumbersAreSmall
-take_numbers_small set history p lawful legal =
+take_numbers_small set history p valid_set legal =
     let s = start_of set in
-    let ok = IsState-start set lawful in
+    let ok = IsState-start set valid_set in
     (takes-orders_from s (λ t. 0) history p (length history) ok (λ t. omega arith) legal, takes-closed_orders_of s history p ok legal)

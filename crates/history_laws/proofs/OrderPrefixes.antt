@@ -2,7 +2,7 @@
 use Rattle.std.proofs.Common.{ℕ, List, [], ◌∷◌, ◌++◌, sym, ap, ◌∙◌, subst, append_assoc, append-nil}
 use mathlib.Core.List.{IsPrefix}
 use Rattle.task_set.specs.declared.order.Order.{Order}
-use Rattle.link_table.specs.declared.reply.Entry.{Entry}
+use Rattle.scheduler_reply.specs.declared.reply.Entry.{Entry}
 use Rattle.link_table.specs.State.{State}
 use Rattle.link_table.specs.Dispatch.{orders_of, closed_orders_of}
 use Rattle.link_table.proofs.Histories.{orders_of-push}

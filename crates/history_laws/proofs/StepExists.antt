@@ -4,11 +4,11 @@ use Rattle.std.proofs.lemmas.Bool.{cases_lt, cases_Bool, true≢false}
 use Rattle.std.proofs.lemmas.List.{get_or_past}
 use Rattle.affinity_mask.specs.ProcSet.{has}
 use Rattle.task_set.specs.declared.event.Event.TheVariants.{Arrive, Depart, Tick}
-use Rattle.link_table.specs.declared.reply.Reply.{Reply}
-use Rattle.link_table.specs.declared.reply.Came.{Came}
-use Rattle.link_table.specs.declared.reply.Came.TheVariants.{Placed, Displaced, Waits}
-use Rattle.link_table.specs.declared.reply.Reply.TheVariants.{Freed, Left, Ticked, AlreadyReady, NotReady}
-use Rattle.link_table.specs.Reply.{reply_of_came}
+use Rattle.scheduler_reply.specs.declared.reply.Reply.{Reply}
+use Rattle.scheduler_reply.specs.declared.reply.Came.{Came}
+use Rattle.scheduler_reply.specs.declared.reply.Came.TheVariants.{Placed, Displaced, Waits}
+use Rattle.scheduler_reply.specs.declared.reply.Reply.TheVariants.{Freed, Left, Ticked, AlreadyReady, NotReady}
+use Rattle.scheduler_reply.specs.Reply.{reply_of_came}
 use Rattle.link_table.specs.State.{State, IsState, IsWaiting, IsMoreUrgent, task_on, task_count, is_ready, is_linked, priority_of, effective_mask, state_with_ready, state_with_absent, state_after_leaving}
 use Rattle.link_table.specs.Chain.{IsReach, IsBackReach, EndsIdle, CanEnterAt, state_after_shift}
 use Rattle.link_table.specs.Step.{IsOccupied, Comes, ArriveStep, DepartStep, EnterStep}

@@ -5,7 +5,7 @@ use Rattle.std.proofs.lemmas.List.{length-map}
 use Rattle.std.proofs.lemmas.List.Elements.{All-head, All-tail}
 use Rattle.task_set.specs.TaskSet.{TaskData}
 use Rattle.task_set.specs.declared.event.Event.{Event}
-use Rattle.link_table.specs.declared.reply.Entry.{Entry}
+use Rattle.scheduler_reply.specs.declared.reply.Entry.{Entry}
 use Rattle.link_table.specs.State.{State, IsState, start_of, task_count}
 use Rattle.link_table.specs.Step.{SchedulerStep}
 use Rattle.link_table.specs.History.{IsLegalFrom, effect_of}
@@ -34,7 +34,7 @@ history_exists-from s n (posted ∷ rest) ok count known =
     (entry ∷ later.0, (step, later.1), ap (λ (events : List (ℕ × Event)). posted ∷ events) later.2)
 
 pub legal_history_exists : LegalHistoryExists
-legal_history_exists set events lawful known = history_exists-from (start_of set) (length set.tasks) events (IsState-start set lawful) (length-map set.tasks (λ (t : TaskData). t.priority)) known
+legal_history_exists set events valid_set known = history_exists-from (start_of set) (length set.tasks) events (IsState-start set valid_set) (length-map set.tasks (λ (t : TaskData). t.priority)) known
 
 -- ---- there is no other
 same_entry : (a b : Entry) → a.caller ≡ b.caller → a.event ≡ b.event → a.reply ≡ b.reply → a ≡ b
@@ -55,4 +55,4 @@ history_is_unique-from s (a ∷ rest) (b ∷ others) ok one two e =
     ap (λ (entry : Entry). entry ∷ rest) entries ∙ ap (λ (xs : List Entry). b ∷ xs) later
 
 pub legal_history_is_unique : LegalHistoryIsUnique
-legal_history_is_unique set history other lawful one two e = history_is_unique-from (start_of set) history other (IsState-start set lawful) one two e
+legal_history_is_unique set history other valid_set one two e = history_is_unique-from (start_of set) history other (IsState-start set valid_set) one two e

@@ -33,4 +33,4 @@ no_improving_chain s certified t chain improving = elim improving.better [
     occupant q c = let o = certificate.occupied q (chain_inside s set (IsCertificate-closed s t set certificate) t certificate.within chain q c) in (o.0, o.1, o.2)
 
 pub legal_history_has_no_improving_chain : LegalHistoryHasNoImprovingChain
-legal_history_has_no_improving_chain set lawful history legal n within = no_improving_chain _ (legal_is_certified set lawful history legal n within).1
+legal_history_has_no_improving_chain set valid_set history legal n within = no_improving_chain _ (legal_is_certified set valid_set history legal n within).1

@@ -4,8 +4,8 @@ use Rattle.std.specs.List.{range_with_len}
 use Rattle.task_set.specs.Orders.{Stint}
 use Rattle.task_set.specs.Context.{carried_context, stints_of_task}
 use Rattle.task_set.specs.declared.event.Event.TheVariants.{Arrive, Depart, Tick}
-use Rattle.link_table.specs.declared.reply.Reply.TheVariants.{Placed, Freed, Ticked}
-use Rattle.link_table.specs.declared.reply.Entry.{Entry}
+use Rattle.scheduler_reply.specs.declared.reply.Reply.TheVariants.{Placed, Freed, Ticked}
+use Rattle.scheduler_reply.specs.declared.reply.Entry.{Entry}
 use Rattle.link_table.specs.State.{start_of}
 use Rattle.link_table.specs.Dispatch.{context_of}
 use Rattle.link_table.proofs.Examples.{entry, context, first_shift_set}

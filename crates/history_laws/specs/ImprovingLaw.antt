@@ -1,7 +1,7 @@
 -- No task waits that could be shifted in.
 use Rattle.std.specs.Prelude.{ℕ, ◌≤◌, List, length}
 use Rattle.task_set.specs.TaskSet.{SetData, IsTaskSet}
-use Rattle.link_table.specs.declared.reply.Entry.{Entry}
+use Rattle.scheduler_reply.specs.declared.reply.Entry.{Entry}
 use Rattle.link_table.specs.State.{State}
 use Rattle.link_table.specs.Chain.{IsImproving}
 use Rattle.link_table.specs.History.{IsLegal, state_at}

@@ -1,7 +1,7 @@
 -- The best set over legal histories, whatever their masks, arrivals, departures and ticks.
 use Rattle.std.specs.Prelude.{ℕ, ◌≤◌, List, length}
 use Rattle.task_set.specs.TaskSet.{SetData, IsTaskSet}
-use Rattle.link_table.specs.declared.reply.Entry.{Entry}
+use Rattle.scheduler_reply.specs.declared.reply.Entry.{Entry}
 use Rattle.link_table.specs.History.{IsLegal, state_at, IsBestThroughout}
 use Rattle.certificate_laws.specs.Certified.{IsCertifiedThroughout}
 use Rattle.certificate_laws.specs.Laws.{LinkedIsLargest, LinkedIsAsUrgent}

@@ -3,7 +3,7 @@ use Rattle.std.specs.Prelude.{◌≡◌, ℕ, ◌+◌, ◌*◌, ◌≤◌, None,
 use mathlib.Core.List.{IsPrefix}
 use Rattle.task_set.specs.TaskSet.{SetData, IsTaskSet}
 use Rattle.task_set.specs.Orders.{IsObeyable, task_held, NamesTaskBelow, TakesBelow}
-use Rattle.link_table.specs.declared.reply.Entry.{Entry}
+use Rattle.scheduler_reply.specs.declared.reply.Entry.{Entry}
 use Rattle.link_table.specs.State.{State, start_of, task_on}
 use Rattle.link_table.specs.History.{IsLegal, state_after}
 use Rattle.link_table.specs.Dispatch.{orders_of, closed_orders_of}

@@ -13,7 +13,6 @@ pub mod Linked
 pub mod Masks
 pub mod Paths
 pub mod Readiness
-pub mod Replies
 pub mod SameTasks
 pub mod Shifts
 pub mod Shortest

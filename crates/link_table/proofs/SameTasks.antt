@@ -4,9 +4,9 @@ use Rattle.std.proofs.Common.{◌≡◌, List, [], ◌∷◌, Some, None, refl, 
 use Rattle.std.specs.Prelude.{length}
 use Rattle.task_set.specs.declared.event.Event.{Event}
 use Rattle.task_set.specs.declared.event.Event.TheVariants.{Arrive, Depart}
-use Rattle.link_table.specs.declared.reply.Reply.{Reply}
-use Rattle.link_table.specs.declared.reply.Reply.TheVariants.{Placed, Displaced, Freed}
-use Rattle.link_table.specs.declared.reply.Entry.{Entry}
+use Rattle.scheduler_reply.specs.declared.reply.Reply.{Reply}
+use Rattle.scheduler_reply.specs.declared.reply.Reply.TheVariants.{Placed, Displaced, Freed}
+use Rattle.scheduler_reply.specs.declared.reply.Entry.{Entry}
 use Rattle.link_table.specs.State.{State, HasSameTasks, task_count}
 use Rattle.link_table.specs.History.{state_after, effect_of}
 use Rattle.link_table.specs.Laws.{ReplyKeepsTasks, ReplyKeepsMasks}

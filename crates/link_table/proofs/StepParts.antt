@@ -6,11 +6,11 @@ use Rattle.std.proofs.lemmas.List.Elements.{All-nil, All-cons, All-from_get_or}
 use Rattle.affinity_mask.specs.ProcSet.{has}
 use Rattle.task_set.specs.declared.event.Event.{Event}
 use Rattle.task_set.specs.declared.event.Event.TheVariants.{Arrive, Depart, Tick}
-use Rattle.link_table.specs.declared.reply.Came.{Came}
-use Rattle.link_table.specs.declared.reply.Came.TheVariants.{Placed, Displaced, Waits}
-use Rattle.link_table.specs.declared.reply.Gone.{Gone}
-use Rattle.link_table.specs.declared.reply.Reply.{Reply}
-use Rattle.link_table.specs.Reply.{reply_of_came, reply_of_gone, chains_of, sets_of, tasks_named}
+use Rattle.scheduler_reply.specs.declared.reply.Came.{Came}
+use Rattle.scheduler_reply.specs.declared.reply.Came.TheVariants.{Placed, Displaced, Waits}
+use Rattle.scheduler_reply.specs.declared.reply.Gone.{Gone}
+use Rattle.scheduler_reply.specs.declared.reply.Reply.{Reply}
+use Rattle.scheduler_reply.specs.Reply.{reply_of_came, reply_of_gone, chains_of, sets_of, tasks_named}
 use Rattle.link_table.specs.State.{State, IsState, task_count, state_after_leaving}
 use Rattle.link_table.specs.Chain.{CanShift, IsPath, IsChainOf, IsReach, IsBackChain, IsBackReach}
 use Rattle.link_table.specs.Step.{Comes, EnterStep, Fills, SchedulerStep}

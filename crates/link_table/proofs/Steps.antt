@@ -1,11 +1,11 @@
 -- The scheduler's step: what it changes follows from its reply, and it leads to a state again.
 use Rattle.std.proofs.Common.{◌≡◌, ℕ, ◌<◌, false, List, [], ◌∷◌, reverse, Option, Some, None, refl, sym, ap, ◌∙◌, inl, inr}
 use Rattle.task_set.specs.declared.event.Event.TheVariants.{Arrive, Depart, Tick}
-use Rattle.link_table.specs.declared.reply.Came.{Came}
-use Rattle.link_table.specs.declared.reply.Came.TheVariants.{Placed, Displaced, Waits}
-use Rattle.link_table.specs.declared.reply.Gone.{Gone}
-use Rattle.link_table.specs.declared.reply.Reply.{Reply}
-use Rattle.link_table.specs.Reply.{reply_of_came, reply_of_gone}
+use Rattle.scheduler_reply.specs.declared.reply.Came.{Came}
+use Rattle.scheduler_reply.specs.declared.reply.Came.TheVariants.{Placed, Displaced, Waits}
+use Rattle.scheduler_reply.specs.declared.reply.Gone.{Gone}
+use Rattle.scheduler_reply.specs.declared.reply.Reply.{Reply}
+use Rattle.scheduler_reply.specs.Reply.{reply_of_came, reply_of_gone}
 use Rattle.link_table.specs.State.{State, IsState, IsWaiting, IsIdle, is_ready, task_on, task_count, state_with_ready, state_after_leaving}
 use Rattle.link_table.specs.Chain.{IsChainOf, IsSimple, IsLeastSuch, EntersBy, state_after_shift}
 use Rattle.link_table.specs.Step.{Comes, ArriveStep, Fills, DepartStep, EnterStep}

@@ -7,11 +7,11 @@ use Rattle.affinity_mask.specs.ProcSet.{has}
 use Rattle.affinity_mask.proofs.Sets.{same_set}
 use Rattle.task_set.specs.declared.event.Event.{Event}
 use Rattle.task_set.specs.declared.event.Event.TheVariants.{Arrive, Depart, Tick}
-use Rattle.link_table.specs.declared.reply.Came.{Came}
-use Rattle.link_table.specs.declared.reply.Came.TheVariants.{Placed, Displaced, Waits}
-use Rattle.link_table.specs.declared.reply.Gone.{Gone}
-use Rattle.link_table.specs.declared.reply.Reply.{Reply}
-use Rattle.link_table.specs.Reply.{reply_of_came, reply_of_gone}
+use Rattle.scheduler_reply.specs.declared.reply.Came.{Came}
+use Rattle.scheduler_reply.specs.declared.reply.Came.TheVariants.{Placed, Displaced, Waits}
+use Rattle.scheduler_reply.specs.declared.reply.Gone.{Gone}
+use Rattle.scheduler_reply.specs.declared.reply.Reply.{Reply}
+use Rattle.scheduler_reply.specs.Reply.{reply_of_came, reply_of_gone}
 use Rattle.link_table.specs.State.{State, IsState, IsWaiting, is_ready, task_count, priority_of, state_after_leaving}
 use Rattle.link_table.specs.Chain.{IsReach, Reaches, ReachesBack, IsLeastSuch, EndsIdle, EndsOnTask, EntersBy}
 use Rattle.link_table.specs.Step.{IsOccupied, ComesPlaced, ComesDisplaced, ComesWaits, Comes, ArriveStep, Fills, DepartsLinked, DepartStep, EnterStep, SchedulerStep}

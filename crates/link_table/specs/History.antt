@@ -5,12 +5,12 @@ use Rattle.std.specs.Prelude.{ℕ, ◌≤◌, List, [], ◌∷◌, reverse, take
 use Rattle.task_set.specs.TaskSet.{SetData}
 use Rattle.task_set.specs.declared.event.Event.{Event}
 use Rattle.task_set.specs.declared.event.Event.TheVariants.{Arrive, Depart}
-use Rattle.link_table.specs.declared.reply.Came.{Came}
-use Rattle.link_table.specs.declared.reply.Came.TheVariants as came
-use Rattle.link_table.specs.declared.reply.Gone.{Gone}
-use Rattle.link_table.specs.declared.reply.Reply.{Reply}
-use Rattle.link_table.specs.declared.reply.Reply.TheVariants.{Placed, Displaced, Waits, Freed, Left}
-use Rattle.link_table.specs.declared.reply.Entry.{Entry}
+use Rattle.scheduler_reply.specs.declared.reply.Came.{Came}
+use Rattle.scheduler_reply.specs.declared.reply.Came.TheVariants as came
+use Rattle.scheduler_reply.specs.declared.reply.Gone.{Gone}
+use Rattle.scheduler_reply.specs.declared.reply.Reply.{Reply}
+use Rattle.scheduler_reply.specs.declared.reply.Reply.TheVariants.{Placed, Displaced, Waits, Freed, Left}
+use Rattle.scheduler_reply.specs.declared.reply.Entry.{Entry}
 use Rattle.link_table.specs.State.{State, start_of, is_ready, is_linked, state_with_ready, state_with_absent, state_after_leaving}
 use Rattle.link_table.specs.Chain.{state_after_shift}
 use Rattle.link_table.specs.Placement.{TaskTest, IsBest}

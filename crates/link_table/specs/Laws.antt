@@ -2,7 +2,7 @@
 -- `laws`.
 use Rattle.std.specs.Prelude.{◌≡◌, ℕ, ◌<◌, ◌≤◌, true, List, length}
 use Rattle.task_set.specs.declared.event.Event.{Event}
-use Rattle.link_table.specs.declared.reply.Reply.{Reply}
+use Rattle.scheduler_reply.specs.declared.reply.Reply.{Reply}
 use Rattle.link_table.specs.State.{State, IsState, HasSameTasks, HasSameMasks, task_count}
 use Rattle.link_table.specs.Chain.{IsSimple, IsLeastSuch, EndsIdle, EndsOnTask, EntersBy}
 use Rattle.link_table.specs.Placement.{TaskTest, IsBest}

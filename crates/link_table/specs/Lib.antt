@@ -5,6 +5,5 @@ pub mod History
 pub mod Laws
 pub mod LinksView
 pub mod Placement
-pub mod Reply
 pub mod State
 pub mod Step

@@ -3,21 +3,18 @@
 //! [`Links`] is the state of a scheduler: what is known of each task, which tasks are ready, and which task is linked
 //! to which processor. At every moment its links are a placement: each task is on a processor of its mask, no two
 //! tasks share a processor, no task has two, and only ready tasks are linked. [`Links::shift`] moves tasks along a
-//! [`Chain`] of processors, and a [`Reply`] says what the scheduler did at an event.
+//! [`Chain`] of processors.
 //!
 //! The definitions of the subject stand here as well, for every crate above: states, placements and the best set,
 //! chains and least chains, the scheduler's step, legal histories, certificates, and what a history orders of each
 //! processor. [`laws`] has what holds of them, as that a step is unique and keeps a state.
 #![tactic(auto)]
 
-pub mod chain;
 pub mod laws;
 pub mod links;
-pub mod reply;
 #[cfg(test)]
 mod tests;
 mod urgency;
 
-pub use chain::Chain;
 pub use links::Links;
-pub use reply::{Came, Entry, Gone, Reply};
+pub use scheduler_reply::{Came, Chain, Entry, Gone, Reply};

@@ -2,8 +2,8 @@
 ghost use Rattle.std.specs.Prelude.{◌≡◌, ℕ, ◌<◌, ◌≤◌, ◌↔◌, IsTrue, IsNone, IfOk, IfSome, is_some, Some, true, false};
 ghost use Rattle.affinity_mask.specs.ProcSet.{has};
 
-use crate::chain::Chain;
 use affinity_mask::{OutOfMemory, ProcSet};
+use scheduler_reply::Chain;
 use std::alloc::Global;
 use std::marker::Model;
 use task_set::TaskSet;

@@ -3,11 +3,11 @@ ghost use Rattle.std.specs.Prelude.{◌<◌, ℕ, IsTrue};
 ghost use Rattle.link_table.specs.State.{task_count};
 ghost use Rattle.link_table.specs.Chain.{IsChainOf, IsSimple};
 
-use crate::{Chain, Entry, Links, Reply};
+use crate::{Chain, Links};
 use affinity_mask::ProcSet;
 use std::process::Abort;
 use std::test::Fail;
-use task_set::{Event, TaskSet};
+use task_set::TaskSet;
 
 /// Whether the list is a chain of the task.
 fn is_chain(links: &Links, t: u32, chain: &Chain) -> bool
@@ -79,23 +79,4 @@ fn tasks_move_along_chains(rt: HostRuntime) -> Result<(), Fail> {
         assert_eq!(rt; [links.on(0), links.on(1)], on, "task {t}");
     }
     Ok(())
-}
-
-#[test]
-fn copies_are_equal(rt: HostRuntime) {
-    let mut chain = Chain::new();
-    chain.push(2);
-    chain.push(0);
-    chain.push(63);
-    let entry = Entry {
-        caller: 3,
-        event: Event::Depart(7),
-        reply: Reply::Freed {
-            entered: Some(9),
-            chain: chain.reversed(),
-            back: ProcSet::first(3),
-        },
-    };
-    assert_eq!(rt; [chain.at(0), chain.at(1), chain.at(2)], [2, 0, 63]);
-    assert_eq!(rt; entry.copy(), entry);
 }

@@ -7,7 +7,7 @@ use Rattle.atomic_table.specs.Table.{State, step, keeps, Allows, Splits, Joins}
 use Rattle.atomic_table.proofs.Lists.{at_set, at_snoc, set_else, set_again}
 use Rattle.order_queues.specs.declared.count.CountView.{CountView}
 use Rattle.order_queues.specs.Count.{writers, writer_view, reader_view, informed_view, spent_view, Knows, CountRule, Seated, Stored, Looked}
-use Rattle.order_queues.proofs.Sums.{total-set, total-append, terms_le}
+use Rattle.task_set.proofs.Sums.{total-set, total-append, terms_le}
 
 abbrev St : Type 0
 St = State (Unit {0}) CountView

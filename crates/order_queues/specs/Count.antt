@@ -4,11 +4,7 @@ use mathlib.Core.Option.{some}
 use lib.ListN.{get_elem?}
 use Rattle.atomic_table.specs.Table.{State, Me, Step}
 use Rattle.order_queues.specs.declared.count.CountView.{CountView}
-
--- the sum of a function over a list
-abbrev pub total : {A : Type 0} → (A → ℕ) → List A → ℕ
-total f [] = 0
-total f (x ∷ xs) = f x + total f xs
+use Rattle.task_set.specs.Sum.{total}
 
 -- 1 for a view that writes, and 0 for any other
 abbrev pub writers : CountView → ℕ

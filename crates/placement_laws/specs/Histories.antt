@@ -1,7 +1,7 @@
 -- The best set over histories whose replies pass, whoever gave them.
 use Rattle.std.specs.Prelude.{List}
 use Rattle.task_set.specs.TaskSet.{SetData, IsTaskSet}
-use Rattle.link_table.specs.declared.reply.Entry.{Entry}
+use Rattle.scheduler_reply.specs.declared.reply.Entry.{Entry}
 use Rattle.link_table.specs.History.{IsBestThroughout}
 use Rattle.certificate_laws.specs.Certified.{IsCertifiedThroughout}
 use Rattle.certificate_laws.specs.Passing.{IsPassing}

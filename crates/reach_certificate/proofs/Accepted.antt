@@ -3,7 +3,7 @@ use Rattle.std.proofs.Common.{◌≡◌, ℕ, ◌<◌, List, [], ◌∷◌, get_
 use Rattle.task_set.specs.Context.{context_after_take, context_after_run}
 use Rattle.task_set.specs.declared.context.Context.{Context}
 use Rattle.task_set.specs.declared.event.Event.{Event}
-use Rattle.link_table.specs.declared.reply.Entry.{Entry}
+use Rattle.scheduler_reply.specs.declared.reply.Entry.{Entry}
 use Rattle.link_table.specs.State.{State, IsState, task_count, task_on}
 use Rattle.link_table.specs.Dispatch.{taken_between, places_of, tick_runs}
 use Rattle.link_table.specs.History.{effect_of}

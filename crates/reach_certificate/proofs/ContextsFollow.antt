@@ -4,7 +4,7 @@ use Rattle.std.specs.List.{range_with_len}
 use Rattle.std.proofs.lemmas.List.FromFn.{fill_by_all, get_or-map-range_with_len, length-map-range_with_len}
 use Rattle.task_set.specs.Context.{fresh_context}
 use Rattle.task_set.specs.declared.context.Context.{Context}
-use Rattle.link_table.specs.declared.reply.Entry.{Entry}
+use Rattle.scheduler_reply.specs.declared.reply.Entry.{Entry}
 use Rattle.link_table.specs.State.{State}
 use Rattle.link_table.specs.History.{state_after, effect_of}
 use Rattle.link_table.specs.Dispatch.{taken_between, places_of, tick_runs, processors_of, runs_of, context_from, context_of}

@@ -4,15 +4,15 @@ use Rattle.std.proofs.lemmas.Bool.{true≢false}
 use Rattle.std.proofs.lemmas.Option.{same_Some}
 use Rattle.task_set.specs.declared.event.Event.{Event}
 use Rattle.task_set.specs.declared.event.Event.TheVariants.{Arrive, Depart, Tick}
-use Rattle.link_table.specs.declared.reply.Came.{Came}
-use Rattle.link_table.specs.declared.reply.Came.TheVariants.{Placed, Displaced, Waits}
-use Rattle.link_table.specs.declared.reply.Gone.{Gone}
-use Rattle.link_table.specs.declared.reply.Reply.{Reply}
+use Rattle.scheduler_reply.specs.declared.reply.Came.{Came}
+use Rattle.scheduler_reply.specs.declared.reply.Came.TheVariants.{Placed, Displaced, Waits}
+use Rattle.scheduler_reply.specs.declared.reply.Gone.{Gone}
+use Rattle.scheduler_reply.specs.declared.reply.Reply.{Reply}
 use Rattle.link_table.specs.State.{State, IsState, priority_of, state_after_leaving}
 use Rattle.link_table.specs.Step.{IsNobodyInto, IsMostUrgentInto}
 use Rattle.link_table.proofs.Leaving.{IsState-state_after_leaving}
 use Rattle.link_table.proofs.Linked.{is_linked-from_on, not_on, occupied_number}
-use Rattle.link_table.proofs.Replies.{one_came, one_gone}
+use Rattle.scheduler_reply.proofs.Replies.{one_came, one_gone}
 use Rattle.link_table.proofs.Unique.{ready_number}
 use Rattle.certificate_laws.specs.Passing.{ArrivalPasses, DeparturePasses, Passes}
 use Rattle.reach_certificate.specs.Defect.{AllFit, IsFirstMisfit, PlacedFits, DisplacedFits, FreedFits, ReachFits, BackFits, AgainstFits, IsNoLessUrgent, processor_count, OverFits, HasBadOver, EntersRightly, EntersWrongly, DisplacesRightly, DisplacesWrongly, CameIsRight, IsCameDefect, GoneIsRight, IsGoneDefect, IsAllowed, IsPartDefect}

@@ -1,6 +1,6 @@
 -- The chain along which a task comes in where a processor has become idle.
 use Rattle.std.proofs.Common.{◌≡◌, ℕ, ◌<◌, reverse, Option, Some, sym, ap, subst}
-use Rattle.link_table.specs.declared.reply.Gone.{Gone}
+use Rattle.scheduler_reply.specs.declared.reply.Gone.{Gone}
 use Rattle.link_table.specs.State.{State, IsState, IsWaiting, task_count}
 use Rattle.link_table.specs.Chain.{IsChainOf, IsSimple, state_after_shift}
 use Rattle.link_table.specs.History.{state_after_entering, state_after_gone}

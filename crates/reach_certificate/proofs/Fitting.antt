@@ -6,10 +6,10 @@ use Rattle.std.proofs.lemmas.List.Elements.{All-head}
 use Rattle.std.proofs.lemmas.Option.{same_Some}
 use Rattle.affinity_mask.specs.ProcSet.{has, all_below, Within}
 use Rattle.affinity_mask.proofs.Sets.{has-all_below}
-use Rattle.link_table.specs.declared.reply.Came.{Came}
-use Rattle.link_table.specs.declared.reply.Came.TheVariants.{Placed, Displaced, Waits}
-use Rattle.link_table.specs.declared.reply.Gone.{Gone}
-use Rattle.link_table.specs.Reply.{reply_of_came}
+use Rattle.scheduler_reply.specs.declared.reply.Came.{Came}
+use Rattle.scheduler_reply.specs.declared.reply.Came.TheVariants.{Placed, Displaced, Waits}
+use Rattle.scheduler_reply.specs.declared.reply.Gone.{Gone}
+use Rattle.scheduler_reply.specs.Reply.{reply_of_came}
 use Rattle.link_table.specs.State.{State, IsState, task_on}
 use Rattle.link_table.specs.Chain.{CanShift, CanEnterAt, IsPath, IsChainOf, IsBackChain, IsSimple}
 use Rattle.link_table.specs.Certificate.{IsCertificate}

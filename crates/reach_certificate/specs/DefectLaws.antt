@@ -3,8 +3,8 @@ use Rattle.std.specs.Prelude.{◌≡◌, ℕ, ◌⊎◌, List, [], ◌∷◌, �
 use Rattle.std.specs.List.{range_with_len}
 use Rattle.task_set.specs.declared.context.Context.{Context}
 use Rattle.task_set.specs.declared.event.Event.{Event}
-use Rattle.link_table.specs.declared.reply.Reply.{Reply}
-use Rattle.link_table.specs.declared.reply.Entry.{Entry}
+use Rattle.scheduler_reply.specs.declared.reply.Reply.{Reply}
+use Rattle.scheduler_reply.specs.declared.reply.Entry.{Entry}
 use Rattle.link_table.specs.State.{State, IsState, task_count}
 use Rattle.link_table.specs.History.{effect_of, state_after}
 use Rattle.link_table.specs.Dispatch.{context_of}

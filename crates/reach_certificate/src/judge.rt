@@ -1,7 +1,7 @@
 //! The judgement of an entry, which follows it where its reply passes.
 ghost use Rattle.std.specs.Prelude.{◌≡◌, ◌≢◌, ℕ, ◌<◌, [], false, IfNone, Some, MatchOption};
 ghost use Rattle.task_set.specs.declared.event.Event.TheVariants.{Arrive, Depart};
-ghost use Rattle.link_table.specs.declared.reply.Came.TheVariants as came;
+ghost use Rattle.scheduler_reply.specs.declared.reply.Came.TheVariants as came;
 ghost use Rattle.link_table.specs.State.{HasSameTasks, is_ready, task_count, task_on, state_with_ready};
 ghost use Rattle.link_table.specs.Chain.{IsChainOf, IsSimple, state_after_shift};
 ghost use Rattle.link_table.specs.Certificate.{IsCertificate};

@@ -6,7 +6,7 @@ use Rattle.std.proofs.lemmas.List.{take_more, length-map}
 use Rattle.std.proofs.lemmas.Option.{slice_get_within, slice_get_read, get_or_from_slice_get}
 use Rattle.task_set.specs.TaskSet.{SetData, TaskData}
 use Rattle.task_set.specs.Context.{fresh_context}
-use Rattle.link_table.specs.declared.reply.Entry.{Entry}
+use Rattle.scheduler_reply.specs.declared.reply.Entry.{Entry}
 use Rattle.link_table.specs.State.{State, start_of, task_count}
 use Rattle.link_table.specs.History.{effect_of, state_after}
 use Rattle.link_table.proofs.Histories.{state_after-push}

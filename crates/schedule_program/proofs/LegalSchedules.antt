@@ -12,10 +12,10 @@ use Rattle.affinity_mask.proofs.Sets.{has-all_below}
 use Rattle.task_set.specs.TaskSet.{TaskData, SetData}
 use Rattle.task_set.specs.declared.event.Event.{Event}
 use Rattle.task_set.specs.declared.event.Event.TheVariants.{Arrive, Depart, Tick}
-use Rattle.link_table.specs.declared.reply.Reply.{Reply}
-use Rattle.link_table.specs.declared.reply.Reply.TheVariants.{Placed, Displaced, Waits, Freed}
-use Rattle.link_table.specs.declared.reply.Entry.{Entry}
-use Rattle.link_table.specs.Reply.{chains_of, sets_of}
+use Rattle.scheduler_reply.specs.declared.reply.Reply.{Reply}
+use Rattle.scheduler_reply.specs.declared.reply.Reply.TheVariants.{Placed, Displaced, Waits, Freed}
+use Rattle.scheduler_reply.specs.declared.reply.Entry.{Entry}
+use Rattle.scheduler_reply.specs.Reply.{chains_of, sets_of}
 use Rattle.link_table.specs.State.{State, IsState, task_count, task_on, is_task, start_of}
 use Rattle.link_table.specs.Step.{SchedulerStep}
 use Rattle.link_table.specs.History.{IsLegal, IsLegalFrom, effect_of}

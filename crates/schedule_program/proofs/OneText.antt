@@ -5,7 +5,7 @@ use Rattle.std.proofs.Common.{◌≡◌, ℕ, ◌<◌, ◌==◌, true, List, [],
 use Rattle.std.proofs.lemmas.List.{get_or-map, length-map}
 use Rattle.std.proofs.lemmas.List.Elements.{All-head, All-tail}
 use Rattle.task_set.specs.TaskSet.{SetData}
-use Rattle.link_table.specs.declared.reply.Entry.{Entry}
+use Rattle.scheduler_reply.specs.declared.reply.Entry.{Entry}
 use Rattle.history_laws.specs.StepLaws.{caller_and_event}
 use Rattle.history_laws.proofs.StepHistories.{legal_history_is_unique}
 use Rattle.schedule_text.specs.ScheduleText.{schedule_text}

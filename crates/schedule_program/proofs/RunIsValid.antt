@@ -26,9 +26,9 @@ replay_is_schedule read put replayed =
     let input_few = replayed.input.says.few in
     let few : length replayed.history ≤ 20000 = omega arith in
     let each = merge_posted IsOfFormat replayed.events replayed.history posted replayed.merge in
-    let lawful : IsScheduleSet replayed.set = record { valid = replayed.input.says.valid; priorities = input_priorities read replayed.set replayed.events replayed.input } in
+    let valid_set : IsScheduleSet replayed.set = record { valid = replayed.input.says.valid; priorities = input_priorities read replayed.set replayed.events replayed.input } in
     subst (λ (contexts : List Context). IsSchedule (record { set = replayed.set; entries = replayed.history; contexts = contexts })) (sym replayed.contexts)
-    (legal_schedule replayed.set replayed.history lawful few each replayed.legal)
+    (legal_schedule replayed.set replayed.history valid_set few each replayed.legal)
 
 pub is_run_of : (read put : List ℕ) → Replays read put → IsRunOf read put
 is_run_of read put replayed = record {

@@ -3,7 +3,7 @@
 -- defect decides, or, where all pass, the first context that differs. Lines are numbered from 1.
 use Rattle.std.specs.Prelude.{◌≡◌, ◌≢◌, ◌⊎◌, ℕ, ◌+◌, ◌<◌, List, ◌++◌, length, take, codes, slice_get, Some}
 use Rattle.affinity_mask.specs.Number.{canonical_number}
-use Rattle.link_table.specs.declared.reply.Entry.{Entry}
+use Rattle.scheduler_reply.specs.declared.reply.Entry.{Entry}
 use Rattle.link_table.specs.History.{state_at, IsBestThroughout}
 use Rattle.reach_certificate.specs.Defect.{IsDefect, number_of}
 use Rattle.certificate_laws.specs.Passing.{IsPassing}

@@ -10,9 +10,9 @@ use Rattle.task_set.specs.TaskSet.{TaskData, SetData, IsTaskSet}
 use Rattle.task_set.specs.declared.context.Context.{Context}
 use Rattle.task_set.specs.declared.event.Event.{Event}
 use Rattle.task_set.specs.declared.event.Event.TheVariants.{Arrive, Depart, Tick}
-use Rattle.link_table.specs.declared.reply.Reply.{Reply}
-use Rattle.link_table.specs.declared.reply.Reply.TheVariants.{Placed, Displaced, Freed}
-use Rattle.link_table.specs.declared.reply.Entry.{Entry}
+use Rattle.scheduler_reply.specs.declared.reply.Reply.{Reply}
+use Rattle.scheduler_reply.specs.declared.reply.Reply.TheVariants.{Placed, Displaced, Freed}
+use Rattle.scheduler_reply.specs.declared.reply.Entry.{Entry}
 use Rattle.text_fields.specs.LineText.{line, task_line, task_fields}
 use Rattle.text_fields.specs.EventText.{name_of, event_text, IsAboutSet, event_fields}
 use Rattle.schedule_text.specs.ScheduleText.{chain_text, set_text, somebody_text, number_text, reply_text, entry_line, context_line, IsReplyOf}

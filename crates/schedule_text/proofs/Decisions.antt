@@ -6,7 +6,7 @@ use Rattle.std.proofs.lemmas.List.{length-map}
 use Rattle.std.proofs.lemmas.List.Elements.{All-nil, All-cons, All-head, All-tail, Contains-append_right}
 use Rattle.affinity_mask.specs.ProcSet.{empty}
 use Rattle.affinity_mask.specs.Number.{canonical_number}
-use Rattle.affinity_mask.specs.ListText.{IsLawful, IsListText, canonical_list}
+use Rattle.affinity_mask.specs.ListText.{IsWellFormed, IsListText, canonical_list}
 use Rattle.affinity_mask.proofs.Sets.{has-all_below}
 use Rattle.affinity_mask.proofs.TextCases.{text_list_or_fault}
 use Rattle.text_fields.proofs.Decisions.{bytes_decided, number_within_decided}
@@ -62,7 +62,7 @@ number_field_decided least most field small = elim (number_within_decided least 
 list_processors : (text : List ℕ) (X : ℕ) → IsListText text X → IsOfProcessors X
 list_processors text X (first, more, list) p member =
     let found = (list.union p).0 member in
-    let item = subst IsLawful found.3 (list.lawful found.0 found.1 found.2) in
+    let item = subst IsWellFormed found.3 (list.well_formed found.0 found.1 found.2) in
     let small = item.small in
     let high : p ≤ found.1.high = found.4.1 in
     has-all_below 64 p ∙ below p (omega arith)

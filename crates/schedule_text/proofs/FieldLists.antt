@@ -1,8 +1,8 @@
 -- The fields of a line, taken one by one.
 use Rattle.std.proofs.Common.{◌≡◌, ℕ, ◌<◌, ◌≤◌, List, [], ◌∷◌, length, get_or, Bor, sym, ap, ◌∙◌, arith}
 use Rattle.std.specs.Prelude.{codes}
-use Rattle.link_table.specs.declared.reply.Reply.{Reply}
-use Rattle.link_table.specs.declared.reply.Reply.TheVariants.{Displaced, Freed}
+use Rattle.scheduler_reply.specs.declared.reply.Reply.{Reply}
+use Rattle.scheduler_reply.specs.declared.reply.Reply.TheVariants.{Displaced, Freed}
 use Rattle.text_fields.specs.Fields.{texts}
 use Rattle.schedule_text.specs.LineFields.{IsSomeReply, displaced_fields, freed_fields, reply_fields}
 use Rattle.text_fields.proofs.Words.{head_same, tail_same}

@@ -10,7 +10,7 @@ use Rattle.std.proofs.lemmas.Fmt.{decimal_is_IsNumeral}
 use Rattle.std.proofs.lemmas.Str.Parse.{digit_at}
 use Rattle.affinity_mask.specs.ProcSet.{has, empty}
 use Rattle.affinity_mask.specs.Number.{canonical_number}
-use Rattle.affinity_mask.specs.ListText.{Item, IsItem, IsLawful, IsListText, canonical_list}
+use Rattle.affinity_mask.specs.ListText.{Item, IsItem, IsWellFormed, IsListText, canonical_list}
 use Rattle.affinity_mask.specs.ListFault.{IsListFault}
 use Rattle.affinity_mask.specs.declared.mask_fault.MaskFault.{MaskFault}
 use Rattle.affinity_mask.proofs.Sets.{has-zero}
@@ -100,7 +100,7 @@ split_some c text none =
 -- a processor list has a processor
 list_some : (text : List ℕ) (X : ℕ) → IsListText text X → X ≡ empty → ⊥
 list_some text X (first, more, list) none =
-    let item = All-head IsLawful first more list.lawful in
+    let item = All-head IsWellFormed first more list.well_formed in
     let ascends : first.low ≤ first.high = item.ascends in
     let member : IsTrue (has X first.low) = (list.union first.low).1
     (0, first, omega arith, refl, (omega arith, ascends)) in
@@ -178,10 +178,10 @@ dash_no_list field X dash f = by (list_text field X f)
     by : IsListText field X → ⊥
     by (first, [], list) =
         item_some first.text first.low first.high (sym list.joined ∙ dash)
-        (All-head IsLawful first [] list.lawful).form
+        (All-head IsWellFormed first [] list.well_formed).form
     by (first, second ∷ more, list) =
         let some = item_length first.text first.low first.high
-        (All-head IsLawful first (second ∷ more) list.lawful).form in
+        (All-head IsWellFormed first (second ∷ more) list.well_formed).form in
         let rest = join_with_byte 44 (map (λ (item : Item). item.text) (second ∷ more)) in
         omega (arith, some, ap length dash, ap length list.joined, length-append first.text (44 ∷ rest))
 

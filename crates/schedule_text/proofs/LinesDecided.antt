@@ -6,7 +6,7 @@ use Rattle.affinity_mask.specs.Number.{canonical_number}
 use Rattle.task_set.specs.TaskSet.{TaskData, SetData, IsTaskSet, with_task}
 use Rattle.task_set.specs.Refusal.{new_task}
 use Rattle.task_set.specs.declared.context.Context.{Context}
-use Rattle.link_table.specs.declared.reply.Entry.{Entry}
+use Rattle.scheduler_reply.specs.declared.reply.Entry.{Entry}
 use Rattle.text_fields.specs.LineText.{line}
 use Rattle.schedule_text.specs.ScheduleText.{context_line, header, text_in}
 use Rattle.schedule_text.specs.Schedule.{ScheduleData, IsSchedule, IsContextOf}

@@ -7,7 +7,7 @@ use Rattle.affinity_mask.specs.Number.{canonical_number}
 use Rattle.affinity_mask.proofs.Sets.{has-all_below}
 use Rattle.task_set.specs.TaskSet.{TaskData, SetData, IsTaskSet, IsMask}
 use Rattle.task_set.specs.declared.context.Context.{Context}
-use Rattle.link_table.specs.declared.reply.Entry.{Entry}
+use Rattle.scheduler_reply.specs.declared.reply.Entry.{Entry}
 use Rattle.text_fields.specs.LineText.{line, task_fields}
 use Rattle.schedule_text.specs.ScheduleText.{header}
 use Rattle.schedule_text.specs.Schedule.{IsOfProcessors, IsScheduled, IsContextOf, AreInOrder, IsScheduleSet}

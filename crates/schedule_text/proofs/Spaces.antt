@@ -11,7 +11,7 @@ use Rattle.std.proofs.lemmas.Str.Parse.{digit_at}
 use Rattle.std.proofs.lemmas.Fmt.{decimal_is_IsNumeral}
 use Rattle.affinity_mask.specs.ProcSet.{empty}
 use Rattle.affinity_mask.specs.Number.{canonical_number}
-use Rattle.affinity_mask.specs.ListText.{comma, dash, Item, IsItem, IsLawful, IsListText, canonical_list}
+use Rattle.affinity_mask.specs.ListText.{comma, dash, Item, IsItem, IsWellFormed, IsListText, canonical_list}
 use Rattle.affinity_mask.proofs.Items.{lacks_from_none}
 use Rattle.affinity_mask.proofs.Runs.{canonical_list-IsListText}
 use Rattle.task_set.specs.TaskSet.{TaskData, SetData, IsTaskSet}
@@ -19,8 +19,8 @@ use Rattle.task_set.specs.Name.{IsName, continues_name}
 use Rattle.task_set.specs.declared.context.Context.{Context}
 use Rattle.task_set.specs.declared.event.Event.{Event}
 use Rattle.task_set.specs.declared.event.Event.TheVariants.{Arrive, Depart, Tick}
-use Rattle.link_table.specs.declared.reply.Reply.{Reply}
-use Rattle.link_table.specs.declared.reply.Reply.TheVariants.{Placed, Displaced, Waits, Freed}
+use Rattle.scheduler_reply.specs.declared.reply.Reply.{Reply}
+use Rattle.scheduler_reply.specs.declared.reply.Reply.TheVariants.{Placed, Displaced, Waits, Freed}
 use Rattle.text_fields.specs.EventText.{name_of, IsAboutSet, event_fields}
 use Rattle.schedule_text.specs.ScheduleText.{chain_text, set_text, somebody_text, number_text, IsReplyOf}
 use Rattle.schedule_text.specs.Schedule.{IsProcessorList, IsOfProcessors, HasProcessors, IsContextOf}
@@ -114,8 +114,8 @@ module _ (P : ℕ → Type 0) (high : (b : ℕ) → 44 ≤ b → P b) where
       subst (λ (t : List ℕ). All P t) (sym list.joined)
       (joined_bytes comma (map (λ (item : Item). item.text) (first ∷ more)) (high 44 (omega arith))
       (All-map (λ (t : List ℕ). All P t) (λ (item : Item). item.text) (first ∷ more)
-      (All-weaker IsLawful (λ (item : Item). All P item.text)
-      (λ item valid. item_bytes item.text item.low item.high valid.form) (first ∷ more) list.lawful)))
+      (All-weaker IsWellFormed (λ (item : Item). All P item.text)
+      (λ item valid. item_bytes item.text item.low item.high valid.form) (first ∷ more) list.well_formed)))
 
   mask_bytes : (X : ℕ) → X ≢ empty → IsOfProcessors X → All P (canonical_list X)
   mask_bytes X some processors = list_bytes (canonical_list X) X (canonical_list-IsListText X some processors)

@@ -7,9 +7,9 @@ use Rattle.task_set.specs.Refusal.{CanAdd, IsNewName, IsRefusal}
 use Rattle.task_set.specs.declared.context.Context.{Context}
 use Rattle.task_set.specs.declared.fault.TaskFault.{TaskFault}
 use Rattle.task_set.specs.declared.event.Event.{Event}
-use Rattle.link_table.specs.declared.reply.Reply.{Reply}
-use Rattle.link_table.specs.declared.reply.Reply.TheVariants.{Placed, Displaced, Waits, Freed, Left, Ticked, AlreadyReady, NotReady}
-use Rattle.link_table.specs.declared.reply.Entry.{Entry}
+use Rattle.scheduler_reply.specs.declared.reply.Reply.{Reply}
+use Rattle.scheduler_reply.specs.declared.reply.Reply.TheVariants.{Placed, Displaced, Waits, Freed, Left, Ticked, AlreadyReady, NotReady}
+use Rattle.scheduler_reply.specs.declared.reply.Entry.{Entry}
 use Rattle.text_fields.specs.LineText.{task_fields}
 use Rattle.text_fields.specs.EventText.{event_fields, name_of, IsAboutSet}
 use Rattle.schedule_text.specs.ScheduleText.{chain_text, set_text, somebody_text, number_text, IsReplyOf}

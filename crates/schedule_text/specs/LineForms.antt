@@ -5,8 +5,8 @@ use Rattle.affinity_mask.specs.Number.{canonical_number}
 use Rattle.task_set.specs.TaskSet.{TaskData, SetData}
 use Rattle.task_set.specs.declared.context.Context.{Context}
 use Rattle.task_set.specs.declared.event.Event.{Event}
-use Rattle.link_table.specs.declared.reply.Reply.{Reply}
-use Rattle.link_table.specs.declared.reply.Entry.{Entry}
+use Rattle.scheduler_reply.specs.declared.reply.Reply.{Reply}
+use Rattle.scheduler_reply.specs.declared.reply.Entry.{Entry}
 use Rattle.text_fields.specs.LineText.{line, task_line}
 use Rattle.text_fields.specs.EventText.{event_text, IsAboutSet}
 use Rattle.schedule_text.specs.ScheduleText.{reply_text, entry_line, context_line, header, IsReplyOf}

@@ -4,7 +4,7 @@ use Rattle.std.specs.List.{flat_map}
 use Rattle.affinity_mask.specs.Number.{canonical_number}
 use Rattle.task_set.specs.TaskSet.{SetData}
 use Rattle.task_set.specs.declared.context.Context.{Context}
-use Rattle.link_table.specs.declared.reply.Entry.{Entry}
+use Rattle.scheduler_reply.specs.declared.reply.Entry.{Entry}
 use Rattle.text_fields.specs.LineText.{line, processors_line, task_line}
 use Rattle.schedule_text.specs.ScheduleText.{entry_line, context_line, header, text_in}
 use Rattle.schedule_text.specs.Schedule.{IsScheduled, AreInOrder, IsScheduleSet, IsSchedule}

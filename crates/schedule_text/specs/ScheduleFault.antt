@@ -7,7 +7,7 @@ use Rattle.task_set.specs.TaskSet.{TaskData, SetData}
 use Rattle.task_set.specs.Refusal.{IsRefusal}
 use Rattle.task_set.specs.declared.fault.TaskFault.{TaskFault}
 use Rattle.task_set.specs.declared.fault.TaskFault.TheVariants as task
-use Rattle.link_table.specs.declared.reply.Entry.{Entry}
+use Rattle.scheduler_reply.specs.declared.reply.Entry.{Entry}
 use Rattle.text_fields.specs.LineText.{line}
 use Rattle.schedule_text.specs.ScheduleText.{text_in}
 use Rattle.schedule_text.specs.Schedule.{ScheduleData, IsSchedule}

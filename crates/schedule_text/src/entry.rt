@@ -7,7 +7,7 @@ ghost use Rattle.schedule_text.specs.LineFields.{IsEventFields, IsEventFault, Is
 use crate::fault::TextKind;
 use crate::field::{known_task, number_of};
 use crate::reply::read_reply;
-use link_table::Entry;
+use scheduler_reply::Entry;
 use std::alloc::Global;
 use task_set::{Event, TaskSet};
 use text_fields::is_word;

@@ -11,7 +11,7 @@ ghost use Rattle.schedule_text.specs.declared.fault.TextKind.TheVariants.{BadLin
 use crate::fault::TextKind;
 use affinity_mask::{OutOfMemory, ProcSet};
 use itoa::Buffer;
-use link_table::Chain;
+use scheduler_reply::Chain;
 use std::alloc::Global;
 use task_set::TaskSet;
 use text_fields::limits::MAX_PROCESSOR;

@@ -8,7 +8,7 @@ ghost use Rattle.schedule_text.specs.declared.fault.TextKind.TheVariants.{BadLin
 
 use crate::fault::TextKind;
 use crate::field::{chain_of, known_task, set_of, somebody_of};
-use link_table::Reply;
+use scheduler_reply::Reply;
 use std::alloc::Global;
 use task_set::TaskSet;
 use text_fields::is_word;

@@ -1,7 +1,7 @@
 //! Schedules: tasks, the entries of a history, and a context for each task.
 ghost use Rattle.std.specs.Prelude.{◌≡◌};
 
-use link_table::Entry;
+use scheduler_reply::Entry;
 use std::marker::Model;
 use task_set::{Context, TaskSet};
 use text_fields::limits::MAX_EVENTS;

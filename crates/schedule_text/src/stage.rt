@@ -9,7 +9,7 @@ use crate::fault::TextKind;
 use crate::field::{number_after, spaced_fields};
 use crate::line::{add_task, is_numbered, read_context};
 use crate::schedule::{MAX_ENTRIES, Schedule};
-use link_table::Entry;
+use scheduler_reply::Entry;
 use std::alloc::Global;
 use task_set::{Context, TaskSet};
 use text_fields::is_word;

@@ -5,7 +5,7 @@ ghost use Rattle.schedule_text.specs.ScheduleText.{IsReplyOf, IsEntryOf};
 
 use crate::{TextFault, TextKind, read_schedule, write_schedule};
 use affinity_mask::ProcSet;
-use link_table::{Chain, Entry, Reply};
+use scheduler_reply::{Chain, Entry, Reply};
 use std::alloc::Global;
 use std::process::Abort;
 use std::str;

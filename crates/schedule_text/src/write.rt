@@ -3,7 +3,7 @@ ghost use Rattle.std.specs.Prelude.{◌≡◌, ◌<◌, ◌++◌, length, codes,
 ghost use Rattle.std.specs.List.{flat_map};
 ghost use Rattle.affinity_mask.specs.Number.{canonical_number};
 ghost use Rattle.text_fields.specs.LineText.{line};
-ghost use Rattle.link_table.specs.declared.reply.Reply.TheVariants.{Displaced, Freed};
+ghost use Rattle.scheduler_reply.specs.declared.reply.Reply.TheVariants.{Displaced, Freed};
 ghost use Rattle.schedule_text.specs.ScheduleText.{
   chain_text,
   set_text,
@@ -18,7 +18,7 @@ ghost use Rattle.schedule_text.specs.ScheduleText.{
 };
 
 use affinity_mask::{OutOfMemory, ProcSet};
-use link_table::{Chain, Entry, Reply};
+use scheduler_reply::{Chain, Entry, Reply};
 use std::alloc::Global;
 use task_set::{Context, TaskSet};
 use text_fields::limits::VERSION;

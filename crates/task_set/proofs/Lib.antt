@@ -1,6 +1,6 @@
 mod Entries
 mod Lists
-mod Rows
+mod Examples
 mod Outside
 pub mod Added
 pub mod Refusals
@@ -8,3 +8,4 @@ pub mod Obeyable
 pub mod Stints
 pub mod Carried
 pub mod CarriedLast
+pub mod Sums

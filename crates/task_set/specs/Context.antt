@@ -1,4 +1,4 @@
--- What a task has run. What a reader must believe: a context counts units, stints and moves modulo 2^64, knows the last
+-- What a task has run. A context counts units, stints and moves modulo 2^64, knows the last
 -- processor, and has a trail into which each run mixes its units and its processor, in order; a task carries its
 -- context from stint to stint, in the order of the stints' numbers.
 use Rattle.std.specs.Prelude.{ℕ, ◌+◌, ◌*◌, ◌%◌, ◌^◌, Option, None, Some, if◌then◌else◌, ◌==◌, nat_lt, List, [], ◌∷◌, fold}

@@ -1,5 +1,5 @@
--- Laws of orders, stints and carried contexts. What a reader must believe: nothing beyond the definitions that the laws
--- speak of; each law is proved as the contract of a function of `laws`.
+-- Laws of orders, stints and carried contexts. Each is proved as the contract of a function of
+-- `laws`.
 use Rattle.std.specs.Prelude.{◌≡◌, ◌≢◌, ℕ, true, ◌<◌, ◌≤◌, ◌==◌, List, [], ◌∷◌, ◌++◌, filter, All, AllPairs, IsPermutation, IfSome}
 use Rattle.std.specs.List.{flat_map}
 use Rattle.task_set.specs.declared.order.Order.{Order}

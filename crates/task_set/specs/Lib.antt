@@ -6,3 +6,4 @@ pub mod SetView
 pub mod Orders
 pub mod Context
 pub mod Laws
+pub mod Sum

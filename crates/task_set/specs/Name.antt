@@ -1,4 +1,4 @@
--- Names of tasks. What a reader must believe: a name has 1 to 32 bytes; the first is a letter or `_`, and each other
+-- Names of tasks. A name has 1 to 32 bytes; the first is a letter or `_`, and each other
 -- one is a letter, a digit, `_`, `.` or `-`.
 use Rattle.std.specs.Prelude.{ℕ, ◌≤◌, Bool, ◌||◌, ◌==◌, IsTrue, List, [], ◌∷◌, length, All}
 use Rattle.std.specs.Char.{is_ascii_alphabetic, is_ascii_alphanumeric}

@@ -1,4 +1,4 @@
--- Lists of orders to one processor. What a reader must believe: a processor holds one task or nobody, and nobody at
+-- Lists of orders to one processor. A processor holds one task or nobody, and nobody at
 -- first; it takes a task only while it holds nobody, runs and releases only the task that it holds, and stops only
 -- while it holds nobody, with its last order. A stint is what it does with a task from a take to the next release.
 use Rattle.std.specs.Prelude.{◌≡◌, ℕ, ◌<◌, Bool, true, false, Option, None, Some, List, [], ◌∷◌, ◌++◌, map, fold, option_to_list}

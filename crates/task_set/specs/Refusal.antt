@@ -1,4 +1,4 @@
--- Why a task is not added to a set. What a reader must believe: the tests stand in one order, and the first that fails
+-- Why a task is not added to a set. The tests stand in one order, and the first that fails
 -- names the refusal; a task that passes them all can be added.
 use Rattle.std.specs.Prelude.{◌≡◌, ◌≢◌, ℕ, ◌<◌, ◌≤◌, List, length, IsTrue, All, slice_get, Some}
 use Rattle.affinity_mask.specs.ProcSet.{has, empty}

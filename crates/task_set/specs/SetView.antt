@@ -1,4 +1,4 @@
--- What contracts see of the fields of a set of tasks. What a reader must believe: each entry of the map is a task, its
+-- What contracts see of the fields of a set of tasks. Each entry of the map is a task, its
 -- key the name; the tasks stand in the order of the map; and what is stored is always a set of tasks.
 use Rattle.std.specs.Prelude.{map, String, string_bytes}
 use Rattle.std.specs.declared.alloc.Global.{Global}

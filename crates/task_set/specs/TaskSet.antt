@@ -1,4 +1,4 @@
--- Sets of tasks. What a reader must believe: a task is a name, a priority and an affinity mask; its number is its place
+-- Sets of tasks. A task is a name, a priority and an affinity mask; its number is its place
 -- in the list; of two tasks the one with the lower priority number is more urgent, and no two tasks have one name or
 -- one priority; each mask has a processor, and only processors that there are; there are at most 1,024 tasks.
 use Rattle.std.specs.Prelude.{◌≢◌, ℕ, ◌<◌, ◌≤◌, List, [], ◌∷◌, ◌++◌, length, map, IsTrue, AllPairs, All}

@@ -45,7 +45,7 @@ impl TaskSet {
     ghost use Rattle.task_set.specs.TaskSet.{IsTaskSet, with_task, priorities, masks};
     ghost use Rattle.task_set.specs.declared.fault.TaskFault.{TaskFault};
 
-    /// A set without tasks. Refused only for want of memory.
+    /// A set without tasks. Refused only where memory runs out.
     pub fn new(alloc: Global, processors: u8) -> Result<TaskSet, OutOfMemory>
         requires { (1 ≤ processors) × (processors ≤ 64) }
         ensures { IfOk result (λ set. set ≡ record { processors = processors; tasks = [] }) }
@@ -65,7 +65,7 @@ impl TaskSet {
         ensures refused { IfErr result (λ fault. (fault ≡ TaskFault.OutOfMemory)
             ⊎ IsRefusal self.old (new_task name.now priority mask) fault) }
 
-        // Only want of memory comes in place of the answer that is due.
+        // Only OutOfMemory comes in place of the answer that is expected.
         ensures refuses { (fault : TaskFault) → IsRefusal self.old (new_task name.now priority mask) fault
             → (result ≡ Err fault) ⊎ (result ≡ Err TaskFault.OutOfMemory) }
         ensures adds { CanAdd self.old (new_task name.now priority mask) → IsOkUnless result TaskFault.OutOfMemory }

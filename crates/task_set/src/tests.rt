@@ -56,6 +56,29 @@ fn add_refuses(rt: HostRuntime) -> Result<(), Fail> {
     Ok(())
 }
 
+/// Each refusal of a task, and its text.
+static TEXTS: [(TaskFault, &str); 7] = [
+    (TaskFault::BadName, "the text is no name of a task"),
+    (TaskFault::Many, "the set of tasks is full"),
+    (TaskFault::SameName(3), "task 3 has the name"),
+    (TaskFault::SamePriority(4), "task 4 has the priority"),
+    (TaskFault::EmptyMask, "the mask has no processor"),
+    (
+        TaskFault::OutsideMask(9),
+        "the mask has processor 9, which is not there",
+    ),
+    (TaskFault::OutOfMemory, "out of memory"),
+];
+
+#[test]
+fn refusals_are_told_in_words(rt: HostRuntime) -> Result<(), Fail> {
+    for (fault, words) in &TEXTS {
+        let text = format!(in rt.alloc(); "{fault}")?;
+        assert_eq!(rt; text.as_str(), *words);
+    }
+    Ok(())
+}
+
 #[test]
 fn full_set_refuses(rt: HostRuntime) -> Result<(), Fail> {
     let one = ProcSet::one(0);

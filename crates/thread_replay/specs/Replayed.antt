@@ -6,7 +6,7 @@ use Rattle.task_set.specs.Orders.{stints_in}
 use Rattle.link_table.specs.State.{start_of}
 use Rattle.link_table.specs.History.{IsLegal}
 use Rattle.link_table.specs.Dispatch.{closed_orders_of}
-use Rattle.link_table.specs.declared.reply.Entry.{Entry}
+use Rattle.scheduler_reply.specs.declared.reply.Entry.{Entry}
 use Rattle.trace_reader.specs.declared.posted.Posted.{Posted}
 use Rattle.sched_core.specs.CoreData.{CoreData}
 use Rattle.context_slots.specs.Hands.{SlotsData, HandData}

@@ -8,7 +8,7 @@ use Rattle.task_set.specs.declared.context.Context.{Context}
 use Rattle.link_table.specs.State.{start_of}
 use Rattle.link_table.specs.History.{IsLegal}
 use Rattle.link_table.specs.Dispatch.{closed_orders_of, context_of}
-use Rattle.link_table.specs.declared.reply.Entry.{Entry}
+use Rattle.scheduler_reply.specs.declared.reply.Entry.{Entry}
 use Rattle.history_laws.specs.StintLaw.{stints_of_history}
 use Rattle.history_laws.proofs.CarriedThroughout.{stints_give_context}
 use Rattle.context_slots.specs.Carried.{AllCarried}

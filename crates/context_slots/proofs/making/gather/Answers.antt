@@ -1,5 +1,5 @@
 use Rattle.std.proofs.Common.{rules, arith, ap, ◌∙◌, sym}
-use Rattle.context_slots.specs.HandOver.{total}
+use Rattle.task_set.specs.Sum.{total}
 use Rattle.context_slots.specs.Hands.{HandData}
 use Rattle.context_slots.specs.HandSteps.{SeatState}
 use Rattle.context_slots.proofs.Keeps.{joins_lem}

@@ -1,7 +1,7 @@
 use Rattle.std.proofs.Common.{◌≡◌, ℕ, ◌+◌, ◌<◌, ◌≤◌, length}
 use Rattle.std.specs.Prelude.{All}
 use Rattle.task_set.specs.Orders.{Stint}
-use Rattle.context_slots.specs.HandOver.{total}
+use Rattle.task_set.specs.Sum.{total}
 use Rattle.context_slots.specs.Hands.{AreFreeFrom, all_ended}
 use Rattle.context_slots.specs.HandSteps.{IsFree}
 use Rattle.context_slots.proofs.making.gather.Given as goal

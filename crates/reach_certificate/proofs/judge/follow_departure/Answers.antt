@@ -1,7 +1,7 @@
 use Rattle.std.proofs.Common.{rules, ◌≡◌, ℕ, false, refl, sym, ◌∙◌, inl, inr}
 use Rattle.std.proofs.lemmas.Bool.{true≢false}
-use Rattle.link_table.specs.declared.reply.Reply.{Reply}
-use Rattle.link_table.specs.declared.reply.Reply.TheVariants.{NotReady}
+use Rattle.scheduler_reply.specs.declared.reply.Reply.{Reply}
+use Rattle.scheduler_reply.specs.declared.reply.Reply.TheVariants.{NotReady}
 use Rattle.link_table.specs.State.{State, IsState, is_ready}
 use Rattle.link_table.proofs.Linked.{task_on-linked, place_in}
 use Rattle.reach_certificate.specs.Defect.{IsAllowedToDeparture}

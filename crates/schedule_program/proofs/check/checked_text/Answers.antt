@@ -1,6 +1,6 @@
 use Rattle.std.proofs.Common.{subst, ap, ◌∙◌, length, List}
 use Rattle.std.proofs.lemmas.Result.{err_from_is_err_and}
-use Rattle.link_table.specs.declared.reply.Entry.{Entry}
+use Rattle.scheduler_reply.specs.declared.reply.Entry.{Entry}
 use Rattle.schedule_text.specs.Schedule.{IsSchedule}
 use Rattle.schedule_program.specs.Check.{valid_text}
 use Rattle.schedule_program.proofs.CheckedText.{is_check_of, schedule_refused_due, text_refused, text_refused_due, valid_unrefused}

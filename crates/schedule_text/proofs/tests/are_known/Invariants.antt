@@ -1,5 +1,5 @@
 use Rattle.std.proofs.Common.{ℕ, ◌<◌, get_or}
-use Rattle.link_table.specs.declared.reply.Entry.{Entry}
+use Rattle.scheduler_reply.specs.declared.reply.Entry.{Entry}
 use Rattle.schedule_text.specs.ScheduleText.{IsEntryOf}
 use Rattle.schedule_text.proofs.tests.are_known.Given as goal
 

@@ -1,6 +1,6 @@
 use Rattle.std.proofs.Common.{length, arith, ap, sym, subst, ◌∙◌}
 use Rattle.atomic_table.specs.Seated.{TableId}
-use Rattle.context_slots.specs.HandOver.{total}
+use Rattle.task_set.specs.Sum.{total}
 use Rattle.context_slots.specs.Hands.{SlotsData, HandData, AreFreeFrom, all_ended}
 use Rattle.context_slots.specs.Carried.{AllCarried}
 use Rattle.context_slots.proofs.Gathering.{popped_rest, popped_ended, popped_length, popped_below, own_below, is_free, same_came}

@@ -1,6 +1,6 @@
 use Rattle.std.proofs.Common.{◌≡◌, ℕ, List, get_or, Option, None, Err, sym, ap, ◌∙◌, subst}
 use Rattle.link_table.specs.State.{State, HasSameTasks}
-use Rattle.link_table.specs.declared.reply.Entry.{Entry}
+use Rattle.scheduler_reply.specs.declared.reply.Entry.{Entry}
 use Rattle.link_table.specs.History.{effect_of}
 use Rattle.certificate_laws.specs.Passing.{Passes}
 use Rattle.certificate_laws.proofs.Best.{linked_is_best}

@@ -1,12 +1,12 @@
 -- Which replies say what an arrival came to, and which say who came in.
 use Rattle.std.proofs.Common.{◌≡◌, Some, refl, sym, ap, ◌∙◌}
 use Rattle.std.proofs.lemmas.Option.{same_Some}
-use Rattle.link_table.specs.declared.reply.Came.{Came}
-use Rattle.link_table.specs.declared.reply.Came.TheVariants as came
-use Rattle.link_table.specs.declared.reply.Gone.{Gone}
-use Rattle.link_table.specs.declared.reply.Reply.{Reply}
-use Rattle.link_table.specs.declared.reply.Reply.TheVariants.{Placed, Displaced, Waits, Freed}
-use Rattle.link_table.specs.Reply.{reply_of_came, reply_of_gone, came_of, gone_of}
+use Rattle.scheduler_reply.specs.declared.reply.Came.{Came}
+use Rattle.scheduler_reply.specs.declared.reply.Came.TheVariants as came
+use Rattle.scheduler_reply.specs.declared.reply.Gone.{Gone}
+use Rattle.scheduler_reply.specs.declared.reply.Reply.{Reply}
+use Rattle.scheduler_reply.specs.declared.reply.Reply.TheVariants.{Placed, Displaced, Waits, Freed}
+use Rattle.scheduler_reply.specs.Reply.{reply_of_came, reply_of_gone, came_of, gone_of}
 
 came_back : (c : Came) → came_of (reply_of_came c) ≡ Some c
 came_back (came.Placed chain) = refl

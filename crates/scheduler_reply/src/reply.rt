@@ -75,7 +75,7 @@ pub struct Gone {
 }
 
 impl From<Came> for Reply {
-    ghost use Rattle.link_table.specs.Reply.{reply_of_came};
+    ghost use Rattle.scheduler_reply.specs.Reply.{reply_of_came};
 
     ghost from_gives = { λ came reply. reply ≡ reply_of_came came };
 
@@ -89,7 +89,7 @@ impl From<Came> for Reply {
 }
 
 impl From<Gone> for Reply {
-    ghost use Rattle.link_table.specs.Reply.{reply_of_gone};
+    ghost use Rattle.scheduler_reply.specs.Reply.{reply_of_gone};
 
     ghost from_gives = { λ gone reply. reply ≡ reply_of_gone gone };
 
@@ -103,7 +103,7 @@ impl From<Gone> for Reply {
 }
 
 impl Reply {
-    ghost use Rattle.link_table.specs.Reply.{came_of, gone_of};
+    ghost use Rattle.scheduler_reply.specs.Reply.{came_of, gone_of};
 
     /// What an arrival came to, where the reply says that. No memory is taken.
     pub fn came(&self) -> Option<Came>

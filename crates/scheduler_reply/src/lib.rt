@@ -1,0 +1,15 @@
+//! What a scheduler replies to an event, and the entry of a history that keeps it.
+//!
+//! A [`Reply`] says what the scheduler did, with the [`Chain`] of processors along which tasks were shifted or the set of
+//! processors that justifies it. Its parts are [`Came`], what an arrival came to, and [`Gone`], who came in at a
+//! processor that became idle. An [`Entry`] is an event with its caller and its reply. Here they are plain data: what
+//! makes a reply the right one is defined in link_table.
+#![tactic(auto)]
+
+pub mod chain;
+pub mod reply;
+#[cfg(test)]
+mod tests;
+
+pub use chain::Chain;
+pub use reply::{Came, Entry, Gone, Reply};
