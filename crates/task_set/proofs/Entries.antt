@@ -1,6 +1,6 @@
 -- The entries of the map, read as tasks.
 use Rattle.std.proofs.Common.{◌≡◌, ◌≢◌, ℕ, zero, suc, false, List, [], ◌∷◌, ◌++◌, map, refl, sym, ap, ap₂, subst, ◌∙◌, if◌then◌else◌, String, string_bytes, None, Some}
-use Rattle.std.specs.Prelude.{All, slice_get, slice_index, position, ◌==◌}
+use Rattle.std.specs.Prelude.{All, slice_get, slice_index, position}
 use Rattle.std.specs.Map.{keys_of, values_of}
 use Rattle.indexmap.specs.IndexMap.{insert_entry}
 use Rattle.std.specs.Str.{bytes_eq}
@@ -10,7 +10,6 @@ use Rattle.std.proofs.lemmas.Bool.{true≢false, false_from_ne_true}
 use Rattle.std.proofs.lemmas.Option.{same_Some}
 use Rattle.std.proofs.lemmas.Slice.Eq.{bytes_eq-Decides}
 use Rattle.std.proofs.lemmas.List.Elements.{All-head, All-tail}
-use Rattle.std.proofs.Common.{eq-eqb, eqb-true}
 use Rattle.task_set.proofs.Lists.{All-image, position-None, position-Some}
 use Rattle.task_set.specs.Refusal.{new_task, IsNewName}
 use Rattle.task_set.specs.SetView.{task_of, set_view}
@@ -24,10 +23,6 @@ Entries = List (String Global × Details)
 names-entries : (es : Entries) → map (λ (t : TaskData). t.name) (map task_of es) ≡ map string_bytes (keys_of es)
 names-entries [] = refl
 names-entries (e ∷ es) = ap (λ list. string_bytes e.0 ∷ list) (names-entries es)
-
-priorities-entries : (es : Entries) → map (λ (t : TaskData). t.priority) (map task_of es) ≡ map (λ (d : Details). d.priority) (values_of es)
-priorities-entries [] = refl
-priorities-entries (e ∷ es) = ap (λ list. e.1.priority ∷ list) (priorities-entries es)
 
 -- the name, the priority and the mask at a number
 pub name_read : (es : Entries) (t : ℕ) (e : String Global × Details) → slice_get es t ≡ Some e → slice_get (map (λ (x : TaskData). x.name) (map task_of es)) t ≡ Some (string_bytes e.0)
@@ -56,18 +51,6 @@ pub name_found : (es : Entries) (name : List ℕ) (t : ℕ) → position (λ k. 
 name_found es name t e =
     ap (λ list. slice_get list t) (names-entries es)
     ∙ position-Some (λ k. bytes_eq name (string_bytes k)) string_bytes name (λ k passes. sym ((bytes_eq-Decides name (string_bytes k)).0 passes)) t (keys_of es) e
-
--- the same of a priority, over the values
-pub priority_absent : (es : Entries) (priority : ℕ) → position (λ (d : Details). d.priority == priority) (values_of es) ≡ None → All (λ (t : TaskData). t.priority ≢ priority) (map task_of es)
-priority_absent es priority e =
-    All-image task_of (λ (x : String Global × Details). x.1) (λ (t : TaskData). t.priority ≢ priority) (λ (d : Details). (d.priority == priority) ≡ false)
-    (λ x fails same. true≢false (sym (eq-eqb _ _ same) ∙ fails)) es
-    (position-None (λ (d : Details). d.priority == priority) (values_of es) e)
-
-pub priority_found : (es : Entries) (priority t : ℕ) → position (λ (d : Details). d.priority == priority) (values_of es) ≡ Some t → slice_get (map (λ (x : TaskData). x.priority) (map task_of es)) t ≡ Some priority
-priority_found es priority t e =
-    ap (λ list. slice_get list t) (priorities-entries es)
-    ∙ position-Some (λ (d : Details). d.priority == priority) (λ (d : Details). d.priority) priority (λ d passes. eqb-true _ _ passes) t (values_of es) e
 
 -- a task with a new name goes last
 pub tasks-insert_entry : (es : Entries) (key : String Global) (d : Details) (name : List ℕ) → string_bytes key ≡ name → All (λ (t : TaskData). t.name ≢ name) (map task_of es)

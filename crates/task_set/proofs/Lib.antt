@@ -1,4 +1,5 @@
 mod Entries
+mod Priorities
 mod Lists
 mod Examples
 mod Outside

@@ -1,5 +1,5 @@
 -- Fronts of obeyable lists, and one order more.
-use Rattle.std.proofs.Common.{◌≡◌, ◌≢◌, ℕ, true, false, true≢false, sym, Option, None, Some, List, [], ◌∷◌, ◌++◌, fold, refl}
+use Rattle.std.proofs.Common.{◌≡◌, ◌≢◌, ℕ, true, true≢false, sym, Option, None, Some, List, [], ◌∷◌, ◌++◌, fold, refl}
 use Rattle.std.specs.Prelude.{All}
 use Rattle.std.proofs.lemmas.List.Elements.{All-head, All-tail}
 use Rattle.task_set.specs.declared.order.Order.{Order}

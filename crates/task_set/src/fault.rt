@@ -39,7 +39,10 @@ impl fmt::Display for TaskFault {
             TaskFault::SameName(t) => write!(f, "task {t} has the name"),
             TaskFault::SamePriority(t) => write!(f, "task {t} has the priority"),
             TaskFault::EmptyMask => write!(f, "the mask has no processor"),
-            TaskFault::OutsideMask(p) => write!(f, "the mask has processor {p}, which is not there"),
+            TaskFault::OutsideMask(p) => write!(
+                f,
+                "the mask has processor {p}, which is not there"
+            ),
             TaskFault::OutOfMemory => write!(f, "out of memory"),
         }
     }

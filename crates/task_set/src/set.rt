@@ -1,14 +1,13 @@
 //! A set of tasks, numbered in the order in which they were added.
 
-ghost use Rattle.std.specs.Prelude.{◌≡◌, ℕ, ◌<◌, ◌≤◌, ◌⊎◌, [], length, position, ◌==◌, slice_index, IsTrue, IfOk, IfErr, OnOk, OnErr, MatchOption, IsOkUnless};
-ghost use Rattle.indexmap.specs.IndexMap.{values};
+ghost use Rattle.std.specs.Prelude.{◌≡◌, ℕ, ◌<◌, ◌≤◌, ◌⊎◌, [], length, slice_index, IsTrue, IfOk, IfErr, OnOk, OnErr, MatchOption, IsOkUnless};
 ghost use Rattle.affinity_mask.specs.ProcSet.{has};
 ghost use Rattle.task_set.specs.Refusal.{new_task, CanAdd, AddsTask, IsRefusal, IsNewName, IsNameOf, IsNewPriority, IsPriorityOf, IsLeastOutside};
 
 use crate::fault::TaskFault;
 use crate::name::is_name;
 use affinity_mask::{OutOfMemory, ProcSet};
-use indexmap::IndexMap;
+use indexmap::{IndexMap, IndexSet};
 use std::alloc::Global;
 use std::marker::Model;
 
@@ -27,6 +26,9 @@ struct Details {
 pub struct TaskSet {
     processors: u8,
     tasks: IndexMap<String, Details>,
+
+    /// The priorities of the tasks, in the same order, so that a clash is found without a scan.
+    priorities: IndexSet<u32>,
 }
 
 impl Model for TaskSet {
@@ -53,6 +55,7 @@ impl TaskSet {
         Ok(TaskSet {
             processors,
             tasks: IndexMap::new(alloc),
+            priorities: IndexSet::new(alloc),
         })
     }
 
@@ -128,7 +131,7 @@ impl TaskSet {
         self.processors
     }
 
-    // Why a task is refused, or `None` where it can be added.
+    /// Why a task is refused, or `None` where it can be added.
     fn refusal(&self, name: &str, priority: u32, mask: ProcSet) -> Option<TaskFault>
         ensures { MatchOption result (CanAdd self.now (new_task name.now priority mask))
             (IsRefusal self.now (new_task name.now priority mask)) }
@@ -152,36 +155,29 @@ impl TaskSet {
         Some(TaskFault::OutsideMask(p))
     }
 
-    // The number of the task with this priority, if there is one.
+    /// The number of the task with this priority, if there is one.
     fn find_priority(&self, priority: u32) -> Option<u32>
         ensures { MatchOption result (IsNewPriority self.now priority) (λ t. IsPriorityOf self.now t priority) }
     {
-        let t = place_of_priority(&self.tasks, priority)?;
+        let t = self.priorities.get_index_of(&priority)?;
         Some(t as u32)
     }
 
-    // Puts a task last.
+    /// Puts a task last.
     fn store(&mut self, name: &str, priority: u32, mask: ProcSet) -> Result<(), OutOfMemory>
         requires { CanAdd self.old (new_task name.now priority mask) }
         ensures stored { OnOk result (self.new ≡ with_task self.old (new_task name.now priority mask)) }
         ensures unchanged { OnErr result (self.new ≡ self.old) }
     {
         let key = String::from_str(*self.tasks.allocator(), name)?;
+        self.priorities.reserve(1)?;
         self.tasks.insert(key, Details { priority, mask })?;
+        self.priorities.insert(priority)?;
         Ok(())
     }
 }
 
-// Where the first task with this priority stands. The map answers for names alone, so this is a scan.
-fn place_of_priority(tasks: &IndexMap<String, Details>, priority: u32) -> Option<usize>
-    ensures { result ≡ position (λ details. details.priority == priority) (values tasks.now) }
-{
-    tasks
-        .values()
-        .position(|details| details.priority == priority)
-}
-
-// The least number in a mask that is no processor of m, if there is one.
+/// The least number in a mask that is no processor of m, if there is one.
 fn least_outside(mask: &ProcSet, m: u8) -> Option<u8>
     requires { m ≤ 64 }
     ensures { MatchOption result ((p : ℕ) → IsTrue (has mask.now p) → p < m) (IsLeastOutside m mask.now) }
