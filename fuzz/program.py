@@ -1,0 +1,121 @@
+"""Runs of the program, for the scripts of this folder."""
+
+import os
+import re
+import signal
+import sys
+
+# The program of the repository, which `./apa` builds.
+DEFAULT = os.path.normpath(os.path.join(os.path.dirname(os.path.abspath(__file__)),
+                                        '../crates/schedule_program/out/schedule_program'))
+
+STATUS_LINES = {
+    0: re.compile(rb''),
+    1: re.compile(rb'invalid: line (\d+), defect ([1-5])\n'),
+    2: re.compile(rb'usage: run, check, make n p t e, large n p t e\n'),
+    3: re.compile(rb'input: line (\d+), kind (\d+)\n|input: more than 16777216 bytes\n'),
+    4: re.compile(rb'read fault\n'),
+    5: re.compile(rb'write fault\n'),
+    6: re.compile(rb'out of memory\n'),
+}
+
+INPUT_KINDS = range(1, 13)
+SCHEDULE_KINDS = range(21, 26)
+
+
+class Hang(Exception):
+    """The program did not end within its time."""
+
+
+class Wrong(Exception):
+    """An answer that may not be."""
+
+
+class Answer:
+    """What a run left: its exit status, its output, its line on standard error, and how many bytes it read."""
+
+    def __init__(self, status, output, line, taken):
+        self.status = status
+        self.output = output
+        self.line = line
+        self.taken = taken
+        self.place = None
+        self.number = None
+
+    def name(self):
+        if self.status == 0:
+            return 'done'
+        if self.status == 1:
+            return f'invalid, defect {self.number}'
+        if self.status == 2:
+            return 'usage'
+        if self.status == 3:
+            return f'input, kind {self.number}' if self.number else 'input, too long'
+        return self.line.decode().strip()
+
+    def refusal(self):
+        """The status, line and number, which two refusals share where they are one."""
+        return self.status, self.place, self.number
+
+
+class Program:
+    """A program, and how often it was started. One run goes on at a time."""
+
+    def __init__(self, path, seconds):
+        if not os.access(path, os.X_OK):
+            sys.exit(f'{path} is not a program: build it by ./apa, or name another by --program')
+        self.path = path
+        self.seconds = seconds
+        self.starts = 0
+        self.files = [os.memfd_create(name) for name in ('stdin', 'stdout', 'stderr')]
+        self.actions = [(os.POSIX_SPAWN_DUP2, file, number) for number, file in enumerate(self.files)]
+
+    def run(self, words, text):
+        """Runs it on these words and bytes, and gives the answer, or raises Hang or Wrong."""
+        source, sink, errors = self.files
+        for file in self.files:
+            os.ftruncate(file, 0)
+            os.lseek(file, 0, os.SEEK_SET)
+        os.pwrite(source, text, 0)
+        self.starts += 1
+        status = self.wait(os.posix_spawn(self.path, [self.path, *words], os.environ, file_actions=self.actions))
+        taken = os.lseek(source, 0, os.SEEK_CUR)
+        return judged(words, Answer(status, whole(sink), whole(errors), taken))
+
+    def wait(self, child):
+        def stop(_signal, _frame):
+            raise Hang(f'no end after {self.seconds} s')
+
+        signal.signal(signal.SIGALRM, stop)
+        signal.setitimer(signal.ITIMER_REAL, self.seconds)
+        try:
+            _, status = os.waitpid(child, 0)
+        except Hang:
+            os.kill(child, signal.SIGKILL)
+            os.waitpid(child, 0)
+            raise
+        finally:
+            signal.setitimer(signal.ITIMER_REAL, 0)
+        return os.waitstatus_to_exitcode(status)
+
+
+def whole(file):
+    return os.pread(file, os.fstat(file).st_size, 0)
+
+
+def judged(words, answer):
+    """The answer, with the line and the number of a refusal; Wrong where its status, line and output do not fit."""
+    form = STATUS_LINES.get(answer.status)
+    if form is None:
+        raise Wrong(f'exit status {answer.status}, with {answer.line[-2000:]!r}')
+    said = form.fullmatch(answer.line)
+    if not said:
+        raise Wrong(f'exit status {answer.status} with the line {answer.line[:200]!r}')
+    if answer.status and answer.output:
+        raise Wrong(f'{answer.line!r}, and {len(answer.output)} bytes were written')
+    if answer.status in (1, 3) and said[1]:
+        answer.place, answer.number = int(said[1]), int(said[2])
+        kinds = {'run': INPUT_KINDS, 'check': SCHEDULE_KINDS}.get(words[0], ())
+        if answer.status == 3 and answer.number not in kinds or answer.status == 1 and words[0] != 'check':
+            raise Wrong(f'{words[0]} answered {answer.line!r}')
+    return answer
