@@ -21,7 +21,7 @@ task_priority number i = 1000 * i + drawn number (3 * i) 1000
 abbrev pub first_processor : ℕ → ℕ → ℕ → ℕ
 first_processor number processors i = drawn number (3 * i + 1) processors
 
--- the last processor of the mask: up to three behind the first, where there are as many
+-- the last processor of the mask: up to three after the first, where there are as many
 abbrev pub last_processor : ℕ → ℕ → ℕ → ℕ
 last_processor number processors i = let first = first_processor number processors i in
     first + drawn number (3 * i + 2) (min 4 (processors - first))

@@ -1,4 +1,4 @@
--- Which replies say what an arrival came to, and which say who came in.
+-- Which replies say the result of an arrival, and which say who came in.
 use Rattle.std.proofs.Common.{◌≡◌, Some, refl, sym, ap, ◌∙◌}
 use Rattle.std.proofs.lemmas.Option.{same_Some}
 use Rattle.scheduler_reply.specs.declared.reply.Came.{Came}

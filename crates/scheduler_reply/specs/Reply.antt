@@ -1,4 +1,4 @@
--- What a reply is made of: what an arrival came to, or who came in at a processor that became idle; and what it carries,
+-- What a reply is made of: the result of an arrival, or who came in at a processor that became idle; and what it carries,
 -- whatever it means: its chains, its sets of processors, and the tasks that it names.
 use Rattle.std.specs.Prelude.{ℕ, List, [], ◌∷◌, Option, Some, None}
 use Rattle.std.specs.List.{cons_option}
@@ -8,7 +8,7 @@ use Rattle.scheduler_reply.specs.declared.reply.Gone.{Gone}
 use Rattle.scheduler_reply.specs.declared.reply.Reply.{Reply}
 use Rattle.scheduler_reply.specs.declared.reply.Reply.TheVariants.{Placed, Displaced, Waits, Freed, Left, Ticked, AlreadyReady, NotReady}
 
--- the reply that says what an arrival came to
+-- the reply that says the result of an arrival
 abbrev pub reply_of_came : Came → Reply
 reply_of_came (came.Placed chain) = Placed chain
 reply_of_came (came.Displaced chain out reach) = Displaced chain out reach
@@ -18,7 +18,7 @@ reply_of_came (came.Waits reach) = Waits reach
 abbrev pub reply_of_gone : Gone → Reply
 reply_of_gone gone = Freed gone.entered gone.chain gone.back
 
--- what an arrival came to, where a reply says that
+-- the result of an arrival, where a reply says that
 abbrev pub came_of : Reply → Option Came
 came_of (Placed chain) = Some (came.Placed chain)
 came_of (Displaced chain out reach) = Some (came.Displaced chain out reach)

@@ -63,7 +63,7 @@ impl Chain {
         self.processors.push(p);
     }
 
-    /// The list from its end to its front: a back chain read in the direction in which tasks move.
+    /// The list from its end to its start: a back chain read in the direction in which tasks move.
     pub fn reversed(&self) -> Chain
         ensures { result ≡ reverse self.now }
     {

@@ -1,7 +1,7 @@
 //! What a scheduler replies to an event, and the entry of a history that keeps it.
 //!
 //! A [`Reply`] says what the scheduler did, with the [`Chain`] of processors along which tasks were shifted or the set of
-//! processors that justifies it. Its parts are [`Came`], what an arrival came to, and [`Gone`], who came in at a
+//! processors that justifies it. Its parts are [`Came`], the result of an arrival, and [`Gone`], who came in at a
 //! processor that became idle. An [`Entry`] is an event with its caller and its reply. Here they are plain data: what
 //! makes a reply the right one is defined in link_table.
 #![tactic(auto)]

@@ -41,7 +41,7 @@ pub enum Reply {
     NotReady,
 }
 
-/// What an arrival came to.
+/// The result of an arrival.
 #[derive(Debug, Drop, PartialEq)]
 pub enum Came {
     /// The task was shifted along this chain, which ends on a processor that was idle.
@@ -105,7 +105,7 @@ impl From<Gone> for Reply {
 impl Reply {
     ghost use Rattle.scheduler_reply.specs.Reply.{came_of, gone_of};
 
-    /// What an arrival came to, where the reply says that. No memory is taken.
+    /// The result of an arrival, where the reply says that. No memory is taken.
     pub fn came(&self) -> Option<Came>
         ensures { result ≡ came_of self.now }
     {
