@@ -1,6 +1,7 @@
 pub mod Best
 pub mod Closed
 pub mod Counts
+pub mod FirstFound
 pub mod Fullness
 pub mod Improved
 pub mod Kept
