@@ -41,7 +41,7 @@ module _ (P : Order → Type 0) where
   all-tick (Tick units) None runs = All-nil P
   all-tick (Tick units) (Some a) runs = All-cons P (Run units) [] (runs units) (All-nil P)
 
-  all-event : (takes : ℕ → ℕ) (event : Event) (old new : Option ℕ) → ((a : ℕ) → old ≡ Some a → P (Release a)) → ((b : ℕ) → new ≡ Some b → P (Take b (takes b))) → ((units : ℕ) → P (Run units)) → All P (event_orders takes event old new)
+  pub all-event : (takes : ℕ → ℕ) (event : Event) (old new : Option ℕ) → ((a : ℕ) → old ≡ Some a → P (Release a)) → ((b : ℕ) → new ≡ Some b → P (Take b (takes b))) → ((units : ℕ) → P (Run units)) → All P (event_orders takes event old new)
   all-event takes event old new released taken runs = All-append P (change_orders takes old new) (tick_orders event old) (all-change takes old new released taken) (all-tick event old runs)
 
   all-close : (o : Option ℕ) → ((a : ℕ) → o ≡ Some a → P (Release a)) → P Stop → All P (close_orders o)

@@ -1,11 +1,10 @@
 -- Every set of tasks has a best subset. The tasks are admitted by urgency, each where it can be placed together with
 -- those that were admitted before it.
-use Rattle.std.proofs.Common.{◌≡◌, ◌≢◌, ℕ, zero, suc, ◌<◌, ◌≤◌, Bool, true, false, ◌||◌, nat_eq, if◌then◌else◌, refl, sym, ap, ◌∙◌, subst, inl, inr, IsTrue, arith, eq-eqb, ne_eqb, eqb-true}
-use Rattle.std.proofs.Math.Bool.{or-false}
-use Rattle.std.proofs.lemmas.Bool.{cases_Bool, cases_eq, true≢false, or_cases, or_parts, or_left, or_right}
+use Rattle.std.proofs.Common.{◌≡◌, ◌≢◌, ℕ, zero, suc, ◌<◌, Bool, true, false, ◌||◌, nat_eq, if◌then◌else◌, refl, sym, ap, ◌∙◌, subst, inl, inr, IsTrue, arith, eq-eqb, ne_eqb, eqb-true}
+use Rattle.std.proofs.lemmas.Bool.{cases_Bool, cases_eq, true≢false, or_cases, or_parts, or_left}
 use Rattle.affinity_mask.specs.ProcSet.{has}
 use Rattle.link_table.specs.State.{State, IsState, IsMoreUrgent, task_count, priority_of, effective_mask}
-use Rattle.link_table.specs.Placement.{TaskTest, IsPlaceable, IsBetter, IsSubset, IsBest}
+use Rattle.link_table.specs.Placement.{TaskTest, IsPlaceable, IsSubset, IsBest}
 use Rattle.link_table.proofs.Ends.{has_decided}
 use Rattle.link_table.proofs.Least.{Decided}
 use Rattle.link_table.proofs.Masks.{effective_mask_below}

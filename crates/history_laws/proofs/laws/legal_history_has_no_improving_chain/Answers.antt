@@ -1,7 +1,9 @@
-use Rattle.link_table.specs.History.{state_at}
-use Rattle.certificate_laws.proofs.Improved.{no_improving_chain}
-use Rattle.certificate_laws.proofs.Kept.{legal_is_certified}
+use Rattle.certificate_laws.specs.Improving.{HasNoImprovingChain}
+use Rattle.history_laws.proofs.LegalHistories.{legal_has_no_improving_chain-from, throughout_legal-set}
 use Rattle.history_laws.proofs.laws.legal_history_has_no_improving_chain.Goals as goal
 
-pub returns : goal.returns
-returns c = λ set valid_set history legal n within. no_improving_chain (state_at set history n) (legal_is_certified set valid_set history legal n within).1
+pub returns-clause-from_start : goal.returns-clause-from_start
+returns-clause-from_start c = legal_has_no_improving_chain-from
+
+pub returns-clause-of_set : goal.returns-clause-of_set
+returns-clause-of_set c = throughout_legal-set HasNoImprovingChain legal_has_no_improving_chain-from
