@@ -13,6 +13,7 @@ use Rattle.link_table.proofs.Start.{IsState-start}
 use Rattle.link_table.proofs.Steps.{reply_gives_new_state}
 use Rattle.certificate_laws.specs.Certified.{HasCertificates, IsCertifiedThroughout}
 use Rattle.certificate_laws.specs.Justification.{HasJustification}
+use Rattle.certificate_laws.specs.Laws.{HoldsThroughout}
 use Rattle.certificate_laws.specs.Passing.{IsPassing, IsPassingFrom}
 use Rattle.certificate_laws.proofs.Best.{linked_is_best}
 use Rattle.certificate_laws.proofs.Passed.{passing_keeps_certificates, passing_keeps_state, passing_has_justification, step_passes}
@@ -33,6 +34,12 @@ IsPassingFrom-take s [] (suc n) passing = tt
 IsPassingFrom-take s (first ∷ rest) zero passing = tt
 IsPassingFrom-take s (first ∷ rest) (suc n) passing = (passing.0, IsPassingFrom-take (effect_of s first) rest n passing.1)
 
+-- so it is after each entry
+pub passing_is_certified-from : (s : State) (history : List Entry) → IsState s → HasCertificates s → IsPassingFrom s history → HoldsThroughout (λ s. IsState s × HasCertificates s) s history
+passing_is_certified-from s history ok certificates passing n within =
+    let begun = IsPassingFrom-take s history n passing in
+    (IsState-passed s (take n history) ok begun, HasCertificates-passed s (take n history) ok certificates begun)
+
 -- a legal history passes
 pub legal_passes : (s : State) (history : List Entry) → IsState s → IsLegalFrom s history → IsPassingFrom s history
 legal_passes s [] ok legal = tt
@@ -51,11 +58,7 @@ pub HasCertificates-start : (set : SetData) → HasCertificates (start_of set)
 HasCertificates-start set w waits = absurd (true≢false (sym waits.ready ∙ none_ready (length set.tasks) w))
 
 pub passing_is_certified : (set : SetData) → IsTaskSet set → (history : List Entry) → IsPassing set history → IsCertifiedThroughout set history
-passing_is_certified set valid_set history passing n within =
-    let front = IsPassingFrom-take (start_of set) history n passing in (
-      IsState-passed (start_of set) (take n history) (IsState-start set valid_set) front,
-      HasCertificates-passed (start_of set) (take n history) (IsState-start set valid_set) (HasCertificates-start set) front,
-    )
+passing_is_certified set valid_set history passing = passing_is_certified-from (start_of set) history (IsState-start set valid_set) (HasCertificates-start set) passing
 
 pub passing_is_best : (set : SetData) → IsTaskSet set → (history : List Entry) → IsPassing set history → IsBestThroughout set history
 passing_is_best set valid_set history passing n within = let kept = passing_is_certified set valid_set history passing n within in linked_is_best (state_at set history n) kept.0 kept.1

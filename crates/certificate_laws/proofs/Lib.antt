@@ -1,7 +1,9 @@
 pub mod Best
 pub mod Closed
 pub mod Counts
+pub mod FirstFound
 pub mod Fullness
+pub mod Improved
 pub mod Kept
 pub mod KeptByArrivals
 pub mod KeptByDepartures

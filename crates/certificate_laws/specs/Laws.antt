@@ -1,6 +1,8 @@
 -- What certificates say of the linked tasks.
-use Rattle.std.specs.Prelude.{◌≡◌, ℕ, ◌≤◌, length}
+use Rattle.std.specs.Prelude.{◌≡◌, ℕ, ◌≤◌, List, length, take}
+use Rattle.scheduler_reply.specs.declared.reply.Entry.{Entry}
 use Rattle.link_table.specs.State.{State, IsState, is_ready, is_linked}
+use Rattle.link_table.specs.History.{state_after}
 use Rattle.link_table.specs.Placement.{TaskTest, IsPlaceable, IsSubset, IsBest}
 use Rattle.certificate_laws.specs.Certified.{HasCertificates}
 use Rattle.certificate_laws.specs.Ranks.{tasks_of, KeepsUp, IsAsUrgent}
@@ -28,3 +30,7 @@ LinkedIsAsUrgent s = (other : TaskTest) → IsSubset other (is_ready s) → IsPl
 -- what holds of each state whose waiting tasks all have a certificate
 abbrev pub HoldsWhereCertified : (State → Type 0) → Type 0
 HoldsWhereCertified Law = (s : State) → IsState s → HasCertificates s → Law s
+
+-- what holds before a history and after each of its entries
+abbrev pub HoldsThroughout : (State → Type 0) → State → List Entry → Type 0
+HoldsThroughout Law start history = (n : ℕ) → n ≤ length history → Law (state_after start (take n history))

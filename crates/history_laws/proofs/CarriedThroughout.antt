@@ -17,12 +17,13 @@ use Rattle.link_table.proofs.Histories.{state_after-push, IsState-state_after}
 use Rattle.link_table.proofs.Linked.{occupied_number}
 use Rattle.link_table.proofs.Start.{IsState-start}
 use Rattle.link_table.proofs.Steps.{step_keeps_state}
-use Rattle.history_laws.specs.StintLaw.{StintsGiveContext, StintsAreTakes, AreTakes, stints_of_history}
+use Rattle.history_laws.specs.StintLaw.{StintsGiveContextFrom, StintsGiveContext, StintsAreTakesFrom, StintsAreTakes, AreTakes, stints_of_history}
 use Rattle.history_laws.proofs.CarriedAlong.{ended, IsFollowed, ended_on}
 use Rattle.history_laws.proofs.CarriedByChanges.{followed-change}
 use Rattle.history_laws.proofs.CarriedByTicks.{followed-tick}
-use Rattle.history_laws.proofs.OrderLists.{task_on-start, close_orders, closed_orders_of-split}
+use Rattle.history_laws.proofs.OrderLists.{close_orders, closed_orders_of-split}
 use Rattle.link_table.proofs.SameTasks.{same_tasks-effect, same_tasks-history}
+use Rattle.history_laws.proofs.Starts.{nobody_ready}
 use Rattle.history_laws.proofs.StintsOfTask.{flat_range-same, own, stints_of_task-flat_map, stints_of_task-closed, carried_context-more}
 use Rattle.history_laws.proofs.StintsOrdered.{under_way_on, task_of-under_way, own-other, own-one, ended-close, next_state}
 
@@ -107,9 +108,15 @@ stints-history start ok idle history t legal =
     let all = stints-close start idle t history (IsState-state_after start history ok legal) (same_tasks-history start history).processors (followed-history start idle t [] history ok refl legal (followed-start start idle t)) _ refl in
     (rw same all.0, ap (fold context_after_stint (fresh_context t)) same ∙ all.1)
 
--- the laws
+-- ---- the laws
+pub stints_give_context-from : StintsGiveContextFrom
+stints_give_context-from start history t ok nobody legal = (stints-history start ok nobody.idle history t legal).1
+
 pub stints_give_context : StintsGiveContext
-stints_give_context set history t valid_set legal = (stints-history (start_of set) (IsState-start set valid_set) (task_on-start set) history t legal).1
+stints_give_context set history t valid_set = stints_give_context-from (start_of set) history t (IsState-start set valid_set) (nobody_ready set)
+
+pub stints_are_takes-from : StintsAreTakesFrom
+stints_are_takes-from start history t ok nobody legal = (stints-history start ok nobody.idle history t legal).0
 
 pub stints_are_takes : StintsAreTakes
-stints_are_takes set history t valid_set legal = (stints-history (start_of set) (IsState-start set valid_set) (task_on-start set) history t legal).0
+stints_are_takes set history t valid_set = stints_are_takes-from (start_of set) history t (IsState-start set valid_set) (nobody_ready set)

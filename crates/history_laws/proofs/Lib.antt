@@ -2,13 +2,16 @@ pub mod CarriedAlong
 pub mod CarriedByChanges
 pub mod CarriedByTicks
 pub mod CarriedThroughout
+pub mod HistoryParts
+pub mod LegalHistories
 pub mod OrderCounts
 pub mod OrderLists
 pub mod OrderNames
 pub mod OrderPrefixes
+pub mod OrderStops
+pub mod Starts
 pub mod StepExists
 pub mod StepHistories
-pub mod StepImproving
 pub mod StepReach
 pub mod StepSearch
 pub mod StintsOfTask

@@ -20,7 +20,7 @@ use Rattle.link_table.proofs.Masks.{online_below, effective_mask_below}
 use Rattle.link_table.proofs.Paths.{Reaches-online}
 use Rattle.history_laws.specs.StepLaws.{StepExists}
 use Rattle.history_laws.proofs.StepReach.{reach_exists, back_reach_exists}
-use Rattle.history_laws.proofs.StepSearch.{FirstBelow, first_below, exists_below, both_decided}
+use Rattle.certificate_laws.proofs.FirstFound.{FirstBelow, first_below, exists_below, both_decided}
 
 nobody_decided : (o : Option ℕ) → Decided (o ≡ None)
 nobody_decided None = inl refl

@@ -16,7 +16,8 @@ use Rattle.path_search.specs.Paths.{Steps, IsPathFrom, LeadsTo}
 use Rattle.path_search.proofs.ChainPaths.{path_from_back_chain, back_chain_from_path, start_below}
 use Rattle.path_search.proofs.LeastPaths.{IsPathFrom-below, IsPathFrom-all_below}
 use Rattle.path_search.proofs.Moves.{Steps-below}
-use Rattle.history_laws.proofs.StepSearch.{both_decided, exists_below, set_below}
+use Rattle.certificate_laws.proofs.FirstFound.{both_decided, exists_below}
+use Rattle.history_laws.proofs.StepSearch.{set_below}
 
 -- whether a list is a path from p to q
 path_decided : (Step : ℕ → ℕ → Type 0) → ((p q : ℕ) → Decided (Step p q)) → (p : ℕ) (rest : List ℕ) (q : ℕ) → Decided (IsPath Step p rest q)

@@ -7,15 +7,21 @@ use Rattle.task_set.specs.TaskSet.{SetData, IsTaskSet}
 use Rattle.task_set.specs.Orders.{Stint, stints_in}
 use Rattle.task_set.specs.Context.{carried_context, stints_of_task}
 use Rattle.scheduler_reply.specs.declared.reply.Entry.{Entry}
-use Rattle.link_table.specs.State.{State, start_of}
-use Rattle.link_table.specs.History.{IsLegal}
+use Rattle.link_table.specs.State.{State, IsState, start_of}
+use Rattle.link_table.specs.History.{IsLegal, IsLegalFrom}
 use Rattle.link_table.specs.Dispatch.{closed_orders_of, context_of, processors_of}
+use Rattle.history_laws.specs.Start.{NobodyIsReady}
 
 -- the stints that a history from `start` and its close order, processor by processor
 abbrev pub stints_of_history : State → List Entry → List Stint
 stints_of_history start history = flat_map (λ p. stints_in p (closed_orders_of start history p)) (range_with_len 0 start.processors)
 
 -- the context that a task carries through its stints on all processors is the one that the history gives it
+abbrev pub StintsGiveContextFrom : Type 0
+StintsGiveContextFrom = (start : State) (history : List Entry) (t : ℕ) → IsState start → NobodyIsReady start → IsLegalFrom start history
+    → carried_context t (stints_of_history start history) ≡ context_of start history t
+
+-- so it is by a history of a set
 abbrev pub StintsGiveContext : Type 0
 StintsGiveContext = (set : SetData) (history : List Entry) (t : ℕ) → IsTaskSet set → IsLegal set history
     → carried_context t (stints_of_history (start_of set) history) ≡ context_of (start_of set) history t
@@ -26,6 +32,11 @@ pub record AreTakes (stints : List Stint) (taken : List ℕ) : Type 0 where
   pub processors : map (λ stint. stint.processor) stints ≡ taken
 
 -- the stints of a task, in order of their numbers, are the takes by which the history takes it
+abbrev pub StintsAreTakesFrom : Type 0
+StintsAreTakesFrom = (start : State) (history : List Entry) (t : ℕ) → IsState start → NobodyIsReady start → IsLegalFrom start history
+    → AreTakes (stints_of_task t (stints_of_history start history)) (processors_of start history t)
+
+-- so they are by a history of a set
 abbrev pub StintsAreTakes : Type 0
 StintsAreTakes = (set : SetData) (history : List Entry) (t : ℕ) → IsTaskSet set → IsLegal set history
     → AreTakes (stints_of_task t (stints_of_history (start_of set) history)) (processors_of (start_of set) history t)

@@ -1,4 +1,5 @@
 pub mod Admissions
+pub mod BestFound
 pub mod Greedy
 pub mod MostUrgent
 pub mod Searches

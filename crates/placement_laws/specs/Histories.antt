@@ -1,9 +1,10 @@
--- The best set over histories whose replies pass, whoever gave them.
+-- The best set over histories whose replies pass, whoever gave them, and that no waiting task could be shifted in.
 use Rattle.std.specs.Prelude.{List}
 use Rattle.task_set.specs.TaskSet.{SetData, IsTaskSet}
 use Rattle.scheduler_reply.specs.declared.reply.Entry.{Entry}
 use Rattle.link_table.specs.History.{IsBestThroughout}
 use Rattle.certificate_laws.specs.Certified.{IsCertifiedThroughout}
+use Rattle.certificate_laws.specs.Improving.{HasNoImprovingChainThroughout}
 use Rattle.certificate_laws.specs.Passing.{IsPassing}
 
 -- after every entry of a history whose replies pass each waiting task has a certificate
@@ -13,3 +14,7 @@ PassingHistoryHasCertificates = (set : SetData) → IsTaskSet set → (history :
 -- after every entry of a history whose replies pass the linked tasks are the best placeable set of the ready ones
 abbrev pub PassingHistoryIsBest : Type 0
 PassingHistoryIsBest = (set : SetData) → IsTaskSet set → (history : List Entry) → IsPassing set history → IsBestThroughout set history
+
+-- after every entry of a history whose replies pass no task has an improving chain
+abbrev pub PassingHistoryHasNoImprovingChain : Type 0
+PassingHistoryHasNoImprovingChain = (set : SetData) → IsTaskSet set → (history : List Entry) → IsPassing set history → HasNoImprovingChainThroughout set history

@@ -1,3 +1,4 @@
 pub mod Admission
+pub mod Best
 pub mod Histories
 pub mod Search

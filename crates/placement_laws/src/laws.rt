@@ -1,7 +1,14 @@
 //! What holds of each state whose waiting tasks all have a certificate, and of each history whose replies pass. Each law
 //! is the contract of a function that does nothing: a caller in a proof gets the law by its clause.
+ghost use Rattle.certificate_laws.specs.Improving.{HasNoImprovingChain};
 ghost use Rattle.certificate_laws.specs.Laws.{HoldsWhereCertified, LinkedIsBest, LinkedIsOnlyBest, LinkedIsLargest, LinkedKeepsUp, LinkedIsAsUrgent};
-ghost use Rattle.placement_laws.specs.Histories.{PassingHistoryHasCertificates, PassingHistoryIsBest};
+ghost use Rattle.placement_laws.specs.Best.{BestExists};
+ghost use Rattle.placement_laws.specs.Histories.{PassingHistoryHasCertificates, PassingHistoryIsBest, PassingHistoryHasNoImprovingChain};
+
+/// Every set of tasks of a state has a best placeable subset. Its `best_is_unique` stands in link_table.
+pub fn best_exists()
+    ensures { BestExists }
+{}
 
 /// The linked tasks are the best placeable set of the ready tasks, and the only best one.
 pub fn certified_is_best()
@@ -17,6 +24,11 @@ pub fn certified_is_most_urgent()
     ensures rank_by_rank { HoldsWhereCertified LinkedIsAsUrgent }
 {}
 
+/// No waiting task could be shifted to an idle processor, or onto the processor of a less urgent task.
+pub fn certified_has_no_improving_chain()
+    ensures { HoldsWhereCertified HasNoImprovingChain }
+{}
+
 /// After every entry of a history whose replies pass, whoever gave them, each waiting task has a certificate. So it can
 /// be shown of every waiting task why it waits.
 pub fn passing_history_has_certificates()
@@ -27,4 +39,10 @@ pub fn passing_history_has_certificates()
 /// set of the ready tasks.
 pub fn passing_history_is_best()
     ensures { PassingHistoryIsBest }
+{}
+
+/// After every entry of such a history no task waits that could be shifted to an idle processor, or onto the processor
+/// of a less urgent task.
+pub fn passing_history_has_no_improving_chain()
+    ensures { PassingHistoryHasNoImprovingChain }
 {}

@@ -1,5 +1,10 @@
-use Rattle.certificate_laws.proofs.Kept.{legal_is_certified}
+use Rattle.link_table.specs.State.{IsState}
+use Rattle.certificate_laws.specs.Certified.{HasCertificates}
+use Rattle.history_laws.proofs.LegalHistories.{legal_is_certified-from, throughout_legal-set}
 use Rattle.history_laws.proofs.laws.legal_history_has_certificates.Goals as goal
 
-pub returns : goal.returns
-returns c = legal_is_certified
+pub returns-clause-from_start : goal.returns-clause-from_start
+returns-clause-from_start c = legal_is_certified-from
+
+pub returns-clause-of_set : goal.returns-clause-of_set
+returns-clause-of_set c = throughout_legal-set (λ s. IsState s × HasCertificates s) legal_is_certified-from
