@@ -2,6 +2,7 @@ pub mod Best
 pub mod Closed
 pub mod Counts
 pub mod Fullness
+pub mod Improved
 pub mod Kept
 pub mod KeptByArrivals
 pub mod KeptByDepartures

@@ -1,5 +1,6 @@
 pub mod Certified
 pub mod Held
+pub mod Improving
 pub mod Justification
 pub mod Laws
 pub mod Passing

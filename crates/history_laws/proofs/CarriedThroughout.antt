@@ -21,8 +21,9 @@ use Rattle.history_laws.specs.StintLaw.{StintsGiveContext, StintsAreTakes, AreTa
 use Rattle.history_laws.proofs.CarriedAlong.{ended, IsFollowed, ended_on}
 use Rattle.history_laws.proofs.CarriedByChanges.{followed-change}
 use Rattle.history_laws.proofs.CarriedByTicks.{followed-tick}
-use Rattle.history_laws.proofs.OrderLists.{task_on-start, close_orders, closed_orders_of-split}
+use Rattle.history_laws.proofs.OrderLists.{close_orders, closed_orders_of-split}
 use Rattle.link_table.proofs.SameTasks.{same_tasks-effect, same_tasks-history}
+use Rattle.history_laws.proofs.Starts.{nobody_ready}
 use Rattle.history_laws.proofs.StintsOfTask.{flat_range-same, own, stints_of_task-flat_map, stints_of_task-closed, carried_context-more}
 use Rattle.history_laws.proofs.StintsOrdered.{under_way_on, task_of-under_way, own-other, own-one, ended-close, next_state}
 
@@ -109,7 +110,7 @@ stints-history start ok idle history t legal =
 
 -- the laws
 pub stints_give_context : StintsGiveContext
-stints_give_context set history t valid_set legal = (stints-history (start_of set) (IsState-start set valid_set) (task_on-start set) history t legal).1
+stints_give_context set history t valid_set legal = (stints-history (start_of set) (IsState-start set valid_set) (nobody_ready set).idle history t legal).1
 
 pub stints_are_takes : StintsAreTakes
-stints_are_takes set history t valid_set legal = (stints-history (start_of set) (IsState-start set valid_set) (task_on-start set) history t legal).0
+stints_are_takes set history t valid_set legal = (stints-history (start_of set) (IsState-start set valid_set) (nobody_ready set).idle history t legal).0

@@ -6,9 +6,9 @@ pub mod OrderCounts
 pub mod OrderLists
 pub mod OrderNames
 pub mod OrderPrefixes
+pub mod Starts
 pub mod StepExists
 pub mod StepHistories
-pub mod StepImproving
 pub mod StepReach
 pub mod StepSearch
 pub mod StintsOfTask

@@ -10,7 +10,7 @@ use Rattle.link_table.specs.Step.{SchedulerStep}
 use Rattle.link_table.specs.History.{IsLegalFrom, effect_of, state_after}
 use Rattle.link_table.specs.Dispatch.{change_orders, tick_orders, taken_between, orders_from, orders_of, closed_orders_of}
 use Rattle.link_table.proofs.Histories.{entry_orders}
-use Rattle.history_laws.specs.OrderLaws.{OrdersAreFew}
+use Rattle.history_laws.specs.OrderLaws.{OrdersAreFewFrom, OrdersAreFew}
 use Rattle.history_laws.proofs.OrderLists.{event_orders, event_orders-tick, tick_stays, close_orders, closed_orders_of-split}
 
 length-change : (takes : ℕ → ℕ) (old new : Option ℕ) → length (change_orders takes old new) ≤ 2
@@ -56,5 +56,9 @@ length-closed_orders_of s history p =
     let both = length-append (orders_of s history p) (close_orders (task_on (state_after s history) p)) in
     rw (closed_orders_of-split s history p) (omega arith)
 
+-- ---- the laws
+pub orders_count-from : OrdersAreFewFrom
+orders_count-from s history p legal = (length-orders_from s (λ t. 0) history p legal, length-closed_orders_of s history p)
+
 pub orders_count : OrdersAreFew
-orders_count set history p legal = (length-orders_from (start_of set) (λ t. 0) history p legal, length-closed_orders_of (start_of set) history p)
+orders_count set = orders_count-from (start_of set)

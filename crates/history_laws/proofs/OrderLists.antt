@@ -1,8 +1,7 @@
 -- A processor can obey its orders of a legal history, and holds its occupant after them.
-use Rattle.std.proofs.Common.{◌≡◌, ℕ, zero, suc, ◌+◌, List, [], ◌∷◌, ◌++◌, length, get_or, replicate, fold, Option, None, Some, refl, sym, ap, ◌∙◌, subst, inl, inr, append_assoc, append-nil, eq-eqb, ne_eqb}
+use Rattle.std.proofs.Common.{◌≡◌, ℕ, ◌+◌, List, [], ◌∷◌, ◌++◌, length, fold, Option, None, Some, refl, sym, ap, ◌∙◌, subst, inl, inr, append_assoc, append-nil, eq-eqb, ne_eqb}
 use Rattle.std.proofs.lemmas.Bool.{cases_eq}
 use Rattle.std.proofs.lemmas.List.Sums.{fold-append}
-use Rattle.task_set.specs.TaskSet.{SetData}
 use Rattle.task_set.specs.Orders.{held_after, IsObeyableFrom}
 use Rattle.task_set.specs.declared.event.Event.{Event}
 use Rattle.task_set.specs.declared.event.Event.TheVariants.{Arrive, Depart, Tick}
@@ -15,7 +14,8 @@ use Rattle.link_table.specs.Step.{SchedulerStep}
 use Rattle.link_table.specs.History.{IsLegalFrom, effect_of, state_after}
 use Rattle.link_table.specs.Dispatch.{change_orders, tick_orders, release_of, taken_between, orders_from, orders_of, closed_orders_of}
 use Rattle.link_table.proofs.Histories.{entry_orders}
-use Rattle.history_laws.specs.OrderLaws.{OrdersAreObeyable}
+use Rattle.history_laws.specs.OrderLaws.{OrdersAreObeyableFrom, OrdersAreObeyable}
+use Rattle.history_laws.proofs.Starts.{nobody_ready}
 
 -- ---- one entry
 -- after the orders at a change of the occupant, the new one is held
@@ -114,14 +114,14 @@ held-close (Some a) = refl
 pub closed_orders_of-split : (s : State) (history : List Entry) (p : ℕ) → closed_orders_of s history p ≡ orders_of s history p ++ close_orders (task_on (state_after s history) p)
 closed_orders_of-split s history p = append_assoc (orders_of s history p) (release_of (task_on (state_after s history) p)) (Stop ∷ [])
 
--- ---- from any state
-pub orders_obeyable-from : (s : State) (history : List Entry) (p : ℕ) → IsLegalFrom s history → IsObeyableFrom (task_on s p) (orders_of s history p)
-orders_obeyable-from s history p legal = rw (← append-nil (orders_of s history p)) (orders_then s (λ t. 0) history p [] legal tt)
+-- ---- the laws
+obeyable-from : (s : State) (history : List Entry) (p : ℕ) → IsLegalFrom s history → IsObeyableFrom (task_on s p) (orders_of s history p)
+obeyable-from s history p legal = rw (← append-nil (orders_of s history p)) (orders_then s (λ t. 0) history p [] legal tt)
 
-pub closed_orders_obeyable-from : (s : State) (history : List Entry) (p : ℕ) → IsLegalFrom s history → IsObeyableFrom (task_on s p) (closed_orders_of s history p)
-closed_orders_obeyable-from s history p legal = rw (closed_orders_of-split s history p) (orders_then s (λ t. 0) history p _ legal (close_obeyable (task_on (state_after s history) p)))
+closed_obeyable-from : (s : State) (history : List Entry) (p : ℕ) → IsLegalFrom s history → IsObeyableFrom (task_on s p) (closed_orders_of s history p)
+closed_obeyable-from s history p legal = rw (closed_orders_of-split s history p) (orders_then s (λ t. 0) history p _ legal (close_obeyable (task_on (state_after s history) p)))
 
-pub held-closed_orders_of : (s : State) (history : List Entry) (p : ℕ) → fold held_after (task_on s p) (closed_orders_of s history p) ≡ None
+held-closed_orders_of : (s : State) (history : List Entry) (p : ℕ) → fold held_after (task_on s p) (closed_orders_of s history p) ≡ None
 held-closed_orders_of s history p =
     let last = task_on (state_after s history) p in
     ap (fold held_after (task_on s p)) (closed_orders_of-split s history p)
@@ -129,23 +129,15 @@ held-closed_orders_of s history p =
     ∙ ap (λ (held : Option ℕ). fold held_after held (close_orders last)) (held-orders_from s (λ t. 0) history p)
     ∙ held-close last
 
--- ---- from the start of a set
-nobody : (n p : ℕ) → get_or {A = Option ℕ} (replicate n None) p None ≡ None
-nobody zero p = refl
-nobody (suc n) zero = refl
-nobody (suc n) (suc p) = nobody n p
-
--- at first every processor is idle
-pub task_on-start : (set : SetData) (p : ℕ) → task_on (start_of set) p ≡ None
-task_on-start set p = nobody set.processors p
-
-pub orders_obeyable : OrdersAreObeyable
-orders_obeyable set history p legal =
-    let s = start_of set in
-    let idle : task_on s p ≡ None = task_on-start set p in
+pub orders_obeyable-from : OrdersAreObeyableFrom
+orders_obeyable-from s history p nobody legal =
+    let idle : task_on s p ≡ None = nobody.idle p in
     record {
-      before_close = subst (λ (held : Option ℕ). IsObeyableFrom held (orders_of s history p)) idle (orders_obeyable-from s history p legal);
+      before_close = subst (λ (held : Option ℕ). IsObeyableFrom held (orders_of s history p)) idle (obeyable-from s history p legal);
       holds_occupant = ap (λ (held : Option ℕ). fold held_after held (orders_of s history p)) (sym idle) ∙ held-orders_from s (λ t. 0) history p;
-      after_close = subst (λ (held : Option ℕ). IsObeyableFrom held (closed_orders_of s history p)) idle (closed_orders_obeyable-from s history p legal);
+      after_close = subst (λ (held : Option ℕ). IsObeyableFrom held (closed_orders_of s history p)) idle (closed_obeyable-from s history p legal);
       holds_nobody = ap (λ (held : Option ℕ). fold held_after held (closed_orders_of s history p)) (sym idle) ∙ held-closed_orders_of s history p;
     }
+
+pub orders_obeyable : OrdersAreObeyable
+orders_obeyable set history p legal = orders_obeyable-from (start_of set) history p (nobody_ready set) legal

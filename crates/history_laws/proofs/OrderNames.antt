@@ -1,5 +1,5 @@
 -- What the orders of a legal history name: tasks of the set, and numbers of takes below the length of the history.
-use Rattle.std.proofs.Common.{◌≡◌, ℕ, zero, suc, ◌+◌, ◌<◌, ◌≤◌, Bool, true, false, not, ◌&&◌, List, [], ◌∷◌, length, Option, None, Some, refl, ◌∙◌, inl, inr, arith, eq-eqb, ne_eqb}
+use Rattle.std.proofs.Common.{◌≡◌, ℕ, zero, suc, ◌+◌, ◌<◌, ◌≤◌, Bool, true, false, not, ◌&&◌, List, [], ◌∷◌, length, Option, None, Some, refl, ◌∙◌, subst, inl, inr, arith, eq-eqb, ne_eqb}
 use Rattle.std.specs.Prelude.{All, filter}
 use Rattle.std.specs.List.{range_with_len}
 use Rattle.std.proofs.lemmas.Bool.{cases_eq, cases_Bool, and_parts}
@@ -21,7 +21,7 @@ use Rattle.link_table.proofs.SameTasks.{same_tasks-effect, same_tasks-history, s
 use Rattle.link_table.proofs.Start.{IsState-start}
 use Rattle.link_table.proofs.Steps.{step_keeps_state}
 use Rattle.task_set.specs.Orders.{NamesTaskBelow, TakesBelow}
-use Rattle.history_laws.specs.OrderLaws.{OrdersNameTasks, TakeNumbersAreSmall}
+use Rattle.history_laws.specs.OrderLaws.{AllOrders, OrdersNameTasksFrom, OrdersNameTasks, TakeNumbersAreSmallFrom, TakeNumbersAreSmall}
 use Rattle.history_laws.proofs.OrderLists.{event_orders, close_orders, closed_orders_of-split}
 
 -- ---- a property of each order that an event and the close give
@@ -74,12 +74,13 @@ names-closed_orders_of s history p n ok count legal =
     (names-orders_from s (λ t. 0) history p n ok count legal)
     (all-close (NamesTaskBelow n) (task_on last p) (occupant_below last n (IsState-state_after s history ok legal) (same_count s last (same_tasks-history s history) ∙ count) p) tt))
 
+pub orders_name_tasks-from : OrdersNameTasksFrom
+orders_name_tasks-from s history p ok legal = (names-orders_from s (λ t. 0) history p (task_count s) ok refl legal, names-closed_orders_of s history p (task_count s) ok refl legal)
+
 pub orders_name_tasks : OrdersNameTasks
 orders_name_tasks set history p valid_set legal =
-    let s = start_of set in
-    let ok = IsState-start set valid_set in
-    let count = length-map set.tasks (λ (t : TaskData). t.priority) in
-    (names-orders_from s (λ t. 0) history p (length set.tasks) ok count legal, names-closed_orders_of s history p (length set.tasks) ok count legal)
+    subst (λ (n : ℕ). AllOrders (NamesTaskBelow n) (start_of set) history p) (length-map set.tasks (λ (t : TaskData). t.priority))
+    (orders_name_tasks-from (start_of set) history p (IsState-start set valid_set) legal)
 
 -- ---- numbers of takes
 none_from : (test : ℕ → Bool) (a n : ℕ) → ((q : ℕ) → a ≤ q → test q ≡ false) → length (filter test (range_with_len a n)) ≡ 0
@@ -122,8 +123,8 @@ takes-closed_orders_of s history p ok legal =
     (takes-orders_from s (λ t. 0) history p n ok (λ t. omega arith) legal)
     (all-close (TakesBelow n) last (λ a e. tt) tt))
 
+pub take_numbers_small-from : TakeNumbersAreSmallFrom
+take_numbers_small-from s history p ok legal = (takes-orders_from s (λ t. 0) history p (length history) ok (λ t. omega arith) legal, takes-closed_orders_of s history p ok legal)
+
 pub take_numbers_small : TakeNumbersAreSmall
-take_numbers_small set history p valid_set legal =
-    let s = start_of set in
-    let ok = IsState-start set valid_set in
-    (takes-orders_from s (λ t. 0) history p (length history) ok (λ t. omega arith) legal, takes-closed_orders_of s history p ok legal)
+take_numbers_small set history p valid_set = take_numbers_small-from (start_of set) history p (IsState-start set valid_set)

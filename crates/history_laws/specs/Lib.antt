@@ -1,5 +1,6 @@
 pub mod ImprovingLaw
 pub mod LegalLaw
 pub mod OrderLaws
+pub mod Start
 pub mod StepLaws
 pub mod StintLaw

@@ -2,28 +2,33 @@
 //! is the contract of a function that does nothing: a caller in a proof gets the law by its clause.
 ghost use Rattle.history_laws.specs.ImprovingLaw.{LegalHistoryHasNoImprovingChain};
 ghost use Rattle.history_laws.specs.LegalLaw.{LegalHistoryHasCertificates, LegalHistoryIsBest, LegalHistoryIsMostUrgent};
-ghost use Rattle.history_laws.specs.OrderLaws.{OrdersAreObeyable, OrdersAreFew, OrdersNameTasks, TakeNumbersAreSmall, OrdersOnlyGrow};
+ghost use Rattle.history_laws.specs.OrderLaws.{OrdersAreObeyableFrom, OrdersAreObeyable, OrdersAreFewFrom, OrdersAreFew, OrdersNameTasksFrom, OrdersNameTasks, TakeNumbersAreSmallFrom, TakeNumbersAreSmall, OrdersOnlyGrow};
 ghost use Rattle.history_laws.specs.StepLaws.{StepExists, LegalHistoryExists, LegalHistoryIsUnique};
 ghost use Rattle.history_laws.specs.StintLaw.{StintsGiveContext, StintsAreTakes};
 
-/// Each processor can obey its orders, before the close and after it. Before it, a processor holds its occupant.
+/// Each processor can obey its orders, before the close and after it. Before it, a processor holds its occupant. So it
+/// is from every state in which nobody is ready.
 pub fn orders_are_obeyable()
-    ensures { OrdersAreObeyable }
+    ensures from_start { OrdersAreObeyableFrom }
+    ensures of_set { OrdersAreObeyable }
 {}
 
 /// A processor gets at most two orders for each event, and at most two more at the close.
 pub fn orders_are_few()
-    ensures { OrdersAreFew }
+    ensures from_start { OrdersAreFewFrom }
+    ensures of_set { OrdersAreFew }
 {}
 
 /// Each order that names a task names one of the set.
 pub fn orders_name_tasks()
-    ensures { OrdersNameTasks }
+    ensures from_start { OrdersNameTasksFrom }
+    ensures of_set { OrdersNameTasks }
 {}
 
 /// The number of each take is less than the number of events.
 pub fn take_numbers_are_small()
-    ensures { TakeNumbersAreSmall }
+    ensures from_start { TakeNumbersAreSmallFrom }
+    ensures of_set { TakeNumbersAreSmall }
 {}
 
 /// A processor's orders only grow: what was sent of them stays right, whatever entries follow.

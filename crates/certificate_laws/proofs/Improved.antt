@@ -1,13 +1,17 @@
 -- A task with a certificate has no improving chain: each of its chains ends on the processor of a more urgent task.
-use Rattle.std.proofs.Common.{◌≡◌, ℕ, ◌<◌, Option, Some, None, sym, ap, ◌∙◌, inl, inr, arith}
+use Rattle.std.proofs.Common.{◌≡◌, ℕ, ◌<◌, List, Option, Some, None, sym, ap, ◌∙◌, inl, inr, arith}
 use Rattle.std.proofs.lemmas.Option.{same_Some}
+use Rattle.task_set.specs.TaskSet.{SetData, IsTaskSet}
+use Rattle.scheduler_reply.specs.declared.reply.Entry.{Entry}
 use Rattle.link_table.specs.State.{State, task_on, priority_of}
 use Rattle.link_table.specs.Chain.{IsChainOf}
 use Rattle.link_table.specs.Certificate.{IsCertificate}
+use Rattle.link_table.specs.History.{state_at}
 use Rattle.certificate_laws.specs.Certified.{HasCertificates}
+use Rattle.certificate_laws.specs.Improving.{HasNoImprovingChain, HasNoImprovingChainThroughout}
+use Rattle.certificate_laws.specs.Passing.{IsPassing}
 use Rattle.certificate_laws.proofs.Closed.{IsCertificate-closed, chain_inside}
-use Rattle.certificate_laws.proofs.Kept.{legal_is_certified}
-use Rattle.history_laws.specs.ImprovingLaw.{HasNoImprovingChain, LegalHistoryHasNoImprovingChain}
+use Rattle.certificate_laws.proofs.Kept.{passing_is_certified}
 
 -- where each waiting task has a certificate, no task has an improving chain
 pub no_improving_chain : (s : State) → HasCertificates s → HasNoImprovingChain s
@@ -32,5 +36,5 @@ no_improving_chain s certified t chain improving = elim improving.better [
     occupant : (q : ℕ) → IsChainOf s t chain q → (u : ℕ) × (task_on s q ≡ Some u) × (priority_of s u < priority_of s t)
     occupant q c = let o = certificate.occupied q (chain_inside s set (IsCertificate-closed s t set certificate) t certificate.within chain q c) in (o.0, o.1, o.2)
 
-pub legal_history_has_no_improving_chain : LegalHistoryHasNoImprovingChain
-legal_history_has_no_improving_chain set valid_set history legal n within = no_improving_chain _ (legal_is_certified set valid_set history legal n within).1
+pub passing_has_no_improving_chain : (set : SetData) → IsTaskSet set → (history : List Entry) → IsPassing set history → HasNoImprovingChainThroughout set history
+passing_has_no_improving_chain set valid_set history passing n within = no_improving_chain (state_at set history n) (passing_is_certified set valid_set history passing n within).1
