@@ -4,8 +4,8 @@ use Rattle.certificate_laws.specs.Laws.{LinkedIsBest, LinkedIsLargest, LinkedIsA
 use Rattle.certificate_laws.proofs.Best.{linked_is_best, linked_is_largest}
 use Rattle.certificate_laws.proofs.Ranked.{linked_is_as_urgent}
 use Rattle.sched_core.specs.CoreData.{CoreData, IsCore}
-use Rattle.history_laws.specs.ImprovingLaw.{HasNoImprovingChain}
-use Rattle.history_laws.proofs.StepImproving.{no_improving_chain}
+use Rattle.certificate_laws.specs.Improving.{HasNoImprovingChain}
+use Rattle.certificate_laws.proofs.Improved.{no_improving_chain}
 
 pub core_certified : (core : CoreData) → IsCore core → HasCertificates core.links
 core_certified core kept = kept.certificates

@@ -7,7 +7,7 @@ ghost use Rattle.certificate_laws.specs.Certified.{HasCertificates};
 ghost use Rattle.certificate_laws.specs.Laws.{LinkedIsBest, LinkedIsLargest, LinkedIsAsUrgent};
 ghost use Rattle.certificate_laws.specs.Passing.{IsOfTask};
 ghost use Rattle.sched_core.specs.CoreData.{CoreData, IsCore, Applied, AppliedOrRefused, OnlyMadeRoom, core_orders, max_entries};
-ghost use Rattle.history_laws.specs.ImprovingLaw.{HasNoImprovingChain};
+ghost use Rattle.certificate_laws.specs.Improving.{HasNoImprovingChain};
 
 use crate::fault::CoreFault;
 use crate::order_row::OrderRow;
