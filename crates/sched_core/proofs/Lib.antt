@@ -1,4 +1,5 @@
 pub mod CoreBest
 pub mod CoreEntered
+mod CoreOrders
 pub mod RowLoops
 mod RowsStarted

@@ -1,6 +1,7 @@
 //! The scheduler on one thread.
-ghost use Rattle.std.specs.Prelude.{◌≡◌, ℕ, ◌<◌, ◌≤◌, IfOk, true, false, [], length};
+ghost use Rattle.std.specs.Prelude.{◌≡◌, ℕ, ◌+◌, ◌*◌, ◌<◌, ◌≤◌, All, IfOk, true, false, [], length, if◌then◌else◌};
 ghost use Rattle.std.specs.Result.{OnOk, IsOk};
+ghost use Rattle.task_set.specs.Orders.{IsObeyable, NamesTaskBelow, TakesBelow};
 ghost use Rattle.link_table.specs.State.{task_count, start_of};
 ghost use Rattle.link_table.specs.Step.{SchedulerStep};
 ghost use Rattle.certificate_laws.specs.Certified.{HasCertificates};
@@ -184,10 +185,25 @@ impl Core {
         self.closed
     }
 
-    /// The orders to a processor so far. They are all once the core is closed.
+    /// The orders to a processor so far. They are all once the core is closed. The processor can obey them one by one,
+    /// and they name tasks of the core alone.
     pub fn orders(&self, p: u8) -> &[Order]
         requires { p < self.now.links.processors }
-        ensures { result.now ≡ core_orders self.now p }
+        ensures value { result.now ≡ core_orders self.now p }
+        ensures obeyable { IsObeyable result.now }
+        ensures few { length result.now
+            ≤ 2 * length self.now.history + (if self.now.closed then 2 else 0) }
+        ensures tasks { All (NamesTaskBelow (task_count self.now.links)) result.now }
+        ensures takes { All (TakesBelow (length self.now.history)) result.now }
+    {
+        self.row(p)
+    }
+
+    /// The orders that are stored for a processor.
+    fn row(&self, p: u8) -> &[Order]
+        requires { p < self.now.links.processors }
+        ensures value { result.now ≡ core_orders self.now p }
+        ensures valid { IsCore self.now }
     {
         self.rows[p as usize].orders()
     }
