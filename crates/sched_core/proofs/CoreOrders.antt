@@ -1,6 +1,6 @@
 -- What holds of the orders of every core: a processor can obey them, they are few, and they name tasks of the core, with
 -- numbers of takes below the length of the history.
-use Rattle.std.proofs.Common.{◌≡◌, ℕ, ◌+◌, ◌*◌, ◌≤◌, Bool, true, false, length, arith, if◌then◌else◌, subst, sym}
+use Rattle.std.proofs.Common.{ℕ, ◌+◌, ◌*◌, ◌≤◌, Bool, true, false, length, arith, if◌then◌else◌, subst, sym}
 use Rattle.std.specs.Prelude.{All}
 use Rattle.task_set.specs.Orders.{IsObeyable, NamesTaskBelow, TakesBelow}
 use Rattle.link_table.specs.State.{task_count}

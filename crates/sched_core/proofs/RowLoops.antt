@@ -1,15 +1,11 @@
 -- The rows of orders, as a loop goes over them one by one.
-use Rattle.std.proofs.Common.{◌≡◌, ◌≢◌, ℕ, zero, suc, ◌+◌, ◌<◌, ◌≤◌, Bool, true, false, cond, List, [], ◌∷◌, ◌++◌, length, get_or, filter, set, Option, Some, None, refl, sym, ap, ◌∙◌, subst, inl, inr, arith, if◌then◌else◌}
+use Rattle.std.proofs.Common.{◌≡◌, ◌≢◌, ℕ, zero, suc, ◌+◌, ◌<◌, ◌≤◌, Bool, true, false, cond, List, [], ◌∷◌, ◌++◌, length, filter, set, Option, Some, None, refl, sym, ap, ◌∙◌, subst, inl, inr, arith}
 use Rattle.std.specs.List.{range_with_len}
-use Rattle.std.proofs.lemmas.Bool.{cases_Bool, cases_lt, cases_eq}
+use Rattle.std.proofs.lemmas.Bool.{cases_lt, cases_eq}
 use Rattle.std.proofs.lemmas.List.{map-id, length-append, length-set, get_or-set_same, get_or-set_other}
 use Rattle.std.proofs.lemmas.List.FromFn.{filter_of_map_range_with_len_more}
-use Rattle.task_set.specs.declared.event.Event.{Event}
-use Rattle.task_set.specs.declared.order.Order.{Order}
-use Rattle.link_table.specs.State.{State, IsState, task_on, task_count, is_task}
-use Rattle.link_table.specs.Dispatch.{change_orders, tick_orders}
-use Rattle.link_table.proofs.Linked.{is_task-true}
-use Rattle.sched_core.specs.CoreRows.{RowData, row_at, empty_row, OnlyGrew, RowsOnlyGrew, HasRoomInEach, RowFollows, NumbersBecome, came, came_below}
+use Rattle.link_table.specs.Dispatch.{change_orders}
+use Rattle.sched_core.specs.CoreRows.{RowData, row_at, empty_row, OnlyGrew, RowsOnlyGrew, HasRoomInEach}
 
 -- the rows below n became what they have to, and the others are as they were
 pub record RowsDone (Becomes : ℕ → RowData → RowData → Type 0) (old : List RowData) (n : ℕ) (now : List RowData) : Type 0 where
@@ -117,14 +113,14 @@ pub filtered_count-at : (test other : ℕ → Bool) (x n : ℕ) → x < n → te
 filtered_count-at test other x zero fits fails same = absurd (let no : ⊥ = omega (arith, fits) in no)
 filtered_count-at test other x (suc n) fits fails same = elim (cases_eq x n) [
   | inl last ↦
-        let before = filtered_count-same other test n (λ p below. same p (λ e. absurd (let no : ⊥ = omega (arith, below, last, e) in no))) in
-        let here : cond (test n) 1 0 ≡ cond false 1 0 = ap (λ (b : Bool). cond b 1 0) (ap test (sym last) ∙ fails) in
-        let there : cond (other n) 1 0 ≡ cond (other x) 1 0 = ap (λ (p : ℕ). cond (other p) 1 0) (sym last) in
-        last_one (length (filter other (range_with_len 0 n))) (length (filter test (range_with_len 0 n))) _ _ (cond (other n) 1 0) (cond (test n) 1 0) (cond (other x) 1 0) (filtered_count-suc other n) (filtered_count-suc test n) before here there
+      let before = filtered_count-same other test n (λ p below. same p (λ e. absurd (let no : ⊥ = omega (arith, below, last, e) in no))) in
+      let here : cond (test n) 1 0 ≡ cond false 1 0 = ap (λ (b : Bool). cond b 1 0) (ap test (sym last) ∙ fails) in
+      let there : cond (other n) 1 0 ≡ cond (other x) 1 0 = ap (λ (p : ℕ). cond (other p) 1 0) (sym last) in
+      last_one (length (filter other (range_with_len 0 n))) (length (filter test (range_with_len 0 n))) _ _ (cond (other n) 1 0) (cond (test n) 1 0) (cond (other x) 1 0) (filtered_count-suc other n) (filtered_count-suc test n) before here there
   | inr earlier ↦
-        let before = filtered_count-at test other x n (omega (arith, fits, earlier)) fails same in
-        let here : cond (other n) 1 0 ≡ cond (test n) 1 0 = ap (λ (b : Bool). cond b 1 0) (same n (λ e. earlier (sym e))) in
-        earlier_one (length (filter other (range_with_len 0 n))) (length (filter test (range_with_len 0 n))) _ _ (cond (other n) 1 0) (cond (test n) 1 0) (cond (other x) 1 0) (filtered_count-suc other n) (filtered_count-suc test n) before here
+      let before = filtered_count-at test other x n (omega (arith, fits, earlier)) fails same in
+      let here : cond (other n) 1 0 ≡ cond (test n) 1 0 = ap (λ (b : Bool). cond b 1 0) (same n (λ e. earlier (sym e))) in
+      earlier_one (length (filter other (range_with_len 0 n))) (length (filter test (range_with_len 0 n))) _ _ (cond (other n) 1 0) (cond (test n) 1 0) (cond (other x) 1 0) (filtered_count-suc other n) (filtered_count-suc test n) before here
 ]
   where
     last_one : (a b a' b' here there extra : ℕ) → a' ≡ a + here → b' ≡ b + there → a ≡ b → there ≡ 0 → here ≡ extra → a' ≡ b' + extra

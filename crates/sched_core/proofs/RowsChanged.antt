@@ -1,5 +1,5 @@
 -- The rows of a chain change to their occupants, one by one.
-use Rattle.std.proofs.Common.{◌≡◌, ◌≢◌, ℕ, ◌+◌, ◌<◌, Bool, true, false, not, ◌&&◌, cond, if◌then◌else◌, List, [], ◌∷◌, ◌++◌, length, get_or, filter, set, take, zero, suc, ◌⊎◌, Option, Some, refl, sym, ap, ◌∙◌, subst, inl, inr, arith}
+use Rattle.std.proofs.Common.{◌≡◌, ◌≢◌, ℕ, ◌+◌, ◌<◌, Bool, true, false, not, ◌&&◌, cond, if◌then◌else◌, List, [], ◌∷◌, ◌++◌, length, get_or, set, take, zero, suc, ◌⊎◌, Option, Some, refl, sym, ap, ◌∙◌, subst, inl, inr, arith}
 use Rattle.std.specs.Prelude.{All, Contains, slice_get}
 use Rattle.std.proofs.lemmas.Bool.{cases_Bool, cases_eq}
 use Rattle.std.proofs.lemmas.List.{length-set, get_or-set_same, get_or-set_other, take_more}
@@ -10,7 +10,6 @@ use Rattle.scheduler_reply.specs.declared.reply.Reply.{Reply}
 use Rattle.scheduler_reply.specs.declared.reply.Reply.TheVariants.{Placed, Displaced, Waits, Freed, Left, Ticked, AlreadyReady, NotReady}
 use Rattle.link_table.specs.State.{State, IsState, task_on, is_task}
 use Rattle.link_table.specs.Chain.{IsSimple}
-use Rattle.link_table.specs.Dispatch.{change_orders}
 use Rattle.link_table.proofs.Linked.{is_task-true}
 use Rattle.link_table.proofs.Simple.{Avoids, Avoids-last, Avoids-take}
 use Rattle.sched_core.specs.CoreRows.{RowData, row_at, empty_row, RowChanges, RowChangesIn, RowsChange, NumbersBecome, came, came_between, chain_of}
@@ -113,10 +112,13 @@ module _ (links : State) (ok : IsState links) (chain : List ℕ) (x : ℕ) (old 
       | inl same ↦ rw (same, at_x) (inl (Contains-push chain x, changed))
       | inr other ↦ rw (elsewhere p other) (elim (so_far.each p) [
         | inl there ↦ inl (Contains-append_left chain (x ∷ []) p there.0, there.1)
-        | inr same ↦ inr ((λ there. elim (Contains-push_cases chain x p there) [
-          | inl before ↦ same.0 before
-          | inr here ↦ other (sym here)
-        ]), same.1)
+        | inr same ↦ inr (
+          (λ there. elim (Contains-push_cases chain x p there) [
+            | inl before ↦ same.0 before
+            | inr here ↦ other (sym here)
+          ]),
+          same.1,
+        )
       ])
     ]
 
@@ -124,8 +126,8 @@ module _ (links : State) (ok : IsState links) (chain : List ℕ) (x : ℕ) (old 
     one_more : (t : ℕ) → length (came_between old (set now x row) t) ≡ length (came_between old now t) + cond (came t (row_at now x).held (task_on links x)) 1 0
     one_more t =
         let more = filtered_count-at (λ p. came t (row_at old p).held (row_at now p).held) (λ p. came t (row_at old p).held (row_at (set now x row) p).held) x (length old) fits
-            (rw row_before (came-same t (row_at old x).held))
-            (λ p other. ap (λ (r : RowData). came t (row_at old p).held r.held) (elsewhere p other)) in
+        (rw row_before (came-same t (row_at old x).held))
+        (λ p other. ap (λ (r : RowData). came t (row_at old p).held r.held) (elsewhere p other)) in
         more ∙ ap (λ (b : Bool). length (came_between old now t) + cond b 1 0) (ap (λ (r : RowData). came t (row_at old x).held r.held) at_x ∙ ap (λ (held : Option ℕ). came t (row_at old x).held held) changed.held ∙ ap (λ (r : RowData). came t r.held (task_on links x)) (sym row_before))
 
     pub rows_change-more : RowsChange (chain ++ x ∷ []) links old takes (set now x row) after

@@ -1,15 +1,14 @@
 -- The rows of all processors after an event: those of the reply's chain changed to their occupants, and the others hold
 -- them already.
-use Rattle.std.proofs.Common.{◌≡◌, ℕ, ◌+◌, ◌<◌, Bool, List, [], ◌∷◌, ◌++◌, length, get_or, filter, Option, refl, sym, ap, ◌∙◌, subst, inl, inr, arith, append-nil}
+use Rattle.std.proofs.Common.{◌≡◌, ℕ, ◌+◌, ◌<◌, List, [], ◌++◌, length, get_or, filter, Option, refl, sym, ap, ◌∙◌, subst, inl, inr, arith, append-nil}
 use Rattle.std.specs.Prelude.{Contains}
 use Rattle.std.specs.List.{range_with_len}
 use Rattle.task_set.specs.declared.event.Event.{Event}
 use Rattle.task_set.specs.declared.event.Event.TheVariants.{Arrive, Depart, Tick}
-use Rattle.task_set.specs.declared.order.Order.{Order}
 use Rattle.link_table.specs.State.{State, task_on}
 use Rattle.link_table.specs.Dispatch.{change_orders, tick_orders}
 use Rattle.history_laws.proofs.OrderLists.{change_orders-same}
-use Rattle.sched_core.specs.CoreRows.{RowData, row_at, RowFollows, RowsFollow, RowsRun, RowsChange, HoldOutside, NumbersBecome, came, came_between, came_below}
+use Rattle.sched_core.specs.CoreRows.{RowData, row_at, RowFollows, RowsFollow, RowsRun, RowsChange, HoldOutside, NumbersBecome, came, came_below}
 use Rattle.sched_core.proofs.RowLoops.{filtered_count-none, filtered_count-same}
 use Rattle.sched_core.proofs.RowsChanged.{came-same, nothing_in}
 
@@ -40,7 +39,7 @@ module _ (old new : List RowData) (links : State) (units : ℕ) (held : (p : ℕ
     count = refl;
     each = λ t d fits.
         let none = filtered_count-none (λ p. came t (row_at old p).held (task_on links p)) links.processors
-            (λ p below. ap (came t (row_at old p).held) (sym (held p (rw count below))) ∙ came-same t (row_at old p).held) in
+        (λ p below. ap (came t (row_at old p).held) (sym (held p (rw count below))) ∙ came-same t (row_at old p).held) in
         omega (arith, none);
   }
 
@@ -67,12 +66,12 @@ module _ (chain : List ℕ) (links : State) (old : List RowData) (takes : List �
         | inr same ↦ elim (outside p fits) [
           | inl there ↦ absurd (same.0 there)
           | inr held ↦
-                let none : change_orders number (row_at old p).held (task_on links p) ≡ [] = ap (change_orders number (row_at old p).held) (sym held) ∙ change_orders-same number (row_at old p).held in
-                record {
-                  orders = ap (λ (r : RowData). r.orders) same.1 ∙ rw (no_tick_orders event other (row_at old p).held, none) (sym (append-nil (row_at old p).orders) ∙ sym (append-nil ((row_at old p).orders ++ [])));
-                  held = ap (λ (r : RowData). r.held) same.1 ∙ held;
-                  room = rw same.1 (omega arith);
-                }
+              let none : change_orders number (row_at old p).held (task_on links p) ≡ [] = ap (change_orders number (row_at old p).held) (sym held) ∙ change_orders-same number (row_at old p).held in
+              record {
+                orders = ap (λ (r : RowData). r.orders) same.1 ∙ rw (no_tick_orders event other (row_at old p).held, none) (sym (append-nil (row_at old p).orders) ∙ sym (append-nil ((row_at old p).orders ++ [])));
+                held = ap (λ (r : RowData). r.held) same.1 ∙ held;
+                room = rw same.1 (omega arith);
+              }
         ]
       ]
 

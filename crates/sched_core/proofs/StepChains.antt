@@ -1,5 +1,5 @@
 -- Which occupants a step changes: those of the processors of the reply's chain alone. No processor stands in it twice.
-use Rattle.std.proofs.Common.{◌≡◌, ◌≢◌, ℕ, zero, suc, ◌<◌, ◌⊎◌, List, [], ◌∷◌, length, get_or, map, reverse, Option, Some, None, refl, sym, ap, ◌∙◌, subst, inl, inr, arith, ne_eqb}
+use Rattle.std.proofs.Common.{◌≡◌, ◌≢◌, ℕ, zero, suc, ◌<◌, ◌⊎◌, List, [], ◌∷◌, get_or, map, reverse, Option, Some, None, refl, sym, ap, ◌∙◌, subst, inl, inr, arith, ne_eqb}
 use Rattle.std.specs.Prelude.{All, Contains}
 use Rattle.std.proofs.lemmas.Bool.{cases_eq}
 use Rattle.std.proofs.lemmas.List.{reverse-reverse}
@@ -12,7 +12,7 @@ use Rattle.scheduler_reply.specs.declared.reply.Came.{Came}
 use Rattle.scheduler_reply.specs.declared.reply.Came.TheVariants as came
 use Rattle.scheduler_reply.specs.declared.reply.Reply.{Reply}
 use Rattle.scheduler_reply.specs.declared.reply.Reply.TheVariants.{Placed, Displaced, Waits, Freed, Left, Ticked, AlreadyReady, NotReady}
-use Rattle.scheduler_reply.specs.Reply.{reply_of_came, reply_of_gone, chains_of}
+use Rattle.scheduler_reply.specs.Reply.{reply_of_came, chains_of}
 use Rattle.link_table.specs.State.{State, IsState, task_on, occupant_but, state_with_ready, state_after_leaving}
 use Rattle.link_table.specs.Chain.{IsBackChain, IsSimple, occupant_after_shift, state_after_shift}
 use Rattle.link_table.specs.Step.{SchedulerStep, Comes, EnterStep}

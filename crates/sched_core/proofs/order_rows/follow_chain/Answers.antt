@@ -1,10 +1,7 @@
-use Rattle.std.proofs.Common.{◌≡◌, ◌<◌, ◌≤◌, ◌+◌, ℕ, List, [], ◌∷◌, ◌++◌, length, get_or, take, take_all, sym, ap, ◌∙◌, subst, arith, if◌then◌else◌}
-use Rattle.std.specs.Prelude.{All, Contains}
+use Rattle.std.proofs.Common.{◌≡◌, ◌<◌, ◌+◌, ℕ, List, [], ◌∷◌, ◌++◌, length, get_or, take, take_all, sym, ap, ◌∙◌, subst, arith, if◌then◌else◌}
 use Rattle.std.proofs.lemmas.List.{get_or_default, take_more}
-use Rattle.std.proofs.lemmas.List.Elements.{All-get_or}
 use Rattle.std.proofs.lemmas.Option.{get_or_from_slice_get}
-use Rattle.link_table.specs.State.{State, IsState, task_on, task_count}
-use Rattle.link_table.specs.Chain.{IsSimple}
+use Rattle.link_table.specs.State.{task_on, task_count}
 use Rattle.link_table.proofs.Linked.{linked_number}
 use Rattle.sched_core.specs.CoreRows.{RowData, row_at, empty_row, RowChanges, RowsChange, NumbersBecome, came}
 use Rattle.sched_core.proofs.RowsChanged.{chain_at, is_fresh, number_before, row_before, rows_change-more, rows_change-none}
