@@ -1,7 +1,7 @@
 -- The orders to each processor, as a core keeps them. A row has the orders to one processor so far, the task that the
 -- processor holds after them, and the room for further orders; a row follows an event by the orders of that event, and
 -- then holds the occupant. Where a reply has no chain, or the processor is not in it, the row holds the occupant already.
-use Rattle.std.specs.Prelude.{◌≡◌, ℕ, ◌+◌, ◌<◌, ◌≤◌, Bool, List, [], ◌∷◌, ◌++◌, length, get_or, Option, None, ◌&&◌, not, filter, Contains, ◌⊎◌}
+use Rattle.std.specs.Prelude.{◌≡◌, ℕ, ◌+◌, ◌^◌, ◌<◌, ◌≤◌, Bool, All, List, [], ◌∷◌, ◌++◌, length, get_or, Option, None, ◌&&◌, not, filter, Contains, ◌⊎◌}
 use Rattle.std.specs.List.{range_with_len}
 use Rattle.task_set.specs.declared.event.Event.{Event}
 use Rattle.task_set.specs.declared.event.Event.TheVariants.{Tick}
@@ -9,7 +9,8 @@ use Rattle.task_set.specs.declared.order.Order.{Order}
 use Rattle.task_set.specs.declared.order.Order.TheVariants.{Stop}
 use Rattle.scheduler_reply.specs.declared.reply.Reply.{Reply}
 use Rattle.scheduler_reply.specs.declared.reply.Reply.TheVariants.{Placed, Displaced, Waits, Freed, Left, Ticked, AlreadyReady, NotReady}
-use Rattle.link_table.specs.State.{State, is_task, task_on}
+use Rattle.link_table.specs.State.{State, is_task, task_count, task_on}
+use Rattle.link_table.specs.Chain.{IsSimple}
 use Rattle.link_table.specs.Dispatch.{change_orders, tick_orders, release_of}
 
 -- the orders to one processor so far, the task that it holds after them, and for how many more there is room
@@ -83,6 +84,16 @@ chain_of Left = []
 chain_of Ticked = []
 chain_of AlreadyReady = []
 chain_of NotReady = []
+
+-- no processor stands in the chain twice, each is one of the links, and each row has room for two orders more; the numbers
+-- of takes are those of the tasks of the links, and small
+pub record CanFollow (chain : List ℕ) (links : State) (rows : List RowData) (takes : List ℕ) : Type 0 where
+  pub simple : IsSimple chain
+  pub below : All (λ p. p < links.processors) chain
+  pub one_each : length rows ≡ links.processors
+  pub room : HasRoomInEach 2 rows
+  pub number_each : length takes ≡ task_count links
+  pub small : (t : ℕ) → t < task_count links → get_or takes t 0 < 2 ^ 30
 
 -- the row of each processor outside the chain holds the occupant
 abbrev pub HoldOutside : List ℕ → List RowData → State → Type 0

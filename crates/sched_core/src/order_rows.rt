@@ -1,9 +1,7 @@
 //! The orders to each processor, which follow the links from event to event.
-ghost use Rattle.std.specs.Prelude.{◌≡◌, ℕ, ◌+◌, ◌^◌, ◌<◌, ◌≤◌, All, List, [], length, get_or, vec_len, replicate, IfOk};
+ghost use Rattle.std.specs.Prelude.{◌≡◌, ℕ, ◌+◌, [], length, get_or, replicate, IfOk};
 ghost use Rattle.std.specs.Result.{OnOk};
-ghost use Rattle.link_table.specs.State.{State, task_count};
-ghost use Rattle.link_table.specs.Chain.{IsSimple};
-ghost use Rattle.sched_core.specs.CoreRows.{HasRoomInEach, HoldOutside, RowsOnlyGrew, RowsRun, RowsChange, RowsFollow, RowsClose, NumbersBecome, came_below, chain_of, empty_row, row_at};
+ghost use Rattle.sched_core.specs.CoreRows.{HasRoomInEach, CanFollow, HoldOutside, RowsOnlyGrew, RowsRun, RowsChange, RowsFollow, RowsClose, NumbersBecome, came_below, chain_of, empty_row};
 
 use crate::order_row::OrderRow;
 use affinity_mask::OutOfMemory;
@@ -54,12 +52,7 @@ pub fn follow_links(
     event: Event,
     reply: &Reply,
 )
-    requires processors { vec_len rows.old ≡ links.now.processors }
-    requires tasks { vec_len takes.old ≡ task_count links.now }
-    requires room { HasRoomInEach 2 rows.old.items }
-    requires small { (t : ℕ) → t < task_count links.now → get_or takes.old.items t 0 < 2 ^ 30 }
-    requires chain { All (λ p. p < links.now.processors) (chain_of reply.now) }
-    requires simple { IsSimple (chain_of reply.now) }
+    requires can { CanFollow (chain_of reply.now) links.now rows.old.items takes.old.items }
     requires outside { HoldOutside (chain_of reply.now) rows.old.items links.now }
     requires tick { (units : ℕ) → event ≡ Event.Tick units → chain_of reply.now ≡ [] }
     ensures rows { RowsFollow rows.old.items (λ t. get_or takes.old.items t 0) links.now event rows.new.items }
@@ -85,12 +78,7 @@ fn run_rows(rows: &mut Vec<OrderRow>, units: u32)
 
 /// The rows of a reply's chain change to their occupants. Other replies have no chain.
 fn follow_reply(rows: &mut Vec<OrderRow>, takes: &mut Vec<u32>, links: &Links, reply: &Reply)
-    requires processors { vec_len rows.old ≡ links.now.processors }
-    requires tasks { vec_len takes.old ≡ task_count links.now }
-    requires room { HasRoomInEach 2 rows.old.items }
-    requires small { (t : ℕ) → t < task_count links.now → get_or takes.old.items t 0 < 2 ^ 30 }
-    requires chain { All (λ p. p < links.now.processors) (chain_of reply.now) }
-    requires simple { IsSimple (chain_of reply.now) }
+    requires { CanFollow (chain_of reply.now) links.now rows.old.items takes.old.items }
     ensures { RowsChange (chain_of reply.now) links.now rows.old.items takes.old.items
         rows.new.items takes.new.items }
 {
@@ -104,12 +92,7 @@ fn follow_reply(rows: &mut Vec<OrderRow>, takes: &mut Vec<u32>, links: &Links, r
 
 /// The rows of a chain change to their occupants.
 fn follow_chain(rows: &mut Vec<OrderRow>, takes: &mut Vec<u32>, links: &Links, chain: &Chain)
-    requires processors { vec_len rows.old ≡ links.now.processors }
-    requires tasks { vec_len takes.old ≡ task_count links.now }
-    requires room { HasRoomInEach 2 rows.old.items }
-    requires small { (t : ℕ) → t < task_count links.now → get_or takes.old.items t 0 < 2 ^ 30 }
-    requires chain { All (λ p. p < links.now.processors) chain.now }
-    requires simple { IsSimple chain.now }
+    requires { CanFollow chain.now links.now rows.old.items takes.old.items }
     ensures { RowsChange chain.now links.now rows.old.items takes.old.items
         rows.new.items takes.new.items }
 {

@@ -7,8 +7,7 @@ pub returns-in-Tick-clause-takes : goal.returns-in-Tick-clause-takes
 returns-in-Tick-clause-takes c =
     let old = c.args.rows.now.items in
     let links = c.args.links.now in
-    let count : length old ≡ links.processors = omega (arith, c.requires.processors, c.args.rows.now.ok.0) in
-    numbers_stay old c.run_rows.new.rows.items links c.in-Tick.units (all_hold (chain_of c.args.reply.now) old links (c.requires.tick c.in-Tick.units c.in-Tick.is) c.requires.outside) c.run_rows.ensures c.args.takes.now.items count
+    numbers_stay old c.run_rows.new.rows.items links c.in-Tick.units (all_hold (chain_of c.args.reply.now) old links (c.requires.tick c.in-Tick.units c.in-Tick.is) c.requires.outside) c.run_rows.ensures c.args.takes.now.items c.requires.can.one_each
 
 pub returns-in_default : goal.returns-in_default
 returns-in_default c =
@@ -18,8 +17,7 @@ returns-in_default c =
     let takes = c.args.takes.now.items in
     let counted = c.follow_reply.new.takes.items in
     let links = c.args.links.now in
-    let count : length old ≡ links.processors = omega (arith, c.requires.processors, c.args.rows.now.ok.0) in
     record {
       rows = rows_follow-change chain links old takes new counted c.requires.outside c.follow_reply.ensures c.args.event c.in_default.not-Tick;
-      takes = numbers_follow chain links old takes new counted c.requires.outside c.follow_reply.ensures count;
+      takes = numbers_follow chain links old takes new counted c.requires.outside c.follow_reply.ensures c.requires.can.one_each;
     }

@@ -15,26 +15,26 @@ use Rattle.sched_core.proofs.CoreEntered.{takes_bound, core_entered, core_orders
 use Rattle.link_table.proofs.SameTasks.{same_tasks-step}
 use Rattle.sched_core.proofs.scheduler.Core.enter.Goals as goal
 
-pub follow_links-requires-clause-small : goal.follow_links-requires-clause-small
-follow_links-requires-clause-small c = λ t known.
-    let inside = c.self.inside in
-    let kept = c.self.invariant in
-    let same = same_tasks-step inside.links c.args.event c.reply_to-reply.result c.reply_to-reply.new.links c.reply_to-reply.ensures in
-    let number : t < task_count inside.links = subst (λ (k : ℕ). t < k) (ap length same.priorities) known in
-    let bound = takes_bound inside.start inside.history.items t kept.core.start.processors in
-    omega (arith, kept.takes t number, bound, kept.core.fits)
-
-pub follow_links-requires-clause-chain : goal.follow_links-requires-clause-chain
-follow_links-requires-clause-chain c =
+pub follow_links-requires-clause-can : goal.follow_links-requires-clause-can
+follow_links-requires-clause-can c =
     let inside = c.self.inside in
     let kept = c.self.invariant in
     let reply = c.reply_to-reply.result in
     let new = c.reply_to-reply.new.links in
-    let same = same_tasks-step inside.links c.args.event reply new c.reply_to-reply.ensures in
-    subst (λ (n : ℕ). All (λ p. p < n) (chain_of reply)) (sym same.processors) (step_chain_is_on inside.links c.args.event reply new kept.core.state c.reply_to-reply.ensures)
-
-pub follow_links-requires-clause-simple : goal.follow_links-requires-clause-simple
-follow_links-requires-clause-simple c = step_chain_is_simple c.self.inside.links c.args.event c.reply_to-reply.result c.reply_to-reply.new.links c.self.invariant.core.state c.reply_to-reply.ensures
+    let step = c.reply_to-reply.ensures in
+    let same = same_tasks-step inside.links c.args.event reply new step in
+    let open_before : inside.closed ≡ false = ap (λ (core : CoreData). core.closed) c.self.view_is ∙ c.requires.not_closed in
+    record {
+      simple = step_chain_is_simple inside.links c.args.event reply new kept.core.state step;
+      below = subst (λ (n : ℕ). All (λ p. p < n) (chain_of reply)) (sym same.processors) (step_chain_is_on inside.links c.args.event reply new kept.core.state step);
+      one_each = kept.rows_count ∙ sym same.processors;
+      room = λ p fits. let room = (kept.rows_open open_before p (subst (λ (n : ℕ). p < n) kept.rows_count fits)).room in omega (arith, room);
+      number_each = kept.takes_count ∙ sym (ap length same.priorities);
+      small = λ t known.
+          let number : t < task_count inside.links = subst (λ (k : ℕ). t < k) (ap length same.priorities) known in
+          let bound = takes_bound inside.start inside.history.items t kept.core.start.processors in
+          omega (arith, kept.takes t number, bound, kept.core.fits);
+    }
 
 pub follow_links-requires-clause-outside : goal.follow_links-requires-clause-outside
 follow_links-requires-clause-outside c = λ p fits.
