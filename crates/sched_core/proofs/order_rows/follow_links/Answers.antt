@@ -1,4 +1,3 @@
-use Rattle.std.proofs.Common.{◌≡◌, length, arith}
 use Rattle.sched_core.specs.CoreRows.{chain_of}
 use Rattle.sched_core.proofs.RowsFollowed.{all_hold, numbers_stay, rows_follow-change, numbers_follow}
 use Rattle.sched_core.proofs.order_rows.follow_links.Goals as goal
