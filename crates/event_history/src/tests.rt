@@ -2,6 +2,7 @@
 //! may be made from several threads at once.
 ghost use Rattle.std.specs.Prelude.{◌≡◌, ◌∷◌, [], length};
 ghost use Rattle.certificate_laws.specs.Passing.{IsOfTask};
+ghost use Rattle.link_table.specs.State.{task_count};
 ghost use Rattle.event_history.specs.Boards.{AreAll, Grown};
 
 use crate::{Board, EndFault, Pass, PostFault, Receipt};
@@ -266,6 +267,45 @@ fn two_threads_post(rt: HostRuntime) -> Result<(), Fail> {
     assert_eq!(rt; core.history().len(), 2);
     assert!(rt; stands(core.history(), one, &of_first));
     assert!(rt; stands(core.history(), other, &of_second));
+    Ok(())
+}
+
+/// The core, to which the arrival of the first task was applied.
+fn arrived(mut core: Core) -> Core
+    requires { task_count core.links ≡ 2 }
+{
+    let _place = core.apply(0, Event::Arrive(0));
+    core
+}
+
+/// Two cores, each moved to a thread and back; on the way the first task arrives.
+fn arrived_elsewhere<R: Threads + Wait + Sync>(rt: &R, one: Core, other: Core) -> (Core, Core)
+    requires one { task_count one.links ≡ 2 }
+    requires other { task_count other.links ≡ 2 }
+{
+    thread::join(rt, || arrived(one), || arrived(other))
+}
+
+/// A core that was moved to another thread and back goes on as one that stayed.
+#[test]
+fn cores_move_between_threads(rt: HostRuntime) -> Result<(), Fail> {
+    let mut set = TaskSet::new(rt.alloc(), 2)?;
+    set.add("a", 1, ProcSet::first(2))?;
+    set.add("b", 2, ProcSet::first(1))?;
+    let (one, other) = (Core::new(rt.alloc(), &set)?, Core::new(rt.alloc(), &set)?);
+    assert!(rt; one.links().len() == 2 && other.links().len() == 2);
+    let (mut one, mut other) = arrived_elsewhere(&rt, one, other);
+    for core in [&mut one, &mut other] {
+        assert!(rt; core.links().len() == 2 && core.links().processors() == 2);
+        assert_eq!(rt; core.apply(1, Event::Arrive(1)), Ok(1));
+        core.close_now();
+        assert!(rt; core.links().processors() == 2);
+        let first = Order::Take { task: 0, number: 0 };
+        let second = Order::Take { task: 1, number: 0 };
+        let expected = [first, Order::Release(0), second, Order::Release(1), Order::Stop];
+        assert_eq!(rt; core.orders(0), expected.as_slice());
+        assert_eq!(rt; core.orders(1).len(), 3);
+    }
     Ok(())
 }
 

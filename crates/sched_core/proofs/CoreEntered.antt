@@ -11,6 +11,7 @@ use Rattle.link_table.proofs.Histories.{state_after-push, IsLegalFrom-push, proc
 use Rattle.link_table.proofs.Steps.{reply_gives_new_state, step_keeps_state}
 use Rattle.certificate_laws.specs.Certified.{HasCertificates}
 use Rattle.certificate_laws.proofs.Kept.{step_keeps_certificates}
+use Rattle.history_laws.specs.Start.{NobodyIsReady}
 use Rattle.sched_core.specs.CoreData.{CoreData, IsCore, core_orders, max_entries}
 use Rattle.sched_core.specs.CoreRows.{RowData, row_at, RowFollows, NumbersBecome, came, came_below}
 use Rattle.sched_core.proofs.RowLoops.{filtered_count-bound, filtered_count-same, change_orders-same_number}
@@ -32,9 +33,9 @@ takes_bound s (entry ∷ rest) t few =
     omega (arith, later, here, both, few)
 
 -- what holds of every core holds before any entry
-pub core_started : (s : State) (history : List Entry) → IsState s → HasCertificates s → history ≡ [] → IsCore (record { start = s; history = history; links = s; closed = false; spare = 0 })
-core_started s history ok certificates none =
-    rw none record { start = ok; state = ok; legal = tt; links = refl; certificates = certificates; processors = refl; tasks = refl; fits = omega arith }
+pub core_started : (s : State) (history : List Entry) → IsState s → NobodyIsReady s → HasCertificates s → history ≡ [] → IsCore (record { start = s; history = history; links = s; closed = false; spare = 0 })
+core_started s history ok nobody certificates none =
+    rw none record { start = ok; nobody = nobody; state = ok; legal = tt; links = refl; certificates = certificates; processors = refl; tasks = refl; fits = omega arith }
 
 -- what holds of every core holds after one more entry
 pub core_entered : (old : CoreData) (entry : Entry) (new : State) (spare : ℕ) → IsCore old → SchedulerStep old.links entry.event entry.reply new → length old.history < max_entries
@@ -45,6 +46,7 @@ core_entered old entry new spare kept step room =
     let same = same_tasks-step old.links entry.event entry.reply new step in
     record {
       start = kept.start;
+      nobody = kept.nobody;
       state = step_keeps_state old.links entry.event entry.reply new kept.state step;
       legal = IsLegalFrom-push old.start old.history entry kept.legal (rw (← kept.links, ← now) step);
       links = next ∙ sym (state_after-push old.start old.history entry);

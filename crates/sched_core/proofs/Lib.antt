@@ -1,4 +1,8 @@
 pub mod CoreBest
 pub mod CoreEntered
+mod CoreOrders
 pub mod RowLoops
+mod RowsChanged
+mod RowsFollowed
 mod RowsStarted
+mod StepChains

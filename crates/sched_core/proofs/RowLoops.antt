@@ -1,15 +1,11 @@
 -- The rows of orders, as a loop goes over them one by one.
-use Rattle.std.proofs.Common.{◌≡◌, ℕ, zero, suc, ◌+◌, ◌<◌, ◌≤◌, Bool, true, false, cond, List, [], ◌∷◌, ◌++◌, length, get_or, filter, set, Option, Some, None, refl, sym, ap, ◌∙◌, subst, inl, inr, arith, if◌then◌else◌}
+use Rattle.std.proofs.Common.{◌≡◌, ◌≢◌, ℕ, zero, suc, ◌+◌, ◌<◌, ◌≤◌, Bool, true, false, cond, List, [], ◌∷◌, ◌++◌, length, filter, set, Option, Some, None, refl, sym, ap, ◌∙◌, subst, inl, inr, arith}
 use Rattle.std.specs.List.{range_with_len}
-use Rattle.std.proofs.lemmas.Bool.{cases_Bool, cases_lt, cases_eq}
+use Rattle.std.proofs.lemmas.Bool.{cases_lt, cases_eq}
 use Rattle.std.proofs.lemmas.List.{map-id, length-append, length-set, get_or-set_same, get_or-set_other}
 use Rattle.std.proofs.lemmas.List.FromFn.{filter_of_map_range_with_len_more}
-use Rattle.task_set.specs.declared.event.Event.{Event}
-use Rattle.task_set.specs.declared.order.Order.{Order}
-use Rattle.link_table.specs.State.{State, IsState, task_on, task_count, is_task}
-use Rattle.link_table.specs.Dispatch.{change_orders, tick_orders}
-use Rattle.link_table.proofs.Linked.{is_task-true}
-use Rattle.sched_core.specs.CoreRows.{RowData, row_at, empty_row, OnlyGrew, RowsOnlyGrew, HasRoomInEach, RowFollows, NumbersBecome, came, came_below}
+use Rattle.link_table.specs.Dispatch.{change_orders}
+use Rattle.sched_core.specs.CoreRows.{RowData, row_at, empty_row, OnlyGrew, RowsOnlyGrew, HasRoomInEach}
 
 -- the rows below n became what they have to, and the others are as they were
 pub record RowsDone (Becomes : ℕ → RowData → RowData → Type 0) (old : List RowData) (n : ℕ) (now : List RowData) : Type 0 where
@@ -112,49 +108,28 @@ filtered_count-none test (suc n) none =
     let here : cond (test n) one 0 ≡ 0 = rw (none n (omega arith)) refl in
     omega (arith, more, before, here)
 
--- ---- how often each task was taken
--- before any processor
-pub numbers-none : (rows : List RowData) (links : State) (takes : List ℕ) → NumbersBecome (λ t n. n + length (came_below rows links 0 t)) takes takes
-numbers-none rows links takes = record { count = refl; each = λ t d fits. omega arith }
-
--- one processor more
-pub numbers-more : (rows : List RowData) (links : State) (n : ℕ) (old takes new : List ℕ) (held : Option ℕ) → (row_at rows n).held ≡ held → NumbersBecome (λ t k. k + length (came_below rows links n t)) old takes
-    → NumbersBecome (λ t k. if came t held (task_on links n) then k + 1 else k) takes new
-    → NumbersBecome (λ t k. k + length (came_below rows links (n + 1) t)) old new
-numbers-more rows links n old takes new held same so_far here = record {
-  count = here.count ∙ so_far.count;
-  each = λ t d fits.
-      let before = so_far.each t d fits in
-      let now = here.each t d (rw so_far.count fits) in
-      let more = filtered_count-more (λ p. came t (row_at rows p).held (task_on links p)) n in
-      now ∙ counted t (came t held (task_on links n)) (get_or takes t d) (get_or old t d) before (rw same at more);
-}
+-- tests that agree but at x, where the first one fails
+pub filtered_count-at : (test other : ℕ → Bool) (x n : ℕ) → x < n → test x ≡ false → ((p : ℕ) → p ≢ x → other p ≡ test p) → length (filter other (range_with_len 0 n)) ≡ length (filter test (range_with_len 0 n)) + cond (other x) 1 0
+filtered_count-at test other x zero fits fails same = absurd (let no : ⊥ = omega (arith, fits) in no)
+filtered_count-at test other x (suc n) fits fails same = elim (cases_eq x n) [
+  | inl last ↦
+      let before = filtered_count-same other test n (λ p below. same p (λ e. absurd (let no : ⊥ = omega (arith, below, last, e) in no))) in
+      let here : cond (test n) 1 0 ≡ cond false 1 0 = ap (λ (b : Bool). cond b 1 0) (ap test (sym last) ∙ fails) in
+      let there : cond (other n) 1 0 ≡ cond (other x) 1 0 = ap (λ (p : ℕ). cond (other p) 1 0) (sym last) in
+      last_one (length (filter other (range_with_len 0 n))) (length (filter test (range_with_len 0 n))) _ _ (cond (other n) 1 0) (cond (test n) 1 0) (cond (other x) 1 0) (filtered_count-suc other n) (filtered_count-suc test n) before here there
+  | inr earlier ↦
+      let before = filtered_count-at test other x n (omega (arith, fits, earlier)) fails same in
+      let here : cond (other n) 1 0 ≡ cond (test n) 1 0 = ap (λ (b : Bool). cond b 1 0) (same n (λ e. earlier (sym e))) in
+      earlier_one (length (filter other (range_with_len 0 n))) (length (filter test (range_with_len 0 n))) _ _ (cond (other n) 1 0) (cond (test n) 1 0) (cond (other x) 1 0) (filtered_count-suc other n) (filtered_count-suc test n) before here
+]
   where
-    counted : (t : ℕ) (b : Bool) (k k₀ : ℕ) → k ≡ k₀ + length (came_below rows links n t) → length (came_below rows links (n + 1) t) ≡ length (came_below rows links n t) + cond b 1 0 → (if b then k + 1 else k) ≡ k₀ + length (came_below rows links (n + 1) t)
-    counted t true k k₀ before more = omega (arith, before, more)
-    counted t false k k₀ before more = omega (arith, before, more)
+    last_one : (a b a' b' here there extra : ℕ) → a' ≡ a + here → b' ≡ b + there → a ≡ b → there ≡ 0 → here ≡ extra → a' ≡ b' + extra
+    last_one a b a' b' here there extra e f g h i = omega arith
 
--- no task came to a processor below the one that it is on
-pub none_came : (rows : List RowData) (links : State) (n t : ℕ) → IsState links → task_on links n ≡ Some t → length (came_below rows links n t) ≡ 0
-none_came rows links n t ok on = filtered_count-none (λ p. came t (row_at rows p).held (task_on links p)) n (λ p below. elim (cases_Bool (is_task t (task_on links p))) [
-  | inl there ↦ let same = ok.once p n t (is_task-true t (task_on links p) there) on in absurd (let no : ⊥ = omega (arith, same, below) in no)
-  | inr other ↦ rw other refl
-])
+    earlier_one : (a b a' b' here there extra : ℕ) → a' ≡ a + here → b' ≡ b + there → a ≡ b + extra → here ≡ there → a' ≡ b' + extra
+    earlier_one a b a' b' here there extra e f g h = omega arith
 
 -- the orders at a change name the take of the occupant alone
 pub change_orders-same_number : (takes others : ℕ → ℕ) (held occupant : Option ℕ) → ((t : ℕ) → occupant ≡ Some t → takes t ≡ others t) → change_orders takes held occupant ≡ change_orders others held occupant
 change_orders-same_number takes others held None same = refl
 change_orders-same_number takes others held (Some t) same = rw (same t refl) refl
-
--- ---- a row follows, with the numbers of the takes before the event
-pub row_follows : (rows : List RowData) (links : State) (n : ℕ) (old takes : List ℕ) (row new : RowData) (event : Event) → IsState links → task_count links ≡ length old → ((t : ℕ) → task_on links n ≡ Some t → t < length old)
-    → NumbersBecome (λ t k. k + length (came_below rows links n t)) old takes
-    → RowFollows row (λ t. get_or takes t 0) (task_on links n) event new → RowFollows row (λ t. get_or old t 0) (task_on links n) event new
-row_follows rows links n old takes row new event ok count known so_far follows = record {
-  orders = follows.orders ∙ ap (λ (xs : List Order). row.orders ++ xs ++ tick_orders event row.held) (change_orders-same_number (λ t. get_or takes t 0) (λ t. get_or old t 0) row.held (task_on links n) (λ t on.
-      let number = so_far.each t 0 (known t on) in
-      let none = none_came rows links n t ok on in
-      omega (arith, number, none)));
-  held = follows.held;
-  room = follows.room;
-}

@@ -13,6 +13,7 @@ use Rattle.link_table.specs.History.{IsLegalFrom, state_after}
 use Rattle.link_table.specs.Dispatch.{orders_of, closed_orders_of}
 use Rattle.certificate_laws.specs.Certified.{HasCertificates}
 use Rattle.certificate_laws.specs.Justification.{HasJustification}
+use Rattle.history_laws.specs.Start.{NobodyIsReady}
 use Rattle.sched_core.specs.declared.fault.CoreFault.{CoreFault}
 use Rattle.sched_core.specs.declared.fault.CoreFault.TheVariants.{Closed, Full, OutOfMemory}
 
@@ -29,9 +30,11 @@ pub record CoreData : Type 0 where
 abbrev pub max_entries : ℕ
 max_entries = 20000
 
--- what holds of every core: the history is legal, the links are those after it, and each waiting task has a certificate
+-- what holds of every core: nobody was ready in the state in which it began, the history is legal from there, the links
+-- are those after it, and each waiting task has a certificate
 pub record IsCore (core : CoreData) : Type 0 where
   pub start : IsState core.start
+  pub nobody : NobodyIsReady core.start
   pub state : IsState core.links
   pub legal : IsLegalFrom core.start core.history
   pub links : core.links ≡ state_after core.start core.history

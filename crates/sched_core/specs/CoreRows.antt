@@ -1,12 +1,16 @@
 -- The orders to each processor, as a core keeps them. A row has the orders to one processor so far, the task that the
 -- processor holds after them, and the room for further orders; a row follows an event by the orders of that event, and
--- then holds the occupant.
-use Rattle.std.specs.Prelude.{◌≡◌, ℕ, ◌+◌, ◌<◌, ◌≤◌, Bool, List, [], ◌∷◌, ◌++◌, length, get_or, Option, None, ◌&&◌, not, filter}
+-- then holds the occupant. Where a reply has no chain, or the processor is not in it, the row holds the occupant already.
+use Rattle.std.specs.Prelude.{◌≡◌, ℕ, ◌+◌, ◌^◌, ◌<◌, ◌≤◌, Bool, All, List, [], ◌∷◌, ◌++◌, length, get_or, Option, None, ◌&&◌, not, filter, Contains, ◌⊎◌}
 use Rattle.std.specs.List.{range_with_len}
 use Rattle.task_set.specs.declared.event.Event.{Event}
+use Rattle.task_set.specs.declared.event.Event.TheVariants.{Tick}
 use Rattle.task_set.specs.declared.order.Order.{Order}
 use Rattle.task_set.specs.declared.order.Order.TheVariants.{Stop}
-use Rattle.link_table.specs.State.{State, is_task, task_on}
+use Rattle.scheduler_reply.specs.declared.reply.Reply.{Reply}
+use Rattle.scheduler_reply.specs.declared.reply.Reply.TheVariants.{Placed, Displaced, Waits, Freed, Left, Ticked, AlreadyReady, NotReady}
+use Rattle.link_table.specs.State.{State, is_task, task_count, task_on}
+use Rattle.link_table.specs.Chain.{IsSimple}
 use Rattle.link_table.specs.Dispatch.{change_orders, tick_orders, release_of}
 
 -- the orders to one processor so far, the task that it holds after them, and for how many more there is room
@@ -59,11 +63,61 @@ pub record RowChanges (old : RowData) (takes : ℕ → ℕ) (occupant : Option �
   pub held : new.held ≡ occupant
   pub room : old.room ≤ new.room + 2
 
+-- the row gives the task that is held these units, if one is held
+pub record RowRuns (old : RowData) (units : ℕ) (new : RowData) : Type 0 where
+  pub orders : new.orders ≡ old.orders ++ tick_orders (Tick units) old.held
+  pub held : new.held ≡ old.held
+  pub room : old.room ≤ new.room + 1
+
+-- each row gives the task that is held these units
+pub record RowsRun (old : List RowData) (units : ℕ) (new : List RowData) : Type 0 where
+  pub count : length new ≡ length old
+  pub each : (p : ℕ) → p < length old → RowRuns (row_at old p) units (row_at new p)
+
+-- the chain of a reply, along which occupants changed; it is empty where none did
+abbrev pub chain_of : Reply → List ℕ
+chain_of (Placed chain) = chain
+chain_of (Displaced chain out reach) = chain
+chain_of (Waits reach) = []
+chain_of (Freed entered chain back) = chain
+chain_of Left = []
+chain_of Ticked = []
+chain_of AlreadyReady = []
+chain_of NotReady = []
+
+-- no processor stands in the chain twice, each is one of the links, and each row has room for two orders more; the numbers
+-- of takes are those of the tasks of the links, and small
+pub record CanFollow (chain : List ℕ) (links : State) (rows : List RowData) (takes : List ℕ) : Type 0 where
+  pub simple : IsSimple chain
+  pub below : All (λ p. p < links.processors) chain
+  pub one_each : length rows ≡ links.processors
+  pub room : HasRoomInEach 2 rows
+  pub number_each : length takes ≡ task_count links
+  pub small : (t : ℕ) → t < task_count links → get_or takes t 0 < 2 ^ 30
+
+-- the row of each processor outside the chain holds the occupant
+abbrev pub HoldOutside : List ℕ → List RowData → State → Type 0
+HoldOutside chain rows links = (p : ℕ) → p < length rows → Contains chain p ⊎ ((row_at rows p).held ≡ task_on links p)
+
+-- the processors to which t came between two tables of rows
+abbrev pub came_between : List RowData → List RowData → ℕ → List ℕ
+came_between old new t = filter (λ p. came t (row_at old p).held (row_at new p).held) (range_with_len 0 (length old))
+
+-- a row of the chain changes to its occupant, and any other is as it was
+abbrev pub RowChangesIn : List ℕ → State → (ℕ → ℕ) → ℕ → RowData → RowData → Type 0
+RowChangesIn chain links takes p old new = (Contains chain p × RowChanges old takes (task_on links p) new) ⊎ ((Contains chain p → ⊥) × (new ≡ old))
+
+-- the rows of a chain change to their occupants, and the numbers of takes count on
+pub record RowsChange (chain : List ℕ) (links : State) (old : List RowData) (takes : List ℕ) (new : List RowData) (counted : List ℕ) : Type 0 where
+  pub count : length new ≡ length old
+  pub each : (p : ℕ) → RowChangesIn chain links (λ t. get_or takes t 0) p (row_at old p) (row_at new p)
+  pub takes_more : NumbersBecome (λ t n. n + length (came_between old new t)) takes counted
+
 -- the row follows an event after which this is the occupant, with these numbers of takes before it
 pub record RowFollows (old : RowData) (takes : ℕ → ℕ) (occupant : Option ℕ) (event : Event) (new : RowData) : Type 0 where
   pub orders : new.orders ≡ old.orders ++ change_orders takes old.held occupant ++ tick_orders event old.held
   pub held : new.held ≡ occupant
-  pub room : old.room ≤ new.room + 3
+  pub room : old.room ≤ new.room + 2
 
 -- each row follows an event after which these are the links
 pub record RowsFollow (old : List RowData) (takes : ℕ → ℕ) (links : State) (event : Event) (new : List RowData) : Type 0 where

@@ -22,7 +22,7 @@ core_view a = record {
 -- while the core is open, p holds its occupant, and its row has room for the entries and the close
 pub record RowIsOpen (a : Inside) (p : ℕ) : Type 0 where
   pub held : (row_at a.rows.items p).held ≡ task_on a.links p
-  pub room : 3 * a.spare + 2 ≤ (row_at a.rows.items p).room
+  pub room : 2 * a.spare + 2 ≤ (row_at a.rows.items p).room
 
 -- what is stored beside the history is what the history gives
 pub record IsKept (a : Inside) : Type 0 where

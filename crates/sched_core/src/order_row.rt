@@ -6,7 +6,7 @@ ghost use Rattle.std.specs.Option.{ForSome};
 use affinity_mask::OutOfMemory;
 use std::alloc::Global;
 use std::marker::Model;
-use task_set::{Event, Order};
+use task_set::Order;
 
 /// The orders to one processor so far, and the task that it holds after them.
 #[derive(Drop)]
@@ -26,7 +26,7 @@ impl Model for OrderRow {
 }
 
 impl OrderRow {
-    ghost use Rattle.sched_core.specs.CoreRows.{OnlyGrew, RowReleases, RowChanges, RowFollows, RowCloses, NumbersBecome, came, empty_row};
+    ghost use Rattle.sched_core.specs.CoreRows.{OnlyGrew, RowReleases, RowChanges, RowRuns, RowCloses, NumbersBecome, came, empty_row};
 
     /// No orders, and nobody held. It takes no memory.
     pub fn new(alloc: Global) -> OrderRow
@@ -62,25 +62,9 @@ impl OrderRow {
         self.orders.push_reserved(order);
     }
 
-    /// The orders of an event after which this is the occupant. `takes` says how often each task was taken, and counts
-    /// on.
-    pub fn follow(&mut self, takes: &mut Vec<u32>, occupant: Option<u32>, event: Event)
-        requires room { 3 ≤ self.old.room }
-        requires known { ForSome occupant (λ t. t < vec_len takes.old) }
-        requires small { ForSome occupant (λ t. get_or takes.old.items t 0 < 2 ^ 31) }
-        ensures row { RowFollows self.old (λ t. get_or takes.old.items t 0) occupant event self.new }
-        ensures takes { NumbersBecome (λ t n. if came t self.old.held occupant then n + 1 else n)
-            takes.old.items takes.new.items }
-    {
-        let held = self.held;
-        self.change(takes, occupant);
-        if let (Event::Tick(units), Some(_)) = (event, held) {
-            self.push(Order::Run(units));
-        }
-    }
-
-    /// Where the occupant is another than the task that is held, that one is released, and the occupant taken.
-    fn change(&mut self, takes: &mut Vec<u32>, occupant: Option<u32>)
+    /// Where the occupant is another than the task that is held, that one is released, and the occupant taken. `takes`
+    /// says how often each task was taken, and counts on.
+    pub fn change(&mut self, takes: &mut Vec<u32>, occupant: Option<u32>)
         requires room { 2 ≤ self.old.room }
         requires known { ForSome occupant (λ t. t < vec_len takes.old) }
         requires small { ForSome occupant (λ t. get_or takes.old.items t 0 < 2 ^ 31) }
@@ -98,6 +82,16 @@ impl OrderRow {
             takes[task as usize] = number + 1;
         }
         self.held = occupant;
+    }
+
+    /// The task that is held, if one is, runs for these units.
+    pub fn run(&mut self, units: u32)
+        requires { 1 ≤ self.old.room }
+        ensures { RowRuns self.old units self.new }
+    {
+        if self.held.is_some() {
+            self.push(Order::Run(units));
+        }
     }
 
     /// The task that is held, if one is, is released, and nobody is held.

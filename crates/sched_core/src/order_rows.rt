@@ -1,12 +1,11 @@
 //! The orders to each processor, which follow the links from event to event.
-ghost use Rattle.std.specs.Prelude.{◌≡◌, ℕ, ◌+◌, ◌^◌, ◌<◌, ◌≤◌, List, length, get_or, vec_len, replicate, IfOk};
+ghost use Rattle.std.specs.Prelude.{◌≡◌, ℕ, ◌+◌, [], length, get_or, replicate, IfOk};
 ghost use Rattle.std.specs.Result.{OnOk};
-ghost use Rattle.link_table.specs.State.{State, task_count};
-ghost use Rattle.sched_core.specs.CoreRows.{HasRoomInEach, RowsOnlyGrew, RowsFollow, RowsClose, NumbersBecome, came_below, empty_row, row_at};
+ghost use Rattle.sched_core.specs.CoreRows.{HasRoomInEach, CanFollow, HoldOutside, RowsOnlyGrew, RowsRun, RowsChange, RowsFollow, RowsClose, NumbersBecome, came_below, chain_of, empty_row};
 
 use crate::order_row::OrderRow;
 use affinity_mask::OutOfMemory;
-use link_table::Links;
+use link_table::{Chain, Links, Reply};
 use std::alloc::Global;
 use task_set::Event;
 
@@ -43,18 +42,63 @@ pub fn reserve_rows(rows: &mut Vec<OrderRow>, room: usize) -> Result<(), OutOfMe
     Ok(())
 }
 
-/// The orders of an event that led to these links. `takes` says how often each task was taken, and counts on.
-pub fn follow_links(rows: &mut Vec<OrderRow>, takes: &mut Vec<u32>, links: &Links, event: Event)
-    requires processors { vec_len rows.old ≡ links.now.processors }
-    requires tasks { vec_len takes.old ≡ task_count links.now }
-    requires room { HasRoomInEach 3 rows.old.items }
-    requires small { (t : ℕ) → t < task_count links.now → get_or takes.old.items t 0 < 2 ^ 30 }
+/// The orders of an event that led to these links. Only the processors of the reply's chain may have another occupant,
+/// so no other row is looked at, but for a tick, at which each task that is held runs. `takes` says how often each task
+/// was taken, and counts on.
+pub fn follow_links(
+    rows: &mut Vec<OrderRow>,
+    takes: &mut Vec<u32>,
+    links: &Links,
+    event: Event,
+    reply: &Reply,
+)
+    requires can { CanFollow (chain_of reply.now) links.now rows.old.items takes.old.items }
+    requires outside { HoldOutside (chain_of reply.now) rows.old.items links.now }
+    requires tick { (units : ℕ) → event ≡ Event.Tick units → chain_of reply.now ≡ [] }
     ensures rows { RowsFollow rows.old.items (λ t. get_or takes.old.items t 0) links.now event rows.new.items }
     ensures takes { NumbersBecome (λ t n. n + length (came_below rows.old.items links.now links.now.processors t))
         takes.old.items takes.new.items }
 {
-    for p in 0..links.processors() {
-        rows[p as usize].follow(takes, links.on(p), event);
+    if let Event::Tick(units) = event {
+        run_rows(rows, units);
+    } else {
+        follow_reply(rows, takes, links, reply);
+    }
+}
+
+/// Each task that is held runs for these units.
+fn run_rows(rows: &mut Vec<OrderRow>, units: u32)
+    requires { HasRoomInEach 1 rows.old.items }
+    ensures { RowsRun rows.old.items units rows.new.items }
+{
+    for p in 0..rows.len() {
+        rows[p].run(units);
+    }
+}
+
+/// The rows of a reply's chain change to their occupants. Other replies have no chain.
+fn follow_reply(rows: &mut Vec<OrderRow>, takes: &mut Vec<u32>, links: &Links, reply: &Reply)
+    requires { CanFollow (chain_of reply.now) links.now rows.old.items takes.old.items }
+    ensures { RowsChange (chain_of reply.now) links.now rows.old.items takes.old.items
+        rows.new.items takes.new.items }
+{
+    match reply {
+        Reply::Placed { chain } => follow_chain(rows, takes, links, chain),
+        Reply::Displaced { chain, .. } => follow_chain(rows, takes, links, chain),
+        Reply::Freed { chain, .. } => follow_chain(rows, takes, links, chain),
+        _ => {}
+    }
+}
+
+/// The rows of a chain change to their occupants.
+fn follow_chain(rows: &mut Vec<OrderRow>, takes: &mut Vec<u32>, links: &Links, chain: &Chain)
+    requires { CanFollow chain.now links.now rows.old.items takes.old.items }
+    ensures { RowsChange chain.now links.now rows.old.items takes.old.items
+        rows.new.items takes.new.items }
+{
+    for i in 0..chain.len() {
+        let p = chain.at(i);
+        rows[p as usize].change(takes, links.on(p));
     }
 }
 

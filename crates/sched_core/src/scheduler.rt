@@ -1,6 +1,7 @@
 //! The scheduler on one thread.
-ghost use Rattle.std.specs.Prelude.{◌≡◌, ℕ, ◌<◌, ◌≤◌, IfOk, true, false, [], length};
-ghost use Rattle.std.specs.Result.{OnOk, IsOk};
+ghost use Rattle.std.specs.Prelude.{◌≡◌, ℕ, ◌+◌, ◌*◌, ◌<◌, ◌≤◌, All, IfOk, true, false, [], length, if◌then◌else◌};
+ghost use Rattle.std.specs.Result.{OnOk, OnErr, IsOk};
+ghost use Rattle.task_set.specs.Orders.{IsObeyable, NamesTaskBelow, TakesBelow};
 ghost use Rattle.link_table.specs.State.{task_count, start_of};
 ghost use Rattle.link_table.specs.Step.{SchedulerStep};
 ghost use Rattle.certificate_laws.specs.Certified.{HasCertificates};
@@ -21,6 +22,9 @@ use task_shift::{arrive, depart};
 
 /// A history has at most so many entries.
 pub const MAX_ENTRIES: usize = 20_000;
+
+/// Room is made for so many entries at a time, so that most events take no memory.
+const ENTRIES_AT_ONCE: usize = 64;
 
 /// The history of the events applied so far, the links after it, and the orders that it gives each processor.
 #[derive(Drop)]
@@ -79,18 +83,36 @@ impl Core {
         })
     }
 
-    /// Makes room for an entry, so that the next `apply` is not refused for lack of memory. Nothing else changes.
+    /// Makes room for an entry, so that the next `apply` is not refused for lack of memory. Nothing else changes. Room is
+    /// made for many entries where it can be, and for one where memory is short.
     pub fn reserve(&mut self) -> Result<(), OutOfMemory>
         ensures kept { OnlyMadeRoom self.old self.new }
         ensures valid { IsCore self.new }
         ensures ok { OnOk result (1 ≤ self.new.spare) }
         ensures spare { 1 ≤ self.old.spare → IsOk result }
     {
-        if self.spare == 0 {
-            reserve_rows(&mut self.rows, 5)?;
-            self.history.reserve(1)?;
-            self.spare = 1;
+        if self.spare > 0 {
+            return Ok(());
         }
+        match self.make_room(ENTRIES_AT_ONCE) {
+            Ok(()) => Ok(()),
+            Err(OutOfMemory) => self.make_room(1),
+        }
+    }
+
+    /// Makes room for so many entries, where there is no room for any: for each of them in the history, and in each row
+    /// for its orders, besides the room for the orders of the close.
+    fn make_room(&mut self, entries: usize) -> Result<(), OutOfMemory>
+        requires none { self.old.spare ≡ 0 }
+        requires few { entries ≤ 64 }
+        ensures kept { OnlyMadeRoom self.old self.new }
+        ensures refused { OnErr result (self.new ≡ self.old) }
+        ensures valid { IsCore self.new }
+        ensures ok { OnOk result (self.new.spare ≡ entries) }
+    {
+        reserve_rows(&mut self.rows, 2 * entries + 2)?;
+        self.history.reserve(entries)?;
+        self.spare = entries;
         Ok(())
     }
 
@@ -142,7 +164,7 @@ impl Core {
         ensures valid { IsCore self.new }
     {
         let reply = reply_to(&mut self.links, event);
-        follow_links(&mut self.rows, &mut self.takes, &self.links, event);
+        follow_links(&mut self.rows, &mut self.takes, &self.links, event, &reply);
         self.history.push_reserved(Entry {
             caller,
             event,
@@ -184,10 +206,25 @@ impl Core {
         self.closed
     }
 
-    /// The orders to a processor so far. They are all once the core is closed.
+    /// The orders to a processor so far. They are all once the core is closed. The processor can obey them one by one,
+    /// and they name tasks of the core alone.
     pub fn orders(&self, p: u8) -> &[Order]
         requires { p < self.now.links.processors }
-        ensures { result.now ≡ core_orders self.now p }
+        ensures value { result.now ≡ core_orders self.now p }
+        ensures obeyable { IsObeyable result.now }
+        ensures few { length result.now
+            ≤ 2 * length self.now.history + (if self.now.closed then 2 else 0) }
+        ensures tasks { All (NamesTaskBelow (task_count self.now.links)) result.now }
+        ensures takes { All (TakesBelow (length self.now.history)) result.now }
+    {
+        self.row(p)
+    }
+
+    /// The orders that are stored for a processor.
+    fn row(&self, p: u8) -> &[Order]
+        requires { p < self.now.links.processors }
+        ensures value { result.now ≡ core_orders self.now p }
+        ensures valid { IsCore self.now }
     {
         self.rows[p as usize].orders()
     }

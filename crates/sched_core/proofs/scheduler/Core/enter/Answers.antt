@@ -1,4 +1,5 @@
-use Rattle.std.proofs.Common.{◌≡◌, ℕ, ◌-◌, ◌<◌, ◌≤◌, List, length, get_or, false, refl, sym, ap, ◌∙◌, subst, arith}
+use Rattle.std.proofs.Common.{◌≡◌, ℕ, ◌-◌, ◌<◌, ◌≤◌, List, length, get_or, false, refl, sym, ap, ◌∙◌, subst, inl, inr, arith}
+use Rattle.std.specs.Prelude.{All}
 use Rattle.scheduler_reply.specs.declared.reply.Entry.{Entry}
 use Rattle.link_table.specs.State.{IsState, task_count}
 use Rattle.link_table.specs.History.{effect_of}
@@ -8,19 +9,46 @@ use Rattle.link_table.proofs.Steps.{reply_gives_new_state, step_keeps_state}
 use Rattle.certificate_laws.proofs.Kept.{step_has_justification}
 use Rattle.sched_core.specs.CoreData.{CoreData, IsCore, Applied, entry_of, max_entries}
 use Rattle.sched_core.specs.CoreView.{core_view}
-use Rattle.sched_core.specs.CoreRows.{row_at}
+use Rattle.sched_core.specs.CoreRows.{row_at, chain_of}
+use Rattle.sched_core.proofs.StepChains.{step_chain_is_on, step_chain_is_simple, step_stays, tick_has_no_chain}
 use Rattle.sched_core.proofs.CoreEntered.{takes_bound, core_entered, core_orders-open, orders_entered, takes_entered}
 use Rattle.link_table.proofs.SameTasks.{same_tasks-step}
 use Rattle.sched_core.proofs.scheduler.Core.enter.Goals as goal
 
-pub follow_links-requires-clause-small : goal.follow_links-requires-clause-small
-follow_links-requires-clause-small c = λ t known.
+pub follow_links-requires-clause-can : goal.follow_links-requires-clause-can
+follow_links-requires-clause-can c =
     let inside = c.self.inside in
     let kept = c.self.invariant in
-    let same = same_tasks-step inside.links c.args.event c.reply_to-reply.result c.reply_to-reply.new.links c.reply_to-reply.ensures in
-    let number : t < task_count inside.links = subst (λ (k : ℕ). t < k) (ap length same.priorities) known in
-    let bound = takes_bound inside.start inside.history.items t kept.core.start.processors in
-    omega (arith, kept.takes t number, bound, kept.core.fits)
+    let reply = c.reply_to-reply.result in
+    let new = c.reply_to-reply.new.links in
+    let step = c.reply_to-reply.ensures in
+    let same = same_tasks-step inside.links c.args.event reply new step in
+    let open_before : inside.closed ≡ false = ap (λ (core : CoreData). core.closed) c.self.view_is ∙ c.requires.not_closed in
+    record {
+      simple = step_chain_is_simple inside.links c.args.event reply new kept.core.state step;
+      below = subst (λ (n : ℕ). All (λ p. p < n) (chain_of reply)) (sym same.processors) (step_chain_is_on inside.links c.args.event reply new kept.core.state step);
+      one_each = kept.rows_count ∙ sym same.processors;
+      room = λ p fits. let room = (kept.rows_open open_before p (subst (λ (n : ℕ). p < n) kept.rows_count fits)).room in omega (arith, room);
+      number_each = kept.takes_count ∙ sym (ap length same.priorities);
+      small = λ t known.
+          let number : t < task_count inside.links = subst (λ (k : ℕ). t < k) (ap length same.priorities) known in
+          let bound = takes_bound inside.start inside.history.items t kept.core.start.processors in
+          omega (arith, kept.takes t number, bound, kept.core.fits);
+    }
+
+pub follow_links-requires-clause-outside : goal.follow_links-requires-clause-outside
+follow_links-requires-clause-outside c = λ p fits.
+    let inside = c.self.inside in
+    let kept = c.self.invariant in
+    let open_before : inside.closed ≡ false = ap (λ (core : CoreData). core.closed) c.self.view_is ∙ c.requires.not_closed in
+    let below : p < inside.links.processors = subst (λ (n : ℕ). p < n) kept.rows_count fits in
+    elim (step_stays inside.links c.args.event c.reply_to-reply.result c.reply_to-reply.new.links kept.core.state c.reply_to-reply.ensures p below) [
+      | inl there ↦ inl there
+      | inr stays ↦ inr ((kept.rows_open open_before p below).held ∙ sym stays)
+    ]
+
+pub follow_links-requires-clause-tick : goal.follow_links-requires-clause-tick
+follow_links-requires-clause-tick c = tick_has_no_chain c.self.inside.links c.args.event c.reply_to-reply.result c.reply_to-reply.new.links c.reply_to-reply.ensures
 
 pub invariant_of-self : goal.invariant_of-self
 invariant_of-self c =

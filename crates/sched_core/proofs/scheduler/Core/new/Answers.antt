@@ -3,6 +3,8 @@ use Rattle.std.proofs.lemmas.List.{length-replicate}
 use Rattle.link_table.specs.State.{State}
 use Rattle.certificate_laws.specs.Certified.{HasCertificates}
 use Rattle.certificate_laws.proofs.Kept.{HasCertificates-start}
+use Rattle.history_laws.specs.Start.{NobodyIsReady}
+use Rattle.history_laws.proofs.Starts.{nobody_ready}
 use Rattle.sched_core.specs.CoreView.{IsKept}
 use Rattle.sched_core.proofs.CoreEntered.{core_started}
 use Rattle.sched_core.proofs.RowsStarted.{rows_counted, rows_say_nothing, nobody_is_held, never_taken}
@@ -20,7 +22,7 @@ invariant_of-result c =
     let rows = c.reserve_rows.new.rows.items in
     subst (λ (s : State). IsKept (record { start = s; history = c.new-3.result; links = links; closed = false; rows = c.reserve_rows.new.rows; takes = c.in_ok-takes.takes; spare = 0 })) same
     record {
-      core = core_started links c.new-3.result.items c.processors.ensures.valid (subst HasCertificates (sym c.in_ok-links.ensures) (HasCertificates-start c.args.set.now)) none;
+      core = core_started links c.new-3.result.items c.processors.ensures.valid (subst NobodyIsReady (sym c.in_ok-links.ensures) (nobody_ready c.args.set.now)) (subst HasCertificates (sym c.in_ok-links.ensures) (HasCertificates-start c.args.set.now)) none;
       rows_count = rows_counted count made rows c.in_ok-rows.ensures c.reserve_rows.ensures.grew ∙ processors;
       takes_count = ap length c.in_ok-takes.ensures ∙ length-replicate c.len.result 0 ∙ c.len.ensures.value;
       orders = λ p lt. rows_say_nothing count made rows c.in_ok-rows.ensures c.reserve_rows.ensures.grew links c.new-3.result.items none p (rw processors lt);
