@@ -1,3 +1,4 @@
+mod Entries
 pub mod Known
 pub mod LegalNames
 pub mod Running

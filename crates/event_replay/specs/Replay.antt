@@ -9,7 +9,6 @@ use Rattle.link_table.specs.State.{start_of}
 use Rattle.link_table.specs.History.{IsLegal}
 use Rattle.link_table.specs.Dispatch.{context_of}
 use Rattle.certificate_laws.specs.Passing.{IsOfTask}
-use Rattle.sched_core.specs.CoreData.{CoreData, Applied}
 use Rattle.trace_reader.specs.declared.posted.Posted.{Posted}
 
 -- the contexts that a history gives the tasks of a set, in their order
@@ -19,10 +18,6 @@ contexts_of set history = map (context_of (start_of set) history) (range_with_le
 -- the posted event is of a task of the set, or of none
 abbrev pub IsKnown : SetData → Posted → Type 0
 IsKnown set posted = IsOfTask (length set.tasks) posted.event
-
--- the posted event was applied to a core, on its stream
-abbrev pub IsPosted : CoreData → Posted → CoreData → Type 0
-IsPosted old posted new = (place : ℕ) × Applied old posted.stream posted.event place new
 
 -- the event that an entry is of, on its stream
 abbrev pub posted_of : Entry → Posted

@@ -1,12 +1,12 @@
 //! What the scheduler does at each of the events, and what the tasks have then run.
-ghost use Rattle.std.specs.Prelude.{◌≡◌, ◌<◌, ◌≤◌, IfOk, OnOk, All, length, true, false};
+ghost use Rattle.std.specs.Prelude.{◌≡◌, ◌<◌, ◌≤◌, IfOk, All, length, true, false};
 ghost use Rattle.link_table.specs.State.{start_of, task_count};
-ghost use Rattle.event_replay.specs.Replay.{IsKnown, IsPosted, Schedules};
+ghost use Rattle.event_replay.specs.Replay.{IsKnown, Schedules};
 ghost use Rattle.certificate_laws.specs.Passing.{IsOfTask};
-ghost use Rattle.sched_core.specs.CoreData.{max_entries};
+ghost use Rattle.sched_core.specs.CoreData.{Applied, max_entries};
 
 use affinity_mask::OutOfMemory;
-use reach_certificate::{Occupants, follow, fresh_contexts};
+use reach_certificate::{follow, fresh_contexts};
 use sched_core::{Core, CoreFault};
 use std::alloc::Global;
 use task_set::{Context, TaskSet};
@@ -34,23 +34,24 @@ pub fn schedule_of(alloc: Global, set: &TaskSet, events: &[Posted]) -> Result<Sc
     let mut core = Core::new(alloc, set)?;
     let mut contexts = fresh_contexts(alloc, set.len())?;
     for posted in events {
-        let before = Occupants::of(core.links());
-        enter(&mut core, *posted)?;
-        follow(&mut contexts, &before, core.links(), posted.event);
+        let place = enter(&mut core, *posted)?;
+        follow(&mut contexts, core.links(), &core.history()[place]);
     }
     core.close_now();
     Ok(Schedule { core, contexts })
 }
 
-/// Applies an event to a core that is open and not full. `Err` says that the memory was out.
-fn enter(core: &mut Core, posted: Posted) -> Result<(), OutOfMemory>
+/// Applies an event to a core that is open and not full, and answers the place of its entry. `Err` says that the memory
+/// was out.
+fn enter(core: &mut Core, posted: Posted) -> Result<usize, OutOfMemory>
     requires known { IsOfTask (task_count core.old.links) posted.event }
     requires not_closed { core.old.closed ≡ false }
     requires not_full { length core.old.history < max_entries }
-    ensures { OnOk result (IsPosted core.old posted core.new) }
+    ensures { IfOk result (λ place.
+        Applied core.old posted.stream posted.event place core.new) }
 {
     match core.apply(posted.stream, posted.event) {
-        Ok(_) => Ok(()),
+        Ok(place) => Ok(place as usize),
         Err(CoreFault::OutOfMemory) => Err(OutOfMemory),
         Err(CoreFault::Closed | CoreFault::Full) => unreachable!(),
     }

@@ -7,11 +7,10 @@ use Rattle.scheduler_reply.specs.declared.reply.Entry.{Entry}
 use Rattle.link_table.specs.State.{State, IsState, task_count, task_on}
 use Rattle.link_table.specs.Dispatch.{taken_between, places_of, tick_runs}
 use Rattle.link_table.specs.History.{effect_of}
-use Rattle.link_table.proofs.Linked.{linked_number}
 use Rattle.link_table.proofs.SameTasks.{same_tasks-effect, same_count}
 use Rattle.certificate_laws.specs.Certified.{HasCertificates}
 use Rattle.reach_certificate.specs.Checker.{CheckerData, IsChecker}
-use Rattle.reach_certificate.specs.Contexts.{context_after_takes, context_after_all_runs, context_after_entry, EachBecomes, WereOn}
+use Rattle.reach_certificate.specs.Contexts.{context_after_takes, context_after_all_runs, context_after_entry, EachBecomes}
 use Rattle.certificate_laws.specs.Laws.{LinkedIsBest}
 use Rattle.certificate_laws.specs.Passing.{Passes}
 use Rattle.certificate_laws.proofs.Best.{linked_is_best}
@@ -32,18 +31,8 @@ entry_keeps_task old new event t c =
 
 -- ---- an entry that passes
 module _ (old : CheckerData) (checker : IsChecker old) (entry : Entry) (passes : Passes old.links entry.event entry.reply) (links : State) (effect : links ≡ effect_of old.links entry) where
-  tasks_same : task_count links ≡ task_count old.links
+  pub tasks_same : task_count links ≡ task_count old.links
   tasks_same = ap task_count effect ∙ same_count old.links (effect_of old.links entry) (same_tasks-effect old.links entry)
-
-  -- the occupants before the entry
-  pub occupants_known : (p t : ℕ) → task_on old.links p ≡ Some t → t < task_count links
-  occupants_known p t on = let number = linked_number old.links p t checker.state on in let same = tasks_same in omega arith
-
-  pub occupants_were : (before : List (Option ℕ)) → before ≡ old.links.on → WereOn before old.links links
-  occupants_were before e = record {
-    on = sym e;
-    processors = sym (ap (λ (s : State). s.processors) effect ∙ (same_tasks-effect old.links entry).processors);
-  }
 
   certificates_kept : HasCertificates links
   certificates_kept = subst HasCertificates (sym effect) (passing_keeps_certificates old.links entry.event entry.reply checker.state checker.certificates passes)

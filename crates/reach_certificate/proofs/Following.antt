@@ -1,31 +1,40 @@
--- How contexts follow the occupants, processor by processor.
-use Rattle.std.proofs.Common.{◌≡◌, ℕ, ◌+◌, Bool, true, false, not, ◌&&◌, cond, List, [], ◌∷◌, ◌++◌, get_or, map, filter, Option, None, refl, sym, ap, ◌∙◌, arith, if◌then◌else◌}
+-- How contexts follow the links, processor by processor.
+use Rattle.std.proofs.Common.{◌≡◌, ℕ, ◌+◌, ◌<◌, ◌≤◌, Bool, true, false, cond, List, [], ◌∷◌, ◌++◌, length, get_or, map, filter, take, Some, None, refl, sym, ap, ◌∙◌, arith, if◌then◌else◌}
+use Rattle.std.specs.Prelude.{slice_get}
 use Rattle.std.specs.List.{range_with_len, fold}
-use Rattle.std.proofs.lemmas.List.{map-id}
+use Rattle.std.proofs.lemmas.List.{map-id, take_all}
+use Rattle.std.proofs.lemmas.List.Elements.{filter_more}
 use Rattle.std.proofs.lemmas.List.Folds.{fold-map}
 use Rattle.std.proofs.lemmas.List.FromFn.{filter_of_map_range_with_len_more}
 use Rattle.std.proofs.lemmas.List.Sums.{fold-append}
+use Rattle.std.proofs.lemmas.Option.{get_or_from_slice_get}
 use Rattle.task_set.specs.Context.{context_after_take, context_after_run}
 use Rattle.task_set.specs.declared.context.Context.{Context}
 use Rattle.task_set.specs.declared.event.Event.{Event}
 use Rattle.task_set.specs.declared.event.Event.TheVariants.{Arrive, Depart, Tick}
-use Rattle.link_table.specs.State.{State, is_task}
+use Rattle.scheduler_reply.specs.declared.reply.Reply.{Reply}
+use Rattle.scheduler_reply.specs.declared.reply.Entry.{Entry}
+use Rattle.link_table.specs.State.{State, IsState, is_task, task_on}
 use Rattle.link_table.specs.Dispatch.{taken_between, places_of, tick_runs}
-use Rattle.reach_certificate.specs.Contexts.{context_after_takes, context_after_all_runs, context_after_entry, EachBecomes, WereOn}
+use Rattle.link_table.specs.History.{effect_of, state_after_reply}
+use Rattle.certificate_laws.specs.Passing.{Passes}
+use Rattle.reach_certificate.specs.Contexts.{context_after_takes, context_after_all_runs, context_after_entry, EachBecomes}
+use Rattle.reach_certificate.specs.Touched.{touched_by, places_among}
+use Rattle.reach_certificate.proofs.Touching.{takes_along}
 
--- ---- the numbers below n that pass a test
-filter_more : (test : ℕ → Bool) (n : ℕ) → filter test (range_with_len 0 (n + 1)) ≡ filter test (range_with_len 0 n) ++ cond (test n) (n ∷ []) []
-filter_more test n =
+-- ---- one number more, where it passes a test
+fold_pushed : (f : Context → ℕ → Context) (c : Context) (xs : List ℕ) (b : Bool) (x : ℕ) → fold f c (xs ++ cond b (x ∷ []) []) ≡ (if b then f (fold f c xs) x else fold f c xs)
+fold_pushed f c xs b x = fold-append f c xs (cond b (x ∷ []) []) ∙ last b (fold f c xs)
+  where
+    last : (b : Bool) (y : Context) → fold f y (cond b (x ∷ []) []) ≡ (if b then f y x else y)
+    last true y = refl
+    last false y = refl
+
+range_more : (test : ℕ → Bool) (n : ℕ) → filter test (range_with_len 0 (n + 1)) ≡ filter test (range_with_len 0 n) ++ cond (test n) (n ∷ []) []
+range_more test n =
     ap (filter test) (sym (map-id (range_with_len 0 (n + 1))))
     ∙ filter_of_map_range_with_len_more test (λ k. k) 0 n n (omega arith)
     ∙ ap (λ (xs : List ℕ). filter test xs ++ cond (test n) (n ∷ []) []) (map-id (range_with_len 0 n))
-
-fold_more : (f : Context → ℕ → Context) (c : Context) (test : ℕ → Bool) (n : ℕ) → fold f c (filter test (range_with_len 0 (n + 1))) ≡ (if test n then f (fold f c (filter test (range_with_len 0 n))) n else fold f c (filter test (range_with_len 0 n)))
-fold_more f c test n = ap (fold f c) (filter_more test n) ∙ fold-append f c (filter test (range_with_len 0 n)) (cond (test n) (n ∷ []) []) ∙ last (test n) (fold f c (filter test (range_with_len 0 n)))
-  where
-    last : (b : Bool) (x : Context) → fold f x (cond b (n ∷ []) []) ≡ (if b then f x n else x)
-    last true x = refl
-    last false x = refl
 
 -- ---- what becomes of each context
 pub EachBecomes-then : (first second whole : ℕ → Context → Context) → ((t : ℕ) (c : Context) → second t (first t c) ≡ whole t c) → (old mid new : List Context) → EachBecomes first old mid → EachBecomes second mid new → EachBecomes whole old new
@@ -34,55 +43,83 @@ EachBecomes-then first second whole same old mid new one other = record {
   each = λ t d fits. other.each t d (rw one.count fits) ∙ ap (second t) (one.each t d fits) ∙ same t (get_or old t d);
 }
 
--- ---- takes, as far as the processors were compared
--- the processors below n to which t came
-abbrev pub came_below : List (Option ℕ) → List (Option ℕ) → ℕ → ℕ → List ℕ
-came_below before now n t = filter (λ p. is_task t (get_or now p None) && not (is_task t (get_or before p None))) (range_with_len 0 n)
+-- ---- takes, as far as the chain was followed
+pub takes_more : (s : State) (chain : List ℕ) (i p : ℕ) → i < length chain → slice_get chain i ≡ Some p → (start contexts after : List Context)
+    → EachBecomes (λ t c. context_after_takes c (places_among s (take i chain) t)) start contexts
+    → EachBecomes (λ t c. if is_task t (task_on s p) then context_after_take c p else c) contexts after
+    → EachBecomes (λ t c. context_after_takes c (places_among s (take (i + 1) chain) t)) start after
+takes_more s chain i p fits at start contexts after so_far here = EachBecomes-then _ _ _ (λ t c. sym (one_more t c)) start contexts after so_far here
+  where
+    one_more : (t : ℕ) (c : Context) → context_after_takes c (places_among s (take (i + 1) chain) t)
+        ≡ (if is_task t (task_on s p) then context_after_take (context_after_takes c (places_among s (take i chain) t)) p else context_after_takes c (places_among s (take i chain) t))
+    one_more t c =
+        ap (context_after_takes c) (filter_more (λ q. is_task t (task_on s q)) chain i 0 fits
+        ∙ ap (λ (q : ℕ). places_among s (take i chain) t ++ cond (is_task t (task_on s q)) (q ∷ []) []) (get_or_from_slice_get chain i p 0 at))
+        ∙ fold_pushed context_after_take c (places_among s (take i chain) t) (is_task t (task_on s p)) p
 
-pub takes_more : (before now : List (Option ℕ)) (n : ℕ) (start contexts after : List Context)
-    → EachBecomes (λ t c. context_after_takes c (came_below before now n t)) start contexts
-    → EachBecomes (λ t c. if is_task t (get_or now n None) && not (is_task t (get_or before n None)) then context_after_take c n else c) contexts after
-    → EachBecomes (λ t c. context_after_takes c (came_below before now (n + 1) t)) start after
-takes_more before now n start contexts after so_far here = EachBecomes-then _ _ _ (λ t c. sym (fold_more context_after_take c (λ p. is_task t (get_or now p None) && not (is_task t (get_or before p None))) n)) start contexts after so_far here
+pub takes_whole : (s : State) (chain : List ℕ) (n : ℕ) → length chain ≤ n → (contexts after : List Context)
+    → EachBecomes (λ t c. context_after_takes c (places_among s (take n chain) t)) contexts after
+    → EachBecomes (λ t c. context_after_takes c (places_among s chain t)) contexts after
+takes_whole s chain n whole contexts after takes = rw (take_all n chain whole) at takes
 
 -- ---- runs, as far as the processors were gone over
--- the context of t after it ran on each processor below n on which it was
-abbrev pub context_run_below : List (Option ℕ) → ℕ → ℕ → ℕ → Context → Context
-context_run_below before units n t c = fold (λ x p. context_after_run x p units) c (filter (λ p. is_task t (get_or before p None)) (range_with_len 0 n))
+-- the context of t after it ran on each processor below n on which it is
+abbrev pub context_run_below : State → ℕ → ℕ → ℕ → Context → Context
+context_run_below s units n t c = fold (λ x p. context_after_run x p units) c (filter (λ p. is_task t (task_on s p)) (range_with_len 0 n))
 
-pub runs_more : (before : List (Option ℕ)) (units n : ℕ) (start contexts after : List Context)
-    → EachBecomes (context_run_below before units n) start contexts
-    → EachBecomes (λ t c. if is_task t (get_or before n None) then context_after_run c n units else c) contexts after
-    → EachBecomes (context_run_below before units (n + 1)) start after
-runs_more before units n start contexts after so_far here = EachBecomes-then _ _ _ (λ t c. sym (fold_more (λ x p. context_after_run x p units) c (λ p. is_task t (get_or before p None)) n)) start contexts after so_far here
+pub runs_more : (s : State) (units n : ℕ) (start contexts after : List Context)
+    → EachBecomes (context_run_below s units n) start contexts
+    → EachBecomes (λ t c. if is_task t (task_on s n) then context_after_run c n units else c) contexts after
+    → EachBecomes (context_run_below s units (n + 1)) start after
+runs_more s units n start contexts after so_far here = EachBecomes-then _ _ _ (λ t c. sym (one_more t c)) start contexts after so_far here
+  where
+    one_more : (t : ℕ) (c : Context) → context_run_below s units (n + 1) t c ≡ (if is_task t (task_on s n) then context_after_run (context_run_below s units n t c) n units else context_run_below s units n t c)
+    one_more t c =
+        ap (fold (λ x p. context_after_run x p units) c) (range_more (λ p. is_task t (task_on s p)) n)
+        ∙ fold_pushed (λ x p. context_after_run x p units) c (filter (λ p. is_task t (task_on s p)) (range_with_len 0 n)) (is_task t (task_on s n)) n
 
 -- a run on each processor of a list, as the list of the runs
 runs_on_each : (c : Context) (places : List ℕ) (units : ℕ) → fold (λ x p. context_after_run x p units) c places ≡ context_after_all_runs c (map (λ p. (p, units)) places)
 runs_on_each c places units = sym (fold-map (λ (x : Context) (run : ℕ × ℕ). context_after_run x run.0 run.1) (λ p. (p, units)) c places)
 
--- ---- all processors were gone over
--- the state in which these were the occupants, and nothing else was different
-abbrev pub state_with_occupants : State → List (Option ℕ) → State
-state_with_occupants s before = record s { on = before }
-
-module _ (before : List (Option ℕ)) (old new : State) (were : WereOn before old new) where
-  pub takes_whole : (n : ℕ) → n ≡ new.processors → (contexts after : List Context) → EachBecomes (λ t c. context_after_takes c (came_below before new.on n t)) contexts after
-      → EachBecomes (λ t c. context_after_takes c (taken_between old new t)) contexts after
-  takes_whole n whole contexts after takes = rw (were.on, were.processors, ← whole) takes
-
-  pub runs_whole : (n units : ℕ) → n ≡ new.processors → (contexts after : List Context) → EachBecomes (context_run_below before units n) contexts after
-      → EachBecomes (λ t c. context_after_all_runs c (tick_runs (Tick units) (places_of old t))) contexts after
-  runs_whole n units whole contexts after runs = record {
-    count = runs.count;
-    each = λ t d fits. runs.each t d fits ∙ rw (were.on, were.processors, ← whole) (runs_on_each (get_or contexts t d) (filter (λ p. is_task t (get_or before p None)) (range_with_len 0 n)) units);
-  }
+pub runs_whole : (s : State) (n units : ℕ) → n ≡ s.processors → (contexts after : List Context) → EachBecomes (context_run_below s units n) contexts after
+    → EachBecomes (λ t c. context_after_all_runs c (tick_runs (Tick units) (places_of s t))) contexts after
+runs_whole s n units whole contexts after runs = record {
+  count = runs.count;
+  each = λ t d fits. runs.each t d fits ∙ rw (← whole) (runs_on_each (get_or contexts t d) (filter (λ p. is_task t (task_on s p)) (range_with_len 0 n)) units);
+}
 
 -- ---- the whole entry
-pub followed_tick : (old new : State) (event : Event) (units : ℕ) → event ≡ Tick units → (contexts mid after : List Context) → EachBecomes (λ t c. context_after_takes c (taken_between old new t)) contexts mid
-    → EachBecomes (λ t c. context_after_all_runs c (tick_runs (Tick units) (places_of old t))) mid after → EachBecomes (context_after_entry old new event) contexts after
-followed_tick old new event units is contexts mid after takes runs = rw is (EachBecomes-then _ _ (context_after_entry old new (Tick units)) (λ t c. refl) contexts mid after takes runs)
+-- at a tick nobody moves
+tick_still : (old : State) (event : Event) (reply : Reply) (units : ℕ) → event ≡ Tick units → Passes old event reply → (state_after_reply old event reply ≡ old) × (touched_by reply ≡ [])
+tick_still old (Arrive t) reply units is passes = cc
+tick_still old (Depart t) reply units is passes = cc
+tick_still old (Tick more) reply units is passes = (ap (state_after_reply old (Tick more)) passes, ap touched_by passes)
 
-pub followed_other : (old new : State) (event : Event) → ((units : ℕ) → event ≡ Tick units → ⊥) → (contexts after : List Context) → EachBecomes (λ t c. context_after_takes c (taken_between old new t)) contexts after → EachBecomes (context_after_entry old new event) contexts after
-followed_other old new (Arrive t) no_tick contexts after takes = record { count = takes.count; each = takes.each }
-followed_other old new (Depart t) no_tick contexts after takes = record { count = takes.count; each = takes.each }
-followed_other old new (Tick units) no_tick contexts after takes = absurd (no_tick units refl)
+module _ (old : State) (ok : IsState old) (entry : Entry) (passes : Passes old entry.event entry.reply) (new : State) (effect : new ≡ effect_of old entry) (contexts after : List Context) where
+  taken : (t : ℕ) → places_among new (touched_by entry.reply) t ≡ taken_between old new t
+  taken t = takes_along old ok entry.event entry.reply passes new effect t
+
+  pub followed_tick : (units : ℕ) → entry.event ≡ Tick units → EachBecomes (λ t c. context_after_all_runs c (tick_runs (Tick units) (places_of new t))) contexts after → EachBecomes (context_after_entry old new entry.event) contexts after
+  followed_tick units is runs =
+      let still = tick_still old entry.event entry.reply units is passes in
+      record {
+        count = runs.count;
+        each = λ t d fits. runs.each t d fits ∙ same t (get_or contexts t d) (effect ∙ still.0) still.1;
+      }
+    where
+      same : (t : ℕ) (c : Context) → new ≡ old → touched_by entry.reply ≡ [] → context_after_all_runs c (tick_runs (Tick units) (places_of new t)) ≡ context_after_entry old new entry.event t c
+      same t c stays nobody =
+          let none : taken_between old new t ≡ [] = sym (taken t) ∙ ap (λ (places : List ℕ). places_among new places t) nobody in
+          rw (none, is) (ap (λ (s : State). context_after_all_runs c (tick_runs (Tick units) (places_of s t))) stays)
+
+  pub followed_other : ((units : ℕ) → entry.event ≡ Tick units → ⊥) → EachBecomes (λ t c. context_after_takes c (places_among new (touched_by entry.reply) t)) contexts after → EachBecomes (context_after_entry old new entry.event) contexts after
+  followed_other no_tick takes = record {
+    count = takes.count;
+    each = λ t d fits. takes.each t d fits ∙ ap (context_after_takes (get_or contexts t d)) (taken t) ∙ no_runs entry.event no_tick t (context_after_takes (get_or contexts t d) (taken_between old new t));
+  }
+    where
+      no_runs : (event : Event) → ((units : ℕ) → event ≡ Tick units → ⊥) → (t : ℕ) (c : Context) → c ≡ context_after_all_runs c (tick_runs event (places_of old t))
+      no_runs (Arrive u) none t c = refl
+      no_runs (Depart u) none t c = refl
+      no_runs (Tick units) none t c = absurd (none units refl)

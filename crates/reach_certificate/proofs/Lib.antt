@@ -3,9 +3,12 @@ pub mod ChainPlaces
 pub mod ContextsFollow
 pub mod Decisions
 pub mod Defects
+pub mod Doubts
 pub mod Entering
 pub mod Fitting
 pub mod Following
 pub mod Judgements
 pub mod Parts
+pub mod Returning
 pub mod Seen
+pub mod Touching

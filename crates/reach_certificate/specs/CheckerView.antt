@@ -1,5 +1,4 @@
 -- What contracts see of the fields of a checker.
-use Rattle.std.specs.Prelude.{◌≡◌}
 use Rattle.reach_certificate.specs.Checker.{CheckerData, IsChecker}
 use Rattle.reach_certificate.specs.declared.checker.Checker.TheInside.{Inside}
 
@@ -7,7 +6,6 @@ use Rattle.reach_certificate.specs.declared.checker.Checker.TheInside.{Inside}
 abbrev pub checker_view : Inside → CheckerData
 checker_view a = record { links = a.links; contexts = a.contexts.items }
 
--- the stored fields are always those of a checker, and the links on which entries are judged are the same as its own
-pub record IsStored (a : Inside) : Type 0 where
-  pub checker : IsChecker (checker_view a)
-  pub trial : a.trial ≡ a.links
+-- the stored fields are always those of a checker
+abbrev pub IsStored : Inside → Type 0
+IsStored a = IsChecker (checker_view a)

@@ -1,6 +1,6 @@
 -- Contexts that follow the entries of a history. At an entry a task is taken on each processor to which it comes, and a
 -- tick then runs it where it was linked; no other context changes.
-use Rattle.std.specs.Prelude.{◌≡◌, ℕ, ◌<◌, List, length, get_or, Option, fold}
+use Rattle.std.specs.Prelude.{◌≡◌, ℕ, ◌<◌, List, length, get_or, fold}
 use Rattle.task_set.specs.Context.{context_after_take, context_after_run}
 use Rattle.task_set.specs.declared.context.Context.{Context}
 use Rattle.task_set.specs.declared.event.Event.{Event}
@@ -24,8 +24,3 @@ context_after_entry old new event t context =
 pub record EachBecomes (after : ℕ → Context → Context) (old new : List Context) : Type 0 where
   pub count : length new ≡ length old
   pub each : (t : ℕ) (d : Context) → t < length old → get_or new t d ≡ after t (get_or old t d)
-
--- these were the occupants in the old state, and there are as many processors in the new one
-pub record WereOn (occupants : List (Option ℕ)) (old new : State) : Type 0 where
-  pub on : old.on ≡ occupants
-  pub processors : old.processors ≡ new.processors

@@ -4,7 +4,7 @@ use Rattle.std.specs.Prelude.{◌≡◌, ℕ, ◌+◌, ◌<◌, List, slice_inde
 use Rattle.affinity_mask.specs.ProcSet.{has, Within}
 use Rattle.link_table.specs.State.{State, effective_mask, task_on, IsMoreUrgent}
 use Rattle.link_table.specs.Chain.{CanShift}
-use Rattle.reach_certificate.specs.Defect.{AllFit, IsFirstMisfit, FitsAt, BeginsFor, MovesBack, ReachFits, BackFits, IsNoLessUrgent}
+use Rattle.reach_certificate.specs.Defect.{AllFit, IsFirstMisfit, FitsAt, BeginsFor, MovesBack, ReachFits, BackFits, IsNoLessUrgent, processor_count}
 use Rattle.reach_certificate.specs.declared.chain_rule.ChainRule.{ChainRule}
 use Rattle.reach_certificate.specs.declared.chain_rule.ChainRule.TheVariants.{ToIdle, ToOccupied, Back}
 use Rattle.reach_certificate.specs.declared.set_rule.SetRule.{SetRule}
@@ -53,11 +53,11 @@ abbrev pub ComesBefore : List ℕ → ℕ → ℕ → Type 0
 ComesBefore chain i q = (k : ℕ) × (k < i) × (slice_index chain k ≡ q)
 
 -- ---- sets
--- the tasks of the rule are among so many
+-- the tasks of the rule are among so many, and its processor is one that may be
 abbrev pub IsSetRuleOf : ℕ → SetRule → Type 0
 IsSetRuleOf count (HeldAgainst t) = t < count
 IsSetRuleOf count (HeldOver t out) = (t < count) × (out < count)
-IsSetRuleOf count (LeadsBack place) = Unit {0}
+IsSetRuleOf count (LeadsBack place) = place < processor_count
 
 -- u holds its place by the rule
 abbrev pub Holds : State → SetRule → ℕ → Type 0

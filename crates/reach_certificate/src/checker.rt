@@ -12,7 +12,7 @@ ghost use Rattle.certificate_laws.specs.Laws.{LinkedIsBest};
 ghost use Rattle.certificate_laws.specs.Passing.{IsOfTask, Passes};
 ghost use Rattle.reach_certificate.specs.declared.defect.Defect.{Defect};
 
-use crate::contexts::{Occupants, follow, fresh_contexts};
+use crate::contexts::{follow, fresh_contexts};
 use crate::defect::Defect;
 use crate::judge::follow_entry;
 use affinity_mask::OutOfMemory;
@@ -26,9 +26,6 @@ use task_set::{Context, TaskSet};
 #[derive(Drop)]
 pub struct Checker {
     links: Links,
-
-    /// The links on which the next entry is judged. Between two calls they are the same.
-    trial: Links,
     contexts: Vec<Context>,
 }
 
@@ -54,13 +51,8 @@ impl Checker {
         ensures valid { IfOk result IsChecker }
     {
         let links = Links::new(alloc, set)?;
-        let trial = Links::new(alloc, set)?;
         let contexts = fresh_contexts(alloc, links.len())?;
-        Ok(Checker {
-            links,
-            trial,
-            contexts,
-        })
+        Ok(Checker { links, contexts })
     }
 
     /// Judges an entry by its chain and its set alone, and follows it where it passes. An entry that is refused changes
@@ -84,13 +76,10 @@ impl Checker {
         ensures best { LinkedIsBest self.new.links }
         ensures valid { IsChecker self.new }
     {
-        if let Some(defect) = follow_entry(&mut self.trial, entry) {
-            self.trial.set_to(&self.links);
+        if let Some(defect) = follow_entry(&mut self.links, entry) {
             return Err(defect);
         }
-        let before = Occupants::of(&self.links);
-        self.links.set_to(&self.trial);
-        follow(&mut self.contexts, &before, &self.links, entry.event);
+        follow(&mut self.contexts, &self.links, entry);
         Ok(())
     }
 

@@ -1,8 +1,9 @@
 //! The judgement of an entry, which follows it where its reply passes.
-ghost use Rattle.std.specs.Prelude.{◌≡◌, ◌≢◌, ℕ, ◌<◌, [], false, IfNone, Some, MatchOption};
+ghost use Rattle.std.specs.Prelude.{◌≡◌, ◌≢◌, ◌↔◌, ℕ, ◌<◌, [], ◌∷◌, false, IsTrue, IfNone, IfSome, Some, MatchOption};
+ghost use Rattle.affinity_mask.specs.ProcSet.{has};
 ghost use Rattle.task_set.specs.declared.event.Event.TheVariants.{Arrive, Depart};
 ghost use Rattle.scheduler_reply.specs.declared.reply.Came.TheVariants as came;
-ghost use Rattle.link_table.specs.State.{HasSameTasks, is_ready, task_count, task_on, state_with_ready};
+ghost use Rattle.link_table.specs.State.{IsMoreUrgent, is_ready, task_count, task_on, effective_mask, state_with_ready};
 ghost use Rattle.link_table.specs.Chain.{IsChainOf, IsSimple, state_after_shift};
 ghost use Rattle.link_table.specs.Certificate.{IsCertificate};
 ghost use Rattle.link_table.specs.History.{effect_of, state_after_came, state_after_gone, state_after_reply};
@@ -19,13 +20,13 @@ use link_table::{Came, Chain, Entry, Gone, Links, Reply};
 use task_set::Event;
 
 /// The defect of an entry. `None` just where its reply passes, and then the links are those after it. Where there is
-/// a defect they are left as far as it was followed.
+/// a defect they stay as they were.
 pub fn follow_entry(links: &mut Links, entry: &Entry) -> Option<Defect>
     requires { IsOfTask (task_count links.old) entry.now.event }
     ensures judged { MatchOption result (Passes links.old entry.now.event entry.now.reply)
         (IsDefect links.old entry.now) }
     ensures followed { IfNone result (links.new ≡ effect_of links.old entry.now) }
-    ensures tasks { HasSameTasks links.old links.new }
+    ensures refused { IfSome result (λ d. links.new ≡ links.old) }
 {
     match entry.event {
         Event::Arrive(t) => follow_arrival(links, t, &entry.reply),
@@ -46,7 +47,7 @@ fn follow_arrival(links: &mut Links, t: u32, reply: &Reply) -> Option<Defect>
     ensures judged { MatchOption result (ArrivalPasses links.old t reply.now)
         (IsReplyDefect links.old (Arrive t) reply.now) }
     ensures followed { IfNone result (links.new ≡ state_after_reply links.old (Arrive t) reply.now) }
-    ensures tasks { HasSameTasks links.old links.new }
+    ensures refused { IfSome result (λ d. links.new ≡ links.old) }
 {
     if links.is_ready(t) {
         if *reply == Reply::AlreadyReady {
@@ -70,7 +71,7 @@ fn follow_departure(links: &mut Links, t: u32, reply: &Reply) -> Option<Defect>
     ensures judged { MatchOption result (DeparturePasses links.old t reply.now)
         (IsReplyDefect links.old (Depart t) reply.now) }
     ensures followed { IfNone result (links.new ≡ state_after_reply links.old (Depart t) reply.now) }
-    ensures tasks { HasSameTasks links.old links.new }
+    ensures refused { IfSome result (λ d. links.new ≡ links.old) }
 {
     if !links.is_ready(t) {
         if *reply == Reply::NotReady {
@@ -90,6 +91,7 @@ fn follow_departure(links: &mut Links, t: u32, reply: &Reply) -> Option<Defect>
     };
     let p = links.leave(t);
     if let Some(defect) = gone_defect(links, p, &gone) {
+        come_back(links, t, p);
         return Some(defect);
     }
     let_in(links, p, &gone);
@@ -142,11 +144,20 @@ fn displaced_defect(
     if let Some(q) = SetRule::HeldOver(t, last).first_misfit(links, reach) {
         return Some(Defect::BadSet(q));
     }
-    if out == last && links.is_more_urgent(t, last) {
+    if displaces_rightly(links, t, last, out) {
         None
     } else {
         Some(Defect::WrongTask(last))
     }
+}
+
+/// Whether the task `out` is the one that the shift of `t` displaces, and is less urgent than `t`.
+fn displaces_rightly(links: &Links, t: u32, displaced: u32, out: u32) -> bool
+    requires number { t < task_count links.now }
+    requires displaced_number { displaced < task_count links.now }
+    ensures { IsTrue result ↔ (out ≡ displaced) × IsMoreUrgent links.now t displaced }
+{
+    out == displaced && links.is_more_urgent(t, displaced)
 }
 
 /// The same where it waits.
@@ -209,6 +220,19 @@ fn enter(links: &mut Links, t: u32, chain: &Chain)
 {
     links.make_ready(t);
     links.shift(t, chain);
+}
+
+/// A task that is absent is linked to an idle processor: so a departure is undone.
+fn come_back(links: &mut Links, t: u32, p: u8)
+    requires number { t < task_count links.old }
+    requires absent { is_ready links.old t ≡ false }
+    requires processor { p < 64 }
+    requires allowed { IsTrue (has (effective_mask links.old t) p) }
+    ensures { links.new ≡ state_after_shift (state_with_ready links.old t) t (p ∷ []) }
+{
+    let mut chain = Chain::new();
+    chain.push(p);
+    enter(links, t, &chain);
 }
 
 /// Who came in where processor `p` has become idle, where that passes, comes in.

@@ -25,5 +25,5 @@ mod tests;
 
 pub use certificate::is_certificate;
 pub use checker::Checker;
-pub use contexts::{Occupants, follow, fresh_contexts};
+pub use contexts::{follow, fresh_contexts};
 pub use defect::Defect;

@@ -1,6 +1,6 @@
 //! The test of a set.
-ghost use Rattle.std.specs.Prelude.{◌≡◌, ◌<◌, ◌↔◌, IsTrue};
-ghost use Rattle.affinity_mask.specs.ProcSet.{all_below, Within};
+ghost use Rattle.std.specs.Prelude.{◌≡◌, ℕ, ◌<◌, ◌↔◌, IsTrue, false};
+ghost use Rattle.affinity_mask.specs.ProcSet.{has, all_below, Within};
 ghost use Rattle.link_table.specs.State.{task_count};
 ghost use Rattle.reach_certificate.specs.Judging.{IsFirstMisfitIfAny, IsSetRuleOf, FitsSetRule, IsHeld, Holds, ShiftsInto};
 
@@ -33,12 +33,31 @@ impl SetRule {
     {
         // A set that code holds has no number beyond those of processors.
         prove!(set.count() <= 64);
-        for q in 0..64 {
+        let mut left = self.in_doubt(links, set);
+        while let Some(q) = left.least() {
             if !self.fits(links, set, q) {
                 return Some(q);
             }
+            left = left.without(q);
         }
         None
+    }
+
+    /// The processors that have to be looked at one by one: each other one fits a set.
+    fn in_doubt(self, links: &Links, set: ProcSet) -> ProcSet
+        requires { IsSetRuleOf (task_count links.now) self }
+        ensures { (q : ℕ) → q < 64 → has result q ≡ false → FitsSetRule links.now self set q }
+    {
+        match self {
+            SetRule::HeldAgainst(t) | SetRule::HeldOver(t, _) => {
+                set.either_of(&links.effective(t))
+            }
+            SetRule::LeadsBack(place) => {
+                let unknown = set.minus(&ProcSet::first(links.processors()));
+                let sources = links.linked().either_of(&ProcSet::one(place));
+                unknown.either_of(&sources.minus(&set))
+            }
+        }
     }
 
     /// Whether q fits a set.

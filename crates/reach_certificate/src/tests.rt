@@ -39,6 +39,9 @@ const E: u32 = 4;
 
 const F: u32 = 5;
 
+/// The number of no task.
+const UNKNOWN: u32 = 6;
+
 /// Of each task its name, its priority and its mask, over three processors.
 static TASKS: [(&str, u32, &[u8]); 6] = [
     ("a", 2, &[0, 1]),
@@ -50,7 +53,7 @@ static TASKS: [(&str, u32, &[u8]); 6] = [
 ];
 
 /// Entries one after the other. What is refused changes nothing, so the next one is judged on the same links.
-static ROWS: [(Event, Answer, Option<Defect>); 41] = [
+static ROWS: [(Event, Answer, Option<Defect>); 49] = [
     (Event::Arrive(A), Answer::Placed(&[0]), None),
     (Event::Arrive(B), Answer::Placed(&[1]), None),
     (Event::Arrive(C), Answer::Placed(&[2]), None),
@@ -154,6 +157,28 @@ static ROWS: [(Event, Answer, Option<Defect>); 41] = [
         Answer::Displaced(&[0, 1, 2], C, &[0, 1, 2]),
         Some(Defect::WrongTask(C)),
     ),
+
+    // Beside a task that there is not, what fails before it is reported first.
+    (
+        Event::Arrive(A),
+        Answer::Displaced(&[0, 1, 2], UNKNOWN, &[0, 1, 2]),
+        Some(Defect::WrongReply),
+    ),
+    (
+        Event::Arrive(D),
+        Answer::Displaced(&[0, 1, 3], UNKNOWN, &[0, 1]),
+        Some(Defect::BadChain(2)),
+    ),
+    (
+        Event::Arrive(D),
+        Answer::Displaced(&[0, 1, 2], UNKNOWN, &[0, 1]),
+        Some(Defect::BadSet(1)),
+    ),
+    (
+        Event::Arrive(D),
+        Answer::Displaced(&[0, 1, 2], UNKNOWN, &[0, 1, 2]),
+        Some(Defect::WrongTask(C)),
+    ),
     (Event::Arrive(F), Answer::Waits(&[0, 1, 2]), None),
     (
         Event::Depart(F),
@@ -219,6 +244,21 @@ static ROWS: [(Event, Answer, Option<Defect>); 41] = [
     ),
     (
         Event::Depart(D),
+        Answer::Freed(&[0, 2], Some(UNKNOWN), &[1, 2]),
+        Some(Defect::BadChain(1)),
+    ),
+    (
+        Event::Depart(D),
+        Answer::Freed(&[0, 1, 2], Some(UNKNOWN), &[1, 2]),
+        Some(Defect::BadSet(0)),
+    ),
+    (
+        Event::Depart(D),
+        Answer::Freed(&[0, 1, 2], Some(UNKNOWN), &[0, 1, 2]),
+        Some(Defect::WrongTask(C)),
+    ),
+    (
+        Event::Depart(D),
         Answer::Freed(&[0, 1, 2], Some(C), &[0, 1, 2]),
         None,
     ),
@@ -228,6 +268,11 @@ static ROWS: [(Event, Answer, Option<Defect>); 41] = [
         Event::Depart(C),
         Answer::Freed(&[2], Some(E), &[0, 1, 2]),
         Some(Defect::WrongTask(E)),
+    ),
+    (
+        Event::Depart(C),
+        Answer::Freed(&[2], Some(UNKNOWN), &[0, 1, 2]),
+        Some(Defect::WrongTask(UNKNOWN)),
     ),
     (
         Event::Depart(C),

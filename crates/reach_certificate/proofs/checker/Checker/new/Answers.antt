@@ -22,7 +22,7 @@ made c =
     }
 
 pub invariant_of-result : goal.invariant_of-result
-invariant_of-result c = record { checker = made c; trial = c.in_ok-trial.ensures ∙ sym c.in_ok-links.ensures }
+invariant_of-result c = made c
 
 pub returns-clause-valid : goal.returns-clause-valid
 returns-clause-valid c = made c
