@@ -5,6 +5,7 @@ pub mod Examples
 pub mod Feeding
 pub mod Histories
 mod IdleSets
+pub mod Indexing
 pub mod Idling
 pub mod Leaders
 pub mod Least

@@ -2,9 +2,10 @@ pub mod Certificate
 pub mod Chain
 pub mod Dispatch
 pub mod History
-pub mod Index
 pub mod Laws
+pub mod Layout
 pub mod LinksView
 pub mod Placement
+pub mod PlacesView
 pub mod State
 pub mod Step

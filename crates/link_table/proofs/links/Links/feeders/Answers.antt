@@ -1,17 +1,17 @@
-use Rattle.std.proofs.Common.{ℕ, ◌&&◌, sym, ap, ◌∙◌, arith}
-use Rattle.std.proofs.lemmas.Bool.{le-ltb}
+use Rattle.std.proofs.Common.{ℕ, ◌↔◌, IsTrue, subst}
 use Rattle.affinity_mask.specs.ProcSet.{has}
-use Rattle.affinity_mask.proofs.Sets.{has-zero}
-use Rattle.link_table.specs.State.{State, task_on}
-use Rattle.link_table.specs.Index.{runs_on}
-use Rattle.link_table.proofs.Feeding.{scanned}
+use Rattle.link_table.specs.State.{State}
+use Rattle.link_table.specs.Chain.{CanShift}
+use Rattle.link_table.specs.LinksView.{links_view}
+use Rattle.link_table.proofs.Feeding.{fed_from_test, nobody_feeds}
 use Rattle.link_table.proofs.links.Links.feeders.Goals as goal
 
-pub loop-p-init : goal.loop-p-init
-loop-p-init c = λ p. ap (λ (X : ℕ). has X p) c.empty-found.ensures ∙ has-zero p ∙ sym (ap (λ b. b && runs_on c.args.self.now (task_on c.args.self.now p) c.args.q) (le-ltb p 0 (omega arith)))
+pub returns-then-q-self-clause-contents : goal.returns-then-q-self-clause-contents
+returns-then-q-self-clause-contents c =
+    subst (λ (s : State). (p : ℕ) → IsTrue (has c.feeders.result p) ↔ CanShift s p c.args.q) c.self.view_is
+    (fed_from_test (links_view c.self.inside) c.feeders.result c.args.q c.feeders.ensures)
 
-pub returns-clause-contents : goal.returns-clause-contents
-returns-clause-contents c =
-    let ok = rw c.self.view_is at c.self.invariant in
-    let same = ap (λ (s : State). s.processors) c.self.view_is in
-    scanned c.args.self.now ok c.loop-p.found c.loop-p.p c.args.q (omega arith) c.loop-p.invariant
+pub returns-else-q-self-clause-contents : goal.returns-else-q-self-clause-contents
+returns-else-q-self-clause-contents c =
+    subst (λ (s : State). (p : ℕ) → IsTrue (has c.empty.result p) ↔ CanShift s p c.args.q) c.self.view_is
+    (nobody_feeds (links_view c.self.inside) c.self.invariant c.empty.result c.args.q c.empty.ensures c.if-q-self.false)
