@@ -5,7 +5,7 @@ use Rattle.link_table.specs.State.{State, IsState, IsWaiting, task_on, state_wit
 use Rattle.link_table.proofs.Linked.{not_linked-from_on}
 
 -- no task is at a place where none was written, nor past the end of the table
-idle_at : (on : List (Option ℕ)) (p : ℕ) → get_or (set on p None) p None ≡ None
+pub idle_at : (on : List (Option ℕ)) (p : ℕ) → get_or (set on p None) p None ≡ None
 idle_at [] p = refl
 idle_at (o ∷ on) zero = refl
 idle_at (o ∷ on) (suc p) = idle_at on p

@@ -2,8 +2,10 @@ pub mod BestOnce
 pub mod Contexts
 pub mod Ends
 pub mod Examples
+pub mod Feeding
 pub mod Histories
 mod IdleSets
+pub mod Indexing
 pub mod Idling
 pub mod Leaders
 pub mod Least

@@ -1,5 +1,6 @@
 -- Who is where: the test, the place and the table of occupants agree.
-use Rattle.std.proofs.Common.{◌≡◌, ◌≢◌, ℕ, zero, suc, ◌<◌, Bool, true, false, List, [], ◌∷◌, get_or, Option, Some, None, refl, sym, ap, ◌∙◌, inl, inr, eq-eqb, eqb-true, cond}
+use Rattle.std.proofs.Common.{◌≡◌, ◌≢◌, ℕ, zero, suc, ◌<◌, Bool, true, false, List, [], ◌∷◌, get_or, Option, Some, None, refl, sym, ap, ◌∙◌, inl, inr, eq-eqb, eqb-true, cond, ◌↔◌}
+use Rattle.std.specs.Prelude.{IsNone, IfSome, IfNone}
 use Rattle.std.specs.List.{list_any}
 use Rattle.std.proofs.lemmas.Bool.{or_left, or_right, cases_lt, cases_Bool, true≢false, false≢true}
 use Rattle.std.proofs.lemmas.List.{get_or_past}
@@ -69,3 +70,8 @@ linked_from_not_waiting s t ready not_waiting = elim (cases_Bool (is_linked s t)
   | inl linked ↦ linked
   | inr not_linked ↦ absurd (not_waiting record { ready = ready; not_linked = not_linked })
 ]
+
+-- what a place says of a task: it is linked there, and nowhere where there is no place
+pub none_from_place : (s : State) (t : ℕ) (place : Option ℕ) → IfSome place (λ p. task_on s p ≡ Some t) → IfNone place ((p : ℕ) → task_on s p ≡ Some t → ⊥) → IsNone place ↔ (is_linked s t ≡ false)
+none_from_place s t None there nowhere = (λ _. not_linked-from_on s t nowhere, λ _. refl)
+none_from_place s t (Some p) there nowhere = (λ h. absurd (true≢false h), λ not_linked. absurd (not_on s p t not_linked there))

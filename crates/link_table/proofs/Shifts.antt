@@ -4,12 +4,12 @@ use Rattle.std.specs.Prelude.{slice_get}
 use Rattle.std.specs.List.{range_with_len}
 use Rattle.std.proofs.lemmas.Bool.{cases_eq, cases_lt}
 use Rattle.std.proofs.lemmas.Option.{same_Some, get_or_from_slice_get}
-use Rattle.std.proofs.lemmas.List.{get_or_past, get_or_default}
+use Rattle.std.proofs.lemmas.List.{get_or_past}
 use Rattle.std.proofs.lemmas.List.FromFn.{fill_by_all, get_or-map-range_with_len, length-map-range_with_len}
 use Rattle.affinity_mask.specs.ProcSet.{has}
-use Rattle.link_table.specs.State.{State, IsState, IsWaiting, effective_mask, task_on}
+use Rattle.link_table.specs.State.{State, task_count, IsState, IsWaiting, effective_mask, task_on}
 use Rattle.link_table.specs.Chain.{IsWalk, IsChainOf, IsSimple, occupant_after_shift, state_after_shift, task_put_out}
-use Rattle.link_table.proofs.Linked.{not_on}
+use Rattle.link_table.proofs.Linked.{not_on, linked_number}
 use Rattle.link_table.proofs.Masks.{effective_mask_below}
 use Rattle.link_table.proofs.Simple.{Avoids, Avoids-none, Avoids-last}
 
@@ -170,13 +170,43 @@ table_after-push s t chain x simple fits =
     ])
 
 -- one read of the loop
-pub handed_on-read : (s : State) (t : ℕ) (chain : List ℕ) (x : ℕ) (places : List (Option ℕ)) (occupant : Option ℕ) → Avoids (λ p. ⊥) (chain ++ x ∷ []) → x < s.processors → places ≡ table_after s t chain → occupant ≡ get_or places x occupant → occupant ≡ handed_on s (Some t) (chain ++ x ∷ [])
+pub handed_on-read : (s : State) (t : ℕ) (chain : List ℕ) (x : ℕ) (places : List (Option ℕ)) (occupant : Option ℕ) → Avoids (λ p. ⊥) (chain ++ x ∷ []) → x < s.processors → places ≡ table_after s t chain → occupant ≡ get_or places x None → occupant ≡ handed_on s (Some t) (chain ++ x ∷ [])
 handed_on-read s t chain x places occupant simple fits e read =
-    let n = length-table_after s t chain in
-    let within : x < length places = rw e (omega arith) in
-    read ∙ get_or_default places x occupant None within ∙ ap (λ (on : List (Option ℕ)). get_or on x None) e
+    read ∙ ap (λ (on : List (Option ℕ)). get_or on x None) e
     ∙ get_or-map-range_with_len (occupant_after_shift s (Some t) chain) 0 s.processors x x None fits (omega arith)
     ∙ not_yet s (λ p. ⊥) (Some t) chain x simple ∙ sym (handed_on-push s (Some t) chain x)
+
+-- whoever is handed on was on one of the processors
+handed_on-from : (s : State) (V : ℕ → Type 0) (x : ℕ) (rest : List ℕ) (w : ℕ) → (V x → ⊥) → Avoids (λ p. (p ≡ x) ⊎ V p) rest → handed_on s (task_on s x) rest ≡ Some w → (y : ℕ) × (V y → ⊥) × (task_on s y ≡ Some w)
+handed_on-from s V x [] w out avoids h = (x, out, h)
+handed_on-from s V x (y ∷ rest) w out avoids h =
+    let there = handed_on-from s (λ p. (p ≡ x) ⊎ V p) y rest w avoids.0 avoids.1 h in
+    (there.0, (λ v. there.1 (inr v)), there.2)
+
+handed_on-nowhere : (s : State) → ((p q t : ℕ) → task_on s p ≡ Some t → task_on s q ≡ Some t → p ≡ q) → (V : ℕ → Type 0) (guest : Option ℕ) (chain : List ℕ) → Avoids V chain
+    → ((w y : ℕ) → guest ≡ Some w → (V y → ⊥) → task_on s y ≡ Some w → ⊥)
+    → (p w : ℕ) → (V p → ⊥) → handed_on s guest chain ≡ Some w → occupant_after_shift s guest chain p ≡ Some w → ⊥
+handed_on-nowhere s once V guest [] avoids alone p w out h e = alone w p h out e
+handed_on-nowhere s once V guest (x ∷ rest) avoids alone p w out h e =
+    go (cases_eq p x) (handed_on-nowhere s once (λ r. (r ≡ x) ⊎ V r) (task_on s x) rest avoids.1 (λ u y on apart there. apart (inl (once y x u there on))) p w)
+  where
+    go : (p ≡ x) ⊎ (p ≡ x → ⊥) → (((p ≡ x) ⊎ V p → ⊥) → handed_on s (task_on s x) rest ≡ Some w → occupant_after_shift s (task_on s x) rest p ≡ Some w → ⊥) → ⊥
+    go (inl same) later =
+        let there = handed_on-from s V x rest w avoids.0 avoids.1 h in
+        alone w there.0 (sym (occupant-first s guest x rest) ∙ ap (occupant_after_shift s guest (x ∷ rest)) (sym same) ∙ e) there.1 there.2
+    go (inr ne) later = later (λ c. elim c [ inl a ↦ ne a | inr v ↦ out v ]) h (sym (occupant-later s guest x rest p ne) ∙ e)
+
+-- whoever is handed on is on no processor then
+pub handed_on-apart : (s : State) → IsState s → (t : ℕ) → IsWaiting s t → (chain : List ℕ) → Avoids (λ p. ⊥) chain → (p w : ℕ) → handed_on s (Some t) chain ≡ Some w → task_on (state_after_shift s t chain) p ≡ Some w → ⊥
+handed_on-apart s ok t waits chain avoids p w h e =
+    handed_on-nowhere s ok.once (λ y. ⊥) (Some t) chain avoids (λ u y it out there. not_on s y t waits.not_linked (there ∙ sym it)) p w (λ v. v) h (task_on-state_after_shift s t chain p w e)
+
+-- and is a task of the set
+pub handed_on-number : (s : State) → IsState s → (t : ℕ) → t < task_count s → (chain : List ℕ) → Avoids (λ p. ⊥) chain → (w : ℕ) → handed_on s (Some t) chain ≡ Some w → w < task_count s
+handed_on-number s ok t number [] avoids w h = rw (← same_Some t w h) number
+handed_on-number s ok t number (x ∷ rest) avoids w h =
+    let there = handed_on-from s (λ p. ⊥) x rest w avoids.0 avoids.1 h in
+    linked_number s there.0 w ok there.2
 
 -- the processor of a turn is one of the table's
 pub place_in_table : (s : State) → IsState s → (t : ℕ) (chain : List ℕ) (end : ℕ) → IsChainOf s t chain end → (i x : ℕ) (places : List (Option ℕ)) → i < length chain → slice_get chain i ≡ Some x → places ≡ table_after s t (take i chain) → x < length places

@@ -3,7 +3,9 @@ pub mod Chain
 pub mod Dispatch
 pub mod History
 pub mod Laws
+pub mod Layout
 pub mod LinksView
 pub mod Placement
+pub mod PlacesView
 pub mod State
 pub mod Step

@@ -7,10 +7,10 @@ abbrev pub links_view : Inside → State
 links_view a = record {
   processors = a.processors;
   priorities = a.priorities.items;
-  masks = a.masks.items;
-  online = a.online;
+  masks = a.places.masks;
+  online = a.places.online;
   ready = a.ready.items;
-  on = a.on.items;
+  on = a.places.on;
 }
 
 -- the stored columns are those of a state at every moment

@@ -10,8 +10,11 @@
 //! processor. [`laws`] has what holds of them, as that a step is unique and keeps a state.
 #![tactic(auto)]
 
+#[cfg(test)]
+mod index_tests;
 pub mod laws;
 pub mod links;
+mod places;
 #[cfg(test)]
 mod tests;
 mod urgency;

@@ -2,6 +2,7 @@
 ghost use Rattle.std.specs.Prelude.{◌≡◌, ℕ, ◌<◌, ◌≤◌, ◌↔◌, IsTrue, IsNone, IfOk, IfSome, is_some, Some, true, false};
 ghost use Rattle.affinity_mask.specs.ProcSet.{has};
 
+use crate::places::Places;
 use affinity_mask::{OutOfMemory, ProcSet};
 use scheduler_reply::Chain;
 use std::alloc::Global;
@@ -14,10 +15,8 @@ use task_set::TaskSet;
 pub struct Links {
     processors: u8,
     priorities: Vec<u32>,
-    masks: Vec<ProcSet>,
-    online: ProcSet,
     ready: Vec<bool>,
-    on: Vec<Option<u32>>,
+    places: Places,
 }
 
 impl Model for Links {
@@ -34,7 +33,7 @@ impl Model for Links {
 
 impl Links {
     ghost use Rattle.link_table.specs.State.{State, IsState, HasSameTasks, task_count, priority_of, mask_of, is_ready, is_linked, effective_mask, task_on, IsIdle, IsWaiting, start_of, state_with_ready, state_with_absent, state_with_idle, state_after_leaving};
-    ghost use Rattle.link_table.specs.Chain.{IsChainOf, IsSimple, Shifted, task_put_out};
+    ghost use Rattle.link_table.specs.Chain.{CanShift, IsChainOf, IsSimple, Shifted, task_put_out};
 
     /// Every task of the set is absent, and every processor is idle. Refused only where memory runs out.
     pub fn new(alloc: Global, set: &TaskSet) -> Result<Links, OutOfMemory>
@@ -49,17 +48,12 @@ impl Links {
             masks.push(set.mask(t))?;
             ready.push(false)?;
         }
-        let mut on = Vec::new(alloc);
-        for _p in 0..processors {
-            on.push(None)?;
-        }
+        let places = Places::new(alloc, processors, masks)?;
         Ok(Links {
             processors,
             priorities,
-            masks,
-            online: ProcSet::first(processors),
             ready,
-            on,
+            places,
         })
     }
 
@@ -99,7 +93,7 @@ impl Links {
         requires { t < task_count self.now }
         ensures { result ≡ mask_of self.now t }
     {
-        self.masks[t as usize]
+        self.places.mask(t)
     }
 
     /// The processors that a task may run on now: those of its mask that are on line.
@@ -108,7 +102,7 @@ impl Links {
         ensures value { result ≡ effective_mask self.now t }
         ensures valid { IsState self.now }
     {
-        self.mask(t).both(&self.online())
+        self.places.effective(t)
     }
 
     /// The processors on line.
@@ -116,7 +110,7 @@ impl Links {
         ensures value { result ≡ self.now.online }
         ensures valid { IsState self.now }
     {
-        self.online
+        self.places.online()
     }
 
     /// The idle processors: they are on line, and nobody is linked to them.
@@ -151,7 +145,7 @@ impl Links {
         ensures value { result ≡ task_on self.now p }
         ensures valid { IsState self.now }
     {
-        self.on[p as usize]
+        self.places.on(p)
     }
 
     /// The processor that a task is linked to.
@@ -161,25 +155,26 @@ impl Links {
         ensures none { IsNone result ↔ (is_linked self.now t ≡ false) }
         ensures valid { IsState self.now }
     {
-        for p in 0..self.processors {
-            if self.on[p as usize] == Some(t) {
-                return Some(p);
-            }
-        }
-        None
+        self.places.of(t)
     }
 
     /// The occupied processors.
     pub fn linked(&self) -> ProcSet
         ensures { (p : ℕ) → has result p ≡ is_some (task_on self.now p) }
     {
-        let mut occupied = ProcSet::empty();
-        for p in 0..self.processors {
-            if self.on[p as usize].is_some() {
-                occupied = occupied.with(p);
-            }
+        self.places.linked()
+    }
+
+    /// The occupied processors whose occupant may run on q.
+    pub fn feeders(&self, q: u8) -> ProcSet
+        ensures contents { (p : ℕ) → IsTrue (has result p) ↔ CanShift self.now p q }
+        ensures valid { IsState self.now }
+    {
+        if q < self.processors {
+            self.places.feeders(q)
+        } else {
+            ProcSet::empty()
         }
-        occupied
     }
 
     /// An absent task becomes ready, and waits.
@@ -205,10 +200,7 @@ impl Links {
     {
         let mut guest = Some(t);
         for i in 0..chain.len() {
-            let p = chain.at(i) as usize;
-            let occupant = self.on[p];
-            self.on[p] = guest;
-            guest = occupant;
+            guest = self.places.replace(chain.at(i), guest);
         }
         guest
     }
@@ -232,10 +224,9 @@ impl Links {
         ensures waits { IsWaiting self.new result }
         ensures valid { IsState self.new }
     {
-        let Some(t) = self.on[p as usize] else {
+        let Some(t) = self.places.replace(p, None) else {
             unreachable!()
         };
-        self.on[p as usize] = None;
         t
     }
 
@@ -259,9 +250,7 @@ impl Links {
         requires { HasSameTasks self.old other.now }
         ensures { self.new ≡ other.now }
     {
-        self.masks.copy_from_slice(&other.masks);
-        self.online = other.online;
         self.ready.copy_from_slice(&other.ready);
-        self.on.copy_from_slice(&other.on);
+        self.places.set_to(&other.places);
     }
 }

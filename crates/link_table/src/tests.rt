@@ -10,7 +10,7 @@ use std::test::Fail;
 use task_set::TaskSet;
 
 /// Whether the list is a chain of the task.
-fn is_chain(links: &Links, t: u32, chain: &Chain) -> bool
+pub(crate) fn is_chain(links: &Links, t: u32, chain: &Chain) -> bool
     requires { t < task_count links.now }
     ensures { IsTrue result → (q : ℕ) × IsChainOf links.now t chain.now q }
 {
@@ -34,7 +34,7 @@ fn is_chain(links: &Links, t: u32, chain: &Chain) -> bool
 }
 
 /// Whether no processor stands twice in the list.
-fn is_simple(chain: &Chain) -> bool
+pub(crate) fn is_simple(chain: &Chain) -> bool
     ensures { IsTrue result → IsSimple chain.now }
 {
     let mut seen = ProcSet::empty();
@@ -49,7 +49,7 @@ fn is_simple(chain: &Chain) -> bool
 }
 
 /// Makes an absent task ready and shifts it along a list, which has to be a simple chain of it.
-fn arrive(rt: &impl Abort, links: &mut Links, t: u32, processors: &[u8]) -> Option<u32> {
+pub(crate) fn arrive(rt: &impl Abort, links: &mut Links, t: u32, processors: &[u8]) -> Option<u32> {
     let mut chain = Chain::new();
     for &p in processors {
         assert!(rt; p < 64 && chain.len() < 64);

@@ -1,9 +1,11 @@
-use Rattle.std.proofs.Common.{subst, arith}
+use Rattle.std.proofs.Common.{ℕ, Option, None, replicate, refl, subst, arith}
+use Rattle.affinity_mask.specs.ProcSet.{all_below}
 use Rattle.link_table.specs.State.{IsState}
 use Rattle.link_table.proofs.Start.{IsState-start, start_of-columns}
 use Rattle.link_table.proofs.links.Links.new.Goals as goal
 
 pub invariant_of-result : goal.invariant_of-result
 invariant_of-result c =
-    let e = start_of-columns c.args.set.now c.loop-t.t c.processors-processors.result c.loop-p._p c.first.result _ _ _ _ (omega arith) (omega arith) c.processors-processors.ensures.value (omega arith) c.first.ensures.value c.loop-t.invariant.priorities c.loop-t.invariant.masks c.loop-t.invariant.ready c.loop-p.invariant in
-    subst IsState e (IsState-start c.args.set.now c.processors-processors.ensures.valid)
+    let m = c.processors-processors.result in
+    let e = start_of-columns c.args.set.now c.loop-t.t m m (all_below m) _ _ _ (replicate {A = Option ℕ} m None) (omega arith) (omega arith) c.processors-processors.ensures.value refl refl c.loop-t.invariant.priorities c.loop-t.invariant.masks c.loop-t.invariant.ready refl in
+    rw c.in_ok-places.ensures (subst IsState e (IsState-start c.args.set.now c.processors-processors.ensures.valid))

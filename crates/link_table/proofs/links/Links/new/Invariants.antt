@@ -1,4 +1,4 @@
-use Rattle.std.proofs.Common.{◌≡◌, ℕ, Option, None, false, take, replicate, List}
+use Rattle.std.proofs.Common.{◌≡◌, false, take, replicate}
 use Rattle.task_set.specs.TaskSet.{priorities, masks}
 use Rattle.link_table.proofs.links.Links.new.Given as goal
 
@@ -8,6 +8,3 @@ invariant-loop-t l = record {
   masks : l.masks.items ≡ take l.t (masks l.set);
   ready : l.ready.items ≡ replicate l.t false;
 }
-
-abbrev pub invariant-loop-p : goal.invariant-loop-p
-invariant-loop-p l = ◌≡◌ {A = List (Option ℕ)} l.on.items (replicate l._p None)

@@ -4,11 +4,11 @@ use Rattle.link_table.proofs.links.Links.shift.Given as goal
 
 abbrev pub invariant-loop-i : goal.invariant-loop-i
 invariant-loop-i l = record {
-  table : l.self-inside.on.items ≡ table_after l.fn.self l.t (take l.i l.chain);
+  on : l.self-inside.places.on ≡ table_after l.fn.self l.t (take l.i l.chain);
   guest : l.guest ≡ handed_on l.fn.self (Some l.t) (take l.i l.chain);
   processors : l.self-inside.processors ≡ l.fn.self.processors;
   priorities : l.self-inside.priorities.items ≡ l.fn.self.priorities;
-  masks : l.self-inside.masks.items ≡ l.fn.self.masks;
-  online : l.self-inside.online ≡ l.fn.self.online;
+  masks : l.self-inside.places.masks ≡ l.fn.self.masks;
+  online : l.self-inside.places.online ≡ l.fn.self.online;
   ready : l.self-inside.ready.items ≡ l.fn.self.ready;
 }

@@ -1,0 +1,208 @@
+//! Where tasks are linked, with an index: each answer is one read.
+ghost use Rattle.std.specs.Prelude.{◌≡◌, ℕ, ◌<◌, ◌≤◌, ◌==◌, length, slice_index, replicate, is_some, IfOk, IfSome, IfNone, if◌then◌else◌, None};
+ghost use Rattle.std.specs.Option.{ForSome};
+ghost use Rattle.affinity_mask.specs.ProcSet.{has, all_below};
+ghost use Rattle.link_table.specs.Layout.{places_without, places_with};
+
+use affinity_mask::{OutOfMemory, ProcSet};
+use std::alloc::Global;
+use std::marker::Model;
+
+/// The masks of the tasks, the processors on line, and the occupant of each processor.
+#[derive(Drop)]
+pub(crate) struct Places {
+    masks: Vec<ProcSet>,
+    online: ProcSet,
+
+    /// By processor: its occupant.
+    on: Vec<Option<u32>>,
+
+    /// By task: its processor.
+    of: Vec<Option<u8>>,
+
+    /// The occupied processors.
+    linked: ProcSet,
+
+    /// By processor: the occupied processors whose occupant may run on it.
+    feeders: Vec<ProcSet>,
+}
+
+impl Model for Places {
+    ghost use Rattle.link_table.specs.Layout.{Layout};
+
+    ghost Value = { Layout };
+
+    ghost use Rattle.link_table.specs.PlacesView.{places_view, IsIndexed};
+
+    ghost view = { places_view };
+
+    ghost invariant = { IsIndexed };
+}
+
+impl Places {
+    ghost use Rattle.link_table.specs.Layout.{Layout, effective_in, occupant_in, runs_on, IsNowhere, with_occupant};
+
+    /// All processors are on line and idle.
+    pub(crate) fn new(alloc: Global, processors: u8, masks: Vec<ProcSet>) -> Result<Places, OutOfMemory>
+        requires { processors ≤ 64 }
+        ensures { IfOk result (λ places. places ≡ record {
+            masks = masks.items;
+            online = all_below processors;
+            on = replicate processors None;
+        }) }
+    {
+        let mut of = Vec::new(alloc);
+        for _t in 0..masks.len() {
+            of.push(None)?;
+        }
+        let mut on = Vec::new(alloc);
+        let mut feeders = Vec::new(alloc);
+        for _p in 0..processors {
+            on.push(None)?;
+            feeders.push(ProcSet::empty())?;
+        }
+        Ok(Places {
+            masks,
+            online: ProcSet::first(processors),
+            on,
+            of,
+            linked: ProcSet::empty(),
+            feeders,
+        })
+    }
+
+    /// The mask of a task.
+    pub(crate) fn mask(&self, t: u32) -> ProcSet
+        requires { t < length self.now.masks }
+        ensures { result ≡ slice_index self.now.masks t }
+    {
+        self.masks[t as usize]
+    }
+
+    /// The processors of the mask of a task that are on line.
+    pub(crate) fn effective(&self, t: u32) -> ProcSet
+        requires { t < length self.now.masks }
+        ensures { result ≡ effective_in self.now t }
+    {
+        self.masks[t as usize].both(&self.online)
+    }
+
+    /// The processors on line.
+    pub(crate) fn online(&self) -> ProcSet
+        ensures { result ≡ self.now.online }
+    {
+        self.online
+    }
+
+    /// The occupant of a processor.
+    pub(crate) fn on(&self, p: u8) -> Option<u32>
+        requires { p < length self.now.on }
+        ensures { result ≡ occupant_in self.now p }
+    {
+        self.on[p as usize]
+    }
+
+    /// The processor of a task.
+    pub(crate) fn of(&self, t: u32) -> Option<u8>
+        requires { t < length self.now.masks }
+        ensures place { IfSome result (λ p. occupant_in self.now p ≡ Some t) }
+        ensures none { IfNone result (IsNowhere self.now t) }
+    {
+        self.of[t as usize]
+    }
+
+    /// The occupied processors.
+    pub(crate) fn linked(&self) -> ProcSet
+        ensures { (p : ℕ) → has result p ≡ is_some (occupant_in self.now p) }
+    {
+        self.linked
+    }
+
+    /// The occupied processors whose occupant may run on q.
+    pub(crate) fn feeders(&self, q: u8) -> ProcSet
+        requires { q < length self.now.on }
+        ensures { (p : ℕ) → has result p ≡ runs_on self.now (occupant_in self.now p) q }
+    {
+        self.feeders[q as usize]
+    }
+
+    /// The processors that a task may run on. Nobody runs anywhere.
+    fn runs_on(&self, guest: Option<u32>) -> ProcSet
+        requires { ForSome guest (λ t. t < length self.now.masks) }
+        ensures { (q : ℕ) → has result q ≡ runs_on self.now guest q }
+    {
+        match guest {
+            Some(t) => self.effective(t),
+            None => ProcSet::empty(),
+        }
+    }
+
+    /// Puts a task that is nowhere, or nobody, on a processor, and answers who was there.
+    pub(crate) fn replace(&mut self, p: u8, guest: Option<u32>) -> Option<u32>
+        requires processor { p < length self.old.on }
+        requires number { ForSome guest (λ t. t < length self.old.masks) }
+        requires nowhere { ForSome guest (IsNowhere self.old) }
+        ensures replaced { self.new ≡ with_occupant self.old p guest }
+        ensures out { result ≡ occupant_in self.old p }
+    {
+        let runs = self.runs_on(guest);
+        let out = self.on[p as usize];
+        self.on[p as usize] = guest;
+        write_places(&mut self.of, out, guest, p);
+        self.linked = marked(self.linked, p, guest.is_some());
+        write_feeders(&mut self.feeders, p, runs);
+        out
+    }
+
+    /// Becomes equal to other places of as many tasks and processors. No memory is taken.
+    pub(crate) fn set_to(&mut self, other: &Places)
+        requires tasks { length self.old.masks ≡ length other.now.masks }
+        requires processors { length self.old.on ≡ length other.now.on }
+        ensures { self.new ≡ other.now }
+    {
+        self.masks.copy_from_slice(&other.masks);
+        self.online = other.online;
+        self.on.copy_from_slice(&other.on);
+        self.of.copy_from_slice(&other.of);
+        self.linked = other.linked;
+        self.feeders.copy_from_slice(&other.feeders);
+    }
+}
+
+/// The one that goes out has no processor then, and the one that comes in has p.
+fn write_places(of: &mut [Option<u8>], out: Option<u32>, guest: Option<u32>, p: u8)
+    requires out { ForSome out (λ u. u < length of.old) }
+    requires guest { ForSome guest (λ t. t < length of.old) }
+    ensures { of.new ≡ places_with (places_without of.old out) guest p }
+{
+    if let Some(u) = out {
+        of[u as usize] = None;
+    }
+    if let Some(t) = guest {
+        of[t as usize] = Some(p);
+    }
+}
+
+/// The set with p in it, or without p.
+fn marked(set: ProcSet, p: u8, is_in: bool) -> ProcSet
+    requires { p < 64 }
+    ensures { (q : ℕ) → has result q ≡ (if q == p then is_in else has set q) }
+{
+    if is_in {
+        set.with(p)
+    } else {
+        set.without(p)
+    }
+}
+
+/// Of each processor the set has p then just where it is one of those that the occupant of p may run on.
+fn write_feeders(feeders: &mut [ProcSet], p: u8, runs: ProcSet)
+    requires processor { p < 64 }
+    requires few { length feeders.old ≤ 64 }
+    ensures { (q r : ℕ) → q < length feeders.old → has (slice_index feeders.new q) r
+        ≡ (if r == p then has runs q else has (slice_index feeders.old q) r) }
+{
+    for q in 0..feeders.len() {
+        feeders[q] = marked(feeders[q], p, runs.has(q as u8));
+    }
+}
