@@ -2,6 +2,7 @@ pub mod BestOnce
 pub mod Contexts
 pub mod Ends
 pub mod Examples
+pub mod Feeding
 pub mod Histories
 mod IdleSets
 pub mod Idling

@@ -34,7 +34,8 @@ impl Model for Links {
 
 impl Links {
     ghost use Rattle.link_table.specs.State.{State, IsState, HasSameTasks, task_count, priority_of, mask_of, is_ready, is_linked, effective_mask, task_on, IsIdle, IsWaiting, start_of, state_with_ready, state_with_absent, state_with_idle, state_after_leaving};
-    ghost use Rattle.link_table.specs.Chain.{IsChainOf, IsSimple, Shifted, task_put_out};
+    ghost use Rattle.link_table.specs.Chain.{CanShift, IsChainOf, IsSimple, Shifted, task_put_out};
+    ghost use Rattle.link_table.specs.Index.{runs_on};
 
     /// Every task of the set is absent, and every processor is idle. Refused only where memory runs out.
     pub fn new(alloc: Global, set: &TaskSet) -> Result<Links, OutOfMemory>
@@ -180,6 +181,31 @@ impl Links {
             }
         }
         occupied
+    }
+
+    /// The occupied processors whose occupant may run on q.
+    pub fn feeders(&self, q: u8) -> ProcSet
+        ensures contents { (p : ℕ) → IsTrue (has result p) ↔ CanShift self.now p q }
+        ensures valid { IsState self.now }
+    {
+        let mut found = ProcSet::empty();
+        for p in 0..self.processors {
+            if self.may_shift(p, q) {
+                found = found.with(p);
+            }
+        }
+        found
+    }
+
+    /// Whether a processor is occupied, and its occupant may run on q.
+    fn may_shift(&self, p: u8, q: u8) -> bool
+        requires { p < self.now.processors }
+        ensures { result ≡ runs_on self.now (task_on self.now p) q }
+    {
+        match self.on(p) {
+            Some(t) if q < 64 => self.effective(t).has(q),
+            _ => false,
+        }
     }
 
     /// An absent task becomes ready, and waits.
