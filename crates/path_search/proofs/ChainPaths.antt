@@ -1,5 +1,5 @@
 -- Chains and back chains as paths.
-use Rattle.std.proofs.Common.{◌≡◌, ℕ, ◌<◌, ◌≤◌, List, [], ◌∷◌, length, Option, Some, None, nat_eq, refl, sym, ◌∙◌, subst, IsTrue, ◌↔◌, arith, eq-eqb, eqb-true}
+use Rattle.std.proofs.Common.{◌≡◌, ℕ, ◌<◌, List, [], ◌∷◌, Option, Some, None, nat_eq, refl, sym, ◌∙◌, subst, IsTrue, ◌↔◌, eq-eqb, eqb-true}
 use Rattle.affinity_mask.specs.ProcSet.{has}
 use Rattle.link_table.specs.State.{State, IsState, IsIdle, task_on, effective_mask}
 use Rattle.link_table.specs.Chain.{IsPath, IsChainOf, IsBackChain, EndsIdle, EndsOnTask, EntersBy}

@@ -1,11 +1,11 @@
 -- The levels of a search, one after the other, and the first one that meets a target.
-use Rattle.std.proofs.Common.{◌≡◌, ℕ, ◌+◌, ◌<◌, ◌≤◌, true, false, not, ◌&&◌, ◌||◌, List, [], ◌∷◌, ◌++◌, length, get_or, refl, sym, ap, ◌∙◌, subst, inl, inr, ◌⊎◌, ◌↔◌, IsTrue, arith}
+use Rattle.std.proofs.Common.{◌≡◌, ℕ, ◌+◌, ◌<◌, ◌≤◌, false, not, ◌&&◌, ◌||◌, List, [], ◌∷◌, ◌++◌, length, refl, sym, ap, ◌∙◌, subst, inl, inr, ◌⊎◌, ◌↔◌, IsTrue, arith}
 use Rattle.std.proofs.lemmas.Bool.{cases_Bool, cases_lt, or_cases, or_left, or_right, and_parts, and_from, not-true, not_from_false, true≢false}
 use Rattle.affinity_mask.specs.ProcSet.{has, empty, Meets}
 use Rattle.affinity_mask.proofs.Meetings.{no_member}
 use Rattle.link_table.specs.State.{State, IsState}
 use Rattle.link_table.specs.Chain.{IsPath}
-use Rattle.link_table.proofs.Shortest.{IsShortest, shortest_is_simple}
+use Rattle.link_table.proofs.Shortest.{shortest_is_simple}
 use Rattle.link_table.proofs.Simple.{length-simple}
 use Rattle.path_search.specs.declared.direction.Direction.{Direction}
 use Rattle.path_search.specs.Paths.{Steps, IsPathFrom, LeadsInto}
@@ -45,7 +45,7 @@ module _ (Step : ℕ → ℕ → Type 0) (start : ℕ) where
   away_or_done n done q within path leads short = elim (cases_Bool (has done q)) [
     | inl here ↦ inl here
     | inr fresh ↦ (let longer : (other : List ℕ) → IsPathFrom Step start other q → n + 1 ≤ length other = λ other leads'. longer_by fresh other leads' in
-    inr record { path = path; leads = leads; as_long = (let l = longer path leads in omega arith); shortest = longer })
+        inr record { path = path; leads = leads; as_long = (let l = longer path leads in omega arith); shortest = longer })
   ]
     where
       longer_by : has done q ≡ false → (other : List ℕ) → IsPathFrom Step start other q → n + 1 ≤ length other
@@ -72,12 +72,16 @@ module _ (Step : ℕ → ℕ → Type 0) (start : ℕ) where
     pub IsPast-more : (target : ℕ) → IsPast Step start target n → (Meets level target → ⊥) → IsPast Step start target (n + 1)
     IsPast-more target past apart path h = elim (cases_lt (n + 1) (length path)) [
       | inl lt ↦ lt
-      | inr ge ↦ (let l = past path h in absurd (apart (h.0, (is_level h.0).1 record {
-        path = path;
-        leads = h.1;
-        as_long = omega arith;
-        shortest = λ other leads. (let longer = past other (h.0, leads, h.2) in omega arith);
-      }, h.2)))
+      | inr ge ↦ (let l = past path h in absurd (apart (
+        h.0,
+        (is_level h.0).1 record {
+          path = path;
+          leads = h.1;
+          as_long = omega arith;
+          shortest = λ other leads. (let longer = past other (h.0, leads, h.2) in omega arith);
+        },
+        h.2,
+      )))
     ]
 
     -- where the level meets the target, it is the first one that does
@@ -135,12 +139,16 @@ module _ (Step : ℕ → ℕ → Type 0) (start : ℕ) where
       stepped away = elim (last_step Step start away.path q away.leads) [
         | inl one ↦ (let l = ap length one.0 in let e = away.as_long in absurd (omega arith))
         | inr more ↦ (let l = ap length more.2 ∙ length-behind more.0 q in let e = away.as_long in
-        (is_after q).1 (more.1, (is_level more.1).1 record {
-          path = more.0;
-          leads = more.3;
-          as_long = omega arith;
-          shortest = λ other leads. (let s = away.shortest (other ++ q ∷ []) (IsPathFrom-push Step start other more.1 q leads more.4) in let m = length-behind other q in omega arith);
-        }, more.4))
+            (is_after q).1 (
+              more.1,
+              (is_level more.1).1 record {
+                path = more.0;
+                leads = more.3;
+                as_long = omega arith;
+                shortest = λ other leads. (let s = away.shortest (other ++ q ∷ []) (IsPathFrom-push Step start other more.1 q leads more.4) in let m = length-behind other q in omega arith);
+              },
+              more.4,
+            ))
       ]
 
       from : IsAway Step start (n + 1) q → IsTrue (has next q)

@@ -1,5 +1,5 @@
 -- The least path into a target, whose ends are where the levels first meet it.
-use Rattle.std.proofs.Common.{◌≡◌, ℕ, ◌+◌, ◌<◌, ◌≤◌, true, Bool, ◌&&◌, List, [], ◌∷◌, ◌++◌, length, get_or, refl, sym, ap, ◌∙◌, subst, inl, inr, ◌⊎◌, ◌↔◌, IsTrue, arith}
+use Rattle.std.proofs.Common.{◌≡◌, ℕ, ◌+◌, ◌<◌, true, Bool, ◌&&◌, List, [], ◌∷◌, ◌++◌, length, get_or, refl, sym, ap, ◌∙◌, subst, inl, inr, ◌⊎◌, ◌↔◌, IsTrue, arith}
 use Rattle.std.proofs.lemmas.Bool.{cases_lt, and_parts, and_from}
 use Rattle.affinity_mask.specs.ProcSet.{has, empty, IsLeastMember}
 use Rattle.affinity_mask.proofs.Meetings.{no_member}
@@ -7,7 +7,7 @@ use Rattle.link_table.specs.Chain.{IsLess, IsLeastSuch}
 use Rattle.path_search.specs.Paths.{IsPathFrom, LeadsInto}
 use Rattle.path_search.specs.Levels.{IsAway, IsLevel, AreLevels, IsFirstMet}
 use Rattle.path_search.proofs.LeastPaths.{length-behind, last_step, IsPathFrom-push, least_one, some_next, least_behind}
-use Rattle.path_search.proofs.Distances.{IsAway-some, IsLevel-start}
+use Rattle.path_search.proofs.Distances.{IsLevel-start}
 
 absorbs : (a b : Bool) → (a ≡ true → b ≡ true) → a ≡ (b && a)
 absorbs a b f = grind arith
@@ -40,12 +40,16 @@ module _ (Step : ℕ → ℕ → Type 0) (start target n level ends : ℕ) (is_l
       against : (other : List ℕ) → LeadsInto Step start target other → (path ≡ other) ⊎ IsLess path other
       against other leads = elim (cases_lt n (length other)) [
         | inl longer ↦ inr (inl (omega arith))
-        | inr short ↦ (let l = met.none_shorter other leads in least.least other (leads.0, leads.1, is_end leads.0 record {
-          path = other;
-          leads = leads.1;
-          as_long = omega arith;
-          shortest = λ path' leads'. met.none_shorter path' (leads.0, leads', leads.2);
-        } leads.2))
+        | inr short ↦ (let l = met.none_shorter other leads in least.least other (
+          leads.0,
+          leads.1,
+          is_end leads.0 record {
+            path = other;
+            leads = leads.1;
+            as_long = omega arith;
+            shortest = λ path' leads'. met.none_shorter path' (leads.0, leads', leads.2);
+          } leads.2,
+        ))
       ]
 
   -- in the first level
@@ -61,8 +65,8 @@ module _ (Step : ℕ → ℕ → Type 0) (start target n level ends : ℕ) (is_l
     IsFirstMet-before m one_less = record {
       meets = meets;
       none_shorter = λ path leads. (let step = (is_before leads.0).0 leads.2 in
-      let l = met.none_shorter (path ++ step.0 ∷ []) (step.0, IsPathFrom-push Step start path leads.0 step.0 leads.1 step.1, end_there step.0 step.2) in
-      let k = length-behind path step.0 in omega arith);
+          let l = met.none_shorter (path ++ step.0 ∷ []) (step.0, IsPathFrom-push Step start path leads.0 step.0 leads.1 step.1, end_there step.0 step.2) in
+          let k = length-behind path step.0 in omega arith);
     }
       where
         meets : (q : ℕ) × IsTrue (has before q) × IsAway Step start m q
@@ -71,12 +75,16 @@ module _ (Step : ℕ → ℕ → Type 0) (start target n level ends : ℕ) (is_l
             let away = met.meets.2 in
             elim (last_step Step start away.path q away.leads) [
               | inl one ↦ (let l = ap length one.0 in let e = away.as_long in absurd (omega arith))
-              | inr more ↦ (let l = ap length more.2 ∙ length-behind more.0 q in let e = away.as_long in (more.1, (is_before more.1).1 (q, more.4, is_end q away met.meets.1), record {
-                path = more.0;
-                leads = more.3;
-                as_long = omega arith;
-                shortest = λ other leads. (let s = away.shortest (other ++ q ∷ []) (IsPathFrom-push Step start other more.1 q leads more.4) in let k = length-behind other q in omega arith);
-              }))
+              | inr more ↦ (let l = ap length more.2 ∙ length-behind more.0 q in let e = away.as_long in (
+                more.1,
+                (is_before more.1).1 (q, more.4, is_end q away met.meets.1),
+                record {
+                  path = more.0;
+                  leads = more.3;
+                  as_long = omega arith;
+                  shortest = λ other leads. (let s = away.shortest (other ++ q ∷ []) (IsPathFrom-push Step start other more.1 q leads more.4) in let k = length-behind other q in omega arith);
+                },
+              ))
             ]
 
     apart : (p : ℕ) → IsTrue (has start p) → IsTrue (has ends p) → ⊥

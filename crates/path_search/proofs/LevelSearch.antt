@@ -1,5 +1,5 @@
 -- The search of levels: what is known while none of them met the target.
-use Rattle.std.proofs.Common.{◌≡◌, ℕ, ◌+◌, ◌<◌, ◌≤◌, not, ◌&&◌, ◌||◌, List, [], ◌∷◌, ◌++◌, length, get_or, sym, ap, ◌∙◌, subst, inl, inr, ◌↔◌, IsTrue, arith}
+use Rattle.std.proofs.Common.{◌≡◌, ℕ, ◌+◌, ◌<◌, not, ◌&&◌, ◌||◌, List, [], ◌∷◌, ◌++◌, length, sym, subst, inl, inr, ◌↔◌, IsTrue, arith}
 use Rattle.std.proofs.lemmas.Bool.{cases_lt, cases_Bool}
 use Rattle.std.proofs.lemmas.List.{get_or_append_left, get_or_push}
 use Rattle.affinity_mask.specs.ProcSet.{has, empty, Meets}
@@ -7,7 +7,7 @@ use Rattle.affinity_mask.proofs.Sets.{empty_from_none}
 use Rattle.link_table.specs.State.{State, IsState}
 use Rattle.path_search.specs.declared.direction.Direction.{Direction}
 use Rattle.path_search.specs.Paths.{Steps}
-use Rattle.path_search.specs.Levels.{IsAway, IsLevel, IsWithin, AreLevels, IsOutOfReach, IsFirstMet, EndsWhereItMeets}
+use Rattle.path_search.specs.Levels.{IsLevel, IsWithin, AreLevels, IsOutOfReach, IsFirstMet, EndsWhereItMeets}
 use Rattle.path_search.proofs.LeastPaths.{length-behind}
 use Rattle.path_search.proofs.Distances.{IsPast, IsPast-none, IsPast-more, IsLevel-start, IsLevel-next, IsWithin-none, IsWithin-more, IsFirstMet-here, IsOutOfReach-end, IsAway-fits}
 
@@ -33,7 +33,7 @@ module _ (Step : ℕ → ℕ → Type 0) (start target : ℕ) where
     in_order-more i lt = elim (cases_lt i (length levels)) [
       | inl before ↦ subst (λ (X : ℕ). IsLevel Step start (i + 1) X) (sym (get_or_append_left levels (level ∷ []) empty i before)) (so_far.in_order i before)
       | inr after ↦ (let e : length levels ≡ i = (let n = length-behind levels level in omega arith) in
-      subst (λ (X : ℕ). IsLevel Step start (i + 1) X) (sym (get_or_push levels level empty i e)) (subst (λ (k : ℕ). IsLevel Step start (k + 1) level) e so_far.next))
+          subst (λ (X : ℕ). IsLevel Step start (i + 1) X) (sym (get_or_push levels level empty i e)) (subst (λ (k : ℕ). IsLevel Step start (k + 1) level) e so_far.next))
     ]
 
     -- the level meets the target

@@ -1,5 +1,5 @@
 -- Steps, and the sets of processors before and after them.
-use Rattle.std.proofs.Common.{◌≡◌, ℕ, ◌+◌, ◌<◌, ◌≤◌, ◌||◌, ◌&&◌, not, Option, Some, None, nat_eq, refl, sym, ◌∙◌, subst, inl, inr, ◌⊎◌, ◌↔◌, IsTrue, arith, eq-eqb, eqb-true, ne_eqb}
+use Rattle.std.proofs.Common.{◌≡◌, ℕ, ◌<◌, ◌||◌, ◌&&◌, not, Option, Some, None, nat_eq, refl, sym, ◌∙◌, subst, inl, inr, ◌⊎◌, ◌↔◌, IsTrue, eq-eqb, eqb-true, ne_eqb}
 use Rattle.std.proofs.lemmas.Bool.{cases_eq, or_cases, or_left, or_right, and_parts, and_from, not_from_false}
 use Rattle.std.proofs.lemmas.Option.{same_Some}
 use Rattle.affinity_mask.specs.ProcSet.{has, empty, Within}
@@ -10,7 +10,7 @@ use Rattle.link_table.proofs.Linked.{occupied_number}
 use Rattle.link_table.proofs.Masks.{effective_mask_below}
 use Rattle.path_search.specs.declared.direction.Direction.{Direction}
 use Rattle.path_search.specs.declared.direction.Direction.TheVariants.{Onward, Back}
-use Rattle.path_search.specs.Paths.{Steps, StepsInto}
+use Rattle.path_search.specs.Paths.{Steps}
 
 -- a step leads to one of the processors
 pub Steps-below : (s : State) → IsState s → (direction : Direction) (p q : ℕ) → Steps s direction p q → q < s.processors
@@ -71,7 +71,10 @@ module _ (Step : ℕ → ℕ → Type 0) (set found rest : ℕ) (so_far : IsUnio
 
   -- none is left
   pub IsUnionSoFar-end : rest ≡ empty → (q : ℕ) → IsTrue (has found q) ↔ ((p : ℕ) × IsTrue (has set p) × Step p q)
-  IsUnionSoFar-end none q = (so_far.sound q, λ step. elim (so_far.complete step.0 q step.1 step.2) [
-    | inl left ↦ absurd (no_member rest step.0 none left)
-    | inr here ↦ here
-  ])
+  IsUnionSoFar-end none q = (
+    so_far.sound q,
+    λ step. elim (so_far.complete step.0 q step.1 step.2) [
+      | inl left ↦ absurd (no_member rest step.0 none left)
+      | inr here ↦ here
+    ],
+  )

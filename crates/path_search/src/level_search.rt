@@ -18,9 +18,7 @@ pub fn levels_to(
     target: &ProcSet,
 ) -> Option<Levels>
     requires { (p : ℕ) → IsTrue (has start p) → p < links.now.processors }
-    ensures {
-        MatchOption result (IsOutOfReach (Steps links.now direction) start target.now) (EndsWhereItMeets (Steps links.now direction) start target.now)
-    }
+    ensures { MatchOption result (IsOutOfReach (Steps links.now direction) start target.now) (EndsWhereItMeets (Steps links.now direction) start target.now) }
 {
     let _valid = links.processors();
     let mut levels = Levels::new();

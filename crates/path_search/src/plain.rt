@@ -1,5 +1,7 @@
 //! The searches in their plainest form, in which each level asks every processor, and what they and the calls say of
 //! generated states.
+ghost use Rattle.std.specs.Prelude.{◌<◌};
+
 use crate::direction::Direction;
 use crate::tests::link;
 use crate::{back_chain, back_set, chain_to, chain_to_idle, reach};

@@ -1,4 +1,4 @@
-use Rattle.std.proofs.Common.{◌≡◌, ℕ, ◌+◌, ◌-◌, ◌<◌, List, [], ◌∷◌, ◌++◌, length, refl, sym, ap, ◌∙◌, subst, arith, IsTrue}
+use Rattle.std.proofs.Common.{ℕ, ◌+◌, ◌-◌, ◌<◌, List, [], ◌∷◌, ◌++◌, refl, sym, ap, ◌∙◌, subst, arith, IsTrue}
 use Rattle.affinity_mask.specs.ProcSet.{has}
 use Rattle.link_table.specs.Chain.{IsLeastSuch}
 use Rattle.path_search.specs.Paths.{Steps, IsPathFrom, LeadsInto}
@@ -29,12 +29,22 @@ before_all-before-requires t c = λ p h.
     p h)
 
 pub least_through-chain-requires : goal.least_through-chain-requires
-least_through-chain-requires t c =
-    (let some = c.if-n-eq0.false in omega arith, (c.requires.start, (c.requires.levels, (let place = c.requires.place in omega arith,
-    IsFirstMet-before (Steps c.args.links.now c.args.direction) c.args.start c.args.target (c.args.n + 1) c.at.result c.both-ends.result
-    (level_at (Steps c.args.links.now c.args.direction) c.args.start c.args.levels.now c.args.n c.requires.levels c.requires.place c.at.result c.at.ensures) c.requires.met c.both-ends.ensures.contents
-    (let some = c.if-n-eq0.false in omega arith) c.before_all-before.result c.before_all-before.ensures
-    (c.args.n - 1 + 1) (let some = c.if-n-eq0.false in omega arith)))))
+least_through-chain-requires t c = (
+  let some = c.if-n-eq0.false in omega arith,
+  (
+    c.requires.start,
+    (
+      c.requires.levels,
+      (
+        let place = c.requires.place in omega arith,
+        IsFirstMet-before (Steps c.args.links.now c.args.direction) c.args.start c.args.target (c.args.n + 1) c.at.result c.both-ends.result
+            (level_at (Steps c.args.links.now c.args.direction) c.args.start c.args.levels.now c.args.n c.requires.levels c.requires.place c.at.result c.at.ensures) c.requires.met c.both-ends.ensures.contents
+            (let some = c.if-n-eq0.false in omega arith) c.before_all-before.result c.before_all-before.ensures
+            (c.args.n - 1 + 1) (let some = c.if-n-eq0.false in omega arith),
+      ),
+    ),
+  ),
+)
 
 pub after-after-requires : goal.after-after-requires
 after-after-requires t c =

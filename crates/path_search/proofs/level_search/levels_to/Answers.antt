@@ -1,4 +1,4 @@
-use Rattle.std.proofs.Common.{◌≡◌, ℕ, ◌<◌, length, sym, ap, ◌∙◌, arith}
+use Rattle.std.proofs.Common.{length, sym, ap, ◌∙◌, arith}
 use Rattle.std.proofs.lemmas.Bool.{true≢false}
 use Rattle.path_search.specs.Paths.{Steps}
 use Rattle.path_search.proofs.Distances.{IsAway-below}
@@ -25,8 +25,8 @@ after_all-requires c = λ p h. IsAway-below c.args.links.now c.processors-valid.
 pub loop-direction-smaller : goal.loop-direction-smaller
 loop-direction-smaller c =
     let room =
-        IsLevel-room c.args.links.now c.processors-valid.ensures.valid c.args.direction c.args.start c.requires (length c.loop-direction.levels) c.loop-direction.level c.loop-direction.invariant.next
-        (λ none. true≢false (sym (c.is_empty.ensures.1 none) ∙ c.loop-direction-test.true)) in
+    IsLevel-room c.args.links.now c.processors-valid.ensures.valid c.args.direction c.args.start c.requires (length c.loop-direction.levels) c.loop-direction.level c.loop-direction.invariant.next
+    (λ none. true≢false (sym (c.is_empty.ensures.1 none) ∙ c.loop-direction-test.true)) in
     let n = ap length c.push.ensures ∙ length-behind c.loop-direction.levels c.loop-direction.level in omega arith
 
 pub loop-direction-preserved : goal.loop-direction-preserved
