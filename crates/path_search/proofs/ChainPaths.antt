@@ -1,24 +1,15 @@
--- Chains and back chains as paths, and what a bounded search says of all of them.
-use Rattle.std.proofs.Common.{◌≡◌, ℕ, ◌<◌, ◌≤◌, List, [], ◌∷◌, length, Option, Some, None, nat_eq, refl, sym, ◌∙◌, subst, IsTrue, ◌↔◌, arith, eq-eqb, eqb-true}
+-- Chains and back chains as paths.
+use Rattle.std.proofs.Common.{◌≡◌, ℕ, ◌<◌, List, [], ◌∷◌, Option, Some, None, nat_eq, refl, sym, ◌∙◌, subst, IsTrue, ◌↔◌, eq-eqb, eqb-true}
 use Rattle.affinity_mask.specs.ProcSet.{has}
 use Rattle.link_table.specs.State.{State, IsState, IsIdle, task_on, effective_mask}
 use Rattle.link_table.specs.Chain.{IsPath, IsChainOf, IsBackChain, EndsIdle, EndsOnTask, EntersBy}
-use Rattle.link_table.proofs.Ends.{has_decided, least_chain_exists, least_chain_is_simple, least_back_chain_exists, least_back_chain_is_simple}
-use Rattle.link_table.proofs.Masks.{effective_mask_below}
-use Rattle.link_table.proofs.Simple.{length-simple}
 use Rattle.path_search.specs.declared.direction.Direction.TheVariants.{Onward, Back}
-use Rattle.path_search.specs.Paths.{Steps, IsPathFrom, LeadsInto, IsLeastUpTo, IsLeastIfAny, EndsIn}
-use Rattle.path_search.proofs.LeastPaths.{IsPathFrom-all_below}
+use Rattle.path_search.specs.Paths.{Steps, IsPathFrom, LeadsInto, IsLeastIfAny, EndsIn}
 
 -- two properties of the same lists have the same answer
 pub IsLeastIfAny-same : (A B : List ℕ → Type 0) → ((xs : List ℕ) → A xs → B xs) → ((xs : List ℕ) → B xs → A xs) → (answer : Option (List ℕ)) → IsLeastIfAny A answer → IsLeastIfAny B answer
 IsLeastIfAny-same A B to from None none = λ path h. none path (from path h)
 IsLeastIfAny-same A B to from (Some path) least = record { itself = to path least.itself; least = λ other h. least.least other (from other h) }
-
--- where some list of at most n processors has the property if any has it, a search up to n answers of them all
-pub IsLeastIfAny-up_to : (Has : List ℕ → Type 0) (n : ℕ) → ((path : List ℕ) → Has path → (short : List ℕ) × Has short × (length short ≤ n)) → (answer : Option (List ℕ)) → IsLeastUpTo n Has answer → IsLeastIfAny Has answer
-IsLeastIfAny-up_to Has n short None none = λ path h. let found = short path h in let longer = none found.0 found.1 in let fits = found.2 in absurd (omega arith)
-IsLeastIfAny-up_to Has n short (Some path) least = least.0
 
 -- ---- chains
 path_from_chain : (s : State) (t : ℕ) (chain : List ℕ) (q : ℕ) → IsChainOf s t chain q → IsPathFrom (Steps s Onward) (effective_mask s t) chain q
@@ -29,24 +20,15 @@ chain_from_path : (s : State) (t : ℕ) (chain : List ℕ) (q : ℕ) → IsPathF
 chain_from_path s t [] q c = c
 chain_from_path s t (p ∷ rest) q c = c
 
-module _ (s : State) (ok : IsState s) (t ends : ℕ) where
-  short_chain : (chain : List ℕ) → EndsIn s t ends chain → (short : List ℕ) × EndsIn s t ends short × (length short ≤ s.processors)
-  short_chain chain h =
-      let least = least_chain_exists s ok t (λ q. IsTrue (has ends q)) (has_decided ends) chain h in
-      let short = least.1.itself in
-      (least.0, short, length-simple s.processors least.0 (least_chain_is_simple s ok t (λ q. IsTrue (has ends q)) least.0 least.1) (IsPathFrom-all_below s ok Onward (effective_mask s t) least.0 short.0 (effective_mask_below s ok t) (path_from_chain s t least.0 short.0 short.1)))
+-- the least path of shifts from the mask of t into a set is the least chain of t that ends there
+pub chain_answer : (s : State) (t ends : ℕ) (answer : Option (List ℕ)) → IsLeastIfAny (LeadsInto (Steps s Onward) (effective_mask s t) ends) answer → IsLeastIfAny (EndsIn s t ends) answer
+chain_answer s t ends answer found = IsLeastIfAny-same (LeadsInto (Steps s Onward) (effective_mask s t) ends) (EndsIn s t ends) to from answer found
+  where
+    to : (path : List ℕ) → LeadsInto (Steps s Onward) (effective_mask s t) ends path → EndsIn s t ends path
+    to path h = (h.0, chain_from_path s t path h.0 h.1, h.2)
 
-  -- the search among as many processors as there are answers of all chains of t that end in the set
-  pub chain_answer : (answer : Option (List ℕ)) → IsLeastUpTo s.processors (LeadsInto (Steps s Onward) (effective_mask s t) ends) answer → IsLeastIfAny (EndsIn s t ends) answer
-  chain_answer answer found =
-      IsLeastIfAny-same (LeadsInto (Steps s Onward) (effective_mask s t) ends) (EndsIn s t ends) to from answer
-      (IsLeastIfAny-up_to (LeadsInto (Steps s Onward) (effective_mask s t) ends) s.processors (λ path h. let short = short_chain path (to path h) in (short.0, from short.0 short.1, short.2)) answer found)
-    where
-      to : (path : List ℕ) → LeadsInto (Steps s Onward) (effective_mask s t) ends path → EndsIn s t ends path
-      to path h = (h.0, chain_from_path s t path h.0 h.1, h.2)
-
-      from : (path : List ℕ) → EndsIn s t ends path → LeadsInto (Steps s Onward) (effective_mask s t) ends path
-      from path h = (h.0, path_from_chain s t path h.0 h.1, h.2)
+    from : (path : List ℕ) → EndsIn s t ends path → LeadsInto (Steps s Onward) (effective_mask s t) ends path
+    from path h = (h.0, path_from_chain s t path h.0 h.1, h.2)
 
 -- chains that end in the set of one processor
 module _ (s : State) (t p one : ℕ) (is_one : (q : ℕ) → has one q ≡ nat_eq q p) where
@@ -85,21 +67,13 @@ module _ (s : State) (p start : ℕ) (is_start : (q : ℕ) → has start q ≡ n
   pub start_below : p < s.processors → (q : ℕ) → IsTrue (has start q) → q < s.processors
   start_below below q h = let e = eqb-true q p (sym (is_start q) ∙ h) in subst (λ (x : ℕ). x < s.processors) (sym e) below
 
-  module _ (ok : IsState s) (below : p < s.processors) (w entries : ℕ) (is_entries : entries ≡ effective_mask s w) where
+  module _ (w entries : ℕ) (is_entries : entries ≡ effective_mask s w) where
     to : (path : List ℕ) → LeadsInto (Steps s Back) start entries path → EntersBy s p w path
     to path h = (h.0, back_chain_from_path path h.0 h.1, subst (λ (X : ℕ). IsTrue (has X h.0)) is_entries h.2)
 
     from : (path : List ℕ) → EntersBy s p w path → LeadsInto (Steps s Back) start entries path
     from path h = (h.0, path_from_back_chain path h.0 h.1, subst (λ (X : ℕ). IsTrue (has X h.0)) (sym is_entries) h.2)
 
-    short_back_chain : (chain : List ℕ) → EntersBy s p w chain → (short : List ℕ) × EntersBy s p w short × (length short ≤ s.processors)
-    short_back_chain chain h =
-        let least = least_back_chain_exists s ok p w below chain h in
-        let short = least.1.itself in
-        (least.0, short, length-simple s.processors least.0 (least_back_chain_is_simple s ok p w least.0 least.1) (IsPathFrom-all_below s ok Back start least.0 short.0 (start_below below) (path_from_back_chain least.0 short.0 short.1)))
-
-    -- the search among as many processors as there are answers of all back chains to p by which w can enter
-    pub back_chain_answer : (answer : Option (List ℕ)) → IsLeastUpTo s.processors (LeadsInto (Steps s Back) start entries) answer → IsLeastIfAny (EntersBy s p w) answer
-    back_chain_answer answer found =
-        IsLeastIfAny-same (LeadsInto (Steps s Back) start entries) (EntersBy s p w) to from answer
-        (IsLeastIfAny-up_to (LeadsInto (Steps s Back) start entries) s.processors (λ path h. let short = short_back_chain path (to path h) in (short.0, from short.0 short.1, short.2)) answer found)
+    -- the least path back from p into the mask of w is the least back chain to p by which w can enter
+    pub back_chain_answer : (answer : Option (List ℕ)) → IsLeastIfAny (LeadsInto (Steps s Back) start entries) answer → IsLeastIfAny (EntersBy s p w) answer
+    back_chain_answer answer found = IsLeastIfAny-same (LeadsInto (Steps s Back) start entries) (EntersBy s p w) to from answer found

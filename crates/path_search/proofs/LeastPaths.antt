@@ -71,6 +71,12 @@ path_parted : (Step : ℕ → ℕ → Type 0) (p r : ℕ) (rest : List ℕ) (q :
 path_parted Step p r [] q path = ([], p, ap (λ (z : ℕ). z ∷ []) path.1, refl, subst (Step p) path.1 path.0)
 path_parted Step p r (x ∷ rest) q path = let later = path_parted Step r x rest q path.1 in (r ∷ later.0, later.1, ap (λ (z : List ℕ). r ∷ z) later.2, (path.0, later.3), later.4)
 
+-- a path of one processor, or a path to some processor and a step from there
+pub last_step : (Step : ℕ → ℕ → Type 0) (start : ℕ) (path : List ℕ) (q : ℕ) → IsPathFrom Step start path q → ((path ≡ q ∷ []) × IsTrue (has start q)) ⊎ ((front : List ℕ) × (e : ℕ) × (path ≡ front ++ q ∷ []) × IsPathFrom Step start front e × Step e q)
+last_step Step start [] q path = absurd path
+last_step Step start (p ∷ []) q path = inl (ap (λ (z : ℕ). z ∷ []) path.1, subst (λ (x : ℕ). IsTrue (has start x)) path.1 path.0)
+last_step Step start (p ∷ r ∷ rest) q path = let parts = path_parted Step p r rest q path.1 in inr (p ∷ parts.0, parts.1, ap (λ (z : List ℕ). p ∷ z) parts.2, (path.0, parts.3), parts.4)
+
 -- ---- paths into a target, and those into what steps into it
 module _ (Step : ℕ → ℕ → Type 0) (start target : ℕ) where
   -- a path of one processor, or a path and a last step from its end into the target
@@ -120,50 +126,46 @@ module _ (Step : ℕ → ℕ → Type 0) (start target : ℕ) where
         front_length [] e path = absurd path
         front_length (x ∷ rest) e path = omega arith
 
-    module _ (apart : both ≡ empty) (before : ℕ) (is_before : (q : ℕ) → IsTrue (has before q) → (r : ℕ) × Step q r × IsTrue (has target r)) (all_before : (q r : ℕ) → Step q r → IsTrue (has target r) → IsTrue (has before q)) where
-      -- where they do not, a path has a last step
-      pub has_step : (path : List ℕ) → LeadsInto Step start target path → (front : List ℕ) × (last : ℕ) × (path ≡ front ++ last ∷ []) × LeadsInto Step start before front
-      has_step path leads = elim (parted path leads) [
-        | inl one ↦ absurd (no_member both one.0 apart (is_both one.0 ∙ and_from (has start one.0) (has target one.0) one.2 one.3))
-        | inr longer ↦ (longer.front, longer.last, longer.parts, (longer.e, longer.leads, all_before longer.e longer.last longer.step longer.there))
-      ]
+  module _ (apart : (p : ℕ) → IsTrue (has start p) → IsTrue (has target p) → ⊥) (before : ℕ) (is_before : (q : ℕ) → IsTrue (has before q) → (r : ℕ) × Step q r × IsTrue (has target r)) (all_before : (q r : ℕ) → Step q r → IsTrue (has target r) → IsTrue (has before q)) where
+    -- where they do not, a path has a last step
+    pub has_step : (path : List ℕ) → LeadsInto Step start target path → (front : List ℕ) × (last : ℕ) × (path ≡ front ++ last ∷ []) × LeadsInto Step start before front
+    has_step path leads = elim (parted path leads) [
+      | inl one ↦ absurd (apart one.0 one.2 one.3)
+      | inr longer ↦ (longer.front, longer.last, longer.parts, (longer.e, longer.leads, all_before longer.e longer.last longer.step longer.there))
+    ]
 
-      -- no path into what steps into the target is that short, and so none into the target
-      pub none_longer : (n : ℕ) → ((path : List ℕ) → LeadsInto Step start before path → n < length path) → (path : List ℕ) → LeadsInto Step start target path → n + 1 < length path
-      none_longer n none path leads = let parts = has_step path leads in let l = ap length parts.2 ∙ length-behind parts.0 parts.1 in let more = none parts.0 parts.3 in omega arith
+    -- the least path into what steps into the target, and the least processor of the target that can follow
+    least_more : (path : List ℕ) (q : ℕ) → IsLeastSuch (LeadsInto Step start before) path → IsPathFrom Step start path q → (p : ℕ) → Step q p → IsTrue (has target p) → ((r : ℕ) → Step q r → IsTrue (has target r) → p ≤ r)
+        → IsLeastSuch (LeadsInto Step start target) (path ++ p ∷ [])
+    least_more path q least leads p step there least_next = record {
+      itself = (p, IsPathFrom-push Step start path q p leads step, there);
+      least = λ other h. elim (parted other h) [
+        | inl one ↦ absurd (apart one.0 one.2 one.3)
+        | inr longer ↦ elim (least.least longer.front (longer.e, longer.leads, all_before longer.e longer.last longer.step longer.there)) [
+          | inl same ↦ against longer.front longer.e longer.last same longer.leads longer.step longer.there other longer.parts
+          | inr less ↦ inr (subst (IsLess (path ++ p ∷ [])) (sym longer.parts) (less_behind path longer.front p longer.last less))
+        ]
+      ];
+    }
+      where
+        against : (front : List ℕ) (e last : ℕ) → path ≡ front → IsPathFrom Step start front e → Step e last → IsTrue (has target last) → (other : List ℕ) → other ≡ front ++ last ∷ [] → (path ++ p ∷ [] ≡ other) ⊎ IsLess (path ++ p ∷ []) other
+        against front e last same leads' step' there' other parts =
+            let ends : e ≡ q = sym (IsPathFrom-end Step start front e leads') ∙ ap (λ (z : List ℕ). get_or z (length z - 1) 0) (sym same) ∙ IsPathFrom-end Step start path q leads in
+            let le = least_next last (subst (λ (x : ℕ). Step x last) ends step') there' in
+            let here : other ≡ path ++ last ∷ [] = parts ∙ ap (λ (z : List ℕ). z ++ last ∷ []) (sym same) in
+            elim (cases_eq p last) [
+              | inl e' ↦ inl (ap (λ (z : ℕ). path ++ z ∷ []) e' ∙ sym here)
+              | inr ne ↦ inr (subst (IsLess (path ++ p ∷ [])) (sym here) (inr (length-behind path p ∙ sym (length-behind path last), lexicographic_last path p last (omega arith))))
+            ]
 
-      -- the least path into what steps into the target, and the least processor of the target that can follow
-      least_more : (path : List ℕ) (q : ℕ) → IsLeastSuch (LeadsInto Step start before) path → IsPathFrom Step start path q → (p : ℕ) → Step q p → IsTrue (has target p) → ((r : ℕ) → Step q r → IsTrue (has target r) → p ≤ r)
-          → IsLeastSuch (LeadsInto Step start target) (path ++ p ∷ [])
-      least_more path q least leads p step there least_next = record {
-        itself = (p, IsPathFrom-push Step start path q p leads step, there);
-        least = λ other h. elim (parted other h) [
-          | inl one ↦ absurd (no_member both one.0 apart (is_both one.0 ∙ and_from (has start one.0) (has target one.0) one.2 one.3))
-          | inr longer ↦ elim (least.least longer.front (longer.e, longer.leads, all_before longer.e longer.last longer.step longer.there)) [
-            | inl same ↦ against longer.front longer.e longer.last same longer.leads longer.step longer.there other longer.parts
-            | inr less ↦ inr (subst (IsLess (path ++ p ∷ [])) (sym longer.parts) (less_behind path longer.front p longer.last less))
-          ]
-        ];
-      }
-        where
-          against : (front : List ℕ) (e last : ℕ) → path ≡ front → IsPathFrom Step start front e → Step e last → IsTrue (has target last) → (other : List ℕ) → other ≡ front ++ last ∷ [] → (path ++ p ∷ [] ≡ other) ⊎ IsLess (path ++ p ∷ []) other
-          against front e last same leads' step' there' other parts =
-              let ends : e ≡ q = sym (IsPathFrom-end Step start front e leads') ∙ ap (λ (z : List ℕ). get_or z (length z - 1) 0) (sym same) ∙ IsPathFrom-end Step start path q leads in
-              let le = least_next last (subst (λ (x : ℕ). Step x last) ends step') there' in
-              let here : other ≡ path ++ last ∷ [] = parts ∙ ap (λ (z : List ℕ). z ++ last ∷ []) (sym same) in
-              elim (cases_eq p last) [
-                | inl e' ↦ inl (ap (λ (z : ℕ). path ++ z ∷ []) e' ∙ sym here)
-                | inr ne ↦ inr (subst (IsLess (path ++ p ∷ [])) (sym here) (inr (length-behind path p ∙ sym (length-behind path last), lexicographic_last path p last (omega arith))))
-              ]
+    module _ (last after common : ℕ) (is_after : (r : ℕ) → IsTrue (has after r) ↔ Step last r) (is_common : (r : ℕ) → has common r ≡ (has after r && has target r)) where
+      -- what steps into the target has a next processor there
+      pub some_next : IsTrue (has before last) → common ≡ empty → ⊥
+      some_next h none = let step = is_before last h in no_member common step.0 none (is_common step.0 ∙ and_from (has after step.0) (has target step.0) ((is_after step.0).1 step.1) step.2)
 
-      module _ (last after common : ℕ) (is_after : (r : ℕ) → IsTrue (has after r) ↔ Step last r) (is_common : (r : ℕ) → has common r ≡ (has after r && has target r)) where
-        -- what steps into the target has a next processor there
-        pub some_next : IsTrue (has before last) → common ≡ empty → ⊥
-        some_next h none = let step = is_before last h in no_member common step.0 none (is_common step.0 ∙ and_from (has after step.0) (has target step.0) ((is_after step.0).1 step.1) step.2)
-
-        -- the least path into what steps into the target, and the least next processor there
-        pub least_behind : (path : List ℕ) → IsLeastSuch (LeadsInto Step start before) path → IsPathFrom Step start path last → (next : ℕ) → IsLeastMember common next → IsLeastSuch (LeadsInto Step start target) (path ++ next ∷ [])
-        least_behind path least leads next member =
-            let parts = and_parts (has after next) (has target next) (sym (is_common next) ∙ member.0) in
-            least_more path last least leads next ((is_after next).0 parts.0) parts.1
-            (λ r step there. member.1 r (is_common r ∙ and_from (has after r) (has target r) ((is_after r).1 step) there))
+      -- the least path into what steps into the target, and the least next processor there
+      pub least_behind : (path : List ℕ) → IsLeastSuch (LeadsInto Step start before) path → IsPathFrom Step start path last → (next : ℕ) → IsLeastMember common next → IsLeastSuch (LeadsInto Step start target) (path ++ next ∷ [])
+      least_behind path least leads next member =
+          let parts = and_parts (has after next) (has target next) (sym (is_common next) ∙ member.0) in
+          least_more path last least leads next ((is_after next).0 parts.0) parts.1
+          (λ r step there. member.1 r (is_common r ∙ and_from (has after r) (has target r) ((is_after r).1 step) there))

@@ -1,5 +1,8 @@
 pub mod ChainPaths
 pub mod Closures
+pub mod Distances
+pub mod FirstMet
 pub mod LeastPaths
+pub mod LevelSearch
 pub mod Moves
 pub mod Rests

@@ -1,8 +1,8 @@
 -- Steps, and the sets of processors before and after them.
-use Rattle.std.proofs.Common.{◌≡◌, ℕ, ◌+◌, ◌<◌, ◌≤◌, ◌||◌, Option, Some, None, nat_eq, refl, sym, ◌∙◌, subst, inl, inr, ◌⊎◌, ◌↔◌, IsTrue, arith, eq-eqb, eqb-true}
-use Rattle.std.proofs.lemmas.Bool.{cases_eq, or_cases, or_left, or_right}
+use Rattle.std.proofs.Common.{◌≡◌, ℕ, ◌<◌, ◌||◌, ◌&&◌, not, Option, Some, None, nat_eq, refl, sym, ◌∙◌, subst, inl, inr, ◌⊎◌, ◌↔◌, IsTrue, eq-eqb, eqb-true, ne_eqb}
+use Rattle.std.proofs.lemmas.Bool.{cases_eq, or_cases, or_left, or_right, and_parts, and_from, not_from_false}
 use Rattle.std.proofs.lemmas.Option.{same_Some}
-use Rattle.affinity_mask.specs.ProcSet.{has, empty}
+use Rattle.affinity_mask.specs.ProcSet.{has, empty, Within}
 use Rattle.affinity_mask.proofs.Meetings.{no_member}
 use Rattle.link_table.specs.State.{State, IsState, task_on, effective_mask}
 use Rattle.link_table.specs.Chain.{CanShift}
@@ -10,7 +10,7 @@ use Rattle.link_table.proofs.Linked.{occupied_number}
 use Rattle.link_table.proofs.Masks.{effective_mask_below}
 use Rattle.path_search.specs.declared.direction.Direction.{Direction}
 use Rattle.path_search.specs.declared.direction.Direction.TheVariants.{Onward, Back}
-use Rattle.path_search.specs.Paths.{Steps, StepsInto}
+use Rattle.path_search.specs.Paths.{Steps}
 
 -- a step leads to one of the processors
 pub Steps-below : (s : State) → IsState s → (direction : Direction) (p q : ℕ) → Steps s direction p q → q < s.processors
@@ -38,74 +38,43 @@ module _ (X Y p : ℕ) (added : (q : ℕ) → has Y q ≡ (has X q || nat_eq q p
     | inr here ↦ inr (eqb-true q p here)
   ]
 
--- ---- the processors whose occupant can be shifted into a set, found so far among those below p
-pub record SourcesBelow (s : State) (set found p : ℕ) : Type 0 where
-  pub sound : (q : ℕ) → IsTrue (has found q) → StepsInto s Onward q set
-  pub complete : (q : ℕ) → q < p → StepsInto s Onward q set → IsTrue (has found q)
+-- ---- the processors to which steps lead from a set, found so far: all but those from the rest of the set
+pub record IsUnionSoFar (Step : ℕ → ℕ → Type 0) (set found rest : ℕ) : Type 0 where
+  pub within : Within rest set
+  pub sound : (q : ℕ) → IsTrue (has found q) → (p : ℕ) × IsTrue (has set p) × Step p q
+  pub complete : (p q : ℕ) → IsTrue (has set p) → Step p q → IsTrue (has rest p) ⊎ IsTrue (has found q)
 
-pub SourcesBelow-start : (s : State) (set found : ℕ) → found ≡ empty → SourcesBelow s set found 0
-SourcesBelow-start s set found none = record {
+pub IsUnionSoFar-start : (Step : ℕ → ℕ → Type 0) (set found : ℕ) → found ≡ empty → IsUnionSoFar Step set found set
+IsUnionSoFar-start Step set found none = record {
+  within = λ p h. h;
   sound = λ q h. absurd (no_member found q none h);
-  complete = λ q lt. absurd (omega arith);
+  complete = λ p q h step. inl h;
 }
 
-module _ (s : State) (set found p : ℕ) (so_far : SourcesBelow s set found p) where
-  pub SourcesBelow-passed : (StepsInto s Onward p set → ⊥) → SourcesBelow s set found (p + 1)
-  SourcesBelow-passed out = record {
-    sound = so_far.sound;
-    complete = λ q lt step. elim (cases_eq q p) [
-      | inl e ↦ absurd (out (subst (λ (x : ℕ). StepsInto s Onward x set) e step))
-      | inr ne ↦ so_far.complete q (omega arith) step
-    ];
-  }
-
-  pub SourcesBelow-added : (more : ℕ) → ((q : ℕ) → has more q ≡ (has found q || nat_eq q p)) → StepsInto s Onward p set → SourcesBelow s set more (p + 1)
-  SourcesBelow-added more added here = record {
-    sound = λ q h. elim (added_cases found more p added q h) [
+module _ (Step : ℕ → ℕ → Type 0) (set found rest : ℕ) (so_far : IsUnionSoFar Step set found rest) where
+  -- one processor of the rest is done
+  pub IsUnionSoFar-more : (p after found' rest' : ℕ) → IsTrue (has rest p) → ((q : ℕ) → IsTrue (has after q) ↔ Step p q) → ((q : ℕ) → has found' q ≡ (has found q || has after q)) → ((q : ℕ) → has rest' q ≡ (has rest q && not (nat_eq q p))) → IsUnionSoFar Step set found' rest'
+  IsUnionSoFar-more p after found' rest' here is_after grown fewer = record {
+    within = λ q h. so_far.within q (and_parts (has rest q) (not (nat_eq q p)) (sym (fewer q) ∙ h)).0;
+    sound = λ q h. elim (or_cases (has found q) (has after q) (sym (grown q) ∙ h)) [
       | inl before ↦ so_far.sound q before
-      | inr e ↦ subst (λ (x : ℕ). StepsInto s Onward x set) (sym e) here
+      | inr new ↦ (p, so_far.within p here, (is_after q).0 new)
     ];
-    complete = λ q lt step. elim (cases_eq q p) [
-      | inl e ↦ subst (λ (x : ℕ). IsTrue (has more x)) (sym e) (added_here found more p added)
-      | inr ne ↦ added_keeps found more p added q (so_far.complete q (omega arith) step)
-    ];
-  }
-
-  pub SourcesBelow-end : IsState s → s.processors ≤ p → (q : ℕ) → IsTrue (has found q) ↔ StepsInto s Onward q set
-  SourcesBelow-end ok all q = (so_far.sound q, λ step. so_far.complete q (let below = occupied_number s q step.1.0 ok step.1.1 in omega arith) step)
-
--- ---- the processors to which the occupants of a set can be shifted, found so far of those below p
-pub record ReachedBelow (s : State) (set found p : ℕ) : Type 0 where
-  pub sound : (q : ℕ) → IsTrue (has found q) → StepsInto s Back q set
-  pub complete : (r q : ℕ) → r < p → CanShift s r q → IsTrue (has set r) → IsTrue (has found q)
-
-pub ReachedBelow-start : (s : State) (set found : ℕ) → found ≡ empty → ReachedBelow s set found 0
-ReachedBelow-start s set found none = record {
-  sound = λ q h. absurd (no_member found q none h);
-  complete = λ r q lt. absurd (omega arith);
-}
-
-module _ (s : State) (set found p : ℕ) (so_far : ReachedBelow s set found p) where
-  pub ReachedBelow-passed : ((q : ℕ) → CanShift s p q → IsTrue (has set p) → ⊥) → ReachedBelow s set found (p + 1)
-  ReachedBelow-passed out = record {
-    sound = so_far.sound;
-    complete = λ r q lt shift there. elim (cases_eq r p) [
-      | inl e ↦ absurd (out q (subst (λ (x : ℕ). CanShift s x q) e shift) (subst (λ (x : ℕ). IsTrue (has set x)) e there))
-      | inr ne ↦ so_far.complete r q (omega arith) shift there
+    complete = λ r q h step. elim (so_far.complete r q h step) [
+      | inl left ↦ (elim (cases_eq r p) [
+        | inl e ↦ inr (grown q ∙ or_right (has found q) (has after q) ((is_after q).1 (subst (λ (x : ℕ). Step x q) e step)))
+        | inr ne ↦ inl (fewer r ∙ and_from (has rest r) (not (nat_eq r p)) left (not_from_false (nat_eq r p) (ne_eqb r p ne)))
+      ])
+      | inr before ↦ inr (grown q ∙ or_left (has found q) (has after q) before)
     ];
   }
 
-  pub ReachedBelow-added : (u mask more : ℕ) → task_on s p ≡ Some u → mask ≡ effective_mask s u → ((q : ℕ) → has more q ≡ (has found q || has mask q)) → IsTrue (has set p) → ReachedBelow s set more (p + 1)
-  ReachedBelow-added u mask more on is added there = record {
-    sound = λ q h. elim (or_cases (has found q) (has mask q) (sym (added q) ∙ h)) [
-      | inl before ↦ so_far.sound q before
-      | inr new ↦ (p, (u, on, subst (λ (X : ℕ). IsTrue (has X q)) is new), there)
-    ];
-    complete = λ r q lt shift in_set. elim (cases_eq r p) [
-      | inl e ↦ added q ∙ or_right (has found q) (has mask q) (subst (λ (X : ℕ). IsTrue (has X q)) (sym is) (CanShift-occupant s p q u on (subst (λ (x : ℕ). CanShift s x q) e shift)))
-      | inr ne ↦ added q ∙ or_left (has found q) (has mask q) (so_far.complete r q (omega arith) shift in_set)
-    ];
-  }
-
-  pub ReachedBelow-end : IsState s → s.processors ≤ p → (q : ℕ) → IsTrue (has found q) ↔ StepsInto s Back q set
-  ReachedBelow-end ok all q = (so_far.sound q, λ step. so_far.complete step.0 q (let below = occupied_number s step.0 step.1.0 ok step.1.1 in omega arith) step.1 step.2)
+  -- none is left
+  pub IsUnionSoFar-end : rest ≡ empty → (q : ℕ) → IsTrue (has found q) ↔ ((p : ℕ) × IsTrue (has set p) × Step p q)
+  IsUnionSoFar-end none q = (
+    so_far.sound q,
+    λ step. elim (so_far.complete step.0 q step.1 step.2) [
+      | inl left ↦ absurd (no_member rest step.0 none left)
+      | inr here ↦ here
+    ],
+  )

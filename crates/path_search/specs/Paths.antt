@@ -2,7 +2,7 @@
 -- processor is in the set, and a step leads from each processor to the next one. Onward a step is a shift of an
 -- occupant, and back it is such a shift read the other way round. A search for a least list answers the least of all
 -- lists with the property, or nothing where there is none.
-use Rattle.std.specs.Prelude.{ℕ, ◌<◌, ◌≤◌, List, [], ◌∷◌, length, Option, Some, None, IsTrue}
+use Rattle.std.specs.Prelude.{ℕ, List, [], ◌∷◌, Option, Some, None, IsTrue}
 use Rattle.affinity_mask.specs.ProcSet.{has}
 use Rattle.link_table.specs.State.{State}
 use Rattle.link_table.specs.Chain.{CanShift, IsPath, IsChainOf, IsLeastSuch}
@@ -23,6 +23,15 @@ abbrev pub Steps : State → Direction → ℕ → ℕ → Type 0
 Steps s Onward = λ p q. CanShift s p q
 Steps s Back = λ p q. CanShift s q p
 
+-- the other direction
+abbrev pub opposite_of : Direction → Direction
+opposite_of Onward = Back
+opposite_of Back = Onward
+
+-- some step leads from the set to q
+abbrev pub StepsFrom : State → Direction → ℕ → ℕ → Type 0
+StepsFrom s direction set q = (p : ℕ) × IsTrue (has set p) × Steps s direction p q
+
 -- some step leads from p into the set
 abbrev pub StepsInto : State → Direction → ℕ → ℕ → Type 0
 StepsInto s direction p set = (q : ℕ) × Steps s direction p q × IsTrue (has set q)
@@ -39,9 +48,3 @@ LeadsTo Step start q = (path : List ℕ) × IsPathFrom Step start path q
 -- a path from a set of processors into another one
 abbrev pub LeadsInto : (ℕ → ℕ → Type 0) → ℕ → ℕ → List ℕ → Type 0
 LeadsInto Step start target path = (q : ℕ) × IsPathFrom Step start path q × IsTrue (has target q)
-
--- the answer is the least of all paths with the property and has at most n processors, or it is nothing, and then each
--- path with the property has more than n
-abbrev pub IsLeastUpTo : ℕ → (List ℕ → Type 0) → Option (List ℕ) → Type 0
-IsLeastUpTo n Has None = (path : List ℕ) → Has path → n < length path
-IsLeastUpTo n Has (Some path) = IsLeastSuch Has path × (length path ≤ n)

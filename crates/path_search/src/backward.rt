@@ -29,5 +29,5 @@ pub fn back_chain(links: &Links, w: u32, p: u8) -> Option<Chain>
 {
     let entries = links.effective(w);
     let start = ProcSet::one(p);
-    least_path(links, Direction::Back, start, entries, links.processors())
+    least_path(links, Direction::Back, start, entries)
 }

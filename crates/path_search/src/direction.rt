@@ -2,9 +2,8 @@
 ghost use Rattle.std.specs.Prelude.{◌≡◌, ℕ, ◌<◌, IsTrue, ◌↔◌};
 ghost use Rattle.affinity_mask.specs.ProcSet.{has};
 ghost use Rattle.link_table.specs.State.{IsState};
-ghost use Rattle.path_search.specs.Paths.{Steps, StepsInto};
+ghost use Rattle.path_search.specs.Paths.{Steps, StepsFrom, StepsInto, opposite_of};
 
-use crate::shifts::{shifts_from, shifts_into};
 use affinity_mask::ProcSet;
 use link_table::Links;
 
@@ -19,6 +18,16 @@ pub enum Direction {
 }
 
 impl Direction {
+    /// The other direction.
+    fn opposite(self) -> Direction
+        ensures { result ≡ opposite_of self }
+    {
+        match self {
+            Direction::Onward => Direction::Back,
+            Direction::Back => Direction::Onward,
+        }
+    }
+
     /// The processors to which one step leads from a processor.
     pub fn after(self, links: &Links, p: u8) -> ProcSet
         requires { p < links.now.processors }
@@ -30,21 +39,29 @@ impl Direction {
                 Some(u) => links.effective(u),
                 None => ProcSet::empty(),
             },
-            Direction::Back => {
-                prove!(p < links.processors());
-                shifts_into(links, &ProcSet::one(p))
-            }
+            Direction::Back => links.feeders(p),
         }
     }
 
-    /// The processors from which one step leads into a set.
-    pub fn before(self, links: &Links, set: &ProcSet) -> ProcSet
-        ensures contents { (p : ℕ) → IsTrue (has result p) ↔ StepsInto links.now self p set.now }
-        ensures valid { IsState links.now }
+    /// The processors to which one step leads from a set.
+    pub fn after_all(self, links: &Links, set: &ProcSet) -> ProcSet
+        requires { (p : ℕ) → IsTrue (has set.now p) → p < links.now.processors }
+        ensures { (q : ℕ) → IsTrue (has result q) ↔ StepsFrom links.now self set.now q }
     {
-        match self {
-            Direction::Onward => shifts_into(links, set),
-            Direction::Back => shifts_from(links, set),
+        let mut found = ProcSet::empty();
+        let mut rest = *set;
+        while let Some(p) = rest.least() {
+            found = found.either_of(&self.after(links, p));
+            rest = rest.without(p);
         }
+        found
+    }
+
+    /// The processors from which one step leads into a set.
+    pub fn before_all(self, links: &Links, set: &ProcSet) -> ProcSet
+        requires { (p : ℕ) → IsTrue (has set.now p) → p < links.now.processors }
+        ensures { (p : ℕ) → IsTrue (has result p) ↔ StepsInto links.now self p set.now }
+    {
+        self.opposite().after_all(links, set)
     }
 }

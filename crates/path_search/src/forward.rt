@@ -46,5 +46,5 @@ fn chain_into(links: &Links, t: u32, ends: ProcSet) -> Option<Chain>
     ensures { IsLeastIfAny (EndsIn links.now t ends) result }
 {
     let start = links.effective(t);
-    least_path(links, Direction::Onward, start, ends, links.processors())
+    least_path(links, Direction::Onward, start, ends)
 }

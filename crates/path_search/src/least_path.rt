@@ -1,41 +1,68 @@
 //! The search for a least path.
-ghost use Rattle.std.specs.Prelude.{◌≡◌, ℕ, ◌<◌, ◌≤◌, IsTrue};
+ghost use Rattle.std.specs.Prelude.{◌≡◌, ℕ, ◌+◌, ◌<◌, IsTrue, length, List};
 ghost use Rattle.affinity_mask.specs.ProcSet.{has};
-ghost use Rattle.path_search.specs.Paths.{Steps, LeadsInto, IsLeastUpTo};
+ghost use Rattle.link_table.specs.Chain.{IsLeastSuch};
+ghost use Rattle.path_search.specs.Paths.{Steps, LeadsInto, IsLeastIfAny};
+ghost use Rattle.path_search.specs.Levels.{AreLevels, IsFirstMet};
 
 use crate::direction::Direction;
+use crate::level_search::levels_to;
+use crate::levels::Levels;
 use affinity_mask::ProcSet;
 use link_table::{Chain, Links};
 
-/// The least path from one set of processors into another, where one of at most `most` processors leads there.
-///
-/// Without its last processor it is the least path into what steps into the target. So the last one is the least that
-/// can follow there.
+/// The least path from one set of processors into another. `None` just where none leads there.
 pub fn least_path(
     links: &Links,
     direction: Direction,
     start: ProcSet,
     target: ProcSet,
-    most: u8,
 ) -> Option<Chain>
-    requires start { (p : ℕ) → IsTrue (has start p) → p < links.now.processors }
-    requires most { most ≤ 64 }
-    ensures { IsLeastUpTo most (LeadsInto (Steps links.now direction) start target) result }
+    requires { (p : ℕ) → IsTrue (has start p) → p < links.now.processors }
+    ensures { IsLeastIfAny (LeadsInto (Steps links.now direction) start target) result }
 {
-    if most == 0 {
+    let Some(levels) = levels_to(links, direction, start, &target) else {
         return None;
-    }
-    if let Some(p) = start.both(&target).least() {
+    };
+    let last = levels.len() - 1;
+    Some(least_through(links, direction, start, &levels, last, target))
+}
+
+/// The least path into a target that the levels first meet at place `n`.
+///
+/// Without its last processor it is the least path into those of the level before that step into the target. So the
+/// last one is the least that can follow there.
+fn least_through(
+    links: &Links,
+    direction: Direction,
+    start: ProcSet,
+    levels: &Levels,
+    n: usize,
+    target: ProcSet,
+) -> Chain
+    requires start { (p : ℕ) → IsTrue (has start p) → p < links.now.processors }
+    requires levels { AreLevels (Steps links.now direction) start levels.now }
+    requires place { n < length levels.now }
+    requires met { IsFirstMet (Steps links.now direction) start target (n + 1) }
+    ensures least { IsLeastSuch (LeadsInto (Steps links.now direction) start target) result }
+    ensures length { length result ≡ n + 1 }
+{
+    let _valid = links.processors();
+    let ends = levels.at(n).both(&target);
+    if n == 0 {
         let mut chain = Chain::new();
-        chain.push(p);
-        return Some(chain);
+        let Some(first) = ends.least() else {
+            unreachable!()
+        };
+        chain.push(first);
+        return chain;
     }
-    let before = direction.before(links, &target);
-    let mut chain = least_path(links, direction, start, before, most - 1)?;
-    let last = chain.at(chain.len() - 1);
-    let Some(next) = direction.after(links, last).both(&target).least() else {
+    let before = direction.before_all(links, &ends);
+    let mut chain = least_through(links, direction, start, levels, n - 1, before);
+    let after = direction.after(links, chain.at(n - 1));
+    let Some(next) = after.both(&ends).least() else {
         unreachable!()
     };
     chain.push(next);
-    Some(chain)
+    chain
 }

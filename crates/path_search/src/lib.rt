@@ -6,7 +6,8 @@
 //! takes memory.
 //!
 //! A back chain is a chain read against the shifts, so both kinds are paths in a direction: one search serves for the
-//! sets, and one for the least lists.
+//! sets, and one for the least lists. A least list is searched by levels of sets, up to the first level that meets the
+//! target. Then the levels are cut back to what leads on to the target, and the list is read from the first level on.
 #![tactic(auto)]
 
 mod backward;
@@ -14,7 +15,10 @@ mod direction;
 mod ends;
 mod forward;
 mod least_path;
-mod shifts;
+mod level_search;
+mod levels;
+#[cfg(test)]
+mod plain;
 #[cfg(test)]
 mod tests;
 

@@ -37,7 +37,7 @@ struct Row {
     back_chain: Option<&'static [u8]>,
 }
 
-static ROWS: [Row; 9] = [
+static ROWS: [Row; 10] = [
     // A chain through all occupants.
     Row {
         processors: 3,
@@ -167,10 +167,28 @@ static ROWS: [Row; 9] = [
         back: &[0, 1, 2, 3, 4],
         back_chain: Some(&[0, 1, 4]),
     },
+    // The least predecessor of an end need not be on the least chain to it, in either direction.
+    Row {
+        processors: 6,
+        tasks: &[
+            (&[0, 4], Some(0)),
+            (&[1, 5], Some(1)),
+            (&[0, 2], Some(2)),
+            (&[4, 5], Some(5)),
+            (&[1, 2], None),
+        ],
+        t: 4,
+        p: 4,
+        reach: &[0, 1, 2, 4, 5],
+        to_idle: Some(&[1, 5, 4]),
+        to_p: Some(&[1, 5, 4]),
+        back: &[0, 1, 2, 4, 5],
+        back_chain: Some(&[4, 0, 2]),
+    },
 ];
 
 /// An absent task becomes ready, and is linked to a processor of its mask.
-fn link(rt: &impl Abort, links: &mut Links, t: u32, p: u8) {
+pub fn link(rt: &impl Abort, links: &mut Links, t: u32, p: u8) {
     assert!(rt; p < 64 && t < links.len());
     assert!(rt; !links.is_ready(t));
     links.make_ready(t);
@@ -242,6 +260,7 @@ fn searches_by_calls(rt: HostRuntime) -> Result<(), Fail> {
     }
     Ok(())
 }
+
 /// Each processor but the last is occupied, and its task may move on by one.
 #[test]
 fn the_longest_chain(rt: HostRuntime) -> Result<(), Fail> {

@@ -3,5 +3,4 @@ use Rattle.path_search.proofs.backward.back_chain.Goals as goal
 
 pub returns : goal.returns
 returns c =
-    back_chain_answer c.args.links.now c.args.p c.one-start.result c.one-start.ensures c.effective-entries.ensures.valid c.requires.processor c.args.w c.effective-entries.result c.effective-entries.ensures.value
-    c.least_path.result (rw c.processors.ensures.value at c.least_path.ensures)
+    back_chain_answer c.args.links.now c.args.p c.one-start.result c.one-start.ensures c.args.w c.effective-entries.result c.effective-entries.ensures.value c.least_path.result c.least_path.ensures
