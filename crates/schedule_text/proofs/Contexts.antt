@@ -79,8 +79,7 @@ context_named set context fields a b c d e f g h i j k eleven same =
     let third = skip first in
     let fifth = skip third in
     let seventh = skip fifth in
-    let ninth = skip seventh in
-    (
+    let ninth = skip seventh in (
       head_same first,
       (
         head_same (tail_same first),

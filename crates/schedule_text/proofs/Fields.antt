@@ -56,6 +56,7 @@ canonical_without field n small number plain =
   where
     digits_by_value : IsNumeralModel (AllDigits 10) (digits_value 10)
     digits_by_value = numerals_by_value (AllDigits 10) tells_digits
+
     alone : get_or field 0 0 ≡ 48 → length field ≡ 1
     alone zero_first = elim (cases_lt 1 (length field)) [
       | inl more ↦ absurd (plain (more, zero_first))

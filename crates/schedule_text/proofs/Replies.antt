@@ -1,5 +1,5 @@
 -- The shapes of replies: what a reply says follows from its fields.
-use Rattle.std.proofs.Common.{◌≡◌, ◌≢◌, ℕ, ◌<◌, ◌⊎◌, inl, inr, List, [], ◌∷◌, length, All, Option, Some, None, refl, sym, ap, ◌∙◌, subst, arith}
+use Rattle.std.proofs.Common.{◌≡◌, ◌≢◌, ℕ, ◌<◌, ◌⊎◌, inl, inr, List, [], ◌∷◌, length, All, Option, Some, None, refl, sym, ap, ◌∙◌, arith}
 use Rattle.std.specs.Prelude.{codes}
 use Rattle.task_set.specs.TaskSet.{SetData}
 use Rattle.task_set.specs.Refusal.{IsNameOf}
@@ -115,8 +115,7 @@ displaced : (set : SetData) (chain name processors : List ℕ) (reply : Reply)
     → AreParts chain processors × IsNamed set name
 displaced set chain name processors (Displaced links out reach) f =
     let third = tail_same (tail_same f.each_field) in
-    let fifth = tail_same (tail_same third) in
-    (
+    let fifth = tail_same (tail_same third) in (
       parts chain processors links reach f.processors (second f.each_field) (second fifth),
       (out, the_task set out f.about, second third),
     )
@@ -129,8 +128,7 @@ freed : (set : SetData) (chain name processors : List ℕ) (reply : Reply)
     → AreParts chain processors × ((entered : Option ℕ) × IsSomebodyField set name entered)
 freed set chain name processors (Freed entered links back) f =
     let third = tail_same (tail_same f.each_field) in
-    let fifth = tail_same (tail_same third) in
-    (
+    let fifth = tail_same (tail_same third) in (
       parts chain processors links back f.processors (second f.each_field) (second fifth),
       (entered, record { about = the_somebody set entered f.about; is_text = second third }),
     )

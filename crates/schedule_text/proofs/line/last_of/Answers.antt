@@ -1,4 +1,4 @@
-use Rattle.std.proofs.Common.{arith, rules, ◌≡◌, ◌≢◌}
+use Rattle.std.proofs.Common.{arith, rules, ◌≢◌}
 use Rattle.std.specs.Prelude.{codes}
 use Rattle.schedule_text.proofs.Contexts.{last_none}
 use Rattle.schedule_text.proofs.line.last_of.Goals as goal

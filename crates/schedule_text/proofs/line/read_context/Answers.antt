@@ -17,6 +17,9 @@ pub returns-clause-refused : goal.returns-clause-refused
 returns-clause-refused c =
     let cut : texts c.deref.result.now ≡ spaced_fields_of c.args.text.now = ap texts c.deref.ensures.value
     ∙ c.in_ok-fields.ensures in
-    inr (refl, λ context f. c.in-None.ensures context
-    (subst (λ (fields : List (List ℕ)). IsContextFields c.args.set.now c.args.t fields context) (sym cut)
-    (context_to_fields c.args.set.now c.args.t c.args.text.now context c.len-valid.ensures.valid c.requires f)))
+    inr (
+      refl,
+      λ context f. c.in-None.ensures context
+          (subst (λ (fields : List (List ℕ)). IsContextFields c.args.set.now c.args.t fields context) (sym cut)
+          (context_to_fields c.args.set.now c.args.t c.args.text.now context c.len-valid.ensures.valid c.requires f)),
+    )

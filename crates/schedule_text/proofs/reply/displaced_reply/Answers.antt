@@ -1,4 +1,4 @@
-use Rattle.std.proofs.Common.{inr, ℕ, List}
+use Rattle.std.proofs.Common.{inr}
 use Rattle.std.proofs.lemmas.Result.{err_from_is_err_and}
 use Rattle.schedule_text.specs.Fields.{IsChainField, IsSetField}
 use Rattle.schedule_text.specs.LineFields.{displaced_fields}
