@@ -20,7 +20,7 @@ use Rattle.schedule_text.specs.Schedule.{HasProcessors}
 use Rattle.task_set.specs.Event.{HasUnits}
 use Rattle.schedule_text.specs.LineForms.{HasFields, IsTaskForm, IsEntryForm, IsEntryText, IsContextText}
 use Rattle.schedule_text.specs.Fields.{spaced_fields_of}
-use Rattle.schedule_text.specs.LineFields.{reply_fields, entry_fields, context_fields, IsTaskFields, IsEntryFields, IsSomeEntry}
+use Rattle.schedule_text.specs.LineFields.{reply_fields, entry_fields, context_fields, IsTaskFields, IsContextFields, IsEntryFields, IsSomeEntry}
 use Rattle.schedule_text.proofs.Fields.{split_joined, joined_split}
 use Rattle.schedule_text.proofs.Names.{set_fields}
 use Rattle.schedule_text.proofs.Spaces.{EachByte, IsNoSpace, high_no_space, none_from_no_space, field_no_space, fields_no_space, number_bytes, task_bytes, event_bytes, reply_bytes, context_bytes}
@@ -247,13 +247,25 @@ context_tail context =
     ∷ canonical_number context.trail ∷ []
 
 pub context_to_fields : (set : SetData) (t : ℕ) (text : List ℕ) (context : Context) → IsTaskSet set
-    → t < length set.tasks → IsContextText set t text context → spaced_fields_of text
-    ≡ context_fields set context
+    → t < length set.tasks → IsContextText set t text context
+    → IsContextFields set t (spaced_fields_of text) context
 context_to_fields set t text context valid within f =
-    fields_back text (name_of set context.task) (context_tail context)
-    (line_same text (spaced (context_fields set context)) (f.is_text ∙ context_spaced set context))
-    (context_bytes IsNoSpace high_no_space set t context (fields_no_space set (set_fields set valid)) within
-    f.of_task)
+    record {
+      of_task = f.of_task;
+      each_field = fields_back text (name_of set context.task) (context_tail context)
+          (line_same text (spaced (context_fields set context)) (f.is_text ∙ context_spaced set context))
+          (context_bytes IsNoSpace high_no_space set t context (fields_no_space set (set_fields set valid)) within
+          f.of_task);
+    }
+
+pub context_to_text : (set : SetData) (t : ℕ) (text : List ℕ) (context : Context)
+    → IsContextFields set t (spaced_fields_of text) context → IsContextText set t text context
+context_to_text set t text context f =
+    record {
+      of_task = f.of_task;
+      is_text = ap line (text_back text (context_fields set context) f.each_field)
+          ∙ sym (context_spaced set context);
+    }
 
 -- a number after a word
 pub number_to_fields : (word text : List ℕ) (n : ℕ) → text ≡ word ++ 32 ∷ canonical_number n

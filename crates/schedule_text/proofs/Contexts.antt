@@ -5,11 +5,12 @@ use Rattle.affinity_mask.specs.Number.{canonical_number, number_value}
 use Rattle.text_fields.specs.Number.{IsNumberWithin}
 use Rattle.task_set.specs.TaskSet.{SetData}
 use Rattle.task_set.specs.declared.context.Context.{Context}
+use Rattle.text_fields.specs.EventText.{name_of}
 use Rattle.text_fields.specs.Fields.{texts}
 use Rattle.schedule_text.specs.ScheduleText.{number_text}
 use Rattle.schedule_text.specs.Schedule.{IsContextOf}
 use Rattle.schedule_text.specs.Fields.{IsNumberField, IsLastField}
-use Rattle.schedule_text.specs.LineFields.{context_fields}
+use Rattle.schedule_text.specs.LineFields.{context_fields, AreContextWords, IsContextFields}
 use Rattle.text_fields.proofs.Words.{head_same, tail_same}
 use Rattle.std.proofs.lemmas.Fmt.{decimal_injective}
 use Rattle.schedule_text.proofs.Fields.{number_once, number_lacks, number_within}
@@ -69,6 +70,96 @@ context_said set context fields a b c d e f g h i j k eleven same =
       trail_is = head_same last;
     }
 
+-- the name and the words of a context
+pub context_named : (set : SetData) (context : Context) (fields : List (List ℕ)) (a b c d e f g h i j k : List ℕ)
+    → fields ≡ a ∷ b ∷ c ∷ d ∷ e ∷ f ∷ g ∷ h ∷ i ∷ j ∷ k ∷ [] → fields ≡ context_fields set context
+    → (a ≡ name_of set context.task) × AreContextWords b d f h j
+context_named set context fields a b c d e f g h i j k eleven same =
+    let first = sym eleven ∙ same in
+    let third = skip first in
+    let fifth = skip third in
+    let seventh = skip fifth in
+    let ninth = skip seventh in (
+      head_same first,
+      (
+        head_same (tail_same first),
+        head_same (tail_same third),
+        head_same (tail_same fifth),
+        head_same (tail_same seventh),
+        head_same (tail_same ninth),
+      ),
+    )
+
+-- the fields of a context, from what they say
+pub context_from_said : (set : SetData) (context : Context) (fields : List (List ℕ)) (a b c d e f g h i j k : List ℕ)
+    → fields ≡ a ∷ b ∷ c ∷ d ∷ e ∷ f ∷ g ∷ h ∷ i ∷ j ∷ k ∷ [] → a ≡ name_of set context.task
+    → AreContextWords b d f h j → AreSaid c e g i k context → fields ≡ context_fields set context
+context_from_said set context fields a b c d e f g h i j k eleven name words said =
+    eleven ∙ eleven_same name words.0 said.units_are words.1 said.stints_are words.2 said.moves_are words.3
+    said.last_is words.4 said.trail_is
+  where
+    eleven_same : {a' b' c' d' e' f' g' h' i' j' k' : List ℕ} → a ≡ a' → b ≡ b' → c ≡ c' → d ≡ d' → e ≡ e' → f ≡ f'
+        → g ≡ g' → h ≡ h' → i ≡ i' → j ≡ j' → k ≡ k'
+        → a ∷ b ∷ c ∷ d ∷ e ∷ f ∷ g ∷ h ∷ i ∷ j ∷ k ∷ []
+        ≡ a' ∷ b' ∷ c' ∷ d' ∷ e' ∷ f' ∷ g' ∷ h' ∷ i' ∷ j' ∷ k' ∷ []
+    eleven_same e1 e2 e3 e4 e5 e6 e7 e8 e9 e10 e11 = cc
+
+-- what eleven fields say
+pub eleven_said : (set : SetData) (t : ℕ) (fields : List (Bor (List ℕ))) (d : Bor (List ℕ)) (context : Context)
+    → 11 ≤ length fields → length fields < 12 → IsContextFields set t (texts fields) context
+    → AreSaid (get_or fields 2 d).now (get_or fields 4 d).now (get_or fields 6 d).now (get_or fields 8 d).now
+    (get_or fields 10 d).now context
+eleven_said set t fields d context some few f =
+    context_said set context (texts fields) _ _ _ _ _ _ _ _ _ _ _ (texts_eleven fields d some few) f.each_field
+
+-- and their name and words
+pub eleven_named : (set : SetData) (t : ℕ) (fields : List (Bor (List ℕ))) (d : Bor (List ℕ)) (context : Context)
+    → 11 ≤ length fields → length fields < 12 → IsContextFields set t (texts fields) context
+    → ((get_or fields 0 d).now ≡ name_of set t)
+    × AreContextWords (get_or fields 1 d).now (get_or fields 3 d).now (get_or fields 5 d).now
+    (get_or fields 7 d).now (get_or fields 9 d).now
+eleven_named set t fields d context some few f =
+    let named = context_named set context (texts fields) _ _ _ _ _ _ _ _ _ _ _ (texts_eleven fields d some few)
+    f.each_field in
+    (named.0 ∙ ap (name_of set) f.of_task.task, named.1)
+
+-- a number that fits is one of 64 bits
+pub wide_below : (n : ℕ) → n ≤ 18446744073709551615 → n < 2 ^ 64
+wide_below n high = omega arith
+
+-- a context, from eleven fields that say it
+pub context_read : (set : SetData) (t : ℕ) (fields : List (Bor (List ℕ))) (d : Bor (List ℕ)) (u s m r : ℕ)
+    (l : Option ℕ) → 11 ≤ length fields → length fields < 12
+    → (get_or fields 0 d).now ≡ name_of set t
+    → AreContextWords (get_or fields 1 d).now (get_or fields 3 d).now (get_or fields 5 d).now
+    (get_or fields 7 d).now (get_or fields 9 d).now
+    → IsNumberField 0 18446744073709551615 (get_or fields 2 d).now u
+    → IsNumberField 0 18446744073709551615 (get_or fields 4 d).now s
+    → IsNumberField 0 18446744073709551615 (get_or fields 6 d).now m → IsLastField (get_or fields 8 d).now l
+    → IsNumberField 0 18446744073709551615 (get_or fields 10 d).now r
+    → IsContextFields set t (texts fields)
+    (record { task = t; units = u; stints = s; moves = m; last = l; trail = r })
+context_read set t fields d u s m r l some few name words fu fs fm fl fr =
+    record {
+      of_task = record {
+        task = refl;
+        units = wide_below u fu.range.1;
+        stints = wide_below s fs.range.1;
+        moves = wide_below m fm.range.1;
+        last = fl.processor;
+        trail = wide_below r fr.range.1;
+      };
+      each_field = context_from_said set (record { task = t; units = u; stints = s; moves = m; last = l; trail = r })
+          (texts fields) _ _ _ _ _ _ _ _ _ _ _ (texts_eleven fields d some few) name words
+          (record {
+            units_are = fu.is_text;
+            stints_are = fs.is_text;
+            moves_are = fm.is_text;
+            last_is = fl.is_text;
+            trail_is = fr.is_text;
+          });
+    }
+
 -- a number of a context is within the bounds of the format
 pub wide : (field : List ℕ) (n : ℕ) → n < 2 ^ 64 → field ≡ canonical_number n
     → IsNumberField 0 18446744073709551615 field n
@@ -108,24 +199,13 @@ last_once field (Some p) (Some q) one two =
     (record { range = (omega arith, omega arith); is_text = one.is_text })
     (record { range = (omega arith, omega arith); is_text = two.is_text }))
 
--- the field of a processor is read as it
-last_read : (field : List ℕ) (p : ℕ) → IsLastField field (Some p) → IsNumberWithin 0 63 field p
-last_read field p f =
-    let below : p < 64 = f.processor in
-    number_within 0 63 field p (lit< tt) (record { range = (omega arith, omega arith); is_text = f.is_text })
-
-pub last_found : (field : List ℕ) (p : ℕ) (last : Option ℕ) → field ≢ codes "-" → IsNumberWithin 0 63 field p
-    → IsLastField field last → Some p ≡ last
-last_found field p None no_dash f is = absurd (no_dash is.is_text)
-last_found field p (Some q) no_dash f is = ap Some (same_value field p q f.0.1 (last_read field q is).0.1)
-
-pub last_none : (field : List ℕ) (last : Option ℕ) → field ≢ codes "-" → ((p : ℕ) → IsNumberWithin 0 63 field p → ⊥)
+-- what is neither '-' nor a processor is no last processor
+pub last_none : (field : List ℕ) (last : Option ℕ) → field ≢ codes "-" → ((p : ℕ) → IsNumberField 0 63 field p → ⊥)
     → IsLastField field last → ⊥
-last_none field None no_dash none is = no_dash is.is_text
-last_none field (Some q) no_dash none is = none q (last_read field q is)
-
-pub last_dash : (field : List ℕ) (last : Option ℕ) → field ≡ codes "-" → IsLastField field last → None ≡ last
-last_dash field last dash is = last_once field None last (record { processor = tt; is_text = dash }) is
+last_none field None no_dash none f = no_dash f.is_text
+last_none field (Some p) no_dash none f =
+    let below : p < 64 = f.processor in
+    none p (record { range = (omega arith, omega arith); is_text = f.is_text })
 
 five_same : (t u s m r : ℕ) (l : Option ℕ) (context : Context) → context.task ≡ t → u ≡ context.units → s
     ≡ context.stints → m ≡ context.moves → l ≡ context.last → r ≡ context.trail

@@ -16,6 +16,7 @@ use Rattle.schedule_text.specs.Fields.{links_of, IsNumberField, IsListField, IsS
 use Rattle.text_fields.proofs.Words.{head_same, tail_same}
 use Rattle.schedule_text.proofs.Fields.{number_none, number_differs, list_refused, list_differs, list_read, set_empty, set_read, set_none}
 use Rattle.schedule_text.proofs.Chains.{chain_empty, chain_read, chain_none}
+use Rattle.schedule_text.proofs.Contexts.{last_none}
 
 -- a byte is in a text or not
 pub byte_decided : (byte : ℕ) (text : List ℕ) → Contains text byte ⊎ (Contains text byte → ⊥)
@@ -162,15 +163,8 @@ last_field_decided field = elim (bytes_decided field (codes "-")) [
       record
           { processor = (let high = found.1.range.1 in omega arith); is_text = found.1.is_text },
     )
-    | inr none ↦ inr (neither no_dash none)
+    | inr none ↦ inr (λ last f. last_none field last no_dash none f)
   ]
 ]
-  where
-    neither : (field ≢ codes "-") → ((n : ℕ) → IsNumberField 0 63 field n → ⊥) → (last : Option ℕ)
-        → IsLastField field last → ⊥
-    neither no_dash none None f = no_dash f.is_text
-    neither no_dash none (Some p) f =
-        let below : p < 64 = f.processor in
-        none p (record { range = (omega arith, omega arith); is_text = f.is_text })
 
 -- ---- tasks

@@ -19,7 +19,7 @@ use Rattle.text_fields.proofs.Decisions.{bytes_decided}
 use Rattle.schedule_text.proofs.Decisions.{field_decided, number_field_decided, set_field_decided, chain_field_decided}
 use Rattle.text_fields.proofs.NamedTasks.{named_task}
 use Rattle.schedule_text.proofs.Shapes.{no_event, arrival_fault, departure_fault, tick_fault, arrival_read, departure_read}
-use Rattle.schedule_text.proofs.Replies.{placed_read, waits_read, placed_none, waits_none, two_none, displaced_read, freed_read, displaced_no_chain, displaced_no_set, freed_no_chain, freed_no_set, displaced_fault, freed_fault}
+use Rattle.schedule_text.proofs.Replies.{placed_read, waits_read, placed_none, waits_none, two_none, displaced_read, freed_read, displaced_parts, freed_parts, displaced_fault, freed_fault}
 use Rattle.schedule_text.proofs.FieldLists.{six_displaced, six_freed, six_none}
 use Rattle.schedule_text.proofs.Entries.{entry_of_parts, some_parts, reply_fault, both_faults, event_unknown, event_bad}
 use Rattle.schedule_text.proofs.ReplyParts.{no_task_named, no_processors}
@@ -144,9 +144,9 @@ two_decided set word value = elim (bytes_decided word (codes "placed")) [
 displaced_decided : (set : SetData) (chain name processors : List ℕ)
     → IsReplyDecided set (displaced_fields chain name processors)
 displaced_decided set chain name processors = elim (chain_field_decided chain) [
-  | inr none ↦ no_reply set (displaced_fields chain name processors) (displaced_no_chain chain name processors none)
+  | inr none ↦ no_reply set (displaced_fields chain name processors) (λ some. let parts = displaced_parts chain name processors some in none parts.links parts.is_chain)
   | inl links ↦ elim (set_field_decided processors) [
-    | inr none ↦ no_reply set (displaced_fields chain name processors) (displaced_no_set chain name processors none)
+    | inr none ↦ no_reply set (displaced_fields chain name processors) (λ some. let parts = displaced_parts chain name processors some in none parts.X parts.is_set)
     | inl reach ↦ elim (name_field_decided set name) [
       | inl out ↦ inl (
         Displaced links.0 out.0 reach.0,
@@ -164,9 +164,9 @@ displaced_decided set chain name processors = elim (chain_field_decided chain) [
 
 freed_decided : (set : SetData) (chain name processors : List ℕ) → IsReplyDecided set (freed_fields chain name processors)
 freed_decided set chain name processors = elim (chain_field_decided chain) [
-  | inr none ↦ no_reply set (freed_fields chain name processors) (freed_no_chain chain name processors none)
+  | inr none ↦ no_reply set (freed_fields chain name processors) (λ some. let parts = freed_parts chain name processors some in none parts.links parts.is_chain)
   | inl links ↦ elim (set_field_decided processors) [
-    | inr none ↦ no_reply set (freed_fields chain name processors) (freed_no_set chain name processors none)
+    | inr none ↦ no_reply set (freed_fields chain name processors) (λ some. let parts = freed_parts chain name processors some in none parts.X parts.is_set)
     | inl back ↦ elim (somebody_decided set name) [
       | inl entered ↦ inl (
         Freed entered.0 links.0 back.0,

@@ -1,13 +1,13 @@
 -- What a field says: numbers, lists, sets and chains of processors.
-use Rattle.std.proofs.Common.{◌≡◌, ◌≢◌, ℕ, ◌+◌, ◌<◌, ◌≤◌, ◌^◌, false, ◌==◌, nat_eq, ◌⊎◌, inl, inr, IsTrue, List, [], ◌∷◌, length, map, get_or, All, Contains, refl, sym, ap, ◌∙◌, subst, arith, ne_eqb, eq-eqb, length-append}
+use Rattle.std.proofs.Common.{◌≡◌, ◌≢◌, ℕ, zero, suc, ◌+◌, ◌<◌, ◌≤◌, ◌^◌, false, ◌==◌, nat_eq, ◌⊎◌, inl, inr, IsTrue, List, [], ◌∷◌, length, map, get_or, All, Contains, Option, Some, None, MatchOption, refl, sym, ap, ◌∙◌, subst, arith, ne_eqb, eq-eqb, length-append}
 use Rattle.std.specs.Prelude.{codes}
 use Rattle.std.specs.List.{slice_split, join_with_byte}
-use Rattle.std.specs.Str.Parse.{AllDigits}
-use Rattle.std.proofs.lemmas.Bool.{cases_eq, true≢false}
+use Rattle.std.specs.Str.Parse.{AllDigits, digits_value}
+use Rattle.std.proofs.lemmas.Bool.{cases_eq, cases_lt, true≢false}
 use Rattle.std.proofs.lemmas.List.Elements.{All-head, All-tail, All-from_get_or, All-contains, Contains-get_or}
 use Rattle.std.proofs.lemmas.List.Splits.{slice_split_none, slice_split_at, length-slice_split, join_with_byte-slice_split}
-use Rattle.std.proofs.lemmas.Fmt.{decimal_is_IsNumeral}
-use Rattle.std.proofs.lemmas.Str.Parse.{digit_at}
+use Rattle.std.proofs.lemmas.Fmt.{decimal_is_IsNumeral, decimal_digit, first_decimal, decimal-digits_value}
+use Rattle.std.proofs.lemmas.Str.Parse.{IsNumeralModel, numerals_by_value, tells_digits, digit_at}
 use Rattle.affinity_mask.specs.ProcSet.{has, empty}
 use Rattle.affinity_mask.specs.Number.{canonical_number}
 use Rattle.affinity_mask.specs.ListText.{Item, IsItem, IsWellFormed, IsListText, canonical_list}
@@ -16,10 +16,10 @@ use Rattle.affinity_mask.specs.declared.mask_fault.MaskFault.{MaskFault}
 use Rattle.affinity_mask.proofs.Sets.{has-zero}
 use Rattle.affinity_mask.proofs.Runs.{canonical_list-IsListText}
 use Rattle.affinity_mask.proofs.ListTexts.{list_text-one_set, list_text-no_fault}
-use Rattle.text_fields.specs.Number.{IsNumberWithin}
+use Rattle.text_fields.specs.Number.{IsNumberOf, IsNumberWithin}
 use Rattle.schedule_text.specs.ScheduleText.{set_text}
 use Rattle.schedule_text.specs.Schedule.{IsOfProcessors}
-use Rattle.schedule_text.specs.Fields.{IsNumberField, IsListField, IsSetField}
+use Rattle.schedule_text.specs.Fields.{HasLeadingZero, IsNumberField, IsListField, IsSetField}
 
 -- ---- numbers
 
@@ -44,6 +44,48 @@ number_differs least most field number small within differs n f =
     let other = number_within least most field n small f in
     let same : n ≡ number = sym other.0.1 ∙ within.0.1 in
     differs (sym (f.is_text ∙ ap canonical_number same))
+
+-- ---- leading zeros
+
+-- a number without a leading zero is canonical
+canonical_without : (field : List ℕ) (n : ℕ) → n < 2 ^ 64 → IsNumberOf field n → (HasLeadingZero field → ⊥)
+    → field ≡ canonical_number n
+canonical_without field n small number plain =
+    sym (decimal-digits_value digits_by_value field number.0.1 number.0.0 alone (omega (arith, number.1)))
+    ∙ ap canonical_number number.1
+  where
+    digits_by_value : IsNumeralModel (AllDigits 10) (digits_value 10)
+    digits_by_value = numerals_by_value (AllDigits 10) tells_digits
+
+    alone : get_or field 0 0 ≡ 48 → length field ≡ 1
+    alone zero_first = elim (cases_lt 1 (length field)) [
+      | inl more ↦ absurd (plain (more, zero_first))
+      | inr few ↦ omega (arith, number.0.0)
+    ]
+
+-- a canonical number has none
+canonical_lacks : (n : ℕ) → n < 2 ^ 64 → HasLeadingZero (canonical_number n) → ⊥
+canonical_lacks zero small leads = omega (arith, leads.0, ap length (decimal_digit 0 (omega arith)))
+canonical_lacks (suc m) small leads = omega (arith, leads.1, first_decimal (suc m) (omega arith) small)
+
+pub leading_zero_none : (least most : ℕ) (field : List ℕ) → most < 2 ^ 64 → HasLeadingZero field → (n : ℕ)
+    → IsNumberField least most field n → ⊥
+leading_zero_none least most field small leads n f =
+    let high : n ≤ most = f.range.1 in
+    canonical_lacks n (omega arith) (subst HasLeadingZero f.is_text leads)
+
+-- where there is none, a number within bounds is a canonical one, and the other way round
+pub number_matched : (least most : ℕ) (field : List ℕ) (r : Option ℕ) → most < 2 ^ 64
+    → (HasLeadingZero field → ⊥)
+    → MatchOption r ((n : ℕ) → IsNumberWithin least most field n → ⊥) (IsNumberWithin least most field)
+    → MatchOption r ((n : ℕ) → IsNumberField least most field n → ⊥) (IsNumberField least most field)
+number_matched least most field None small plain none = number_none least most field small none
+number_matched least most field (Some n) small plain within =
+    let high : n ≤ most = within.2 in
+    record {
+      range = (within.1, within.2);
+      is_text = canonical_without field n (omega arith) within.0 plain;
+    }
 
 -- a field has one canonical number
 pub number_once : (least most least' most' : ℕ) (field : List ℕ) (m n : ℕ) → most < 2 ^ 64 → most' < 2 ^ 64

@@ -1,5 +1,5 @@
 -- Each line leads on or has a fault, by what is expected, and so each text is that of a schedule or is refused.
-use Rattle.std.proofs.Common.{◌≡◌, ◌≢◌, ℕ, zero, suc, ◌+◌, ◌<◌, ◌≤◌, ◌^◌, ◌⊎◌, inl, inr, List, [], ◌∷◌, ◌++◌, length, Contains, refl, sym, ap, ◌∙◌, subst, arith, length-append, lit<}
+use Rattle.std.proofs.Common.{◌≡◌, ◌≢◌, ℕ, zero, suc, ◌+◌, ◌<◌, ◌^◌, ◌⊎◌, inl, inr, List, [], ◌∷◌, ◌++◌, length, Contains, refl, sym, ap, ◌∙◌, subst, arith, length-append, lit<}
 use Rattle.std.specs.Prelude.{codes}
 use Rattle.std.proofs.lemmas.Bool.{cases_eq, cases_lt}
 use Rattle.affinity_mask.specs.Number.{canonical_number}
@@ -24,7 +24,7 @@ use Rattle.text_fields.proofs.Addable.{can_add_decided}
 use Rattle.text_fields.proofs.Decisions.{bytes_decided}
 use Rattle.schedule_text.proofs.Decisions.{field_decided, number_field_decided, list_field_decided, last_field_decided}
 use Rattle.schedule_text.proofs.Tasks.{task_form, task_list}
-use Rattle.schedule_text.proofs.Contexts.{AreSaid, context_said, context_found, wide, wide_read, last_once, last_field}
+use Rattle.schedule_text.proofs.Contexts.{AreSaid, context_said, context_found, wide, wide_below, wide_read, last_once, last_field}
 use Rattle.schedule_text.proofs.Bridges.{task_to_text, context_to_fields, entry_to_text}
 use Rattle.schedule_text.proofs.Stages.{processors_none, processors_read, history_none, history_read, task_fault, entry_fault}
 use Rattle.schedule_text.proofs.EntriesDecided.{entry_decided}
@@ -106,12 +106,11 @@ context_numbers t units stints moves last trail = elim (number_field_decided 0 1
             (
               record {
                 task = refl;
-                units = below u.0 u.1.range.1;
-                stints = below s.0 s.1.range.1;
-                moves = below
-                    m.0 m.1.range.1;
+                units = wide_below u.0 u.1.range.1;
+                stints = wide_below s.0 s.1.range.1;
+                moves = wide_below m.0 m.1.range.1;
                 last = l.1.processor;
-                trail = below r.0 r.1.range.1;
+                trail = wide_below r.0 r.1.range.1;
               },
               record {
                 units_are = u.1.is_text;
@@ -127,9 +126,6 @@ context_numbers t units stints moves last trail = elim (number_field_decided 0 1
     ]
   ]
 ]
-  where
-    below : (n : ℕ) → n ≤ 18446744073709551615 → n < 2 ^ 64
-    below n high = omega arith
 
 -- what is said of one line is said of one context
 said_once : (set : SetData) (t : ℕ) (units stints moves last trail : List ℕ) (one other : Context) → IsContextOf t one
@@ -160,16 +156,16 @@ context_decided : (set : SetData) (t : ℕ) (text : List ℕ) → IsTaskSet set 
     → ((context : Context) × IsContextText set t text context)
     ⊎ ((context : Context) → IsContextText set t text context → ⊥)
 context_decided set t text valid within = elim (eleven_decided (spaced_fields_of text)) [
-  | inr other ↦ inr (λ context f. other (ap length (context_to_fields set t text context valid within f)))
+  | inr other ↦ inr (λ context f. other (ap length (context_to_fields set t text context valid within f).each_field))
   | inl (a, b, c, d, e, f, g, h, i, j, k, eleven) ↦ elim (context_numbers t c e g i k) [
     | inr none ↦ inr (λ context text_of. none context text_of.of_task
         (context_said set context (spaced_fields_of text) a b c d e f g h i j k eleven
-        (context_to_fields set t text context valid within text_of)))
+        (context_to_fields set t text context valid within text_of).each_field))
     | inl found ↦ elim (bytes_decided (line text) (context_line set found.0)) [
       | inl same ↦ inl (found.0, record { of_task = found.1.0; is_text = same })
       | inr differs ↦ inr (λ context text_of.
           let said = context_said set context (spaced_fields_of text) a b c d e f g h i j k eleven
-          (context_to_fields set t text context valid within text_of) in
+          (context_to_fields set t text context valid within text_of).each_field in
           let same = said_once set t c e g i k context found.0 text_of.of_task found.1.0 said found.1.1 in
           differs (text_of.is_text ∙ ap (context_line set) same))
     ]

@@ -1,5 +1,5 @@
 -- Names of tasks as fields.
-use Rattle.std.proofs.Common.{◌≡◌, ◌≢◌, ℕ, ◌<◌, List, [], ◌∷◌, length, get_or, refl, sym, ap, ◌∙◌, subst, arith}
+use Rattle.std.proofs.Common.{◌≡◌, ◌≢◌, ℕ, ◌<◌, inl, inr, List, [], ◌∷◌, length, get_or, refl, sym, ap, ◌∙◌, subst, arith}
 use Rattle.std.specs.Prelude.{codes}
 use Rattle.std.proofs.lemmas.Bool.{true≢false}
 use Rattle.std.proofs.lemmas.List.Elements.{All-cons, All-weaker}
@@ -7,8 +7,10 @@ use Rattle.task_set.specs.Name.{IsName, begins_name}
 use Rattle.task_set.specs.TaskSet.{TaskData, SetData, IsTaskSet}
 use Rattle.text_fields.specs.EventText.{name_of}
 use Rattle.text_fields.proofs.Names.{name_without}
-use Rattle.text_fields.proofs.NamedTasks.{no_task, name_at}
+use Rattle.text_fields.proofs.NamedTasks.{no_task, name_at, known_name}
 use Rattle.schedule_text.specs.LineForms.{IsField, HasFields}
+use Rattle.schedule_text.specs.LineFields.{IsNameFault, IsPartFault}
+use Rattle.schedule_text.specs.declared.fault.TextKind.{TextKind}
 
 name_some : (name : List ℕ) → IsName name → name ≢ []
 name_some [] named e = named
@@ -61,3 +63,26 @@ alone_named name = refl
 pub alone_has : (name : List ℕ) → 0 < length (alone name).tasks
 unfolding alone
 alone_has name = omega arith
+
+-- ---- faults of a name
+
+-- the name is that of a task of the set
+abbrev pub IsNamed : SetData → List ℕ → Type 0
+IsNamed set name = (t : ℕ) × (t < length set.tasks) × (name ≡ name_of set t)
+
+-- what names a task is at fault where its name is: no tasks have such a name, or only the tasks of the set have none
+pub name_fault : {X : Type 0} (Says : SetData → X → Type 0) (set : SetData) (name : List ℕ) (kind : TextKind) (x : X)
+    → ((tasks : SetData) (y : X) → Says tasks y → IsNamed tasks name) → Says (alone name) x
+    → IsNameFault set name kind
+    → IsPartFault ((tasks : SetData) × (y : X) × HasFields tasks × Says tasks y) ((y : X) × Says set y) kind
+name_fault Says set name kind x named said (inl bad) =
+    inl (
+      bad.0,
+      λ some. let task = named some.0 some.1 some.3 in bad.1
+          (subst IsField (sym task.2) (name_of_field some.0 task.0 some.2 task.1)),
+    )
+name_fault Says set name kind x named said (inr unknown) = inr (
+  unknown.0,
+  (alone name, x, alone_fields name unknown.1, said),
+  λ known. let task = named set known.0 known.1 in known_name set task.0 name task.1 task.2 unknown.2,
+)

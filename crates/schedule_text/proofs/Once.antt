@@ -207,8 +207,8 @@ module _ (version : ℕ) where
       one.1
       ∙ ap (λ (context : Context). ContextsExpected set entries (contexts ++ context ∷ []))
       (context_once set (length contexts) one.0 two.0 one.3.of_task two.3.of_task
-      (sym (context_to_fields set (length contexts) text one.0 prefix.0.valid one.2 one.3)
-      ∙ context_to_fields set (length contexts) text two.0 prefix.0.valid two.2 two.3))
+      (sym (context_to_fields set (length contexts) text one.0 prefix.0.valid one.2 one.3).each_field
+      ∙ (context_to_fields set (length contexts) text two.0 prefix.0.valid two.2 two.3).each_field))
       ∙ sym two.1
   leads_once (ContextsExpected set entries contexts) text next other prefix (inl one) (inr two) =
       (let room = one.2 in let full = two.1 in absurd (omega arith))

@@ -1,19 +1,22 @@
 -- The shapes of replies: what a reply says follows from its fields.
-use Rattle.std.proofs.Common.{◌≡◌, ◌≢◌, ℕ, ◌<◌, ◌⊎◌, inl, inr, List, [], ◌∷◌, length, Option, Some, None, refl, sym, ap, ◌∙◌, subst, arith}
+use Rattle.std.proofs.Common.{◌≡◌, ◌≢◌, ℕ, ◌<◌, ◌⊎◌, inl, inr, List, [], ◌∷◌, length, All, Option, Some, None, refl, sym, ap, ◌∙◌, arith}
 use Rattle.std.specs.Prelude.{codes}
 use Rattle.task_set.specs.TaskSet.{SetData}
 use Rattle.task_set.specs.Refusal.{IsNameOf}
 use Rattle.scheduler_reply.specs.declared.reply.Reply.{Reply}
 use Rattle.scheduler_reply.specs.declared.reply.Reply.TheVariants.{Placed, Displaced, Waits, Freed}
 use Rattle.text_fields.specs.EventText.{name_of}
-use Rattle.schedule_text.specs.LineForms.{IsField}
+use Rattle.schedule_text.specs.ScheduleText.{chain_text, set_text}
+use Rattle.schedule_text.specs.Schedule.{IsProcessorList, IsOfProcessors}
+use Rattle.schedule_text.specs.Reading.{IsOutOfMemory}
+use Rattle.schedule_text.specs.declared.fault.TextKind.TheVariants.{BadLine}
 use Rattle.schedule_text.specs.declared.fault.TextKind.{TextKind}
 use Rattle.schedule_text.specs.Fields.{IsSetField, IsChainField, IsSomebodyField}
 use Rattle.schedule_text.specs.LineFields.{IsNameFault, IsReplyFields, IsSomeReply, IsReplyFault, displaced_fields, freed_fields}
 use Rattle.text_fields.proofs.Words.{head_same, tail_same, clash, other_word}
 use Rattle.schedule_text.proofs.ReplyParts.{no_task_named, task_named, the_task, somebody_named, the_somebody, chain_alone, set_alone, chain_and_set, the_chain, the_set}
-use Rattle.schedule_text.proofs.Names.{name_of_field, alone, alone_fields, alone_named, alone_has}
-use Rattle.text_fields.proofs.NamedTasks.{named_task, known_name}
+use Rattle.schedule_text.proofs.Names.{IsNamed, name_fault, alone, alone_named, alone_has}
+use Rattle.text_fields.proofs.NamedTasks.{named_task}
 
 -- ---- a word and a value
 
@@ -89,55 +92,46 @@ six_same one two three = cc
 second : {a b : List ℕ} {x y : List ℕ} {xs ys : List (List ℕ)} → a ∷ x ∷ xs ≡ b ∷ y ∷ ys → x ≡ y
 second e = head_same (tail_same e)
 
--- what the fields of a displaced task say
-pub record IsDisplaced (set : SetData) (chain name processors : List ℕ) : Type 0 where
+-- a chain and a set of processors
+pub record AreParts (chain processors : List ℕ) : Type 0 where
   pub links : List ℕ
-  pub out : ℕ
-  pub reach : ℕ
+  pub X : ℕ
   pub is_chain : IsChainField chain links
-  pub within : out < length set.tasks
-  pub called : name ≡ name_of set out
-  pub is_set : IsSetField processors reach
+  pub is_set : IsSetField processors X
 
-pub displaced : (set : SetData) (chain name processors : List ℕ) (reply : Reply)
-    → IsReplyFields set (displaced_fields chain name processors) reply → IsDisplaced set chain name processors
-displaced set chain name processors (Displaced links out reach) f =
-    let third = tail_same (tail_same f.each_field) in
-    let fifth = tail_same (tail_same third) in
+parts : (chain processors links : List ℕ) (X : ℕ) → All IsProcessorList (links ∷ []) × All IsOfProcessors (X ∷ [])
+    → chain ≡ chain_text links → processors ≡ set_text X → AreParts chain processors
+parts chain processors links X within is are =
     record {
       links = links;
-      out = out;
-      reach = reach;
-      is_chain = record { list = the_chain links (reach ∷ []) f.processors; is_text = second f.each_field };
-      within = the_task set out f.about;
-      called = second third;
-      is_set = record { processors = the_set (links ∷ []) reach f.processors; is_text = second fifth };
+      X = X;
+      is_chain = record { list = the_chain links (X ∷ []) within; is_text = is };
+      is_set = record { processors = the_set (links ∷ []) X within; is_text = are };
     }
+
+-- what the fields of a displaced task say
+displaced : (set : SetData) (chain name processors : List ℕ) (reply : Reply)
+    → IsReplyFields set (displaced_fields chain name processors) reply
+    → AreParts chain processors × IsNamed set name
+displaced set chain name processors (Displaced links out reach) f =
+    let third = tail_same (tail_same f.each_field) in
+    let fifth = tail_same (tail_same third) in (
+      parts chain processors links reach f.processors (second f.each_field) (second fifth),
+      (out, the_task set out f.about, second third),
+    )
 displaced set chain name processors (Freed entered links back) f = absurd (clash f.each_field refl)
 displaced set chain name processors _ f = absurd (omega (arith, ap length f.each_field))
 
 -- what the fields of a freed processor say
-pub record IsFreed (set : SetData) (chain name processors : List ℕ) : Type 0 where
-  pub links : List ℕ
-  pub entered : Option ℕ
-  pub back : ℕ
-  pub is_chain : IsChainField chain links
-  pub somebody : IsSomebodyField set name entered
-  pub is_set : IsSetField processors back
-
-pub freed : (set : SetData) (chain name processors : List ℕ) (reply : Reply)
-    → IsReplyFields set (freed_fields chain name processors) reply → IsFreed set chain name processors
+freed : (set : SetData) (chain name processors : List ℕ) (reply : Reply)
+    → IsReplyFields set (freed_fields chain name processors) reply
+    → AreParts chain processors × ((entered : Option ℕ) × IsSomebodyField set name entered)
 freed set chain name processors (Freed entered links back) f =
     let third = tail_same (tail_same f.each_field) in
-    let fifth = tail_same (tail_same third) in
-    record {
-      links = links;
-      entered = entered;
-      back = back;
-      is_chain = record { list = the_chain links (back ∷ []) f.processors; is_text = second f.each_field };
-      somebody = record { about = the_somebody set entered f.about; is_text = second third };
-      is_set = record { processors = the_set (links ∷ []) back f.processors; is_text = second fifth };
-    }
+    let fifth = tail_same (tail_same third) in (
+      parts chain processors links back f.processors (second f.each_field) (second fifth),
+      (entered, record { about = the_somebody set entered f.about; is_text = second third }),
+    )
 freed set chain name processors (Displaced links out reach) f = absurd (clash f.each_field refl)
 freed set chain name processors _ f = absurd (omega (arith, ap length f.each_field))
 
@@ -169,81 +163,45 @@ freed_read set chain name processors links entered back f somebody s =
       each_field = six_same f.is_text somebody.is_text s.is_text;
     }
 
-pub displaced_no_chain : (chain name processors : List ℕ) → ((links : List ℕ) → IsChainField chain links → ⊥)
-    → IsSomeReply (displaced_fields chain name processors) → ⊥
-displaced_no_chain chain name processors none (tasks, reply, names, f) =
-    let found = displaced tasks chain name processors reply f in
-    none found.links found.is_chain
+pub displaced_parts : (chain name processors : List ℕ) → IsSomeReply (displaced_fields chain name processors)
+    → AreParts chain processors
+displaced_parts chain name processors (tasks, reply, names, f) = (displaced tasks chain name processors reply f).0
 
-pub displaced_no_set : (chain name processors : List ℕ) → ((X : ℕ) → IsSetField processors X → ⊥)
-    → IsSomeReply (displaced_fields chain name processors) → ⊥
-displaced_no_set chain name processors none (tasks, reply, names, f) =
-    let found = displaced tasks chain name processors reply f in
-    none found.reach found.is_set
+pub freed_parts : (chain name processors : List ℕ) → IsSomeReply (freed_fields chain name processors)
+    → AreParts chain processors
+freed_parts chain name processors (tasks, reply, names, f) = (freed tasks chain name processors reply f).0
 
-pub freed_no_chain : (chain name processors : List ℕ) → ((links : List ℕ) → IsChainField chain links → ⊥)
-    → IsSomeReply (freed_fields chain name processors) → ⊥
-freed_no_chain chain name processors none (tasks, reply, names, f) =
-    let found = freed tasks chain name processors reply f in
-    none found.links found.is_chain
-
-pub freed_no_set : (chain name processors : List ℕ) → ((X : ℕ) → IsSetField processors X → ⊥)
-    → IsSomeReply (freed_fields chain name processors) → ⊥
-freed_no_set chain name processors none (tasks, reply, names, f) =
-    let found = freed tasks chain name processors reply f in
-    none found.back found.is_set
+-- a part that says nothing
+pub part_fault : {A : Type 0} (Says : A → Type 0) (set : SetData) (fields : List (List ℕ)) (kind : TextKind)
+    → (IsSomeReply fields → (x : A) × Says x)
+    → IsOutOfMemory kind ⊎ ((kind ≡ BadLine) × ((x : A) → Says x → ⊥))
+    → IsOutOfMemory kind ⊎ IsReplyFault set fields kind
+part_fault Says set fields kind found (inl memory) = inl memory
+part_fault Says set fields kind found (inr bad) =
+    inr (inl (bad.0, λ some. bad.1 (found some).0 (found some).1))
 
 -- a name that is not known, where the other fields are right
 pub displaced_fault : (set : SetData) (chain name processors links : List ℕ) (reach : ℕ) (kind : TextKind)
     → IsChainField chain links → IsSetField processors reach → IsNameFault set name kind
     → IsReplyFault set (displaced_fields chain name processors) kind
-displaced_fault set chain name processors links reach kind f s (inl bad) = inl (bad.0, by)
-  where
-    by : IsSomeReply (displaced_fields chain name processors) → ⊥
-    by (tasks, reply, names, g) =
-        let found = displaced tasks chain name processors reply g in
-        bad.1 (subst IsField (sym found.called) (name_of_field tasks found.out names found.within))
-displaced_fault set chain name processors links reach kind f s (inr unknown) = inr (
-  unknown.0,
-  (
-    alone name,
-    Displaced links 0 reach,
-    alone_fields name unknown.1,
-    displaced_written (alone name) chain name
-        processors links 0 reach f (alone_has name) (alone_named name) s,
-  ),
-  λ known. let found =
-      displaced set chain name processors known.0 known.1 in known_name set found.out name found.within
-      found.called unknown.2,
-)
+displaced_fault set chain name processors links reach kind f s fault =
+    name_fault (λ (tasks : SetData) (reply : Reply). IsReplyFields tasks (displaced_fields chain name processors) reply)
+    set name kind (Displaced links 0 reach) (λ tasks reply g. (displaced tasks chain name processors reply g).1)
+    (displaced_written (alone name) chain name processors links 0 reach f (alone_has name) (alone_named name) s) fault
 
 -- who entered is a task, where it is not '-'
 known_somebody : (set : SetData) (name : List ℕ) (entered : Option ℕ) → name ≢ codes "-"
-    → IsSomebodyField set name entered → (t : ℕ) × (t < length set.tasks) × (name ≡ name_of set t)
+    → IsSomebodyField set name entered → IsNamed set name
 known_somebody set name None no_dash f = absurd (no_dash f.is_text)
 known_somebody set name (Some t) no_dash f = (t, f.about, f.is_text)
 
 pub freed_fault : (set : SetData) (chain name processors links : List ℕ) (back : ℕ) (kind : TextKind)
     → IsChainField chain links → IsSetField processors back → (name ≢ codes "-") × IsNameFault set name kind
     → IsReplyFault set (freed_fields chain name processors) kind
-freed_fault set chain name processors links back kind f s (no_dash, inl bad) = inl (bad.0, by)
-  where
-    by : IsSomeReply (freed_fields chain name processors) → ⊥
-    by (tasks, reply, names, g) =
-        let found = freed tasks chain name processors reply g in
-        let named = known_somebody tasks name found.entered no_dash found.somebody in
-        bad.1 (subst IsField (sym named.2) (name_of_field tasks named.0 names named.1))
-freed_fault set chain name processors links back kind f s (no_dash, inr unknown) = inr (
-  unknown.0,
-  (
-    alone name,
-    Freed (Some 0) links back,
-    alone_fields name unknown.1,
-    freed_read (alone name) chain name
-        processors links (Some 0) back f (record { about = alone_has name; is_text = alone_named name }) s,
-  ),
-  λ known.
-      let found = freed set chain name processors known.0 known.1 in
-      let named = known_somebody set name found.entered no_dash found.somebody in
-      known_name set named.0 name named.1 named.2 unknown.2,
-)
+freed_fault set chain name processors links back kind f s (no_dash, fault) =
+    name_fault (λ (tasks : SetData) (reply : Reply). IsReplyFields tasks (freed_fields chain name processors) reply)
+    set name kind (Freed (Some 0) links back)
+    (λ tasks reply g. let found = (freed tasks chain name processors reply g).1 in
+    known_somebody tasks name found.0 no_dash found.1)
+    (freed_read (alone name) chain name processors links (Some 0) back f
+    (record { about = alone_has name; is_text = alone_named name }) s) fault

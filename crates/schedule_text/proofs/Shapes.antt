@@ -1,26 +1,21 @@
 -- The shapes of events and replies: what a reply says follows from its fields.
-use Rattle.std.proofs.Common.{◌≡◌, ◌≢◌, ℕ, ◌<◌, inl, inr, List, [], ◌∷◌, length, refl, sym, ap, subst}
+use Rattle.std.proofs.Common.{◌≡◌, ◌≢◌, ℕ, inl, List, [], ◌∷◌, refl, sym, subst}
 use Rattle.std.specs.Prelude.{codes}
 use Rattle.task_set.specs.TaskSet.{SetData}
 use Rattle.task_set.specs.Refusal.{IsNameOf}
 use Rattle.task_set.specs.declared.event.Event.{Event}
 use Rattle.task_set.specs.declared.event.Event.TheVariants.{Arrive, Depart, Tick}
-use Rattle.text_fields.specs.EventText.{name_of}
-use Rattle.schedule_text.specs.LineForms.{IsField}
 use Rattle.schedule_text.specs.declared.fault.TextKind.{TextKind}
 use Rattle.schedule_text.specs.declared.fault.TextKind.TheVariants.{BadLine}
 use Rattle.schedule_text.specs.Fields.{IsNumberField}
 use Rattle.schedule_text.specs.LineFields.{IsNameFault, IsEventFields, IsSomeEvent, IsEventFault}
 use Rattle.text_fields.proofs.Words.{head_same, tail_same, clash}
-use Rattle.schedule_text.proofs.Names.{name_of_field, alone, alone_fields, alone_named, alone_has}
-use Rattle.text_fields.proofs.NamedTasks.{named_task, known_name}
+use Rattle.schedule_text.proofs.Names.{IsNamed, name_fault, alone_named, alone_has}
+use Rattle.text_fields.proofs.NamedTasks.{named_task}
 
 -- ---- events
 
 -- the fields of an arrival or a departure, and of a tick
-abbrev pub IsNamed : SetData → List ℕ → Type 0
-IsNamed set value = (t : ℕ) × (t < length set.tasks) × (value ≡ name_of set t)
-
 pub arrival : (set : SetData) (value : List ℕ) (event : Event)
     → IsEventFields set (codes "arrive" ∷ value ∷ []) event → IsNamed set value
 arrival set value (Arrive t) f = (t, f.about, head_same (tail_same f.each_field))
@@ -46,71 +41,31 @@ no_event word value a d t (tasks, Arrive n, names, f) = a (head_same f.each_fiel
 no_event word value a d t (tasks, Depart n, names, f) = d (head_same f.each_field)
 no_event word value a d t (tasks, Tick n, names, f) = t (head_same f.each_field)
 
--- an unknown name of a field
+named_fields : {a b x y : List ℕ} → a ≡ b → x ≡ y → a ∷ x ∷ [] ≡ b ∷ y ∷ []
+named_fields one two = cc
+
+-- a name of no task
 pub arrival_fault : (set : SetData) (word value : List ℕ) (kind : TextKind) → word ≡ codes "arrive"
     → IsNameFault set value kind → IsEventFault set (word ∷ value ∷ []) kind
 arrival_fault set word value kind is fault =
-    subst (λ (first : List ℕ). IsEventFault set (first ∷ value ∷ []) kind) (sym is) (by fault)
-  where
-    by : IsNameFault set value kind → IsEventFault set (codes "arrive" ∷ value ∷ []) kind
-    by (inl bad) =
-        inl (
-          bad.0,
-          λ some. let named = arrival some.0 value some.1 some.3 in bad.1
-              (subst IsField (sym named.2) (name_of_field some.0 named.0 some.2 named.1)),
-        )
-    by (inr unknown) = inr (
-      unknown.0,
-      (
-        alone value,
-        Arrive 0,
-        alone_fields value unknown.1,
-        record {
-          about = alone_has value;
-          units = tt;
-          each_field = ap (λ (name : List ℕ). codes "arrive" ∷ name ∷ [])
-              (alone_named value);
-        },
-      ),
-      λ known. let named = arrival set value known.0 known.1 in known_name set named.0 value named.1 named.2 unknown.2,
-    )
+    subst (λ (first : List ℕ). IsEventFault set (first ∷ value ∷ []) kind) (sym is)
+    (name_fault (λ (tasks : SetData) (event : Event). IsEventFields tasks (codes "arrive" ∷ value ∷ []) event)
+    set value kind (Arrive 0) (λ tasks event f. arrival tasks value event f)
+    (record { about = alone_has value; units = tt; each_field = named_fields refl (alone_named value) }) fault)
 
 pub departure_fault : (set : SetData) (word value : List ℕ) (kind : TextKind) → word ≡ codes "depart"
     → IsNameFault set value kind → IsEventFault set (word ∷ value ∷ []) kind
 departure_fault set word value kind is fault =
-    subst (λ (first : List ℕ). IsEventFault set (first ∷ value ∷ []) kind) (sym is) (by fault)
-  where
-    by : IsNameFault set value kind → IsEventFault set (codes "depart" ∷ value ∷ []) kind
-    by (inl bad) =
-        inl (
-          bad.0,
-          λ some. let named = departure some.0 value some.1 some.3 in bad.1
-              (subst IsField (sym named.2) (name_of_field some.0 named.0 some.2 named.1)),
-        )
-    by (inr unknown) = inr (
-      unknown.0,
-      (
-        alone value,
-        Depart 0,
-        alone_fields value unknown.1,
-        record {
-          about = alone_has value;
-          units = tt;
-          each_field = ap (λ (name : List ℕ). codes "depart" ∷ name ∷ [])
-              (alone_named value);
-        },
-      ),
-      λ known. let named = departure set value known.0 known.1 in known_name set named.0 value named.1 named.2 unknown.2,
-    )
+    subst (λ (first : List ℕ). IsEventFault set (first ∷ value ∷ []) kind) (sym is)
+    (name_fault (λ (tasks : SetData) (event : Event). IsEventFields tasks (codes "depart" ∷ value ∷ []) event)
+    set value kind (Depart 0) (λ tasks event f. departure tasks value event f)
+    (record { about = alone_has value; units = tt; each_field = named_fields refl (alone_named value) }) fault)
 
 pub tick_fault : (set : SetData) (word value : List ℕ) → word ≡ codes "tick"
     → ((n : ℕ) → IsNumberField 1 1000000 value n → ⊥) → IsEventFault set (word ∷ value ∷ []) BadLine
 tick_fault set word value is none =
     subst (λ (first : List ℕ). IsEventFault set (first ∷ value ∷ []) BadLine) (sym is)
     (inl (refl, λ some. let found = tick some.0 value some.1 some.3 in none found.0 found.1))
-
-named_fields : {a b x y : List ℕ} → a ≡ b → x ≡ y → a ∷ x ∷ [] ≡ b ∷ y ∷ []
-named_fields one two = cc
 
 pub arrival_read : (set : SetData) (word value : List ℕ) (t : ℕ) → word ≡ codes "arrive" → IsNameOf set t value
     → IsEventFields set (word ∷ value ∷ []) (Arrive t)

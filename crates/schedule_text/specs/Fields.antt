@@ -1,5 +1,5 @@
 -- Private: what a field says, for the contracts of this crate's own functions.
-use Rattle.std.specs.Prelude.{◌≡◌, ◌≢◌, ℕ, ◌<◌, ◌≤◌, ◌==◌, List, [], ◌∷◌, length, map, Option, IfSome}
+use Rattle.std.specs.Prelude.{◌≡◌, ◌≢◌, ℕ, ◌<◌, ◌≤◌, ◌==◌, List, [], ◌∷◌, length, map, slice_index, Option, IfSome}
 use Rattle.std.specs.List.{slice_split}
 use Rattle.affinity_mask.specs.ProcSet.{empty}
 use Rattle.affinity_mask.specs.Number.{canonical_number}
@@ -15,6 +15,10 @@ spaced_fields_of text = slice_split (λ byte. byte == 32) text
 -- what stands between the bytes '>' of a field
 abbrev pub links_of : List ℕ → List (List ℕ)
 links_of field = slice_split (λ byte. byte == 62) field
+
+-- a zero stands before further bytes
+abbrev pub HasLeadingZero : List ℕ → Type 0
+HasLeadingZero field = (1 < length field) × (slice_index field 0 ≡ 48)
 
 -- a canonical number within bounds
 pub record IsNumberField (least most : ℕ) (field : List ℕ) (n : ℕ) : Type 0 where

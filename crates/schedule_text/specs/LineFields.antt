@@ -13,7 +13,7 @@ use Rattle.scheduler_reply.specs.declared.reply.Entry.{Entry}
 use Rattle.text_fields.specs.LineText.{task_fields}
 use Rattle.text_fields.specs.EventText.{event_fields, name_of, IsAboutSet}
 use Rattle.schedule_text.specs.ScheduleText.{chain_text, set_text, somebody_text, number_text, IsReplyOf}
-use Rattle.schedule_text.specs.Schedule.{IsOfProcessors, HasProcessors, IsScheduled}
+use Rattle.schedule_text.specs.Schedule.{IsOfProcessors, HasProcessors, IsScheduled, IsContextOf}
 use Rattle.task_set.specs.Event.{HasUnits}
 use Rattle.schedule_text.specs.LineForms.{IsField, HasFields}
 use Rattle.schedule_text.specs.declared.fault.TextKind.{TextKind}
@@ -46,6 +46,18 @@ context_fields set context =
     ∷ canonical_number context.stints ∷ codes "moves" ∷ canonical_number context.moves
     ∷ codes "last" ∷ number_text context.last ∷ codes "trail"
     ∷ canonical_number context.trail ∷ []
+
+-- the words before the values of a context
+abbrev pub AreContextWords : List ℕ → List ℕ → List ℕ → List ℕ → List ℕ → Type 0
+AreContextWords units stints moves last trail =
+    (units ≡ codes "units") × (stints ≡ codes "stints") × (moves ≡ codes "moves")
+    × (last ≡ codes "last") × (trail ≡ codes "trail")
+
+-- the fields are those of the context of the task with this number
+pub record IsContextFields (set : SetData) (t : ℕ) (fields : List (List ℕ)) (context : Context) : Type 0
+  where
+    pub of_task : IsContextOf t context
+    pub each_field : fields ≡ context_fields set context
 
 -- the six fields of a reply that a task was displaced, and of one that a processor was freed
 abbrev pub displaced_fields : List ℕ → List ℕ → List ℕ → List (List ℕ)

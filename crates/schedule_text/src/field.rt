@@ -3,14 +3,13 @@ ghost use Rattle.std.specs.Prelude.{◌≡◌, ◌≢◌, ℕ, codes, ◌⊎◌,
 ghost use Rattle.text_fields.specs.Fields.{texts};
 ghost use Rattle.schedule_text.specs.LineForms.{IsField};
 ghost use Rattle.schedule_text.specs.Reading.{IsOutOfMemory};
-ghost use Rattle.schedule_text.specs.Fields.{spaced_fields_of, links_of, IsNumberField, IsListField, IsSetField, IsChainField, AreProcessorFields, IsNumberAfter, IsSomebodyField};
+ghost use Rattle.schedule_text.specs.Fields.{spaced_fields_of, links_of, IsNumberField, IsListField, IsSetField, IsChainField, AreProcessorFields, IsNumberAfter, IsSomebodyField, HasLeadingZero};
 ghost use Rattle.schedule_text.specs.LineFields.{IsNameFault};
 ghost use Rattle.task_set.specs.Refusal.{IsNameOf};
 ghost use Rattle.schedule_text.specs.declared.fault.TextKind.TheVariants.{BadLine};
 
 use crate::fault::TextKind;
 use affinity_mask::{OutOfMemory, ProcSet};
-use itoa::Buffer;
 use scheduler_reply::Chain;
 use std::alloc::Global;
 use task_set::TaskSet;
@@ -19,6 +18,9 @@ use text_fields::{is_word, read_number, task_of};
 
 /// The most processors of a chain.
 const MAX_CHAIN: usize = 64;
+
+/// How many fields the longest line of a schedule has, that of a context.
+const LINE_FIELDS: usize = 11;
 
 /// The first line of some bytes, which a line feed ends, and what stands after it.
 pub fn ended_line(bytes: &[u8]) -> Option<(&[u8], &[u8])>
@@ -35,7 +37,7 @@ pub fn ended_line(bytes: &[u8]) -> Option<(&[u8], &[u8])>
 pub fn spaced_fields(alloc: Global, text: &[u8]) -> Result<Vec<&[u8]>, OutOfMemory>
     ensures { IfOk result (λ fields. texts fields.items ≡ spaced_fields_of text.now) }
 {
-    let mut fields = Vec::new(alloc);
+    let mut fields = Vec::with_capacity(alloc, LINE_FIELDS)?;
     for field in text.split(|byte| *byte == b' ') {
         fields.push(field)?;
     }
@@ -66,13 +68,18 @@ pub fn number_of(field: &[u8], least: u64, most: u64) -> Option<u64>
         ((n : ℕ) → IsNumberField least most field.now n → ⊥)
         (IsNumberField least most field.now) }
 {
-    let number = read_number(field, least, most)?;
-    let mut buffer = Buffer::new();
-    if buffer.format(number).as_bytes() == field {
-        Some(number)
-    } else {
+    if has_leading_zero(field) {
         None
+    } else {
+        read_number(field, least, most)
     }
+}
+
+/// Whether a zero stands before further bytes.
+fn has_leading_zero(field: &[u8]) -> bool
+    ensures { IsTrue result ↔ HasLeadingZero field.now }
+{
+    field.len() > 1 && field[0] == b'0'
 }
 
 /// The processors of a canonical list, which has one at least.

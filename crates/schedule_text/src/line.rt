@@ -1,27 +1,22 @@
 //! The lines of tasks and of contexts.
-ghost use Rattle.std.specs.Prelude.{◌≡◌, ℕ, ◌<◌, ◌⊎◌, ◌++◌, ◌↔◌, IsTrue, IfOk, IfErr, IfSome, OnOk, MatchBool, Some, Option, length};
-ghost use Rattle.task_set.specs.TaskSet.{SetData};
+ghost use Rattle.std.specs.Prelude.{◌≡◌, ℕ, ◌<◌, ◌⊎◌, ◌++◌, ◌↔◌, IsTrue, IfOk, IfErr, OnOk, MatchBool, MatchOption, Option, length};
 ghost use Rattle.task_set.specs.declared.context.Context.{Context};
 ghost use Rattle.text_fields.specs.Fields.{texts};
-ghost use Rattle.text_fields.specs.LineText.{line};
-ghost use Rattle.schedule_text.specs.ScheduleText.{context_line};
-ghost use Rattle.schedule_text.specs.Schedule.{IsContextOf};
 ghost use Rattle.affinity_mask.specs.Number.{canonical_number};
 ghost use Rattle.schedule_text.specs.LineForms.{IsContextText};
 ghost use Rattle.schedule_text.specs.Reading.{IsOutOfMemory};
-ghost use Rattle.schedule_text.specs.LineFields.{context_fields, IsAdded, IsTaskFault};
+ghost use Rattle.schedule_text.specs.LineFields.{AreContextWords, IsContextFields, IsAdded, IsTaskFault};
 ghost use Rattle.schedule_text.specs.Fields.{IsLastField};
 ghost use Rattle.schedule_text.specs.declared.fault.TextKind.TheVariants.{BadLine};
 
 use crate::fault::TextKind;
 use crate::field::{is_field, list_of, number_of, spaced_fields};
-use crate::write::write_context;
 use affinity_mask::OutOfMemory;
 use std::alloc::Global;
 use std::str;
 use task_set::{Context, TaskFault, TaskSet};
 use text_fields::limits::{MAX_PRIORITY, MAX_PROCESSOR};
-use text_fields::{is_word, read_number, write_number};
+use text_fields::{is_word, write_number};
 
 /// Adds the task of some fields.
 pub fn add_task(alloc: Global, set: &mut TaskSet, fields: &[&[u8]]) -> Result<(), TextKind>
@@ -72,61 +67,46 @@ pub fn read_context(alloc: Global, set: &TaskSet, t: u32, text: &[u8]) -> Result
 {
     let _valid = set.len();
     let fields = spaced_fields(alloc, text)?;
-    let Some(context) = context_of(t, &fields) else {
-        return Err(TextKind::BadLine);
-    };
-    let is_text = is_context_line(alloc, set, &context, text)?;
-    if is_text {
-        Ok(context)
-    } else {
-        Err(TextKind::BadLine)
+    match context_of(set, t, &fields) {
+        Some(context) => Ok(context),
+        None => Err(TextKind::BadLine),
     }
 }
 
-/// Whether a line, without its line feed, is that of a context.
-fn is_context_line(
-    alloc: Global,
-    set: &TaskSet,
-    context: &Context,
-    text: &[u8],
-) -> Result<bool, OutOfMemory>
-    requires { context.now.task < length set.now.tasks }
-    ensures { IfOk result (λ is. IsTrue is ↔ (line text.now ≡ context_line set.now context.now)) }
-{
-    let mut given = Vec::from_slice(alloc, text)?;
-    given.push(b'\n')?;
-    let mut canonical = Vec::new(alloc);
-    write_context(&mut canonical, set, context)?;
-    Ok(given.as_slice() == canonical.as_slice())
-}
-
-/// What eleven fields say of a context, whatever its words are and however its numbers are spelled.
-fn context_of(t: u32, fields: &[&[u8]]) -> Option<Context>
-    ensures sizes { IfSome result (IsContextOf t) }
-    ensures finds { (set : SetData) (context : Context) → IsContextOf t context
-        → texts fields.now ≡ context_fields set context → result ≡ Some context }
+/// The context of eleven fields, where it is that of this task.
+fn context_of(set: &TaskSet, t: u32, fields: &[&[u8]]) -> Option<Context>
+    requires { t < length set.now.tasks }
+    ensures { MatchOption result
+        ((context : Context) → IsContextFields set.now t (texts fields.now) context → ⊥)
+        (IsContextFields set.now t (texts fields.now)) }
 {
     let [
-        _name,
-        _units,
+        name,
+        units_word,
         units,
-        _stints,
+        stints_word,
         stints,
-        _moves,
+        moves_word,
         moves,
-        _last,
+        last_word,
         last,
-        _trail,
+        trail_word,
         trail,
     ] = fields
     else {
         return None;
     };
-    let units = read_number(units, 0, u64::MAX)?;
-    let stints = read_number(stints, 0, u64::MAX)?;
-    let moves = read_number(moves, 0, u64::MAX)?;
+    if !is_word(name, set.name(t)) {
+        return None;
+    }
+    if !are_context_words(units_word, stints_word, moves_word, last_word, trail_word) {
+        return None;
+    }
+    let units = number_of(units, 0, u64::MAX)?;
+    let stints = number_of(stints, 0, u64::MAX)?;
+    let moves = number_of(moves, 0, u64::MAX)?;
     let last = last_of(last)?;
-    let trail = read_number(trail, 0, u64::MAX)?;
+    let trail = number_of(trail, 0, u64::MAX)?;
     Some(Context {
         task: t,
         units,
@@ -137,14 +117,27 @@ fn context_of(t: u32, fields: &[&[u8]]) -> Option<Context>
     })
 }
 
+/// Whether five words are those before the values of a context.
+fn are_context_words(units: &[u8], stints: &[u8], moves: &[u8], last: &[u8], trail: &[u8]) -> bool
+    ensures { IsTrue result
+        ↔ AreContextWords units.now stints.now moves.now last.now trail.now }
+{
+    is_word(units, "units")
+        && is_word(stints, "stints")
+        && is_word(moves, "moves")
+        && is_word(last, "last")
+        && is_word(trail, "trail")
+}
+
 /// The last processor, or none for '-'.
 fn last_of(field: &[u8]) -> Option<Option<u8>>
-    ensures sizes { IfSome result (λ last. IfSome last (λ p. p < 64)) }
-    ensures finds { (last : Option ℕ) → IsLastField field.now last → result ≡ Some last }
+    ensures { MatchOption result
+        ((last : Option ℕ) → IsLastField field.now last → ⊥)
+        (IsLastField field.now) }
 {
     if is_word(field, "-") {
         return Some(None);
     }
-    let p = read_number(field, 0, MAX_PROCESSOR)?;
+    let p = number_of(field, 0, MAX_PROCESSOR)?;
     Some(Some(p as u8))
 }

@@ -208,12 +208,8 @@ fn write_contexts(
     Ok(())
 }
 
-/// Appends the line of a context, whose task is of the set. Refused only when out of memory.
-pub(crate) fn write_context(
-    text: &mut Vec<u8>,
-    set: &TaskSet,
-    context: &Context,
-) -> Result<(), OutOfMemory>
+/// Appends the line of a context, whose task is of the set.
+fn write_context(text: &mut Vec<u8>, set: &TaskSet, context: &Context) -> Result<(), OutOfMemory>
     requires { context.now.task < length set.now.tasks }
     ensures { OnOk result (text.new.items ≡ text.old.items ++ context_line set.now context.now) }
 {

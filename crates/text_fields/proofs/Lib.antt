@@ -1,6 +1,5 @@
 pub mod Words
 pub mod Folds
-mod Utf8
 pub mod Names
 pub mod NamedTasks
 pub mod FieldLists

@@ -1,23 +1,47 @@
 //! Numbers of the formats.
-ghost use Rattle.std.specs.Prelude.{◌≡◌, ℕ, ◌++◌, OnOk, MatchOption};
-ghost use Rattle.affinity_mask.specs.Number.{canonical_number};
+ghost use Rattle.std.specs.Prelude.{◌≡◌, ℕ, ◌<◌, ◌≤◌, ◌↔◌, ◌++◌, IsTrue, OnOk, MatchOption};
+ghost use Rattle.affinity_mask.specs.Number.{IsNumber, number_value, canonical_number};
 ghost use Rattle.text_fields.specs.Number.{IsNumberWithin};
 
 use affinity_mask::OutOfMemory;
 use itoa::Buffer;
-use std::str;
 
 /// The value of a number, digits of any count with leading zeros, where it is from `least` to `most`.
 pub fn read_number(field: &[u8], least: u64, most: u64) -> Option<u64>
     ensures { MatchOption result ((n : ℕ) → IsNumberWithin least most field.now n → ⊥)
         (IsNumberWithin least most field.now) }
 {
-    // `parse` takes a sign, which no number of the formats has.
-    if field.first() == Some(&b'+') {
+    if !is_number(field) {
         return None;
     }
-    let value = str::from_utf8(field).ok()?.parse::<u64>().ok()?;
-    (least <= value && value <= most).then_some(value)
+    let Some(value) = value_up_to(field, most) else {
+        return None;
+    };
+    (least <= value).then_some(value)
+}
+
+/// Whether a field has digits alone, and one at least.
+fn is_number(field: &[u8]) -> bool
+    ensures { IsTrue result ↔ IsNumber field.now }
+{
+    !field.is_empty() && field.iter().all(|byte| byte.is_ascii_digit())
+}
+
+/// The value of some digits, where it is at most `most`.
+fn value_up_to(digits: &[u8], most: u64) -> Option<u64>
+    requires { IsNumber digits.now }
+    ensures { MatchOption result (most < number_value digits.now)
+        (λ n. (n ≡ number_value digits.now) × (n ≤ most)) }
+{
+    // One digit more than a `u64` has always fits.
+    let mut value: u128 = 0;
+    for digit in digits {
+        value = value * 10 + (*digit - b'0') as u128;
+        if value > most as u128 {
+            return None;
+        }
+    }
+    Some(value as u64)
 }
 
 /// Appends a number in its canonical form, without leading zeros. Refused only when out of memory.

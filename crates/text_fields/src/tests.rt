@@ -13,7 +13,7 @@ use std::test::Fail;
 use task_set::{Event, TaskSet};
 
 /// Fields, each with bounds and the number that it is read as.
-const NUMBERS: [(&str, u64, u64, Option<u64>); 8] = [
+const NUMBERS: [(&str, u64, u64, Option<u64>); 10] = [
     ("0", 0, 9, Some(0)),
     ("0064", 1, 64, Some(64)),
     ("65", 1, 64, None),
@@ -22,6 +22,8 @@ const NUMBERS: [(&str, u64, u64, Option<u64>); 8] = [
     ("1 ", 1, 64, None),
     ("", 0, 9, None),
     ("18446744073709551615", 0, u64::MAX, Some(u64::MAX)),
+    ("0018446744073709551615", 0, u64::MAX, Some(u64::MAX)),
+    ("18446744073709551616", 0, u64::MAX, None),
 ];
 
 /// Numbers, each with its text.

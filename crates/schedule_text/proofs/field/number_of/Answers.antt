@@ -1,14 +1,17 @@
-use Rattle.std.proofs.Common.{rules, arith, ◌<◌, ◌^◌}
-use Rattle.schedule_text.proofs.Fields.{number_none, number_differs}
+use Rattle.std.proofs.Common.{arith, sym, ◌∙◌, ◌<◌, ◌^◌}
+use Rattle.std.proofs.lemmas.Bool.{true≢false}
+use Rattle.schedule_text.proofs.Fields.{leading_zero_none, number_matched}
 use Rattle.schedule_text.proofs.field.number_of.Goals as goal
 
-pub returns-in_err-number : goal.returns-in_err-number
-returns-in_err-number c =
+pub returns-then-has_leading_zero : goal.returns-then-has_leading_zero
+returns-then-has_leading_zero c =
     let small : c.args.most < 2 ^ 64 = omega (arith, c.ranges.most) in
-    rw c.from_residual.ensures (number_none c.args.least c.args.most c.args.field.now small c.in_err-number.ensures)
+    leading_zero_none c.args.least c.args.most c.args.field.now small
+    (c.has_leading_zero.ensures.0 c.if-has_leading_zero.true)
 
-pub returns-else-eq : goal.returns-else-eq
-returns-else-eq c =
+pub returns-else-has_leading_zero : goal.returns-else-has_leading_zero
+returns-else-has_leading_zero c =
     let small : c.args.most < 2 ^ 64 = omega (arith, c.ranges.most) in
-    number_differs c.args.least c.args.most c.args.field.now c.in_ok-number.number small c.in_ok-number.ensures
-    (search rules)
+    number_matched c.args.least c.args.most c.args.field.now c.read_number.result small
+    (λ leads. true≢false (sym (c.has_leading_zero.ensures.1 leads) ∙ c.if-has_leading_zero.false))
+    c.read_number.ensures

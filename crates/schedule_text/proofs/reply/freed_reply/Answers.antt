@@ -1,6 +1,8 @@
-use Rattle.std.proofs.Common.{inl, inr}
+use Rattle.std.proofs.Common.{inr}
 use Rattle.std.proofs.lemmas.Result.{err_from_is_err_and}
-use Rattle.schedule_text.proofs.Replies.{freed_no_chain, freed_no_set, freed_fault}
+use Rattle.schedule_text.specs.Fields.{IsChainField, IsSetField}
+use Rattle.schedule_text.specs.LineFields.{freed_fields}
+use Rattle.schedule_text.proofs.Replies.{freed_parts, part_fault, freed_fault}
 use Rattle.schedule_text.proofs.reply.freed_reply.Goals as goal
 
 pub returns-in_err-entered-clause-refused : goal.returns-in_err-entered-clause-refused
@@ -13,15 +15,15 @@ returns-in_err-entered-clause-refused c =
 pub returns-in_err-chain-clause-refused : goal.returns-in_err-chain-clause-refused
 returns-in_err-chain-clause-refused c =
     let p = err_from_is_err_and c.from_residual.result c.from_residual.ensures.1 in
-    rw (p.1, p.2) (elim c.in_err-chain.ensures.refused [
-      | inl memory ↦ inl memory
-      | inr bad ↦ inr (inl (bad.0, freed_no_chain c.args.chain.now c.args.name.now c.args.processors.now bad.1))
-    ])
+    rw (p.1, p.2) (part_fault (IsChainField c.args.chain.now) c.args.set.now
+    (freed_fields c.args.chain.now c.args.name.now c.args.processors.now) c.in_err-chain.field-0.0
+    (λ some. let parts = freed_parts c.args.chain.now c.args.name.now c.args.processors.now some in
+    (parts.links, parts.is_chain)) c.in_err-chain.ensures.refused)
 
 pub returns-in_err-back-clause-refused : goal.returns-in_err-back-clause-refused
 returns-in_err-back-clause-refused c =
     let p = err_from_is_err_and c.from_residual-in_err-back.result c.from_residual-in_err-back.ensures.1 in
-    rw (p.1, p.2) (elim c.in_err-back.ensures.refused [
-      | inl memory ↦ inl memory
-      | inr bad ↦ inr (inl (bad.0, freed_no_set c.args.chain.now c.args.name.now c.args.processors.now bad.1))
-    ])
+    rw (p.1, p.2) (part_fault (IsSetField c.args.processors.now) c.args.set.now
+    (freed_fields c.args.chain.now c.args.name.now c.args.processors.now) c.in_err-back.field-0.0
+    (λ some. let parts = freed_parts c.args.chain.now c.args.name.now c.args.processors.now some in
+    (parts.X, parts.is_set)) c.in_err-back.ensures.refused)
