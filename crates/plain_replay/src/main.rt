@@ -4,14 +4,16 @@
 //! output.
 #![tactic(auto)]
 
-mod run;
-mod status;
 #[cfg(test)]
-mod tests;
+mod checker_tests;
+#[cfg(test)]
+mod greedy_tests;
+#[cfg(test)]
+mod search_tests;
 
-use run::run;
+use plain_run::run;
+use program_status::report;
 use shift_io::{StdSink, StdSource};
-use status::{Status, exit_status};
 use std::io;
 use std::process::ExitCode;
 
@@ -19,9 +21,5 @@ fn main(rt: HostRuntime) -> ExitCode {
     let mut source = StdSource::new(rt.reader());
     let mut sink = StdSink::new(io::writer(&rt));
     let status = run(rt.alloc(), &mut source, &mut sink);
-    if status != Status::Done {
-        // Where standard error is closed, the exit status alone reports.
-        let _ = eprintln!(rt; "{status}");
-    }
-    ExitCode::from(exit_status(&status))
+    report(&rt, status)
 }

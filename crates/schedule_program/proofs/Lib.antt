@@ -1,12 +1,1 @@
-mod CheckedOnce
-mod CheckedText
-mod Compared
-mod Following
-mod Generating
-mod Headline
-mod LegalSchedules
-mod MergedCounts
-mod OneText
-mod ToldBytes
-mod Refusals
-mod RunIsValid
+mod CommandBytes

@@ -1,23 +1,17 @@
 -- The commands: the words that they are, what they read, what they make of it, and what they refuse, each with one answer.
-use Rattle.std.specs.Prelude.{◌≡◌, ◌⊎◌, ℕ, ◌≤◌, List, [], ◌∷◌, length, codes, Option, Some}
-use Rattle.shift_io.specs.Stream.{TakesAll}
-use Rattle.task_set.specs.TaskSet.{SetData}
-use Rattle.trace_reader.specs.declared.posted.Posted.{Posted}
+use Rattle.std.specs.Prelude.{◌≡◌, ℕ, List, [], ◌∷◌, codes, Option}
 use Rattle.text_fields.specs.Number.{IsNumberWithin}
-use Rattle.trace_reader.specs.InputText.{IsInputText}
-use Rattle.schedule_text.specs.Schedule.{ScheduleData}
-use Rattle.schedule_program.specs.Check.{IsTextOf, IsValid, IsCheckOf, RefusesSchedule, IsInvalidText}
-use Rattle.schedule_program.specs.Generating.{IsMakeOf, IsLargeOf}
-use Rattle.schedule_program.specs.Run.{IsRunOf, RefusesInput}
+use Rattle.program_status.specs.Reading.{ReadsAll, IsReported}
+use Rattle.program_status.specs.Refusal.{IsAccepted, IsAnsweredInput, RefusesInput}
+use Rattle.program_status.specs.declared.status.Status.{Status}
+use Rattle.valid_schedule.specs.Valid.{IsValidText}
+use Rattle.schedule_check.specs.Check.{IsCheckOf, RefusesCheck}
+use Rattle.schedule_run.specs.Run.{IsRunOf}
+use Rattle.generated_run.specs.Generating.{IsMakeOf, IsLargeOf}
+use Rattle.generated_run.specs.Sizes.{AreWithin}
+use Rattle.generated_run.specs.declared.sizes.Sizes.{Sizes}
 use Rattle.schedule_program.specs.declared.words.Command.{Command}
 use Rattle.schedule_program.specs.declared.words.Command.TheVariants.{Run, Check, Make, Large}
-use Rattle.schedule_program.specs.declared.words.Sizes.{Sizes}
-use Rattle.schedule_program.specs.declared.status.Status.{Status}
-use Rattle.schedule_program.specs.declared.status.Status.TheVariants.{Input, Invalid}
-
--- the most bytes that are read
-abbrev pub byte_limit : ℕ
-byte_limit = 16777216
 
 -- ---- words
 -- a number, and then how many processors, tasks and events there are; leading zeros are no fault
@@ -43,13 +37,7 @@ IsCommand words Check = words ≡ codes "check" ∷ []
 IsCommand words (Make sizes) = IsSized (codes "make") words sizes
 IsCommand words (Large sizes) = IsSized (codes "large") words sizes
 
--- numbers of which there is an input
-pub record AreWithin (sizes : Sizes) : Type 0 where
-  pub processors : (1 ≤ sizes.processors) × (sizes.processors ≤ 64)
-  pub tasks : (1 ≤ sizes.tasks) × (sizes.tasks ≤ 1024)
-  pub events : sizes.events ≤ 20000
-
--- the numbers of a command, where it has some, are such
+-- the numbers of a command, where it has some, are those of an input
 abbrev pub HasSizes : Command → Type 0
 HasSizes Run = Unit {0}
 HasSizes Check = Unit {0}
@@ -57,22 +45,12 @@ HasSizes (Make sizes) = AreWithin sizes
 HasSizes (Large sizes) = AreWithin sizes
 
 -- ---- what is read
--- all that was left of a source was read, and it is not too long
-pub record ReadsAll (old new : Option (List ℕ)) (read : List ℕ) : Type 0 where
-  pub all : TakesAll old new read
-  pub within : length read ≤ byte_limit
-
 -- what a command reads of a source; `make` and `large` read nothing
 abbrev pub Reads : Command → Option (List ℕ) → Option (List ℕ) → List ℕ → Type 0
 Reads Run old new read = ReadsAll old new read
 Reads Check old new read = ReadsAll old new read
 Reads (Make sizes) old new read = (new ≡ old) × (read ≡ [])
 Reads (Large sizes) old new read = (new ≡ old) × (read ≡ [])
-
--- the source reports what it has left, which is no more than is read
-pub record IsReported (left : Option (List ℕ)) (read : List ℕ) : Type 0 where
-  pub reported : left ≡ Some read
-  pub within : length read ≤ byte_limit
 
 -- what a command is to read of a source with this left
 abbrev pub IsToRead : Command → Option (List ℕ) → List ℕ → Type 0
@@ -89,7 +67,7 @@ ReadsNothing (Make sizes) = Unit {0}
 ReadsNothing (Large sizes) = Unit {0}
 
 -- ---- what is made
--- what a command puts for the bytes that it read
+-- what a command writes for the bytes that it read
 abbrev pub Makes : Command → List ℕ → List ℕ → Type 0
 Makes Run read put = IsRunOf read put
 Makes Check read put = IsCheckOf read put
@@ -98,29 +76,15 @@ Makes (Large sizes) read put = IsLargeOf sizes put
 
 -- the bytes that a command accepts: an input text; the text of a valid schedule; none
 abbrev pub Accepts : Command → List ℕ → Type 0
-Accepts Run bytes = (set : SetData) × (events : List Posted) × IsInputText bytes set events
-Accepts Check bytes = (schedule : ScheduleData) × IsTextOf bytes schedule × IsValid schedule
+Accepts Run bytes = IsAccepted bytes
+Accepts Check bytes = IsValidText bytes
 Accepts (Make sizes) bytes = bytes ≡ []
 Accepts (Large sizes) bytes = bytes ≡ []
-
--- the bytes are refused with the answer Input, at a line and with a kind
-pub record IsAnsweredInput (Cause : ℕ → ℕ → Type 0) (status : Status) : Type 0 where
-  pub number : ℕ
-  pub kind : ℕ
-  pub answer : status ≡ Input number kind
-  pub cause : Cause number kind
-
--- the schedule is refused with the answer Invalid, at a line and with a defect
-pub record IsAnsweredInvalid (Cause : ℕ → ℕ → Type 0) (status : Status) : Type 0 where
-  pub number : ℕ
-  pub defect : ℕ
-  pub answer : status ≡ Invalid number defect
-  pub cause : Cause number defect
 
 -- the bytes that a command refuses, each with its answer
 abbrev pub Refuses : Command → List ℕ → Status → Type 0
 Refuses Run bytes status = IsAnsweredInput (RefusesInput bytes) status
-Refuses Check bytes status = IsAnsweredInput (RefusesSchedule bytes) status ⊎ IsAnsweredInvalid (IsInvalidText bytes) status
+Refuses Check bytes status = RefusesCheck bytes status
 Refuses (Make sizes) bytes status = ⊥
 Refuses (Large sizes) bytes status = ⊥
 

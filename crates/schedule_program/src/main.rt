@@ -1,31 +1,21 @@
 //! The strong APA scheduler as a program: from the bytes read to the schedule text.
 #![tactic(auto)]
 
-mod check;
-#[cfg(test)]
-mod check_tests;
-#[cfg(test)]
-mod checker_tests;
-mod generate;
 #[cfg(test)]
 mod generated_tests;
-#[cfg(test)]
-mod histories;
 mod run;
-#[cfg(test)]
-mod search_tests;
-mod status;
-mod summary;
 #[cfg(test)]
 mod tests;
 #[cfg(test)]
 mod thread_tests;
 mod words;
 
+pub use program_status::Status;
+
 use processor_seat::OpenGate;
+use program_status::report;
 use run::run;
 use shift_io::{StdSink, StdSource};
-use status::{Status, exit_status};
 use std::process::ExitCode;
 use std::rt::Env;
 use std::{env, io};
@@ -40,11 +30,7 @@ fn main(rt: HostRuntime) -> ExitCode {
         Err(error) if error.kind() == io::ErrorKind::OutOfMemory => Status::OutOfMemory,
         Err(_) => Status::Usage,
     };
-    if status != Status::Done {
-        // Where standard error is closed, the exit status alone tells.
-        let _ = eprintln!(rt; "{status}");
-    }
-    ExitCode::from(exit_status(&status))
+    report(&rt, status)
 }
 
 /// The words of the command line, without the program's own name. Words that are no text are an error as a whole.

@@ -1,39 +1,34 @@
-//! The top call: from the words and the bytes read to the bytes put.
-ghost use Rattle.std.specs.Prelude.{◌≡◌, ◌≢◌, ℕ, ◌+◌, ◌↔◌, ◌≤◌, ◌⊎◌, List, length, map, IfOk, IfErr, IsErrOf, IsOk, MatchResult, string_bytes};
+//! The top call: from the words and the bytes read to the bytes written.
+ghost use Rattle.std.specs.Prelude.{◌≡◌, ◌≢◌, ℕ, ◌+◌, ◌↔◌, ◌≤◌, ◌⊎◌, List, length, map, IfOk, IsErrOf, IsOk, string_bytes};
 ghost use Rattle.std.specs.Io.KnownBytes.{Appends};
 ghost use Rattle.shift_io.specs.declared.whole.ReadAllFault.{ReadAllFault};
 ghost use Rattle.shift_io.specs.declared.whole.ReadAllFault.TheVariants as fault;
 ghost use Rattle.shift_io.specs.Causes.{Rose};
 ghost use Rattle.shift_io.specs.Stream.{TakesAtMost, TakesExactly, AppendsPrefix};
+ghost use Rattle.program_status.specs.declared.status.Status.{Status};
+ghost use Rattle.program_status.specs.Answers.{Answers};
+ghost use Rattle.program_status.specs.Reading.{byte_limit};
+ghost use Rattle.program_status.specs.Status.{BeforePut};
 ghost use Rattle.schedule_program.specs.declared.words.Command.{Command};
-ghost use Rattle.schedule_program.specs.declared.words.Command.TheVariants.{Run};
-ghost use Rattle.schedule_program.specs.declared.status.Status.{Status};
-ghost use Rattle.schedule_program.specs.Command.{byte_limit, IsCommand, HasSizes, Reads, ReadsNothing, IsToRead, Makes, Accepts, Refuses, ReadsAndMakes, ReadsRefused};
-ghost use Rattle.schedule_program.specs.Run.{IsRunOf};
-ghost use Rattle.schedule_program.specs.Status.{BeforePut};
+ghost use Rattle.schedule_program.specs.Command.{IsCommand, HasSizes, Reads, ReadsNothing, IsToRead, Makes, Accepts, Refuses, ReadsAndMakes, ReadsRefused};
 
-use crate::check::checked_text;
-use crate::generate::{made_text, summary_of};
-use crate::status::Status;
 use crate::words::{Command, command_of};
+use generated_run::{made_text, summary_of};
 use processor_seat::Gate;
-use schedule_text::write_schedule;
+use program_status::{MAX_BYTES, Status};
+use schedule_check::checked_text;
+use schedule_run::replayed_text;
 use shift_io::{ReadAllFault, Sink, Source, put_all, read_all};
 use std::alloc::Global;
 use std::sync::Wait;
 use std::thread::Threads;
 use std::time::Clock;
-use thread_schedule::schedule_of;
-use trace_reader::read_input;
-
-/// The most bytes that are read.
-pub const MAX_BYTES: usize = 16_777_216;
 
 /// Does what the words say. `run` reads the source to its end as an input text, replays its events on threads, a worker
-/// for each processor and a thread for each stream that has events, and puts the schedule text into the sink. The gate is
+/// for each processor and a thread for each stream that has events, and writes the schedule text into the sink. The gate is
 /// called before and after each post, and before the first try of each take. `check` reads the source as a schedule text,
-/// whoever made it, and where that is a valid schedule, puts how many entries it has. `make` puts the text of the input of
-/// its four numbers, and `large` replays that input as `run` does and puts a summary; neither reads the source.
+/// whoever made it, and where that is a valid schedule, writes how many entries it has. `make` writes the text of the input of
+/// its four numbers, and `large` replays that input as `run` does and writes a summary; neither reads the source.
 pub fn run<R: Threads + Wait + Clock + Sync, S: Source, K: Sink, G: Gate + Sync>(
     rt: &R,
     alloc: Global,
@@ -138,13 +133,7 @@ fn text_made<R: Threads + Wait + Clock + Sync, G: Gate + Sync>(
     gate: &G,
 ) -> Result<Vec<u8>, Status>
     requires { HasSizes command }
-    ensures makes { IfOk result (λ text. Makes command bytes.now text.items) }
-    ensures refused { IfErr result (λ status.
-        Refuses command bytes.now status ⊎ (status ≡ Status.OutOfMemory)) }
-    ensures accepts { Accepts command bytes.now → IfErr result (λ status. status ≡ Status.OutOfMemory) }
-    ensures refuses { (expected : Status) → Refuses command bytes.now expected
-        → MatchResult result (λ text. ⊥)
-        (λ status. (status ≡ expected) ⊎ (status ≡ Status.OutOfMemory)) }
+    ensures { Answers (Makes command bytes.now) (Accepts command bytes.now) (Refuses command bytes.now) result }
 {
     match command {
         Command::Run => replayed_text(rt, alloc, bytes, gate),
@@ -158,23 +147,4 @@ fn text_made<R: Threads + Wait + Clock + Sync, G: Gate + Sync>(
             Ok(text)
         }
     }
-}
-
-/// The schedule text of the input that these bytes are, or the status that says why there is none.
-fn replayed_text<R: Threads + Wait + Clock + Sync, G: Gate + Sync>(
-    rt: &R,
-    alloc: Global,
-    bytes: &[u8],
-    gate: &G,
-) -> Result<Vec<u8>, Status>
-    ensures replays { IfOk result (λ text. IsRunOf bytes.now text.items) }
-    ensures refused { IfErr result (λ status. Refuses Run bytes.now status ⊎ (status ≡ Status.OutOfMemory)) }
-    ensures accepts { Accepts Run bytes.now → IfErr result (λ status. status ≡ Status.OutOfMemory) }
-    ensures refuses { (due : Status) → Refuses Run bytes.now due
-        → MatchResult result (λ text. ⊥) (λ status. (status ≡ due) ⊎ (status ≡ Status.OutOfMemory)) }
-{
-    let input = read_input(alloc, bytes)?;
-    let made = schedule_of(rt, alloc, input.set(), input.events(), gate)?;
-    let text = write_schedule(alloc, input.set(), made.core.history(), &made.contexts)?;
-    Ok(text)
 }

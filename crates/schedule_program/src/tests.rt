@@ -1,10 +1,9 @@
 //! Whole runs, from the bytes of an input to the bytes of its schedule.
 ghost use Rattle.std.specs.Prelude.{◌<◌};
 
-use crate::histories::{HISTORIES, History};
 use crate::run::run;
-use crate::status::{Status, exit_status};
 use processor_seat::OpenGate;
+use program_status::{Status, exit_status};
 use shift_io::{MemSink, MemSource, Sink, Source, StdSink, StdSource};
 use std::alloc::{AllocError, Global};
 use std::str;
@@ -12,10 +11,11 @@ use std::sync::Wait;
 use std::test::Fail;
 use std::thread::Threads;
 use std::time::Clock;
+use worked_histories::{HISTORIES, texts_of};
 
 const SMALLEST_INPUT: &str = "apa 1\nprocessors 1\ntask a 5 0\n0 arrive a\nend\n";
 
-pub const SMALLEST_SCHEDULE: &str =
+const SMALLEST_SCHEDULE: &str =
     "schedule 1\nprocessors 1\ntask a 5 0\nhistory 1\n0 arrive a placed 0\n\
 contexts 1\na units 0 stints 1 moves 0 last 0 trail 0\nend\n";
 
@@ -49,7 +49,7 @@ fn run_words<R: Threads + Wait + Clock + Sync, S: Source, K: Sink>(
     Ok(run(rt, alloc, &owned, source, sink, &OpenGate))
 }
 
-/// The status of a call over memory, and the text that it put.
+/// The status of a call over memory, and the text that it wrote.
 pub(crate) fn replay<R: Threads + Wait + Clock + Sync>(
     rt: &R,
     alloc: Global,
@@ -70,26 +70,8 @@ pub(crate) fn is_valid<R: Threads + Wait + Clock + Sync>(
     count: usize,
 ) -> Result<bool, AllocError> {
     let (status, put) = replay(rt, alloc, &["check"], schedule)?;
-    let told = format!(in alloc; "valid {count}\n")?;
-    Ok(status == Status::Done && put.as_slice() == told.as_bytes())
-}
-
-/// The input of a history, and its schedule.
-pub(crate) fn texts_of(alloc: Global, history: &History) -> Result<(String, String), AllocError> {
-    let mut input = format!(in alloc; "apa 1\n{}", history.head)?;
-    let mut schedule = format!(in alloc; "schedule 1\n{}", history.head)?;
-    writeln!(schedule, "history {}", history.entries.len())?;
-    for (event, reply) in history.entries {
-        writeln!(input, "{event}")?;
-        writeln!(schedule, "{event} {reply}")?;
-    }
-    writeln!(input, "end")?;
-    writeln!(schedule, "contexts {}", history.contexts.len())?;
-    for context in history.contexts {
-        writeln!(schedule, "{context}")?;
-    }
-    writeln!(schedule, "end")?;
-    Ok((input, schedule))
+    let valid = format!(in alloc; "valid {count}\n")?;
+    Ok(status == Status::Done && put.as_slice() == valid.as_bytes())
 }
 
 #[test]
@@ -166,6 +148,17 @@ contexts 64\n{contexts}z units 0 stints 1 moves 0 last 0 trail 63\nend\n"
 }
 
 #[test]
+fn wrong_schedule(rt: HostRuntime) -> Result<(), Fail> {
+    let wrong = "schedule 1\nprocessors 1\ntask a 5 0\nhistory 1\n0 arrive a already\n\
+contexts 1\na units 0 stints 1 moves 0 last 0 trail 0\nend\n";
+    let (status, put) = replay(&rt, rt.alloc(), &["check"], wrong)?;
+    assert_eq!(rt; status, Status::Invalid { line: 5, defect: 1 });
+    assert_eq!(rt; exit_status(&status), 1);
+    assert!(rt; put.is_empty());
+    Ok(())
+}
+
+#[test]
 fn refused_words(rt: HostRuntime) -> Result<(), Fail> {
     let cases: [&[&str]; 14] = [
         &[],
@@ -192,7 +185,7 @@ fn refused_words(rt: HostRuntime) -> Result<(), Fail> {
     Ok(())
 }
 
-/// Whether an input is refused with this line and kind, and nothing is put.
+/// Whether an input is refused with this line and kind, and nothing is written.
 fn is_refused<R: Threads + Wait + Clock + Sync>(
     rt: &R,
     alloc: Global,
@@ -249,12 +242,12 @@ fn ends_and_bytes(rt: HostRuntime) -> Result<(), Fail> {
     for _ in 0u32..4096 {
         write!(spaces, " ")?;
     }
-    let event_behind = format!(in rt.alloc(); "{SMALLEST_INPUT}0 tick 1\n")?;
+    let event_after_end = format!(in rt.alloc(); "{SMALLEST_INPUT}0 tick 1\n")?;
     let long_line = format!(in rt.alloc(); "{spaces} \n{SMALLEST_INPUT}")?;
     let rows = [
         ("", 1, 12),
         (without_end, 5, 12),
-        (event_behind.as_str(), 6, 11),
+        (event_after_end.as_str(), 6, 11),
         ("apa 1\r\n", 1, 1),
         (long_line.as_str(), 1, 2),
     ];

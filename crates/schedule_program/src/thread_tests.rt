@@ -1,9 +1,8 @@
 //! Runs on threads: that streams and workers go on beside each other, and inputs on several streams.
-use crate::histories::HISTORIES;
 use crate::run::run;
-use crate::status::Status;
 use crate::tests::{is_valid, replay};
 use processor_seat::Gate;
+use program_status::Status;
 use shift_io::{MemSink, MemSource};
 use std::alloc::{AllocError, Global};
 use std::sync::Wait;
@@ -12,6 +11,7 @@ use std::test::Fail;
 use std::thread::Threads;
 use std::time::Clock;
 use std::{str, thread};
+use worked_histories::HISTORIES;
 
 /// How often a gate looks before it lets a thread go on all the same.
 const MOST_LOOKS: u32 = 20_000_000;
@@ -88,7 +88,7 @@ impl Gate for WorkerGate {
     }
 }
 
-/// What a run of an input puts, with this gate.
+/// What a run of an input writes, with this gate.
 fn run_with<R: Threads + Wait + Clock + Sync, G: Gate + Sync>(
     rt: &R,
     alloc: Global,

@@ -1,9 +1,10 @@
 //! The words of a call, and the command that they mean.
 ghost use Rattle.std.specs.Prelude.{◌≡◌, ℕ, [], ◌∷◌, MatchOption, map, string_bytes, codes};
 ghost use Rattle.schedule_program.specs.declared.words.Command.{Command};
-ghost use Rattle.schedule_program.specs.declared.words.Sizes.{Sizes};
+ghost use Rattle.generated_run.specs.declared.sizes.Sizes.{Sizes};
 ghost use Rattle.schedule_program.specs.Command.{IsCommand, AreSizes};
 
+use generated_run::Sizes;
 use task_set::MAX_TASKS;
 use text_fields::limits::{MAX_EVENTS, MAX_PROCESSORS};
 use text_fields::read_number;
@@ -11,30 +12,15 @@ use text_fields::read_number;
 /// What the program can do.
 #[derive(Clone, Copy, Debug, PartialEq, Eq)]
 pub enum Command {
-    /// The source is an input text; its events are replayed, and the schedule text is put.
+    /// The source is an input text; its events are replayed, and the schedule text is written.
     Run,
-    /// The source is a schedule text; it is checked, and the number of its entries is put.
+    /// The source is a schedule text; it is checked, and the number of its entries is written.
     Check,
-    /// The text of the input of these numbers is put. Nothing is read.
+    /// The text of the input of these numbers is written. Nothing is read.
     Make(Sizes),
-    /// The events of the input of these numbers are replayed, and a summary of the schedule is put. Nothing is read.
+    /// The events of the input of these numbers are replayed, and a summary of the schedule is written. Nothing is
+    /// read.
     Large(Sizes),
-}
-
-/// The numbers of a generated input.
-#[derive(Clone, Copy, Debug, PartialEq, Eq)]
-pub struct Sizes {
-    /// The number from which tasks and events are drawn.
-    pub number: u64,
-
-    /// How many processors there are, from 1 to 64.
-    pub processors: u8,
-
-    /// How many tasks there are, from 1 to 1,024.
-    pub tasks: u32,
-
-    /// How many events there are, up to 20,000.
-    pub events: u32,
 }
 
 /// The command that the words mean, if they mean one.

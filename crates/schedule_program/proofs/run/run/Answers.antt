@@ -2,7 +2,7 @@ use Rattle.std.proofs.Common.{◌≡◌, ℕ, Vec, Err, inr, ap}
 use Rattle.std.specs.declared.alloc.Global.{Global}
 use Rattle.std.specs.Prelude.{IsOk}
 use Rattle.shift_io.specs.declared.whole.ReadAllFault.{ReadAllFault}
-use Rattle.schedule_program.proofs.ToldBytes.{one_command, read_is_told, never_too_long}
+use Rattle.schedule_program.proofs.CommandBytes.{one_command, read_is_expected, never_too_long}
 use Rattle.schedule_program.proofs.run.run.Goals as goal
 
 -- a failure is no answer
@@ -18,11 +18,11 @@ returns-in-Err-TooLong-clause-complete g c = λ command read spoken to_read acce
 pub returns-in-Err-clause-complete : goal.returns-in-Err-clause-complete
 returns-in-Err-clause-complete g c = λ command read spoken to_read accepted calm loud.
     let which : c.in-Some.command ≡ command = one_command _ c.in-Some.command command c.in-Some.ensures spoken in
-    let same = read_is_told command _ _ read _ to_read (rw which at c.in-Ok.ensures.reads) in
+    let same = read_is_expected command _ _ read _ to_read (rw which at c.in-Ok.ensures.reads) in
     inr (c.in-Err.ensures.accepts (rw (c.deref.ensures.value, which, same) accepted))
 
 pub returns-in-Err-clause-refuses : goal.returns-in-Err-clause-refuses
 returns-in-Err-clause-refuses g c = λ command read expected spoken to_read why calm.
     let which : c.in-Some.command ≡ command = one_command _ c.in-Some.command command c.in-Some.ensures spoken in
-    let same = read_is_told command _ _ read _ to_read (rw which at c.in-Ok.ensures.reads) in
+    let same = read_is_expected command _ _ read _ to_read (rw which at c.in-Ok.ensures.reads) in
     c.in-Err.ensures.refuses expected (rw (c.deref.ensures.value, which, same) why)

@@ -1,7 +1,7 @@
 use Rattle.std.proofs.Common.{◌≡◌, [], ◌∷◌, map}
 use Rattle.std.specs.Prelude.{string_bytes}
 use Rattle.std.specs.declared.alloc.Global.{Global}
-use Rattle.schedule_program.proofs.ToldBytes.{unsized_words, five_words}
+use Rattle.schedule_program.proofs.CommandBytes.{unsized_words, five_words}
 use Rattle.schedule_program.proofs.words.command_of.Goals as goal
 
 pub returns-in_default-sizes_of : goal.returns-in_default-sizes_of

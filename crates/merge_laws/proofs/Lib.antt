@@ -1,0 +1,2 @@
+pub mod MergedCounts
+pub mod OneStream

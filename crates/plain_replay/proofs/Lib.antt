@@ -1,2 +1,0 @@
-mod ReadBytes
-mod Refusals

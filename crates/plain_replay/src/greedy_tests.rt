@@ -1,0 +1,121 @@
+//! Generated histories: after every entry the linked tasks are those that a plain greedy program finds.
+ghost use Rattle.std.specs.Prelude.{IsTrue};
+ghost use Rattle.link_table.specs.State.{task_count};
+ghost use Rattle.certificate_laws.specs.Passing.{IsOfTask};
+
+use crate::search_tests::all_below;
+use generated_input::make_input;
+use link_table::{Links, Reply};
+use placement_laws::best_set;
+use sched_core::Core;
+use std::alloc::{AllocError, Global};
+use std::process::Abort;
+use std::test::Fail;
+use task_set::{Event, TaskSet};
+
+/// The ready tasks after an event.
+fn follow(ready: &mut Vec<u32>, event: Event) -> Result<(), AllocError> {
+    match event {
+        Event::Arrive(t) => ready.push(t)?,
+        Event::Depart(t) => ready.retain(|&other| other != t),
+        Event::Tick(_) => {}
+    }
+    Ok(())
+}
+
+/// Whether the event, where it is of a task, is of one that the links have.
+fn is_known(links: &Links, event: Event) -> bool
+    ensures { IsTrue result → IsOfTask (task_count links.now) event }
+{
+    match event {
+        Event::Arrive(t) | Event::Depart(t) => t < links.len(),
+        Event::Tick(_) => true,
+    }
+}
+
+/// The tasks that are linked, in the order of their numbers, which here is that of their urgency.
+fn linked_tasks(alloc: Global, links: &Links) -> Result<Vec<u32>, AllocError> {
+    let mut linked = Vec::new(alloc);
+    for t in 0..links.len() {
+        if links.of(t).is_some() {
+            linked.push(t)?;
+        }
+    }
+    Ok(linked)
+}
+
+/// Whether the linked tasks are those that the greedy program takes of the ready ones.
+fn are_greedy(
+    rt: &(impl Abort + AllocGlobal),
+    set: &TaskSet,
+    links: &Links,
+    ready: &[u32],
+) -> Result<bool, Fail> {
+    assert!(rt; all_below(ready, set.len()));
+    let best = best_set(rt.alloc(), set, ready)?;
+    Ok(linked_tasks(rt.alloc(), links)?.as_slice() == best.as_slice())
+}
+
+/// Which replies came.
+#[derive(Default, Drop)]
+struct Reached {
+    placed: bool,
+    displaced: bool,
+    waits: bool,
+    freed: bool,
+    left: bool,
+    ticked: bool,
+}
+
+impl Reached {
+    fn note(&mut self, reply: &Reply) {
+        match reply {
+            Reply::Placed { .. } => self.placed = true,
+            Reply::Displaced { .. } => self.displaced = true,
+            Reply::Waits { .. } => self.waits = true,
+            Reply::Freed { .. } => self.freed = true,
+            Reply::Left => self.left = true,
+            Reply::Ticked => self.ticked = true,
+            Reply::AlreadyReady | Reply::NotReady => {}
+        }
+    }
+
+    fn is_all(&self) -> bool {
+        self.placed && self.displaced && self.waits && self.freed && self.left && self.ticked
+    }
+}
+
+/// Replays the input of a number, and compares the linked tasks with the greedy set after each event.
+fn replay_number(
+    rt: &(impl Abort + AllocGlobal),
+    number: u64,
+    reached: &mut Reached,
+) -> Result<(), Fail> {
+    let input = make_input(rt.alloc(), number, 6, 10, 60)?;
+    let mut core = Core::new(rt.alloc(), input.set())?;
+    let mut ready = Vec::new(rt.alloc());
+    for posted in input.events() {
+        follow(&mut ready, posted.event)?;
+        assert!(rt; is_known(core.links(), posted.event));
+        core.apply(0, posted.event)?;
+        if let Some(entry) = core.history().last() {
+            reached.note(&entry.reply);
+        }
+        assert!(rt;
+            are_greedy(rt, input.set(), core.links(), &ready)?,
+            "in {number}, after {} entries",
+            core.history().len()
+        );
+    }
+    Ok(())
+}
+
+#[test]
+fn generated_histories_match_the_greedy_set(rt: HostRuntime) -> Result<(), Fail> {
+    let mut reached = Reached::default();
+    for number in 0u64..20 {
+        replay_number(&rt, number, &mut reached)?;
+    }
+    assert!(rt; reached.is_all());
+    Ok(())
+}

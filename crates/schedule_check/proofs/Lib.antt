@@ -1,0 +1,3 @@
+mod CheckedText
+mod Compared
+mod Following

@@ -1,0 +1,196 @@
+//! Schedules that are checked: right ones that no scheduler of this repository wrote, and wrong ones.
+use crate::check::checked_text;
+use program_status::{Status, exit_status};
+use std::alloc::{AllocError, Global};
+use std::str;
+use std::test::Fail;
+use worked_histories::{HISTORIES, texts_of};
+
+const SMALLEST_SCHEDULE: &str =
+    "schedule 1\nprocessors 1\ntask a 5 0\nhistory 1\n0 arrive a placed 0\n\
+contexts 1\na units 0 stints 1 moves 0 last 0 trail 0\nend\n";
+
+/// Two idle processors, and a task that is shifted to the farther one: not the least chain, but a chain.
+const LONGER_CHAIN: &str = "schedule 1\nprocessors 3\ntask a 3 0-2\ntask t 4 0-1\nhistory 2\n\
+0 arrive a placed 0\n0 arrive t placed 0>2\ncontexts 2\na units 0 stints 2 moves 1 last 2 trail 0\n\
+t units 0 stints 1 moves 0 last 0 trail 1\nend\n";
+
+/// One change of a schedule text, and the answer to it.
+struct Change {
+    /// The history whose text is changed; no name is the smallest one.
+    history: &'static str,
+    old: &'static str,
+    new: &'static str,
+    status: Status,
+}
+
+static CHANGES: [Change; 12] = [
+    // The task that arrives is absent.
+    Change {
+        history: "",
+        old: "0 arrive a placed 0",
+        new: "0 arrive a already",
+        status: Status::Invalid { line: 5, defect: 1 },
+    },
+    // The mask of b has not processor 1.
+    Change {
+        history: "first_shift",
+        old: "0 arrive b placed 0>1",
+        new: "0 arrive b placed 1",
+        status: Status::Invalid { line: 7, defect: 2 },
+    },
+    // A task on processor 0 may run on processor 1 too.
+    Change {
+        history: "waits_with_a_reach_wider_than_its_mask",
+        old: "waits 0-2",
+        new: "waits 0",
+        status: Status::Invalid {
+            line: 11,
+            defect: 3,
+        },
+    },
+    // On processor 2 is a task that is less urgent than the one that waits.
+    Change {
+        history: "displaced_at_the_end_of_a_chain",
+        old: "displaced 0>1>2 out c reach 0-2",
+        new: "waits 0-2",
+        status: Status::Invalid {
+            line: 11,
+            defect: 3,
+        },
+    },
+    // The task on processor 1 may run on processor 0.
+    Change {
+        history: "enters_through_a_back_chain",
+        old: "freed 0>1 enters w1 back 0-1",
+        new: "freed 0>1 enters w1 back 0",
+        status: Status::Invalid {
+            line: 12,
+            defect: 3,
+        },
+    },
+    // The other one that waits is more urgent.
+    Change {
+        history: "enters_through_a_back_chain",
+        old: "freed 0>1 enters w1 back 0-1",
+        new: "freed 0 enters w2 back 0-1",
+        status: Status::Invalid {
+            line: 12,
+            defect: 4,
+        },
+    },
+    Change {
+        history: "first_shift",
+        old: "last 0 trail 1",
+        new: "last 0 trail 2",
+        status: Status::Invalid {
+            line: 10,
+            defect: 5,
+        },
+    },
+    Change {
+        history: "",
+        old: "history 1",
+        new: "history 01",
+        status: Status::Input { line: 4, kind: 21 },
+    },
+    Change {
+        history: "first_shift",
+        old: "task b 2 0",
+        new: "task b 1 0",
+        status: Status::Input { line: 4, kind: 22 },
+    },
+    Change {
+        history: "",
+        old: "0 arrive a placed 0",
+        new: "0 arrive q placed 0",
+        status: Status::Input { line: 5, kind: 23 },
+    },
+    Change {
+        history: "",
+        old: "end\n",
+        new: "end",
+        status: Status::Input { line: 8, kind: 24 },
+    },
+    Change {
+        history: "",
+        old: "end\n",
+        new: "end\nx",
+        status: Status::Input { line: 9, kind: 25 },
+    },
+];
+
+/// The schedule text of a history, or of the smallest one.
+fn schedule_named(alloc: Global, name: &str) -> Result<String, AllocError> {
+    for history in &HISTORIES {
+        if history.name == name {
+            let (_, schedule) = texts_of(alloc, history)?;
+            return Ok(schedule);
+        }
+    }
+    String::from_str(alloc, SMALLEST_SCHEDULE)
+}
+
+/// The text with the change.
+fn changed(alloc: Global, change: &Change) -> Result<Option<String>, AllocError> {
+    let schedule = schedule_named(alloc, change.history)?;
+    match schedule.split_once(change.old) {
+        Some((before, after)) => Ok(Some(format!(in alloc; "{before}{}{after}", change.new)?)),
+        None => Ok(None),
+    }
+}
+
+/// Whether a schedule text is found valid, with so many entries.
+fn is_valid(alloc: Global, schedule: &str, count: usize) -> Result<bool, AllocError> {
+    let valid = format!(in alloc; "valid {count}\n")?;
+    match checked_text(alloc, schedule.as_bytes()) {
+        Ok(text) => Ok(text.as_slice() == valid.as_bytes()),
+        Err(_) => Ok(false),
+    }
+}
+
+#[test]
+fn right_schedules(rt: HostRuntime) -> Result<(), Fail> {
+    assert!(rt; is_valid(rt.alloc(), SMALLEST_SCHEDULE, 1)?);
+    assert!(rt; is_valid(rt.alloc(), LONGER_CHAIN, 2)?);
+    for history in &HISTORIES {
+        let (_, schedule) = texts_of(rt.alloc(), history)?;
+        assert!(rt;
+            is_valid(rt.alloc(), &schedule, history.entries.len())?,
+            "in {}",
+            history.name
+        );
+    }
+    Ok(())
+}
+
+#[test]
+fn changed_schedules(rt: HostRuntime) -> Result<(), Fail> {
+    for change in &CHANGES {
+        let text = changed(rt.alloc(), change)?;
+        assert!(rt;
+            text.is_some(),
+            "no {:?} in {:?}",
+            change.old,
+            change.history
+        );
+        let text = text.unwrap_or(String::new(rt.alloc()));
+        match checked_text(rt.alloc(), text.as_bytes()) {
+            Ok(valid) => assert_eq!(rt; str::from_utf8(&valid), Ok("")),
+            Err(status) => assert_eq!(rt;
+                status,
+                change.status,
+                "{:?} in place of {:?}",
+                change.new, change.old
+            ),
+        }
+    }
+    Ok(())
+}
+
+#[test]
+fn exit_status_of_a_wrong_schedule(rt: HostRuntime) -> Result<(), Fail> {
+    let status = Status::Invalid { line: 5, defect: 1 };
+    assert_eq!(rt; exit_status(&status), 1);
+    Ok(())
+}

@@ -1,5 +1,0 @@
-use Rattle.schedule_program.proofs.Generating.{is_make_of}
-use Rattle.schedule_program.proofs.generate.made_text.Goals as goal
-
-pub returns : goal.returns
-returns c = is_make_of c.args.sizes c.in_ok-input.input.set c.in_ok-input.input.events _ c.in_ok-input.ensures c.in_ok-text.ensures.text c.in_ok-text.ensures.reads_back

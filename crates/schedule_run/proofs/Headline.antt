@@ -1,0 +1,26 @@
+-- The replay of an input, written down, is what the headline says.
+use Rattle.std.proofs.Common.{◌≡◌, ℕ, List}
+use Rattle.task_set.specs.TaskSet.{SetData}
+use Rattle.task_set.specs.declared.context.Context.{Context}
+use Rattle.certificate_laws.proofs.Kept.{legal_is_best}
+use Rattle.sched_core.specs.CoreData.{CoreData}
+use Rattle.trace_reader.specs.declared.posted.Posted.{Posted}
+use Rattle.trace_reader.specs.InputText.{IsInputText}
+use Rattle.schedule_text.specs.ScheduleText.{schedule_text}
+use Rattle.event_replay.specs.Replay.{contexts_of}
+use Rattle.thread_replay.specs.Replayed.{IsReplayOf}
+use Rattle.schedule_run.specs.Run.{Replays}
+
+pub headline : (read put : List ℕ) (set : SetData) (events : List Posted) (core : CoreData) (printed : List Context) → IsInputText read set events → IsReplayOf set events core → printed ≡ contexts_of set core.history → put ≡ schedule_text set core.history printed → Replays read put
+headline read put set events core printed input replayed contexts text = record {
+  set = set;
+  events = events;
+  history = core.history;
+  printed = printed;
+  input = input;
+  text = text;
+  merge = replayed.merge;
+  legal = replayed.over.legal;
+  best = legal_is_best set input.says.valid core.history replayed.over.legal;
+  contexts = contexts;
+}

@@ -1,0 +1,4 @@
+mod Headline
+mod InputNumbers
+mod OneText
+mod RunIsValid

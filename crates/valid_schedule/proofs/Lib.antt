@@ -1,0 +1,2 @@
+pub mod LegalSchedules
+pub mod OneVerdict
