@@ -9,7 +9,7 @@ use Rattle.scheduler_reply.specs.declared.reply.Entry.{Entry}
 use Rattle.link_table.specs.State.{State, IsState, start_of}
 use Rattle.link_table.specs.Step.{SchedulerStep}
 use Rattle.link_table.specs.History.{effect_of, state_after, state_at, IsLegal, IsLegalFrom, IsBestThroughout}
-use Rattle.link_table.proofs.Start.{IsState-start}
+use Rattle.link_table.proofs.Start.{IsState-start, none_ready}
 use Rattle.link_table.proofs.Steps.{reply_gives_new_state}
 use Rattle.certificate_laws.specs.Certified.{HasCertificates, IsCertifiedThroughout}
 use Rattle.certificate_laws.specs.Justification.{HasJustification}
@@ -49,11 +49,6 @@ legal_passes s (first ∷ rest) ok legal =
 
 -- ---- from the start
 -- no task is ready, and so none waits
-pub none_ready : (n t : ℕ) → get_or (replicate n false) t false ≡ false
-none_ready zero t = refl
-none_ready (suc n) zero = refl
-none_ready (suc n) (suc t) = none_ready n t
-
 pub HasCertificates-start : (set : SetData) → HasCertificates (start_of set)
 HasCertificates-start set w waits = absurd (true≢false (sym waits.ready ∙ none_ready (length set.tasks) w))
 

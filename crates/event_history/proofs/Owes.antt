@@ -13,10 +13,10 @@ use Rattle.sched_core.specs.declared.fault.CoreFault.{CoreFault}
 use Rattle.task_set.specs.declared.event.Event.{Event}
 use Rattle.event_history.specs.declared.fault.Receipt.{Receipt}
 use Rattle.event_history.specs.Entering.{Entered, IsNoEntry}
-use Rattle.history_laws.proofs.OrderCounts.{orders_count}
-use Rattle.history_laws.proofs.OrderLists.{orders_obeyable}
-use Rattle.history_laws.proofs.OrderNames.{orders_name_tasks}
-use Rattle.history_laws.proofs.OrderPrefixes.{orders_only_grow}
+use Rattle.order_laws.proofs.OrderCounts.{orders_count}
+use Rattle.order_laws.proofs.OrderLists.{orders_obeyable}
+use Rattle.order_laws.proofs.OrderNames.{orders_name_tasks}
+use Rattle.order_laws.proofs.OrderPrefixes.{orders_only_grow}
 use Rattle.event_history.specs.Boards.{AreFor}
 use Rattle.event_history.specs.Holdings.{CoreGrows, SentBegins, NoneSent, queues_of}
 use Rattle.event_history.specs.Owing.{MaySend, AllMaySend}

@@ -1,4 +1,3 @@
 mod Entries
 pub mod Known
-pub mod LegalNames
 pub mod Running

@@ -1,19 +1,13 @@
 -- The replay of events on one thread: the history has one entry for each event, in their order, and is legal; the
 -- contexts are those that the history gives the tasks.
 use Rattle.std.specs.Prelude.{◌≡◌, ℕ, List, length, map}
-use Rattle.std.specs.List.{range_with_len}
 use Rattle.task_set.specs.TaskSet.{SetData}
 use Rattle.task_set.specs.declared.context.Context.{Context}
 use Rattle.scheduler_reply.specs.declared.reply.Entry.{Entry}
-use Rattle.link_table.specs.State.{start_of}
 use Rattle.link_table.specs.History.{IsLegal}
-use Rattle.link_table.specs.Dispatch.{context_of}
+use Rattle.link_table.specs.Dispatch.{contexts_of}
 use Rattle.certificate_laws.specs.Passing.{IsOfTask}
 use Rattle.trace_reader.specs.declared.posted.Posted.{Posted}
-
--- the contexts that a history gives the tasks of a set, in their order
-abbrev pub contexts_of : SetData → List Entry → List Context
-contexts_of set history = map (context_of (start_of set) history) (range_with_len 0 (length set.tasks))
 
 -- the posted event is of a task of the set, or of none
 abbrev pub IsKnown : SetData → Posted → Type 0

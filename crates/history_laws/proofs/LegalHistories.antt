@@ -13,10 +13,10 @@ use Rattle.certificate_laws.proofs.Best.{linked_is_best, linked_is_largest}
 use Rattle.certificate_laws.proofs.Improved.{no_improving_chain}
 use Rattle.certificate_laws.proofs.Kept.{passing_is_certified-from, legal_passes}
 use Rattle.certificate_laws.proofs.Ranked.{linked_is_as_urgent}
-use Rattle.history_laws.specs.Start.{NobodyIsReady}
+use Rattle.order_laws.specs.Start.{NobodyIsReady}
 use Rattle.history_laws.specs.ImprovingLaw.{LegalHistoryHasNoImprovingChainFrom}
 use Rattle.history_laws.specs.LegalLaw.{HoldsThroughoutLegal, LegalHistoryHasCertificatesFrom, LegalHistoryIsBestFrom, LegalHistoryIsMostUrgentFrom}
-use Rattle.history_laws.proofs.Starts.{nobody_ready}
+use Rattle.order_laws.proofs.Starts.{nobody_ready}
 
 -- where nobody is ready, nobody waits
 nobody_waits : (s : State) → NobodyIsReady s → HasCertificates s

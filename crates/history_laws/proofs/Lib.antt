@@ -1,19 +1,8 @@
-pub mod CarriedAlong
-pub mod CarriedByChanges
-pub mod CarriedByTicks
-pub mod CarriedThroughout
-pub mod HistoryParts
+mod Examples
+mod LegalExamples
 pub mod LegalHistories
-pub mod OrderCounts
-pub mod OrderLists
-pub mod OrderNames
-pub mod OrderPrefixes
-pub mod OrderStops
-pub mod Starts
 pub mod StepExists
 pub mod StepHistories
 pub mod StepReach
 pub mod StepSearch
-pub mod StintsOfTask
-pub mod StintsOrdered
-pub mod StintsRows
+mod StintsExample

@@ -7,7 +7,7 @@ use Rattle.link_table.specs.State.{State, IsState}
 use Rattle.link_table.specs.History.{IsLegal, IsLegalFrom, state_at, IsBestThroughout}
 use Rattle.certificate_laws.specs.Certified.{HasCertificates, IsCertifiedThroughout}
 use Rattle.certificate_laws.specs.Laws.{HoldsThroughout, LinkedIsBest, LinkedIsLargest, LinkedIsAsUrgent}
-use Rattle.history_laws.specs.Start.{NobodyIsReady}
+use Rattle.order_laws.specs.Start.{NobodyIsReady}
 
 -- what holds after every entry of each legal history from a state in which nobody is ready
 abbrev pub HoldsThroughoutLegal : (State → Type 0) → Type 0

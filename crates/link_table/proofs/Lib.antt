@@ -1,7 +1,6 @@
 pub mod BestOnce
 pub mod Contexts
 pub mod Ends
-pub mod Examples
 pub mod Feeding
 pub mod Histories
 mod IdleSets
@@ -10,7 +9,6 @@ pub mod Idling
 pub mod Leaders
 pub mod Least
 pub mod Leaving
-pub mod LegalExamples
 pub mod Linked
 pub mod Masks
 pub mod Paths

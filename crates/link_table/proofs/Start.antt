@@ -12,6 +12,12 @@ none_on zero p = refl
 none_on (suc n) zero = refl
 none_on (suc n) (suc p) = none_on n p
 
+-- and nobody is ready
+pub none_ready : (n t : ℕ) → get_or (replicate n false) t false ≡ false
+none_ready zero t = refl
+none_ready (suc n) zero = refl
+none_ready (suc n) (suc t) = none_ready n t
+
 no_task : TaskData
 no_task = record { name = []; priority = 0; mask = 0 }
 

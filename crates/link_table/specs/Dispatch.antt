@@ -4,13 +4,14 @@
 -- lists: the processors on which it was taken, and its runs.
 use Rattle.std.specs.Prelude.{ℕ, ◌+◌, ◌*◌, ◌-◌, ◌%◌, ◌^◌, Bool, true, false, List, [], ◌∷◌, ◌++◌, map, length, drop, slice_get, sum_by, count_by, Option, Some, None, if◌then◌else◌, ◌==◌, ◌&&◌, not, fold, filter}
 use Rattle.std.specs.List.{range_with_len, zip}
+use Rattle.task_set.specs.TaskSet.{SetData}
 use Rattle.task_set.specs.declared.context.Context.{Context}
 use Rattle.task_set.specs.declared.event.Event.{Event}
 use Rattle.task_set.specs.declared.event.Event.TheVariants.{Arrive, Depart, Tick}
 use Rattle.task_set.specs.declared.order.Order.{Order}
 use Rattle.task_set.specs.declared.order.Order.TheVariants.{Release, Take, Run, Stop}
 use Rattle.scheduler_reply.specs.declared.reply.Entry.{Entry}
-use Rattle.link_table.specs.State.{State, task_on, is_task}
+use Rattle.link_table.specs.State.{State, start_of, task_on, is_task}
 use Rattle.link_table.specs.History.{effect_of, state_after}
 
 -- whether two occupants are one task, or nobody both times
@@ -110,3 +111,7 @@ context_from t runs taken = record {
 -- the context that a history from s gives a task
 abbrev pub context_of : State → List Entry → ℕ → Context
 context_of s history t = context_from t (runs_of s history t) (processors_of s history t)
+
+-- the contexts that a history gives the tasks of a set, in their order
+abbrev pub contexts_of : SetData → List Entry → List Context
+contexts_of set history = map (context_of (start_of set) history) (range_with_len 0 (length set.tasks))

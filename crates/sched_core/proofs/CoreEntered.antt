@@ -11,7 +11,7 @@ use Rattle.link_table.proofs.Histories.{state_after-push, IsLegalFrom-push, proc
 use Rattle.link_table.proofs.Steps.{reply_gives_new_state, step_keeps_state}
 use Rattle.certificate_laws.specs.Certified.{HasCertificates}
 use Rattle.certificate_laws.proofs.Kept.{step_keeps_certificates}
-use Rattle.history_laws.specs.Start.{NobodyIsReady}
+use Rattle.order_laws.specs.Start.{NobodyIsReady}
 use Rattle.sched_core.specs.CoreData.{CoreData, IsCore, core_orders, max_entries}
 use Rattle.sched_core.specs.CoreRows.{RowData, row_at, RowFollows, NumbersBecome, came, came_below}
 use Rattle.sched_core.proofs.RowLoops.{filtered_count-bound, filtered_count-same, change_orders-same_number}

@@ -5,9 +5,9 @@ use Rattle.std.specs.Prelude.{All}
 use Rattle.task_set.specs.Orders.{IsObeyable, NamesTaskBelow, TakesBelow}
 use Rattle.link_table.specs.State.{task_count}
 use Rattle.link_table.specs.Dispatch.{orders_of, closed_orders_of}
-use Rattle.history_laws.proofs.OrderCounts.{orders_count-from}
-use Rattle.history_laws.proofs.OrderLists.{orders_obeyable-from}
-use Rattle.history_laws.proofs.OrderNames.{orders_name_tasks-from, take_numbers_small-from}
+use Rattle.order_laws.proofs.OrderCounts.{orders_count-from}
+use Rattle.order_laws.proofs.OrderLists.{orders_obeyable-from}
+use Rattle.order_laws.proofs.OrderNames.{orders_name_tasks-from, take_numbers_small-from}
 use Rattle.sched_core.specs.CoreData.{CoreData, IsCore, core_orders}
 
 module _ (core : CoreData) (p : ℕ) (kept : IsCore core) where

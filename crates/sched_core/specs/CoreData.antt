@@ -13,7 +13,7 @@ use Rattle.link_table.specs.History.{IsLegalFrom, state_after}
 use Rattle.link_table.specs.Dispatch.{orders_of, closed_orders_of}
 use Rattle.certificate_laws.specs.Certified.{HasCertificates}
 use Rattle.certificate_laws.specs.Justification.{HasJustification}
-use Rattle.history_laws.specs.Start.{NobodyIsReady}
+use Rattle.order_laws.specs.Start.{NobodyIsReady}
 use Rattle.sched_core.specs.declared.fault.CoreFault.{CoreFault}
 use Rattle.sched_core.specs.declared.fault.CoreFault.TheVariants.{Closed, Full, OutOfMemory}
 

@@ -1,6 +1,6 @@
 -- One step of a check: the words of the contracts of private functions. The public one says by the definitions of a valid
 -- and of a wrong schedule what was found.
-use Rattle.event_replay.specs.Replay.{contexts_of}
+use Rattle.link_table.specs.Dispatch.{contexts_of}
 use Rattle.std.specs.Prelude.{◌≡◌, ℕ, take}
 use Rattle.link_table.specs.History.{state_at}
 use Rattle.reach_certificate.specs.Checker.{CheckerData}

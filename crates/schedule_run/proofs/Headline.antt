@@ -7,7 +7,7 @@ use Rattle.sched_core.specs.CoreData.{CoreData}
 use Rattle.trace_reader.specs.declared.posted.Posted.{Posted}
 use Rattle.trace_reader.specs.InputText.{IsInputText}
 use Rattle.schedule_text.specs.ScheduleText.{schedule_text}
-use Rattle.event_replay.specs.Replay.{contexts_of}
+use Rattle.link_table.specs.Dispatch.{contexts_of}
 use Rattle.thread_replay.specs.Replayed.{IsReplayOf}
 use Rattle.schedule_run.specs.Run.{Replays}
 

@@ -1,7 +1,7 @@
 -- What a replay of an input is: the bytes read are the text of one input, and the bytes written are the schedule text of one
 -- history, which is a legal merge of its events, keeps the best set linked after every entry, and gives the contexts that
 -- are printed.
-use Rattle.event_replay.specs.Replay.{contexts_of}
+use Rattle.link_table.specs.Dispatch.{contexts_of}
 use Rattle.std.specs.Prelude.{◌≡◌, ℕ, List}
 use Rattle.task_set.specs.TaskSet.{SetData}
 use Rattle.task_set.specs.declared.context.Context.{Context}

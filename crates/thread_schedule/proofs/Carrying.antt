@@ -7,13 +7,12 @@ use Rattle.task_set.specs.Context.{carried_context}
 use Rattle.task_set.specs.declared.context.Context.{Context}
 use Rattle.link_table.specs.State.{start_of}
 use Rattle.link_table.specs.History.{IsLegal}
-use Rattle.link_table.specs.Dispatch.{closed_orders_of, context_of}
+use Rattle.link_table.specs.Dispatch.{closed_orders_of, context_of, contexts_of}
 use Rattle.scheduler_reply.specs.declared.reply.Entry.{Entry}
-use Rattle.history_laws.specs.StintLaw.{stints_of_history}
-use Rattle.history_laws.proofs.CarriedThroughout.{stints_give_context}
+use Rattle.order_laws.specs.StintLaw.{stints_of_history}
+use Rattle.order_laws.proofs.CarriedThroughout.{stints_give_context}
 use Rattle.context_slots.specs.Carried.{AllCarried}
 use Rattle.context_slots.specs.Hands.{SlotsData, HandData, AreFreeFrom, all_ended}
-use Rattle.event_replay.specs.Replay.{contexts_of}
 use Rattle.thread_replay.specs.Places.{AllFrom}
 use Rattle.thread_replay.specs.Replayed.{HasAllStints, HaveAllStints}
 

@@ -26,7 +26,7 @@ use Rattle.link_table.proofs.StepParts.{IsListOn, IsSetOn, step_is_on}
 use Rattle.link_table.proofs.Steps.{step_keeps_state}
 use Rattle.text_fields.specs.EventText.{IsAboutSet}
 use Rattle.schedule_text.specs.Schedule.{IsProcessorList, IsOfProcessors, HasProcessors, IsContextOf, AreInOrder, IsScheduleSet, IsSchedule}
-use Rattle.event_replay.proofs.LegalNames.{legal_names}
+use Rattle.order_laws.proofs.LegalNames.{legal_names}
 use Rattle.certificate_laws.proofs.Kept.{legal_passes}
 use Rattle.valid_schedule.specs.Laws.{IsPostedEntry, IsWritableHistory}
 use Rattle.valid_schedule.specs.Valid.{IsValid, schedule_of}

@@ -1,5 +1,5 @@
 -- A schedule is valid, or wrong in one line with one defect, and never both.
-use Rattle.event_replay.specs.Replay.{contexts_of}
+use Rattle.link_table.specs.Dispatch.{contexts_of}
 use Rattle.std.proofs.Common.{◌≡◌, ℕ, zero, suc, ◌+◌, ◌<◌, List, [], ◌∷◌, length, take, Some, refl, sym, ap, ◌∙◌, subst, inl, inr, arith}
 use Rattle.std.specs.Prelude.{slice_get}
 use Rattle.std.proofs.lemmas.Bool.{cases_lt}

@@ -8,7 +8,7 @@ use Rattle.link_table.specs.History.{state_at}
 use Rattle.reach_certificate.specs.Defect.{IsDefect, number_of}
 use Rattle.certificate_laws.specs.Passing.{IsPassing}
 use Rattle.reach_certificate.specs.declared.defect.Defect.{Defect}
-use Rattle.event_replay.specs.Replay.{contexts_of}
+use Rattle.link_table.specs.Dispatch.{contexts_of}
 use Rattle.schedule_text.specs.Laws.{text_of_schedule}
 use Rattle.schedule_text.specs.Schedule.{ScheduleData, IsSchedule}
 

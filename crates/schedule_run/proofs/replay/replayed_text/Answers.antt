@@ -1,5 +1,5 @@
 use Rattle.std.proofs.lemmas.Result.{err_from_is_err_and}
-use Rattle.event_replay.proofs.LegalNames.{legal_names}
+use Rattle.order_laws.proofs.LegalNames.{legal_names}
 use Rattle.event_replay.proofs.Running.{contexts_known}
 use Rattle.merge_laws.proofs.MergedCounts.{about_merged}
 use Rattle.program_status.proofs.Answered.{answers_fault, answers_memory}

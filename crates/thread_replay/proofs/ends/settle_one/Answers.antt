@@ -6,7 +6,7 @@ use Rattle.task_set.proofs.Obeyable.{nothing_after_stop}
 use Rattle.link_table.specs.State.{start_of}
 use Rattle.link_table.specs.Dispatch.{orders_of, closed_orders_of}
 use Rattle.sched_core.specs.CoreData.{core_orders}
-use Rattle.history_laws.proofs.OrderLists.{orders_obeyable}
+use Rattle.order_laws.proofs.OrderLists.{orders_obeyable}
 use Rattle.thread_replay.proofs.ends.settle_one.Goals as goal
 
 pub returns : goal.returns

@@ -3,8 +3,8 @@ use Rattle.std.proofs.lemmas.List.{length-replicate}
 use Rattle.link_table.specs.State.{State}
 use Rattle.certificate_laws.specs.Certified.{HasCertificates}
 use Rattle.certificate_laws.proofs.Kept.{HasCertificates-start}
-use Rattle.history_laws.specs.Start.{NobodyIsReady}
-use Rattle.history_laws.proofs.Starts.{nobody_ready}
+use Rattle.order_laws.specs.Start.{NobodyIsReady}
+use Rattle.order_laws.proofs.Starts.{nobody_ready}
 use Rattle.sched_core.specs.CoreView.{IsKept}
 use Rattle.sched_core.proofs.CoreEntered.{core_started}
 use Rattle.sched_core.proofs.RowsStarted.{rows_counted, rows_say_nothing, nobody_is_held, never_taken}

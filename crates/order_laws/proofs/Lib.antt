@@ -1,0 +1,14 @@
+pub mod CarriedAlong
+pub mod CarriedByChanges
+pub mod CarriedByTicks
+pub mod CarriedThroughout
+pub mod HistoryParts
+pub mod LegalNames
+pub mod OrderCounts
+pub mod OrderLists
+pub mod OrderNames
+pub mod OrderPrefixes
+pub mod OrderStops
+pub mod Starts
+pub mod StintsOfTask
+pub mod StintsOrdered

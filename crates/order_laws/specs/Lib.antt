@@ -1,0 +1,5 @@
+pub mod OrderLaws
+pub mod PartLaws
+pub mod SentLaws
+pub mod Start
+pub mod StintLaw
