@@ -96,7 +96,7 @@ module _ (a : Layout) (of : List (Option ℕ)) (linked : ℕ) (feeders : List �
     where
       later : (guest ≡ Some t → ⊥) → (occupant_in a p ≡ Some t) ⊎ (occupant_in a p ≡ Some t → ⊥) → occupant_in (with_occupant a p guest) r ≡ Some t
       later ng (inl o) = absurd (
-        let h : ◌≡◌ {A = Option ℕ} None (Some r) = sym (without-same of t) ∙ ap (λ (x : Option ℕ). get_or (places_without of x) t None) (sym o) ∙ sym (with-other (places_without of (occupant_in a p)) guest p t ng) ∙ e in cc)
+          let h : ◌≡◌ {A = Option ℕ} None (Some r) = sym (without-same of t) ∙ ap (λ (x : Option ℕ). get_or (places_without of x) t None) (sym o) ∙ sym (with-other (places_without of (occupant_in a p)) guest p t ng) ∙ e in cc)
       later ng (inr apart) =
           let before : occupant_in a r ≡ Some t = ix.occupant t r (sym (without-other of (occupant_in a p) t apart) ∙ sym (with-other (places_without of (occupant_in a p)) guest p t ng) ∙ e) in
           let other : r ≢ p = λ s. apart (ap (λ (n : ℕ). get_or a.on n None) (sym s) ∙ before) in

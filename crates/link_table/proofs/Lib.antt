@@ -21,3 +21,4 @@ pub mod Start
 pub mod StepParts
 pub mod Steps
 pub mod Unique
+pub mod Urgent

@@ -8,5 +8,7 @@ pub mod Layout
 pub mod LinksView
 pub mod Placement
 pub mod PlacesView
+pub mod PrioritiesView
 pub mod State
 pub mod Step
+pub mod UrgencyOrder

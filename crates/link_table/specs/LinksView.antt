@@ -6,7 +6,7 @@ use Rattle.link_table.specs.declared.links.Links.TheInside.{Inside}
 abbrev pub links_view : Inside → State
 links_view a = record {
   processors = a.processors;
-  priorities = a.priorities.items;
+  priorities = a.priorities;
   masks = a.places.masks;
   online = a.places.online;
   ready = a.ready.items;

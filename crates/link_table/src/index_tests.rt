@@ -21,7 +21,10 @@ impl Numbers {
         requires { 0 < n }
         ensures { result < n }
     {
-        self.state = self.state.wrapping_mul(6364136223846793005).wrapping_add(1442695040888963407);
+        self.state = self
+            .state
+            .wrapping_mul(6364136223846793005)
+            .wrapping_add(1442695040888963407);
         ((self.state >> 33) % u64::from(n)) as u32
     }
 
@@ -107,7 +110,10 @@ fn compare(rt: &impl Abort, links: &Links, set: ProcSet) {
     assert!(rt; links.linked() == linked, "linked");
     assert!(rt; links.idle() == links.online().minus(&linked), "idle");
     for q in 0..links.processors() {
-        assert!(rt; links.feeders(q) == scan_feeders(rt, links, q), "the feeders of {q}");
+        assert!(rt;
+            links.feeders(q) == scan_feeders(rt, links, q),
+            "the feeders of {q}"
+        );
     }
     assert_eq!(rt; links.most_urgent_in(set), scan_most_urgent(rt, links, set));
 }

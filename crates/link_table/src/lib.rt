@@ -15,6 +15,8 @@ mod index_tests;
 pub mod laws;
 pub mod links;
 mod places;
+mod priorities;
+mod ranked;
 #[cfg(test)]
 mod tests;
 mod urgency;

@@ -3,6 +3,8 @@ ghost use Rattle.std.specs.Prelude.{◌≡◌, ℕ, ◌<◌, ◌≤◌, ◌↔�
 ghost use Rattle.affinity_mask.specs.ProcSet.{has};
 
 use crate::places::Places;
+use crate::priorities::Priorities;
+use crate::ranked::Ranked;
 use affinity_mask::{OutOfMemory, ProcSet};
 use scheduler_reply::Chain;
 use std::alloc::Global;
@@ -14,7 +16,7 @@ use task_set::TaskSet;
 #[derive(Drop)]
 pub struct Links {
     processors: u8,
-    priorities: Vec<u32>,
+    priorities: Priorities,
     ready: Vec<bool>,
     places: Places,
 }
@@ -33,6 +35,7 @@ impl Model for Links {
 
 impl Links {
     ghost use Rattle.link_table.specs.State.{State, IsState, HasSameTasks, task_count, priority_of, mask_of, is_ready, is_linked, effective_mask, task_on, IsIdle, IsWaiting, start_of, state_with_ready, state_with_absent, state_with_idle, state_after_leaving};
+    ghost use Rattle.link_table.specs.UrgencyOrder.{IsUrgencyOrder};
     ghost use Rattle.link_table.specs.Chain.{CanShift, IsChainOf, IsSimple, Shifted, task_put_out};
 
     /// Every task of the set is absent, and every processor is idle. Refused only where memory runs out.
@@ -48,6 +51,7 @@ impl Links {
             masks.push(set.mask(t))?;
             ready.push(false)?;
         }
+        let priorities = Priorities::new(alloc, priorities)?;
         let places = Places::new(alloc, processors, masks)?;
         Ok(Links {
             processors,
@@ -77,7 +81,7 @@ impl Links {
     pub fn is_empty(&self) -> bool
         ensures { IsTrue result ↔ (task_count self.now ≡ 0) }
     {
-        self.priorities.is_empty()
+        self.priorities.len() == 0
     }
 
     /// The priority of a task. The lower number is more urgent.
@@ -85,7 +89,15 @@ impl Links {
         requires { t < task_count self.now }
         ensures { result ≡ priority_of self.now t }
     {
-        self.priorities[t as usize]
+        self.priorities.of(t)
+    }
+
+    /// All tasks, from the most urgent one on.
+    pub(crate) fn by_urgency(&self) -> &[Ranked]
+        ensures order { IsUrgencyOrder self.now.priorities result.now }
+        ensures valid { IsState self.now }
+    {
+        self.priorities.by_urgency()
     }
 
     /// The affinity mask of a task.

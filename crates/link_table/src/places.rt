@@ -43,12 +43,16 @@ impl Places {
     ghost use Rattle.link_table.specs.Layout.{Layout, effective_in, occupant_in, runs_on, IsNowhere, with_occupant};
 
     /// All processors are on line and idle.
-    pub(crate) fn new(alloc: Global, processors: u8, masks: Vec<ProcSet>) -> Result<Places, OutOfMemory>
+    pub(crate) fn new(
+        alloc: Global,
+        processors: u8,
+        masks: Vec<ProcSet>,
+    ) -> Result<Places, OutOfMemory>
         requires { processors ≤ 64 }
         ensures { IfOk result (λ places. places ≡ record {
-            masks = masks.items;
-            online = all_below processors;
-            on = replicate processors None;
+          masks = masks.items;
+          online = all_below processors;
+          on = replicate processors None;
         }) }
     {
         let mut of = Vec::new(alloc);
@@ -188,11 +192,7 @@ fn marked(set: ProcSet, p: u8, is_in: bool) -> ProcSet
     requires { p < 64 }
     ensures { (q : ℕ) → has result q ≡ (if q == p then is_in else has set q) }
 {
-    if is_in {
-        set.with(p)
-    } else {
-        set.without(p)
-    }
+    if is_in { set.with(p) } else { set.without(p) }
 }
 
 /// Of each processor the set has p then just where it is one of those that the occupant of p may run on.

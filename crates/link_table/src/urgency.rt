@@ -51,13 +51,12 @@ impl Links {
         ensures test { MatchOption result (IsNobodyInto self.now set) (IsMostUrgentInto self.now set) }
         ensures valid { IsState self.now }
     {
-        let mut found = None;
-        for t in 0..self.len() {
-            if can_enter(self, set, t) {
-                found = Some(self.more_urgent(found, t));
+        for entry in self.by_urgency() {
+            if can_enter(self, set, entry.task) {
+                return Some(entry.task);
             }
         }
-        found
+        None
     }
 }
 

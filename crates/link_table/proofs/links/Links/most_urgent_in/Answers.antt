@@ -1,19 +1,30 @@
-use Rattle.std.proofs.Common.{◌+◌, sym, ◌∙◌, subst, arith}
+use Rattle.std.proofs.Common.{get_or, sym, ◌∙◌}
 use Rattle.std.proofs.lemmas.Bool.{true≢false}
-use Rattle.link_table.proofs.Leaders.{IsFoundInto, into_number, into_more, into_passed, into_whole}
+use Rattle.std.proofs.lemmas.List.{get_or_default}
+use Rattle.link_table.specs.declared.ranked.Ranked.{Ranked}
+use Rattle.link_table.proofs.Urgent.{not_entering_more, nobody_enters, first_enters}
 use Rattle.link_table.proofs.links.Links.most_urgent_in.Goals as goal
-use Rattle.link_table.proofs.links.Links.most_urgent_in.Goals.{then-can_enter, else-can_enter}
 
-pub loop-t-preserved : goal.loop-t-preserved
-loop-t-preserved c = elim c.if-can_enter.branch [
-  | then-can_enter w ↦ subst (IsFoundInto c.args.self.now c.args.set (c.loop-t.t + 1)) (sym w.found-is)
-      (into_more c.args.self.now c.args.set c.loop-t.t w.more_urgent.result c.loop-t.found (c.can_enter.ensures.0 w.if-can_enter.true) w.more_urgent.ensures.either w.more_urgent.ensures.first w.more_urgent.ensures.first_of_found c.loop-t.invariant)
-  | else-can_enter w ↦ subst (IsFoundInto c.args.self.now c.args.set (c.loop-t.t + 1)) (sym w.found-is)
-      (into_passed c.args.self.now c.args.set c.loop-t.t c.loop-t.found (λ enters. true≢false (sym (c.can_enter.ensures.1 enters) ∙ w.if-can_enter.false)) c.loop-t.invariant)
-]
+-- what a read past the end would give
+nobody : Ranked
+nobody = record { priority = 0; task = 0 }
 
-pub more_urgent-requires-clause-found_number : goal.more_urgent-requires-clause-found_number
-more_urgent-requires-clause-found_number c = into_number c.args.self.now c.len-t-end.ensures.valid c.args.set c.loop-t.t c.loop-t.found c.loop-t.invariant
+pub loop-entry-preserved : goal.loop-entry-preserved
+unfolding nobody
+loop-entry-preserved c =
+    let order = c.by_urgency-entry-items.result.now in
+    let n = c.loop-entry.entry-index in
+    not_entering_more c.args.self.now c.args.set order n (get_or order n nobody) c.loop-entry-test.true (get_or_default order n nobody (get_or order n nobody) c.loop-entry-test.true)
+    (λ enters. true≢false (sym (c.can_enter.ensures.1 enters) ∙ c.if-can_enter.false)) c.loop-entry.invariant
+
+pub returns-then-can_enter-clause-test : goal.returns-then-can_enter-clause-test
+unfolding nobody
+returns-then-can_enter-clause-test c =
+    let order = c.by_urgency-entry-items.result.now in
+    let n = c.loop-entry.entry-index in
+    first_enters c.args.self.now c.by_urgency-entry-items.ensures.valid c.args.set order c.by_urgency-entry-items.ensures.order n (get_or order n nobody) c.loop-entry-test.true
+    (get_or_default order n nobody (get_or order n nobody) c.loop-entry-test.true) (c.can_enter.ensures.0 c.if-can_enter.true) c.loop-entry.invariant
 
 pub returns-clause-test : goal.returns-clause-test
-returns-clause-test c = into_whole c.args.self.now c.len-t-end.ensures.valid c.args.set c.loop-t.t c.loop-t.found (omega arith) c.loop-t.invariant
+returns-clause-test c =
+    nobody_enters c.args.self.now c.by_urgency-entry-items.ensures.valid c.args.set c.by_urgency-entry-items.result.now c.by_urgency-entry-items.ensures.order c.loop-entry.entry-index c.loop-entry-test.false c.loop-entry.invariant

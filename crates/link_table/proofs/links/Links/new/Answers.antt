@@ -8,4 +8,4 @@ pub invariant_of-result : goal.invariant_of-result
 invariant_of-result c =
     let m = c.processors-processors.result in
     let e = start_of-columns c.args.set.now c.loop-t.t m m (all_below m) _ _ _ (replicate {A = Option ℕ} m None) (omega arith) (omega arith) c.processors-processors.ensures.value refl refl c.loop-t.invariant.priorities c.loop-t.invariant.masks c.loop-t.invariant.ready refl in
-    rw c.in_ok-places.ensures (subst IsState e (IsState-start c.args.set.now c.processors-processors.ensures.valid))
+    rw (c.in_ok-priorities.ensures, c.in_ok-places.ensures) (subst IsState e (IsState-start c.args.set.now c.processors-processors.ensures.valid))
