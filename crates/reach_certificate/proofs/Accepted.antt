@@ -1,10 +1,10 @@
 -- A checker that follows an entry which passes is a checker again.
-use Rattle.std.proofs.Common.{◌≡◌, ℕ, ◌<◌, List, [], ◌∷◌, get_or, Option, Some, refl, sym, ap, ◌∙◌, subst, arith}
+use Rattle.std.proofs.Common.{◌≡◌, ℕ, ◌<◌, List, [], ◌∷◌, get_or, refl, sym, ap, ◌∙◌, subst, arith}
 use Rattle.task_set.specs.Context.{context_after_take, context_after_run}
 use Rattle.task_set.specs.declared.context.Context.{Context}
 use Rattle.task_set.specs.declared.event.Event.{Event}
 use Rattle.scheduler_reply.specs.declared.reply.Entry.{Entry}
-use Rattle.link_table.specs.State.{State, IsState, task_count, task_on}
+use Rattle.link_table.specs.State.{State, IsState, task_count}
 use Rattle.link_table.specs.Dispatch.{taken_between, places_of, tick_runs}
 use Rattle.link_table.specs.History.{effect_of}
 use Rattle.link_table.proofs.SameTasks.{same_tasks-effect, same_count}

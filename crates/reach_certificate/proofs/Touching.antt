@@ -1,5 +1,5 @@
 -- Only the processors of a reply's chain can have another occupant after it, and whoever is on one of them has come there.
-use Rattle.std.proofs.Common.{◌≡◌, ◌≢◌, ℕ, zero, suc, ◌+◌, ◌-◌, ◌<◌, Bool, true, false, not, ◌&&◌, ◌⊎◌, List, [], ◌∷◌, length, get_or, map, reverse, filter, Option, Some, None, refl, sym, ap, ◌∙◌, subst, inl, inr, arith, cond, get_or-set_same}
+use Rattle.std.proofs.Common.{◌≡◌, ◌≢◌, ℕ, zero, suc, ◌-◌, ◌<◌, Bool, true, false, not, ◌&&◌, ◌⊎◌, List, [], ◌∷◌, length, get_or, reverse, filter, Option, Some, None, refl, sym, ap, ◌∙◌, subst, inl, inr, arith, get_or-set_same}
 use Rattle.std.specs.Prelude.{Contains}
 use Rattle.std.specs.List.{range_with_len}
 use Rattle.std.proofs.lemmas.Bool.{cases_eq, cases_Bool, and_from, and_left, and_parts, not-true, not_from_false, true≢false, false_from_ne_true}
@@ -23,7 +23,6 @@ use Rattle.link_table.proofs.Readiness.{IsState-state_with_ready, IsWaiting-stat
 use Rattle.link_table.proofs.SameTasks.{reply_keeps_tasks}
 use Rattle.link_table.proofs.Shifts.{IsState-state_after_shift, occupant-first, occupant-later, task_on-state_after_shift}
 use Rattle.link_table.proofs.Simple.{IsSimple-cons, IsSimple-head, IsSimple-reverse, IsSimple-tail}
-use Rattle.link_table.proofs.Steps.{IsChainOf-state_with_ready}
 use Rattle.certificate_laws.specs.Passing.{CamePasses, EnteringPasses, Passes}
 use Rattle.certificate_laws.proofs.Passed.{passing_keeps_state}
 use Rattle.reach_certificate.specs.Touched.{touched_by, places_among}

@@ -1,5 +1,4 @@
-use Rattle.std.proofs.Common.{◌≡◌, Err, sym, ap, ◌∙◌, subst, arith}
-use Rattle.link_table.specs.History.{effect_of}
+use Rattle.std.proofs.Common.{Err, sym, ap, subst, arith}
 use Rattle.certificate_laws.specs.Laws.{LinkedIsBest}
 use Rattle.certificate_laws.specs.Passing.{Passes}
 use Rattle.certificate_laws.proofs.Best.{linked_is_best}
