@@ -1,15 +1,15 @@
 -- The canonical list, written from processor 0 upward: its text up to each processor.
-use Rattle.std.proofs.Common.{◌≡◌, ◌≢◌, ℕ, zero, suc, ◌+◌, ◌<◌, ◌≤◌, Bool, true, false, nat_eq, List, [], ◌∷◌, ◌++◌, length, take, map, All, refl, sym, ◌∙◌, ap, ap₂, arith, ⊎_elim, ne_eqb, eq-eqb, append_assoc, append-nil, length-append, add-one, if◌then◌else◌}
+use Rattle.std.proofs.Common.{◌≡◌, ◌≢◌, ℕ, zero, suc, ◌+◌, ◌<◌, ◌≤◌, inl, inr, Bool, true, false, not, ◌&&◌, nat_eq, nat_lt, List, [], ◌∷◌, ◌++◌, length, take, map, All, refl, sym, ◌∙◌, ap, ap₂, arith, ⊎_elim, ne_eqb, eq-eqb, append_assoc, append-nil, length-append, add-one, if◌then◌else◌}
 use Rattle.std.specs.List.{join_with_byte, zip}
-use Rattle.std.proofs.lemmas.Bool.{cases_Bool, cases_eq, true≢false}
+use Rattle.std.proofs.lemmas.Bool.{cases_Bool, cases_eq, cases_lt, le-ltb, lt-ltb, true≢false}
 use Rattle.std.proofs.lemmas.List.{map-append, take-take}
 use Rattle.std.proofs.Math.Seq.{take-append_seam}
 use Rattle.std.proofs.lemmas.List.Elements.{All-head, All-map, All-weaker}
 use Rattle.affinity_mask.specs.Number.{canonical_number}
-use Rattle.affinity_mask.specs.ProcSet.{has, all_below, Within}
+use Rattle.affinity_mask.specs.ProcSet.{has, empty, all_below, Within, IsLeastMember}
 use Rattle.affinity_mask.specs.ListText.{comma, dash, begins_run, ends_run, run_text, canonical_list}
 use Rattle.affinity_mask.specs.ListSteps.{end_text, list_below}
-use Rattle.affinity_mask.proofs.Sets.{has-all_below}
+use Rattle.affinity_mask.proofs.Sets.{has-all_below, has-zero}
 use Rattle.affinity_mask.proofs.Runs.{IsClosed, IsOpen, Ascends, skip, single, begin, finish, stay, found_none, zip_back, number_of, ends-suc}
 
 -- ---- joined texts
@@ -145,6 +145,18 @@ pub list_below-suc : (X n : ℕ) → list_below X (n + 1) ≡ list_below X n ++ 
 unfolding list_below
 list_below-suc X n = rw (add-one n) refl
 
+-- what is no member adds nothing
+pub list_below-same : (X n m : ℕ) → n ≤ m → ((q : ℕ) → n ≤ q → q < m → has X q ≡ false) → list_below X m ≡ list_below X n
+list_below-same X n zero le out = ap (list_below X) (omega (arith, le))
+list_below-same X n (suc m) le out =
+    elim (cases_lt m n) [
+      | inl above ↦ ap (list_below X) (omega (arith, le, above))
+      | inr within ↦
+          let none : has X m ≡ false = out m (omega arith) (omega arith) in
+          adds_nothing X m (rw none refl) (rw none refl)
+          ∙ list_below-same X n m (omega arith) (λ q low high. out q low (omega arith))
+    ]
+
 -- what a front of the bytes was stays so
 pub front_kept : (old more mid new : List ℕ) → mid ≡ old ++ more → take (length mid) new ≡ mid → take (length old) new ≡ old
 front_kept old more mid new grown front =
@@ -179,3 +191,41 @@ below_more X p is_first old mid new grown first more =
     ∙ ap₂ (λ (ys : List ℕ) (b : Bool). ys ++ end_text X b p) grown same
     ∙ append_assoc old (list_below X p) (end_text X (nat_eq (length (list_below X p)) 0) p)
     ∙ ap (λ (ys : List ℕ). old ++ ys) (sym (list_below-suc X p))
+
+-- what is left from n on
+pub rest_from : (X Y F n : ℕ) → ((q : ℕ) → has Y q ≡ (has X q && not (has F q))) → ((q : ℕ) → has F q ≡ nat_lt q n) → (q : ℕ) → has Y q ≡ (has X q && not (nat_lt q n))
+rest_from X Y F n rest first q = rest q ∙ ap (λ (b : Bool). has X q && not b) (first q)
+
+never : (b : Bool) → (b && false) ≡ false
+never true = refl
+never false = refl
+
+-- the text up to the least member from n on
+pub up_to_least : (X Y n p : ℕ) → ((q : ℕ) → has Y q ≡ (has X q && not (nat_lt q n))) → IsLeastMember Y p → (n ≤ p) × (list_below X p ≡ list_below X n)
+up_to_least X Y n p rest least = (from, list_below-same X n p from (λ q low high. outside q low high))
+  where
+    from : n ≤ p
+    from = elim (cases_lt p n) [
+      | inr high ↦ high
+      | inl low ↦ absurd (true≢false (sym least.0 ∙ rest p ∙ rw (lt-ltb p n low) (never (has X p))))
+    ]
+
+    outside : (q : ℕ) → n ≤ q → q < p → has X q ≡ false
+    outside q low high = elim (cases_Bool (has X q)) [
+      | inr out ↦ out
+      | inl member ↦
+          let first : p ≤ q = least.1 q (rest q ∙ rw (member, le-ltb q n low) refl) in
+          absurd (omega arith)
+    ]
+
+-- the whole text, where no member is left
+pub up_to_end : (X Y n : ℕ) → n ≤ 64 → ((q : ℕ) → has Y q ≡ (has X q && not (nat_lt q n))) → Y ≡ empty → Within X (all_below 64) → list_below X n ≡ canonical_list X
+up_to_end X Y n le rest none within =
+    sym (list_below-same X n 64 le outside) ∙ list_below-all X within
+  where
+    outside : (q : ℕ) → n ≤ q → q < 64 → has X q ≡ false
+    outside q low high = elim (cases_Bool (has X q)) [
+      | inr out ↦ out
+      | inl member ↦ absurd (true≢false
+          (sym (rest q ∙ rw (member, le-ltb q n low) refl) ∙ ap (λ (Z : ℕ). has Z q) none ∙ has-zero q))
+    ]

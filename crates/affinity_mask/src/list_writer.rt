@@ -34,9 +34,11 @@ impl ProcSet {
     {
         let before = into.len();
         into.reserve(MEMBER_BYTES * self.count() as usize)?;
-        for p in 0..64 {
+        let mut from = 0;
+        while let Some(p) = self.minus(&ProcSet::first(from)).least() {
             let is_first = into.len() == before;
             self.append_end(p, is_first, into)?;
+            from = p + 1;
         }
         Ok(())
     }
