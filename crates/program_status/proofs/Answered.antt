@@ -1,4 +1,4 @@
--- How a call that makes a text of bytes comes to its answer.
+-- The answers of a call that makes a text of bytes, where it has none.
 use Rattle.std.proofs.Common.{◌≡◌, ◌⊎◌, ℕ, List, Err, refl, inr}
 use Rattle.task_set.specs.TaskSet.{SetData}
 use Rattle.trace_reader.specs.declared.fault.InputFault.{InputFault}

@@ -30,7 +30,7 @@ pub same_more : (xs ys : List Context) (n : ℕ) (x y : Context) → slice_get x
 same_more xs ys n x y here there same before =
     take_more xs n x (slice_get_within xs n x here)
     ∙ ap (λ (c : Context). take n xs ++ c ∷ []) (get_or_from_slice_get xs n x x here ∙ same ∙ sym (get_or_from_slice_get ys n y y there))
-    ∙ ap (λ (front : List Context). front ++ get_or ys n y ∷ []) before
+    ∙ ap (λ (earlier : List Context). earlier ++ get_or ys n y ∷ []) before
     ∙ sym (take_more ys n y (slice_get_within ys n y there))
 
 -- the first context that differs

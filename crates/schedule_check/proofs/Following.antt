@@ -39,15 +39,15 @@ pub followed_more : (schedule : ScheduleData) (n : ℕ) (entry : Entry) (checker
     → EachBecomes (context_after_entry checker.links new.links entry.event) checker.contexts new.contexts → HasFollowed schedule (n + 1) new
 followed_more schedule n entry checker new there followed passes links contexts =
     let start = start_of schedule.set in
-    let front : List Entry = take n schedule.entries in
-    let next : take (n + 1) schedule.entries ≡ front ++ entry ∷ [] = take_more schedule.entries n entry (slice_get_within schedule.entries n entry there) ∙ ap (λ (e : Entry). front ++ e ∷ []) (get_or_from_slice_get schedule.entries n entry entry there) in
-    let passes_there : Passes (state_after start front) entry.event entry.reply = rw followed.links at passes in
-    let links_there : new.links ≡ effect_of (state_after start front) entry = links ∙ ap (λ (s : State). effect_of s entry) followed.links in
-    let contexts_there : EachBecomes (context_after_entry (state_after start front) (effect_of (state_after start front) entry) entry.event) checker.contexts new.contexts = rw (followed.links, links_there) at contexts in
+    let earlier : List Entry = take n schedule.entries in
+    let next : take (n + 1) schedule.entries ≡ earlier ++ entry ∷ [] = take_more schedule.entries n entry (slice_get_within schedule.entries n entry there) ∙ ap (λ (e : Entry). earlier ++ e ∷ []) (get_or_from_slice_get schedule.entries n entry entry there) in
+    let passes_there : Passes (state_after start earlier) entry.event entry.reply = rw followed.links at passes in
+    let links_there : new.links ≡ effect_of (state_after start earlier) entry = links ∙ ap (λ (s : State). effect_of s entry) followed.links in
+    let contexts_there : EachBecomes (context_after_entry (state_after start earlier) (effect_of (state_after start earlier) entry) entry.event) checker.contexts new.contexts = rw (followed.links, links_there) at contexts in
     record {
-      passing = rw next (IsPassingFrom-push start front entry followed.passing passes_there);
-      links = rw next (links_there ∙ sym (state_after-push start front entry));
-      contexts = rw next (contexts-follow start front entry (length schedule.set.tasks) checker.contexts new.contexts followed.contexts contexts_there);
+      passing = rw next (IsPassingFrom-push start earlier entry followed.passing passes_there);
+      links = rw next (links_there ∙ sym (state_after-push start earlier entry));
+      contexts = rw next (contexts-follow start earlier entry (length schedule.set.tasks) checker.contexts new.contexts followed.contexts contexts_there);
     }
 
 -- one entry that does not pass
