@@ -1,10 +1,9 @@
 -- Steps, and the sets of processors before and after them.
 use Rattle.std.proofs.Common.{◌≡◌, ℕ, ◌<◌, ◌||◌, ◌&&◌, not, Option, Some, None, nat_eq, refl, sym, ◌∙◌, subst, inl, inr, ◌⊎◌, ◌↔◌, IsTrue, eq-eqb, eqb-true, ne_eqb}
 use Rattle.std.proofs.lemmas.Bool.{cases_eq, or_cases, or_left, or_right, and_parts, and_from, not_from_false}
-use Rattle.std.proofs.lemmas.Option.{same_Some}
 use Rattle.affinity_mask.specs.ProcSet.{has, empty, Within}
 use Rattle.affinity_mask.proofs.Meetings.{no_member}
-use Rattle.link_table.specs.State.{State, IsState, task_on, effective_mask}
+use Rattle.link_table.specs.State.{State, IsState, task_on}
 use Rattle.link_table.specs.Chain.{CanShift}
 use Rattle.link_table.proofs.Linked.{occupied_number}
 use Rattle.link_table.proofs.Masks.{effective_mask_below}
@@ -17,10 +16,7 @@ pub Steps-below : (s : State) → IsState s → (direction : Direction) (p q : �
 Steps-below s ok Onward p q step = effective_mask_below s ok step.0 q step.2
 Steps-below s ok Back p q step = occupied_number s q step.0 ok step.1
 
--- who can be shifted from a processor follows from its occupant
-pub CanShift-occupant : (s : State) (p q u : ℕ) → task_on s p ≡ Some u → CanShift s p q → IsTrue (has (effective_mask s u) q)
-CanShift-occupant s p q u on shift = subst (λ (v : ℕ). IsTrue (has (effective_mask s v) q)) (same_Some shift.0 u (sym shift.1 ∙ on)) shift.2
-
+-- nobody can be shifted from an idle processor
 pub CanShift-idle : (s : State) (p q : ℕ) → task_on s p ≡ None → CanShift s p q → ⊥
 CanShift-idle s p q nobody shift = let e : ◌≡◌ {A = Option ℕ} None (Some shift.0) = sym nobody ∙ shift.1 in cc
 
