@@ -98,11 +98,20 @@ fn core_by_calls(rt: HostRuntime) -> Result<(), Fail> {
     Ok(())
 }
 
+/// The first task comes, runs, leaves, and does not run.
+fn event_at(place: u64) -> Event {
+    match place % 4 {
+        0 => Event::Arrive(0),
+        2 => Event::Depart(0),
+        _ => Event::Tick(1),
+    }
+}
+
 #[test]
 fn history_fills_up(rt: HostRuntime) -> Result<(), Fail> {
     let mut core = core_of_two(rt.alloc())?;
     for place in 0..MAX_ENTRIES as u64 {
-        assert_eq!(rt; apply(&rt, &mut core, 0, Event::Tick(1)), Ok(place));
+        assert_eq!(rt; apply(&rt, &mut core, 0, event_at(place)), Ok(place));
     }
     assert_eq!(rt;
         apply(&rt, &mut core, 0, Event::Tick(1)),
@@ -113,6 +122,14 @@ fn history_fills_up(rt: HostRuntime) -> Result<(), Fail> {
         apply(&rt, &mut core, 0, Event::Tick(1)),
         Err(CoreFault::Closed)
     );
+    // A take, a run and a release for each four events, and the stop.
+    let last = Order::Take {
+        task: 0,
+        number: 4999,
+    };
+    assert_eq!(rt; orders(&rt, &core, 0).len(), 15_001);
+    assert_eq!(rt; orders(&rt, &core, 0).get(14_997), Some(&last));
+    assert_eq!(rt; orders(&rt, &core, 1), [Order::Stop].as_slice());
     Ok(())
 }
 
