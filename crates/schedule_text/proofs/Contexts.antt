@@ -165,19 +165,6 @@ pub wide : (field : List ℕ) (n : ℕ) → n < 2 ^ 64 → field ≡ canonical_n
     → IsNumberField 0 18446744073709551615 field n
 wide field n small is = record { range = (omega arith, omega arith); is_text = is }
 
--- and it is read as itself
-pub wide_read : (field : List ℕ) (n : ℕ) → n < 2 ^ 64 → field ≡ canonical_number n
-    → IsNumberWithin 0 18446744073709551615 field n
-wide_read field n small is =
-    number_within 0 18446744073709551615 field n (lit< tt) (wide field n small is)
-
-same_value : (field : List ℕ) (m n : ℕ) → number_value field ≡ m → number_value field ≡ n → m ≡ n
-same_value field m n one other = sym one ∙ other
-
-pub wide_once : (field : List ℕ) (m n : ℕ) → IsNumberWithin 0 18446744073709551615 field m → n < 2 ^ 64
-    → field ≡ canonical_number n → m ≡ n
-wide_once field m n f small is = same_value field m n f.0.1 (wide_read field n small is).0.1
-
 no_number_dash : (n : ℕ) → n < 2 ^ 64 → codes "-" ≡ canonical_number n → ⊥
 no_number_dash n small is =
     number_lacks n 45 small (inl (omega arith))
@@ -211,24 +198,6 @@ five_same : (t u s m r : ℕ) (l : Option ℕ) (context : Context) → context.t
     ≡ context.stints → m ≡ context.moves → l ≡ context.last → r ≡ context.trail
     → record { task = t; units = u; stints = s; moves = m; last = l; trail = r } ≡ context
 five_same t u s m r l context e1 e2 e3 e4 e5 e6 = rw (← e1, e2, e3, e4, e5, e6) refl
-
--- the fields of a context give it back
-pub context_found : (set : SetData) (context : Context) (t u s m r : ℕ) (l : Option ℕ)
-    (units stints moves last trail : List ℕ)
-    → IsContextOf t context → AreSaid units stints moves last trail context
-    → IsNumberWithin 0 18446744073709551615 units u → IsNumberWithin 0 18446744073709551615 stints s
-    → IsNumberWithin 0 18446744073709551615 moves m → l ≡ context.last → IsNumberWithin 0 18446744073709551615 trail r
-    → record { task = t; units = u; stints = s; moves = m; last = l; trail = r } ≡ context
-context_found set context t u s m r l units stints moves last trail of said fu fs fm fl fr =
-    five_same t u s m r l context of.task (wide_once units u context.units fu of.units said.units_are)
-    (wide_once stints s context.stints fs of.stints said.stints_are)
-    (wide_once moves m context.moves fm of.moves said.moves_are) fl
-    (wide_once trail r context.trail fr of.trail said.trail_is)
-
--- the field of its last processor is that of a last processor
-pub last_field : (t : ℕ) (units stints moves last trail : List ℕ) (context : Context) → IsContextOf t context
-    → AreSaid units stints moves last trail context → IsLastField last context.last
-last_field t units stints moves last trail context of said = record { processor = of.last; is_text = said.last_is }
 
 -- the fields of a context are of one context
 pub context_once : (set : SetData) (t : ℕ) (one other : Context) → IsContextOf t one → IsContextOf t other

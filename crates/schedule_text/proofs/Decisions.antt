@@ -18,6 +18,12 @@ use Rattle.schedule_text.proofs.Fields.{number_none, number_differs, list_refuse
 use Rattle.schedule_text.proofs.Chains.{chain_empty, chain_read, chain_none}
 use Rattle.schedule_text.proofs.Contexts.{last_none}
 
+-- two facts hold, or not both
+pub both_decided : {P Q : Type 0} → (P ⊎ (P → ⊥)) → (Q ⊎ (Q → ⊥)) → (P × Q) ⊎ ((P × Q) → ⊥)
+both_decided (inl p) (inl q) = inl (p, q)
+both_decided (inl p) (inr none) = inr (λ both. none both.1)
+both_decided (inr none) q = inr (λ both. none both.0)
+
 -- a byte is in a text or not
 pub byte_decided : (byte : ℕ) (text : List ℕ) → Contains text byte ⊎ (Contains text byte → ⊥)
 byte_decided byte [] = inr (λ here. absurd (omega (arith, here.1)))

@@ -16,7 +16,7 @@ use Rattle.text_fields.specs.EventText.{event_fields}
 use Rattle.text_fields.proofs.Words.{head_same}
 use Rattle.text_fields.proofs.Addable.{name_decided}
 use Rattle.text_fields.proofs.Decisions.{bytes_decided}
-use Rattle.schedule_text.proofs.Decisions.{field_decided, number_field_decided, set_field_decided, chain_field_decided}
+use Rattle.schedule_text.proofs.Decisions.{both_decided, field_decided, number_field_decided, set_field_decided, chain_field_decided}
 use Rattle.text_fields.proofs.NamedTasks.{named_task}
 use Rattle.schedule_text.proofs.Shapes.{no_event, arrival_fault, departure_fault, tick_fault, arrival_read, departure_read}
 use Rattle.schedule_text.proofs.Replies.{placed_read, waits_read, placed_none, waits_none, two_none, displaced_read, freed_read, displaced_parts, freed_parts, displaced_fault, freed_fault}
@@ -181,16 +181,11 @@ freed_decided set chain name processors = elim (chain_field_decided chain) [
 -- three words are these or not
 words_decided : (a b c one two three : List ℕ) → ((a ≡ one) × (b ≡ two) × (c ≡ three))
     ⊎ (((a ≡ one) × (b ≡ two) × (c ≡ three)) → ⊥)
-words_decided a b c one two three = elim (bytes_decided a one) [
-  | inr differs ↦ inr (λ all. differs all.0)
-  | inl first ↦ elim (bytes_decided b two) [
-    | inr differs ↦ inr (λ all. differs all.1)
-    | inl second ↦ elim (bytes_decided c three) [
-      | inr differs ↦ inr (λ all. differs all.2)
-      | inl third ↦ inl (first, second, third)
+words_decided a b c one two three =
+    elim (both_decided (bytes_decided a one) (both_decided (bytes_decided b two) (bytes_decided c three))) [
+      | inl all ↦ inl (all.0, all.1.0, all.1.1)
+      | inr differ ↦ inr (λ all. differ (all.0, (all.1, all.2)))
     ]
-  ]
-]
 
 six_decided : (set : SetData) (a b c d e f : List ℕ) → IsReplyDecided set (a ∷ b ∷ c ∷ d ∷ e ∷ f ∷ [])
 six_decided set a b c d e f = elim (words_decided a c e (codes "displaced") (codes "out") (codes "reach")) [

@@ -21,11 +21,12 @@ use Rattle.schedule_text.specs.Fields.{spaced_fields_of, IsNumberAfter}
 use Rattle.schedule_text.specs.LineFields.{IsTaskFields}
 use Rattle.text_fields.proofs.Words.{head_same, tail_same}
 use Rattle.text_fields.proofs.Addable.{can_add_decided}
+use Rattle.text_fields.specs.EventText.{name_of}
 use Rattle.text_fields.proofs.Decisions.{bytes_decided}
-use Rattle.schedule_text.proofs.Decisions.{field_decided, number_field_decided, list_field_decided, last_field_decided}
+use Rattle.schedule_text.proofs.Decisions.{both_decided, field_decided, number_field_decided, list_field_decided, last_field_decided}
 use Rattle.schedule_text.proofs.Tasks.{task_form, task_list}
-use Rattle.schedule_text.proofs.Contexts.{AreSaid, context_said, context_found, wide, wide_below, wide_read, last_once, last_field}
-use Rattle.schedule_text.proofs.Bridges.{task_to_text, context_to_fields, entry_to_text}
+use Rattle.schedule_text.proofs.Contexts.{AreSaid, context_said, context_named, context_from_said, wide, wide_below}
+use Rattle.schedule_text.proofs.Bridges.{task_to_text, context_to_fields, context_to_text, entry_to_text}
 use Rattle.schedule_text.proofs.Stages.{processors_none, processors_read, history_none, history_read, task_fault, entry_fault}
 use Rattle.schedule_text.proofs.EntriesDecided.{entry_decided}
 use Rattle.schedule_text.proofs.Prefixes.{IsReadTo, read_start, read_more, read_short, read_fault, read_past, read_end}
@@ -127,49 +128,39 @@ context_numbers t units stints moves last trail = elim (number_field_decided 0 1
   ]
 ]
 
--- what is said of one line is said of one context
-said_once : (set : SetData) (t : ℕ) (units stints moves last trail : List ℕ) (one other : Context) → IsContextOf t one
-    → IsContextOf t other → AreSaid units stints moves last trail one → AreSaid units stints moves last trail other
-    → one ≡ other
-said_once set t units stints moves last trail one other of of' said said' =
-    sym (found one of said refl)
-    ∙ found other of' said' (last_once last one.last other.last (last_field t units stints moves last trail one of said)
-    (last_field t units stints moves last trail other of' said'))
-  where
-    found : (context : Context) → IsContextOf t context → AreSaid units stints moves last trail context
-        → one.last ≡ context.last
-        → record {
-          task = t;
-          units = one.units;
-          stints = one.stints;
-          moves = one.moves;
-          last = one.last;
-          trail = one.trail;
-        } ≡ context
-    found context of_it said_it same_last =
-        context_found set context t one.units one.stints one.moves one.trail one.last units stints moves last
-        trail of_it said_it
-        (wide_read units one.units of.units said.units_are) (wide_read stints one.stints of.stints said.stints_are)
-        (wide_read moves one.moves of.moves said.moves_are) same_last (wide_read trail one.trail of.trail said.trail_is)
-
 context_decided : (set : SetData) (t : ℕ) (text : List ℕ) → IsTaskSet set → t < length set.tasks
     → ((context : Context) × IsContextText set t text context)
     ⊎ ((context : Context) → IsContextText set t text context → ⊥)
 context_decided set t text valid within = elim (eleven_decided (spaced_fields_of text)) [
   | inr other ↦ inr (λ context f. other (ap length (context_to_fields set t text context valid within f).each_field))
-  | inl (a, b, c, d, e, f, g, h, i, j, k, eleven) ↦ elim (context_numbers t c e g i k) [
-    | inr none ↦ inr (λ context text_of. none context text_of.of_task
-        (context_said set context (spaced_fields_of text) a b c d e f g h i j k eleven
-        (context_to_fields set t text context valid within text_of).each_field))
-    | inl found ↦ elim (bytes_decided (line text) (context_line set found.0)) [
-      | inl same ↦ inl (found.0, record { of_task = found.1.0; is_text = same })
-      | inr differs ↦ inr (λ context text_of.
-          let said = context_said set context (spaced_fields_of text) a b c d e f g h i j k eleven
-          (context_to_fields set t text context valid within text_of).each_field in
-          let same = said_once set t c e g i k context found.0 text_of.of_task found.1.0 said found.1.1 in
-          differs (text_of.is_text ∙ ap (context_line set) same))
-    ]
-  ]
+  | inl (a, b, c, d, e, f, g, h, i, j, k, eleven) ↦ elim (both_decided (bytes_decided a (name_of set t))
+      (both_decided (bytes_decided b (codes "units")) (both_decided (bytes_decided d (codes "stints"))
+      (both_decided (bytes_decided f (codes "moves")) (both_decided (bytes_decided h (codes "last"))
+      (bytes_decided j (codes "trail"))))))) [
+        | inr differ ↦ inr (λ context text_of.
+            let fields = context_to_fields set t text context valid within text_of in
+            let named = context_named set context (spaced_fields_of text) a b c d e f g h i j k eleven fields.each_field in
+            let words = named.1 in
+            differ (
+              named.0 ∙ ap (name_of set) fields.of_task.task,
+              (words.0, (words.1, (words.2, (words.3, words.4)))),
+            ))
+        | inl named ↦ elim (context_numbers t c e g i k) [
+          | inr none ↦ inr (λ context text_of. none context text_of.of_task
+              (context_said set context (spaced_fields_of text) a b c d e f g h i j k eleven
+              (context_to_fields set t text context valid within text_of).each_field))
+          | inl found ↦ inl (
+            found.0,
+            context_to_text set t text found.0
+                (record {
+                  of_task = found.1.0;
+                  each_field = context_from_said set found.0 (spaced_fields_of text) a b c d e f g h i j k eleven
+                      (named.0 ∙ ap (name_of set) (sym found.1.0.task))
+                      (named.1.0, named.1.1.0, named.1.1.1.0, named.1.1.1.1.0, named.1.1.1.1.1) found.1.1;
+                }),
+          )
+        ]
+      ]
 ]
 
 module _ (version : ℕ) where
