@@ -1,4 +1,5 @@
 use Rattle.std.proofs.Common.{◌≡◌, inr}
+use Rattle.program_status.specs.declared.status.Status.TheVariants.{Input}
 use Rattle.program_status.proofs.ReadBytes.{all_is_reported}
 use Rattle.plain_run.proofs.Refusals.{answer_of, refused_at}
 use Rattle.plain_run.proofs.replay.run.Goals as goal
@@ -19,14 +20,14 @@ returns-in-Err-clause-complete g c = λ read to_read accepted calm quiet.
 pub returns-in-Err-clause-refuses : goal.returns-in-Err-clause-refuses
 returns-in-Err-clause-refuses g c = λ read line kind to_read why calm.
     let same = all_is_reported _ _ read _ to_read c.in-Ok.ensures.ok.1 in
-    c.in-Err.ensures.refuses _ (rw (c.deref.ensures.value, same) (answer_of read line kind why))
+    c.in-Err.ensures.refuses (Input line kind) (rw (c.deref.ensures.value, same) (answer_of read line kind why))
 
 pub returns-in-Ok-put_all-clause-refuses : goal.returns-in-Ok-put_all-clause-refuses
 returns-in-Ok-put_all-clause-refuses g c = λ read line kind to_read why calm.
     let same = all_is_reported _ _ read _ to_read c.in-Ok.ensures.ok.1 in
-    absurd (c.in-Ok-replayed_text.ensures.refuses _ (rw (c.deref.ensures.value, same) (answer_of read line kind why)))
+    absurd (c.in-Ok-replayed_text.ensures.refuses (Input line kind) (rw (c.deref.ensures.value, same) (answer_of read line kind why)))
 
 pub returns-clause-refuses : goal.returns-clause-refuses
 returns-clause-refuses g c = λ read line kind to_read why calm.
     let same = all_is_reported _ _ read _ to_read c.in-Ok.ensures.ok.1 in
-    absurd (c.in-Ok-replayed_text.ensures.refuses _ (rw (c.deref.ensures.value, same) (answer_of read line kind why)))
+    absurd (c.in-Ok-replayed_text.ensures.refuses (Input line kind) (rw (c.deref.ensures.value, same) (answer_of read line kind why)))
