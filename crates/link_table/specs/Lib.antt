@@ -2,7 +2,6 @@ pub mod Certificate
 pub mod Chain
 pub mod Dispatch
 pub mod History
-pub mod Index
 pub mod Laws
 pub mod Layout
 pub mod LinksView

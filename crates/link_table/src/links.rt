@@ -189,31 +189,6 @@ impl Links {
         }
     }
 
-    /// The occupied processors whose occupant may run on q.
-    pub fn feeders(&self, q: u8) -> ProcSet
-        ensures contents { (p : ℕ) → IsTrue (has result p) ↔ CanShift self.now p q }
-        ensures valid { IsState self.now }
-    {
-        let mut found = ProcSet::empty();
-        for p in 0..self.processors {
-            if self.may_shift(p, q) {
-                found = found.with(p);
-            }
-        }
-        found
-    }
-
-    /// Whether a processor is occupied, and its occupant may run on q.
-    fn may_shift(&self, p: u8, q: u8) -> bool
-        requires { p < self.now.processors }
-        ensures { result ≡ runs_on self.now (task_on self.now p) q }
-    {
-        match self.on(p) {
-            Some(t) if q < 64 => self.effective(t).has(q),
-            _ => false,
-        }
-    }
-
     /// An absent task becomes ready, and waits.
     pub fn make_ready(&mut self, t: u32)
         requires number { t < task_count self.old }
