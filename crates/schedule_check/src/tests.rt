@@ -2,6 +2,7 @@
 use crate::check::checked_text;
 use program_status::{Status, exit_status};
 use std::alloc::{AllocError, Global};
+use std::fmt::Write;
 use std::str;
 use std::test::Fail;
 use worked_histories::{HISTORIES, texts_of};
@@ -185,6 +186,54 @@ fn changed_schedules(rt: HostRuntime) -> Result<(), Fail> {
             ),
         }
     }
+    Ok(())
+}
+
+/// A schedule of one task, which never arrives, and of so many ticks.
+fn ticks(alloc: Global, count: u32) -> Result<String, Fail> {
+    let mut text = format!(in alloc; "schedule 1\nprocessors 1\ntask a 5 0\nhistory {count}\n")?;
+    for _ in 0..count {
+        writeln!(text, "0 tick 1 ticked")?;
+    }
+    writeln!(
+        text,
+        "contexts 1\na units 0 stints 0 moves 0 last - trail 0\nend"
+    )?;
+    Ok(text)
+}
+
+/// The status of a schedule that is not valid.
+fn refusal(alloc: Global, schedule: &str) -> Option<Status> {
+    match checked_text(alloc, schedule.as_bytes()) {
+        Ok(_) => None,
+        Err(status) => Some(status),
+    }
+}
+
+#[test]
+fn longest_schedules(rt: HostRuntime) -> Result<(), Fail> {
+    assert!(rt; is_valid(rt.alloc(), &ticks(rt.alloc(), 20_000)?, 20_000)?);
+    let one_more = ticks(rt.alloc(), 20_001)?;
+    assert_eq!(rt;
+        refusal(rt.alloc(), &one_more),
+        Some(Status::Input { line: 4, kind: 21 })
+    );
+    Ok(())
+}
+
+#[test]
+fn one_task_too_many(rt: HostRuntime) -> Result<(), Fail> {
+    let mut tasks = format!(in rt.alloc(); "schedule 1\nprocessors 1\n")?;
+    for i in 0u32..1025 {
+        writeln!(tasks, "task t{i} {i} 0")?;
+    }
+    assert_eq!(rt;
+        refusal(rt.alloc(), &tasks),
+        Some(Status::Input {
+            line: 1027,
+            kind: 22
+        })
+    );
     Ok(())
 }
 
