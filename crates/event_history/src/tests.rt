@@ -286,6 +286,26 @@ fn arrived_elsewhere<R: Threads + Wait + Sync>(rt: &R, one: Core, other: Core) -
     thread::join(rt, || arrived(one), || arrived(other))
 }
 
+/// The second task arrives, and the core is closed. The orders are those of a core that stayed where it was.
+fn goes_on(rt: &impl Abort, core: &mut Core) -> Result<(), Fail> {
+    assert!(rt; core.links().len() == 2);
+    assert!(rt; core.apply(1, Event::Arrive(1)) == Ok(1));
+    core.close_now();
+    assert!(rt; core.links().processors() == 2);
+    let first = Order::Take { task: 0, number: 0 };
+    let second = Order::Take { task: 1, number: 0 };
+    let expected = [
+        first,
+        Order::Release(0),
+        second,
+        Order::Release(1),
+        Order::Stop,
+    ];
+    assert_eq!(rt; core.orders(0), expected.as_slice());
+    assert_eq!(rt; core.orders(1).len(), 3);
+    Ok(())
+}
+
 /// A core that was moved to another thread and back goes on as one that stayed.
 #[test]
 fn cores_move_between_threads(rt: HostRuntime) -> Result<(), Fail> {
@@ -295,18 +315,8 @@ fn cores_move_between_threads(rt: HostRuntime) -> Result<(), Fail> {
     let (one, other) = (Core::new(rt.alloc(), &set)?, Core::new(rt.alloc(), &set)?);
     assert!(rt; one.links().len() == 2 && other.links().len() == 2);
     let (mut one, mut other) = arrived_elsewhere(&rt, one, other);
-    for core in [&mut one, &mut other] {
-        assert!(rt; core.links().len() == 2 && core.links().processors() == 2);
-        assert_eq!(rt; core.apply(1, Event::Arrive(1)), Ok(1));
-        core.close_now();
-        assert!(rt; core.links().processors() == 2);
-        let first = Order::Take { task: 0, number: 0 };
-        let second = Order::Take { task: 1, number: 0 };
-        let expected = [first, Order::Release(0), second, Order::Release(1), Order::Stop];
-        assert_eq!(rt; core.orders(0), expected.as_slice());
-        assert_eq!(rt; core.orders(1).len(), 3);
-    }
-    Ok(())
+    goes_on(&rt, &mut one)?;
+    goes_on(&rt, &mut other)
 }
 
 /// How many threads post at once, and how many events each: together as many as a history may have.
