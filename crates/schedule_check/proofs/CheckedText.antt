@@ -12,7 +12,7 @@ use Rattle.program_status.specs.declared.status.Status.{Status}
 use Rattle.program_status.specs.declared.status.Status.TheVariants.{Invalid, OutOfMemory}
 use Rattle.program_status.proofs.Refusals.{refusal_of_text_fault, memory_of_text_fault, status_of_text_refused}
 use Rattle.valid_schedule.specs.Valid.{IsValid, IsInvalid, IsValidText}
-use Rattle.valid_schedule.proofs.OneVerdict.{invalid_once, valid_is_not_invalid, valid_is_best}
+use Rattle.valid_schedule.proofs.OneVerdict.{invalid_once, valid_is_not_invalid, valid_is_best, valid_has_no_improving_chain}
 use Rattle.schedule_check.specs.Check.{IsCheckOf, RefusesCheck, valid_text}
 use Rattle.schedule_check.specs.Checking.{IsBadEntryStatus, IsBadContextStatus, IsInvalidStatus}
 
@@ -95,6 +95,7 @@ module _ (bytes : List ℕ) (schedule : ScheduleData) (ok : IsSchedule schedule)
     is_text = record { is_schedule = ok; text = text };
     valid = valid;
     best = valid_is_best schedule ok valid;
+    no_improving_chain = valid_has_no_improving_chain schedule ok valid;
     reported = reported;
   }
 

@@ -4,6 +4,7 @@
 use Rattle.std.specs.Prelude.{◌≡◌, ◌⊎◌, ℕ, List, ◌++◌, length, codes}
 use Rattle.affinity_mask.specs.Number.{canonical_number}
 use Rattle.link_table.specs.History.{IsBestThroughout}
+use Rattle.certificate_laws.specs.Improving.{HasNoImprovingChainThroughout}
 use Rattle.text_fields.specs.LineText.{line}
 use Rattle.schedule_text.specs.Schedule.{ScheduleData}
 use Rattle.program_status.specs.Refusal.{IsAnsweredInput, IsAnsweredInvalid, RefusesSchedule}
@@ -15,12 +16,13 @@ abbrev pub valid_text : ℕ → List ℕ
 valid_text count = line (codes "valid " ++ canonical_number count)
 
 -- from the bytes of a valid schedule to the bytes written: after every entry the linked tasks are the best placeable set of
--- the ready ones, whoever made the schedule
+-- the ready ones, and no chain of shifts would bring a waiting task in, whoever made the schedule
 pub record IsCheckOf (read put : List ℕ) : Type 0 where
   pub schedule : ScheduleData
   pub is_text : IsTextOf read schedule
   pub valid : IsValid schedule
   pub best : IsBestThroughout schedule.set schedule.entries
+  pub no_improving_chain : HasNoImprovingChainThroughout schedule.set schedule.entries
   pub reported : put ≡ valid_text (length schedule.entries)
 
 -- the bytes that a check refuses, each with its answer

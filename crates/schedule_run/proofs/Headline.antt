@@ -2,7 +2,10 @@
 use Rattle.std.proofs.Common.{◌≡◌, ℕ, List}
 use Rattle.task_set.specs.TaskSet.{SetData}
 use Rattle.task_set.specs.declared.context.Context.{Context}
-use Rattle.certificate_laws.proofs.Kept.{legal_is_best}
+use Rattle.link_table.specs.State.{start_of}
+use Rattle.link_table.proofs.Start.{IsState-start}
+use Rattle.certificate_laws.proofs.Improved.{passing_has_no_improving_chain}
+use Rattle.certificate_laws.proofs.Kept.{legal_is_best, legal_passes}
 use Rattle.sched_core.specs.CoreData.{CoreData}
 use Rattle.trace_reader.specs.declared.posted.Posted.{Posted}
 use Rattle.trace_reader.specs.InputText.{IsInputText}
@@ -22,5 +25,6 @@ headline read put set events core printed input replayed contexts text = record 
   merge = replayed.merge;
   legal = replayed.over.legal;
   best = legal_is_best set input.says.valid core.history replayed.over.legal;
+  no_improving_chain = passing_has_no_improving_chain set input.says.valid core.history (legal_passes (start_of set) core.history (IsState-start set input.says.valid) replayed.over.legal);
   contexts = contexts;
 }

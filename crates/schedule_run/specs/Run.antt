@@ -1,12 +1,13 @@
 -- What a replay of an input is: the bytes read are the text of one input, and the bytes written are the schedule text of one
--- history, which is a legal merge of its events, keeps the best set linked after every entry, and gives the contexts that
--- are printed.
+-- history, which is a legal merge of its events, keeps the best set linked after every entry, so that no chain of shifts would
+-- bring a waiting task in, and gives the contexts that are printed.
 use Rattle.link_table.specs.Dispatch.{contexts_of}
 use Rattle.std.specs.Prelude.{◌≡◌, ℕ, List}
 use Rattle.task_set.specs.TaskSet.{SetData}
 use Rattle.task_set.specs.declared.context.Context.{Context}
 use Rattle.scheduler_reply.specs.declared.reply.Entry.{Entry}
 use Rattle.link_table.specs.History.{IsLegal, IsBestThroughout}
+use Rattle.certificate_laws.specs.Improving.{HasNoImprovingChainThroughout}
 use Rattle.trace_reader.specs.declared.posted.Posted.{Posted}
 use Rattle.trace_reader.specs.InputText.{IsInputText}
 use Rattle.valid_schedule.specs.Valid.{IsTextOf, IsValid}
@@ -25,6 +26,7 @@ pub record Replays (read put : List ℕ) : Type 0 where
   pub merge : IsMerge events history
   pub legal : IsLegal set history
   pub best : IsBestThroughout set history
+  pub no_improving_chain : HasNoImprovingChainThroughout set history
   pub contexts : printed ≡ contexts_of set history
 
 -- the headline; where the events read are of one stream, it allows no other text, so that the bytes written are one function

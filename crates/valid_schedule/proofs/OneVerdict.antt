@@ -13,6 +13,8 @@ use Rattle.reach_certificate.specs.Defect.{IsDefect, number_of}
 use Rattle.certificate_laws.specs.Passing.{Passes, IsPassing, IsPassingFrom}
 use Rattle.reach_certificate.specs.declared.defect.Defect.{Defect}
 use Rattle.reach_certificate.proofs.Defects.{passing_has_no_defect, defect_is_unique}
+use Rattle.certificate_laws.specs.Improving.{HasNoImprovingChainThroughout}
+use Rattle.certificate_laws.proofs.Improved.{passing_has_no_improving_chain}
 use Rattle.certificate_laws.proofs.Kept.{IsState-passed, IsPassingFrom-take, passing_is_best}
 use Rattle.schedule_text.specs.Schedule.{ScheduleData, IsSchedule}
 use Rattle.valid_schedule.specs.Valid.{IsValid, HasDefectAt, HasWrongContextAt, IsInvalid}
@@ -85,3 +87,6 @@ module _ (schedule : ScheduleData) (ok : IsSchedule schedule) where
 
 pub valid_is_best : (schedule : ScheduleData) → IsSchedule schedule → IsValid schedule → IsBestThroughout schedule.set schedule.entries
 valid_is_best schedule ok valid = passing_is_best schedule.set ok.tasks.valid schedule.entries valid.passing
+
+pub valid_has_no_improving_chain : (schedule : ScheduleData) → IsSchedule schedule → IsValid schedule → HasNoImprovingChainThroughout schedule.set schedule.entries
+valid_has_no_improving_chain schedule ok valid = passing_has_no_improving_chain schedule.set ok.tasks.valid schedule.entries valid.passing

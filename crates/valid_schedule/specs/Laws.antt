@@ -4,6 +4,7 @@ use Rattle.task_set.specs.TaskSet.{SetData}
 use Rattle.task_set.specs.Event.{HasUnits}
 use Rattle.scheduler_reply.specs.declared.reply.Entry.{Entry}
 use Rattle.link_table.specs.History.{IsLegal, IsBestThroughout}
+use Rattle.certificate_laws.specs.Improving.{HasNoImprovingChainThroughout}
 use Rattle.schedule_text.specs.Schedule.{ScheduleData, IsSchedule, IsScheduleSet}
 use Rattle.valid_schedule.specs.Valid.{IsValid, IsInvalid, schedule_of}
 
@@ -18,6 +19,10 @@ InvalidIsUnique = (schedule : ScheduleData) → IsSchedule schedule → (number 
 -- after every entry of a valid schedule, and before the first, the linked tasks are the best placeable set of the ready ones
 abbrev pub ValidIsBest : Type 0
 ValidIsBest = (schedule : ScheduleData) → IsSchedule schedule → IsValid schedule → IsBestThroughout schedule.set schedule.entries
+
+-- after every entry of a valid schedule, and before the first, no chain of shifts would bring a waiting task in
+abbrev pub ValidHasNoImprovingChain : Type 0
+ValidHasNoImprovingChain = (schedule : ScheduleData) → IsSchedule schedule → IsValid schedule → HasNoImprovingChainThroughout schedule.set schedule.entries
 
 -- the stream of the entry is below 16, and a tick has units of the format
 abbrev pub IsPostedEntry : Entry → Type 0
