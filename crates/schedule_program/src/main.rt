@@ -10,9 +10,8 @@ mod tests;
 mod thread_tests;
 mod words;
 
-pub use program_status::Status;
-
 use processor_seat::OpenGate;
+pub use program_status::Status;
 use program_status::report;
 use run::run;
 use shift_io::{StdSink, StdSource};
