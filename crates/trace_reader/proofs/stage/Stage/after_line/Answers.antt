@@ -1,7 +1,10 @@
-use Rattle.std.proofs.Common.{rules, arith}
+use Rattle.std.proofs.Common.{rules, arith, inr}
 use Rattle.trace_reader.specs.Reading.{progress_of}
 use Rattle.trace_reader.proofs.Refused.{after_refused}
 use Rattle.trace_reader.proofs.stage.Stage.after_line.Goals as goal
+
+pub returns-then-line-gt-MAX_LINE-clause-refused : goal.returns-then-line-gt-MAX_LINE-clause-refused
+returns-then-line-gt-MAX_LINE-clause-refused c = inr (c.is_plain.ensures.0 (search rules), search (rules, arith))
 
 pub returns-clause-refused : goal.returns-clause-refused
 returns-clause-refused c =
