@@ -1,8 +1,8 @@
 //! What the programs of this repository have in common: how many bytes they read, what they answer, and how they report
 //! it.
 //!
-//! A [`Status`] is the answer of a program's call. It is reported by its line on standard error, and by the exit status of
-//! the process; [`report`] does both. [`MAX_BYTES`] is the most that a program reads.
+//! A [`Status`] is the answer of a program's call. It is reported by its line on standard error, and by the exit status
+//! of the process; [`report`] does both. [`MAX_BYTES`] is the most that a program reads.
 #![tactic(auto)]
 
 mod reporting;

@@ -18,7 +18,8 @@ const CONTEXT_DEFECT: u8 = 5;
 
 /// The line that reports how many entries the schedule of these bytes has, or the status that says why it is not valid.
 pub fn checked_text(alloc: Global, bytes: &[u8]) -> Result<Vec<u8>, Status>
-    ensures { Answers (IsCheckOf bytes.now) (IsValidText bytes.now) (RefusesCheck bytes.now) result }
+    ensures { Answers (IsCheckOf bytes.now) (IsValidText bytes.now)
+        (RefusesCheck bytes.now) result }
 {
     let schedule = read_schedule(alloc, bytes)?;
     judge(alloc, &schedule)?;
@@ -29,7 +30,8 @@ pub fn checked_text(alloc: Global, bytes: &[u8]) -> Result<Vec<u8>, Status>
 /// Judges each entry of a schedule, and then each context. Refused with the first that is wrong, or where memory is out.
 fn judge(alloc: Global, schedule: &Schedule) -> Result<(), Status>
     ensures valid { OnOk result (IsValid schedule.now) }
-    ensures refused { IfErr result (λ status. IsInvalidStatus schedule.now status ⊎ (status ≡ Status.OutOfMemory)) }
+    ensures refused { IfErr result (λ status.
+        IsInvalidStatus schedule.now status ⊎ (status ≡ Status.OutOfMemory)) }
     ensures accepts { IsValid schedule.now → IfErr result (λ status. status ≡ Status.OutOfMemory) }
     ensures refuses { (line defect : ℕ) → IsInvalid schedule.now line defect
         → MatchResult result (λ unit. ⊥) (λ status. (status ≡ Status.Invalid line defect) ⊎ (status ≡ Status.OutOfMemory)) }
@@ -41,8 +43,10 @@ fn judge(alloc: Global, schedule: &Schedule) -> Result<(), Status>
 
 /// A checker that accepted each entry of a schedule, or the first entry that it refuses.
 fn follow_entries(alloc: Global, schedule: &Schedule) -> Result<Checker, Status>
-    ensures followed { IfOk result (λ checker. HasFollowed schedule.now (length schedule.now.entries) checker) }
-    ensures refused { IfErr result (λ status. IsBadEntryStatus schedule.now status ⊎ (status ≡ Status.OutOfMemory)) }
+    ensures followed { IfOk result (λ checker.
+        HasFollowed schedule.now (length schedule.now.entries) checker) }
+    ensures refused { IfErr result (λ status.
+        IsBadEntryStatus schedule.now status ⊎ (status ≡ Status.OutOfMemory)) }
 {
     let mut checker = Checker::new(alloc, schedule.set())?;
     let mut line = u64::from(schedule.set().len()) + 4;

@@ -25,10 +25,10 @@ use std::thread::Threads;
 use std::time::Clock;
 
 /// Does what the words say. `run` reads the source to its end as an input text, replays its events on threads, a worker
-/// for each processor and a thread for each stream that has events, and writes the schedule text into the sink. The gate is
-/// called before and after each post, and before the first try of each take. `check` reads the source as a schedule text,
-/// whoever made it, and where that is a valid schedule, writes how many entries it has. `make` writes the text of the input of
-/// its four numbers, and `large` replays that input as `run` does and writes a summary; neither reads the source.
+/// for each processor and a thread for each stream that has events, and writes the schedule text into the sink. The gate
+/// is called before and after each post, and before the first try of each take. `check` reads the source as a schedule
+/// text, whoever made it, and where that is a valid schedule, writes how many entries it has. `make` writes the text of
+/// the input of its four numbers, and `large` replays that input as `run` does and writes a summary; neither reads the source.
 pub fn run<R: Threads + Wait + Clock + Sync, S: Source, K: Sink, G: Gate + Sync>(
     rt: &R,
     alloc: Global,
@@ -133,7 +133,8 @@ fn text_made<R: Threads + Wait + Clock + Sync, G: Gate + Sync>(
     gate: &G,
 ) -> Result<Vec<u8>, Status>
     requires { HasSizes command }
-    ensures { Answers (Makes command bytes.now) (Accepts command bytes.now) (Refuses command bytes.now) result }
+    ensures { Answers (Makes command bytes.now) (Accepts command bytes.now)
+        (Refuses command bytes.now) result }
 {
     match command {
         Command::Run => replayed_text(rt, alloc, bytes, gate),

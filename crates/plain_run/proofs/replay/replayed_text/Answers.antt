@@ -37,18 +37,17 @@ returns-in_err-text c =
     rw (p.1, p.2) answers_memory
 
 pub returns : goal.returns
-returns c =
-    record {
-      makes = record {
-        set = c.in_ok-input.input.set;
-        events = c.in_ok-input.input.events;
-        history = c.in_ok-made.made.core.history;
-        contexts = c.in_ok-made.made.contexts.items;
-        input = c.in_ok-input.ensures.input;
-        schedule = rw (c.set.ensures.value, c.events.ensures.value) at c.in_ok-made.ensures.schedules;
-        text = rw (c.set-2.ensures.value, c.history.ensures.value, c.deref.ensures.value) at c.in_ok-text.ensures;
-      };
-      refused = tt;
-      accepts = λ accepted. tt;
-      refuses = λ expected why. c.in_ok-input.ensures.refuses why.number why.cause.cause why.cause.refused;
-    }
+returns c = record {
+  makes = record {
+    set = c.in_ok-input.input.set;
+    events = c.in_ok-input.input.events;
+    history = c.in_ok-made.made.core.history;
+    contexts = c.in_ok-made.made.contexts.items;
+    input = c.in_ok-input.ensures.input;
+    schedule = rw (c.set.ensures.value, c.events.ensures.value) at c.in_ok-made.ensures.schedules;
+    text = rw (c.set-2.ensures.value, c.history.ensures.value, c.deref.ensures.value) at c.in_ok-text.ensures;
+  };
+  refused = tt;
+  accepts = λ accepted. tt;
+  refuses = λ expected why. c.in_ok-input.ensures.refuses why.number why.cause.cause why.cause.refused;
+}

@@ -28,7 +28,8 @@ pub returns : goal.returns
 returns c =
     let ok = subst IsSchedule c.schedule.view_is c.schedule.invariant in
     record {
-      makes = is_check_of c.args.bytes.now c.in_ok-schedule.schedule ok c.in_ok-schedule.ensures.schedule c.in_ok-schedule.ensures.accepts c.in_ok-text.text.items c.in_ok-judge.ensures.valid
+      makes =
+          is_check_of c.args.bytes.now c.in_ok-schedule.schedule ok c.in_ok-schedule.ensures.schedule c.in_ok-schedule.ensures.accepts c.in_ok-text.text.items c.in_ok-judge.ensures.valid
           (c.in_ok-text.ensures ∙ ap (λ (entries : List Entry). valid_text (length entries)) c.entries.ensures.value);
       refused = tt;
       accepts = λ accepted. tt;

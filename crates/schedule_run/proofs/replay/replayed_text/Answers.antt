@@ -40,11 +40,12 @@ returns-in_err-text g c =
 
 pub returns : goal.returns
 returns g c =
+    let core = rw (c.set.ensures.value, c.events.ensures.value) at c.in_ok-made.ensures.core in
+    let contexts = rw c.set.ensures.value at c.in_ok-made.ensures.contexts in
+    let text = rw (c.set-2.ensures.value, c.history.ensures.value, c.deref.ensures.value) at c.in_ok-text.ensures in
+    let replays = headline c.args.bytes.now _ c.in_ok-input.input.set c.in_ok-input.input.events c.in_ok-made.made.core c.in_ok-made.made.contexts.items c.in_ok-input.ensures.input core contexts text in
     record {
-      makes = is_run_of c.args.bytes.now _ (
-          headline c.args.bytes.now _ c.in_ok-input.input.set c.in_ok-input.input.events c.in_ok-made.made.core c.in_ok-made.made.contexts.items
-          c.in_ok-input.ensures.input (rw (c.set.ensures.value, c.events.ensures.value) at c.in_ok-made.ensures.core) (rw c.set.ensures.value at c.in_ok-made.ensures.contexts)
-          (rw (c.set-2.ensures.value, c.history.ensures.value, c.deref.ensures.value) at c.in_ok-text.ensures));
+      makes = is_run_of c.args.bytes.now _ replays;
       refused = tt;
       accepts = λ accepted. tt;
       refuses = λ expected why. c.in_ok-input.ensures.refuses why.number why.cause.cause why.cause.refused;
