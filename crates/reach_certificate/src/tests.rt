@@ -367,6 +367,12 @@ fn entries_judged_by_hand(rt: HostRuntime) -> Result<(), Fail> {
     Ok(())
 }
 
+/// The context of a task that there is.
+fn context_of(rt: &impl Abort, checker: &Checker, t: u32) -> Context {
+    assert!(rt; t < checker.links().len());
+    *checker.context(t)
+}
+
 #[test]
 fn whole_history_followed(rt: HostRuntime) -> Result<(), Fail> {
     let mut set = TaskSet::new(rt.alloc(), 2)?;
@@ -405,6 +411,7 @@ fn whole_history_followed(rt: HostRuntime) -> Result<(), Fail> {
             trail: 6364136223846793325,
         },
     ];
-    assert_eq!(rt; [*checker.context(A), *checker.context(B)], expected);
+    let [a, b] = [context_of(&rt, &checker, A), context_of(&rt, &checker, B)];
+    assert_eq!(rt; [a, b], expected);
     Ok(())
 }

@@ -1,9 +1,21 @@
-use Rattle.std.proofs.Common.{◌<◌, length, refl, sym, ap, ◌∙◌, arith}
+use Rattle.std.proofs.Common.{◌≡◌, ◌<◌, [], length, map, refl, sym, ap, ◌∙◌, arith}
+use Rattle.std.specs.List.{range_with_len}
+use Rattle.task_set.specs.Context.{fresh_context}
 use Rattle.link_table.proofs.SameTasks.{same_tasks-step}
-use Rattle.sched_core.specs.CoreData.{entry_of}
+use Rattle.sched_core.specs.CoreData.{CoreData, entry_of}
 use Rattle.event_replay.proofs.Entries.{place_fits, entry_followed}
-use Rattle.event_replay.proofs.Running.{contexts_count, running_count, running_length, running_more, running_state}
+use Rattle.event_replay.proofs.Running.{contexts_count, running_count, running_length, running_more, running_start, running_state}
 use Rattle.event_replay.proofs.replay.schedule_of.Goals as goal
+
+pub loop-posted-init : goal.loop-posted-init
+loop-posted-init c =
+    let core = c.in_ok-core.ensures in
+    let empty : c.in_ok-core.core.history ≡ [] = ap (λ (x : CoreData). x.history) core in (
+      rw empty (running_start c.args.set.now c.args.events.now c.in_ok-core.core.links c.in_ok-contexts.contexts.items (ap (λ (x : CoreData). x.links) core)
+          (c.in_ok-contexts.ensures ∙ ap (λ n. map fresh_context (range_with_len 0 n)) c.len.ensures.value)),
+      ap (λ (x : CoreData). x.closed) core,
+      ap (λ (x : CoreData). x.start) core,
+    )
 
 pub enter-requires-clause-known : goal.enter-requires-clause-known
 enter-requires-clause-known c =
