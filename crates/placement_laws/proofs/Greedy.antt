@@ -18,7 +18,8 @@ use Rattle.certificate_laws.specs.Certified.{HasCertificates}
 use Rattle.placement_laws.proofs.Admissions.{same_answer}
 use Rattle.certificate_laws.proofs.Best.{linked_is_best}
 use Rattle.certificate_laws.proofs.Counts.{count_below, count_below-one_more}
-use Rattle.certificate_laws.proofs.Kept.{none_ready, HasCertificates-start}
+use Rattle.link_table.proofs.Start.{none_ready}
+use Rattle.certificate_laws.proofs.Kept.{HasCertificates-start}
 use Rattle.placement_laws.proofs.MostUrgent.{among_place}
 
 -- ---- states with the same tasks have the same best sets
