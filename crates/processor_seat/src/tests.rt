@@ -114,6 +114,24 @@ fn contexts(alloc: Global, slots: Slots, hands: Vec<Hand>) -> Result<Vec<Context
     }
 }
 
+/// The contexts in the end, of two hands that hold nothing.
+fn contexts_of_two(
+    alloc: Global,
+    slots: Slots,
+    mut hands: Vec<Hand>,
+    hand_0: Hand,
+    hand_1: Hand,
+) -> Result<Vec<Context>, Fail>
+    requires processors { slots.set.processors ≡ 2 }
+    requires none { hands.items ≡ [] }
+    requires hand_0 { (hand_0.slots ≡ slots.id) × (hand_0.number ≡ 0) × (hand_0.holds ≡ None) }
+    requires hand_1 { (hand_1.slots ≡ slots.id) × (hand_1.number ≡ 1) × (hand_1.holds ≡ None) }
+{
+    hands.push(hand_0)?;
+    hands.push(hand_1)?;
+    contexts(alloc, slots, hands)
+}
+
 /// Two processors hand the task 0 over, one step at a time.
 fn hand_over<R: Abort + Wait>(
     rt: &R,
@@ -185,9 +203,7 @@ fn processors_by_calls(rt: HostRuntime) -> Result<(), Fail> {
     let hand_1 = hands.pop().unwrap();
     let hand_0 = hands.pop().unwrap();
     let (hand_0, hand_1) = hand_over(&rt, rt.alloc(), &slots, hand_0, hand_1)?;
-    hands.push(hand_0)?;
-    hands.push(hand_1)?;
-    let contexts = contexts(rt.alloc(), slots, hands)?;
+    let contexts = contexts_of_two(rt.alloc(), slots, hands, hand_0, hand_1)?;
     let a = Context {
         task: 0,
         units: 4,
