@@ -39,6 +39,19 @@ fn all_below(tasks: &[u32], n: u32) -> bool
     tasks.iter().all(|&t| t < n)
 }
 
+/// Whether the sets certify the waiting tasks, of four tasks.
+fn certified(rt: &impl Abort, links: &Links, sets: [ProcSet; 4]) -> bool {
+    assert!(rt; links.len() == 4);
+    all_certified(links, &sets)
+}
+
+/// The best set of these tasks.
+fn best(rt: &(impl Abort + AllocGlobal), set: &TaskSet, ready: &[u32]) -> Result<Vec<u32>, Fail> {
+    assert!(rt; all_below(ready, set.len()));
+    let best = best_set(rt.alloc(), set, ready)?;
+    Ok(best)
+}
+
 #[test]
 fn laws_by_calls(rt: HostRuntime) -> Result<(), Fail> {
     let mut set = TaskSet::new(rt.alloc(), 2)?;
@@ -51,22 +64,21 @@ fn laws_by_calls(rt: HostRuntime) -> Result<(), Fail> {
     link(&rt, &mut links, y, 1);
     wait(&rt, &mut links, w1);
     wait(&rt, &mut links, w2);
-    assert!(rt; links.len() == 4 && w1 < 4 && w2 < 4);
+    assert!(rt; w2 < links.len());
     let none = ProcSet::empty();
     let both = ProcSet::first(2);
     assert!(rt; is_certificate(&links, w2, both));
     for (set_of_w1, expected) in [(both, true), (ProcSet::one(1), false)] {
         let sets = [none, none, set_of_w1, ProcSet::one(0)];
         assert_eq!(rt;
-            all_certified(&links, &sets),
+            certified(&rt, &links, sets),
             expected,
             "with {set_of_w1:?} for w1"
         );
     }
     let rows: [(&[u32], &[u32]); 2] = [(&[x, y, w1, w2], &[x, y]), (&[y, w1, w2], &[y, w1])];
     for (ready, expected) in rows {
-        assert!(rt; all_below(ready, set.len()));
-        assert_eq!(rt; best_set(rt.alloc(), &set, ready)?.as_slice(), expected);
+        assert_eq!(rt; best(&rt, &set, ready)?.as_slice(), expected);
     }
     Ok(())
 }
@@ -95,9 +107,8 @@ fn best_sets_by_hand(rt: HostRuntime) -> Result<(), Fail> {
         (&[a, b, c, d, e, f], &[f, a, b, c]),
     ];
     for (ready, expected) in rows {
-        assert!(rt; all_below(ready, set.len()));
         assert_eq!(rt;
-            best_set(rt.alloc(), &set, ready)?.as_slice(),
+            best(&rt, &set, ready)?.as_slice(),
             expected,
             "of {ready:?}"
         );
