@@ -41,6 +41,17 @@ chains_of Ticked = []
 chains_of AlreadyReady = []
 chains_of NotReady = []
 
+-- the chain of a reply, along which occupants change; it is empty where none does
+abbrev pub chain_of : Reply → List ℕ
+chain_of (Placed chain) = chain
+chain_of (Displaced chain out reach) = chain
+chain_of (Waits reach) = []
+chain_of (Freed entered chain back) = chain
+chain_of Left = []
+chain_of Ticked = []
+chain_of AlreadyReady = []
+chain_of NotReady = []
+
 -- the sets of processors of a reply
 abbrev pub sets_of : Reply → List ℕ
 sets_of (Placed chain) = []

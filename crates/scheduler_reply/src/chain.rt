@@ -45,6 +45,15 @@ impl Chain {
         self.processors.is_empty()
     }
 
+    /// The processors, in their order.
+    pub fn processors(&self) -> &[u8]
+        ensures value { result.now ≡ self.now }
+        ensures each { All (λ p. p < 64) result.now }
+        ensures fits { length result.now ≤ 64 }
+    {
+        self.processors.as_slice()
+    }
+
     /// The processor at place `i`, counted from 0.
     pub fn at(&self, i: usize) -> u8
         requires { i < length self.now }
@@ -80,10 +89,18 @@ impl Chain {
         ensures { result ≡ self.now }
     {
         let mut copy = Chain::new();
-        for i in 0..self.len() {
-            copy.push(self.at(i));
-        }
+        copy.put_all(self.processors());
         copy
+    }
+
+    /// Puts these processors into a list that is empty.
+    fn put_all(&mut self, processors: &[u8])
+        requires empty { self.old ≡ [] }
+        requires few { length processors.now ≤ 64 }
+        requires each { All (λ p. p < 64) processors.now }
+        ensures { self.new ≡ processors.now }
+    {
+        let _ = self.processors.try_extend_from_slice(processors);
     }
 }
 

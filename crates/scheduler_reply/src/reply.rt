@@ -1,5 +1,5 @@
 //! What the scheduler answers, and what a history keeps.
-ghost use Rattle.std.specs.Prelude.{◌≡◌};
+ghost use Rattle.std.specs.Prelude.{◌≡◌, ◌<◌, All};
 
 use crate::chain::Chain;
 use affinity_mask::ProcSet;
@@ -103,7 +103,20 @@ impl From<Gone> for Reply {
 }
 
 impl Reply {
-    ghost use Rattle.scheduler_reply.specs.Reply.{came_of, gone_of};
+    ghost use Rattle.scheduler_reply.specs.Reply.{came_of, gone_of, chain_of};
+
+    /// The processors of its chain. There are none where it has no chain.
+    pub fn chain(&self) -> &[u8]
+        ensures value { result.now ≡ chain_of self.now }
+        ensures each { All (λ p. p < 64) result.now }
+    {
+        match self {
+            Reply::Placed { chain } => chain.processors(),
+            Reply::Displaced { chain, .. } => chain.processors(),
+            Reply::Freed { chain, .. } => chain.processors(),
+            _ => &[],
+        }
+    }
 
     /// The result of an arrival, where the reply says that. No memory is taken.
     pub fn came(&self) -> Option<Came>
