@@ -1,18 +1,15 @@
 -- The rows of a chain change to their occupants, one by one.
 use Rattle.std.proofs.Common.{◌≡◌, ◌≢◌, ℕ, ◌+◌, ◌<◌, Bool, true, false, not, ◌&&◌, cond, if◌then◌else◌, List, [], ◌∷◌, ◌++◌, length, get_or, set, take, zero, suc, ◌⊎◌, Option, Some, refl, sym, ap, ◌∙◌, subst, inl, inr, arith}
-use Rattle.std.specs.Prelude.{All, Contains, slice_get}
+use Rattle.std.specs.Prelude.{Contains}
 use Rattle.std.proofs.lemmas.Bool.{cases_Bool, cases_eq}
 use Rattle.std.proofs.lemmas.List.{length-set, get_or-set_same, get_or-set_other, take_more}
-use Rattle.std.proofs.lemmas.List.Elements.{All-get_or, Contains-push, Contains-push_cases, Contains-append_left}
-use Rattle.std.proofs.lemmas.Option.{get_or_from_slice_get}
+use Rattle.std.proofs.lemmas.List.Elements.{Contains-push, Contains-push_cases, Contains-append_left}
 use Rattle.task_set.specs.declared.order.Order.{Order}
-use Rattle.scheduler_reply.specs.declared.reply.Reply.{Reply}
-use Rattle.scheduler_reply.specs.declared.reply.Reply.TheVariants.{Placed, Displaced, Waits, Freed, Left, Ticked, AlreadyReady, NotReady}
 use Rattle.link_table.specs.State.{State, IsState, task_on, is_task}
 use Rattle.link_table.specs.Chain.{IsSimple}
 use Rattle.link_table.proofs.Linked.{is_task-true}
 use Rattle.link_table.proofs.Simple.{Avoids, Avoids-last, Avoids-take}
-use Rattle.sched_core.specs.CoreRows.{RowData, row_at, empty_row, RowChanges, RowChangesIn, RowsChange, NumbersBecome, came, came_between, chain_of}
+use Rattle.sched_core.specs.CoreRows.{RowData, row_at, empty_row, RowChanges, RowChangesIn, RowsChange, NumbersBecome, came, came_between}
 use Rattle.sched_core.proofs.RowLoops.{filtered_count-at, filtered_count-none, change_orders-same_number}
 
 -- a processor after a list in which none stands twice is not in the list
@@ -22,15 +19,10 @@ last_is_fresh V (y ∷ xs) x avoids (zero, low, same) = Avoids-last (λ p. (p �
 last_is_fresh V (y ∷ xs) x avoids (suc k, low, same) = last_is_fresh (λ p. (p ≡ y) ⊎ V p) xs x avoids.1 (k, omega (arith, low), same)
 
 -- the processor at a place of such a list is not before it
-pub is_fresh : (chain : List ℕ) (i p : ℕ) → i < length chain → slice_get chain i ≡ Some p → IsSimple chain → Contains (take i chain) p → ⊥
-is_fresh chain i p low at simple =
-    let here : get_or chain i 0 ≡ p = get_or_from_slice_get chain i p 0 at in
-    let more : take (i + 1) chain ≡ take i chain ++ p ∷ [] = take_more chain i 0 low ∙ ap (λ (x : ℕ). take i chain ++ x ∷ []) here in
-    last_is_fresh (λ q. ⊥) (take i chain) p (rw more at (Avoids-take chain (i + 1) simple))
-
--- it is a processor
-pub chain_at : (processors : ℕ) (chain : List ℕ) (i p : ℕ) → i < length chain → slice_get chain i ≡ Some p → All (λ q. q < processors) chain → p < processors
-chain_at processors chain i p low at all = rw (get_or_from_slice_get chain i p 0 at) at (All-get_or (λ q. q < processors) chain i 0 low all)
+pub is_fresh : (chain : List ℕ) (i : ℕ) → i < length chain → IsSimple chain → Contains (take i chain) (get_or chain i 0) → ⊥
+is_fresh chain i low simple =
+    let more : take (i + 1) chain ≡ take i chain ++ get_or chain i 0 ∷ [] = take_more chain i 0 low in
+    last_is_fresh (λ q. ⊥) (take i chain) (get_or chain i 0) (rw more at (Avoids-take chain (i + 1) simple))
 
 -- nobody comes where the same task is held
 pub came-same : (t : ℕ) (held : Option ℕ) → came t held held ≡ false
@@ -53,21 +45,6 @@ rows_change-none links rows takes = record {
     each = λ t d fits. let none = filtered_count-none (λ p. came t (row_at rows p).held (row_at rows p).held) (length rows) (λ p below. came-same t (row_at rows p).held) in omega (arith, none);
   };
 }
-
--- a reply of another kind than these three has no chain
-no_chain : (reply : Reply) → ((chain : List ℕ) → reply ≡ Placed chain → ⊥) → ((chain : List ℕ) (out reach : ℕ) → reply ≡ Displaced chain out reach → ⊥) → ((entered : Option ℕ) (chain : List ℕ) (back : ℕ) → reply ≡ Freed entered chain back → ⊥) → chain_of reply ≡ []
-no_chain (Placed chain) a b c = absurd (a chain refl)
-no_chain (Displaced chain out reach) a b c = absurd (b chain out reach refl)
-no_chain (Waits reach) a b c = refl
-no_chain (Freed entered chain back) a b c = absurd (c entered chain back refl)
-no_chain Left a b c = refl
-no_chain Ticked a b c = refl
-no_chain AlreadyReady a b c = refl
-no_chain NotReady a b c = refl
-
-pub rows_change-no_chain : (reply : Reply) (links : State) (rows : List RowData) (takes : List ℕ) → ((chain : List ℕ) → reply ≡ Placed chain → ⊥) → ((chain : List ℕ) (out reach : ℕ) → reply ≡ Displaced chain out reach → ⊥) → ((entered : Option ℕ) (chain : List ℕ) (back : ℕ) → reply ≡ Freed entered chain back → ⊥)
-    → RowsChange (chain_of reply) links rows takes rows takes
-rows_change-no_chain reply links rows takes a b c = rw (no_chain reply a b c) (rows_change-none links rows takes)
 
 -- along one processor more
 module _ (links : State) (ok : IsState links) (chain : List ℕ) (x : ℕ) (old now : List RowData) (takes counted : List ℕ) (fresh : Contains chain x → ⊥) (fits : x < length old) (so_far : RowsChange chain links old takes now counted) where

@@ -12,7 +12,7 @@ use Rattle.scheduler_reply.specs.declared.reply.Came.{Came}
 use Rattle.scheduler_reply.specs.declared.reply.Came.TheVariants as came
 use Rattle.scheduler_reply.specs.declared.reply.Reply.{Reply}
 use Rattle.scheduler_reply.specs.declared.reply.Reply.TheVariants.{Placed, Displaced, Waits, Freed, Left, Ticked, AlreadyReady, NotReady}
-use Rattle.scheduler_reply.specs.Reply.{reply_of_came, chains_of}
+use Rattle.scheduler_reply.specs.Reply.{reply_of_came, chain_of, chains_of}
 use Rattle.link_table.specs.State.{State, IsState, task_on, occupant_but, state_with_ready, state_after_leaving}
 use Rattle.link_table.specs.Chain.{IsBackChain, IsSimple, occupant_after_shift, state_after_shift}
 use Rattle.link_table.specs.Step.{SchedulerStep, Comes, EnterStep}
@@ -22,7 +22,6 @@ use Rattle.link_table.proofs.Linked.{occupied_number}
 use Rattle.link_table.proofs.Shifts.{occupant-later}
 use Rattle.link_table.proofs.Simple.{IsSimple-cons}
 use Rattle.link_table.proofs.StepParts.{IsListOn, step_is_on}
-use Rattle.sched_core.specs.CoreRows.{chain_of}
 
 -- p stands in the list, or has the occupant that it had
 abbrev pub StaysOutside : List ℕ → State → State → ℕ → Type 0

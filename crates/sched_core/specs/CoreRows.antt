@@ -7,8 +7,6 @@ use Rattle.task_set.specs.declared.event.Event.{Event}
 use Rattle.task_set.specs.declared.event.Event.TheVariants.{Tick}
 use Rattle.task_set.specs.declared.order.Order.{Order}
 use Rattle.task_set.specs.declared.order.Order.TheVariants.{Stop}
-use Rattle.scheduler_reply.specs.declared.reply.Reply.{Reply}
-use Rattle.scheduler_reply.specs.declared.reply.Reply.TheVariants.{Placed, Displaced, Waits, Freed, Left, Ticked, AlreadyReady, NotReady}
 use Rattle.link_table.specs.State.{State, is_task, task_count, task_on}
 use Rattle.link_table.specs.Chain.{IsSimple}
 use Rattle.link_table.specs.Dispatch.{change_orders, tick_orders, release_of}
@@ -73,17 +71,6 @@ pub record RowRuns (old : RowData) (units : ℕ) (new : RowData) : Type 0 where
 pub record RowsRun (old : List RowData) (units : ℕ) (new : List RowData) : Type 0 where
   pub count : length new ≡ length old
   pub each : (p : ℕ) → p < length old → RowRuns (row_at old p) units (row_at new p)
-
--- the chain of a reply, along which occupants changed; it is empty where none did
-abbrev pub chain_of : Reply → List ℕ
-chain_of (Placed chain) = chain
-chain_of (Displaced chain out reach) = chain
-chain_of (Waits reach) = []
-chain_of (Freed entered chain back) = chain
-chain_of Left = []
-chain_of Ticked = []
-chain_of AlreadyReady = []
-chain_of NotReady = []
 
 -- no processor stands in the chain twice, each is one of the links, and each row has room for two orders more; the numbers
 -- of takes are those of the tasks of the links, and small

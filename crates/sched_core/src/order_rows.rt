@@ -1,11 +1,12 @@
 //! The orders to each processor, which follow the links from event to event.
 ghost use Rattle.std.specs.Prelude.{◌≡◌, ℕ, ◌+◌, [], length, get_or, replicate, IfOk};
 ghost use Rattle.std.specs.Result.{OnOk};
-ghost use Rattle.sched_core.specs.CoreRows.{HasRoomInEach, CanFollow, HoldOutside, RowsOnlyGrew, RowsRun, RowsChange, RowsFollow, RowsClose, NumbersBecome, came_below, chain_of, empty_row};
+ghost use Rattle.scheduler_reply.specs.Reply.{chain_of};
+ghost use Rattle.sched_core.specs.CoreRows.{HasRoomInEach, CanFollow, HoldOutside, RowsOnlyGrew, RowsRun, RowsChange, RowsFollow, RowsClose, NumbersBecome, came_below, empty_row};
 
 use crate::order_row::OrderRow;
 use affinity_mask::OutOfMemory;
-use link_table::{Chain, Links, Reply};
+use link_table::{Links, Reply};
 use std::alloc::Global;
 use task_set::Event;
 
@@ -62,7 +63,7 @@ pub fn follow_links(
     if let Event::Tick(units) = event {
         run_rows(rows, units);
     } else {
-        follow_reply(rows, takes, links, reply);
+        follow_chain(rows, takes, links, reply.chain());
     }
 }
 
@@ -76,28 +77,13 @@ fn run_rows(rows: &mut Vec<OrderRow>, units: u32)
     }
 }
 
-/// The rows of a reply's chain change to their occupants. Other replies have no chain.
-fn follow_reply(rows: &mut Vec<OrderRow>, takes: &mut Vec<u32>, links: &Links, reply: &Reply)
-    requires { CanFollow (chain_of reply.now) links.now rows.old.items takes.old.items }
-    ensures { RowsChange (chain_of reply.now) links.now rows.old.items takes.old.items
-        rows.new.items takes.new.items }
-{
-    match reply {
-        Reply::Placed { chain } => follow_chain(rows, takes, links, chain),
-        Reply::Displaced { chain, .. } => follow_chain(rows, takes, links, chain),
-        Reply::Freed { chain, .. } => follow_chain(rows, takes, links, chain),
-        _ => {}
-    }
-}
-
 /// The rows of a chain change to their occupants.
-fn follow_chain(rows: &mut Vec<OrderRow>, takes: &mut Vec<u32>, links: &Links, chain: &Chain)
+fn follow_chain(rows: &mut Vec<OrderRow>, takes: &mut Vec<u32>, links: &Links, chain: &[u8])
     requires { CanFollow chain.now links.now rows.old.items takes.old.items }
     ensures { RowsChange chain.now links.now rows.old.items takes.old.items
         rows.new.items takes.new.items }
 {
-    for i in 0..chain.len() {
-        let p = chain.at(i);
+    for &p in chain {
         rows[p as usize].change(takes, links.on(p));
     }
 }

@@ -1,4 +1,5 @@
-use Rattle.sched_core.specs.CoreRows.{chain_of}
+use Rattle.scheduler_reply.specs.Reply.{chain_of}
+use Rattle.sched_core.specs.CoreRows.{RowsChange}
 use Rattle.sched_core.proofs.RowsFollowed.{all_hold, numbers_stay, rows_follow-change, numbers_follow}
 use Rattle.sched_core.proofs.order_rows.follow_links.Goals as goal
 
@@ -12,11 +13,12 @@ pub returns-in_default : goal.returns-in_default
 returns-in_default c =
     let chain = chain_of c.args.reply.now in
     let old = c.args.rows.now.items in
-    let new = c.follow_reply.new.rows.items in
+    let new = c.follow_chain.new.rows.items in
     let takes = c.args.takes.now.items in
-    let counted = c.follow_reply.new.takes.items in
+    let counted = c.follow_chain.new.takes.items in
     let links = c.args.links.now in
+    let changed : RowsChange chain links old takes new counted = rw c.chain.ensures.value at c.follow_chain.ensures in
     record {
-      rows = rows_follow-change chain links old takes new counted c.requires.outside c.follow_reply.ensures c.args.event c.in_default.not-Tick;
-      takes = numbers_follow chain links old takes new counted c.requires.outside c.follow_reply.ensures c.requires.can.one_each;
+      rows = rows_follow-change chain links old takes new counted c.requires.outside changed c.args.event c.in_default.not-Tick;
+      takes = numbers_follow chain links old takes new counted c.requires.outside changed c.requires.can.one_each;
     }

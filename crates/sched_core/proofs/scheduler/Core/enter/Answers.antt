@@ -9,7 +9,8 @@ use Rattle.link_table.proofs.Steps.{reply_gives_new_state, step_keeps_state}
 use Rattle.certificate_laws.proofs.Kept.{step_has_justification}
 use Rattle.sched_core.specs.CoreData.{CoreData, IsCore, Applied, entry_of, max_entries}
 use Rattle.sched_core.specs.CoreView.{core_view}
-use Rattle.sched_core.specs.CoreRows.{row_at, chain_of}
+use Rattle.scheduler_reply.specs.Reply.{chain_of}
+use Rattle.sched_core.specs.CoreRows.{row_at}
 use Rattle.sched_core.proofs.StepChains.{step_chain_is_on, step_chain_is_simple, step_stays, tick_has_no_chain}
 use Rattle.sched_core.proofs.CoreEntered.{takes_bound, core_entered, core_orders-open, orders_entered, takes_entered}
 use Rattle.link_table.proofs.SameTasks.{same_tasks-step}
