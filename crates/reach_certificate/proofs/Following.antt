@@ -1,25 +1,24 @@
 -- How contexts follow the links, processor by processor.
-use Rattle.std.proofs.Common.{◌≡◌, ℕ, ◌+◌, ◌<◌, ◌≤◌, Bool, true, false, cond, List, [], ◌∷◌, ◌++◌, length, get_or, map, filter, take, Some, refl, sym, ap, ◌∙◌, arith, if◌then◌else◌}
-use Rattle.std.specs.Prelude.{slice_get}
+use Rattle.std.proofs.Common.{◌≡◌, ℕ, ◌+◌, ◌<◌, ◌≤◌, Bool, true, false, cond, List, [], ◌∷◌, ◌++◌, length, get_or, map, filter, take, refl, sym, ap, ◌∙◌, arith, if◌then◌else◌}
 use Rattle.std.specs.List.{range_with_len, fold}
 use Rattle.std.proofs.lemmas.List.{map-id, take_all}
 use Rattle.std.proofs.lemmas.List.Elements.{filter_more}
 use Rattle.std.proofs.lemmas.List.Folds.{fold-map}
 use Rattle.std.proofs.lemmas.List.FromFn.{filter_of_map_range_with_len_more}
 use Rattle.std.proofs.lemmas.List.Sums.{fold-append}
-use Rattle.std.proofs.lemmas.Option.{get_or_from_slice_get}
 use Rattle.task_set.specs.Context.{context_after_take, context_after_run}
 use Rattle.task_set.specs.declared.context.Context.{Context}
 use Rattle.task_set.specs.declared.event.Event.{Event}
 use Rattle.task_set.specs.declared.event.Event.TheVariants.{Arrive, Depart, Tick}
 use Rattle.scheduler_reply.specs.declared.reply.Reply.{Reply}
 use Rattle.scheduler_reply.specs.declared.reply.Entry.{Entry}
+use Rattle.scheduler_reply.specs.Reply.{chain_of}
 use Rattle.link_table.specs.State.{State, IsState, is_task, task_on}
 use Rattle.link_table.specs.Dispatch.{taken_between, places_of, tick_runs}
 use Rattle.link_table.specs.History.{effect_of, state_after_reply}
 use Rattle.certificate_laws.specs.Passing.{Passes}
 use Rattle.reach_certificate.specs.Contexts.{context_after_takes, context_after_all_runs, context_after_entry, EachBecomes}
-use Rattle.reach_certificate.specs.Touched.{touched_by, places_among}
+use Rattle.reach_certificate.specs.Places.{places_among}
 use Rattle.reach_certificate.proofs.Touching.{takes_along}
 
 -- ---- one number more, where it passes a test
@@ -44,18 +43,17 @@ EachBecomes-then first second whole same old mid new one other = record {
 }
 
 -- ---- takes, as far as the chain was followed
-pub takes_more : (s : State) (chain : List ℕ) (i p : ℕ) → i < length chain → slice_get chain i ≡ Some p → (start contexts after : List Context)
+pub takes_more : (s : State) (chain : List ℕ) (i : ℕ) → i < length chain → (start contexts after : List Context)
     → EachBecomes (λ t c. context_after_takes c (places_among s (take i chain) t)) start contexts
-    → EachBecomes (λ t c. if is_task t (task_on s p) then context_after_take c p else c) contexts after
+    → EachBecomes (λ t c. if is_task t (task_on s (get_or chain i 0)) then context_after_take c (get_or chain i 0) else c) contexts after
     → EachBecomes (λ t c. context_after_takes c (places_among s (take (i + 1) chain) t)) start after
-takes_more s chain i p fits at start contexts after so_far here = EachBecomes-then _ _ _ (λ t c. sym (one_more t c)) start contexts after so_far here
+takes_more s chain i fits start contexts after so_far here = EachBecomes-then _ _ _ (λ t c. sym (one_more t c)) start contexts after so_far here
   where
     one_more : (t : ℕ) (c : Context) → context_after_takes c (places_among s (take (i + 1) chain) t)
-        ≡ (if is_task t (task_on s p) then context_after_take (context_after_takes c (places_among s (take i chain) t)) p else context_after_takes c (places_among s (take i chain) t))
+        ≡ (if is_task t (task_on s (get_or chain i 0)) then context_after_take (context_after_takes c (places_among s (take i chain) t)) (get_or chain i 0) else context_after_takes c (places_among s (take i chain) t))
     one_more t c =
-        ap (context_after_takes c) (filter_more (λ q. is_task t (task_on s q)) chain i 0 fits
-        ∙ ap (λ (q : ℕ). places_among s (take i chain) t ++ cond (is_task t (task_on s q)) (q ∷ []) []) (get_or_from_slice_get chain i p 0 at))
-        ∙ fold_pushed context_after_take c (places_among s (take i chain) t) (is_task t (task_on s p)) p
+        ap (context_after_takes c) (filter_more (λ q. is_task t (task_on s q)) chain i 0 fits)
+        ∙ fold_pushed context_after_take c (places_among s (take i chain) t) (is_task t (task_on s (get_or chain i 0))) (get_or chain i 0)
 
 pub takes_whole : (s : State) (chain : List ℕ) (n : ℕ) → length chain ≤ n → (contexts after : List Context)
     → EachBecomes (λ t c. context_after_takes c (places_among s (take n chain) t)) contexts after
@@ -91,13 +89,13 @@ runs_whole s n units whole contexts after runs = record {
 
 -- ---- the whole entry
 -- at a tick nobody moves
-tick_still : (old : State) (event : Event) (reply : Reply) (units : ℕ) → event ≡ Tick units → Passes old event reply → (state_after_reply old event reply ≡ old) × (touched_by reply ≡ [])
+tick_still : (old : State) (event : Event) (reply : Reply) (units : ℕ) → event ≡ Tick units → Passes old event reply → (state_after_reply old event reply ≡ old) × (chain_of reply ≡ [])
 tick_still old (Arrive t) reply units is passes = cc
 tick_still old (Depart t) reply units is passes = cc
-tick_still old (Tick more) reply units is passes = (ap (state_after_reply old (Tick more)) passes, ap touched_by passes)
+tick_still old (Tick more) reply units is passes = (ap (state_after_reply old (Tick more)) passes, ap chain_of passes)
 
 module _ (old : State) (ok : IsState old) (entry : Entry) (passes : Passes old entry.event entry.reply) (new : State) (effect : new ≡ effect_of old entry) (contexts after : List Context) where
-  taken : (t : ℕ) → places_among new (touched_by entry.reply) t ≡ taken_between old new t
+  taken : (t : ℕ) → places_among new (chain_of entry.reply) t ≡ taken_between old new t
   taken t = takes_along old ok entry.event entry.reply passes new effect t
 
   pub followed_tick : (units : ℕ) → entry.event ≡ Tick units → EachBecomes (λ t c. context_after_all_runs c (tick_runs (Tick units) (places_of new t))) contexts after → EachBecomes (context_after_entry old new entry.event) contexts after
@@ -108,12 +106,12 @@ module _ (old : State) (ok : IsState old) (entry : Entry) (passes : Passes old e
         each = λ t d fits. runs.each t d fits ∙ same t (get_or contexts t d) (effect ∙ still.0) still.1;
       }
     where
-      same : (t : ℕ) (c : Context) → new ≡ old → touched_by entry.reply ≡ [] → context_after_all_runs c (tick_runs (Tick units) (places_of new t)) ≡ context_after_entry old new entry.event t c
+      same : (t : ℕ) (c : Context) → new ≡ old → chain_of entry.reply ≡ [] → context_after_all_runs c (tick_runs (Tick units) (places_of new t)) ≡ context_after_entry old new entry.event t c
       same t c stays nobody =
           let none : taken_between old new t ≡ [] = sym (taken t) ∙ ap (λ (places : List ℕ). places_among new places t) nobody in
           rw (none, is) (ap (λ (s : State). context_after_all_runs c (tick_runs (Tick units) (places_of s t))) stays)
 
-  pub followed_other : ((units : ℕ) → entry.event ≡ Tick units → ⊥) → EachBecomes (λ t c. context_after_takes c (places_among new (touched_by entry.reply) t)) contexts after → EachBecomes (context_after_entry old new entry.event) contexts after
+  pub followed_other : ((units : ℕ) → entry.event ≡ Tick units → ⊥) → EachBecomes (λ t c. context_after_takes c (places_among new (chain_of entry.reply) t)) contexts after → EachBecomes (context_after_entry old new entry.event) contexts after
   followed_other no_tick takes = record {
     count = takes.count;
     each = λ t d fits. takes.each t d fits ∙ ap (context_after_takes (get_or contexts t d)) (taken t) ∙ no_runs entry.event no_tick t (context_after_takes (get_or contexts t d) (taken_between old new t));

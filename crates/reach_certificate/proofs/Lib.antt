@@ -5,6 +5,7 @@ pub mod Decisions
 pub mod Defects
 pub mod Doubts
 pub mod Entering
+pub mod Feeders
 pub mod Fitting
 pub mod Following
 pub mod Judgements

@@ -11,7 +11,7 @@ use Rattle.task_set.specs.declared.event.Event.TheVariants.{Arrive, Depart, Tick
 use Rattle.scheduler_reply.specs.declared.reply.Came.{Came}
 use Rattle.scheduler_reply.specs.declared.reply.Came.TheVariants.{Placed, Displaced, Waits}
 use Rattle.scheduler_reply.specs.declared.reply.Reply.{Reply}
-use Rattle.scheduler_reply.specs.Reply.{reply_of_came}
+use Rattle.scheduler_reply.specs.Reply.{reply_of_came, chain_of}
 use Rattle.link_table.specs.State.{State, IsState, IsWaiting, is_ready, is_task, is_linked, task_on, task_count, state_with_ready, state_after_leaving}
 use Rattle.link_table.specs.Chain.{IsChainOf, IsSimple, occupant_after_shift, state_after_shift}
 use Rattle.link_table.specs.Dispatch.{taken_between}
@@ -25,7 +25,7 @@ use Rattle.link_table.proofs.Shifts.{IsState-state_after_shift, occupant-first, 
 use Rattle.link_table.proofs.Simple.{IsSimple-cons, IsSimple-head, IsSimple-reverse, IsSimple-tail}
 use Rattle.certificate_laws.specs.Passing.{CamePasses, EnteringPasses, Passes}
 use Rattle.certificate_laws.proofs.Passed.{passing_keeps_state}
-use Rattle.reach_certificate.specs.Touched.{touched_by, places_among}
+use Rattle.reach_certificate.specs.Places.{places_among}
 
 -- ---- what a list contains
 contains_none : (q : ℕ) → Contains {X = ℕ} [] q → ⊥
@@ -198,7 +198,7 @@ untouched old new same = record {
 
 -- ---- an arrival
 came_touches : (s : State) → IsState s → (t : ℕ) → t < task_count s → is_ready s t ≡ false → (came : Came) → CamePasses s t came
-    → IsTouched s (state_after_reply s (Arrive t) (reply_of_came came)) (touched_by (reply_of_came came))
+    → IsTouched s (state_after_reply s (Arrive t) (reply_of_came came)) (chain_of (reply_of_came came))
 came_touches s ok t number absent (Placed chain) passes =
     let h = shift_touches (state_with_ready s t) (IsState-state_with_ready s ok t number) t (IsWaiting-state_with_ready s ok t number absent) chain passes.simple in
     record { simple = h.simple; elsewhere = h.elsewhere; there = h.there }
@@ -254,7 +254,7 @@ module _ (s : State) (ok : IsState s) (t p : ℕ) (on : task_on s p ≡ Some t) 
   gone_touches (Some w) chain back passes = let end = passes.1 in entry_touches w passes.0.waits chain (IsChainOf-reverse left p w chain end.0 end.1 end.2) passes.2
 
 -- ---- any event
-touches : (s : State) → IsState s → (event : Event) (reply : Reply) → Passes s event reply → IsTouched s (state_after_reply s event reply) (touched_by reply)
+touches : (s : State) → IsState s → (event : Event) (reply : Reply) → Passes s event reply → IsTouched s (state_after_reply s event reply) (chain_of reply)
 touches s ok (Arrive t) reply passes = elim passes.1 [
   | inl again ↦ rw again.1 (untouched s s refl)
   | inr new ↦ rw new.answer (came_touches s ok t passes.0 new.absent new.came new.passes)
@@ -268,5 +268,5 @@ touches s ok (Depart t) reply passes = elim passes.1 [
 ]
 touches s ok (Tick units) reply passes = rw passes (untouched s s refl)
 
-pub takes_along : (s : State) → IsState s → (event : Event) (reply : Reply) → Passes s event reply → (new : State) → new ≡ state_after_reply s event reply → (t : ℕ) → places_among new (touched_by reply) t ≡ taken_between s new t
-takes_along s ok event reply passes new effect t = rw effect (takes_same s (state_after_reply s event reply) (passing_keeps_state s event reply ok passes) (reply_keeps_tasks s event reply).processors (touched_by reply) (touches s ok event reply passes) t)
+pub takes_along : (s : State) → IsState s → (event : Event) (reply : Reply) → Passes s event reply → (new : State) → new ≡ state_after_reply s event reply → (t : ℕ) → places_among new (chain_of reply) t ≡ taken_between s new t
+takes_along s ok event reply passes new effect t = rw effect (takes_same s (state_after_reply s event reply) (passing_keeps_state s event reply ok passes) (reply_keeps_tasks s event reply).processors (chain_of reply) (touches s ok event reply passes) t)

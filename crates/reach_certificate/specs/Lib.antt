@@ -4,4 +4,4 @@ pub mod Contexts
 pub mod Defect
 pub mod DefectLaws
 pub mod Judging
-pub mod Touched
+pub mod Places

@@ -1,5 +1,5 @@
 //! The contexts of the tasks, which follow the links from entry to entry.
-ghost use Rattle.std.specs.Prelude.{◌≡◌, ◌<◌, vec_len, map, IfOk, if◌then◌else◌};
+ghost use Rattle.std.specs.Prelude.{◌≡◌, ◌<◌, All, vec_len, map, IfOk, if◌then◌else◌};
 ghost use Rattle.std.specs.Option.{ForSome};
 ghost use Rattle.std.specs.List.{range_with_len};
 ghost use Rattle.task_set.specs.Context.{fresh_context, context_after_take, context_after_run};
@@ -9,11 +9,11 @@ ghost use Rattle.link_table.specs.Dispatch.{places_of, tick_runs};
 ghost use Rattle.link_table.specs.History.{effect_of};
 ghost use Rattle.certificate_laws.specs.Passing.{Passes};
 ghost use Rattle.reach_certificate.specs.Contexts.{context_after_takes, context_after_all_runs, context_after_entry, EachBecomes};
-ghost use Rattle.reach_certificate.specs.Touched.{touched_by, places_among};
+ghost use Rattle.reach_certificate.specs.Places.{places_among};
 
 use crate::occupants::occupant;
 use affinity_mask::OutOfMemory;
-use link_table::{Chain, Entry, Links, Reply};
+use link_table::{Entry, Links};
 use std::alloc::Global;
 use task_set::{Context, Event};
 
@@ -41,32 +41,18 @@ pub fn follow(contexts: &mut Vec<Context>, links: &Links, entry: &Entry)
     if let Event::Tick(units) = entry.event {
         run_linked(contexts, links, units);
     } else {
-        take_newcomers(contexts, links, &entry.reply);
-    }
-}
-
-/// Each task that a reply brought to a processor is taken there.
-fn take_newcomers(contexts: &mut Vec<Context>, links: &Links, reply: &Reply)
-    requires { vec_len contexts.old ≡ task_count links.now }
-    ensures { EachBecomes (λ t c. context_after_takes c (places_among links.now (touched_by reply.now) t))
-        contexts.old.items contexts.new.items }
-{
-    match reply {
-        Reply::Placed { chain } => take_along(contexts, links, chain),
-        Reply::Displaced { chain, .. } => take_along(contexts, links, chain),
-        Reply::Freed { chain, .. } => take_along(contexts, links, chain),
-        _ => {}
+        take_along(contexts, links, entry.reply.chain());
     }
 }
 
 /// Each task that is on a processor of a chain is taken there.
-fn take_along(contexts: &mut Vec<Context>, links: &Links, chain: &Chain)
-    requires { vec_len contexts.old ≡ task_count links.now }
+fn take_along(contexts: &mut Vec<Context>, links: &Links, chain: &[u8])
+    requires count { vec_len contexts.old ≡ task_count links.now }
+    requires processors { All (λ p. p < 64) chain.now }
     ensures { EachBecomes (λ t c. context_after_takes c (places_among links.now chain.now t))
         contexts.old.items contexts.new.items }
 {
-    for i in 0..chain.len() {
-        let p = chain.at(i);
+    for &p in chain {
         take_occupant(contexts, p, occupant(links, p));
     }
 }
@@ -79,9 +65,7 @@ fn take_occupant(contexts: &mut Vec<Context>, p: u8, linked: Option<u32>)
         contexts.old.items contexts.new.items }
 {
     if let Some(task) = linked {
-        let mut context = contexts[task as usize];
-        context.took(p);
-        contexts[task as usize] = context;
+        contexts[task as usize].took(p);
     }
 }
 
@@ -104,8 +88,6 @@ fn run_occupant(contexts: &mut Vec<Context>, p: u8, linked: Option<u32>, units: 
         contexts.old.items contexts.new.items }
 {
     if let Some(task) = linked {
-        let mut context = contexts[task as usize];
-        context.ran(p, units);
-        contexts[task as usize] = context;
+        contexts[task as usize].ran(p, units);
     }
 }

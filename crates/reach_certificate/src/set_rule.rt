@@ -54,7 +54,7 @@ impl SetRule {
             }
             SetRule::LeadsBack(place) => {
                 let unknown = set.minus(&ProcSet::first(links.processors()));
-                let sources = links.linked().either_of(&ProcSet::one(place));
+                let sources = feeders_of(links, set).either_of(&ProcSet::one(place));
                 unknown.either_of(&sources.minus(&set))
             }
         }
@@ -107,6 +107,19 @@ impl SetRule {
             SetRule::LeadsBack(_) => true,
         }
     }
+}
+
+/// The processors whose occupant may run on a processor of the set.
+fn feeders_of(links: &Links, set: ProcSet) -> ProcSet
+    ensures { (q : ℕ) → IsTrue (has result q) ↔ ShiftsInto links.now q set }
+{
+    let mut found = ProcSet::empty();
+    let mut left = set;
+    while let Some(r) = left.least() {
+        found = found.either_of(&links.feeders(r));
+        left = left.without(r);
+    }
+    found
 }
 
 /// Whether the occupant of q may run on a processor of the set.

@@ -5,4 +5,6 @@ pub returns-in-Tick : goal.returns-in-Tick
 returns-in-Tick c = λ old ok passes effect. followed_tick old ok c.args.entry.now passes c.args.links.now effect c.args.contexts.now.items c.run_linked.new.contexts.items c.in-Tick.units c.in-Tick.is c.run_linked.ensures
 
 pub returns-in_default : goal.returns-in_default
-returns-in_default c = λ old ok passes effect. followed_other old ok c.args.entry.now passes c.args.links.now effect c.args.contexts.now.items c.take_newcomers.new.contexts.items c.in_default.not-Tick c.take_newcomers.ensures
+returns-in_default c = λ old ok passes effect.
+    followed_other old ok c.args.entry.now passes c.args.links.now effect c.args.contexts.now.items c.take_along.new.contexts.items c.in_default.not-Tick
+    (rw c.chain.ensures.value at c.take_along.ensures)
