@@ -42,50 +42,61 @@ fn chain_of(rt: &impl Abort, processors: &[u8]) -> Chain {
     chain
 }
 
-#[test]
-fn core_by_calls(rt: HostRuntime) -> Result<(), Fail> {
-    let mut core = core_of_two(rt.alloc())?;
-    core.reserve()?;
-    assert_eq!(rt; apply(&rt, &mut core, 0, Event::Arrive(0)), Ok(0));
-    assert_eq!(rt; apply(&rt, &mut core, 3, Event::Arrive(1)), Ok(1));
-    assert_eq!(rt; apply(&rt, &mut core, 0, Event::Tick(5)), Ok(2));
-    let first = Order::Take { task: 0, number: 0 };
-    let second = Order::Take { task: 1, number: 0 };
-    let open = [first, Order::Release(0), second, Order::Run(5)];
-    assert_eq!(rt; orders(&rt, &core, 0), open.as_slice());
+/// The first task comes, the second one takes its processor, and both run.
+const EVENTS: [(u32, Event); 3] = [
+    (0, Event::Arrive(0)),
+    (3, Event::Arrive(1)),
+    (0, Event::Tick(5)),
+];
 
-    core.close_now();
+/// Applies these events to a new core.
+fn apply_events(rt: &impl Abort, core: &mut Core) {
+    for (place, (caller, event)) in EVENTS.iter().enumerate() {
+        assert_eq!(rt; apply(rt, core, *caller, *event), Ok(place as u64));
+    }
+}
+
+/// The orders to the first processor after these events, while the core is open.
+fn open_orders() -> [Order; 4] {
+    [
+        Order::Take { task: 0, number: 0 },
+        Order::Release(0),
+        Order::Take { task: 1, number: 0 },
+        Order::Run(5),
+    ]
+}
+
+/// The orders to both processors once the core is closed, which takes no event then.
+fn closed_orders(rt: &impl Abort, core: &mut Core) {
     assert!(rt; core.is_closed());
-    let [a, b, c, d] = open;
+    let [a, b, c, d] = open_orders();
     assert_eq!(rt;
-        orders(&rt, &core, 0),
+        orders(rt, core, 0),
         [a, b, c, d, Order::Release(1), Order::Stop].as_slice()
     );
     let again = Order::Take { task: 0, number: 1 };
     assert_eq!(rt;
-        orders(&rt, &core, 1),
+        orders(rt, core, 1),
         [again, Order::Run(5), Order::Release(0), Order::Stop].as_slice()
     );
-    assert_eq!(rt;
-        apply(&rt, &mut core, 0, Event::Tick(1)),
-        Err(CoreFault::Closed)
-    );
-    core.close_now();
-    assert_eq!(rt; orders(&rt, &core, 1).len(), 4);
+    assert_eq!(rt; apply(rt, core, 0, Event::Tick(1)), Err(CoreFault::Closed));
+}
 
-    let entries = [
+/// The entries of these events.
+fn entries_of_events(rt: &impl Abort) -> [Entry; 3] {
+    [
         Entry {
             caller: 0,
             event: Event::Arrive(0),
             reply: Reply::Placed {
-                chain: chain_of(&rt, &[0]),
+                chain: chain_of(rt, &[0]),
             },
         },
         Entry {
             caller: 3,
             event: Event::Arrive(1),
             reply: Reply::Placed {
-                chain: chain_of(&rt, &[0, 1]),
+                chain: chain_of(rt, &[0, 1]),
             },
         },
         Entry {
@@ -93,8 +104,20 @@ fn core_by_calls(rt: HostRuntime) -> Result<(), Fail> {
             event: Event::Tick(5),
             reply: Reply::Ticked,
         },
-    ];
-    assert_eq!(rt; core.history(), entries.as_slice());
+    ]
+}
+
+#[test]
+fn core_by_calls(rt: HostRuntime) -> Result<(), Fail> {
+    let mut core = core_of_two(rt.alloc())?;
+    core.reserve()?;
+    apply_events(&rt, &mut core);
+    assert_eq!(rt; orders(&rt, &core, 0), open_orders().as_slice());
+    core.close_now();
+    closed_orders(&rt, &mut core);
+    core.close_now();
+    assert_eq!(rt; orders(&rt, &core, 1).len(), 4);
+    assert_eq!(rt; core.history(), entries_of_events(&rt).as_slice());
     Ok(())
 }
 
