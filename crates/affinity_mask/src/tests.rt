@@ -1,5 +1,6 @@
 use crate::{MaskFault, OutOfMemory, ProcSet};
 use std::alloc::AllocError;
+use std::process::Abort;
 use std::test::Fail;
 
 /// Whether every call that reads a set answers as for these processors, which ascend.
@@ -61,98 +62,106 @@ fn want_of_memory(rt: HostRuntime) {
     assert_eq!(rt; text.as_str(), "out of memory");
 }
 
-/// Texts: for each what is written for its set, or why it is no processor list.
-const LIST_TEXTS: [(&str, Result<&str, MaskFault>); 53] = [
-    ("0-3,8", Ok("0-3,8")),
-    ("0-0,0", Ok("0")),
-    ("5,3,4", Ok("3-5")),
-    ("007", Ok("7")),
-    ("0-63", Ok("0-63")),
-    ("0,1", Ok("0-1")),
-    ("63", Ok("63")),
-    ("62-63,0", Ok("0,62-63")),
-    ("9-10,8,11-12", Ok("8-12")),
-    ("1,4-5,7", Ok("1,4-5,7")),
-    ("5-9,0-20,7", Ok("0-20")),
-    ("00000000000000000000000063", Ok("63")),
-    ("000-00000000000000000000001", Ok("0-1")),
-    (
-        "00000000000000000000000005-00000000000000000000000005",
-        Ok("5"),
-    ),
-    ("2-4,6-8,10-12", Ok("2-4,6-8,10-12")),
-    ("63,61,59", Ok("59,61,63")),
-    ("0,2-63", Ok("0,2-63")),
-    ("0-62", Ok("0-62")),
-    ("1-63", Ok("1-63")),
-    ("00-63", Ok("0-63")),
-    ("", Err(MaskFault::Empty)),
-    ("3-1", Err(MaskFault::Backward { place: 0 })),
-    ("64", Err(MaskFault::Large { place: 0 })),
-    ("0,,1", Err(MaskFault::BadItem { place: 2 })),
-    ("0-1-2", Err(MaskFault::BadItem { place: 0 })),
-    ("1,70-65", Err(MaskFault::Backward { place: 2 })),
-    (",", Err(MaskFault::BadItem { place: 0 })),
-    ("1,", Err(MaskFault::BadItem { place: 2 })),
-    (",1", Err(MaskFault::BadItem { place: 0 })),
-    ("0-3,8,", Err(MaskFault::BadItem { place: 6 })),
-    ("-", Err(MaskFault::BadItem { place: 0 })),
-    ("1-", Err(MaskFault::BadItem { place: 0 })),
-    ("-1", Err(MaskFault::BadItem { place: 0 })),
-    ("5--6", Err(MaskFault::BadItem { place: 0 })),
-    ("+5", Err(MaskFault::BadItem { place: 0 })),
-    (" 5", Err(MaskFault::BadItem { place: 0 })),
-    ("5 ", Err(MaskFault::BadItem { place: 0 })),
-    ("0x5", Err(MaskFault::BadItem { place: 0 })),
-    ("1;2", Err(MaskFault::BadItem { place: 0 })),
-    ("7,a", Err(MaskFault::BadItem { place: 2 })),
-    ("12-13,14-", Err(MaskFault::BadItem { place: 6 })),
-    ("64,3-1", Err(MaskFault::Large { place: 0 })),
-    ("3-1,64", Err(MaskFault::Backward { place: 0 })),
-    ("5,3-1,x", Err(MaskFault::Backward { place: 2 })),
-    ("0-64", Err(MaskFault::Large { place: 0 })),
-    ("64-64", Err(MaskFault::Large { place: 0 })),
-    ("63-64", Err(MaskFault::Large { place: 0 })),
-    ("10,11,12-164", Err(MaskFault::Large { place: 6 })),
-    (
-        "99999999999999999999-1",
-        Err(MaskFault::Backward { place: 0 }),
-    ),
-    ("1-99999999999999999999", Err(MaskFault::Large { place: 0 })),
+/// Processor lists, and what is written for the set of each.
+static LISTS: [(&str, &str); 20] = [
+    ("0-3,8", "0-3,8"),
+    ("0-0,0", "0"),
+    ("5,3,4", "3-5"),
+    ("007", "7"),
+    ("0-63", "0-63"),
+    ("0,1", "0-1"),
+    ("63", "63"),
+    ("62-63,0", "0,62-63"),
+    ("9-10,8,11-12", "8-12"),
+    ("1,4-5,7", "1,4-5,7"),
+    ("5-9,0-20,7", "0-20"),
+    ("00000000000000000000000063", "63"),
+    ("000-00000000000000000000001", "0-1"),
+    ("00000000000000000000000005-00000000000000000000000005", "5"),
+    ("2-4,6-8,10-12", "2-4,6-8,10-12"),
+    ("63,61,59", "59,61,63"),
+    ("0,2-63", "0,2-63"),
+    ("0-62", "0-62"),
+    ("1-63", "1-63"),
+    ("00-63", "0-63"),
+];
+
+/// Texts, and why each is no processor list.
+static FAULTS: [(&str, MaskFault); 33] = [
+    ("", MaskFault::Empty),
+    ("3-1", MaskFault::Backward { place: 0 }),
+    ("64", MaskFault::Large { place: 0 }),
+    ("0,,1", MaskFault::BadItem { place: 2 }),
+    ("0-1-2", MaskFault::BadItem { place: 0 }),
+    ("1,70-65", MaskFault::Backward { place: 2 }),
+    (",", MaskFault::BadItem { place: 0 }),
+    ("1,", MaskFault::BadItem { place: 2 }),
+    (",1", MaskFault::BadItem { place: 0 }),
+    ("0-3,8,", MaskFault::BadItem { place: 6 }),
+    ("-", MaskFault::BadItem { place: 0 }),
+    ("1-", MaskFault::BadItem { place: 0 }),
+    ("-1", MaskFault::BadItem { place: 0 }),
+    ("5--6", MaskFault::BadItem { place: 0 }),
+    ("+5", MaskFault::BadItem { place: 0 }),
+    (" 5", MaskFault::BadItem { place: 0 }),
+    ("5 ", MaskFault::BadItem { place: 0 }),
+    ("0x5", MaskFault::BadItem { place: 0 }),
+    ("1;2", MaskFault::BadItem { place: 0 }),
+    ("7,a", MaskFault::BadItem { place: 2 }),
+    ("12-13,14-", MaskFault::BadItem { place: 6 }),
+    ("64,3-1", MaskFault::Large { place: 0 }),
+    ("3-1,64", MaskFault::Backward { place: 0 }),
+    ("5,3-1,x", MaskFault::Backward { place: 2 }),
+    ("0-64", MaskFault::Large { place: 0 }),
+    ("64-64", MaskFault::Large { place: 0 }),
+    ("63-64", MaskFault::Large { place: 0 }),
+    ("10,11,12-164", MaskFault::Large { place: 6 }),
+    ("99999999999999999999-1", MaskFault::Backward { place: 0 }),
+    ("1-99999999999999999999", MaskFault::Large { place: 0 }),
     (
         "99999999999999999999999-99999999999999999999998",
-        Err(MaskFault::Backward { place: 0 }),
+        MaskFault::Backward { place: 0 },
     ),
     (
         "99999999999999999999998-99999999999999999999999",
-        Err(MaskFault::Large { place: 0 }),
+        MaskFault::Large { place: 0 },
     ),
     (
         "0000000000000000000002-1,18446744073709551616",
-        Err(MaskFault::Backward { place: 0 }),
+        MaskFault::Backward { place: 0 },
     ),
 ];
 
+/// Asserts that the text is a list, whose set is written so and read back.
+fn assert_written(rt: &(impl Abort + AllocGlobal), text: &str, expected: &str) -> Result<(), Fail> {
+    let set = ProcSet::read_list(text.as_bytes())?;
+    let mut written = Vec::new(rt.alloc());
+    set.write_list(&mut written)?;
+    assert!(rt; written.as_slice() == expected.as_bytes(), "of {text}");
+    let again = ProcSet::read_list(written.as_slice())?;
+    assert!(rt; again == set, "again of {text}");
+    Ok(())
+}
+
 #[test]
 fn list_texts(rt: HostRuntime) -> Result<(), Fail> {
-    let mut written = Vec::new(rt.alloc());
-    for (row, (text, want)) in LIST_TEXTS.iter().enumerate() {
-        match (ProcSet::read_list(text.as_bytes()), want) {
-            (Ok(set), Ok(want)) => {
-                written.clear();
-                set.write_list(&mut written)?;
-                assert_eq!(rt; written.as_slice(), want.as_bytes(), "row {row}");
-                assert_eq!(rt;
-                    ProcSet::read_list(written.as_slice()),
-                    Ok(set),
-                    "row {row}"
-                );
-            }
-            (Err(fault), Err(want)) => assert_eq!(rt; fault, *want, "row {row}"),
-            _ => panic!(rt; "row {row}"),
-        }
+    for (text, expected) in &LISTS {
+        assert_written(&rt, text, expected)?;
     }
     Ok(())
+}
+
+/// Asserts that the text is refused for this fault.
+fn assert_refused(rt: &impl Abort, text: &str, expected: MaskFault) {
+    let read = ProcSet::read_list(text.as_bytes());
+    assert!(rt; read == Err(expected), "of {text}");
+}
+
+#[test]
+fn texts_of_no_list(rt: HostRuntime) {
+    for (text, expected) in &FAULTS {
+        assert_refused(&rt, text, *expected);
+    }
 }
 
 #[test]
@@ -165,12 +174,15 @@ fn lists_are_appended(rt: HostRuntime) -> Result<(), Fail> {
     Ok(())
 }
 
+/// Each processor as an item of its own.
+static EACH_PROCESSOR: &str =
+    "0,1,2,3,4,5,6,7,8,9,10,11,12,13,14,15,16,17,18,19,20,21,22,23,24,25,26,27,28,29,30,31,\
+        32,33,34,35,36,37,38,39,40,41,42,43,44,45,46,47,48,49,50,51,52,53,54,55,56,57,58,59,60,61,62,63";
+
 #[test]
 fn each_processor_an_item(rt: HostRuntime) {
-    let text =
-        b"0,1,2,3,4,5,6,7,8,9,10,11,12,13,14,15,16,17,18,19,20,21,22,23,24,25,26,27,28,29,30,31,\
-        32,33,34,35,36,37,38,39,40,41,42,43,44,45,46,47,48,49,50,51,52,53,54,55,56,57,58,59,60,61,62,63";
-    assert_eq!(rt; ProcSet::read_list(text), Ok(ProcSet::first(64)));
+    let read = ProcSet::read_list(EACH_PROCESSOR.as_bytes());
+    assert!(rt; read == Ok(ProcSet::first(64)));
 }
 
 #[test]

@@ -10,6 +10,36 @@ use std::process::Abort;
 use std::test::Fail;
 use task_set::TaskSet;
 
+/// The set of these processors.
+fn mask_of(rt: &impl Abort, members: &[u8]) -> ProcSet {
+    let mut mask = ProcSet::empty();
+    for &p in members {
+        assert!(rt; p < 64);
+        mask = mask.with(p);
+    }
+    mask
+}
+
+/// The tasks of these rows, numbered from 0 on: a name, a priority, and the processors of the mask.
+fn set_of(
+    rt: &(impl Abort + AllocGlobal),
+    processors: u8,
+    rows: &[(&str, u32, &[u8])],
+) -> Result<TaskSet, Fail> {
+    assert!(rt; 1 <= processors && processors <= 64);
+    let mut set = TaskSet::new(rt.alloc(), processors)?;
+    for (name, priority, members) in rows {
+        add(rt, &mut set, name, *priority, members);
+    }
+    Ok(set)
+}
+
+/// Adds a task with a mask of these processors.
+fn add(rt: &impl Abort, set: &mut TaskSet, name: &str, priority: u32, members: &[u8]) {
+    let added = set.add(name, priority, mask_of(rt, members)).is_ok();
+    assert!(rt; added, "{name}");
+}
+
 /// An absent task becomes ready, and is linked to a processor of its mask.
 fn link(rt: &impl Abort, links: &mut Links, t: u32, p: u8) {
     assert!(rt; p < 64);
@@ -39,10 +69,17 @@ fn all_below(tasks: &[u32], n: u32) -> bool
     tasks.iter().all(|&t| t < n)
 }
 
-/// Whether the sets certify the waiting tasks, of four tasks.
-fn certified(rt: &impl Abort, links: &Links, sets: [ProcSet; 4]) -> bool {
+/// Asserts whether the sets of these processors certify the waiting tasks, of four tasks.
+fn assert_certified(rt: &impl Abort, links: &Links, sets: &[&[u8]; 4], expected: bool) {
+    let [a, b, c, d] = sets;
+    let sets = [
+        mask_of(rt, a),
+        mask_of(rt, b),
+        mask_of(rt, c),
+        mask_of(rt, d),
+    ];
     assert!(rt; links.len() == 4);
-    all_certified(links, &sets)
+    assert!(rt; all_certified(links, &sets) == expected);
 }
 
 /// The best set of these tasks.
@@ -52,66 +89,108 @@ fn best(rt: &(impl Abort + AllocGlobal), set: &TaskSet, ready: &[u32]) -> Result
     Ok(best)
 }
 
+/// Asserts that the best set of these tasks is this one.
+fn assert_best(
+    rt: &(impl Abort + AllocGlobal),
+    set: &TaskSet,
+    ready: &[u32],
+    expected: &[u32],
+) -> Result<(), Fail> {
+    let found = best(rt, set, ready)?;
+    assert!(rt; found.as_slice() == expected, "of {} tasks", ready.len());
+    Ok(())
+}
+
+/// Tasks x, y, w1 and w2, where the first two run and the others wait.
+static TWO_WAIT: [(&str, u32, &[u8]); 4] = [
+    ("x", 1, &[0]),
+    ("y", 2, &[0, 1]),
+    ("w1", 3, &[1]),
+    ("w2", 5, &[0]),
+];
+
+/// The links of these tasks: x on 0, y on 1.
+fn two_wait(rt: &(impl Abort + AllocGlobal), set: &TaskSet) -> Result<Links, Fail> {
+    let mut links = Links::new(rt.alloc(), set)?;
+    link(rt, &mut links, 0, 0);
+    link(rt, &mut links, 1, 1);
+    wait(rt, &mut links, 2);
+    wait(rt, &mut links, 3);
+    Ok(links)
+}
+
+/// Sets of processors for the four tasks, and whether they certify that w1 and w2 wait.
+static CERTIFIED: [([&[u8]; 4], bool); 2] = [
+    ([&[], &[], &[0, 1], &[0]], true),
+    ([&[], &[], &[1], &[0]], false),
+];
+
+/// Ready tasks of the four, and the best set of them.
+static BEST_OF_FOUR: [(&[u32], &[u32]); 2] = [(&[0, 1, 2, 3], &[0, 1]), (&[1, 2, 3], &[1, 2])];
+
 #[test]
 fn laws_by_calls(rt: HostRuntime) -> Result<(), Fail> {
-    let mut set = TaskSet::new(rt.alloc(), 2)?;
-    let x = set.add("x", 1, ProcSet::one(0))?;
-    let y = set.add("y", 2, ProcSet::first(2))?;
-    let w1 = set.add("w1", 3, ProcSet::one(1))?;
-    let w2 = set.add("w2", 5, ProcSet::one(0))?;
-    let mut links = Links::new(rt.alloc(), &set)?;
-    link(&rt, &mut links, x, 0);
-    link(&rt, &mut links, y, 1);
-    wait(&rt, &mut links, w1);
-    wait(&rt, &mut links, w2);
-    assert!(rt; w2 < links.len());
-    let none = ProcSet::empty();
-    let both = ProcSet::first(2);
-    assert!(rt; is_certificate(&links, w2, both));
-    for (set_of_w1, expected) in [(both, true), (ProcSet::one(1), false)] {
-        let sets = [none, none, set_of_w1, ProcSet::one(0)];
-        assert_eq!(rt;
-            certified(&rt, &links, sets),
-            expected,
-            "with {set_of_w1:?} for w1"
-        );
-    }
-    let rows: [(&[u32], &[u32]); 2] = [(&[x, y, w1, w2], &[x, y]), (&[y, w1, w2], &[y, w1])];
-    for (ready, expected) in rows {
-        assert_eq!(rt; best(&rt, &set, ready)?.as_slice(), expected);
+    let set = set_of(&rt, 2, &TWO_WAIT)?;
+    let links = two_wait(&rt, &set)?;
+    assert!(rt; 3 < links.len());
+    assert!(rt; is_certificate(&links, 3, ProcSet::first(2)));
+    for (sets, expected) in &CERTIFIED {
+        assert_certified(&rt, &links, sets, *expected);
     }
     Ok(())
 }
 
 #[test]
-fn best_sets_by_hand(rt: HostRuntime) -> Result<(), Fail> {
-    let mut set = TaskSet::new(rt.alloc(), 4)?;
-    let a = set.add("a", 20, ProcSet::first(2))?;
-    let b = set.add("b", 30, ProcSet::one(1).with(2))?;
-    let c = set.add("c", 40, ProcSet::one(2).with(3))?;
-    let d = set.add("d", 50, ProcSet::one(0))?;
-    let e = set.add("e", 60, ProcSet::first(4))?;
-    let f = set.add("f", 10, ProcSet::one(0))?;
+fn best_sets_of_four(rt: HostRuntime) -> Result<(), Fail> {
+    let set = set_of(&rt, 2, &TWO_WAIT)?;
+    for (ready, expected) in &BEST_OF_FOUR {
+        assert_best(&rt, &set, ready, expected)?;
+    }
+    Ok(())
+}
 
-    // Each task takes the least processor that it can; d and f move the tasks before them along.
-    let rows: [(&[u32], &[u32]); 7] = [
-        (&[], &[]),
-        // d moves a and b: a chain of three processors.
-        (&[d, a, b], &[a, b, d]),
-        // d moves a, b and c: a chain of four, and e finds no place.
-        (&[e, d, c, b, a], &[a, b, c, d]),
-        (&[b, e, a, d], &[a, b, d, e]),
-        // f keeps d out, although d alone has a place.
-        (&[d, f], &[f]),
-        (&[d], &[d]),
-        (&[a, b, c, d, e, f], &[f, a, b, c]),
-    ];
-    for (ready, expected) in rows {
-        assert_eq!(rt;
-            best(&rt, &set, ready)?.as_slice(),
-            expected,
-            "of {ready:?}"
-        );
+const A: u32 = 0;
+
+const B: u32 = 1;
+
+const C: u32 = 2;
+
+const D: u32 = 3;
+
+const E: u32 = 4;
+
+const F: u32 = 5;
+
+/// Tasks A to F.
+static SIX: [(&str, u32, &[u8]); 6] = [
+    ("a", 20, &[0, 1]),
+    ("b", 30, &[1, 2]),
+    ("c", 40, &[2, 3]),
+    ("d", 50, &[0]),
+    ("e", 60, &[0, 1, 2, 3]),
+    ("f", 10, &[0]),
+];
+
+/// Ready tasks of the six, and the best set of them. Each task takes the least processor that it can; D and F move the
+/// tasks before them along.
+static BEST_OF_SIX: [(&[u32], &[u32]); 7] = [
+    (&[], &[]),
+    // D moves A and B: a chain of three processors.
+    (&[D, A, B], &[A, B, D]),
+    // D moves A, B and C: a chain of four, and E finds no place.
+    (&[E, D, C, B, A], &[A, B, C, D]),
+    (&[B, E, A, D], &[A, B, D, E]),
+    // F keeps D out, although D alone has a place.
+    (&[D, F], &[F]),
+    (&[D], &[D]),
+    (&[A, B, C, D, E, F], &[F, A, B, C]),
+];
+
+#[test]
+fn best_sets_by_hand(rt: HostRuntime) -> Result<(), Fail> {
+    let set = set_of(&rt, 4, &SIX)?;
+    for (ready, expected) in &BEST_OF_SIX {
+        assert_best(&rt, &set, ready, expected)?;
     }
     Ok(())
 }

@@ -1,68 +1,92 @@
 //! That the checker follows the core, by calls of both.
-use affinity_mask::ProcSet;
+use crate::task_sets::set_of;
 use link_table::Entry;
 use reach_certificate::Checker;
-use sched_core::{Core, CoreFault};
+use sched_core::Core;
 use std::process::Abort;
 use std::test::Fail;
-use task_set::{Context, Event, TaskSet};
+use task_set::{Context, Event};
 
 /// Applies an event of a task of the core.
-fn apply(rt: &impl Abort, core: &mut Core, caller: u32, event: Event) -> Result<u64, CoreFault> {
+fn apply(rt: &impl Abort, core: &mut Core, event: Event) {
     let count = core.links().len();
     match event {
         Event::Arrive(t) | Event::Depart(t) => assert!(rt; t < count),
         Event::Tick(_) => {}
     }
-    core.apply(caller, event)
+    let applied = core.apply(0, event).is_ok();
+    assert!(rt; applied);
 }
 
-/// Whether the checker accepts the entry.
-fn accepts(rt: &impl Abort, checker: &mut Checker, entry: &Entry) -> bool {
+/// Asserts that the checker accepts the entry.
+fn accept(rt: &impl Abort, checker: &mut Checker, entry: &Entry) {
     let count = checker.links().len();
     match entry.event {
         Event::Arrive(t) | Event::Depart(t) => assert!(rt; t < count),
         Event::Tick(_) => {}
     }
-    checker.accept(entry).is_ok()
+    let accepted = checker.accept(entry).is_ok();
+    assert!(rt; accepted, "at {:?}", entry.event);
 }
 
-/// The context of a task of the checker.
-fn context_of(rt: &impl Abort, checker: &Checker, t: u32) -> Context {
-    assert!(rt; t < checker.links().len());
-    *checker.context(t)
+/// Asserts that the checker has this context of its task.
+fn assert_context(rt: &impl Abort, checker: &Checker, expected: &Context) {
+    assert!(rt; expected.task < checker.links().len());
+    let found = *checker.context(expected.task);
+    assert!(rt; found == *expected, "{found:?}");
 }
 
-#[test]
-fn checker_follows_the_core(rt: HostRuntime) -> Result<(), Fail> {
-    let mut set = TaskSet::new(rt.alloc(), 2)?;
-    set.add("a", 1, ProcSet::first(2))?;
-    set.add("b", 2, ProcSet::first(1))?;
-    let mut core = Core::new(rt.alloc(), &set)?;
-    apply(&rt, &mut core, 0, Event::Arrive(0))?;
-    apply(&rt, &mut core, 0, Event::Arrive(1))?;
-    apply(&rt, &mut core, 0, Event::Tick(5))?;
-    let mut checker = Checker::new(rt.alloc(), &set)?;
-    for entry in core.history() {
-        assert!(rt; accepts(&rt, &mut checker, entry), "at {:?}", entry.event);
-    }
-    let moved = Context {
+/// The tasks, of two processors.
+static TASKS: [(&str, u32, &[u8]); 2] = [("a", 1, &[0, 1]), ("b", 2, &[0])];
+
+static EVENTS: [Event; 3] = [Event::Arrive(0), Event::Arrive(1), Event::Tick(5)];
+
+/// The contexts after the events: b moved a on.
+static CONTEXTS: [Context; 2] = [
+    Context {
         task: 0,
         units: 5,
         stints: 2,
         moves: 1,
         last: Some(1),
         trail: 321,
-    };
-    assert_eq!(rt; context_of(&rt, &checker, 0), moved);
-    let stayed = Context {
+    },
+    Context {
         task: 1,
         units: 5,
         stints: 1,
         moves: 0,
         last: Some(0),
         trail: 6_364_136_223_846_793_325,
-    };
-    assert_eq!(rt; context_of(&rt, &checker, 1), stayed);
+    },
+];
+
+/// A core after the events.
+fn core_after(rt: &(impl Abort + AllocGlobal)) -> Result<Core, Fail> {
+    let set = set_of(rt, 2, &TASKS)?;
+    let mut core = Core::new(rt.alloc(), &set)?;
+    for event in &EVENTS {
+        apply(rt, &mut core, *event);
+    }
+    Ok(core)
+}
+
+/// A checker that accepted the history of the core.
+fn checker_after(rt: &(impl Abort + AllocGlobal), core: &Core) -> Result<Checker, Fail> {
+    let set = set_of(rt, 2, &TASKS)?;
+    let mut checker = Checker::new(rt.alloc(), &set)?;
+    for entry in core.history() {
+        accept(rt, &mut checker, entry);
+    }
+    Ok(checker)
+}
+
+#[test]
+fn checker_follows_the_core(rt: HostRuntime) -> Result<(), Fail> {
+    let core = core_after(&rt)?;
+    let checker = checker_after(&rt, &core)?;
+    for context in &CONTEXTS {
+        assert_context(&rt, &checker, context);
+    }
     Ok(())
 }

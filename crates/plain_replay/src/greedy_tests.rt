@@ -3,7 +3,7 @@ ghost use Rattle.std.specs.Prelude.{IsTrue};
 ghost use Rattle.link_table.specs.State.{task_count};
 ghost use Rattle.certificate_laws.specs.Passing.{IsOfTask};
 
-use crate::search_tests::all_below;
+use crate::task_sets::all_below;
 use generated_input::make_input;
 use link_table::{Links, Reply};
 use placement_laws::best_set;
@@ -44,6 +44,13 @@ fn linked_tasks(alloc: Global, links: &Links) -> Result<Vec<u32>, AllocError> {
     Ok(linked)
 }
 
+/// The tasks that the greedy program takes of the ready ones.
+fn greedy(rt: &(impl Abort + AllocGlobal), set: &TaskSet, ready: &[u32]) -> Result<Vec<u32>, Fail> {
+    assert!(rt; all_below(ready, set.len()));
+    let best = best_set(rt.alloc(), set, ready)?;
+    Ok(best)
+}
+
 /// Whether the linked tasks are those that the greedy program takes of the ready ones.
 fn are_greedy(
     rt: &(impl Abort + AllocGlobal),
@@ -51,9 +58,9 @@ fn are_greedy(
     links: &Links,
     ready: &[u32],
 ) -> Result<bool, Fail> {
-    assert!(rt; all_below(ready, set.len()));
-    let best = best_set(rt.alloc(), set, ready)?;
-    Ok(linked_tasks(rt.alloc(), links)?.as_slice() == best.as_slice())
+    let best = greedy(rt, set, ready)?;
+    let linked = linked_tasks(rt.alloc(), links)?;
+    Ok(linked.as_slice() == best.as_slice())
 }
 
 /// Which replies came.
@@ -85,6 +92,33 @@ impl Reached {
     }
 }
 
+/// Applies the event, and notes the reply.
+fn apply(rt: &impl Abort, core: &mut Core, event: Event, reached: &mut Reached) {
+    assert!(rt; is_known(core.links(), event));
+    let applied = core.apply(0, event).is_ok();
+    assert!(rt; applied);
+    if let Some(entry) = core.history().last() {
+        reached.note(&entry.reply);
+    }
+}
+
+/// Asserts that the linked tasks of the core are those that the greedy program takes of the ready ones.
+fn assert_greedy(
+    rt: &(impl Abort + AllocGlobal),
+    set: &TaskSet,
+    core: &Core,
+    ready: &[u32],
+    number: u64,
+) -> Result<(), Fail> {
+    let agree = are_greedy(rt, set, core.links(), ready)?;
+    assert!(rt;
+        agree,
+        "in {number}, after {} entries",
+        core.history().len()
+    );
+    Ok(())
+}
+
 /// Replays the input of a number, and compares the linked tasks with the greedy set after each event.
 fn replay_number(
     rt: &(impl Abort + AllocGlobal),
@@ -96,16 +130,8 @@ fn replay_number(
     let mut ready = Vec::new(rt.alloc());
     for posted in input.events() {
         follow(&mut ready, posted.event)?;
-        assert!(rt; is_known(core.links(), posted.event));
-        core.apply(0, posted.event)?;
-        if let Some(entry) = core.history().last() {
-            reached.note(&entry.reply);
-        }
-        assert!(rt;
-            are_greedy(rt, input.set(), core.links(), &ready)?,
-            "in {number}, after {} entries",
-            core.history().len()
-        );
+        apply(rt, &mut core, posted.event, reached);
+        assert_greedy(rt, input.set(), &core, ready.as_slice(), number)?;
     }
     Ok(())
 }

@@ -10,6 +10,8 @@ mod checker_tests;
 mod greedy_tests;
 #[cfg(test)]
 mod search_tests;
+#[cfg(test)]
+mod task_sets;
 
 use plain_run::run;
 use program_status::report;

@@ -1,7 +1,8 @@
 //! What searches, certificates and best sets say of the states to which arrivals and a departure lead.
-ghost use Rattle.std.specs.Prelude.{◌<◌, ◌≤◌, IsTrue, All};
+ghost use Rattle.std.specs.Prelude.{◌<◌, ◌≤◌};
 ghost use Rattle.link_table.specs.State.{task_count, IsState};
 
+use crate::task_sets::{all_below, mask_of, set_of};
 use affinity_mask::ProcSet;
 use link_table::{Chain, Links};
 use path_search::{back_chain, back_set, chain_to, chain_to_idle, reach};
@@ -12,12 +13,19 @@ use std::test::Fail;
 use task_set::TaskSet;
 use task_shift::arrive;
 
-/// The tasks arrive, in the order of their numbers, up to this one.
+/// The first tasks arrive, so many, in the order of their numbers.
 fn arrive_all(rt: &impl Abort, links: &mut Links, count: u32) {
     for t in 0..count {
         assert!(rt; t < links.len());
         let _ = arrive(links, t);
     }
+}
+
+/// The state after the first tasks of the set arrived, so many.
+fn links_after(rt: &(impl Abort + AllocGlobal), set: &TaskSet, count: u32) -> Result<Links, Fail> {
+    let mut links = Links::new(rt.alloc(), set)?;
+    arrive_all(rt, &mut links, count);
+    Ok(links)
 }
 
 /// The chain of these processors.
@@ -39,82 +47,117 @@ fn leave(rt: &impl Abort, links: &mut Links, p: u8) {
     links.make_absent(t);
 }
 
-/// Whether each number of the list is below n.
-pub fn all_below(tasks: &[u32], n: u32) -> bool
-    ensures { IsTrue result → All (λ t. t < n) tasks.now }
-{
-    tasks.iter().all(|&t| t < n)
-}
+/// Tasks a to d. The last may run on 0 alone, and reaches further along the tasks that it would move.
+static PAST_THE_MASK: [(&str, u32, &[u8]); 4] = [
+    ("a", 2, &[0, 1]),
+    ("b", 3, &[1, 2]),
+    ("c", 9, &[2]),
+    ("d", 1, &[0]),
+];
 
 #[test]
 fn reach_past_the_own_mask(rt: HostRuntime) -> Result<(), Fail> {
-    let mut set = TaskSet::new(rt.alloc(), 3)?;
-    set.add("a", 2, ProcSet::first(2))?;
-    set.add("b", 3, ProcSet::one(1).with(2))?;
-    set.add("c", 9, ProcSet::one(2))?;
-    let d = set.add("d", 1, ProcSet::one(0))?;
-    let mut links = Links::new(rt.alloc(), &set)?;
-    arrive_all(&rt, &mut links, 3);
-    assert!(rt; d < links.len() && 2 < links.processors());
-    assert_eq!(rt; reach(&links, d), ProcSet::first(3));
-    assert_eq!(rt; chain_to_idle(&links, d), None);
-    assert_eq!(rt; chain_to(&links, d, 2), chain_of(&rt, &[0, 1, 2]));
+    let set = set_of(&rt, 3, &PAST_THE_MASK)?;
+    let links = links_after(&rt, &set, 3)?;
+    assert!(rt; 3 < links.len() && 2 < links.processors());
+    assert!(rt; reach(&links, 3) == ProcSet::first(3));
+    assert!(rt; chain_to_idle(&links, 3) == None);
+    assert!(rt; chain_to(&links, 3, 2) == chain_of(&rt, &[0, 1, 2]));
     Ok(())
 }
 
-/// Whether this is the best placeable set of these tasks.
-fn is_best_of(
+/// Tasks x, y, w1 and w2: where all arrive, the first two run, and the others wait.
+static TWO_WAIT: [(&str, u32, &[u8]); 4] = [
+    ("x", 1, &[0]),
+    ("y", 2, &[0, 1]),
+    ("w1", 3, &[1]),
+    ("w2", 5, &[0]),
+];
+
+/// The state after the four arrived.
+fn two_wait(rt: &(impl Abort + AllocGlobal)) -> Result<Links, Fail> {
+    let set = set_of(rt, 2, &TWO_WAIT)?;
+    links_after(rt, &set, 4)
+}
+
+/// Asserts whether the sets of these processors certify the waiting tasks, of four tasks.
+fn assert_certified(rt: &impl Abort, links: &Links, sets: &[&[u8]; 4], expected: bool) {
+    let [a, b, c, d] = sets;
+    let sets = [
+        mask_of(rt, a),
+        mask_of(rt, b),
+        mask_of(rt, c),
+        mask_of(rt, d),
+    ];
+    assert!(rt; links.len() == 4);
+    assert!(rt; all_certified(links, &sets) == expected);
+}
+
+/// Sets of processors for the four tasks, and whether they certify that w1 and w2 wait.
+static CERTIFIED: [([&[u8]; 4], bool); 2] = [
+    ([&[], &[], &[0, 1], &[0]], true),
+    ([&[], &[], &[1], &[0]], false),
+];
+
+#[test]
+fn searches_and_certificates(rt: HostRuntime) -> Result<(), Fail> {
+    let links = two_wait(&rt)?;
+    assert!(rt; 3 < links.len() && 1 < links.processors());
+    assert!(rt; chain_to(&links, 3, 1) == None);
+    assert!(rt; is_certificate(&links, 3, ProcSet::first(2)));
+    for (sets, expected) in &CERTIFIED {
+        assert_certified(&rt, &links, sets, *expected);
+    }
+    Ok(())
+}
+
+/// The best placeable set of these tasks.
+fn best(rt: &(impl Abort + AllocGlobal), set: &TaskSet, ready: &[u32]) -> Result<Vec<u32>, Fail> {
+    assert!(rt; all_below(ready, set.len()));
+    let best = best_set(rt.alloc(), set, ready)?;
+    Ok(best)
+}
+
+/// Asserts that this is the best placeable set of these tasks.
+fn assert_best(
     rt: &(impl Abort + AllocGlobal),
     set: &TaskSet,
     ready: &[u32],
-    best: &[u32],
-) -> Result<bool, Fail> {
-    assert!(rt; all_below(ready, set.len()));
-    Ok(best_set(rt.alloc(), set, ready)?.as_slice() == best)
+    expected: &[u32],
+) -> Result<(), Fail> {
+    let found = best(rt, set, ready)?;
+    assert!(rt; found.as_slice() == expected, "of {} tasks", ready.len());
+    Ok(())
 }
 
-/// Two tasks that run, and two that wait.
-fn two_wait(rt: &(impl Abort + AllocGlobal)) -> Result<(TaskSet, Links), Fail> {
-    let mut set = TaskSet::new(rt.alloc(), 2)?;
-    set.add("x", 1, ProcSet::one(0))?;
-    set.add("y", 2, ProcSet::first(2))?;
-    set.add("w1", 3, ProcSet::one(1))?;
-    set.add("w2", 5, ProcSet::one(0))?;
-    let mut links = Links::new(rt.alloc(), &set)?;
-    arrive_all(rt, &mut links, 4);
-    Ok((set, links))
-}
+/// Ready tasks of the four, and the best set of them.
+static BEST: [(&[u32], &[u32]); 2] = [(&[0, 1, 2, 3], &[0, 1]), (&[1, 2, 3], &[1, 2])];
 
 #[test]
-fn searches_and_laws(rt: HostRuntime) -> Result<(), Fail> {
-    let (set, links) = two_wait(&rt)?;
-    let (none, both) = (ProcSet::empty(), ProcSet::first(2));
-    assert!(rt; links.len() == 4 && links.processors() == 2);
-    assert_eq!(rt; chain_to(&links, 3, 1), None);
-    assert!(rt; is_certificate(&links, 3, both));
-    assert!(rt; all_certified(&links, &[none, none, both, ProcSet::one(0)]));
-    assert!(rt; !all_certified(&links, &[none, none, ProcSet::one(1), ProcSet::one(0)]));
-    assert!(rt; is_best_of(&rt, &set, &[0, 1, 2, 3], &[0, 1])?);
-    assert!(rt; is_best_of(&rt, &set, &[1, 2, 3], &[1, 2])?);
+fn best_sets(rt: HostRuntime) -> Result<(), Fail> {
+    let set = set_of(&rt, 2, &TWO_WAIT)?;
+    for (ready, expected) in &BEST {
+        assert_best(&rt, &set, ready, expected)?;
+    }
     Ok(())
 }
 
 #[test]
 fn enters_from_another_processor(rt: HostRuntime) -> Result<(), Fail> {
-    let (_, mut links) = two_wait(&rt)?;
+    let mut links = two_wait(&rt)?;
     leave(&rt, &mut links, 0);
     assert!(rt; 2 < links.len() && links.processors() == 2);
-    assert_eq!(rt; back_set(&links, 0), ProcSet::first(2));
-    assert_eq!(rt; back_chain(&links, 2, 0), chain_of(&rt, &[0, 1]));
+    assert!(rt; back_set(&links, 0) == ProcSet::first(2));
+    assert!(rt; back_chain(&links, 2, 0) == chain_of(&rt, &[0, 1]));
     Ok(())
 }
 
 #[test]
 fn nobody_can_enter(rt: HostRuntime) -> Result<(), Fail> {
-    let (_, mut links) = two_wait(&rt)?;
+    let mut links = two_wait(&rt)?;
     leave(&rt, &mut links, 1);
     assert!(rt; 3 < links.len() && links.processors() == 2);
-    assert_eq!(rt; back_set(&links, 1), ProcSet::one(1));
-    assert_eq!(rt; back_chain(&links, 3, 1), None);
+    assert!(rt; back_set(&links, 1) == ProcSet::one(1));
+    assert!(rt; back_chain(&links, 3, 1) == None);
     Ok(())
 }

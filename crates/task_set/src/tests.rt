@@ -2,6 +2,7 @@
 
 use crate::{Context, MAX_TASKS, TaskFault, TaskSet};
 use affinity_mask::ProcSet;
+use std::process::Abort;
 use std::test::Fail;
 
 /// Calls of `add` on one set of two processors: a name, a priority, how many processors the mask has from 0 on, and the
@@ -27,32 +28,52 @@ static CALLS: [(&str, u32, u8, Result<u32, TaskFault>); 13] = [
     ("abcdefghijklmnopqrstuvwxyz_01234", 0, 2, Ok(2)),
 ];
 
+/// Asserts what `add` answers of a mask of so many processors.
+fn assert_added(
+    rt: &impl Abort,
+    set: &mut TaskSet,
+    name: &str,
+    priority: u32,
+    width: u8,
+    expected: Result<u32, TaskFault>,
+) {
+    assert!(rt; width <= 64);
+    let answer = set.add(name, priority, ProcSet::first(width));
+    assert!(rt; answer == expected, "{name} {priority}");
+}
+
+/// Asserts what the set has of a task: its name, its priority and how many processors the mask has.
+fn assert_task(rt: &impl Abort, set: &TaskSet, t: u32, name: &str, priority: u32, width: u8) {
+    assert!(rt; t < set.len() && width <= 64);
+    assert!(rt; set.name(t) == name);
+    assert!(rt; set.priority(t) == priority);
+    assert!(rt; set.mask(t) == ProcSet::first(width));
+}
+
+/// The tasks that the calls left in the set.
+static TASKS: [(u32, &str, u32, u8); 3] = [
+    (0, "a", 1, 1),
+    (1, "_b.0-Z", 2, 2),
+    (2, "abcdefghijklmnopqrstuvwxyz_01234", 0, 2),
+];
+
+/// Asserts what the calls left in the set.
+fn assert_contents(rt: &impl Abort, set: &TaskSet) {
+    assert!(rt; set.find("_b.0-Z") == Some(1));
+    assert!(rt; set.find("b") == None);
+    assert!(rt; set.processors() == 2 && set.len() == 3);
+    for (t, name, priority, width) in &TASKS {
+        assert_task(rt, set, *t, name, *priority, *width);
+    }
+}
+
 #[test]
 fn add_refuses(rt: HostRuntime) -> Result<(), Fail> {
     let mut set = TaskSet::new(rt.alloc(), 2)?;
     for (name, priority, width, answer) in &CALLS {
-        let mask = ProcSet::first(*width);
-        assert_eq!(rt;
-            set.add(name, *priority, mask),
-            *answer,
-            "{name} {priority}"
-        );
+        assert_added(&rt, &mut set, name, *priority, *width, *answer);
     }
-    assert_eq!(rt; set.find("_b.0-Z"), Some(1));
-    assert_eq!(rt; set.find("b"), None);
-    assert_eq!(rt; set.processors(), 2);
-    assert_eq!(rt; set.len(), 3);
-    let tasks = [
-        ("a", 1, ProcSet::first(1)),
-        ("_b.0-Z", 2, ProcSet::first(2)),
-        ("abcdefghijklmnopqrstuvwxyz_01234", 0, ProcSet::first(2)),
-    ];
-    for t in 0..set.len() {
-        let (name, priority, mask) = tasks[t as usize];
-        assert_eq!(rt; set.name(t), name);
-        assert_eq!(rt; set.priority(t), priority);
-        assert_eq!(rt; set.mask(t), mask);
-    }
+    assert_contents(&rt, &set);
     Ok(())
 }
 
@@ -70,70 +91,88 @@ static TEXTS: [(TaskFault, &str); 7] = [
     (TaskFault::OutOfMemory, "out of memory"),
 ];
 
-#[test]
-fn refusals_are_told_in_words(rt: HostRuntime) -> Result<(), Fail> {
-    for (fault, words) in &TEXTS {
-        let text = format!(in rt.alloc(); "{fault}")?;
-        assert_eq!(rt; text.as_str(), *words);
-    }
+/// Asserts the text of a refusal.
+fn assert_told(rt: &(impl Abort + AllocGlobal), fault: TaskFault, words: &str) -> Result<(), Fail> {
+    let text = format!(in rt.alloc(); "{fault}")?;
+    assert!(rt; text.as_str() == words, "{words}");
     Ok(())
 }
 
 #[test]
-fn full_set_refuses(rt: HostRuntime) -> Result<(), Fail> {
-    let one = ProcSet::one(0);
-    let mut set = TaskSet::new(rt.alloc(), 1)?;
-    for i in 0..MAX_TASKS as u32 {
-        let name = format!(in rt.alloc(); "t{i}")?;
-        assert_eq!(rt; set.add(&name, i, one), Ok(i));
+fn refusals_are_told_in_words(rt: HostRuntime) -> Result<(), Fail> {
+    for (fault, words) in &TEXTS {
+        assert_told(&rt, *fault, words)?;
     }
-    assert_eq!(rt; set.add("one_more", 5000, one), Err(TaskFault::Many));
-    assert_eq!(rt; set.add("t0", 0, one), Err(TaskFault::Many));
-    assert_eq!(rt; set.add("9", 0, one), Err(TaskFault::BadName));
     Ok(())
+}
+
+/// Adds the task of this number.
+fn add_numbered(rt: &(impl Abort + AllocGlobal), set: &mut TaskSet, t: u32) -> Result<(), Fail> {
+    let name = format!(in rt.alloc(); "t{t}")?;
+    assert_added(rt, set, name.as_str(), t, 1, Ok(t));
+    Ok(())
+}
+
+/// Tasks that a full set refuses: a name, a priority, and why.
+static REFUSED: [(&str, u32, TaskFault); 3] = [
+    ("one_more", 5000, TaskFault::Many),
+    ("t0", 0, TaskFault::Many),
+    ("9", 0, TaskFault::BadName),
+];
+
+#[test]
+fn full_set_refuses(rt: HostRuntime) -> Result<(), Fail> {
+    let mut set = TaskSet::new(rt.alloc(), 1)?;
+    for t in 0..MAX_TASKS as u32 {
+        add_numbered(&rt, &mut set, t)?;
+    }
+    for (name, priority, fault) in &REFUSED {
+        assert_added(&rt, &mut set, name, *priority, 1, Err(*fault));
+    }
+    Ok(())
+}
+
+type Stints = &'static [(u8, Option<u32>)];
+
+/// A task, its stints, each a processor and a run, and the context after them: units, stints, moves, last, trail.
+static CONTEXTS: [(u32, Stints, (u64, u64, u64, u8, u64)); 4] = [
+    (0, &[(0, Some(1000000))], (1000000, 1, 0, 0, 64000000)),
+    (
+        0,
+        &[(0, Some(1)), (0, Some(2))],
+        (3, 2, 0, 0, 1476348704584616896),
+    ),
+    (
+        0,
+        &[(0, Some(5)), (1, Some(2))],
+        (7, 2, 1, 1, 7381743522923083969),
+    ),
+    (
+        1,
+        &[(1, None), (2, Some(10))],
+        (10, 2, 1, 2, 6364136223846793647),
+    ),
+];
+
+/// The context of a task after these stints.
+fn context_after(rt: &impl Abort, task: u32, stints: Stints) -> Context {
+    let mut context = Context::fresh(task);
+    for (p, run) in stints {
+        assert!(rt; *p < 64);
+        context.took(*p);
+        if let Some(units) = run {
+            context.ran(*p, *units);
+        }
+    }
+    context
 }
 
 #[test]
 fn contexts_by_calls(rt: HostRuntime) {
-    // A task, its stints as a processor and a run, and the context after them: units, stints, moves, last, trail.
-    let table = [
-        (
-            0,
-            [(0, Some(1000000))].as_slice(),
-            (1000000, 1, 0, 0, 64000000),
-        ),
-        (
-            0,
-            [(0, Some(1)), (0, Some(2))].as_slice(),
-            (3, 2, 0, 0, 1476348704584616896),
-        ),
-        (
-            0,
-            [(0, Some(5)), (1, Some(2))].as_slice(),
-            (7, 2, 1, 1, 7381743522923083969),
-        ),
-        (
-            1,
-            [(1, None), (2, Some(10))].as_slice(),
-            (10, 2, 1, 2, 6364136223846793647),
-        ),
-    ];
-    for (task, stints, (units, count, moves, last, trail)) in table {
-        let mut context = Context::fresh(task);
-        for (p, run) in stints {
-            context.took(*p);
-            if let Some(units) = run {
-                context.ran(*p, *units);
-            }
-        }
-        let expected = Context {
-            task,
-            units,
-            stints: count,
-            moves,
-            last: Some(last),
-            trail,
-        };
-        assert_eq!(rt; context, expected);
+    for (task, stints, (units, count, moves, last, trail)) in &CONTEXTS {
+        let context = context_after(&rt, *task, stints);
+        assert!(rt; context.task == *task && context.units == *units && context.stints == *count);
+        assert!(rt; context.moves == *moves && context.last == Some(*last));
+        assert!(rt; context.trail == *trail);
     }
 }
