@@ -68,17 +68,26 @@ class Program:
         self.seconds = seconds
         self.starts = 0
         self.files = [os.memfd_create(name) for name in ('stdin', 'stdout', 'stderr')]
-        self.actions = [(os.POSIX_SPAWN_DUP2, file, number) for number, file in enumerate(self.files)]
+        # A directory cannot be read, and a full device cannot be written.
+        self.unread, self.full = os.open('/', os.O_RDONLY), os.open('/dev/full', os.O_WRONLY)
 
-    def run(self, words, text):
-        """Runs it on these words and bytes, and gives the answer, or raises Hang or Wrong."""
+    def run(self, words, text, memory=None, fault=None):
+        """Runs it on these words and bytes, and gives the answer, or raises Hang or Wrong.
+
+        With a number of KiB as memory, its address space is limited to that. With the fault `read` or `write` its standard
+        input, or its standard output, fails at each call."""
         source, sink, errors = self.files
+        ends = [self.unread if fault == 'read' else source, self.full if fault == 'write' else sink, errors]
         for file in self.files:
             os.ftruncate(file, 0)
             os.lseek(file, 0, os.SEEK_SET)
         os.pwrite(source, text, 0)
         self.starts += 1
-        status = self.wait(os.posix_spawn(self.path, [self.path, *words], os.environ, file_actions=self.actions))
+        command = [self.path, *words]
+        if memory:
+            command = ['/bin/sh', '-c', f'ulimit -v {memory} && exec "$0" "$@"', *command]
+        actions = [(os.POSIX_SPAWN_DUP2, file, number) for number, file in enumerate(ends)]
+        status = self.wait(os.posix_spawn(command[0], command, os.environ, file_actions=actions))
         taken = os.lseek(source, 0, os.SEEK_CUR)
         return judged(words, Answer(status, whole(sink), whole(errors), taken))
 

@@ -294,6 +294,30 @@ CHANGES = [flip_bit, put_byte, drop_bytes, cut_text, drop_line, repeat_line, swa
            swap_fields, drop_or_repeat_field, change_blank]
 
 
+# Texts at the limits of what is read.
+
+MOST_EVENTS = 20_000
+MOST_BYTES = 16_777_216
+
+
+def with_many_events(chance, text, count):
+    """An input that was accepted, with ticks among its events, so that it has this many."""
+    lines = text.split(b'\n')
+    events = [i for i, line in enumerate(lines) if re.match(rb'[ \t]*[0-9]', line)]
+    # After the last event, before an event, or before the end where there is none.
+    end = max(i for i, line in enumerate(lines) if line.split() == [b'end'])
+    at = chance.choice([end] + events)
+    streams = sorted({int(lines[i].split()[0]) for i in events}) or [0]
+    ticks = [b'%d tick %d' % (chance.choice(streams), chance.choice([1, 1, 1000000])) for _ in range(count - len(events))]
+    return b'\n'.join(lines[:at] + ticks + lines[at:])
+
+
+def with_many_bytes(chance, text, count):
+    """A text with line feeds before it or after it, so that it has this many bytes."""
+    more = b'\n' * (count - len(text))
+    return chance.choice([more + text, text + more])
+
+
 # Other spellings of an input.
 
 def spelled_number(chance, number):

@@ -1,8 +1,8 @@
 //! Generated inputs: what is written for them, and that the schedules are valid.
 ghost use Rattle.std.specs.Prelude.{◌<◌};
 
-use crate::tests::{is_valid, replay};
-use crate::thread_tests::is_in_order;
+use crate::tests::{expect_valid, replay};
+use crate::thread_tests::expect_run_on_streams;
 use generated_input::make_input;
 use program_status::Status;
 use std::alloc::{AllocError, Global};
@@ -41,32 +41,47 @@ fn put_for<R: Threads + Wait + Clock + Sync + Abort>(
 ) -> Result<Vec<u8>, Fail> {
     let [number, processors, tasks, events] = sizes;
     let words = [command, number, processors, tasks, events];
-    let (status, put) = replay(rt, alloc, &words, "no text")?;
+    let (status, put) = replay(rt, alloc, &words, b"no text")?;
     assert_eq!(rt; status, Status::Done);
     Ok(put)
 }
 
-#[test]
-fn words_and_generated_input(rt: HostRuntime) -> Result<(), Fail> {
-    let alloc = rt.alloc();
-    let smallest = "apa 1\nprocessors 1\ntask t0 807 0\n0 arrive t0\nend\n";
-    for sizes in [["0", "1", "1", "1"], ["000", "01", "1", "0001"]] {
-        let put = put_for(&rt, alloc, "make", sizes)?;
-        assert_eq!(rt; str::from_utf8(&put), Ok(smallest));
-        let put = put_for(&rt, alloc, "large", sizes)?;
-        assert_eq!(rt;
-            str::from_utf8(&put),
-            Ok("large 0 1 1 1\nentries 1\ndisplaced 0\nwaits 0\nmoves 0\ntrails 0\n")
-        );
-    }
-
-    let input = put_for(&rt, alloc, "make", ["7", "8", "40", "2000"])?;
-    let text = str::from_utf8(&input).unwrap_or("");
-    let (status, put) = replay(&rt, alloc, &["run"], text)?;
-    assert_eq!(rt; status, Status::Done);
-    let schedule = str::from_utf8(&put).unwrap_or("");
-    assert!(rt; is_valid(&rt, alloc, schedule, 2000)?);
+/// `make` and `large` write these texts for these numbers.
+fn expect_made<R: Threads + Wait + Clock + Sync + Abort>(
+    rt: &R,
+    alloc: Global,
+    sizes: [&str; 4],
+    input: &str,
+    summary: &str,
+) -> Result<(), Fail> {
+    let put = put_for(rt, alloc, "make", sizes)?;
+    assert_eq!(rt; str::from_utf8(&put), Ok(input));
+    let put = put_for(rt, alloc, "large", sizes)?;
+    assert_eq!(rt; str::from_utf8(&put), Ok(summary));
     Ok(())
+}
+
+static SMALLEST_MADE: &str = "apa 1\nprocessors 1\ntask t0 807 0\n0 arrive t0\nend\n";
+
+static SMALLEST_SUMMARY: &str =
+    "large 0 1 1 1\nentries 1\ndisplaced 0\nwaits 0\nmoves 0\ntrails 0\n";
+
+static SMALLEST_SIZES: [[&str; 4]; 2] = [["0", "1", "1", "1"], ["000", "01", "1", "0001"]];
+
+#[test]
+fn smallest_generated_input(rt: HostRuntime) -> Result<(), Fail> {
+    for sizes in &SMALLEST_SIZES {
+        expect_made(&rt, rt.alloc(), *sizes, SMALLEST_MADE, SMALLEST_SUMMARY)?;
+    }
+    Ok(())
+}
+
+#[test]
+fn run_of_a_generated_input(rt: HostRuntime) -> Result<(), Fail> {
+    let input = put_for(&rt, rt.alloc(), "make", ["7", "8", "40", "2000"])?;
+    let (status, schedule) = replay(&rt, rt.alloc(), &["run"], &input)?;
+    assert_eq!(rt; status, Status::Done);
+    expect_valid(&rt, rt.alloc(), &schedule, 2000)
 }
 
 /// Summaries that a program of a reader's own, written from the definitions, made.
@@ -113,17 +128,36 @@ static SUMMARIES: [([&str; 4], &str); 10] = [
     ),
 ];
 
+/// `large` writes this summary for these numbers, after a line of the numbers.
+fn expect_summary<R: Threads + Wait + Clock + Sync + Abort>(
+    rt: &R,
+    alloc: Global,
+    sizes: [&str; 4],
+    numbers: &str,
+) -> Result<(), Fail> {
+    let put = put_for(rt, alloc, "large", sizes)?;
+    let [number, processors, tasks, events] = sizes;
+    let summary = format!(in alloc; "large {number} {processors} {tasks} {events}\n{numbers}")?;
+    assert_eq!(rt; str::from_utf8(&put), Ok(summary.as_str()));
+    Ok(())
+}
+
 #[test]
 fn summaries_of_generated_inputs(rt: HostRuntime) -> Result<(), Fail> {
-    for (sizes, numbers) in SUMMARIES {
-        let put = put_for(&rt, rt.alloc(), "large", sizes)?;
-        let [number, processors, tasks, events] = sizes;
-        let summary = format!(in rt.alloc();
-            "large {number} {processors} {tasks} {events}\n{numbers}"
-        )?;
-        assert_eq!(rt; str::from_utf8(&put), Ok(summary.as_str()));
+    for (sizes, numbers) in &SUMMARIES {
+        expect_summary(&rt, rt.alloc(), *sizes, numbers)?;
     }
     Ok(())
+}
+
+/// The text of the generated input of a number, on so many streams.
+fn generated_text(alloc: Global, number: u64, streams: u32) -> Result<String, Fail>
+    requires { 0 < streams }
+{
+    let input = make_input(alloc, number, 6, 10, 60)?;
+    let made = write_input(alloc, &input)?;
+    let text = on_streams(alloc, str::from_utf8(&made).unwrap_or(""), streams)?;
+    Ok(text)
 }
 
 /// Runs the input of a number, on so many streams, and checks what it writes.
@@ -135,24 +169,8 @@ fn run_on_streams<R: Threads + Wait + Clock + Sync + Abort>(
 ) -> Result<(), Fail>
     requires { 0 < streams }
 {
-    let input = make_input(alloc, number, 6, 10, 60)?;
-    let made = write_input(alloc, &input)?;
-    let text = on_streams(alloc, str::from_utf8(&made).unwrap_or(""), streams)?;
-    let (status, put) = replay(rt, alloc, &["run"], &text)?;
-    assert_eq!(rt; status, Status::Done);
-    let schedule = str::from_utf8(&put).unwrap_or("");
-    assert!(rt;
-        is_valid(rt, alloc, schedule, 60)?,
-        "of {number} on {streams}"
-    );
-    for stream in 0..streams {
-        let own = format!(in alloc; "{stream} ")?;
-        assert!(rt;
-            is_in_order(&text, schedule, &own),
-            "of {number} on {streams}"
-        );
-    }
-    Ok(())
+    let text = generated_text(alloc, number, streams)?;
+    expect_run_on_streams(rt, alloc, &text, 60, streams)
 }
 
 /// Runs the inputs of 67 numbers on so many streams.

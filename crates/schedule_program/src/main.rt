@@ -3,6 +3,8 @@
 
 #[cfg(test)]
 mod generated_tests;
+#[cfg(test)]
+mod hostile_tests;
 mod run;
 #[cfg(test)]
 mod tests;

@@ -6,28 +6,39 @@ use processor_seat::OpenGate;
 use program_status::{Status, exit_status};
 use shift_io::{MemSink, MemSource, Sink, Source, StdSink, StdSource};
 use std::alloc::{AllocError, Global};
+use std::process::Abort;
 use std::str;
 use std::sync::Wait;
 use std::test::Fail;
 use std::thread::Threads;
 use std::time::Clock;
-use worked_histories::{HISTORIES, texts_of};
+use worked_histories::{HISTORIES, History, texts_of};
 
-const SMALLEST_INPUT: &str = "apa 1\nprocessors 1\ntask a 5 0\n0 arrive a\nend\n";
+pub(crate) static SMALLEST_INPUT: &str = "apa 1\nprocessors 1\ntask a 5 0\n0 arrive a\nend\n";
 
-const SMALLEST_SCHEDULE: &str =
+pub(crate) static SMALLEST_SCHEDULE: &str =
     "schedule 1\nprocessors 1\ntask a 5 0\nhistory 1\n0 arrive a placed 0\n\
 contexts 1\na units 0 stints 1 moves 0 last 0 trail 0\nend\n";
 
-fn source_of(alloc: Global, text: &str, most: usize, fails: &[u64]) -> Result<MemSource, AllocError>
+pub(crate) fn source_of(
+    alloc: Global,
+    bytes: &[u8],
+    most: usize,
+    fails: &[u64],
+) -> Result<MemSource, AllocError>
     requires { 0 < most }
 {
-    let bytes = Vec::from_slice(alloc, text.as_bytes())?;
+    let bytes = Vec::from_slice(alloc, bytes)?;
     let fails = Vec::from_slice(alloc, fails)?;
     Ok(MemSource::new(bytes, most, fails))
 }
 
-fn sink_of(alloc: Global, room: usize, most: usize, fails: &[u64]) -> Result<MemSink, AllocError>
+pub(crate) fn sink_of(
+    alloc: Global,
+    room: usize,
+    most: usize,
+    fails: &[u64],
+) -> Result<MemSink, AllocError>
     requires { 0 < most }
 {
     let room = vec![in alloc; 0u8; room]?;
@@ -35,18 +46,23 @@ fn sink_of(alloc: Global, room: usize, most: usize, fails: &[u64]) -> Result<Mem
     Ok(MemSink::new(room, most, fails))
 }
 
-fn run_words<R: Threads + Wait + Clock + Sync, S: Source, K: Sink>(
+fn owned(alloc: Global, words: &[&str]) -> Result<Vec<String>, AllocError> {
+    let mut owned = Vec::new(alloc);
+    for word in words {
+        owned.push(String::from_str(alloc, word)?)?;
+    }
+    Ok(owned)
+}
+
+pub(crate) fn run_words<R: Threads + Wait + Clock + Sync, S: Source, K: Sink>(
     rt: &R,
     alloc: Global,
     words: &[&str],
     source: &mut S,
     sink: &mut K,
 ) -> Result<Status, AllocError> {
-    let mut owned = Vec::new(alloc);
-    for word in words {
-        owned.push(String::from_str(alloc, word)?)?;
-    }
-    Ok(run(rt, alloc, &owned, source, sink, &OpenGate))
+    let words = owned(alloc, words)?;
+    Ok(run(rt, alloc, &words, source, sink, &OpenGate))
 }
 
 /// The status of a call over memory, and the text that it wrote.
@@ -54,7 +70,7 @@ pub(crate) fn replay<R: Threads + Wait + Clock + Sync>(
     rt: &R,
     alloc: Global,
     words: &[&str],
-    input: &str,
+    input: &[u8],
 ) -> Result<(Status, Vec<u8>), AllocError> {
     let mut source = source_of(alloc, input, 1_000_000, &[])?;
     let mut sink = sink_of(alloc, 524_288, 4096, &[])?;
@@ -62,24 +78,64 @@ pub(crate) fn replay<R: Threads + Wait + Clock + Sync>(
     Ok((status, Vec::from_slice(alloc, sink.bytes())?))
 }
 
-/// Whether a schedule text is valid, with so many entries.
-pub(crate) fn is_valid<R: Threads + Wait + Clock + Sync>(
+/// A call over memory has this status, and writes this text.
+pub(crate) fn expect_answer<R: Threads + Wait + Clock + Sync + Abort>(
     rt: &R,
     alloc: Global,
+    words: &[&str],
+    input: &[u8],
+    status: Status,
+    text: &str,
+) -> Result<(), Fail> {
+    let (found, put) = replay(rt, alloc, words, input)?;
+    assert_eq!(rt; found, status, "at {:?}", str::from_utf8(input));
+    assert_eq!(rt; str::from_utf8(&put), Ok(text));
+    Ok(())
+}
+
+/// `run` writes this schedule for this input.
+pub(crate) fn expect_schedule<R: Threads + Wait + Clock + Sync + Abort>(
+    rt: &R,
+    alloc: Global,
+    input: &str,
     schedule: &str,
+) -> Result<(), Fail> {
+    expect_answer(
+        rt,
+        alloc,
+        &["run"],
+        input.as_bytes(),
+        Status::Done,
+        schedule,
+    )
+}
+
+/// A schedule text is valid, with so many entries.
+pub(crate) fn expect_valid<R: Threads + Wait + Clock + Sync + Abort>(
+    rt: &R,
+    alloc: Global,
+    schedule: &[u8],
     count: usize,
-) -> Result<bool, AllocError> {
-    let (status, put) = replay(rt, alloc, &["check"], schedule)?;
+) -> Result<(), Fail> {
     let valid = format!(in alloc; "valid {count}\n")?;
-    Ok(status == Status::Done && put.as_slice() == valid.as_bytes())
+    expect_answer(rt, alloc, &["check"], schedule, Status::Done, &valid)
+}
+
+/// `run` refuses an input with this line and kind, and writes nothing.
+fn expect_refused<R: Threads + Wait + Clock + Sync + Abort>(
+    rt: &R,
+    alloc: Global,
+    input: &str,
+    line: u64,
+    kind: u8,
+) -> Result<(), Fail> {
+    let status = Status::Input { line, kind };
+    expect_answer(rt, alloc, &["run"], input.as_bytes(), status, "")
 }
 
 #[test]
 fn smallest_history(rt: HostRuntime) -> Result<(), Fail> {
-    let (status, put) = replay(&rt, rt.alloc(), &["run"], SMALLEST_INPUT)?;
-    assert_eq!(rt; status, Status::Done);
-    assert_eq!(rt; str::from_utf8(&put), Ok(SMALLEST_SCHEDULE));
-    Ok(())
+    expect_schedule(&rt, rt.alloc(), SMALLEST_INPUT, SMALLEST_SCHEDULE)
 }
 
 #[test]
@@ -94,180 +150,241 @@ fn smallest_history_over_std_streams(rt: HostRuntime) -> Result<(), Fail> {
     Ok(())
 }
 
+/// A history has the schedule that was worked out for it, which is valid.
+fn expect_history<R: Threads + Wait + Clock + Sync + Abort>(
+    rt: &R,
+    alloc: Global,
+    history: &History,
+) -> Result<(), Fail> {
+    let (input, schedule) = texts_of(alloc, history)?;
+    expect_schedule(rt, alloc, &input, &schedule)?;
+    expect_valid(rt, alloc, schedule.as_bytes(), history.entries.len())
+}
+
 #[test]
 fn worked_histories(rt: HostRuntime) -> Result<(), Fail> {
     for history in &HISTORIES {
-        let (input, schedule) = texts_of(rt.alloc(), history)?;
-        let (status, put) = replay(&rt, rt.alloc(), &["run"], &input)?;
-        assert_eq!(rt; status, Status::Done, "in {}", history.name);
-        assert_eq!(rt;
-            str::from_utf8(&put),
-            Ok(schedule.as_str()),
-            "in {}",
-            history.name
-        );
-        assert!(rt;
-            is_valid(&rt, rt.alloc(), &schedule, history.entries.len())?,
-            "in {}",
-            history.name
-        );
+        expect_history(&rt, rt.alloc(), history)?;
     }
     Ok(())
 }
 
-#[test]
-fn longest_chain(rt: HostRuntime) -> Result<(), Fail> {
-    let alloc = rt.alloc();
-    let mut head = format!(in alloc; "processors 64\n")?;
-    let mut events = String::new(alloc);
-    let mut entries = String::new(alloc);
-    let mut chain = format!(in alloc; "0")?;
-    let mut contexts = String::new(alloc);
+/// Appends the tasks of the longest chain: each may run on its own processor and on the next one.
+fn write_chain_tasks(text: &mut String) -> Result<(), Fail> {
     for i in 0u32..63 {
-        writeln!(head, "task c{i} {} {i}-{}", i + 1, i + 1)?;
-        writeln!(events, "0 arrive c{i}")?;
-        writeln!(entries, "0 arrive c{i} placed {i}")?;
-        write!(chain, ">{}", i + 1)?;
+        writeln!(text, "task c{i} {} {i}-{}", i + 1, i + 1)?;
+    }
+    Ok(())
+}
+
+fn write_chain_events(text: &mut String) -> Result<(), Fail> {
+    for i in 0u32..63 {
+        writeln!(text, "0 arrive c{i}")?;
+    }
+    Ok(())
+}
+
+fn write_chain_entries(text: &mut String) -> Result<(), Fail> {
+    for i in 0u32..63 {
+        writeln!(text, "0 arrive c{i} placed {i}")?;
+    }
+    Ok(())
+}
+
+/// Appends the chain, which has all processors.
+fn write_chain(text: &mut String) -> Result<(), Fail> {
+    write!(text, "0")?;
+    for i in 1u32..64 {
+        write!(text, ">{i}")?;
+    }
+    Ok(())
+}
+
+fn write_chain_contexts(text: &mut String) -> Result<(), Fail> {
+    for i in 0u32..63 {
         writeln!(
-            contexts,
+            text,
             "c{i} units 0 stints 2 moves 1 last {} trail {i}",
             i + 1
         )?;
     }
-    writeln!(head, "task z 100 0")?;
-    let input = format!(in alloc; "apa 1\n{head}{events}0 arrive z\nend\n")?;
-    let schedule = format!(in alloc;
-        "schedule 1\n{head}history 64\n{entries}0 arrive z placed {chain}\n\
-contexts 64\n{contexts}z units 0 stints 1 moves 0 last 0 trail 63\nend\n"
-    )?;
-    let (status, put) = replay(&rt, alloc, &["run"], &input)?;
-    assert_eq!(rt; status, Status::Done);
-    assert_eq!(rt; str::from_utf8(&put), Ok(schedule.as_str()));
-    assert!(rt; is_valid(&rt, alloc, &schedule, 64)?);
     Ok(())
 }
+
+fn longest_chain_input(alloc: Global) -> Result<String, Fail> {
+    let mut text = String::from_str(alloc, "apa 1\nprocessors 64\n")?;
+    write_chain_tasks(&mut text)?;
+    write!(text, "task z 100 0\n")?;
+    write_chain_events(&mut text)?;
+    write!(text, "0 arrive z\nend\n")?;
+    Ok(text)
+}
+
+fn longest_chain_schedule(alloc: Global) -> Result<String, Fail> {
+    let mut text = String::from_str(alloc, "schedule 1\nprocessors 64\n")?;
+    write_chain_tasks(&mut text)?;
+    write!(text, "task z 100 0\nhistory 64\n")?;
+    write_chain_entries(&mut text)?;
+    write!(text, "0 arrive z placed ")?;
+    write_chain(&mut text)?;
+    write!(text, "\ncontexts 64\n")?;
+    write_chain_contexts(&mut text)?;
+    write!(text, "z units 0 stints 1 moves 0 last 0 trail 63\nend\n")?;
+    Ok(text)
+}
+
+#[test]
+fn longest_chain(rt: HostRuntime) -> Result<(), Fail> {
+    let input = longest_chain_input(rt.alloc())?;
+    let schedule = longest_chain_schedule(rt.alloc())?;
+    expect_schedule(&rt, rt.alloc(), &input, &schedule)?;
+    expect_valid(&rt, rt.alloc(), schedule.as_bytes(), 64)
+}
+
+static WRONG_SCHEDULE: &[u8] =
+    b"schedule 1\nprocessors 1\ntask a 5 0\nhistory 1\n0 arrive a already\n\
+contexts 1\na units 0 stints 1 moves 0 last 0 trail 0\nend\n";
 
 #[test]
 fn wrong_schedule(rt: HostRuntime) -> Result<(), Fail> {
-    let wrong = "schedule 1\nprocessors 1\ntask a 5 0\nhistory 1\n0 arrive a already\n\
-contexts 1\na units 0 stints 1 moves 0 last 0 trail 0\nend\n";
-    let (status, put) = replay(&rt, rt.alloc(), &["check"], wrong)?;
-    assert_eq!(rt; status, Status::Invalid { line: 5, defect: 1 });
-    assert_eq!(rt; exit_status(&status), 1);
-    assert!(rt; put.is_empty());
-    Ok(())
+    let status = Status::Invalid { line: 5, defect: 1 };
+    expect_answer(&rt, rt.alloc(), &["check"], WRONG_SCHEDULE, status, "")
 }
+
+static REFUSED_WORDS: [&[&str]; 14] = [
+    &[],
+    &["run", "x"],
+    &["runs"],
+    &["make"],
+    &["make", "0", "1", "1"],
+    &["make", "0", "0", "1", "1"],
+    &["make", "0", "65", "1", "1"],
+    &["make", "0", "1", "0", "1"],
+    &["make", "0", "1", "1025", "1"],
+    &["large", "0", "1", "1", "20001"],
+    &["large", "18446744073709551616", "1", "1", "1"],
+    &["large", "+1", "1", "1", "1"],
+    &["large", "", "1", "1", "1"],
+    &["run", "0", "1", "1", "1"],
+];
 
 #[test]
 fn refused_words(rt: HostRuntime) -> Result<(), Fail> {
-    let cases: [&[&str]; 14] = [
-        &[],
-        &["run", "x"],
-        &["runs"],
-        &["make"],
-        &["make", "0", "1", "1"],
-        &["make", "0", "0", "1", "1"],
-        &["make", "0", "65", "1", "1"],
-        &["make", "0", "1", "0", "1"],
-        &["make", "0", "1", "1025", "1"],
-        &["large", "0", "1", "1", "20001"],
-        &["large", "18446744073709551616", "1", "1", "1"],
-        &["large", "+1", "1", "1", "1"],
-        &["large", "", "1", "1", "1"],
-        &["run", "0", "1", "1", "1"],
-    ];
-    for words in cases {
-        let (status, put) = replay(&rt, rt.alloc(), words, SMALLEST_INPUT)?;
-        assert_eq!(rt; status, Status::Usage);
-        assert_eq!(rt; exit_status(&status), 2);
-        assert!(rt; put.is_empty());
+    for words in &REFUSED_WORDS {
+        let input = SMALLEST_INPUT.as_bytes();
+        expect_answer(&rt, rt.alloc(), words, input, Status::Usage, "")?;
     }
     Ok(())
 }
 
-/// Whether an input is refused with this line and kind, and nothing is written.
-fn is_refused<R: Threads + Wait + Clock + Sync>(
-    rt: &R,
-    alloc: Global,
-    input: &str,
-    line: u64,
-    kind: u8,
-) -> Result<bool, AllocError> {
-    let (status, put) = replay(rt, alloc, &["run"], input)?;
-    Ok(status == Status::Input { line, kind } && exit_status(&status) == 3 && put.is_empty())
+/// The answers of the refusals of this file, with their exit statuses.
+static EXIT_STATUSES: [(Status, u8); 4] = [
+    (Status::Invalid { line: 5, defect: 1 }, 1),
+    (Status::Usage, 2),
+    (Status::Input { line: 1, kind: 3 }, 3),
+    (Status::TooLong, 3),
+];
+
+#[test]
+fn exit_statuses(rt: HostRuntime) {
+    for (status, number) in &EXIT_STATUSES {
+        assert!(rt; exit_status(status) == *number, "of {status:?}");
+    }
 }
+
+/// Texts at a limit, or with two tasks that clash, each with the line and the kind of its fault.
+static LIMITS_AND_CLASHES: [(&str, u64, u8); 9] = [
+    ("apa 2\n", 1, 3),
+    ("apa 1\nprocessors 65\n", 2, 4),
+    ("apa 1\nprocessors 1\ntask a 4294967296 0\nend\n", 3, 5),
+    ("apa 1\nprocessors 1\ntask a 1 0,,1\nend\n", 3, 6),
+    ("apa 1\nprocessors 2\ntask a 1 0-2\nend\n", 3, 7),
+    ("apa 1\nprocessors 1\ntask a 1 0\ntask b 1 0\nend\n", 4, 7),
+    ("apa 1\nprocessors 1\ntask a 1 0\n0 tick 0\nend\n", 4, 8),
+    (
+        "apa 1\nprocessors 1\ntask a 1 0\n0 tick 1000001\nend\n",
+        4,
+        8,
+    ),
+    ("apa 1\nprocessors 1\ntask a 1 0\n0 arrive q\nend\n", 4, 9),
+];
 
 #[test]
 fn limits_and_clashes(rt: HostRuntime) -> Result<(), Fail> {
-    let rows = [
-        ("apa 2\n", 1, 3),
-        ("apa 1\nprocessors 65\n", 2, 4),
-        ("apa 1\nprocessors 1\ntask a 4294967296 0\nend\n", 3, 5),
-        ("apa 1\nprocessors 1\ntask a 1 0,,1\nend\n", 3, 6),
-        ("apa 1\nprocessors 2\ntask a 1 0-2\nend\n", 3, 7),
-        ("apa 1\nprocessors 1\ntask a 1 0\ntask b 1 0\nend\n", 4, 7),
-        ("apa 1\nprocessors 1\ntask a 1 0\n0 tick 0\nend\n", 4, 8),
-        (
-            "apa 1\nprocessors 1\ntask a 1 0\n0 tick 1000001\nend\n",
-            4,
-            8,
-        ),
-        ("apa 1\nprocessors 1\ntask a 1 0\n0 arrive q\nend\n", 4, 9),
-    ];
-    for (input, line, kind) in rows {
-        assert!(rt;
-            is_refused(&rt, rt.alloc(), input, line, kind)?,
-            "at {input:?}"
-        );
+    for (input, line, kind) in &LIMITS_AND_CLASHES {
+        expect_refused(&rt, rt.alloc(), input, *line, *kind)?;
     }
-
-    let mut tasks = format!(in rt.alloc(); "apa 1\nprocessors 1\n")?;
-    for i in 0u32..1025 {
-        writeln!(tasks, "task t{i} {i} 0")?;
-    }
-    assert!(rt; is_refused(&rt, rt.alloc(), &tasks, 1027, 7)?);
-
-    let mut ticks = format!(in rt.alloc(); "apa 1\nprocessors 1\ntask a 1 0\n")?;
-    for _ in 0u32..20_001 {
-        writeln!(ticks, "0 tick 1")?;
-    }
-    assert!(rt; is_refused(&rt, rt.alloc(), &ticks, 20_004, 10)?);
     Ok(())
 }
 
+/// An input with so many tasks.
+fn input_of_tasks(alloc: Global, count: u32) -> Result<String, Fail> {
+    let mut text = String::from_str(alloc, "apa 1\nprocessors 1\n")?;
+    for i in 0..count {
+        writeln!(text, "task t{i} {i} 0")?;
+    }
+    Ok(text)
+}
+
+#[test]
+fn one_task_too_many(rt: HostRuntime) -> Result<(), Fail> {
+    let input = input_of_tasks(rt.alloc(), 1025)?;
+    expect_refused(&rt, rt.alloc(), &input, 1027, 7)
+}
+
+/// An input with so many events.
+fn input_of_ticks(alloc: Global, count: u32) -> Result<String, Fail> {
+    let mut text = String::from_str(alloc, "apa 1\nprocessors 1\ntask a 1 0\n")?;
+    for _ in 0..count {
+        writeln!(text, "0 tick 1")?;
+    }
+    Ok(text)
+}
+
+#[test]
+fn one_event_too_many(rt: HostRuntime) -> Result<(), Fail> {
+    let input = input_of_ticks(rt.alloc(), 20_001)?;
+    expect_refused(&rt, rt.alloc(), &input, 20_004, 10)
+}
+
+static COMMENTED: &str = "apa 1\nprocessors 1\ntask a 5 0\n0 arrive a\nend\n\n# done\n";
+
+/// Texts with no end, with more after the end, or with a byte that is no part of a text.
+static ENDS_AND_BYTES: [(&str, u64, u8); 4] = [
+    ("", 1, 12),
+    ("apa 1\nprocessors 1\ntask a 5 0\n0 arrive a\n", 5, 12),
+    (
+        "apa 1\nprocessors 1\ntask a 5 0\n0 arrive a\nend\n0 tick 1\n",
+        6,
+        11,
+    ),
+    ("apa 1\r\n", 1, 1),
+];
+
 #[test]
 fn ends_and_bytes(rt: HostRuntime) -> Result<(), Fail> {
-    let without_end = "apa 1\nprocessors 1\ntask a 5 0\n0 arrive a\n";
-    let mut spaces = String::new(rt.alloc());
-    for _ in 0u32..4096 {
-        write!(spaces, " ")?;
+    for (input, line, kind) in &ENDS_AND_BYTES {
+        expect_refused(&rt, rt.alloc(), input, *line, *kind)?;
     }
-    let event_after_end = format!(in rt.alloc(); "{SMALLEST_INPUT}0 tick 1\n")?;
-    let long_line = format!(in rt.alloc(); "{spaces} \n{SMALLEST_INPUT}")?;
-    let rows = [
-        ("", 1, 12),
-        (without_end, 5, 12),
-        (event_after_end.as_str(), 6, 11),
-        ("apa 1\r\n", 1, 1),
-        (long_line.as_str(), 1, 2),
-    ];
-    for (input, line, kind) in rows {
-        assert!(rt;
-            is_refused(&rt, rt.alloc(), input, line, kind)?,
-            "in line {line}"
-        );
-    }
+    expect_schedule(&rt, rt.alloc(), COMMENTED, SMALLEST_SCHEDULE)
+}
 
-    let commented = [
-        format!(in rt.alloc(); "{spaces}\n{SMALLEST_INPUT}")?,
-        format!(in rt.alloc(); "{SMALLEST_INPUT}\n# done\n")?,
-    ];
-    for input in &commented {
-        let (status, put) = replay(&rt, rt.alloc(), &["run"], input)?;
-        assert_eq!(rt; status, Status::Done);
-        assert_eq!(rt; str::from_utf8(&put), Ok(SMALLEST_SCHEDULE));
+/// The smallest input after a line of so many spaces.
+fn input_after_spaces(alloc: Global, count: u32) -> Result<String, Fail> {
+    let mut text = String::new(alloc);
+    for _ in 0..count {
+        write!(text, " ")?;
     }
-    Ok(())
+    write!(text, "\n{SMALLEST_INPUT}")?;
+    Ok(text)
+}
+
+#[test]
+fn longest_line(rt: HostRuntime) -> Result<(), Fail> {
+    let input = input_after_spaces(rt.alloc(), 4096)?;
+    expect_schedule(&rt, rt.alloc(), &input, SMALLEST_SCHEDULE)?;
+    let longer = input_after_spaces(rt.alloc(), 4097)?;
+    expect_refused(&rt, rt.alloc(), &longer, 1, 2)
 }
 
 #[test]
@@ -277,28 +394,6 @@ fn sixteen_million_line_feeds(rt: HostRuntime) -> Result<(), Fail> {
     let mut sink = sink_of(rt.alloc(), 16, 16, &[])?;
     let status = run_words(&rt, rt.alloc(), &["run"], &mut source, &mut sink)?;
     assert_eq!(rt; status, Status::TooLong);
-    assert_eq!(rt; exit_status(&status), 3);
     assert!(rt; sink.bytes().is_empty());
-    Ok(())
-}
-
-#[test]
-fn faults_of_source_and_sink(rt: HostRuntime) -> Result<(), Fail> {
-    let mut source = source_of(rt.alloc(), SMALLEST_INPUT, 8, &[1])?;
-    let mut sink = sink_of(rt.alloc(), 4096, 4096, &[])?;
-    let status = run_words(&rt, rt.alloc(), &["run"], &mut source, &mut sink)?;
-    assert_eq!(rt; status, Status::ReadFault);
-    assert!(rt; sink.bytes().is_empty());
-
-    let sinks = [
-        sink_of(rt.alloc(), 4096, 10, &[1])?,
-        sink_of(rt.alloc(), 10, 200, &[])?,
-    ];
-    for mut sink in sinks {
-        let mut source = source_of(rt.alloc(), SMALLEST_INPUT, 4096, &[])?;
-        let status = run_words(&rt, rt.alloc(), &["run"], &mut source, &mut sink)?;
-        assert_eq!(rt; status, Status::WriteFault);
-        assert_eq!(rt; str::from_utf8(sink.bytes()), Ok("schedule 1"));
-    }
     Ok(())
 }

@@ -1,17 +1,18 @@
 //! Runs on threads: that streams and workers go on beside each other, and inputs on several streams.
 use crate::run::run;
-use crate::tests::{is_valid, replay};
+use crate::tests::{expect_schedule, expect_valid, replay};
 use processor_seat::Gate;
 use program_status::Status;
 use shift_io::{MemSink, MemSource};
 use std::alloc::{AllocError, Global};
+use std::process::Abort;
 use std::sync::Wait;
 use std::sync::atomic::{AtomicBool, AtomicU64, Ordering};
 use std::test::Fail;
 use std::thread::Threads;
 use std::time::Clock;
 use std::{str, thread};
-use worked_histories::HISTORIES;
+use worked_histories::{HISTORIES, History};
 
 /// How often a gate looks before it lets a thread go on all the same.
 const MOST_LOOKS: u32 = 20_000_000;
@@ -105,64 +106,76 @@ fn run_with<R: Threads + Wait + Clock + Sync, G: Gate + Sync>(
     Ok((status, Vec::from_slice(alloc, sink.bytes())?))
 }
 
-#[test]
-fn streams_run_beside_each_other(rt: HostRuntime) -> Result<(), Fail> {
-    let head = "processors 2\ntask a 1 0-1\ntask b 2 0\n";
-    let input = format!(in rt.alloc(); "apa 1\n{head}0 arrive a\n0 tick 1\n1 arrive b\nend\n")?;
-    let schedule = format!(in rt.alloc();
-        "schedule 1\n{head}history 3\n0 arrive a placed 0\n1 arrive b placed 0>1\n0 tick 1 ticked\n\
-contexts 2\na units 1 stints 2 moves 1 last 1 trail 65\n\
-b units 1 stints 1 moves 0 last 0 trail 6364136223846793069\nend\n"
-    )?;
-    let gate = StreamGate {
-        zero_posted: AtomicU64::new(0),
-        one_posted: AtomicU64::new(0),
-        late: AtomicBool::new(false),
-    };
-    let (status, put) = run_with(&rt, rt.alloc(), &input, &gate)?;
-    assert_eq!(rt; status, Status::Done);
-    assert!(rt; !gate.late.load(Ordering::SeqCst));
-    assert_eq!(rt; str::from_utf8(&put), Ok(schedule.as_str()));
-    Ok(())
-}
-
-#[test]
-fn workers_run_beside_each_other(rt: HostRuntime) -> Result<(), Fail> {
-    let head = "processors 2\ntask a 1 0-1\ntask b 2 0\n";
-    let input = format!(in rt.alloc(); "apa 1\n{head}0 arrive a\n0 arrive b\nend\n")?;
-    let schedule = format!(in rt.alloc();
-        "schedule 1\n{head}history 2\n0 arrive a placed 0\n0 arrive b placed 0>1\n\
-contexts 2\na units 0 stints 2 moves 1 last 1 trail 0\n\
-b units 0 stints 1 moves 0 last 0 trail 1\nend\n"
-    )?;
-    let gate = WorkerGate {
-        zero_takes: AtomicU64::new(0),
-        one_takes: AtomicU64::new(0),
-        late: AtomicBool::new(false),
-    };
-    let (status, put) = run_with(&rt, rt.alloc(), &input, &gate)?;
-    assert_eq!(rt; status, Status::Done);
-    assert!(rt; !gate.late.load(Ordering::SeqCst));
-    assert_eq!(rt; str::from_utf8(&put), Ok(schedule.as_str()));
-    assert_eq!(rt; gate.zero_takes.load(Ordering::SeqCst), 2);
-    assert_eq!(rt; gate.one_takes.load(Ordering::SeqCst), 1);
-    Ok(())
-}
-
-#[test]
-fn sixty_four_workers_for_one_event(rt: HostRuntime) -> Result<(), Fail> {
-    let input = "apa 1\nprocessors 64\ntask a 5 0\n0 arrive a\nend\n";
-    let schedule = "schedule 1\nprocessors 64\ntask a 5 0\nhistory 1\n0 arrive a placed 0\n\
-contexts 1\na units 0 stints 1 moves 0 last 0 trail 0\nend\n";
-    let (status, put) = replay(&rt, rt.alloc(), &["run"], input)?;
+/// `run` writes this schedule for this input, with this gate.
+fn expect_with_gate<R: Threads + Wait + Clock + Sync + Abort, G: Gate + Sync>(
+    rt: &R,
+    alloc: Global,
+    input: &str,
+    schedule: &str,
+    gate: &G,
+) -> Result<(), Fail> {
+    let (status, put) = run_with(rt, alloc, input, gate)?;
     assert_eq!(rt; status, Status::Done);
     assert_eq!(rt; str::from_utf8(&put), Ok(schedule));
     Ok(())
 }
 
+static TWO_STREAMS: &str =
+    "apa 1\nprocessors 2\ntask a 1 0-1\ntask b 2 0\n0 arrive a\n0 tick 1\n1 arrive b\nend\n";
+
+static SCHEDULE_OF_TWO_STREAMS: &str = "schedule 1\nprocessors 2\ntask a 1 0-1\ntask b 2 0\n\
+history 3\n0 arrive a placed 0\n1 arrive b placed 0>1\n0 tick 1 ticked\n\
+contexts 2\na units 1 stints 2 moves 1 last 1 trail 65\n\
+b units 1 stints 1 moves 0 last 0 trail 6364136223846793069\nend\n";
+
+#[test]
+fn streams_run_beside_each_other(rt: HostRuntime) -> Result<(), Fail> {
+    let gate = StreamGate {
+        zero_posted: AtomicU64::new(0),
+        one_posted: AtomicU64::new(0),
+        late: AtomicBool::new(false),
+    };
+    expect_with_gate(&rt, rt.alloc(), TWO_STREAMS, SCHEDULE_OF_TWO_STREAMS, &gate)?;
+    assert!(rt; !gate.late.load(Ordering::SeqCst));
+    Ok(())
+}
+
+static TWO_WORKERS: &str =
+    "apa 1\nprocessors 2\ntask a 1 0-1\ntask b 2 0\n0 arrive a\n0 arrive b\nend\n";
+
+static SCHEDULE_OF_TWO_WORKERS: &str = "schedule 1\nprocessors 2\ntask a 1 0-1\ntask b 2 0\n\
+history 2\n0 arrive a placed 0\n0 arrive b placed 0>1\n\
+contexts 2\na units 0 stints 2 moves 1 last 1 trail 0\n\
+b units 0 stints 1 moves 0 last 0 trail 1\nend\n";
+
+#[test]
+fn workers_run_beside_each_other(rt: HostRuntime) -> Result<(), Fail> {
+    let gate = WorkerGate {
+        zero_takes: AtomicU64::new(0),
+        one_takes: AtomicU64::new(0),
+        late: AtomicBool::new(false),
+    };
+    expect_with_gate(&rt, rt.alloc(), TWO_WORKERS, SCHEDULE_OF_TWO_WORKERS, &gate)?;
+    assert!(rt; !gate.late.load(Ordering::SeqCst));
+    assert_eq!(rt; gate.zero_takes.load(Ordering::SeqCst), 2);
+    assert_eq!(rt; gate.one_takes.load(Ordering::SeqCst), 1);
+    Ok(())
+}
+
+static ONE_EVENT: &str = "apa 1\nprocessors 64\ntask a 5 0\n0 arrive a\nend\n";
+
+static SCHEDULE_OF_ONE_EVENT: &str =
+    "schedule 1\nprocessors 64\ntask a 5 0\nhistory 1\n0 arrive a placed 0\n\
+contexts 1\na units 0 stints 1 moves 0 last 0 trail 0\nend\n";
+
+#[test]
+fn sixty_four_workers_for_one_event(rt: HostRuntime) -> Result<(), Fail> {
+    expect_schedule(&rt, rt.alloc(), ONE_EVENT, SCHEDULE_OF_ONE_EVENT)
+}
+
 /// Whether the entries of a stream in a schedule are of the lines of this stream in an input, each once, in their order.
 /// Lines of events begin with their stream in both.
-pub(crate) fn is_in_order(input: &str, schedule: &str, stream: &str) -> bool {
+fn is_in_order(input: &str, schedule: &str, stream: &str) -> bool {
     let mut entries = schedule.lines().filter(|line| line.starts_with(stream));
     for event in input.lines() {
         if event.starts_with(stream) {
@@ -177,25 +190,62 @@ pub(crate) fn is_in_order(input: &str, schedule: &str, stream: &str) -> bool {
     entries.next().is_none()
 }
 
+/// The entries of each of so many streams in a schedule are those of an input, in their order.
+fn expect_in_order(
+    rt: &impl Abort,
+    alloc: Global,
+    input: &str,
+    schedule: &str,
+    streams: u32,
+) -> Result<(), Fail> {
+    for stream in 0..streams {
+        let own = format!(in alloc; "{stream} ")?;
+        assert!(rt;
+            is_in_order(input, schedule, &own),
+            "stream {stream} of {input:?}"
+        );
+    }
+    Ok(())
+}
+
+/// `run` writes a valid schedule with so many entries for an input, those of each stream in their order.
+pub(crate) fn expect_run_on_streams<R: Threads + Wait + Clock + Sync + Abort>(
+    rt: &R,
+    alloc: Global,
+    input: &str,
+    count: usize,
+    streams: u32,
+) -> Result<(), Fail> {
+    let (status, put) = replay(rt, alloc, &["run"], input.as_bytes())?;
+    assert_eq!(rt; status, Status::Done, "at {input:?}");
+    expect_valid(rt, alloc, &put, count)?;
+    expect_in_order(
+        rt,
+        alloc,
+        input,
+        str::from_utf8(&put).unwrap_or(""),
+        streams,
+    )
+}
+
+/// The input of a history, with its events on three streams in turn.
+fn on_three_streams(alloc: Global, history: &History) -> Result<String, Fail> {
+    let mut input = format!(in alloc; "apa 1\n{}", history.head)?;
+    let mut stream = 0u32;
+    for (event, _reply) in history.entries {
+        let rest = event.strip_prefix("0").unwrap_or("");
+        writeln!(input, "{stream}{rest}")?;
+        stream = if stream < 2 { stream + 1 } else { 0 };
+    }
+    writeln!(input, "end")?;
+    Ok(input)
+}
+
 #[test]
-fn two_clusters_on_three_streams(rt: HostRuntime) -> Result<(), Fail> {
-    let alloc = rt.alloc();
+fn worked_histories_on_three_streams(rt: HostRuntime) -> Result<(), Fail> {
     for history in &HISTORIES {
-        let mut input = format!(in alloc; "apa 1\n{}", history.head)?;
-        let mut stream = 0u32;
-        for (event, _reply) in history.entries {
-            let rest = event.strip_prefix("0").unwrap_or("");
-            writeln!(input, "{stream}{rest}")?;
-            stream = if stream < 2 { stream + 1 } else { 0 };
-        }
-        writeln!(input, "end")?;
-        let (status, put) = replay(&rt, alloc, &["run"], &input)?;
-        assert_eq!(rt; status, Status::Done);
-        let schedule = str::from_utf8(&put).unwrap_or("");
-        assert!(rt; is_valid(&rt, alloc, schedule, history.entries.len())?);
-        for own in ["0 ", "1 ", "2 "] {
-            assert!(rt; is_in_order(&input, schedule, own), "in {}", history.name);
-        }
+        let input = on_three_streams(rt.alloc(), history)?;
+        expect_run_on_streams(&rt, rt.alloc(), &input, history.entries.len(), 3)?;
     }
     Ok(())
 }
