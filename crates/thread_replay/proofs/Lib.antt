@@ -4,3 +4,5 @@ pub mod Seating
 pub mod Results
 pub mod Ending
 pub mod Merging
+pub mod Crews
+pub mod Driven

@@ -1,3 +1,5 @@
+pub mod Crew
+pub mod Driving
 pub mod Merge
 pub mod Places
 pub mod Replayed

@@ -6,10 +6,12 @@
 //! has ended exactly the stints of the processor's orders.
 #![tactic(auto)]
 
+mod driving;
 mod ends;
 mod flushing;
 mod on_threads;
 mod streams;
 mod workers;
 
+pub use driving::drive;
 pub use on_threads::{Replayed, replay};

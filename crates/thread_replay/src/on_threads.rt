@@ -1,15 +1,16 @@
 //! The replay of events on threads: a worker for each processor, and a thread for each stream that has events.
-ghost use Rattle.std.specs.Prelude.{◌≡◌, ◌≤◌, [], All, Bool, true, length, vec_capacity, IfOk, MatchResult};
+ghost use Rattle.std.specs.Prelude.{◌≡◌, ◌≤◌, [], All, Bool, true, length, map, vec_capacity, IfOk};
 ghost use Rattle.event_history.specs.Boards.{AreAll, AreEyesOf, AreFor, Grown, IsMade};
+ghost use Rattle.thread_replay.specs.Driving.{IsDone, seat_of};
 ghost use Rattle.thread_replay.specs.Places.{AllFrom};
 ghost use Rattle.thread_replay.specs.Replayed.{HaveAllStints, IsReplayOf};
-ghost use Rattle.thread_replay.specs.Seats.{AreIdle, HasStoppedAt, IsSeatedAt};
+ghost use Rattle.thread_replay.specs.Seats.{AreIdle, HasStoppedAt, IsSeated};
 ghost use Rattle.thread_replay.specs.Streams.{IsForBoard, IsStreamedAt, IsUnused, SomeSawClose};
 ghost use Rattle.thread_replay.specs.Threading.{AreThreaded, CanRun};
 
+use crate::driving::drive;
 use crate::ends::end_all;
-use crate::flushing::{drain, flush_all};
-use crate::workers::Worker;
+use crate::flushing::flush_all;
 use crate::{streams, workers};
 use affinity_mask::OutOfMemory;
 use context_slots::{Hand, Slots};
@@ -42,39 +43,35 @@ struct Threaded {
     processors: Vec<Processor>,
 }
 
-/// The pass of the last caller closes the core, and what is owed is sent and done.
-fn close_core<'s, R: Wait, G: Gate>(
+/// The pass of the last caller closes the core. What is owed is sent, and the processors that have no thread are stepped.
+fn close_core<R: Wait, G: Gate>(
     rt: &R,
     board: &Board,
     queues: &[Queue],
     slots: &Slots,
     gate: &G,
     pass: &mut Pass,
-    workers: &mut Vec<Worker<'s>>,
+    left: &mut Vec<Processor>,
 )
     requires board { pass.old.board ≡ board.now.id }
     requires queues { queues.now ≡ board.now.queues }
     requires eyes { AreEyesOf board.now.queues pass.old.eyes }
     requires tasks { AreFor slots.now.set queues.now }
-    requires each { AllFrom (λ n worker. MatchResult worker
-        (λ h. (h.promise.queues.now ≡ queues.now) × (h.promise.slots.now ≡ slots.now) × (h.promise.number ≡ n))
-        (IsSeatedAt queues.now slots.now n)) 0 workers.old.items }
+    requires seated { All (IsSeated queues.now slots.now) left.old.items }
     ensures grown { Grown pass.old pass.new }
     ensures mine { pass.new.mine ≡ pass.old.mine }
     ensures eyes { AreEyesOf board.now.queues pass.new.eyes }
     ensures closed { pass.new.saw_close ≡ true }
-    ensures each { AllFrom (λ n worker. MatchResult worker
-        (λ h. (h.promise.queues.now ≡ queues.now) × (h.promise.slots.now ≡ slots.now) × (h.promise.number ≡ n))
-        (IsSeatedAt queues.now slots.now n)) 0 workers.new.items }
-    ensures count { length workers.new.items ≡ length workers.old.items }
+    ensures same { map seat_of left.new.items ≡ map seat_of left.old.items }
+    ensures done { All (IsDone queues.now slots.now) left.new.items }
 {
     board.finish(rt, pass);
-    drain(rt, board, queues, slots, gate, pass, workers);
+    drive(rt, board, pass, queues, slots, left, gate);
     flush_all(rt, board, queues, pass);
 }
 
 /// The pass of the last caller closes the core; the passes come back in their order.
-fn close_by_last<'s, R: Wait, G: Gate>(
+fn close_by_last<R: Wait, G: Gate>(
     rt: &R,
     board: &Board,
     queues: &[Queue],
@@ -83,27 +80,23 @@ fn close_by_last<'s, R: Wait, G: Gate>(
     gate: &G,
     passes: &mut Vec<Pass>,
     whole: bool,
-    workers: &mut Vec<Worker<'s>>,
+    left: &mut Vec<Processor>,
 )
     requires queues { queues.now ≡ board.now.queues }
     requires tasks { AreFor slots.now.set queues.now }
     requires callers { (1 ≤ board.now.callers) × (length passes.old.items ≡ board.now.callers) }
     requires streamed { AllFrom (IsStreamedAt board.now events.now whole) 0 passes.old.items }
-    requires each { AllFrom (λ n worker. MatchResult worker
-        (λ h. (h.promise.queues.now ≡ queues.now) × (h.promise.slots.now ≡ slots.now) × (h.promise.number ≡ n))
-        (IsSeatedAt queues.now slots.now n)) 0 workers.old.items }
+    requires seated { All (IsSeated queues.now slots.now) left.old.items }
     ensures callers { length passes.new.items ≡ board.now.callers }
     ensures streamed { AllFrom (IsStreamedAt board.now events.now whole) 0 passes.new.items }
     ensures closed { SomeSawClose passes.new.items }
-    ensures each { AllFrom (λ n worker. MatchResult worker
-        (λ h. (h.promise.queues.now ≡ queues.now) × (h.promise.slots.now ≡ slots.now) × (h.promise.number ≡ n))
-        (IsSeatedAt queues.now slots.now n)) 0 workers.new.items }
-    ensures count { length workers.new.items ≡ length workers.old.items }
+    ensures same { map seat_of left.new.items ≡ map seat_of left.old.items }
+    ensures done { All (IsDone queues.now slots.now) left.new.items }
 {
     let Some(mut last) = passes.pop() else {
         unreachable!()
     };
-    close_core(rt, board, queues, slots, gate, &mut last, workers);
+    close_core(rt, board, queues, slots, gate, &mut last, left);
     if let Err(_full) = passes.push(last) {
         unreachable!()
     }
@@ -129,11 +122,12 @@ fn run_threads<'s, E, R: Threads + Wait + Clock + Sync, G: Gate + Sync>(
     ensures { IfOk result (AreThreaded board.entry.now events.entry.now queues.entry.now slots.entry.now) }
 {
     let started = Vec::with_capacity(alloc, queues.len())?;
+    let left = Vec::with_capacity(alloc, queues.len())?;
     let posting = Vec::with_capacity(alloc, passes.len())?;
     let posted = Vec::with_capacity(alloc, passes.len())?;
     let stopped = Vec::with_capacity(alloc, queues.len())?;
-    let mut started = workers::start_all(
-        scope, rt, queues, slots, gate, refused, processors, started,
+    let (started, mut left) = workers::start_all(
+        scope, rt, queues, slots, gate, refused, processors, started, left,
     );
     let posting = streams::start_all(scope, rt, board, queues, events, gate, passes, posting);
     let (mut passes, whole) = streams::join_all(rt, board, events, posting, posted);
@@ -146,9 +140,9 @@ fn run_threads<'s, E, R: Threads + Wait + Clock + Sync, G: Gate + Sync>(
         gate,
         &mut passes,
         whole,
-        &mut started,
+        &mut left,
     );
-    let processors = workers::join_all(rt, queues, slots, gate, started, stopped);
+    let processors = workers::join_all(rt, queues, slots, gate, started, left, stopped);
     Ok(Threaded {
         passes,
         whole,

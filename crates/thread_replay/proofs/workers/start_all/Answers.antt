@@ -1,13 +1,16 @@
-use Rattle.std.proofs.Common.{rules, arith, ◌≡◌, ℕ, ◌+◌, List, [], ◌∷◌, ◌++◌, length, length-append, sym, ap, ◌∙◌, subst, MatchResult}
+use Rattle.std.proofs.Common.{rules, arith, ◌≡◌, ℕ, ◌+◌, List, [], ◌∷◌, ◌++◌, length, length-append, sym, ap, ◌∙◌, subst}
 use Rattle.processor_seat.specs.Stepping.{ProcessorData}
+use Rattle.thread_replay.specs.Crew.{IsCrew}
 use Rattle.thread_replay.specs.Places.{AllFrom}
 use Rattle.thread_replay.specs.Seats.{IsIdleAt, IsSeatedAt}
-use Rattle.thread_replay.proofs.Places.{AllFrom-last, AllFrom-insert, AllFrom-number}
+use Rattle.thread_replay.proofs.Crews.{crew_thread_first, crew_left_first, crew_number}
+use Rattle.thread_replay.proofs.Places.{AllFrom-last}
+use Rattle.thread_replay.proofs.Results.{match_gives}
 use Rattle.thread_replay.proofs.Seating.{idle_seated}
 use Rattle.thread_replay.proofs.workers.start_all.Goals as goal
 
-pub start-worker-requires-clause-seat : goal.start-worker-requires-clause-seat
-start-worker-requires-clause-seat g c κs within =
+pub start-started-requires-clause-seat : goal.start-started-requires-clause-seat
+start-started-requires-clause-seat g c κs within =
     let queues = c.args.queues.now in
     let slots = c.args.slots.now in
     let idle = AllFrom-last (IsIdleAt queues slots) 0 c.pop.new.self.items c.in-Some.processor (subst (AllFrom (IsIdleAt queues slots) 0) c.in-Some.ensures.items c.loop-processor.invariant.idle) in
@@ -18,18 +21,23 @@ loop-processor-preserved g c =
     let queues = c.args.queues.now in
     let slots = c.args.slots.now in
     let i = c.loop-processor.invariant in
-    let left : List ProcessorData = c.pop.new.self.items in
-    let idle = AllFrom-last (IsIdleAt queues slots) 0 left c.in-Some.processor (subst (AllFrom (IsIdleAt queues slots) 0) c.in-Some.ensures.items i.idle) in
-    let number : c.in-Some.processor.hand.number ≡ length left = (idle_seated queues slots _ c.in-Some.processor idle.1).number ∙ omega arith in
-    let fewer : length c.loop-processor.processors.items ≡ length left + 1 = omega (arith, ap length c.in-Some.ensures.items, length-append left (c.in-Some.processor ∷ [])) in
+    let rest : List ProcessorData = c.pop.new.self.items in
+    let idle = AllFrom-last (IsIdleAt queues slots) 0 rest c.in-Some.processor (subst (AllFrom (IsIdleAt queues slots) 0) c.in-Some.ensures.items i.idle) in
+    let number : c.in-Some.processor.hand.number ≡ length rest = (idle_seated queues slots _ c.in-Some.processor idle.1).number ∙ omega arith in
+    let fewer : length c.loop-processor.processors.items ≡ length rest + 1 = omega (arith, ap length c.in-Some.ensures.items, length-append rest (c.in-Some.processor ∷ [])) in
+    let put = c.put_first.ensures in
+    let workers = c.put_first.new.workers.items in
+    let left = c.put_first.new.left.items in
     record {
-      count = omega (arith, i.count, fewer, ap length c.in_default-insert.ensures.items);
+      count = omega (arith, i.count, fewer, put.count.0);
+      few = omega (arith, i.few, put.count.0, put.count.1);
       idle = idle.0;
-      room = omega (arith, i.room, c.in_default-insert.ensures.capacity);
-      each = AllFrom-insert _ (length left) (length c.loop-processor.processors.items) c.start-worker.result c.loop-processor.workers.items c.insert.new.self.items c.in_default-insert.ensures.items fewer
-          (subst (λ n. MatchResult c.start-worker.result (λ h. (h.promise.queues.now ≡ queues) × (h.promise.slots.now ≡ slots) × (h.promise.number ≡ n)) (IsSeatedAt queues slots n)) number c.start-worker.ensures) i.each;
+      room = (omega (arith, i.room.0, put.room.0), omega (arith, i.room.1, put.room.1));
+      crew = match_gives _ _ _ _ (IsCrew (λ n h. (h.promise.queues.now ≡ queues) × (h.promise.slots.now ≡ slots) × (h.promise.number ≡ n)) (IsSeatedAt queues slots) (length rest) workers left) c.start-started.result c.start-started.ensures put.put
+          (λ h at is. crew_thread_first _ _ (length rest) (length c.loop-processor.processors.items) h c.loop-processor.workers.items workers c.loop-processor.left.items left is.0 is.1 fewer (at.0, at.1, at.2 ∙ number) i.crew)
+          (λ p at is. crew_left_first _ _ (length rest) (length c.loop-processor.processors.items) p c.loop-processor.workers.items workers c.loop-processor.left.items left is.0 is.1 fewer (record { seated = at.seated; number = at.number ∙ number }) i.crew);
     }
 
-pub returns-clause-each : goal.returns-clause-each
-returns-clause-each g c =
-    AllFrom-number _ (length c.loop-processor.processors.items) 0 c.loop-processor.workers.items (omega (arith, c.loop-processor.processors.ok.0, c.in_default.ensures.cases)) c.loop-processor.invariant.each
+pub returns-clause-crew : goal.returns-clause-crew
+returns-clause-crew g c =
+    crew_number _ _ (length c.loop-processor.processors.items) 0 c.loop-processor.workers.items c.loop-processor.left.items (omega (arith, c.loop-processor.processors.ok.0, c.in_default.ensures.cases)) c.loop-processor.invariant.crew
