@@ -1,10 +1,11 @@
 //! Schedules that are checked: right ones that no scheduler of this repository wrote, and wrong ones.
 use crate::check::checked_text;
-use program_status::{Status, exit_status};
+use program_status::{Status, exit_status, report};
 use std::alloc::{AllocError, Global};
-use std::fmt::Write;
-use std::str;
+use std::cell::RefCell;
+use std::fmt::{Display, Write};
 use std::test::Fail;
+use std::{io, str};
 use worked_histories::{HISTORIES, texts_of};
 
 const SMALLEST_SCHEDULE: &str =
@@ -241,5 +242,49 @@ fn one_task_too_many(rt: HostRuntime) -> Result<(), Fail> {
 fn exit_status_of_a_wrong_schedule(rt: HostRuntime) -> Result<(), Fail> {
     let status = Status::Invalid { line: 5, defect: 1 };
     assert_eq!(rt; exit_status(&status), 1);
+    Ok(())
+}
+
+/// A standard error that keeps what is written to it.
+#[derive(Drop)]
+struct Written {
+    text: RefCell<String>,
+}
+
+impl Eprint for Written {
+    fn eprint<D: Display + Drop>(&self, value: D) -> io::Result<()> {
+        if let Ok(mut text) = self.text.try_borrow_mut() {
+            let _ = write!(text, "{value}");
+        }
+        Ok(())
+    }
+
+    fn eprintln<D: Display + Drop>(&self, value: D) -> io::Result<()> {
+        if let Ok(mut text) = self.text.try_borrow_mut() {
+            let _ = writeln!(text, "{value}");
+        }
+        Ok(())
+    }
+}
+
+#[test]
+fn a_line_for_each_answer_but_done(rt: HostRuntime) -> Result<(), Fail> {
+    let error = Written {
+        text: RefCell::new(String::new(rt.alloc())),
+    };
+    let answers = [
+        Status::Usage,
+        Status::Done,
+        Status::Invalid {
+            line: 12,
+            defect: 5,
+        },
+    ];
+    for status in answers {
+        let _ = report(&error, status);
+    }
+    let text = error.text.into_inner();
+    let lines = "usage: run, check, make n p t e, large n p t e\ninvalid: line 12, defect 5\n";
+    assert_eq!(rt; text.as_str(), lines);
     Ok(())
 }
