@@ -6,19 +6,49 @@ use crate::{
 };
 use std::io;
 use std::io::{ErrorKind, Read, Write};
+use std::process::Abort;
 use std::test::Fail;
+
+/// What a whole read finds, of three bytes and this limit.
+fn read_three(rt: &(impl Abort + AllocGlobal), limit: usize) -> Result<Option<ReadAllFault>, Fail> {
+    let alloc = rt.alloc();
+    let mut source = SoundSource::new(b"abc".to_vec(alloc)?);
+    match read_all(alloc, &mut source, limit) {
+        Ok(bytes) => {
+            assert!(rt; bytes.as_slice() == b"abc".as_slice());
+            Ok(None)
+        }
+        Err(fault) => Ok(Some(fault)),
+    }
+}
 
 #[test]
 fn read_all_limit(rt: HostRuntime) -> Result<(), Fail> {
+    let found = read_three(&rt, 3)?;
+    assert!(rt; found.is_none());
+    let found = read_three(&rt, 2)?;
+    assert!(rt; found == Some(ReadAllFault::TooLong));
+    Ok(())
+}
+
+/// What a reader gives in seven calls.
+static FORTY_FIVE_BYTES: &[u8] = b"the quick brown fox jumps over the lazy dogs.";
+
+/// The number of the call that fails, and whether a whole read goes well.
+static FAILED_READS: [(u64, bool); 4] = [(0, false), (5, false), (6, false), (7, true)];
+
+/// Reads the bytes whole, at 8 a call, where this call fails.
+fn assert_read(rt: &(impl Abort + AllocGlobal), fails: u64, is_well: bool) -> Result<(), Fail> {
     let alloc = rt.alloc();
-    let mut source = SoundSource::new(b"abc".to_vec(alloc)?);
-    let bytes = read_all(alloc, &mut source, 3)?;
-    assert_eq!(rt; bytes.as_slice(), b"abc".as_slice());
-    let mut source = SoundSource::new(b"abc".to_vec(alloc)?);
-    assert_eq!(rt;
-        read_all(alloc, &mut source, 2).err(),
-        Some(ReadAllFault::TooLong)
-    );
+    let text = FORTY_FIVE_BYTES.to_vec(alloc)?;
+    let mut source = MemSource::new(text, 8, [fails].to_vec(alloc)?);
+    match read_all(alloc, &mut source, 1000) {
+        Ok(bytes) => assert!(rt;
+            is_well && bytes.as_slice() == FORTY_FIVE_BYTES,
+            "at {fails}"
+        ),
+        Err(fault) => assert!(rt; !is_well && fault == ReadAllFault::ReadFault, "at {fails}"),
+    }
     Ok(())
 }
 
@@ -26,40 +56,48 @@ fn read_all_limit(rt: HostRuntime) -> Result<(), Fail> {
 /// never made.
 #[test]
 fn reads_fail_at_their_calls(rt: HostRuntime) -> Result<(), Fail> {
-    let alloc = rt.alloc();
-    let text = b"the quick brown fox jumps over the lazy dogs.";
-    for (fails, want) in [(0, false), (5, false), (6, false), (7, true)] {
-        let mut source = MemSource::new(text.to_vec(alloc)?, 8, [fails].to_vec(alloc)?);
-        match read_all(alloc, &mut source, 1000) {
-            Ok(bytes) => assert!(rt; want && bytes.as_slice() == text.as_slice(), "at {fails}"),
-            Err(fault) => assert!(rt; !want && fault == ReadAllFault::ReadFault, "at {fails}"),
-        }
+    for &(fails, is_well) in &FAILED_READS {
+        assert_read(&rt, fails, is_well)?;
     }
     Ok(())
 }
 
-/// 20 bytes: how many arrive in what room, at what pace, with a fault at which call.
+/// The room, the pace, the number of the call that fails, and how many of 20 bytes arrive.
+static FAILED_PUTS: [(usize, usize, u64, usize); 7] = [
+    (10, 200, 9, 10),
+    (20, 10, 1, 10),
+    (20, 10, 2, 20),
+    (20, 200, 0, 0),
+    (20, 200, 1, 20),
+    (30, 8, 2, 16),
+    (30, 8, 3, 20),
+];
+
+/// Puts 20 bytes whole into this room, at this pace, where this call fails.
+fn assert_put(
+    rt: &(impl Abort + AllocGlobal),
+    room: usize,
+    most: usize,
+    fails: u64,
+    arrived: usize,
+) -> Result<(), Fail> {
+    let alloc = rt.alloc();
+    let text = b"twenty bytes of text".as_slice();
+    let mut sink = MemSink::new(vec![in alloc; 0; room]?, most, [fails].to_vec(alloc)?);
+    let is_well = put_all(&mut sink, text).is_ok();
+    assert!(rt; is_well == (arrived == 20), "at {room}, {most}, {fails}");
+    assert!(rt; arrived <= 20);
+    assert!(rt;
+        sink.bytes() == &text[..arrived],
+        "at {room}, {most}, {fails}"
+    );
+    Ok(())
+}
+
 #[test]
 fn puts_fail_at_their_calls(rt: HostRuntime) -> Result<(), Fail> {
-    let alloc = rt.alloc();
-    let text = b"twenty bytes of text";
-    for (room, most, fails, arrived) in [
-        (10, 200, 9, 10),
-        (20, 10, 1, 10),
-        (20, 10, 2, 20),
-        (20, 200, 0, 0),
-        (20, 200, 1, 20),
-        (30, 8, 2, 16),
-        (30, 8, 3, 20),
-    ] {
-        let mut sink = MemSink::new(vec![in alloc; 0; room]?, most, [fails].to_vec(alloc)?);
-        let result = put_all(&mut sink, text);
-        assert_eq!(rt; result.is_ok(), arrived == 20, "at {room}, {most}, {fails}");
-        assert_eq!(rt;
-            sink.bytes(),
-            &text[..arrived],
-            "at {room}, {most}, {fails}"
-        );
+    for &(room, most, fails, arrived) in &FAILED_PUTS {
+        assert_put(&rt, room, most, fails, arrived)?;
     }
     Ok(())
 }
@@ -123,26 +161,40 @@ impl Read for OneFaultReader<'_> {
     }
 }
 
+/// The number of the read that fails, and how many bytes are left then.
+static READS_THAT_FAIL: [(u32, usize); 4] = [(1, 5), (2, 3), (3, 1), (4, 0)];
+
+/// A whole read of this reader fails, and has called it this often.
+fn assert_read_fault(rt: &(impl Abort + AllocGlobal), reader: &mut OneFaultReader, reads: u32) {
+    let fault = read_all(rt.alloc(), &mut StdSource::new(&mut *reader), 5).err();
+    assert!(rt; fault == Some(ReadAllFault::ReadFault), "at {reads}");
+    assert!(rt; reader.reads == reads, "at {reads}");
+}
+
+/// A whole read of this reader gives the last bytes of the text, so many.
+fn assert_rest(
+    rt: &(impl Abort + AllocGlobal),
+    reader: &mut OneFaultReader,
+    left: usize,
+) -> Result<(), Fail> {
+    let bytes = read_all(rt.alloc(), &mut StdSource::new(&mut *reader), 5)?;
+    assert!(rt; left <= 5);
+    assert!(rt; bytes.as_slice() == &TEXT[5 - left..], "with {left} left");
+    Ok(())
+}
+
 /// Three reads give the text, and the fourth finds its end. The failed one is the last of a whole
 /// read, also where it was interrupted; the next whole read gives what is left then.
 #[test]
 fn a_failed_read_is_not_tried_again(rt: HostRuntime) -> Result<(), Fail> {
-    let alloc = rt.alloc();
-    for (fails_at, left) in [(1, 5), (2, 3), (3, 1), (4, 0)] {
+    for &(fails_at, left) in &READS_THAT_FAIL {
         let mut reader = OneFaultReader {
             left: TEXT,
             fails_at,
             reads: 0,
         };
-        let result = read_all(alloc, &mut StdSource::new(&mut reader), 5);
-        assert_eq!(rt;
-            result.err(),
-            Some(ReadAllFault::ReadFault),
-            "at {fails_at}"
-        );
-        assert_eq!(rt; reader.reads, fails_at, "at {fails_at}");
-        let bytes = read_all(alloc, &mut StdSource::new(&mut reader), 5)?;
-        assert_eq!(rt; bytes.as_slice(), &TEXT[5 - left..], "at {fails_at}");
+        assert_read_fault(&rt, &mut reader, fails_at);
+        assert_rest(&rt, &mut reader, left)?;
     }
     Ok(())
 }
@@ -189,34 +241,49 @@ impl Write for CountedWriter {
     }
 }
 
+/// The numbers of the write and of the flush that fail (0 and 4 are never made), and how many writes, flushes and bytes
+/// there are after the whole put.
+static WRITES_THAT_FAIL: [(u32, u32, u32, u32, usize); 7] = [
+    (0, 0, 3, 3, 5),
+    (1, 0, 1, 0, 0),
+    (2, 0, 2, 1, 2),
+    (3, 0, 3, 2, 4),
+    (0, 1, 1, 1, 2),
+    (0, 3, 3, 3, 5),
+    (4, 4, 3, 3, 5),
+];
+
+/// A whole put into this writer goes well or not, and leaves these counts.
+fn assert_counts(
+    rt: &impl Abort,
+    writer: &mut CountedWriter,
+    is_well: bool,
+    calls: (u32, u32),
+    taken: usize,
+) {
+    let found = put_all(&mut StdSink::new(&mut *writer), TEXT).is_ok();
+    assert!(rt; found == is_well);
+    assert!(rt; (writer.writes, writer.flushes) == calls);
+    assert!(rt; writer.taken == taken);
+}
+
+/// A whole put into this writer goes well, and leaves so many bytes.
+fn assert_put_again(rt: &impl Abort, writer: &mut CountedWriter, taken: usize) {
+    let is_well = put_all(&mut StdSink::new(&mut *writer), TEXT).is_ok();
+    assert!(rt; is_well);
+    assert!(rt; writer.taken == taken);
+}
+
 /// Three writes take the text, with a flush after each. A failed one is the last call of a whole put,
 /// and the next whole put goes well.
 #[test]
 fn a_failed_write_or_flush_is_not_tried_again(rt: HostRuntime) {
-    for (fails_write, fails_flush, writes, flushes, taken) in [
-        (0, 0, 3, 3, 5),
-        (1, 0, 1, 0, 0),
-        (2, 0, 2, 1, 2),
-        (3, 0, 3, 2, 4),
-        (0, 1, 1, 1, 2),
-        (0, 3, 3, 3, 5),
-        (4, 4, 3, 3, 5),
-    ] {
+    for &(fails_write, fails_flush, writes, flushes, taken) in &WRITES_THAT_FAIL {
         let mut writer = CountedWriter::new(fails_write, fails_flush);
-        let result = put_all(&mut StdSink::new(&mut writer), TEXT);
-        let fails = (1..4).contains(&fails_write) || (1..4).contains(&fails_flush);
-        assert_eq!(rt; result.is_err(), fails, "at {fails_write}, {fails_flush}");
-        assert_eq!(rt; writer.writes, writes, "at {fails_write}, {fails_flush}");
-        assert_eq!(rt; writer.flushes, flushes, "at {fails_write}, {fails_flush}");
-        assert_eq!(rt; writer.taken, taken, "at {fails_write}, {fails_flush}");
-        if fails {
-            let result = put_all(&mut StdSink::new(&mut writer), TEXT);
-            assert!(rt; result.is_ok(), "after {fails_write}, {fails_flush}");
-            assert_eq!(rt;
-                writer.taken,
-                taken + 5,
-                "after {fails_write}, {fails_flush}"
-            );
+        let is_well = !(1..4).contains(&fails_write) && !(1..4).contains(&fails_flush);
+        assert_counts(&rt, &mut writer, is_well, (writes, flushes), taken);
+        if !is_well {
+            assert_put_again(&rt, &mut writer, taken.saturating_add(5));
         }
     }
 }
