@@ -142,6 +142,8 @@ fn list_texts(rt: HostRuntime) -> Result<(), Fail> {
                 written.clear();
                 set.write_list(&mut written)?;
                 assert_eq!(rt; written.as_slice(), want.as_bytes(), "row {row}");
+                let is_list = set.is_list(text.as_bytes());
+                assert_eq!(rt; is_list, text.as_bytes() == want.as_bytes(), "row {row}");
                 assert_eq!(rt;
                     ProcSet::read_list(written.as_slice()),
                     Ok(set),
