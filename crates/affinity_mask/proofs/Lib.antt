@@ -10,3 +10,5 @@ pub mod Items
 pub mod ListTexts
 pub mod TextCases
 mod Written
+mod NextRuns
+mod ListBytes

@@ -45,7 +45,7 @@ pub record IsOpen (X n : ℕ) (done : List (ℕ × ℕ)) (start : ℕ) : Type 0 
   pub member : has X n ≡ true
   pub goes_on : begins_run X n ≡ false
 
-begins-suc : (X n : ℕ) → begins_run X (suc n) ≡ (has X (suc n) && not (has X n))
+pub begins-suc : (X n : ℕ) → begins_run X (suc n) ≡ (has X (suc n) && not (has X n))
 begins-suc X n =
     let e : suc n - 1 ≡ n = omega arith in
     let ne : suc n ≢ 0 = omega arith in

@@ -68,15 +68,15 @@ data IsWritten (X n : ℕ) : Type 0 where
   opened : (done : List (ℕ × ℕ)) (start : ℕ) → IsOpen X n done start → list_below X n ≡ join_with_byte comma (texts_of done ++ canonical_number start ∷ []) → IsWritten X n
 
 -- what the next processor adds, in each case
-adds_nothing : (X n : ℕ) → begins_run X n ≡ false → ends_run X n ≡ false → list_below X (suc n) ≡ list_below X n
+pub adds_nothing : (X n : ℕ) → begins_run X n ≡ false → ends_run X n ≡ false → list_below X (suc n) ≡ list_below X n
 unfolding list_below end_text
 adds_nothing X n out over = rw (out, over) (append-nil (list_below X n))
 
-adds_first : (X n : ℕ) → begins_run X n ≡ true → list_below X (suc n) ≡ list_below X n ++ ((if nat_eq (length (list_below X n)) 0 then [] else comma ∷ []) ++ canonical_number n)
+pub adds_first : (X n : ℕ) → begins_run X n ≡ true → list_below X (suc n) ≡ list_below X n ++ ((if nat_eq (length (list_below X n)) 0 then [] else comma ∷ []) ++ canonical_number n)
 unfolding list_below end_text
 adds_first X n begins = rw begins refl
 
-adds_last : (X n : ℕ) → begins_run X n ≡ false → ends_run X n ≡ true → list_below X (suc n) ≡ list_below X n ++ (dash ∷ canonical_number n)
+pub adds_last : (X n : ℕ) → begins_run X n ≡ false → ends_run X n ≡ true → list_below X (suc n) ≡ list_below X n ++ (dash ∷ canonical_number n)
 unfolding list_below end_text
 adds_last X n out ends = rw (out, ends) refl
 
@@ -90,7 +90,7 @@ first_written X n done below c inside text =
 run_alone : (n : ℕ) → run_text (n, n) ≡ canonical_number n
 run_alone n = rw (eq-eqb n n refl) refl
 
-run_longer : (start n : ℕ) → start < n → run_text (start, n) ≡ canonical_number start ++ dash ∷ canonical_number n
+pub run_longer : (start n : ℕ) → start < n → run_text (start, n) ≡ canonical_number start ++ dash ∷ canonical_number n
 run_longer start n lt = let ne : start ≢ n = omega arith in rw (ne_eqb start n ne) refl
 
 texts-push : (done : List (ℕ × ℕ)) (run : ℕ × ℕ) → texts_of (done ++ run ∷ []) ≡ texts_of done ++ run_text run ∷ []
@@ -141,10 +141,6 @@ list_below-all X within =
       | opened done start o text ↦ absurd (true≢false (sym (within 64 o.member) ∙ has-all_below 64 64))
     ]
 
-pub list_below-suc : (X n : ℕ) → list_below X (n + 1) ≡ list_below X n ++ end_text X (nat_eq (length (list_below X n)) 0) n
-unfolding list_below
-list_below-suc X n = rw (add-one n) refl
-
 -- what is no member adds nothing
 pub list_below-same : (X n m : ℕ) → n ≤ m → ((q : ℕ) → n ≤ q → q < m → has X q ≡ false) → list_below X m ≡ list_below X n
 list_below-same X n zero le out = ap (list_below X) (omega (arith, le))
@@ -155,77 +151,4 @@ list_below-same X n (suc m) le out =
           let none : has X m ≡ false = out m (omega arith) (omega arith) in
           adds_nothing X m (rw none refl) (rw none refl)
           ∙ list_below-same X n m (omega arith) (λ q low high. out q low (omega arith))
-    ]
-
--- what a front of the bytes was stays so
-pub front_kept : (old more mid new : List ℕ) → mid ≡ old ++ more → take (length mid) new ≡ mid → take (length old) new ≡ old
-front_kept old more mid new grown front =
-    sym (take-take (length old) (length mid) new (omega (arith, ap length grown, length-append old more)))
-    ∙ ap (take (length old)) (front ∙ grown)
-    ∙ take-append_seam old more
-
--- ---- what the code appends
-
-pub first_appended : (X p : ℕ) (is_first : Bool) (old mid : List ℕ) → begins_run X p ≡ true → mid ≡ old ++ (if is_first then [] else comma ∷ []) → mid ++ canonical_number p ≡ old ++ end_text X is_first p
-unfolding end_text
-first_appended X p is_first old mid begins e =
-    rw begins (ap (λ (ys : List ℕ). ys ++ canonical_number p) e ∙ append_assoc old (if is_first then [] else comma ∷ []) (canonical_number p))
-
-pub last_appended : (X p : ℕ) (is_first : Bool) (old mid : List ℕ) → begins_run X p ≡ false → ends_run X p ≡ true → mid ≡ old ++ dash ∷ [] → mid ++ canonical_number p ≡ old ++ end_text X is_first p
-unfolding end_text
-last_appended X p is_first old mid out ends e =
-    rw (out, ends) (ap (λ (ys : List ℕ). ys ++ canonical_number p) e ∙ append_assoc old (dash ∷ []) (canonical_number p))
-
-pub nothing_appended : (X p : ℕ) (is_first : Bool) (old : List ℕ) → begins_run X p ≡ false → ends_run X p ≡ false → old ≡ old ++ end_text X is_first p
-unfolding end_text
-nothing_appended X p is_first old out over = rw (out, over) (sym (append-nil old))
-
-longer_by : (a b : ℕ) → nat_eq (a + b) a ≡ nat_eq b 0
-longer_by a b = grind arith
-
-pub below_more : (X p : ℕ) (is_first : Bool) (old mid new : List ℕ) → mid ≡ old ++ list_below X p → is_first ≡ nat_eq (length mid) (length old) → new ≡ mid ++ end_text X is_first p → new ≡ old ++ list_below X (p + 1)
-below_more X p is_first old mid new grown first more =
-    let long : length mid ≡ length old + length (list_below X p) = ap length grown ∙ length-append old (list_below X p) in
-    let same : is_first ≡ nat_eq (length (list_below X p)) 0 = first ∙ ap (λ (n : ℕ). nat_eq n (length old)) long ∙ longer_by (length old) (length (list_below X p)) in
-    more
-    ∙ ap₂ (λ (ys : List ℕ) (b : Bool). ys ++ end_text X b p) grown same
-    ∙ append_assoc old (list_below X p) (end_text X (nat_eq (length (list_below X p)) 0) p)
-    ∙ ap (λ (ys : List ℕ). old ++ ys) (sym (list_below-suc X p))
-
--- what is left from n on
-pub rest_from : (X Y F n : ℕ) → ((q : ℕ) → has Y q ≡ (has X q && not (has F q))) → ((q : ℕ) → has F q ≡ nat_lt q n) → (q : ℕ) → has Y q ≡ (has X q && not (nat_lt q n))
-rest_from X Y F n rest first q = rest q ∙ ap (λ (b : Bool). has X q && not b) (first q)
-
-never : (b : Bool) → (b && false) ≡ false
-never true = refl
-never false = refl
-
--- the text up to the least member from n on
-pub up_to_least : (X Y n p : ℕ) → ((q : ℕ) → has Y q ≡ (has X q && not (nat_lt q n))) → IsLeastMember Y p → (n ≤ p) × (list_below X p ≡ list_below X n)
-up_to_least X Y n p rest least = (from, list_below-same X n p from (λ q low high. outside q low high))
-  where
-    from : n ≤ p
-    from = elim (cases_lt p n) [
-      | inr high ↦ high
-      | inl low ↦ absurd (true≢false (sym least.0 ∙ rest p ∙ rw (lt-ltb p n low) (never (has X p))))
-    ]
-
-    outside : (q : ℕ) → n ≤ q → q < p → has X q ≡ false
-    outside q low high = elim (cases_Bool (has X q)) [
-      | inr out ↦ out
-      | inl member ↦
-          let first : p ≤ q = least.1 q (rest q ∙ rw (member, le-ltb q n low) refl) in
-          absurd (omega arith)
-    ]
-
--- the whole text, where no member is left
-pub up_to_end : (X Y n : ℕ) → n ≤ 64 → ((q : ℕ) → has Y q ≡ (has X q && not (nat_lt q n))) → Y ≡ empty → Within X (all_below 64) → list_below X n ≡ canonical_list X
-up_to_end X Y n le rest none within =
-    sym (list_below-same X n 64 le outside) ∙ list_below-all X within
-  where
-    outside : (q : ℕ) → n ≤ q → q < 64 → has X q ≡ false
-    outside q low high = elim (cases_Bool (has X q)) [
-      | inr out ↦ out
-      | inl member ↦ absurd (true≢false
-          (sym (rest q ∙ rw (member, le-ltb q n low) refl) ∙ ap (λ (Z : ℕ). has Z q) none ∙ has-zero q))
     ]

@@ -1,11 +1,12 @@
 -- Single steps of reading and of writing a processor list. Private: the
 -- contracts of this crate's own functions.
-use Rattle.std.specs.Prelude.{◌≡◌, ◌≢◌, ℕ, zero, suc, ◌+◌, ◌<◌, ◌⊎◌, Bool, nat_le, ◌==◌, ◌&&◌, List, [], ◌∷◌, ◌++◌, length, map, slice_index, All, Contains, if◌then◌else◌}
+use Rattle.std.specs.Prelude.{◌≡◌, ◌≢◌, ℕ, zero, suc, ◌+◌, ◌<◌, ◌≤◌, ◌⊎◌, Bool, true, false, nat_le, ◌==◌, ◌&&◌, List, [], ◌∷◌, ◌++◌, length, map, slice_index, All, Contains, Option, MatchOption, if◌then◌else◌}
 use Rattle.std.specs.List.{list_any}
+use Rattle.std.specs.Borrow.{Bor}
 use Rattle.std.specs.Str.Parse.{AllDigits}
 use Rattle.affinity_mask.specs.ProcSet.{has}
 use Rattle.affinity_mask.specs.Number.{number_value, canonical_number}
-use Rattle.affinity_mask.specs.ListText.{comma, dash, Item, IsWellFormed, begins_run, ends_run}
+use Rattle.affinity_mask.specs.ListText.{comma, dash, Item, IsWellFormed, begins_run, ends_run, run_text, canonical_list}
 use Rattle.affinity_mask.specs.ListFault.{pieces, place_behind}
 
 -- digits of the same value, of which the first is not zero
@@ -49,3 +50,38 @@ pub record IsReadSoFar (text : List ℕ) (X : ℕ) (rest : List ℕ) (done : Lis
   pub place : place_behind (map (λ (item : Item). item.text) done) + length rest ≡ length text
   pub well_formed : All IsWellFormed done
   pub union : (p : ℕ) → has X p ≡ list_any (item_covers p) done
+
+-- from p to q all numbers are members, and the next one is none
+pub record RunsTo (X p q : ℕ) : Type 0 where
+  pub ascends : p ≤ q
+  pub small : q < 64
+  pub members : (i : ℕ) → p ≤ i → i ≤ q → has X i ≡ true
+  pub over : has X (q + 1) ≡ false
+
+-- no run goes on at n
+pub record IsBetween (X n : ℕ) : Type 0 where
+  pub few : n ≤ 64
+  pub apart : (n ≡ 0) ⊎ (has X n ≡ false)
+
+-- a run, after a comma unless it is the first
+unfoldable pub item_text : Bool → ℕ → ℕ → List ℕ
+item_text is_first low high = (if is_first then [] else comma ∷ []) ++ run_text (low, high)
+
+-- the first run from n on, and what it adds to the list of what is below n
+pub record IsNextRun (X n low high : ℕ) : Type 0 where
+  pub from : n ≤ low
+  pub ascends : low ≤ high
+  pub small : high < 64
+  pub after : IsBetween X (high + 1)
+  pub adds : list_below X (high + 1)
+      ≡ list_below X n ++ item_text (length (list_below X n) == 0) low high
+
+-- no member comes from n on
+abbrev pub IsWhole : ℕ → ℕ → Type 0
+IsWhole X n = list_below X n ≡ canonical_list X
+
+-- what stands after these bytes at the head of a text, or that it does not begin with them
+abbrev pub AfterFront : List ℕ → List ℕ → Option (Bor (List ℕ)) → Type 0
+AfterFront text front result =
+    MatchOption result ((after : List ℕ) → text ≡ front ++ after → ⊥)
+    (λ after. text ≡ front ++ after.now)

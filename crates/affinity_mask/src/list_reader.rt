@@ -57,12 +57,21 @@ fn read_item(piece: &[u8], place: usize) -> Result<ProcSet, MaskFault>
     let Some((low, high)) = ends_of(piece) else {
         return Err(MaskFault::BadItem { place });
     };
-    if is_above(low, high) {
-        return Err(MaskFault::Backward { place });
-    }
     match (processor_of(low), processor_of(high)) {
-        (Some(low), Some(high)) => Ok(range(low, high)),
-        _ => Err(MaskFault::Large { place }),
+        (Some(first), Some(last)) => {
+            if first <= last {
+                Ok(range(first, last))
+            } else {
+                Err(MaskFault::Backward { place })
+            }
+        }
+        _ => {
+            if is_above(low, high) {
+                Err(MaskFault::Backward { place })
+            } else {
+                Err(MaskFault::Large { place })
+            }
+        }
     }
 }
 

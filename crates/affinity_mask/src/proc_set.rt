@@ -2,7 +2,7 @@
 
 ghost use Rattle.std.specs.Prelude.{◌≡◌, ℕ, ◌<◌, ◌≤◌, ◌==◌, ◌||◌, ◌&&◌, not, nat_lt, IsTrue, ◌↔◌, IsNone, IfSome, length};
 ghost use Rattle.affinity_mask.specs.ProcSet.{has, empty, all_below, intersection, Within, Meets, IsLeastMember, members};
-ghost use Rattle.affinity_mask.specs.ListText.{begins_run, ends_run};
+ghost use Rattle.affinity_mask.specs.ListSteps.{RunsTo};
 
 use std::marker::Model;
 
@@ -156,19 +156,20 @@ impl ProcSet {
         }
     }
 
-    /// Whether a longest run of consecutive members begins at a processor.
-    pub(crate) fn begins_run(&self, p: u8) -> bool
-        requires { p < 64 }
-        ensures { result ≡ begins_run self.now p }
+    /// The processor at which the run of a member ends.
+    pub(crate) fn run_end(&self, p: u8) -> u8
+        requires member { IsTrue (has self.now p) }
+        requires small { p < 64 }
+        ensures { RunsTo self.now p result }
     {
-        self.has(p) && (p == 0 || !self.has(p - 1))
-    }
-
-    /// Whether a longest run of consecutive members ends at a processor.
-    pub(crate) fn ends_run(&self, p: u8) -> bool
-        requires { p < 64 }
-        ensures { result ≡ ends_run self.now p }
-    {
-        self.has(p) && (self.bits >> p >> 1) & 1 == 0
+        let _valid = self.count();
+        match ProcSet::first(64)
+            .minus(self)
+            .minus(&ProcSet::first(p))
+            .least()
+        {
+            Some(next) => next - 1,
+            None => 63,
+        }
     }
 }

@@ -140,7 +140,14 @@ fn assert_written(rt: &(impl Abort + AllocGlobal), text: &str, expected: &str) -
     assert!(rt; written.as_slice() == expected.as_bytes(), "of {text}");
     let again = ProcSet::read_list(written.as_slice())?;
     assert!(rt; again == set, "again of {text}");
+    assert_canonical(rt, &set, text, expected);
     Ok(())
+}
+
+/// Asserts that this text is the canonical list of the set, or that it is another text.
+fn assert_canonical(rt: &impl Abort, set: &ProcSet, text: &str, canonical: &str) {
+    let is_list = set.is_list(text.as_bytes());
+    assert!(rt; is_list == (text == canonical), "canonical is {canonical}, of {text}");
 }
 
 #[test]

@@ -6,3 +6,4 @@ pub mod FieldLists
 pub mod Decisions
 pub mod Addable
 mod Written
+mod LineEnds

@@ -26,11 +26,16 @@ name_without name end never named here =
     true≢false (sym (All-contains (λ b. IsTrue (continues_name b)) name end (name_bytes name named) here)
     ∙ never)
 
-pub name_is_text : (name : List ℕ) → IsName name → IsUtf8 name
-name_is_text name named =
-    IsUtf8-from_ascii name (IsAscii-from_all name
-    (All-weaker (λ b. IsTrue (continues_name b)) (λ b. b < 128) continues_small name (name_bytes name named)))
+-- names are ASCII
+name_is_ascii : (name : List ℕ) → IsName name → All (λ b. b < 128) name
+name_is_ascii name named =
+    All-weaker (λ b. IsTrue (continues_name b)) (λ b. b < 128) continues_small name (name_bytes name named)
 
--- what is no text is the name of no task
-pub no_text_is_new : (set : SetData) (bytes : List ℕ) → IsTaskSet set → (IsUtf8 bytes → ⊥) → IsNewName set bytes
-no_text_is_new set bytes valid none = λ k d within same. none (rw (← same) (name_is_text _ (valid.names k d within)))
+pub name_is_text : (name : List ℕ) → IsName name → IsUtf8 name
+name_is_text name named = IsUtf8-from_ascii name (IsAscii-from_all name (name_is_ascii name named))
+
+-- bytes that are not all ASCII are the name of no task
+pub other_byte_is_new : (set : SetData) (bytes : List ℕ) → IsTaskSet set → (All (λ b. b < 128) bytes → ⊥)
+    → IsNewName set bytes
+other_byte_is_new set bytes valid none = λ k d within same.
+    none (rw (← same) (name_is_ascii _ (valid.names k d within)))

@@ -1,4 +1,5 @@
 pub mod EventText
 pub mod Fields
+pub mod LineEnd
 pub mod LineText
 pub mod Number

@@ -33,21 +33,28 @@ fn value_up_to(digits: &[u8], most: u64) -> Option<u64>
     ensures { MatchOption result (most < number_value digits.now)
         (λ n. (n ≡ number_value digits.now) × (n ≤ most)) }
 {
-    // One digit more than a `u64` has always fits.
-    let mut value: u128 = 0;
+    let mut value: u64 = 0;
     for digit in digits {
-        value = value * 10 + (*digit - b'0') as u128;
-        if value > most as u128 {
+        if value > most / 10 {
             return None;
         }
+        let digit = (*digit - b'0') as u64;
+        if digit > most - value * 10 {
+            return None;
+        }
+        value = value * 10 + digit;
     }
-    Some(value as u64)
+    Some(value)
 }
 
 /// Appends a number in its canonical form, without leading zeros. Refused only when out of memory.
 pub fn write_number(text: &mut Vec<u8>, number: u64) -> Result<(), OutOfMemory>
     ensures { OnOk result (text.new.items ≡ text.old.items ++ canonical_number number) }
 {
+    if number < 10 {
+        text.push(b'0' + number as u8)?;
+        return Ok(());
+    }
     let mut buffer = Buffer::new();
     text.extend_from_slice(buffer.format(number).as_bytes())?;
     Ok(())

@@ -1,0 +1,9 @@
+use Rattle.std.proofs.Common.{◌≡◌, ◌-◌, ◌++◌}
+use Rattle.affinity_mask.specs.ListSteps.{list_below, IsBetween}
+use Rattle.affinity_mask.proofs.proc_set.ProcSet.is_list.Given as goal
+
+abbrev pub invariant-loop-low : goal.invariant-loop-low
+invariant-loop-low l = IsBetween l.self l.from × (l.text ≡ list_below l.self l.from ++ l.rest)
+
+abbrev pub decreases-loop-low : goal.decreases-loop-low
+decreases-loop-low l = 64 - l.from
