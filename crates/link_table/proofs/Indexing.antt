@@ -1,12 +1,12 @@
 -- The index of the places of tasks agrees with the layout from the start on, and when another occupant comes.
-use Rattle.std.proofs.Common.{◌≡◌, ◌≢◌, ℕ, ◌<◌, ◌≤◌, List, length, get_or, set, replicate, Option, Some, None, refl, sym, ap, ◌∙◌, inl, inr, ◌⊎◌, arith, length-set, get_or-set_same, get_or-set_other, eq-eqb, ne_eqb, if◌then◌else◌, ◌==◌}
+use Rattle.std.proofs.Common.{◌≡◌, ◌≢◌, ℕ, ◌<◌, ◌≤◌, List, length, get_or, set, replicate, Option, Some, None, refl, sym, ap, ◌∙◌, inl, inr, ◌⊎◌, IsTrue, arith, length-set, get_or-set_same, get_or-set_other, eq-eqb, ne_eqb, if◌then◌else◌, ◌==◌}
 use Rattle.std.specs.Prelude.{is_some}
 use Rattle.std.specs.Option.{ForSome}
-use Rattle.std.proofs.lemmas.Bool.{cases_eq, cases_lt}
+use Rattle.std.proofs.lemmas.Bool.{cases_eq, cases_lt, and_parts, ltb-true, true≢false}
 use Rattle.std.proofs.lemmas.List.{length-replicate, get_or-replicate, get_or_past}
 use Rattle.std.proofs.lemmas.Option.{same_Some}
 use Rattle.affinity_mask.specs.ProcSet.{has, empty, all_below}
-use Rattle.affinity_mask.proofs.Sets.{has-zero}
+use Rattle.affinity_mask.proofs.Sets.{has-zero, has-all_below, has-intersection}
 use Rattle.link_table.specs.Layout.{Layout, occupant_in, runs_on, IsNowhere, with_occupant, places_without, places_with}
 use Rattle.link_table.specs.PlacesView.{IsIndex}
 use Rattle.link_table.proofs.Idling.{idle_at}
@@ -135,3 +135,12 @@ occupant_listed a of linked feeders ix p u e = elim (cases_lt u (length of)) [
   | inl lt ↦ lt
   | inr ge ↦ absurd (let past = get_or_past of u None ge in let there = ix.place p u e in cc)
 ]
+
+-- a guest may run on processors of the machine alone
+pub runs_inside : (a : Layout) (of : List (Option ℕ)) (linked : ℕ) (feeders : List ℕ) → IsIndex a of linked feeders → (guest : Option ℕ) (runs : ℕ) → ((q : ℕ) → has runs q ≡ runs_on a guest q) → (q : ℕ) → IsTrue (has runs q) → q < length feeders
+runs_inside a of linked feeders ix None runs are q h = absurd (true≢false (sym h ∙ are q))
+runs_inside a of linked feeders ix (Some t) runs are q h =
+    let parts = and_parts (has (get_or a.masks t empty) q) (has a.online q) (sym (has-intersection (get_or a.masks t empty) a.online q) ∙ sym (are q) ∙ h) in
+    let below = ltb-true q (length a.on) (sym (has-all_below (length a.on) q) ∙ ix.online q parts.1) in
+    let count = ix.feeders_count in
+    omega arith

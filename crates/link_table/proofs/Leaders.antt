@@ -1,11 +1,14 @@
 -- Who leads among the tasks that a loop has visited: the least urgent occupant, or the most urgent task that can enter.
-use Rattle.std.proofs.Common.{◌≡◌, ℕ, ◌+◌, ◌<◌, ◌≤◌, Option, Some, None, refl, sym, ◌∙◌, subst, inl, inr, ◌⊎◌, IsTrue, arith, below_more}
-use Rattle.std.specs.Prelude.{IfSome, MatchOption}
+use Rattle.std.proofs.Common.{◌≡◌, ℕ, ◌+◌, ◌<◌, ◌≤◌, true, false, not, ◌&&◌, nat_eq, Option, Some, None, refl, sym, ap, ◌∙◌, subst, inl, inr, ◌⊎◌, IsTrue, arith, below_more, ne_eqb}
+use Rattle.std.proofs.Math.Bool.{and-true}
+use Rattle.std.specs.Prelude.{IfSome, MatchOption, is_some}
+use Rattle.std.proofs.lemmas.Bool.{cases_eq, and_from, and_parts, true≢false}
 use Rattle.std.specs.Option.{ForSome}
 use Rattle.std.proofs.lemmas.Option.{same_Some}
-use Rattle.affinity_mask.specs.ProcSet.{has}
+use Rattle.affinity_mask.specs.ProcSet.{has, empty}
+use Rattle.affinity_mask.proofs.Sets.{has-zero}
 use Rattle.link_table.specs.State.{State, IsState, task_count, task_on, priority_of}
-use Rattle.link_table.proofs.Linked.{linked_number, occupied_number}
+use Rattle.link_table.proofs.Linked.{linked_number}
 use Rattle.link_table.proofs.Unique.{ready_number}
 use Rattle.link_table.specs.Step.{CanEnterInto, IsNobodyOn, IsNobodyInto, IsLeastUrgentOn, IsMostUrgentInto}
 
@@ -51,22 +54,76 @@ IsOn s set p u = IsTrue (has set p) × (task_on s p ≡ Some u)
 abbrev pub IsNotMoreUrgent : State → ℕ → ℕ → Type 0
 IsNotMoreUrgent s d u = priority_of s u ≤ priority_of s d
 
--- who was found on the processors of the set below n
+-- d is on a processor of the set, and no less urgent one is on a processor of it that is not in the rest
+pub record IsLastSoFar (s : State) (set rest d : ℕ) : Type 0 where
+  pub there : (p : ℕ) × IsOn s set p d
+  pub last : (p u : ℕ) → IsOn s set p u → has rest p ≡ false → IsNotMoreUrgent s d u
+
+-- who was found on the processors of the set that are not in the rest
 abbrev pub IsFoundOn : State → ℕ → ℕ → Option ℕ → Type 0
-IsFoundOn s set n found = IsFound (IsOn s set) (IsNotMoreUrgent s) n found
+IsFoundOn s set rest None = (p u : ℕ) → IsOn s set p u → has rest p ≡ false → ⊥
+IsFoundOn s set rest (Some d) = IsLastSoFar s set rest d
 
-pub on_number : (s : State) → IsState s → (set n : ℕ) (found : Option ℕ) → IsFoundOn s set n found → ForSome found (λ u. u < task_count s)
-on_number s ok set n found h = found_at (IsOn s set) (IsNotMoreUrgent s) (λ u. u < task_count s) (λ p u on. linked_number s p u ok on.1) n found h
+-- the rest are occupied processors of the set
+abbrev pub IsRestOf : State → ℕ → ℕ → Type 0
+IsRestOf s set rest = (p : ℕ) → IsTrue (has rest p) → (u : ℕ) × IsOn s set p u
 
-pub on_more : (s : State) (set p t r : ℕ) (found : Option ℕ) → IsOn s set p t → (r ≡ t) ⊎ (found ≡ Some r) → priority_of s t ≤ priority_of s r → IfSome found (λ u. priority_of s u ≤ priority_of s r) → IsFoundOn s set p found → IsFoundOn s set (p + 1) (Some r)
-on_more s set p t r found on either last last_of_found h =
-    IsFound-more (IsOn s set) (IsNotMoreUrgent s) (λ a b c ab bc. omega arith) p t r on (λ u on_u. same_Some t u (sym on.1 ∙ on_u.1)) last found either last_of_found h
+somebody : (o : Option ℕ) → is_some o ≡ true → (u : ℕ) × (o ≡ Some u)
+somebody None h = absurd (true≢false (sym h))
+somebody (Some u) h = (u, refl)
 
-pub on_whole : (s : State) → IsState s → (set n : ℕ) (found : Option ℕ) → s.processors ≤ n → IsFoundOn s set n found → MatchOption found (IsNobodyOn s set) (IsLeastUrgentOn s set)
-on_whole s ok set n None all h = λ p u inside on. h p (let below = occupied_number s p u ok on in omega arith) u (inside, on)
-on_whole s ok set n (Some d) all h = record {
-  there = (h.0.0, h.0.1.0, h.0.1.1);
-  least_urgent = λ p u inside on. h.1 p (let below = occupied_number s p u ok on in omega arith) u (inside, on);
+pub rest_first : (s : State) (set linked rest : ℕ) → ((p : ℕ) → has linked p ≡ is_some (task_on s p)) → ((p : ℕ) → has rest p ≡ (has set p && has linked p)) → IsRestOf s set rest
+rest_first s set linked rest is_linked is_rest p h =
+    let parts = and_parts (has set p) (has linked p) (sym (is_rest p) ∙ h) in
+    let there = somebody (task_on s p) (sym (is_linked p) ∙ parts.1) in
+    (there.0, (parts.0, there.1))
+
+pub rest_fewer : (s : State) (set rest then p : ℕ) → ((q : ℕ) → has then q ≡ (has rest q && not (nat_eq q p))) → IsRestOf s set rest → IsRestOf s set then
+rest_fewer s set rest then p fewer are q h = are q ((and_parts (has rest q) (not (nat_eq q p)) (sym (fewer q) ∙ h)).0)
+
+-- at first all occupied processors of the set are in the rest
+pub on_first : (s : State) (set linked rest : ℕ) → ((p : ℕ) → has linked p ≡ is_some (task_on s p)) → ((p : ℕ) → has rest p ≡ (has set p && has linked p)) → IsFoundOn s set rest None
+on_first s set linked rest is_linked is_rest p u on out =
+    true≢false (sym (is_rest p ∙ and_from (has set p) (has linked p) (on.0) (is_linked p ∙ ap (λ (o : Option ℕ). is_some o) (on.1))) ∙ out)
+
+pub on_number : (s : State) → IsState s → (set rest : ℕ) (found : Option ℕ) → IsFoundOn s set rest found → ForSome found (λ u. u < task_count s)
+on_number s ok set rest None h = λ u e. cc
+on_number s ok set rest (Some d) h = λ u e. rw (← same_Some d u e) (linked_number s h.there.0 d ok h.there.1.1)
+
+-- one more processor, of which t is the occupant
+module _ (s : State) (set rest then p t r : ℕ) (on : IsOn s set p t) (fewer : (q : ℕ) → has then q ≡ (has rest q && not (nat_eq q p))) (last : priority_of s t ≤ priority_of s r) where
+  -- a processor that is not in the rest then is p, or was not in it before
+  left : (q : ℕ) → has then q ≡ false → (q ≡ p) ⊎ (has rest q ≡ false)
+  left q out = elim (cases_eq q p) [
+    | inl e ↦ inl e
+    | inr ne ↦ inr (sym (and-true (has rest q)) ∙ ap (λ b. has rest q && not b) (sym (ne_eqb q p ne)) ∙ sym (fewer q) ∙ out)
+  ]
+
+  here : (q u : ℕ) → q ≡ p → IsOn s set q u → IsNotMoreUrgent s r u
+  here q u e on_u = let same : t ≡ u = same_Some t u (sym (on.1) ∙ ap (task_on s) (sym e) ∙ on_u.1) in rw (← same) last
+
+  pub on_more : (found : Option ℕ) → (r ≡ t) ⊎ (found ≡ Some r) → IfSome found (λ u. priority_of s u ≤ priority_of s r) → IsFoundOn s set rest found → IsFoundOn s set then (Some r)
+  on_more None either last_of_found h = record {
+    there = elim either [ inl it ↦ (p, rw it on) | inr found ↦ cc ];
+    last = λ q u on_u out. elim (left q out) [
+      | inl e ↦ here q u e on_u
+      | inr before ↦ absurd (h q u on_u before)
+    ];
+  }
+  on_more (Some d) either last_of_found h = record {
+    there = elim either [ inl it ↦ (p, rw it on) | inr found ↦ (h.there.0, rw (← same_Some d r found) h.there.1) ];
+    last = λ q u on_u out. elim (left q out) [
+      | inl e ↦ here q u e on_u
+      | inr before ↦ let less = h.last q u on_u before in omega arith
+    ];
+  }
+
+-- at the end nothing is left
+pub on_whole : (s : State) (set rest : ℕ) (found : Option ℕ) → rest ≡ empty → IsFoundOn s set rest found → MatchOption found (IsNobodyOn s set) (IsLeastUrgentOn s set)
+on_whole s set rest None none h = λ p u inside on. h p u (inside, on) (ap (λ n. has n p) none ∙ has-zero p)
+on_whole s set rest (Some d) none h = record {
+  there = (h.there.0, h.there.1.0, h.there.1.1);
+  least_urgent = λ p u inside on. h.last p u (inside, on) (ap (λ n. has n p) none ∙ has-zero p);
 }
 
 -- ---- the most urgent task that can enter into a set

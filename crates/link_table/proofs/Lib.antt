@@ -1,3 +1,4 @@
+pub mod Awaiting
 pub mod BestOnce
 pub mod Contexts
 pub mod Ends
@@ -12,7 +13,9 @@ pub mod Leaving
 pub mod Linked
 pub mod Masks
 pub mod Paths
+pub mod Ranks
 pub mod Readiness
+pub mod Rests
 pub mod SameTasks
 pub mod Shifts
 pub mod Shortest
@@ -20,5 +23,6 @@ pub mod Simple
 pub mod Start
 pub mod StepParts
 pub mod Steps
+pub mod Trees
 pub mod Unique
 pub mod Urgent

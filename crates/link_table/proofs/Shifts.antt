@@ -177,7 +177,7 @@ handed_on-read s t chain x places occupant simple fits e read =
     ∙ not_yet s (λ p. ⊥) (Some t) chain x simple ∙ sym (handed_on-push s (Some t) chain x)
 
 -- whoever is handed on was on one of the processors
-handed_on-from : (s : State) (V : ℕ → Type 0) (x : ℕ) (rest : List ℕ) (w : ℕ) → (V x → ⊥) → Avoids (λ p. (p ≡ x) ⊎ V p) rest → handed_on s (task_on s x) rest ≡ Some w → (y : ℕ) × (V y → ⊥) × (task_on s y ≡ Some w)
+pub handed_on-from : (s : State) (V : ℕ → Type 0) (x : ℕ) (rest : List ℕ) (w : ℕ) → (V x → ⊥) → Avoids (λ p. (p ≡ x) ⊎ V p) rest → handed_on s (task_on s x) rest ≡ Some w → (y : ℕ) × (V y → ⊥) × (task_on s y ≡ Some w)
 handed_on-from s V x [] w out avoids h = (x, out, h)
 handed_on-from s V x (y ∷ rest) w out avoids h =
     let there = handed_on-from s (λ p. (p ≡ x) ⊎ V p) y rest w avoids.0 avoids.1 h in

@@ -1,15 +1,14 @@
--- The tasks in the order of urgency: the first one that can enter is the most urgent one that can.
-use Rattle.std.proofs.Common.{◌≡◌, ℕ, ◌+◌, ◌<◌, ◌≤◌, List, [], ◌∷◌, ◌++◌, length, get_or, All, Contains, refl, sym, ap, ◌∙◌, subst, inl, inr, arith, below_more}
+-- The tasks in the order of urgency: how the order is made, that no task stands twice in it, and the ranks in it.
+use Rattle.std.proofs.Common.{◌≡◌, ℕ, ◌+◌, ◌<◌, ◌≤◌, List, [], ◌∷◌, ◌++◌, length, get_or, set, map, All, Contains, eqb, false, refl, sym, ap, ◌∙◌, inl, inr, arith, below_more, eq-eqb, ne_eqb, get_or-set_same, get_or-set_other}
+use Rattle.std.specs.List.{IsDistinct}
 use Rattle.std.specs.List.Sorted.{IsPermutation, IsNonDecreasingBy}
-use Rattle.std.proofs.lemmas.Bool.{cases_lt}
-use Rattle.std.proofs.lemmas.List.{get_or_default}
-use Rattle.std.proofs.lemmas.List.Elements.{All-push, All-get_or, Contains-append_left, Contains-push}
-use Rattle.std.proofs.lemmas.List.Sorted.{All-permutation, Contains-permutation}
-use Rattle.link_table.specs.State.{State, IsState, task_count, priority_of}
-use Rattle.link_table.specs.Step.{CanEnterInto, IsNobodyInto, IsMostUrgentInto}
+use Rattle.std.proofs.lemmas.Bool.{cases_eq, cases_lt, true≢false}
+use Rattle.std.proofs.lemmas.List.{length_push, get_or_push, get_or_append_left, get_or-map, length-map}
+use Rattle.std.proofs.lemmas.List.Elements.{All-push, Contains-append_left, Contains-push}
+use Rattle.std.proofs.lemmas.List.Sorted.{All-permutation, Contains-permutation, IsPermutation-map}
+use Rattle.std.proofs.lemmas.Map.Keys.{IsDistinct-from_apart, IsDistinct-IsPermutation, apart_from_distinct}
 use Rattle.link_table.specs.declared.ranked.Ranked.{Ranked}
-use Rattle.link_table.specs.UrgencyOrder.{entry_of, IsEntry, AreEntries, IsUrgencyOrder}
-use Rattle.link_table.proofs.Unique.{ready_number}
+use Rattle.link_table.specs.UrgencyOrder.{entry_of, IsEntry, AreEntries, IsUrgencyOrder, AreNumbered, AreApart}
 
 -- ---- the order is made
 pub entries_more : (ps : List ℕ) (es then : List Ranked) (t : ℕ) (e : Ranked) → t < length ps → e ≡ entry_of ps t → then ≡ es ++ e ∷ [] → All (IsEntry ps) es → All (IsEntry ps) then
@@ -29,45 +28,56 @@ sorted_entries ps es then complete moved sorted = record {
   ordered = sorted;
 }
 
--- ---- the order is searched
--- none of the first n can enter
-abbrev pub AreNotEntering : State → ℕ → List Ranked → ℕ → Type 0
-AreNotEntering s set order n = (k : ℕ) (d : Ranked) → k < n → CanEnterInto s set (get_or order k d).task → ⊥
+pub numbered_more : (es then : List Ranked) (e : Ranked) (t : ℕ) → length es ≡ t → e.task ≡ t → then ≡ es ++ e ∷ [] → AreNumbered es → AreNumbered then
+numbered_more es then e t count is pushed numbered k d lt =
+    let longer = ap length pushed ∙ length_push es e in
+    elim (cases_lt k t) [
+      | inl less ↦ rw pushed (ap (λ (x : Ranked). x.task) (get_or_append_left es (e ∷ []) d k (omega arith)) ∙ numbered k d (omega arith))
+      | inr ge ↦ let last : k ≡ t = omega arith in rw pushed (ap (λ (x : Ranked). x.task) (get_or_push es e d k (omega arith)) ∙ is ∙ sym last)
+    ]
 
-pub not_entering_more : (s : State) (set : ℕ) (order : List Ranked) (n : ℕ) (e : Ranked) → n < length order → e ≡ get_or order n e → (CanEnterInto s set e.task → ⊥) → AreNotEntering s set order n → AreNotEntering s set order (n + 1)
-not_entering_more s set order n e fits at none before =
-    λ k d lt. below_more (λ j. CanEnterInto s set (get_or order j d).task → ⊥) n (λ j less. before j d less) (λ enters. none (subst (λ (x : Ranked). CanEnterInto s set x.task) (get_or_default order n d e fits ∙ sym at) enters)) k lt
+-- ---- no task stands twice, however the entries are moved
+nobody : Ranked
+nobody = record { priority = 0; task = 0 }
 
-module _ (s : State) (ok : IsState s) (set : ℕ) (order : List Ranked) (sorted : IsUrgencyOrder s.priorities order) where
-  -- where a task stands
-  place : (v : ℕ) → v < task_count s → (k : ℕ) × (k < length order) × (get_or order k (entry_of s.priorities v) ≡ entry_of s.priorities v)
-  place v lt = sorted.complete.each v lt
+eqb_flips : (x y : ℕ) → eqb x y ≡ eqb y x
+eqb_flips x y = elim (cases_eq x y) [
+  | inl e ↦ rw e refl
+  | inr ne ↦ ne_eqb x y ne ∙ sym (ne_eqb y x (λ e. ne (sym e)))
+]
 
-  pub nobody_enters : (n : ℕ) → length order ≤ n → AreNotEntering s set order n → IsNobodyInto s set
-  nobody_enters n whole none = λ v p waits inside enters.
-      let at = place v (ready_number s ok v waits.ready) in
-      none at.0 (entry_of s.priorities v) (let lt = at.1 in omega arith) (subst (λ (x : Ranked). CanEnterInto s set x.task) (sym at.2) (waits, (p, inside, enters)))
+task_in : (es : List Ranked) (k d : ℕ) → k < length es → get_or (map (λ (x : Ranked). x.task) es) k d ≡ (get_or es k nobody).task
+task_in es k d lt = get_or-map (λ (x : Ranked). x.task) es k nobody d lt
 
-  pub first_enters : (n : ℕ) (e : Ranked) → n < length order → e ≡ get_or order n e → CanEnterInto s set e.task → AreNotEntering s set order n → IsMostUrgentInto s set e.task
-  first_enters n e fits at enters none = record {
-    waits = enters.0;
-    there = enters.1;
-    most_urgent = λ v p waits inside can.
-        let there = place v (ready_number s ok v waits.ready) in
-        let d = entry_of s.priorities v in
-        let later : n ≤ there.0 = elim (cases_lt there.0 n) [
-          | inl lt ↦ absurd (none there.0 d lt (subst (λ (x : Ranked). CanEnterInto s set x.task) (sym there.2) (waits, (p, inside, can))))
-          | inr ge ↦ ge
-        ] in
-        let up : (get_or order n d).priority ≤ (get_or order there.0 d).priority = sorted.ordered n there.0 d later there.1 in
-        let here : get_or order n d ≡ e = get_or_default order n d e fits ∙ sym at in
-        let entry : IsEntry s.priorities e = subst (IsEntry s.priorities) here (All-get_or (IsEntry s.priorities) order n d fits sorted.complete.all) in
-        let mine : (get_or order n d).priority ≡ e.priority = ap (λ (x : Ranked). x.priority) here in
-        let other : (get_or order there.0 d).priority ≡ priority_of s v = ap (λ (x : Ranked). x.priority) there.2 in
-        let own = entry.1 in
-        omega arith;
-  }
+pub apart_moved : (es then : List Ranked) → AreNumbered es → IsPermutation es then → AreApart then
+apart_moved es then numbered moved j k d less below same = true≢false (sym (eq-eqb (at j) (at k) equal) ∙ apart)
+  where
+    tasks : List Ranked → List ℕ
+    tasks = map (λ (x : Ranked). x.task)
 
-  -- each entry is of a task
-  pub entry_number : (n : ℕ) (e : Ranked) → n < length order → e ≡ get_or order n e → e.task < task_count s
-  entry_number n e fits at = (subst (IsEntry s.priorities) (sym at) (All-get_or (IsEntry s.priorities) order n e fits sorted.complete.all)).0
+    at : ℕ → ℕ
+    at i = get_or (tasks then) i 0
+
+    first : IsDistinct eqb (tasks es)
+    first = IsDistinct-from_apart eqb (tasks es) (λ i j e lt fits.
+        let within : j < length es = (let n = length-map es (λ (x : Ranked). x.task) in omega arith) in
+        rw (task_in es i e (omega arith), task_in es j e within, numbered i nobody (omega arith), numbered j nobody within) (ne_eqb i j (λ f. omega arith)))
+
+    later : IsDistinct eqb (tasks then)
+    later = IsDistinct-IsPermutation eqb eqb_flips (tasks es) (tasks then) (IsPermutation-map (λ (x : Ranked). x.task) es then moved) first
+
+    apart : eqb (at j) (at k) ≡ false
+    apart = apart_from_distinct eqb (tasks then) j k 0 later less (let n = length-map then (λ (x : Ranked). x.task) in omega arith)
+
+    equal : at j ≡ at k
+    equal = get_or-map (λ (x : Ranked). x.task) then j d 0 (omega arith) ∙ same ∙ sym (get_or-map (λ (x : Ranked). x.task) then k d 0 below)
+
+-- ---- the ranks are written
+pub ranks_more : (order : List Ranked) → AreApart order → (ranks : List ℕ) (r task : ℕ) → r < length order → ((d : Ranked) → task ≡ (get_or order r d).task) → task < length ranks
+    → ((k : ℕ) (d : Ranked) → k < r → get_or ranks (get_or order k d).task 0 ≡ k) → (k : ℕ) (d : Ranked) → k < r + 1 → get_or (set ranks task r) (get_or order k d).task 0 ≡ k
+ranks_more order apart ranks r task fits is room done k d lt = elim (cases_lt k r) [
+  | inl less ↦ get_or-set_other ranks task (get_or order k d).task r 0 (λ e. apart k r d less fits (e ∙ is d)) ∙ done k d less
+  | inr ge ↦
+      let last : k ≡ r = omega arith in
+      ap (λ n. get_or (set ranks task r) (get_or order n d).task 0) last ∙ ap (λ n. get_or (set ranks task r) n 0) (sym (is d)) ∙ get_or-set_same ranks task r 0 room ∙ sym last
+]

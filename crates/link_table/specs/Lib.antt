@@ -7,7 +7,8 @@ pub mod Layout
 pub mod LinksView
 pub mod Placement
 pub mod PlacesView
-pub mod PrioritiesView
+pub mod SetTree
 pub mod State
 pub mod Step
 pub mod UrgencyOrder
+pub mod WaitingTasks

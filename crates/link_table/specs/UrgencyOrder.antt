@@ -1,5 +1,5 @@
 -- The tasks in the order of urgency. An entry is the number of a task with its priority.
-use Rattle.std.specs.Prelude.{◌≡◌, ℕ, ◌<◌, List, length, get_or, All, Contains}
+use Rattle.std.specs.Prelude.{◌≡◌, ◌≢◌, ℕ, ◌<◌, List, length, get_or, All, Contains}
 use Rattle.std.specs.List.Sorted.{IsNonDecreasingBy}
 use Rattle.link_table.specs.declared.ranked.Ranked.{Ranked}
 
@@ -20,3 +20,11 @@ pub record AreEntries (priorities : List ℕ) (entries : List Ranked) : Type 0 w
 pub record IsUrgencyOrder (priorities : List ℕ) (order : List Ranked) : Type 0 where
   pub complete : AreEntries priorities order
   pub ordered : IsNonDecreasingBy (λ (entry : Ranked). entry.priority) order
+
+-- each entry is of the task whose number is its place
+abbrev pub AreNumbered : List Ranked → Type 0
+AreNumbered entries = (t : ℕ) (d : Ranked) → t < length entries → (get_or entries t d).task ≡ t
+
+-- no task stands twice
+abbrev pub AreApart : List Ranked → Type 0
+AreApart order = (j k : ℕ) (d : Ranked) → j < k → k < length order → (get_or order j d).task ≢ (get_or order k d).task

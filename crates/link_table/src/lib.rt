@@ -15,11 +15,12 @@ mod index_tests;
 pub mod laws;
 pub mod links;
 mod places;
-mod priorities;
 mod ranked;
+mod set_tree;
 #[cfg(test)]
 mod tests;
 mod urgency;
+mod waiting_tasks;
 
 pub use links::Links;
 pub use scheduler_reply::{Came, Chain, Entry, Gone, Reply};

@@ -1,10 +1,9 @@
 //! The table of links.
-ghost use Rattle.std.specs.Prelude.{◌≡◌, ℕ, ◌<◌, ◌≤◌, ◌↔◌, IsTrue, IsNone, IfOk, IfSome, is_some, Some, true, false};
+ghost use Rattle.std.specs.Prelude.{◌≡◌, ℕ, ◌<◌, ◌≤◌, ◌↔◌, IsTrue, IsNone, IfOk, IfSome, is_some, Some, true, false, MatchOption};
 ghost use Rattle.affinity_mask.specs.ProcSet.{has};
 
 use crate::places::Places;
-use crate::priorities::Priorities;
-use crate::ranked::Ranked;
+use crate::waiting_tasks::WaitingTasks;
 use affinity_mask::{OutOfMemory, ProcSet};
 use scheduler_reply::Chain;
 use std::alloc::Global;
@@ -16,9 +15,9 @@ use task_set::TaskSet;
 #[derive(Drop)]
 pub struct Links {
     processors: u8,
-    priorities: Priorities,
     ready: Vec<bool>,
     places: Places,
+    waiting: WaitingTasks,
 }
 
 impl Model for Links {
@@ -35,7 +34,7 @@ impl Model for Links {
 
 impl Links {
     ghost use Rattle.link_table.specs.State.{State, IsState, HasSameTasks, task_count, priority_of, mask_of, is_ready, is_linked, effective_mask, task_on, IsIdle, IsWaiting, start_of, state_with_ready, state_with_absent, state_with_idle, state_after_leaving};
-    ghost use Rattle.link_table.specs.UrgencyOrder.{IsUrgencyOrder};
+    ghost use Rattle.link_table.specs.Step.{IsNobodyInto, IsMostUrgentInto};
     ghost use Rattle.link_table.specs.Chain.{CanShift, IsChainOf, IsSimple, Shifted, task_put_out};
 
     /// Every task of the set is absent, and every processor is idle. Refused only where memory runs out.
@@ -51,13 +50,13 @@ impl Links {
             masks.push(set.mask(t))?;
             ready.push(false)?;
         }
-        let priorities = Priorities::new(alloc, priorities)?;
         let places = Places::new(alloc, processors, masks)?;
+        let waiting = WaitingTasks::new(alloc, priorities)?;
         Ok(Links {
             processors,
-            priorities,
             ready,
             places,
+            waiting,
         })
     }
 
@@ -74,14 +73,14 @@ impl Links {
         ensures value { result ≡ task_count self.now }
         ensures valid { IsState self.now }
     {
-        self.priorities.len() as u32
+        self.waiting.len()
     }
 
     /// Whether the set has no tasks.
     pub fn is_empty(&self) -> bool
         ensures { IsTrue result ↔ (task_count self.now ≡ 0) }
     {
-        self.priorities.len() == 0
+        self.waiting.len() == 0
     }
 
     /// The priority of a task. The lower number is more urgent.
@@ -89,15 +88,7 @@ impl Links {
         requires { t < task_count self.now }
         ensures { result ≡ priority_of self.now t }
     {
-        self.priorities.of(t)
-    }
-
-    /// All tasks, from the most urgent one on.
-    pub(crate) fn by_urgency(&self) -> &[Ranked]
-        ensures order { IsUrgencyOrder self.now.priorities result.now }
-        ensures valid { IsState self.now }
-    {
-        self.priorities.by_urgency()
+        self.waiting.priority(t)
     }
 
     /// The affinity mask of a task.
@@ -189,6 +180,14 @@ impl Links {
         }
     }
 
+    /// The most urgent waiting task that can enter at a processor of a set, if any can.
+    pub fn most_urgent_in(&self, set: ProcSet) -> Option<u32>
+        ensures test { MatchOption result (IsNobodyInto self.now set) (IsMostUrgentInto self.now set) }
+        ensures valid { IsState self.now }
+    {
+        self.waiting.first_for(set)
+    }
+
     /// An absent task becomes ready, and waits.
     pub fn make_ready(&mut self, t: u32)
         requires number { t < task_count self.old }
@@ -198,6 +197,8 @@ impl Links {
         ensures valid { IsState self.new }
     {
         self.ready[t as usize] = true;
+        let runs = self.places.effective(t);
+        self.waiting.write(t, runs);
     }
 
     /// Shifts a waiting task along one of its chains, and answers the task that this displaces, which waits then.
@@ -210,10 +211,27 @@ impl Links {
         ensures out { result ≡ task_put_out self.old chain.now }
         ensures valid { IsState self.new }
     {
+        self.enter(t, chain)
+    }
+
+    /// A task that is not linked becomes ready, if it is absent, and is shifted along one of its chains. Answers the task
+    /// that this displaces, which waits then.
+    pub fn enter(&mut self, t: u32, chain: &Chain) -> Option<u32>
+        requires number { t < task_count self.old }
+        requires not_linked { is_linked self.old t ≡ false }
+        requires chain { (q : ℕ) × IsChainOf self.old t chain.now q }
+        requires simple { IsSimple chain.now }
+        ensures shifted { Shifted (state_with_ready self.old t) t chain.now self.new }
+        ensures out { result ≡ task_put_out (state_with_ready self.old t) chain.now }
+        ensures valid { IsState self.new }
+    {
+        self.ready[t as usize] = true;
         let mut guest = Some(t);
         for i in 0..chain.len() {
             guest = self.places.replace(chain.at(i), guest);
         }
+        let runs = self.places.runs_on(guest);
+        self.waiting.exchange(t, guest, runs);
         guest
     }
 
@@ -225,6 +243,7 @@ impl Links {
         ensures valid { IsState self.new }
     {
         self.ready[t as usize] = false;
+        self.waiting.write(t, ProcSet::empty());
     }
 
     /// Unlinks the task of an occupied processor, and answers it. The task waits then, and the processor is idle.
@@ -239,6 +258,7 @@ impl Links {
         let Some(t) = self.places.replace(p, None) else {
             unreachable!()
         };
+        self.waiting.write(t, self.places.effective(t));
         t
     }
 
@@ -252,8 +272,8 @@ impl Links {
         ensures valid { IsState self.new }
     {
         let p = self.of(t).unwrap();
-        self.unlink(p);
-        self.make_absent(t);
+        self.ready[t as usize] = false;
+        self.places.replace(p, None);
         p
     }
 
@@ -264,5 +284,6 @@ impl Links {
     {
         self.ready.copy_from_slice(&other.ready);
         self.places.set_to(&other.places);
+        self.waiting.set_to(&other.waiting);
     }
 }

@@ -1,5 +1,5 @@
 //! Where tasks are linked, with an index: each answer is one read.
-ghost use Rattle.std.specs.Prelude.{◌≡◌, ℕ, ◌<◌, ◌≤◌, ◌==◌, length, slice_index, replicate, is_some, IfOk, IfSome, IfNone, if◌then◌else◌, None};
+ghost use Rattle.std.specs.Prelude.{◌≡◌, ℕ, ◌<◌, ◌≤◌, ◌==◌, length, slice_index, replicate, is_some, IfOk, IfSome, IfNone, if◌then◌else◌, None, IsTrue};
 ghost use Rattle.std.specs.Option.{ForSome};
 ghost use Rattle.affinity_mask.specs.ProcSet.{has, all_below};
 ghost use Rattle.link_table.specs.Layout.{places_without, places_with};
@@ -131,7 +131,7 @@ impl Places {
     }
 
     /// The processors that a task may run on. Nobody runs anywhere.
-    fn runs_on(&self, guest: Option<u32>) -> ProcSet
+    pub(crate) fn runs_on(&self, guest: Option<u32>) -> ProcSet
         requires { ForSome guest (λ t. t < length self.now.masks) }
         ensures { (q : ℕ) → has result q ≡ runs_on self.now guest q }
     {
@@ -149,12 +149,13 @@ impl Places {
         ensures replaced { self.new ≡ with_occupant self.old p guest }
         ensures out { result ≡ occupant_in self.old p }
     {
-        let runs = self.runs_on(guest);
         let out = self.on[p as usize];
+        let before = self.runs_on(out);
+        let runs = self.runs_on(guest);
         self.on[p as usize] = guest;
         write_places(&mut self.of, out, guest, p);
         self.linked = marked(self.linked, p, guest.is_some());
-        write_feeders(&mut self.feeders, p, runs);
+        write_feeders(&mut self.feeders, p, before, runs);
         out
     }
 
@@ -195,14 +196,19 @@ fn marked(set: ProcSet, p: u8, is_in: bool) -> ProcSet
     if is_in { set.with(p) } else { set.without(p) }
 }
 
-/// Of each processor the set has p then just where it is one of those that the occupant of p may run on.
-fn write_feeders(feeders: &mut [ProcSet], p: u8, runs: ProcSet)
+/// Of each processor the set has p then just where it is one of those that the occupant of p may run on. Before it had
+/// p where the last occupant might, so the sets stay where both may run, or neither.
+fn write_feeders(feeders: &mut [ProcSet], p: u8, before: ProcSet, runs: ProcSet)
     requires processor { p < 64 }
-    requires few { length feeders.old ≤ 64 }
+    requires before_inside { (q : ℕ) → IsTrue (has before q) → q < length feeders.old }
+    requires inside { (q : ℕ) → IsTrue (has runs q) → q < length feeders.old }
+    requires as_before { (q : ℕ) → q < length feeders.old → has (slice_index feeders.old q) p ≡ has before q }
     ensures { (q r : ℕ) → q < length feeders.old → has (slice_index feeders.new q) r
         ≡ (if r == p then has runs q else has (slice_index feeders.old q) r) }
 {
-    for q in 0..feeders.len() {
-        feeders[q] = marked(feeders[q], p, runs.has(q as u8));
+    let mut rest = before.minus(&runs).either_of(&runs.minus(&before));
+    while let Some(q) = rest.least() {
+        feeders[q as usize] = marked(feeders[q as usize], p, runs.has(q));
+        rest = rest.without(q);
     }
 }

@@ -1,8 +1,8 @@
-//! Who has to go out, and who comes in first.
+//! Which one of two tasks is more urgent, and who has to go out.
 ghost use Rattle.std.specs.Prelude.{◌≡◌, ℕ, ◌<◌, ◌≤◌, ◌⊎◌, ◌↔◌, Some, IsTrue, IfSome, MatchOption};
 ghost use Rattle.std.specs.Option.{ForSome};
 ghost use Rattle.link_table.specs.State.{IsState, IsMoreUrgent, task_count, priority_of};
-ghost use Rattle.link_table.specs.Step.{CanEnterInto, IsNobodyOn, IsNobodyInto, IsLeastUrgentOn, IsMostUrgentInto};
+ghost use Rattle.link_table.specs.Step.{IsNobodyOn, IsLeastUrgentOn};
 
 use crate::links::Links;
 use affinity_mask::ProcSet;
@@ -36,36 +36,16 @@ impl Links {
         ensures test { MatchOption result (IsNobodyOn self.now set) (IsLeastUrgentOn self.now set) }
         ensures valid { IsState self.now }
     {
+        let _valid = self.processors();
         let mut found = None;
-        for p in 0..self.processors() {
-            match self.on(p) {
-                Some(t) if set.has(p) => found = Some(less_urgent(self, found, t)),
-                _ => {}
-            }
+        let mut rest = set.both(&self.linked());
+        while let Some(p) = rest.least() {
+            let Some(t) = self.on(p) else { unreachable!() };
+            found = Some(less_urgent(self, found, t));
+            rest = rest.without(p);
         }
         found
     }
-
-    /// The most urgent waiting task that can enter at a processor of a set, if any can.
-    pub fn most_urgent_in(&self, set: ProcSet) -> Option<u32>
-        ensures test { MatchOption result (IsNobodyInto self.now set) (IsMostUrgentInto self.now set) }
-        ensures valid { IsState self.now }
-    {
-        for entry in self.by_urgency() {
-            if can_enter(self, set, entry.task) {
-                return Some(entry.task);
-            }
-        }
-        None
-    }
-}
-
-/// Whether a task waits and can enter at a processor of a set.
-fn can_enter(links: &Links, set: ProcSet, t: u32) -> bool
-    requires { t < task_count links.now }
-    ensures { IsTrue result ↔ CanEnterInto links.now set t }
-{
-    links.is_waiting(t) && set.meets(&links.effective(t))
 }
 
 /// The less urgent one of a task and of the one found before, if there is one.

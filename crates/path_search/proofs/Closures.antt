@@ -4,9 +4,11 @@ use Rattle.std.proofs.lemmas.Bool.{cases_Bool, or_cases, or_left, or_right, and_
 use Rattle.affinity_mask.specs.ProcSet.{has, empty, Within}
 use Rattle.affinity_mask.proofs.Meetings.{no_member}
 use Rattle.link_table.specs.Chain.{IsPath}
-use Rattle.path_search.specs.Paths.{IsPathFrom, LeadsTo}
+use Rattle.link_table.specs.State.{State, IsState}
+use Rattle.path_search.specs.declared.direction.Direction.{Direction}
+use Rattle.path_search.specs.Paths.{IsPathFrom, LeadsTo, Steps}
 use Rattle.path_search.proofs.LeastPaths.{IsPathFrom-push}
-use Rattle.path_search.proofs.Moves.{added_cases}
+use Rattle.path_search.proofs.Moves.{added_cases, Steps-online}
 
 -- what is found is led to, and the steps from what is done lead to what is found
 pub record IsSearch (Step : ℕ → ℕ → Type 0) (start found done : ℕ) : Type 0 where
@@ -70,3 +72,15 @@ module _ (Step : ℕ → ℕ → Type 0) (start found done todo : ℕ) (so_far :
       arrives : (path : List ℕ) → IsPathFrom Step start path q → IsTrue (has found q)
       arrives [] path = absurd path
       arrives (p ∷ rest) path = follows p rest (so_far.begun p path.0) path.1
+
+-- ---- all processors on line are found, and no step leads to another one
+pub IsSearch-all : (s : State) → IsState s → (direction : Direction) (start found done : ℕ) → IsSearch (Steps s direction) start found done → Within s.online found → (q : ℕ) → IsTrue (has found q) ↔ LeadsTo (Steps s direction) start q
+IsSearch-all s ok direction start found done so_far all q = (so_far.sound q, λ path. arrives path.0 path.1)
+  where
+    follows : (p : ℕ) (rest : List ℕ) → IsTrue (has found p) → IsPath (Steps s direction) p rest q → IsTrue (has found q)
+    follows p [] h path = subst (λ (x : ℕ). IsTrue (has found x)) path h
+    follows p (r ∷ rest) h path = follows r rest (all r (Steps-online s ok direction p r path.0)) path.1
+
+    arrives : (path : List ℕ) → IsPathFrom (Steps s direction) start path q → IsTrue (has found q)
+    arrives [] path = absurd path
+    arrives (p ∷ rest) path = follows p rest (so_far.begun p path.0) path.1

@@ -5,4 +5,3 @@ pub mod FirstMet
 pub mod LeastPaths
 pub mod LevelSearch
 pub mod Moves
-pub mod Rests

@@ -6,7 +6,7 @@ use Rattle.affinity_mask.proofs.Meetings.{no_member}
 use Rattle.link_table.specs.State.{State, IsState, task_on}
 use Rattle.link_table.specs.Chain.{CanShift}
 use Rattle.link_table.proofs.Linked.{occupied_number}
-use Rattle.link_table.proofs.Masks.{effective_mask_below}
+use Rattle.link_table.proofs.Masks.{effective_mask_below, effective_mask_online}
 use Rattle.path_search.specs.declared.direction.Direction.{Direction}
 use Rattle.path_search.specs.declared.direction.Direction.TheVariants.{Onward, Back}
 use Rattle.path_search.specs.Paths.{Steps}
@@ -15,6 +15,11 @@ use Rattle.path_search.specs.Paths.{Steps}
 pub Steps-below : (s : State) → IsState s → (direction : Direction) (p q : ℕ) → Steps s direction p q → q < s.processors
 Steps-below s ok Onward p q step = effective_mask_below s ok step.0 q step.2
 Steps-below s ok Back p q step = occupied_number s q step.0 ok step.1
+
+-- and that one is on line
+pub Steps-online : (s : State) → IsState s → (direction : Direction) (p q : ℕ) → Steps s direction p q → IsTrue (has s.online q)
+Steps-online s ok Onward p q step = effective_mask_online s step.0 q step.2
+Steps-online s ok Back p q step = effective_mask_online s step.0 q (ok.allowed q step.0 step.1)
 
 -- nobody can be shifted from an idle processor
 pub CanShift-idle : (s : State) (p q : ℕ) → task_on s p ≡ None → CanShift s p q → ⊥

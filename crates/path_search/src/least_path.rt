@@ -1,5 +1,5 @@
 //! The search for a least path.
-ghost use Rattle.std.specs.Prelude.{◌≡◌, ℕ, ◌+◌, ◌<◌, IsTrue, length, List};
+ghost use Rattle.std.specs.Prelude.{◌≡◌, ℕ, ◌+◌, ◌<◌, [], ◌∷◌, IsTrue, length};
 ghost use Rattle.affinity_mask.specs.ProcSet.{has};
 ghost use Rattle.link_table.specs.Chain.{IsLeastSuch};
 ghost use Rattle.path_search.specs.Paths.{Steps, LeadsInto, IsLeastIfAny};
@@ -11,7 +11,8 @@ use crate::levels::Levels;
 use affinity_mask::ProcSet;
 use link_table::{Chain, Links};
 
-/// The least path from one set of processors into another. `None` just where none leads there.
+/// The least path from one set of processors into another. `None` just where none leads there. Where the two sets meet,
+/// it is their least common processor, and no levels are searched.
 pub fn least_path(
     links: &Links,
     direction: Direction,
@@ -21,11 +22,27 @@ pub fn least_path(
     requires { (p : ℕ) → IsTrue (has start p) → p < links.now.processors }
     ensures { IsLeastIfAny (LeadsInto (Steps links.now direction) start target) result }
 {
+    if let Some(p) = start.both(&target).least() {
+        return Some(chain_of_one(p));
+    }
+    if target.is_empty() {
+        return None;
+    }
     let Some(levels) = levels_to(links, direction, start, &target) else {
         return None;
     };
     let last = levels.len() - 1;
     Some(least_through(links, direction, start, &levels, last, target))
+}
+
+/// The list of one processor.
+fn chain_of_one(p: u8) -> Chain
+    requires { p < 64 }
+    ensures { result ≡ p ∷ [] }
+{
+    let mut chain = Chain::new();
+    chain.push(p);
+    chain
 }
 
 /// The least path into a target that the levels first meet at place `n`.
@@ -50,12 +67,10 @@ fn least_through(
     let _valid = links.processors();
     let ends = levels.at(n).both(&target);
     if n == 0 {
-        let mut chain = Chain::new();
         let Some(first) = ends.least() else {
             unreachable!()
         };
-        chain.push(first);
-        return chain;
+        return chain_of_one(first);
     }
     let before = direction.before_all(links, &ends);
     let mut chain = least_through(links, direction, start, levels, n - 1, before);

@@ -1,10 +1,9 @@
 //! A task arrives.
 ghost use Rattle.std.specs.Prelude.{◌≡◌, ℕ, ◌<◌, false};
-ghost use Rattle.link_table.specs.State.{IsState, task_count, is_ready, state_with_ready};
-ghost use Rattle.link_table.specs.Chain.{IsChainOf, IsSimple, Shifted};
+ghost use Rattle.link_table.specs.State.{IsState, task_count, is_ready};
 ghost use Rattle.link_table.specs.Step.{ArriveStep, Comes};
 
-use link_table::{Came, Chain, Links, Reply};
+use link_table::{Came, Links, Reply};
 use path_search::{chain_to, chain_to_idle, reach};
 
 /// A task arrives. It is placed where it reaches an idle processor, else it displaces the least urgent task that it
@@ -28,7 +27,7 @@ fn come(links: &mut Links, t: u32) -> Came
     ensures valid { IsState links.new }
 {
     if let Some(chain) = chain_to_idle(links, t) {
-        enter(links, t, &chain);
+        links.enter(t, &chain);
         return Came::Placed { chain };
     }
     let reach = reach(links, t);
@@ -36,7 +35,7 @@ fn come(links: &mut Links, t: u32) -> Came
         Some(out) if links.is_more_urgent(t, out) => {
             let p = links.of(out).unwrap();
             let chain = chain_to(links, t, p).unwrap();
-            enter(links, t, &chain);
+            links.enter(t, &chain);
             Came::Displaced { chain, out, reach }
         }
         _ => {
@@ -44,17 +43,4 @@ fn come(links: &mut Links, t: u32) -> Came
             Came::Waits { reach }
         }
     }
-}
-
-/// An absent task becomes ready, and is shifted along one of its chains.
-fn enter(links: &mut Links, t: u32, chain: &Chain)
-    requires number { t < task_count links.old }
-    requires absent { is_ready links.old t ≡ false }
-    requires chain { (q : ℕ) × IsChainOf links.old t chain.now q }
-    requires simple { IsSimple chain.now }
-    ensures shifted { Shifted (state_with_ready links.old t) t chain.now links.new }
-    ensures valid { IsState links.new }
-{
-    links.make_ready(t);
-    links.shift(t, chain);
 }

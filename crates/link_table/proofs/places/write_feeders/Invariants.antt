@@ -1,9 +1,11 @@
-use Rattle.std.proofs.Common.{◌≡◌, ℕ, ◌<◌, ◌≤◌, get_or, if◌then◌else◌, ◌==◌}
+use Rattle.std.proofs.Common.{◌≡◌, ℕ, ◌-◌, ◌<◌, false, get_or, IsTrue, if◌then◌else◌, ◌==◌}
 use Rattle.affinity_mask.specs.ProcSet.{has}
+use Rattle.link_table.proofs.Rests.{rest_of}
+use Rattle.link_table.proofs.Feeding.{IsFedSoFar}
 use Rattle.link_table.proofs.places.write_feeders.Given as goal
 
 abbrev pub invariant-loop-q : goal.invariant-loop-q
-invariant-loop-q l = record {
-  done : (k r : ℕ) → k < l.q → has (get_or l.feeders k 0) r ≡ (if r == l.p then has l.runs k else has (get_or l.fn.feeders k 0) r);
-  rest : (k : ℕ) → l.q ≤ k → get_or l.feeders k 0 ≡ get_or l.fn.feeders k 0;
-}
+invariant-loop-q l = IsFedSoFar l.fn.feeders l.p l.runs l.rest l.feeders
+
+abbrev pub decreases-loop-q : goal.decreases-loop-q
+decreases-loop-q l = 64 - rest_of l.rest

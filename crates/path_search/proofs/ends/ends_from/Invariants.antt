@@ -2,7 +2,7 @@ use Rattle.std.proofs.Common.{ℕ, ◌<◌, IsTrue}
 use Rattle.affinity_mask.specs.ProcSet.{has}
 use Rattle.path_search.specs.Paths.{Steps}
 use Rattle.path_search.proofs.Closures.{IsSearch}
-use Rattle.path_search.proofs.Rests.{rest_of}
+use Rattle.link_table.proofs.Rests.{rest_of}
 use Rattle.path_search.proofs.ends.ends_from.Given as goal
 
 abbrev pub invariant-loop-p : goal.invariant-loop-p

@@ -15,8 +15,7 @@ unreachable-requires t c =
 
 pub returns-then-n-eq0-clause-least : goal.returns-then-n-eq0-clause-least
 returns-then-n-eq0-clause-least t c =
-    let pushed = c.push.ensures ∙ ap (λ (xs : List ℕ). xs ++ c.in-Some.first ∷ []) c.new-chain.ensures in
-    subst (λ (path : List ℕ). IsLeastSuch (LeadsInto (Steps c.args.links.now c.args.direction) c.args.start c.args.target) path) (sym pushed)
+    subst (λ (path : List ℕ). IsLeastSuch (LeadsInto (Steps c.args.links.now c.args.direction) c.args.start c.args.target) path) (sym c.chain_of_one.ensures)
     (least_in_first (Steps c.args.links.now c.args.direction) c.args.start c.args.target (c.args.n + 1) c.at.result c.both-ends.result
     (level_at (Steps c.args.links.now c.args.direction) c.args.start c.args.levels.now c.args.n c.requires.levels c.requires.place c.at.result c.at.ensures) c.requires.met c.both-ends.ensures.contents
     (let first = c.if-n-eq0.true in omega arith) c.in-Some.first c.in-Some.ensures.least)
@@ -63,8 +62,8 @@ unreachable-requires-in_default-least t c =
     c.at-2.result c.after-after.result c.both.result c.after-after.ensures.contents c.both.ensures.contents
     (subst (λ (x : ℕ). IsTrue (has c.before_all-before.result x)) ends leads.2) (c.in_default-least.ensures.none.0 refl)
 
-pub push-requires-2-clause-room : goal.push-requires-2-clause-room
-push-requires-2-clause-room t c =
+pub push-requires-clause-room : goal.push-requires-clause-room
+push-requires-clause-room t c =
     let fits = IsAway-fits c.args.links.now c.processors-valid.ensures.valid c.args.direction c.args.start c.requires.start (c.args.n + 1) c.requires.met.meets.0 c.requires.met.meets.2 in
     let most = c.processors-valid.ensures.valid.processors in
     let l = c.least_through-chain.ensures.length in
@@ -75,7 +74,7 @@ returns-clause-least t c =
     let found = c.least_through-chain.ensures.least in
     let leads = found.itself in
     let ends = last_is_end (Steps c.args.links.now c.args.direction) c.args.start c.least_through-chain.result leads.0 c.args.n c.at-2.result leads.1 (let l = c.least_through-chain.ensures.length in let some = c.if-n-eq0.false in omega arith) c.at-2.ensures.value in
-    subst (λ (path : List ℕ). IsLeastSuch (LeadsInto (Steps c.args.links.now c.args.direction) c.args.start c.args.target) path) (sym c.push-2.ensures)
+    subst (λ (path : List ℕ). IsLeastSuch (LeadsInto (Steps c.args.links.now c.args.direction) c.args.start c.args.target) path) (sym c.push.ensures)
     (least_in_later (Steps c.args.links.now c.args.direction) c.args.start c.args.target (c.args.n + 1) c.at.result c.both-ends.result
     (level_at (Steps c.args.links.now c.args.direction) c.args.start c.args.levels.now c.args.n c.requires.levels c.requires.place c.at.result c.at.ensures) c.requires.met c.both-ends.ensures.contents
     (let some = c.if-n-eq0.false in omega arith) c.before_all-before.result c.before_all-before.ensures

@@ -3,12 +3,19 @@ use Rattle.std.proofs.lemmas.Bool.{true≢false}
 use Rattle.link_table.specs.Chain.{IsLeastSuch, EndsOnTask}
 use Rattle.link_table.proofs.Ends.{least_chain_to_idle, least_chain_to_task}
 use Rattle.link_table.proofs.Linked.{linked_number}
+use Rattle.link_table.proofs.Readiness.{absent_not_linked}
 use Rattle.task_shift.proofs.Arrivals.{occupied_reach, more_urgent_reach, nobody_reached}
 use Rattle.task_shift.proofs.arrival.come.Goals as goal
 use Rattle.task_shift.proofs.arrival.come.Goals.{After-unwrap-chain, in_default-least_urgent_on-via-in-Some-least_urgent_on+else-is_more_urgent, in_default-least_urgent_on-via-in_default-least_urgent_on}
 
 pub enter-requires-clause-simple : goal.enter-requires-clause-simple
 enter-requires-clause-simple c = (least_chain_to_idle c.args.links.now c.args.t c.chain_to_idle.ensures.valid).simple c.in-Some.chain c.in-Some.ensures.least
+
+pub enter-requires-clause-not_linked : goal.enter-requires-clause-not_linked
+enter-requires-clause-not_linked c = absent_not_linked c.args.links.now c.chain_to_idle.ensures.valid c.args.t c.requires.number c.requires.absent
+
+pub enter-requires-in-Some-least_urgent_on-clause-not_linked : goal.enter-requires-in-Some-least_urgent_on-clause-not_linked
+enter-requires-in-Some-least_urgent_on-clause-not_linked c = absent_not_linked c.args.links.now c.chain_to_idle.ensures.valid c.args.t c.requires.number c.requires.absent
 
 pub is_more_urgent-requires-clause-second : goal.is_more_urgent-requires-clause-second
 is_more_urgent-requires-clause-second c = linked_number c.args.links.now _ c.in-Some-least_urgent_on.out c.chain_to_idle.ensures.valid c.in-Some-least_urgent_on.ensures.test.there.2

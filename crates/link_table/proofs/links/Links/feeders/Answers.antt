@@ -14,4 +14,4 @@ returns-then-q-self-clause-contents c =
 pub returns-else-q-self-clause-contents : goal.returns-else-q-self-clause-contents
 returns-else-q-self-clause-contents c =
     subst (λ (s : State). (p : ℕ) → IsTrue (has c.empty.result p) ↔ CanShift s p c.args.q) c.self.view_is
-    (nobody_feeds (links_view c.self.inside) c.self.invariant c.empty.result c.args.q c.empty.ensures c.if-q-self.false)
+    (nobody_feeds (links_view c.self.inside) c.self.invariant.state c.empty.result c.args.q c.empty.ensures c.if-q-self.false)

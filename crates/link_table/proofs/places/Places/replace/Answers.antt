@@ -1,11 +1,20 @@
-use Rattle.std.proofs.Common.{◌≡◌, ℕ, ◌<◌, length, None, sym, ap, ◌∙◌, subst, arith}
+use Rattle.std.proofs.Common.{◌≡◌, ℕ, ◌<◌, length, Option, None, sym, ap, ◌∙◌, subst, arith}
 use Rattle.std.specs.Option.{ForSome}
 use Rattle.std.proofs.lemmas.List.{get_or_default, with_items_is}
 use Rattle.affinity_mask.specs.ProcSet.{has}
 use Rattle.link_table.specs.Layout.{Layout, occupant_in, runs_on, IsNowhere}
 use Rattle.link_table.specs.PlacesView.{places_view}
-use Rattle.link_table.proofs.Indexing.{IsIndex-replaced, length-places_with, occupant_listed}
+use Rattle.link_table.proofs.Indexing.{IsIndex-replaced, length-places_with, occupant_listed, runs_inside}
 use Rattle.link_table.proofs.places.Places.replace.Goals as goal
+
+pub runs_on-before-requires : goal.runs_on-before-requires
+runs_on-before-requires c = λ u e.
+    let s = c.self.inside in
+    let below = subst (λ (a : Layout). c.args.p < length a.on) (sym c.self.view_is) c.requires.processor in
+    let out = c.index-out.ensures ∙ get_or_default s.on.items c.args.p c.index-out.result.now None below in
+    let listed = occupant_listed (places_view s) s.of.items s.linked s.feeders.items c.self.invariant c.args.p u (sym out ∙ e) in
+    let count = c.self.invariant.places_count in
+    rw (← c.self.view_is) (omega arith)
 
 pub write_places-requires-clause-out : goal.write_places-requires-clause-out
 write_places-requires-clause-out c = λ u e.
@@ -29,3 +38,23 @@ invariant_of-self c =
     let feeders_length : length c.write_feeders.new.feeders ≡ length s.feeders.items = omega arith in
     IsIndex-replaced (places_view s) s.of.items s.linked s.feeders.items c.self.invariant c.args.p below c.args.guest number nowhere _ c.marked-self-inside.result _ c.write_feeders.new.feeders c.runs_on-runs.result
     (with_items_is s.of c.write_places.new.of (omega (arith, s.of.ok.0)) ∙ written) marks (with_items_is s.feeders c.write_feeders.new.feeders (omega (arith, s.feeders.ok.0))) feeders_length fed runs
+
+pub write_feeders-requires-clause-before_inside : goal.write_feeders-requires-clause-before_inside
+write_feeders-requires-clause-before_inside c =
+    let s = c.self.inside in
+    let before = subst (λ (a : Layout). (q : ℕ) → has c.runs_on-before.result q ≡ runs_on a c.index-out.result.now q) (sym c.self.view_is) c.runs_on-before.ensures in
+    rw c.deref_mut-2.ensures.value (runs_inside (places_view s) s.of.items s.linked s.feeders.items c.self.invariant c.index-out.result.now c.runs_on-before.result before)
+
+pub write_feeders-requires-clause-inside : goal.write_feeders-requires-clause-inside
+write_feeders-requires-clause-inside c =
+    let s = c.self.inside in
+    let runs = subst (λ (a : Layout). (q : ℕ) → has c.runs_on-runs.result q ≡ runs_on a c.args.guest q) (sym c.self.view_is) c.runs_on-runs.ensures in
+    rw c.deref_mut-2.ensures.value (runs_inside (places_view s) s.of.items s.linked s.feeders.items c.self.invariant c.args.guest c.runs_on-runs.result runs)
+
+pub write_feeders-requires-clause-as_before : goal.write_feeders-requires-clause-as_before
+write_feeders-requires-clause-as_before c =
+    let s = c.self.inside in
+    let below = subst (λ (a : Layout). c.args.p < length a.on) (sym c.self.view_is) c.requires.processor in
+    let out = c.index-out.ensures ∙ get_or_default s.on.items c.args.p c.index-out.result.now None below in
+    let before = subst (λ (a : Layout). (q : ℕ) → has c.runs_on-before.result q ≡ runs_on a c.index-out.result.now q) (sym c.self.view_is) c.runs_on-before.ensures in
+    rw c.deref_mut-2.ensures.value (λ q lt. c.self.invariant.fed q c.args.p (let count = c.self.invariant.feeders_count in omega arith) ∙ ap (λ (o : Option ℕ). runs_on (places_view s) o q) (sym out) ∙ sym (before q))

@@ -1,7 +1,7 @@
 use Rattle.std.proofs.Common.{refl}
 use Rattle.path_search.specs.Paths.{Steps}
 use Rattle.path_search.proofs.Moves.{IsUnionSoFar-start, IsUnionSoFar-more, IsUnionSoFar-end}
-use Rattle.path_search.proofs.Rests.{rest_grows}
+use Rattle.link_table.proofs.Rests.{rest_grows}
 use Rattle.path_search.proofs.direction.Direction.after_all.Goals as goal
 
 pub loop-p-init : goal.loop-p-init

@@ -1,7 +1,7 @@
 use Rattle.std.proofs.Common.{◌-◌}
 use Rattle.path_search.specs.Paths.{Steps}
 use Rattle.path_search.proofs.Moves.{IsUnionSoFar}
-use Rattle.path_search.proofs.Rests.{rest_of}
+use Rattle.link_table.proofs.Rests.{rest_of}
 use Rattle.path_search.proofs.direction.Direction.after_all.Given as goal
 
 abbrev pub invariant-loop-p : goal.invariant-loop-p
