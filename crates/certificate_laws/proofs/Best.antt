@@ -3,11 +3,11 @@ use Rattle.std.proofs.Common.{◌≡◌, ◌≢◌, ℕ, zero, suc, ◌<◌, ◌
 use Rattle.std.proofs.Math.Bool.{and-true}
 use Rattle.std.proofs.lemmas.Bool.{cases_lt, cases_eq, true≢false, and_from, and_left, and_right, le-leb, lt-leb}
 use Rattle.std.proofs.lemmas.Option.{same_Some}
-use Rattle.link_table.specs.State.{State, IsState, is_ready, is_linked, priority_of, task_count}
-use Rattle.link_table.specs.Placement.{TaskTest, IsPlacement, IsBetter}
-use Rattle.link_table.proofs.BestOnce.{best_is_unique}
-use Rattle.link_table.proofs.Linked.{place_in, task_on-linked}
-use Rattle.link_table.proofs.Unique.{ready_number}
+use Rattle.link_state.specs.State.{State, IsState, is_ready, is_linked, priority_of, task_count}
+use Rattle.link_state.specs.Placement.{TaskTest, IsPlacement, IsBetter}
+use Rattle.link_state.proofs.BestOnce.{best_is_unique}
+use Rattle.link_state.proofs.Linked.{place_in, task_on-linked}
+use Rattle.link_state.proofs.Unique.{ready_number}
 use Rattle.certificate_laws.specs.Laws.{HoldsWhereCertified, LinkedIsBest, LinkedIsOnlyBest, LinkedIsLargest}
 use Rattle.certificate_laws.proofs.Counts.{count_below, count_below-agree, count_below-one_more}
 use Rattle.certificate_laws.proofs.Fullness.{linked_keeps_up}

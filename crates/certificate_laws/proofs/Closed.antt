@@ -4,12 +4,12 @@ use Rattle.std.proofs.Common.{◌≡◌, ◌≢◌, ℕ, false, List, [], ◌∷
 use Rattle.std.proofs.lemmas.Bool.{cases_Bool, cases_eq, true≢false}
 use Rattle.std.proofs.lemmas.Option.{same_Some}
 use Rattle.affinity_mask.specs.ProcSet.{has, Within}
-use Rattle.link_table.specs.State.{State, effective_mask, task_on}
-use Rattle.link_table.specs.Chain.{IsWalk, IsChainOf, IsReach, IsSimple, occupant_after_shift}
-use Rattle.link_table.specs.Certificate.{IsCertificate}
-use Rattle.link_table.proofs.Paths.{IsChainOf-push}
-use Rattle.link_table.proofs.Shifts.{occupant-first, occupant-later, handed_on}
-use Rattle.link_table.proofs.Simple.{Avoids, IsSimple-head, IsSimple-tail}
+use Rattle.link_state.specs.State.{State, effective_mask, task_on}
+use Rattle.link_state.specs.Chain.{IsWalk, IsChainOf, IsReach, IsSimple, occupant_after_shift}
+use Rattle.link_state.specs.Certificate.{IsCertificate}
+use Rattle.link_state.proofs.Paths.{IsChainOf-push}
+use Rattle.link_state.proofs.Shifts.{occupant-first, occupant-later, handed_on}
+use Rattle.link_state.proofs.Simple.{Avoids, IsSimple-head, IsSimple-tail}
 
 -- each task on a processor of the set may run only within it
 abbrev pub IsClosed : State → ℕ → Type 0

@@ -1,7 +1,7 @@
 -- What can be found among finitely many numbers: whether one has a property, and the first one that has it.
 use Rattle.std.proofs.Common.{◌≡◌, ℕ, zero, suc, ◌<◌, ◌≤◌, sym, subst, inl, inr, ◌⊎◌, arith}
 use Rattle.std.proofs.lemmas.Bool.{cases_lt}
-use Rattle.link_table.proofs.Least.{Decided}
+use Rattle.link_state.proofs.Least.{Decided}
 
 -- of the numbers below n with a property, one that comes before all of them, or there is none
 abbrev pub FirstBelow : (ℕ → Type 0) → (ℕ → ℕ → Type 0) → ℕ → Type 0

@@ -6,11 +6,11 @@ use Rattle.std.proofs.Common.{◌≡◌, ℕ, ◌≤◌, true, ◌&&◌, Some, r
 use Rattle.std.proofs.lemmas.Bool.{cases_Bool, cases_lt, true≢false, and_from, and_parts, le-leb, leb-true}
 use Rattle.std.proofs.lemmas.Option.{same_Some}
 use Rattle.affinity_mask.specs.ProcSet.{has}
-use Rattle.link_table.specs.State.{State, IsState, IsWaiting, is_ready, is_linked, task_on, effective_mask, priority_of, task_count}
-use Rattle.link_table.specs.Placement.{TaskTest, IsPlacement, IsSubset}
-use Rattle.link_table.specs.Certificate.{IsCertificate}
-use Rattle.link_table.proofs.Linked.{place_in, task_on-linked, is_linked-from_on, linked_number}
-use Rattle.link_table.proofs.Unique.{ready_number}
+use Rattle.link_state.specs.State.{State, IsState, IsWaiting, is_ready, is_linked, task_on, effective_mask, priority_of, task_count}
+use Rattle.link_state.specs.Placement.{TaskTest, IsPlacement, IsSubset}
+use Rattle.link_state.specs.Certificate.{IsCertificate}
+use Rattle.link_state.proofs.Linked.{place_in, task_on-linked, is_linked-from_on, linked_number}
+use Rattle.link_state.proofs.Unique.{ready_number}
 use Rattle.certificate_laws.specs.Certified.{HasCertificates}
 use Rattle.certificate_laws.specs.Laws.{HoldsWhereCertified, LinkedKeepsUp}
 use Rattle.certificate_laws.proofs.Counts.{IsInjection, count_below-injection, search_below}

@@ -3,10 +3,10 @@ use Rattle.std.proofs.Common.{◌≡◌, ℕ, ◌<◌, List, Option, Some, None,
 use Rattle.std.proofs.lemmas.Option.{same_Some}
 use Rattle.task_set.specs.TaskSet.{SetData, IsTaskSet}
 use Rattle.scheduler_reply.specs.declared.reply.Entry.{Entry}
-use Rattle.link_table.specs.State.{State, task_on, priority_of}
-use Rattle.link_table.specs.Chain.{IsChainOf}
-use Rattle.link_table.specs.Certificate.{IsCertificate}
-use Rattle.link_table.specs.History.{state_at}
+use Rattle.link_state.specs.State.{State, task_on, priority_of}
+use Rattle.link_state.specs.Chain.{IsChainOf}
+use Rattle.link_state.specs.Certificate.{IsCertificate}
+use Rattle.link_state.specs.History.{state_at}
 use Rattle.certificate_laws.specs.Certified.{HasCertificates}
 use Rattle.certificate_laws.specs.Improving.{HasNoImprovingChain, HasNoImprovingChainThroughout}
 use Rattle.certificate_laws.specs.Passing.{IsPassing}

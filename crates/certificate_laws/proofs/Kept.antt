@@ -6,11 +6,11 @@ use Rattle.task_set.specs.TaskSet.{SetData, IsTaskSet}
 use Rattle.task_set.specs.declared.event.Event.{Event}
 use Rattle.scheduler_reply.specs.declared.reply.Reply.{Reply}
 use Rattle.scheduler_reply.specs.declared.reply.Entry.{Entry}
-use Rattle.link_table.specs.State.{State, IsState, start_of}
-use Rattle.link_table.specs.Step.{SchedulerStep}
-use Rattle.link_table.specs.History.{effect_of, state_after, state_at, IsLegal, IsLegalFrom, IsBestThroughout}
-use Rattle.link_table.proofs.Start.{IsState-start, none_ready}
-use Rattle.link_table.proofs.Steps.{reply_gives_new_state}
+use Rattle.link_state.specs.State.{State, IsState, start_of}
+use Rattle.link_state.specs.Step.{SchedulerStep}
+use Rattle.link_state.specs.History.{effect_of, state_after, state_at, IsLegal, IsLegalFrom, IsBestThroughout}
+use Rattle.link_state.proofs.Start.{IsState-start, none_ready}
+use Rattle.link_state.proofs.Steps.{reply_gives_new_state}
 use Rattle.certificate_laws.specs.Certified.{HasCertificates, IsCertifiedThroughout}
 use Rattle.certificate_laws.specs.Justification.{HasJustification}
 use Rattle.certificate_laws.specs.Laws.{HoldsThroughout}

@@ -6,12 +6,12 @@ use Rattle.std.proofs.lemmas.Option.{same_Some}
 use Rattle.affinity_mask.specs.ProcSet.{has, Within}
 use Rattle.scheduler_reply.specs.declared.reply.Came.{Came}
 use Rattle.scheduler_reply.specs.declared.reply.Came.TheVariants.{Placed, Displaced, Waits}
-use Rattle.link_table.specs.State.{State, IsState, is_ready, task_count, task_on, effective_mask, priority_of, state_with_ready}
-use Rattle.link_table.specs.Chain.{state_after_shift}
-use Rattle.link_table.specs.Certificate.{IsCertificate}
-use Rattle.link_table.specs.History.{state_after_came}
-use Rattle.link_table.proofs.Readiness.{IsState-state_with_ready, IsWaiting-state_with_ready}
-use Rattle.link_table.proofs.Steps.{IsChainOf-state_with_ready}
+use Rattle.link_state.specs.State.{State, IsState, is_ready, task_count, task_on, effective_mask, priority_of, state_with_ready}
+use Rattle.link_state.specs.Chain.{state_after_shift}
+use Rattle.link_state.specs.Certificate.{IsCertificate}
+use Rattle.link_state.specs.History.{state_after_came}
+use Rattle.link_state.proofs.Readiness.{IsState-state_with_ready, IsWaiting-state_with_ready}
+use Rattle.link_state.proofs.Steps.{IsChainOf-state_with_ready}
 use Rattle.certificate_laws.specs.Certified.{HasCertificates}
 use Rattle.certificate_laws.specs.Justification.{WaitsBehind, JustifiesCame}
 use Rattle.certificate_laws.specs.Passing.{PlacedPasses, DisplacedPasses, CamePasses}

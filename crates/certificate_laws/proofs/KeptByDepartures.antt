@@ -8,16 +8,16 @@ use Rattle.std.proofs.lemmas.Option.{same_Some}
 use Rattle.std.proofs.lemmas.Nat.Bits.{bit_at_xor, bit_at_and, bit_at-lt}
 use Rattle.affinity_mask.specs.ProcSet.{has}
 use Rattle.scheduler_reply.specs.declared.reply.Gone.{Gone}
-use Rattle.link_table.specs.State.{State, IsState, IsWaiting, IsMoreUrgent, is_ready, task_count, task_on, priority_of, state_with_absent, state_after_leaving}
-use Rattle.link_table.specs.Chain.{IsChainOf, IsSimple, CanEnterAt, state_after_shift}
-use Rattle.link_table.specs.Certificate.{IsCertificate}
-use Rattle.link_table.specs.Step.{IsMostUrgentInto}
-use Rattle.link_table.specs.History.{state_after_entering, state_after_gone}
-use Rattle.link_table.proofs.Leaving.{task_on-state_after_leaving, task_on-stays, task_on-left, IsState-state_after_leaving}
-use Rattle.link_table.proofs.Linked.{not_on, not_linked-from_on}
-use Rattle.link_table.proofs.Paths.{IsChainOf-reverse}
-use Rattle.link_table.proofs.Simple.{IsSimple-reverse}
-use Rattle.link_table.proofs.Unique.{ready_number}
+use Rattle.link_state.specs.State.{State, IsState, IsWaiting, IsMoreUrgent, is_ready, task_count, task_on, priority_of, state_with_absent, state_after_leaving}
+use Rattle.link_state.specs.Chain.{IsChainOf, IsSimple, CanEnterAt, state_after_shift}
+use Rattle.link_state.specs.Certificate.{IsCertificate}
+use Rattle.link_state.specs.Step.{IsMostUrgentInto}
+use Rattle.link_state.specs.History.{state_after_entering, state_after_gone}
+use Rattle.link_state.proofs.Leaving.{task_on-state_after_leaving, task_on-stays, task_on-left, IsState-state_after_leaving}
+use Rattle.link_state.proofs.Linked.{not_on, not_linked-from_on}
+use Rattle.link_state.proofs.Paths.{IsChainOf-reverse}
+use Rattle.link_state.proofs.Simple.{IsSimple-reverse}
+use Rattle.link_state.proofs.Unique.{ready_number}
 use Rattle.certificate_laws.specs.Held.{IsHeldAgainst}
 use Rattle.certificate_laws.specs.Certified.{HasCertificates}
 use Rattle.certificate_laws.specs.Justification.{LeavesNobody}

@@ -6,13 +6,13 @@ use Rattle.std.proofs.lemmas.Option.{same_Some}
 use Rattle.std.proofs.lemmas.List.FromFn.{get_or-map-range_with_len}
 use Rattle.affinity_mask.specs.ProcSet.{has, Within}
 use Rattle.affinity_mask.proofs.Sets.{has-or}
-use Rattle.link_table.specs.State.{State, IsState, IsWaiting, IsMoreUrgent, is_linked, task_on, effective_mask, priority_of}
-use Rattle.link_table.specs.Chain.{IsChainOf, IsSimple, occupant_after_shift, state_after_shift}
-use Rattle.link_table.specs.Certificate.{IsCertificate}
-use Rattle.link_table.proofs.Linked.{place_in, task_on-linked, is_linked-from_on, not_on, not_linked-from_on, linked_number}
-use Rattle.link_table.proofs.Masks.{effective_mask_below}
-use Rattle.link_table.proofs.Shifts.{occupant_allowed, handed_on-end, task_on-state_after_shift, task_put_out-end}
-use Rattle.link_table.proofs.Simple.{Avoids-none}
+use Rattle.link_state.specs.State.{State, IsState, IsWaiting, IsMoreUrgent, is_linked, task_on, effective_mask, priority_of}
+use Rattle.link_state.specs.Chain.{IsChainOf, IsSimple, occupant_after_shift, state_after_shift}
+use Rattle.link_state.specs.Certificate.{IsCertificate}
+use Rattle.link_state.proofs.Linked.{place_in, task_on-linked, is_linked-from_on, not_on, not_linked-from_on, linked_number}
+use Rattle.link_state.proofs.Masks.{effective_mask_below}
+use Rattle.link_state.proofs.Shifts.{occupant_allowed, handed_on-end, task_on-state_after_shift, task_put_out-end}
+use Rattle.link_state.proofs.Simple.{Avoids-none}
 use Rattle.certificate_laws.specs.Held.{IsHeldAgainst}
 use Rattle.certificate_laws.specs.Certified.{HasCertificates}
 use Rattle.certificate_laws.specs.Justification.{WaitsBehind}

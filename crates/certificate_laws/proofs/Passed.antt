@@ -8,19 +8,19 @@ use Rattle.scheduler_reply.specs.declared.reply.Came.TheVariants.{Placed, Displa
 use Rattle.scheduler_reply.specs.declared.reply.Gone.{Gone}
 use Rattle.scheduler_reply.specs.declared.reply.Reply.{Reply}
 use Rattle.scheduler_reply.specs.Reply.{came_of, gone_of}
-use Rattle.link_table.specs.State.{State, IsState, IsIdle, is_ready, task_count, task_on, state_after_leaving}
-use Rattle.link_table.specs.Chain.{CanShift, IsBackChain, IsBackReach, IsPath}
-use Rattle.link_table.specs.Step.{Comes, ArriveStep, EnterStep, DepartStep}
-use Rattle.link_table.specs.History.{state_after_entering, state_after_came, state_after_reply}
-use Rattle.link_table.proofs.Ends.{least_chain_is_simple, least_back_chain_is_simple}
-use Rattle.link_table.proofs.Leaving.{IsState-state_with_absent, IsState-state_after_leaving, task_on-state_after_leaving}
-use Rattle.link_table.proofs.Linked.{occupied_number}
-use Rattle.link_table.proofs.Paths.{IsPath-push, IsChainOf-reverse}
-use Rattle.link_table.proofs.Readiness.{IsState-state_with_ready}
+use Rattle.link_state.specs.State.{State, IsState, IsIdle, is_ready, task_count, task_on, state_after_leaving}
+use Rattle.link_state.specs.Chain.{CanShift, IsBackChain, IsBackReach, IsPath}
+use Rattle.link_state.specs.Step.{Comes, ArriveStep, EnterStep, DepartStep}
+use Rattle.link_state.specs.History.{state_after_entering, state_after_came, state_after_reply}
+use Rattle.link_state.proofs.Ends.{least_chain_is_simple, least_back_chain_is_simple}
+use Rattle.link_state.proofs.Leaving.{IsState-state_with_absent, IsState-state_after_leaving, task_on-state_after_leaving}
+use Rattle.link_state.proofs.Linked.{occupied_number}
+use Rattle.link_state.proofs.Paths.{IsPath-push, IsChainOf-reverse}
+use Rattle.link_state.proofs.Readiness.{IsState-state_with_ready}
 use Rattle.scheduler_reply.proofs.Replies.{came_said, gone_said, one_came, one_gone}
-use Rattle.link_table.proofs.Shifts.{IsState-state_after_shift}
-use Rattle.link_table.proofs.Simple.{IsSimple-reverse}
-use Rattle.link_table.proofs.Steps.{IsState-arrived, effect_of_came}
+use Rattle.link_state.proofs.Shifts.{IsState-state_after_shift}
+use Rattle.link_state.proofs.Simple.{IsSimple-reverse}
+use Rattle.link_state.proofs.Steps.{IsState-arrived, effect_of_came}
 use Rattle.certificate_laws.specs.PassingLaws.{PassingKeepsState, PassingKeepsCertificates, PassingHasJustification, StepPasses}
 use Rattle.certificate_laws.specs.Certified.{HasCertificates}
 use Rattle.certificate_laws.specs.Justification.{JustifiesCame, LeavesNobody, HasJustification}

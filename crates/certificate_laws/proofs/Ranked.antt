@@ -1,8 +1,8 @@
 -- A set with k tasks has a k-th most urgent one; and where it keeps up with another set, it is as urgent rank by rank.
 use Rattle.std.proofs.Common.{◌≡◌, ◌≢◌, ℕ, zero, suc, ◌<◌, ◌≤◌, Bool, true, ◌&&◌, sym, ap, ◌∙◌, inl, inr, ◌⊎◌, arith, nat_le, nat_lt}
 use Rattle.std.proofs.lemmas.Bool.{cases_Bool, cases_lt, cases_eq, true≢false, and_from, and_left, and_right, le-leb, lt-leb, lt-ltb, le-ltb}
-use Rattle.link_table.specs.State.{State, IsState, is_linked, priority_of, task_count}
-use Rattle.link_table.specs.Placement.{TaskTest}
+use Rattle.link_state.specs.State.{State, IsState, is_linked, priority_of, task_count}
+use Rattle.link_state.specs.Placement.{TaskTest}
 use Rattle.certificate_laws.specs.Ranks.{IsRanked}
 use Rattle.certificate_laws.specs.Laws.{HoldsWhereCertified, LinkedIsAsUrgent}
 use Rattle.certificate_laws.proofs.Counts.{count_below, count_below-zero, count_below-same, count_below-agree, count_below-one_more, search_below}

@@ -4,9 +4,9 @@
 use Rattle.std.specs.Prelude.{ℕ, ◌≤◌, List, length, slice_index}
 use Rattle.task_set.specs.TaskSet.{SetData}
 use Rattle.scheduler_reply.specs.declared.reply.Entry.{Entry}
-use Rattle.link_table.specs.State.{State, IsState, IsWaiting}
-use Rattle.link_table.specs.History.{state_at}
-use Rattle.link_table.specs.Certificate.{IsCertificate}
+use Rattle.link_state.specs.State.{State, IsState, IsWaiting}
+use Rattle.link_state.specs.History.{state_at}
+use Rattle.link_state.specs.Certificate.{IsCertificate}
 
 -- each waiting task has a certificate
 abbrev pub HasCertificates : State → Type 0

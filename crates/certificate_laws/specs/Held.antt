@@ -3,7 +3,7 @@
 -- either, and each processor of the set is held against it.
 use Rattle.std.specs.Prelude.{◌≡◌, ℕ, Some}
 use Rattle.affinity_mask.specs.ProcSet.{Within}
-use Rattle.link_table.specs.State.{State, effective_mask, task_on, IsMoreUrgent}
+use Rattle.link_state.specs.State.{State, effective_mask, task_on, IsMoreUrgent}
 
 -- the occupant of p is more urgent than w, and may run only within the set
 abbrev pub IsHeldAgainst : State → ℕ → ℕ → ℕ → Type 0

@@ -2,9 +2,9 @@
 use Rattle.std.specs.Prelude.{ℕ, ◌≤◌, List, length}
 use Rattle.task_set.specs.TaskSet.{SetData}
 use Rattle.scheduler_reply.specs.declared.reply.Entry.{Entry}
-use Rattle.link_table.specs.State.{State}
-use Rattle.link_table.specs.Chain.{IsImproving}
-use Rattle.link_table.specs.History.{state_at}
+use Rattle.link_state.specs.State.{State}
+use Rattle.link_state.specs.Chain.{IsImproving}
+use Rattle.link_state.specs.History.{state_at}
 
 -- no task has an improving chain
 abbrev pub HasNoImprovingChain : State → Type 0

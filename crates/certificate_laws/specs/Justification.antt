@@ -10,10 +10,10 @@ use Rattle.scheduler_reply.specs.declared.reply.Came.TheVariants.{Placed, Displa
 use Rattle.scheduler_reply.specs.declared.reply.Gone.{Gone}
 use Rattle.scheduler_reply.specs.declared.reply.Reply.{Reply}
 use Rattle.scheduler_reply.specs.Reply.{reply_of_came, reply_of_gone}
-use Rattle.link_table.specs.State.{State, IsWaiting, IsMoreUrgent}
-use Rattle.link_table.specs.Chain.{CanEnterAt}
-use Rattle.link_table.specs.Step.{IsNobodyInto}
-use Rattle.link_table.specs.Certificate.{IsCertificate}
+use Rattle.link_state.specs.State.{State, IsWaiting, IsMoreUrgent}
+use Rattle.link_state.specs.Chain.{CanEnterAt}
+use Rattle.link_state.specs.Step.{IsNobodyInto}
+use Rattle.link_state.specs.Certificate.{IsCertificate}
 
 -- the set certifies a task that waits
 pub record WaitsBehind (s : State) (t set : ℕ) : Type 0 where

@@ -1,9 +1,9 @@
 -- What certificates say of the linked tasks.
 use Rattle.std.specs.Prelude.{◌≡◌, ℕ, ◌≤◌, List, length, take}
 use Rattle.scheduler_reply.specs.declared.reply.Entry.{Entry}
-use Rattle.link_table.specs.State.{State, IsState, is_ready, is_linked}
-use Rattle.link_table.specs.History.{state_after}
-use Rattle.link_table.specs.Placement.{TaskTest, IsPlaceable, IsSubset, IsBest}
+use Rattle.link_state.specs.State.{State, IsState, is_ready, is_linked}
+use Rattle.link_state.specs.History.{state_after}
+use Rattle.link_state.specs.Placement.{TaskTest, IsPlaceable, IsSubset, IsBest}
 use Rattle.certificate_laws.specs.Certified.{HasCertificates}
 use Rattle.certificate_laws.specs.Ranks.{tasks_of, KeepsUp, IsAsUrgent}
 

@@ -15,11 +15,11 @@ use Rattle.scheduler_reply.specs.declared.reply.Reply.{Reply}
 use Rattle.scheduler_reply.specs.declared.reply.Reply.TheVariants.{Left, Ticked, AlreadyReady, NotReady}
 use Rattle.scheduler_reply.specs.Reply.{reply_of_came, reply_of_gone}
 use Rattle.scheduler_reply.specs.declared.reply.Entry.{Entry}
-use Rattle.link_table.specs.State.{State, effective_mask, task_on, task_count, is_ready, priority_of, start_of, IsWaiting, IsMoreUrgent, state_after_leaving}
-use Rattle.link_table.specs.Chain.{CanShift, IsSimple, EndsIdle, EndsOnTask, EntersBy}
-use Rattle.link_table.specs.Certificate.{IsCertificate}
-use Rattle.link_table.specs.Step.{IsNobodyInto, IsMostUrgentInto}
-use Rattle.link_table.specs.History.{effect_of}
+use Rattle.link_state.specs.State.{State, effective_mask, task_on, task_count, is_ready, priority_of, start_of, IsWaiting, IsMoreUrgent, state_after_leaving}
+use Rattle.link_state.specs.Chain.{CanShift, IsSimple, EndsIdle, EndsOnTask, EntersBy}
+use Rattle.link_state.specs.Certificate.{IsCertificate}
+use Rattle.link_state.specs.Step.{IsNobodyInto, IsMostUrgentInto}
+use Rattle.link_state.specs.History.{effect_of}
 
 -- t is placed: the chain ends on an idle processor
 pub record PlacedPasses (s : State) (t : ℕ) (chain : List ℕ) : Type 0 where

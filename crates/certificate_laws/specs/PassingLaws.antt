@@ -2,9 +2,9 @@
 -- function of `laws`.
 use Rattle.task_set.specs.declared.event.Event.{Event}
 use Rattle.scheduler_reply.specs.declared.reply.Reply.{Reply}
-use Rattle.link_table.specs.State.{State, IsState}
-use Rattle.link_table.specs.Step.{SchedulerStep}
-use Rattle.link_table.specs.History.{state_after_reply}
+use Rattle.link_state.specs.State.{State, IsState}
+use Rattle.link_state.specs.Step.{SchedulerStep}
+use Rattle.link_state.specs.History.{state_after_reply}
 use Rattle.certificate_laws.specs.Certified.{HasCertificates}
 use Rattle.certificate_laws.specs.Justification.{HasJustification}
 use Rattle.certificate_laws.specs.Passing.{Passes}

@@ -3,8 +3,8 @@
 -- k-th most urgent task of a set is the one up to whose priority the set has k tasks, itself among them.
 use Rattle.std.specs.Prelude.{◌≡◌, ℕ, ◌≤◌, true, ◌&&◌, List, length, nat_le}
 use Rattle.affinity_mask.specs.ProcSet.{passing_below}
-use Rattle.link_table.specs.State.{State, task_count, priority_of}
-use Rattle.link_table.specs.Placement.{TaskTest}
+use Rattle.link_state.specs.State.{State, task_count, priority_of}
+use Rattle.link_state.specs.Placement.{TaskTest}
 
 -- the tasks of a set, by their numbers
 abbrev pub tasks_of : State → TaskTest → List ℕ

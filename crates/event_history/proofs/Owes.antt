@@ -4,9 +4,9 @@ use mathlib.Core.List.{IsPrefix}
 use Rattle.task_set.specs.TaskSet.{SetData, IsTaskSet}
 use Rattle.task_set.specs.declared.order.Order.{Order}
 use Rattle.scheduler_reply.specs.declared.reply.Entry.{Entry}
-use Rattle.link_table.specs.State.{State, start_of}
-use Rattle.link_table.specs.History.{IsLegal}
-use Rattle.link_table.specs.Dispatch.{orders_of, closed_orders_of}
+use Rattle.link_state.specs.State.{State, start_of}
+use Rattle.link_state.specs.History.{IsLegal}
+use Rattle.link_state.specs.Dispatch.{orders_of, closed_orders_of}
 use Rattle.order_queues.specs.Ends.{QueueData, SenderData, new_sender}
 use Rattle.sched_core.specs.CoreData.{CoreData, IsCore, core_orders, entry_of, max_entries}
 use Rattle.sched_core.specs.declared.fault.CoreFault.{CoreFault}

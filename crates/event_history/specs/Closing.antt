@@ -2,8 +2,8 @@
 use Rattle.std.specs.Prelude.{◌≡◌, Bool, true, List, [], ◌∷◌}
 use mathlib.Core.List.{IsPrefix}
 use Rattle.scheduler_reply.specs.declared.reply.Entry.{Entry}
-use Rattle.link_table.specs.State.{start_of}
-use Rattle.link_table.specs.History.{IsLegal}
+use Rattle.link_state.specs.State.{start_of}
+use Rattle.link_state.specs.History.{IsLegal}
 use Rattle.sched_core.specs.CoreData.{CoreData}
 use Rattle.order_queues.specs.Ends.{SenderData}
 use Rattle.event_history.specs.Boards.{BoardData, PassData}

@@ -4,7 +4,7 @@ use mathlib.Core.List.{IsPrefix}
 use Rattle.task_set.specs.TaskSet.{SetData}
 use Rattle.task_set.specs.declared.event.Event.{Event}
 use Rattle.scheduler_reply.specs.declared.reply.Entry.{Entry}
-use Rattle.link_table.specs.History.{IsLegal}
+use Rattle.link_state.specs.History.{IsLegal}
 use Rattle.sched_core.specs.CoreData.{entry_of, max_entries}
 use Rattle.event_history.specs.declared.fault.Receipt.{Receipt}
 use Rattle.event_history.specs.declared.fault.PostFault.{PostFault}

@@ -2,7 +2,7 @@
 //! may be made from several threads at once.
 ghost use Rattle.std.specs.Prelude.{◌≡◌, ◌∷◌, [], length};
 ghost use Rattle.certificate_laws.specs.Passing.{IsOfTask};
-ghost use Rattle.link_table.specs.State.{task_count};
+ghost use Rattle.link_state.specs.State.{task_count};
 ghost use Rattle.event_history.specs.Boards.{AreAll, Grown};
 
 use crate::{Board, EndFault, Pass, PostFault, Receipt};

@@ -4,9 +4,9 @@ use Rattle.std.proofs.lemmas.List.{get_or-append-add}
 use Rattle.task_set.specs.declared.context.Context.{Context}
 use Rattle.task_set.specs.declared.event.Event.{Event}
 use Rattle.scheduler_reply.specs.declared.reply.Entry.{Entry}
-use Rattle.link_table.specs.State.{State, IsState}
-use Rattle.link_table.specs.History.{effect_of}
-use Rattle.link_table.proofs.Steps.{reply_gives_new_state}
+use Rattle.link_state.specs.State.{State, IsState}
+use Rattle.link_state.specs.History.{effect_of}
+use Rattle.link_state.proofs.Steps.{reply_gives_new_state}
 use Rattle.certificate_laws.specs.Passing.{Passes}
 use Rattle.certificate_laws.proofs.Passed.{step_passes}
 use Rattle.reach_certificate.specs.Contexts.{context_after_entry, EachBecomes}

@@ -7,18 +7,18 @@ use Rattle.task_set.specs.TaskSet.{SetData, IsTaskSet, TaskData}
 use Rattle.task_set.specs.Context.{fresh_context}
 use Rattle.task_set.specs.declared.context.Context.{Context}
 use Rattle.scheduler_reply.specs.declared.reply.Entry.{Entry}
-use Rattle.link_table.specs.State.{State, IsState, start_of, task_count}
-use Rattle.link_table.specs.Step.{SchedulerStep}
-use Rattle.link_table.specs.History.{IsLegal, state_after, effect_of}
-use Rattle.link_table.specs.Dispatch.{context_of, contexts_of}
-use Rattle.link_table.proofs.Histories.{state_after-push, IsLegalFrom-push, IsState-state_after}
-use Rattle.link_table.proofs.Start.{IsState-start}
-use Rattle.link_table.proofs.Steps.{reply_gives_new_state}
+use Rattle.link_state.specs.State.{State, IsState, start_of, task_count}
+use Rattle.link_state.specs.Step.{SchedulerStep}
+use Rattle.link_state.specs.History.{IsLegal, state_after, effect_of}
+use Rattle.link_state.specs.Dispatch.{context_of, contexts_of}
+use Rattle.link_state.proofs.Histories.{state_after-push, IsLegalFrom-push, IsState-state_after}
+use Rattle.link_state.proofs.Start.{IsState-start}
+use Rattle.link_state.proofs.Steps.{reply_gives_new_state}
 use Rattle.trace_reader.specs.declared.posted.Posted.{Posted}
 use Rattle.reach_certificate.specs.Contexts.{context_after_entry, EachBecomes}
 use Rattle.event_replay.specs.Replay.{posted_of}
 use Rattle.reach_certificate.proofs.ContextsFollow.{contexts-follow}
-use Rattle.link_table.proofs.SameTasks.{same_tasks-history}
+use Rattle.link_state.proofs.SameTasks.{same_tasks-history}
 
 -- after n events
 pub record IsRunning (set : SetData) (events : List Posted) (n : ℕ) (links : State) (entries : List Entry) (contexts : List Context) : Type 0 where

@@ -4,8 +4,8 @@ use Rattle.std.specs.Prelude.{◌≡◌, ℕ, List, length, map}
 use Rattle.task_set.specs.TaskSet.{SetData}
 use Rattle.task_set.specs.declared.context.Context.{Context}
 use Rattle.scheduler_reply.specs.declared.reply.Entry.{Entry}
-use Rattle.link_table.specs.History.{IsLegal}
-use Rattle.link_table.specs.Dispatch.{contexts_of}
+use Rattle.link_state.specs.History.{IsLegal}
+use Rattle.link_state.specs.Dispatch.{contexts_of}
 use Rattle.certificate_laws.specs.Passing.{IsOfTask}
 use Rattle.trace_reader.specs.declared.posted.Posted.{Posted}
 

@@ -1,6 +1,6 @@
 //! What the scheduler does at each of the events, and what the tasks have then run.
 ghost use Rattle.std.specs.Prelude.{◌≡◌, ◌<◌, ◌≤◌, IfOk, All, length, true, false};
-ghost use Rattle.link_table.specs.State.{start_of, task_count};
+ghost use Rattle.link_state.specs.State.{start_of, task_count};
 ghost use Rattle.event_replay.specs.Replay.{IsKnown, Schedules};
 ghost use Rattle.certificate_laws.specs.Passing.{IsOfTask};
 ghost use Rattle.sched_core.specs.CoreData.{Applied, max_entries};

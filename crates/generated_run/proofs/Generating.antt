@@ -13,7 +13,7 @@ use Rattle.trace_reader.specs.CanonicalText.{canonical_input_text}
 use Rattle.trace_reader.specs.InputText.{IsInputText}
 use Rattle.generated_input.proofs.OneInput.{one_input}
 use Rattle.event_replay.specs.Replay.{posted_of, Schedules}
-use Rattle.link_table.specs.Dispatch.{contexts_of}
+use Rattle.link_state.specs.Dispatch.{contexts_of}
 use Rattle.thread_replay.specs.Replayed.{IsReplayOf}
 use Rattle.generated_run.specs.Generating.{IsInputOf, WritesInput, IsMakeOf, Summarizes, IsLargeOf}
 use Rattle.generated_run.specs.Summary.{summary_text}

@@ -10,9 +10,9 @@ use Rattle.task_set.specs.declared.order.Order.TheVariants.{Release, Take, Run, 
 use Rattle.scheduler_reply.specs.declared.reply.Reply.{Reply}
 use Rattle.scheduler_reply.specs.declared.reply.Reply.TheVariants.{Placed, Displaced, Waits, Freed, Left, Ticked, AlreadyReady, NotReady}
 use Rattle.scheduler_reply.specs.declared.reply.Entry.{Entry}
-use Rattle.link_table.specs.State.{start_of}
-use Rattle.link_table.specs.History.{state_after}
-use Rattle.link_table.specs.Dispatch.{closed_orders_of, context_of}
+use Rattle.link_state.specs.State.{start_of}
+use Rattle.link_state.specs.History.{state_after}
+use Rattle.link_state.specs.Dispatch.{closed_orders_of, context_of}
 
 -- a task without a name, which plays no part here; a mask is written as the number whose ones are its processors
 abbrev pub task : ℕ → ℕ → TaskData

@@ -12,11 +12,11 @@ use Rattle.scheduler_reply.specs.declared.reply.Came.TheVariants as came
 use Rattle.scheduler_reply.specs.declared.reply.Reply.TheVariants.{Placed, Waits, AlreadyReady}
 use Rattle.scheduler_reply.specs.Reply.{reply_of_came}
 use Rattle.scheduler_reply.specs.declared.reply.Entry.{Entry}
-use Rattle.link_table.specs.State.{State, IsIdle, IsWaiting, is_ready, task_on, effective_mask, priority_of, state_after_leaving}
-use Rattle.link_table.specs.Chain.{CanShift, IsPath, IsWalk, IsChainOf, IsReach, IsBackReach, IsBackChain, Reaches, IsLess, IsLeastSuch, EndsIdle, EntersBy}
-use Rattle.link_table.specs.Step.{Comes, ComesPlaced, ComesWaits, ArriveStep, IsMostUrgentInto}
-use Rattle.link_table.specs.History.{IsLegal, state_at}
-use Rattle.link_table.proofs.Paths.{Reaches-online}
+use Rattle.link_state.specs.State.{State, IsIdle, IsWaiting, is_ready, task_on, effective_mask, priority_of, state_after_leaving}
+use Rattle.link_state.specs.Chain.{CanShift, IsPath, IsWalk, IsChainOf, IsReach, IsBackReach, IsBackChain, Reaches, IsLess, IsLeastSuch, EndsIdle, EntersBy}
+use Rattle.link_state.specs.Step.{Comes, ComesPlaced, ComesWaits, ArriveStep, IsMostUrgentInto}
+use Rattle.link_state.specs.History.{IsLegal, state_at}
+use Rattle.link_state.proofs.Paths.{Reaches-online}
 use Rattle.scheduler_reply.proofs.Replies.{one_came}
 use Rattle.history_laws.proofs.Examples.{first_shift_set, first_shift, waits_with_a_reach_wider_than_its_mask_set, enters_through_a_back_chain_set, enters_through_a_back_chain, task, entry}
 

@@ -3,9 +3,9 @@ use Rattle.std.proofs.Common.{List, take, sym, ◌∙◌}
 use Rattle.std.proofs.lemmas.Bool.{true≢false}
 use Rattle.task_set.specs.TaskSet.{SetData, IsTaskSet}
 use Rattle.scheduler_reply.specs.declared.reply.Entry.{Entry}
-use Rattle.link_table.specs.State.{State, IsState, start_of}
-use Rattle.link_table.specs.History.{IsLegal, state_after}
-use Rattle.link_table.proofs.Start.{IsState-start}
+use Rattle.link_state.specs.State.{State, IsState, start_of}
+use Rattle.link_state.specs.History.{IsLegal, state_after}
+use Rattle.link_state.proofs.Start.{IsState-start}
 use Rattle.certificate_laws.specs.Certified.{HasCertificates}
 use Rattle.certificate_laws.specs.Improving.{HasNoImprovingChain}
 use Rattle.certificate_laws.specs.Laws.{HoldsThroughout, HoldsWhereCertified, LinkedIsBest, LinkedIsLargest, LinkedIsAsUrgent}

@@ -9,15 +9,15 @@ use Rattle.scheduler_reply.specs.declared.reply.Came.{Came}
 use Rattle.scheduler_reply.specs.declared.reply.Came.TheVariants.{Placed, Displaced, Waits}
 use Rattle.scheduler_reply.specs.declared.reply.Reply.TheVariants.{Freed, Left, Ticked, AlreadyReady, NotReady}
 use Rattle.scheduler_reply.specs.Reply.{reply_of_came}
-use Rattle.link_table.specs.State.{State, IsState, IsWaiting, IsMoreUrgent, task_on, task_count, is_ready, is_linked, priority_of, effective_mask, state_with_ready, state_with_absent, state_after_leaving}
-use Rattle.link_table.specs.Chain.{IsReach, IsBackReach, EndsIdle, CanEnterAt, state_after_shift}
-use Rattle.link_table.specs.Step.{IsOccupied, Comes, ArriveStep, DepartStep, EnterStep}
-use Rattle.link_table.proofs.Ends.{has_decided, least_chain_to_idle, least_chain_to_task, least_back_chain}
-use Rattle.link_table.proofs.Least.{Decided}
-use Rattle.link_table.proofs.Leaving.{IsState-state_after_leaving}
-use Rattle.link_table.proofs.Linked.{place_in, task_on-linked, linked_number, occupied_number}
-use Rattle.link_table.proofs.Masks.{online_below, effective_mask_below}
-use Rattle.link_table.proofs.Paths.{Reaches-online}
+use Rattle.link_state.specs.State.{State, IsState, IsWaiting, IsMoreUrgent, task_on, task_count, is_ready, is_linked, priority_of, effective_mask, state_with_ready, state_with_absent, state_after_leaving}
+use Rattle.link_state.specs.Chain.{IsReach, IsBackReach, EndsIdle, CanEnterAt, state_after_shift}
+use Rattle.link_state.specs.Step.{IsOccupied, Comes, ArriveStep, DepartStep, EnterStep}
+use Rattle.link_state.proofs.Ends.{has_decided, least_chain_to_idle, least_chain_to_task, least_back_chain}
+use Rattle.link_state.proofs.Least.{Decided}
+use Rattle.link_state.proofs.Leaving.{IsState-state_after_leaving}
+use Rattle.link_state.proofs.Linked.{place_in, task_on-linked, linked_number, occupied_number}
+use Rattle.link_state.proofs.Masks.{online_below, effective_mask_below}
+use Rattle.link_state.proofs.Paths.{Reaches-online}
 use Rattle.history_laws.specs.StepLaws.{StepExists}
 use Rattle.history_laws.proofs.StepReach.{reach_exists, back_reach_exists}
 use Rattle.certificate_laws.proofs.FirstFound.{FirstBelow, first_below, exists_below, both_decided}

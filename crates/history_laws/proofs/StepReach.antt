@@ -3,13 +3,13 @@ use Rattle.std.proofs.Common.{◌≡◌, ℕ, zero, suc, ◌<◌, ◌≤◌, ◌
 use Rattle.std.proofs.lemmas.Bool.{cases_eq}
 use Rattle.affinity_mask.specs.ProcSet.{has}
 use Rattle.affinity_mask.proofs.Sets.{has-pow}
-use Rattle.link_table.specs.State.{State, IsState, effective_mask}
-use Rattle.link_table.specs.Chain.{IsPath, IsSimple, IsLeastSuch, IsReach, IsBackReach, Reaches}
-use Rattle.link_table.proofs.Ends.{CanShift_decided, has_decided}
-use Rattle.link_table.proofs.Least.{Decided, least_exists}
-use Rattle.link_table.proofs.Masks.{effective_mask_below}
-use Rattle.link_table.proofs.Shortest.{shortest_is_simple}
-use Rattle.link_table.proofs.Simple.{length-simple}
+use Rattle.link_state.specs.State.{State, IsState, effective_mask}
+use Rattle.link_state.specs.Chain.{IsPath, IsSimple, IsLeastSuch, IsReach, IsBackReach, Reaches}
+use Rattle.link_state.proofs.Ends.{CanShift_decided, has_decided}
+use Rattle.link_state.proofs.Least.{Decided, least_exists}
+use Rattle.link_state.proofs.Masks.{effective_mask_below}
+use Rattle.link_state.proofs.Shortest.{shortest_is_simple}
+use Rattle.link_state.proofs.Simple.{length-simple}
 use Rattle.path_search.specs.declared.direction.Direction.{Direction}
 use Rattle.path_search.specs.declared.direction.Direction.TheVariants.{Onward, Back}
 use Rattle.path_search.specs.Paths.{Steps, IsPathFrom, LeadsTo}

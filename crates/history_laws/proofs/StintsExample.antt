@@ -6,8 +6,8 @@ use Rattle.task_set.specs.Context.{carried_context, stints_of_task}
 use Rattle.task_set.specs.declared.event.Event.TheVariants.{Arrive, Depart, Tick}
 use Rattle.scheduler_reply.specs.declared.reply.Reply.TheVariants.{Placed, Freed, Ticked}
 use Rattle.scheduler_reply.specs.declared.reply.Entry.{Entry}
-use Rattle.link_table.specs.State.{start_of}
-use Rattle.link_table.specs.Dispatch.{context_of}
+use Rattle.link_state.specs.State.{start_of}
+use Rattle.link_state.specs.Dispatch.{context_of}
 use Rattle.history_laws.proofs.Examples.{entry, context, first_shift_set}
 use Rattle.order_laws.specs.StintLaw.{AreTakes, stints_of_history}
 

@@ -2,7 +2,7 @@
 use Rattle.std.specs.Prelude.{List}
 use Rattle.task_set.specs.TaskSet.{SetData, IsTaskSet}
 use Rattle.scheduler_reply.specs.declared.reply.Entry.{Entry}
-use Rattle.link_table.specs.History.{IsLegal}
+use Rattle.link_state.specs.History.{IsLegal}
 use Rattle.certificate_laws.specs.Improving.{HasNoImprovingChain, HasNoImprovingChainThroughout}
 use Rattle.history_laws.specs.LegalLaw.{HoldsThroughoutLegal}
 

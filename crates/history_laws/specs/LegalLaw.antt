@@ -3,8 +3,8 @@
 use Rattle.std.specs.Prelude.{ℕ, ◌≤◌, List, length}
 use Rattle.task_set.specs.TaskSet.{SetData, IsTaskSet}
 use Rattle.scheduler_reply.specs.declared.reply.Entry.{Entry}
-use Rattle.link_table.specs.State.{State, IsState}
-use Rattle.link_table.specs.History.{IsLegal, IsLegalFrom, state_at, IsBestThroughout}
+use Rattle.link_state.specs.State.{State, IsState}
+use Rattle.link_state.specs.History.{IsLegal, IsLegalFrom, state_at, IsBestThroughout}
 use Rattle.certificate_laws.specs.Certified.{HasCertificates, IsCertifiedThroughout}
 use Rattle.certificate_laws.specs.Laws.{HoldsThroughout, LinkedIsBest, LinkedIsLargest, LinkedIsAsUrgent}
 use Rattle.order_laws.specs.Start.{NobodyIsReady}

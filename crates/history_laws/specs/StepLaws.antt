@@ -4,9 +4,9 @@ use Rattle.task_set.specs.TaskSet.{SetData, IsTaskSet}
 use Rattle.task_set.specs.declared.event.Event.{Event}
 use Rattle.scheduler_reply.specs.declared.reply.Reply.{Reply}
 use Rattle.scheduler_reply.specs.declared.reply.Entry.{Entry}
-use Rattle.link_table.specs.State.{State, IsState, task_count}
-use Rattle.link_table.specs.Step.{SchedulerStep}
-use Rattle.link_table.specs.History.{IsLegal}
+use Rattle.link_state.specs.State.{State, IsState, task_count}
+use Rattle.link_state.specs.Step.{SchedulerStep}
+use Rattle.link_state.specs.History.{IsLegal}
 use Rattle.certificate_laws.specs.Passing.{IsOfTask}
 
 -- in every state, at every event of one of its tasks, the scheduler has a step

@@ -1,14 +1,3 @@
-pub mod Certificate
-pub mod Chain
-pub mod Dispatch
-pub mod History
-pub mod Laws
 pub mod Layout
 pub mod LinksView
-pub mod Placement
 pub mod PlacesView
-pub mod SetTree
-pub mod State
-pub mod Step
-pub mod UrgencyOrder
-pub mod WaitingTasks

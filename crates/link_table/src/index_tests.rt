@@ -1,6 +1,6 @@
 //! The index against plain scans, on generated states.
 ghost use Rattle.std.specs.Prelude.{◌<◌, ◌≤◌, ℕ, IfSome};
-ghost use Rattle.link_table.specs.State.{task_count};
+ghost use Rattle.link_state.specs.State.{task_count};
 
 use crate::tests::{arrive, is_chain, is_simple};
 use crate::{Chain, Links};

@@ -12,15 +12,11 @@
 
 #[cfg(test)]
 mod index_tests;
-pub mod laws;
 pub mod links;
 mod places;
-mod ranked;
-mod set_tree;
 #[cfg(test)]
 mod tests;
 mod urgency;
-mod waiting_tasks;
 
 pub use links::Links;
 pub use scheduler_reply::{Came, Chain, Entry, Gone, Reply};

@@ -1,7 +1,7 @@
 //! What no clause says: that calls succeed with ample memory, on a table small enough to follow by hand.
 ghost use Rattle.std.specs.Prelude.{◌<◌, ℕ, IsTrue};
-ghost use Rattle.link_table.specs.State.{task_count};
-ghost use Rattle.link_table.specs.Chain.{IsChainOf, IsSimple};
+ghost use Rattle.link_state.specs.State.{task_count};
+ghost use Rattle.link_state.specs.Chain.{IsChainOf, IsSimple};
 
 use crate::{Chain, Links};
 use affinity_mask::ProcSet;

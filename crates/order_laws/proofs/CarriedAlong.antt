@@ -10,11 +10,11 @@ use Rattle.task_set.specs.declared.order.Order.{Order}
 use Rattle.task_set.specs.Orders.{Stint, stints_from, stints_in}
 use Rattle.task_set.specs.Context.{context_after_stint, carried_context, stints_of_task}
 use Rattle.scheduler_reply.specs.declared.reply.Entry.{Entry}
-use Rattle.link_table.specs.State.{State, task_on, is_task}
-use Rattle.link_table.specs.History.{state_after}
-use Rattle.link_table.specs.Dispatch.{orders_of, taken_between, places_of, processors_of, runs_of, tick_runs, context_of, context_from}
-use Rattle.link_table.proofs.Histories.{processors_of-push, runs_of-push}
-use Rattle.link_table.proofs.Linked.{is_task-same, is_task-true}
+use Rattle.link_state.specs.State.{State, task_on, is_task}
+use Rattle.link_state.specs.History.{state_after}
+use Rattle.link_state.specs.Dispatch.{orders_of, taken_between, places_of, processors_of, runs_of, tick_runs, context_of, context_from}
+use Rattle.link_state.proofs.Histories.{processors_of-push, runs_of-push}
+use Rattle.link_state.proofs.Linked.{is_task-same, is_task-true}
 use Rattle.order_laws.specs.StintLaw.{AreTakes}
 use Rattle.order_laws.proofs.StintsOfTask.{filter_range-none, filter_range-one, flat_range-same, own}
 use Rattle.order_laws.proofs.StintsOrdered.{times_taken, next_state, next_orders, under_way_on, ended-push}

@@ -7,12 +7,12 @@ use Rattle.task_set.specs.declared.order.Order.{Order}
 use Rattle.task_set.specs.Orders.{Stint, stint_after}
 use Rattle.task_set.specs.Context.{context_after_take, stints_of_task}
 use Rattle.scheduler_reply.specs.declared.reply.Entry.{Entry}
-use Rattle.link_table.specs.State.{State, IsState, task_on, is_task, is_linked}
-use Rattle.link_table.specs.History.{state_after}
-use Rattle.link_table.specs.Dispatch.{change_orders, tick_orders, taken_between, processors_of, runs_of, tick_runs, context_of, context_from}
-use Rattle.link_table.proofs.Contexts.{context_from-take}
-use Rattle.link_table.proofs.Histories.{state_after-push}
-use Rattle.link_table.proofs.Linked.{is_task-same, is_task-true, place_in, task_on-linked, not_on, occupied_number}
+use Rattle.link_state.specs.State.{State, IsState, task_on, is_task, is_linked}
+use Rattle.link_state.specs.History.{state_after}
+use Rattle.link_state.specs.Dispatch.{change_orders, tick_orders, taken_between, processors_of, runs_of, tick_runs, context_of, context_from}
+use Rattle.link_state.proofs.Contexts.{context_from-take}
+use Rattle.link_state.proofs.Histories.{state_after-push}
+use Rattle.link_state.proofs.Linked.{is_task-same, is_task-true, place_in, task_on-linked, not_on, occupied_number}
 use Rattle.order_laws.proofs.CarriedAlong.{ended, IsSettled, IsResting, IsUnderWay, IsFollowed, ended_on, ended_on-push, ended_on-none, ended-none, context_of-push, processors_of-entry, times_taken-push, taken-none, taken-one}
 use Rattle.order_laws.proofs.StintsOfTask.{own, stints_of_task-closed, carried_context-more, All-closed, AreTakes-push}
 use Rattle.order_laws.proofs.StintsOrdered.{under_way_on, task_of-under_way, begun, ended-other, ended-stays, under_way-stays, ended-leaves, under_way-comes, under_way-push, times_taken, next_state, next_orders}

@@ -8,12 +8,12 @@ use Rattle.task_set.specs.Orders.{Stint, stint_after}
 use Rattle.task_set.specs.Context.{context_after_take, context_after_run, context_after_stint, carried_context, stints_of_task}
 use Rattle.task_set.proofs.Carried.{context_after_runs-push}
 use Rattle.scheduler_reply.specs.declared.reply.Entry.{Entry}
-use Rattle.link_table.specs.State.{State, IsState, task_on}
-use Rattle.link_table.specs.History.{state_after}
-use Rattle.link_table.specs.Dispatch.{tick_orders, taken_between, places_of, processors_of, runs_of, tick_runs, context_of, context_from}
-use Rattle.link_table.proofs.Contexts.{context_from-run}
-use Rattle.link_table.proofs.Histories.{state_after-push}
-use Rattle.link_table.proofs.Linked.{occupied_number}
+use Rattle.link_state.specs.State.{State, IsState, task_on}
+use Rattle.link_state.specs.History.{state_after}
+use Rattle.link_state.specs.Dispatch.{tick_orders, taken_between, places_of, processors_of, runs_of, tick_runs, context_of, context_from}
+use Rattle.link_state.proofs.Contexts.{context_from-run}
+use Rattle.link_state.proofs.Histories.{state_after-push}
+use Rattle.link_state.proofs.Linked.{occupied_number}
 use Rattle.order_laws.proofs.CarriedAlong.{IsResting, IsUnderWay, IsFollowed, ended, ended_on-none, ended-none, context_of-push, processors_of-entry, taken-none, places-none, places-one}
 use Rattle.order_laws.proofs.OrderLists.{event_orders, event_orders-tick}
 use Rattle.order_laws.proofs.StintsOfTask.{own, AreTakes-run}

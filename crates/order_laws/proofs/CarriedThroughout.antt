@@ -9,20 +9,20 @@ use Rattle.task_set.specs.Orders.{Stint, stints_in}
 use Rattle.task_set.specs.Context.{carried_context, context_after_stint, fresh_context, stints_of_task}
 use Rattle.task_set.proofs.Stints.{stints_from-append}
 use Rattle.scheduler_reply.specs.declared.reply.Entry.{Entry}
-use Rattle.link_table.specs.State.{State, IsState, start_of, task_on}
-use Rattle.link_table.specs.Step.{SchedulerStep}
-use Rattle.link_table.specs.History.{effect_of, state_after, IsLegalFrom}
-use Rattle.link_table.specs.Dispatch.{closed_orders_of, orders_of, context_of, processors_of}
-use Rattle.link_table.proofs.Histories.{state_after-push, IsState-state_after}
-use Rattle.link_table.proofs.Linked.{occupied_number}
-use Rattle.link_table.proofs.Start.{IsState-start}
-use Rattle.link_table.proofs.Steps.{step_keeps_state}
+use Rattle.link_state.specs.State.{State, IsState, start_of, task_on}
+use Rattle.link_state.specs.Step.{SchedulerStep}
+use Rattle.link_state.specs.History.{effect_of, state_after, IsLegalFrom}
+use Rattle.link_state.specs.Dispatch.{closed_orders_of, orders_of, context_of, processors_of}
+use Rattle.link_state.proofs.Histories.{state_after-push, IsState-state_after}
+use Rattle.link_state.proofs.Linked.{occupied_number}
+use Rattle.link_state.proofs.Start.{IsState-start}
+use Rattle.link_state.proofs.Steps.{step_keeps_state}
 use Rattle.order_laws.specs.StintLaw.{StintsGiveContextFrom, StintsGiveContext, StintsAreTakesFrom, StintsAreTakes, AreTakes, stints_of_history}
 use Rattle.order_laws.proofs.CarriedAlong.{ended, IsFollowed, ended_on}
 use Rattle.order_laws.proofs.CarriedByChanges.{followed-change}
 use Rattle.order_laws.proofs.CarriedByTicks.{followed-tick}
 use Rattle.order_laws.proofs.OrderLists.{close_orders, closed_orders_of-split}
-use Rattle.link_table.proofs.SameTasks.{same_tasks-effect, same_tasks-history}
+use Rattle.link_state.proofs.SameTasks.{same_tasks-effect, same_tasks-history}
 use Rattle.order_laws.proofs.Starts.{nobody_ready}
 use Rattle.order_laws.proofs.StintsOfTask.{flat_range-same, own, stints_of_task-flat_map, stints_of_task-closed, carried_context-more}
 use Rattle.order_laws.proofs.StintsOrdered.{under_way_on, task_of-under_way, own-other, own-one, ended-close, next_state}

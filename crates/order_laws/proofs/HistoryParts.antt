@@ -1,7 +1,7 @@
 -- A history in two parts.
 use Rattle.std.proofs.Common.{List, [], ◌∷◌, refl, sym, subst}
 use Rattle.scheduler_reply.specs.declared.reply.Entry.{Entry}
-use Rattle.link_table.specs.History.{IsLegalFrom, effect_of}
+use Rattle.link_state.specs.History.{IsLegalFrom, effect_of}
 use Rattle.order_laws.specs.PartLaws.{StateAfterParts, IsLegalInParts, PrefixIsLegal}
 
 pub state_after_parts : StateAfterParts

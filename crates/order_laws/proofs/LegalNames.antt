@@ -6,12 +6,12 @@ use Rattle.task_set.specs.TaskSet.{TaskData, SetData, IsTaskSet}
 use Rattle.scheduler_reply.specs.declared.reply.Reply.{Reply}
 use Rattle.scheduler_reply.specs.declared.reply.Entry.{Entry}
 use Rattle.scheduler_reply.specs.Reply.{tasks_named}
-use Rattle.link_table.specs.State.{State, IsState, task_count, start_of}
-use Rattle.link_table.specs.History.{IsLegal, IsLegalFrom, effect_of}
-use Rattle.link_table.proofs.SameTasks.{same_tasks-effect, same_count}
-use Rattle.link_table.proofs.Start.{IsState-start}
-use Rattle.link_table.proofs.StepParts.{step_is_on}
-use Rattle.link_table.proofs.Steps.{step_keeps_state}
+use Rattle.link_state.specs.State.{State, IsState, task_count, start_of}
+use Rattle.link_state.specs.History.{IsLegal, IsLegalFrom, effect_of}
+use Rattle.link_state.proofs.SameTasks.{same_tasks-effect, same_count}
+use Rattle.link_state.proofs.Start.{IsState-start}
+use Rattle.link_state.proofs.StepParts.{step_is_on}
+use Rattle.link_state.proofs.Steps.{step_keeps_state}
 
 -- each task that the reply names is one of so many
 abbrev pub NamesTasks : ℕ → Reply → Type 0

@@ -5,11 +5,11 @@ use Rattle.std.proofs.lemmas.List.{length-append}
 use Rattle.task_set.specs.declared.event.Event.{Event}
 use Rattle.task_set.specs.declared.event.Event.TheVariants.{Arrive, Depart, Tick}
 use Rattle.scheduler_reply.specs.declared.reply.Entry.{Entry}
-use Rattle.link_table.specs.State.{State, start_of, task_on}
-use Rattle.link_table.specs.Step.{SchedulerStep}
-use Rattle.link_table.specs.History.{IsLegalFrom, effect_of, state_after}
-use Rattle.link_table.specs.Dispatch.{change_orders, tick_orders, taken_between, orders_from, orders_of, closed_orders_of}
-use Rattle.link_table.proofs.Histories.{entry_orders}
+use Rattle.link_state.specs.State.{State, start_of, task_on}
+use Rattle.link_state.specs.Step.{SchedulerStep}
+use Rattle.link_state.specs.History.{IsLegalFrom, effect_of, state_after}
+use Rattle.link_state.specs.Dispatch.{change_orders, tick_orders, taken_between, orders_from, orders_of, closed_orders_of}
+use Rattle.link_state.proofs.Histories.{entry_orders}
 use Rattle.order_laws.specs.OrderLaws.{OrdersAreFewFrom, OrdersAreFew}
 use Rattle.order_laws.proofs.OrderLists.{event_orders, event_orders-tick, tick_stays, close_orders, closed_orders_of-split}
 

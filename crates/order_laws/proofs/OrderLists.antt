@@ -9,11 +9,11 @@ use Rattle.task_set.specs.declared.order.Order.{Order}
 use Rattle.task_set.specs.declared.order.Order.TheVariants.{Stop}
 use Rattle.scheduler_reply.specs.declared.reply.Reply.{Reply}
 use Rattle.scheduler_reply.specs.declared.reply.Entry.{Entry}
-use Rattle.link_table.specs.State.{State, start_of, task_on}
-use Rattle.link_table.specs.Step.{SchedulerStep}
-use Rattle.link_table.specs.History.{IsLegalFrom, effect_of, state_after}
-use Rattle.link_table.specs.Dispatch.{change_orders, tick_orders, release_of, taken_between, orders_from, orders_of, closed_orders_of}
-use Rattle.link_table.proofs.Histories.{entry_orders}
+use Rattle.link_state.specs.State.{State, start_of, task_on}
+use Rattle.link_state.specs.Step.{SchedulerStep}
+use Rattle.link_state.specs.History.{IsLegalFrom, effect_of, state_after}
+use Rattle.link_state.specs.Dispatch.{change_orders, tick_orders, release_of, taken_between, orders_from, orders_of, closed_orders_of}
+use Rattle.link_state.proofs.Histories.{entry_orders}
 use Rattle.order_laws.specs.OrderLaws.{OrdersAreObeyableFrom, OrdersAreObeyable}
 use Rattle.order_laws.proofs.Starts.{nobody_ready}
 

@@ -11,15 +11,15 @@ use Rattle.task_set.specs.declared.event.Event.TheVariants.{Arrive, Depart, Tick
 use Rattle.task_set.specs.declared.order.Order.{Order}
 use Rattle.task_set.specs.declared.order.Order.TheVariants.{Release, Take, Run, Stop}
 use Rattle.scheduler_reply.specs.declared.reply.Entry.{Entry}
-use Rattle.link_table.specs.State.{State, IsState, start_of, task_on, task_count, is_task}
-use Rattle.link_table.specs.Step.{SchedulerStep}
-use Rattle.link_table.specs.History.{IsLegalFrom, effect_of, state_after}
-use Rattle.link_table.specs.Dispatch.{change_orders, tick_orders, taken_between, orders_from, orders_of, closed_orders_of}
-use Rattle.link_table.proofs.Histories.{entry_orders, IsState-state_after}
-use Rattle.link_table.proofs.Linked.{is_task-true, linked_number}
-use Rattle.link_table.proofs.SameTasks.{same_tasks-effect, same_tasks-history, same_count}
-use Rattle.link_table.proofs.Start.{IsState-start}
-use Rattle.link_table.proofs.Steps.{step_keeps_state}
+use Rattle.link_state.specs.State.{State, IsState, start_of, task_on, task_count, is_task}
+use Rattle.link_state.specs.Step.{SchedulerStep}
+use Rattle.link_state.specs.History.{IsLegalFrom, effect_of, state_after}
+use Rattle.link_state.specs.Dispatch.{change_orders, tick_orders, taken_between, orders_from, orders_of, closed_orders_of}
+use Rattle.link_state.proofs.Histories.{entry_orders, IsState-state_after}
+use Rattle.link_state.proofs.Linked.{is_task-true, linked_number}
+use Rattle.link_state.proofs.SameTasks.{same_tasks-effect, same_tasks-history, same_count}
+use Rattle.link_state.proofs.Start.{IsState-start}
+use Rattle.link_state.proofs.Steps.{step_keeps_state}
 use Rattle.task_set.specs.Orders.{NamesTaskBelow, TakesBelow}
 use Rattle.order_laws.specs.OrderLaws.{AllOrders, OrdersNameTasksFrom, OrdersNameTasks, TakeNumbersAreSmallFrom, TakeNumbersAreSmall}
 use Rattle.order_laws.proofs.OrderLists.{event_orders, close_orders, closed_orders_of-split}

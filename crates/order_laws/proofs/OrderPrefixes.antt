@@ -3,9 +3,9 @@ use Rattle.std.proofs.Common.{ℕ, List, [], ◌∷◌, ◌++◌, sym, ap, ◌�
 use mathlib.Core.List.{IsPrefix}
 use Rattle.task_set.specs.declared.order.Order.{Order}
 use Rattle.scheduler_reply.specs.declared.reply.Entry.{Entry}
-use Rattle.link_table.specs.State.{State}
-use Rattle.link_table.specs.Dispatch.{orders_of, closed_orders_of}
-use Rattle.link_table.proofs.Histories.{orders_of-push}
+use Rattle.link_state.specs.State.{State}
+use Rattle.link_state.specs.Dispatch.{orders_of, closed_orders_of}
+use Rattle.link_state.proofs.Histories.{orders_of-push}
 use Rattle.order_laws.specs.OrderLaws.{OrdersOnlyGrow}
 use Rattle.order_laws.proofs.OrderLists.{closed_orders_of-split}
 

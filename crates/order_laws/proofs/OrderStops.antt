@@ -8,10 +8,10 @@ use Rattle.task_set.specs.declared.order.Order.TheVariants.{Release, Take, Run, 
 use Rattle.task_set.specs.Orders.{IsObeyable, has_stop}
 use Rattle.task_set.proofs.Obeyable.{IsObeyableFrom-front, MayCome-next, nothing_after_stop}
 use Rattle.scheduler_reply.specs.declared.reply.Entry.{Entry}
-use Rattle.link_table.specs.State.{State, task_on}
-use Rattle.link_table.specs.History.{effect_of, state_after}
-use Rattle.link_table.specs.Dispatch.{orders_from, orders_of, closed_orders_of, taken_between}
-use Rattle.link_table.proofs.Histories.{entry_orders}
+use Rattle.link_state.specs.State.{State, task_on}
+use Rattle.link_state.specs.History.{effect_of, state_after}
+use Rattle.link_state.specs.Dispatch.{orders_from, orders_of, closed_orders_of, taken_between}
+use Rattle.link_state.proofs.Histories.{entry_orders}
 use Rattle.order_laws.specs.SentLaws.{AreSentOf, CloseAddsOrders, NoStopBeforeClose, StopComesAtClose, StopIsLastSent, SentIsObeyable, NextSentMayCome}
 use Rattle.order_laws.proofs.OrderLists.{close_orders, closed_orders_of-split, orders_obeyable-from}
 use Rattle.order_laws.proofs.OrderNames.{all-event}

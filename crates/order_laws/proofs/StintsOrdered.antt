@@ -10,10 +10,10 @@ use Rattle.task_set.specs.declared.order.Order.TheVariants.{Release, Take}
 use Rattle.task_set.specs.Orders.{held_after, Stint, stint_after, stints_from, stints_in, stint_under_way}
 use Rattle.task_set.proofs.Stints.{stints_from-append, task_held-stint_under_way}
 use Rattle.scheduler_reply.specs.declared.reply.Entry.{Entry}
-use Rattle.link_table.specs.State.{State, task_on}
-use Rattle.link_table.specs.History.{effect_of, state_after}
-use Rattle.link_table.specs.Dispatch.{is_same_occupant, change_orders, tick_orders, orders_of, processors_of}
-use Rattle.link_table.proofs.Histories.{orders_of-push, entry_orders}
+use Rattle.link_state.specs.State.{State, task_on}
+use Rattle.link_state.specs.History.{effect_of, state_after}
+use Rattle.link_state.specs.Dispatch.{is_same_occupant, change_orders, tick_orders, orders_of, processors_of}
+use Rattle.link_state.proofs.Histories.{orders_of-push, entry_orders}
 use Rattle.order_laws.proofs.OrderLists.{held-orders_from, close_orders}
 use Rattle.order_laws.proofs.StintsOfTask.{own}
 

@@ -6,9 +6,9 @@ use Rattle.task_set.specs.TaskSet.{SetData, IsTaskSet}
 use Rattle.task_set.specs.Orders.{IsObeyable, task_held, NamesTaskBelow, TakesBelow}
 use Rattle.task_set.specs.declared.order.Order.{Order}
 use Rattle.scheduler_reply.specs.declared.reply.Entry.{Entry}
-use Rattle.link_table.specs.State.{State, IsState, start_of, task_on, task_count}
-use Rattle.link_table.specs.History.{IsLegal, IsLegalFrom, state_after}
-use Rattle.link_table.specs.Dispatch.{orders_of, closed_orders_of}
+use Rattle.link_state.specs.State.{State, IsState, start_of, task_on, task_count}
+use Rattle.link_state.specs.History.{IsLegal, IsLegalFrom, state_after}
+use Rattle.link_state.specs.Dispatch.{orders_of, closed_orders_of}
 use Rattle.order_laws.specs.Start.{NobodyIsReady}
 
 -- a processor can obey its orders, and holds its occupant after them; it can obey those of the closed history as well,

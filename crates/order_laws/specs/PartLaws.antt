@@ -3,8 +3,8 @@ use Rattle.std.specs.Prelude.{◌≡◌, ◌↔◌, List, ◌++◌}
 use mathlib.Core.List.{IsPrefix}
 use Rattle.task_set.specs.TaskSet.{SetData, IsTaskSet}
 use Rattle.scheduler_reply.specs.declared.reply.Entry.{Entry}
-use Rattle.link_table.specs.State.{State, IsState, start_of}
-use Rattle.link_table.specs.History.{IsLegalFrom, state_after}
+use Rattle.link_state.specs.State.{State, IsState, start_of}
+use Rattle.link_state.specs.History.{IsLegalFrom, state_after}
 use Rattle.order_laws.specs.Start.{NobodyIsReady}
 
 -- at the start of a set nobody is ready, and nobody is linked

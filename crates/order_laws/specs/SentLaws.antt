@@ -6,9 +6,9 @@ use Rattle.task_set.specs.Orders.{IsObeyable, MayCome, task_held, has_stop}
 use Rattle.task_set.specs.declared.order.Order.{Order}
 use Rattle.task_set.specs.declared.order.Order.TheVariants.{Stop}
 use Rattle.scheduler_reply.specs.declared.reply.Entry.{Entry}
-use Rattle.link_table.specs.State.{State}
-use Rattle.link_table.specs.History.{IsLegalFrom}
-use Rattle.link_table.specs.Dispatch.{orders_of, closed_orders_of}
+use Rattle.link_state.specs.State.{State}
+use Rattle.link_state.specs.History.{IsLegalFrom}
+use Rattle.link_state.specs.Dispatch.{orders_of, closed_orders_of}
 use Rattle.order_laws.specs.Start.{NobodyIsReady}
 
 -- the orders that were sent begin those of a legal history from a state in which nobody is ready

@@ -7,9 +7,9 @@ use Rattle.task_set.specs.TaskSet.{SetData, IsTaskSet}
 use Rattle.task_set.specs.Orders.{Stint, stints_in}
 use Rattle.task_set.specs.Context.{carried_context, stints_of_task}
 use Rattle.scheduler_reply.specs.declared.reply.Entry.{Entry}
-use Rattle.link_table.specs.State.{State, IsState, start_of}
-use Rattle.link_table.specs.History.{IsLegal, IsLegalFrom}
-use Rattle.link_table.specs.Dispatch.{closed_orders_of, context_of, processors_of}
+use Rattle.link_state.specs.State.{State, IsState, start_of}
+use Rattle.link_state.specs.History.{IsLegal, IsLegalFrom}
+use Rattle.link_state.specs.Dispatch.{closed_orders_of, context_of, processors_of}
 use Rattle.order_laws.specs.Start.{NobodyIsReady}
 
 -- the stints that a history from `start` and its close order, processor by processor

@@ -3,7 +3,7 @@ use Rattle.std.proofs.Common.{◌≡◌, ℕ, ◌+◌, ◌<◌, true, Bool, ◌&
 use Rattle.std.proofs.lemmas.Bool.{cases_lt, and_parts, and_from}
 use Rattle.affinity_mask.specs.ProcSet.{has, empty, IsLeastMember}
 use Rattle.affinity_mask.proofs.Meetings.{no_member}
-use Rattle.link_table.specs.Chain.{IsLess, IsLeastSuch}
+use Rattle.link_state.specs.Chain.{IsLess, IsLeastSuch}
 use Rattle.path_search.specs.Paths.{IsPathFrom, LeadsInto}
 use Rattle.path_search.specs.Levels.{IsAway, IsLevel, AreLevels, IsFirstMet}
 use Rattle.path_search.proofs.LeastPaths.{length-behind, last_step, IsPathFrom-push, least_one, some_next, least_behind}

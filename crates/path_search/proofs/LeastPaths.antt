@@ -5,10 +5,10 @@ use Rattle.std.proofs.lemmas.Bool.{cases_eq, and_parts, and_from}
 use Rattle.std.proofs.lemmas.Option.{get_or_from_slice_get}
 use Rattle.affinity_mask.specs.ProcSet.{has, empty, IsLeastMember}
 use Rattle.affinity_mask.proofs.Meetings.{no_member}
-use Rattle.link_table.specs.State.{State, IsState}
-use Rattle.link_table.specs.Chain.{IsPath, IsLexicographicallyLess, IsLess, IsLeastSuch}
-use Rattle.link_table.proofs.Paths.{IsPath-push}
-use Rattle.link_table.proofs.Simple.{AllBelow}
+use Rattle.link_state.specs.State.{State, IsState}
+use Rattle.link_state.specs.Chain.{IsPath, IsLexicographicallyLess, IsLess, IsLeastSuch}
+use Rattle.link_state.proofs.Paths.{IsPath-push}
+use Rattle.link_state.proofs.Simple.{AllBelow}
 use Rattle.path_search.specs.declared.direction.Direction.{Direction}
 use Rattle.path_search.specs.Paths.{Steps, IsPathFrom, LeadsInto}
 use Rattle.path_search.proofs.Moves.{Steps-below}

@@ -1,7 +1,7 @@
 //! Chains of a task.
 ghost use Rattle.std.specs.Prelude.{◌≡◌, ℕ, ◌<◌, Some};
-ghost use Rattle.link_table.specs.State.{IsState, task_count, task_on};
-ghost use Rattle.link_table.specs.Chain.{IsReach, IsChainOf, EndsIdle, EndsOnTask};
+ghost use Rattle.link_state.specs.State.{IsState, task_count, task_on};
+ghost use Rattle.link_state.specs.Chain.{IsReach, IsChainOf, EndsIdle, EndsOnTask};
 ghost use Rattle.path_search.specs.Paths.{IsLeastIfAny, EndsIn};
 
 use crate::direction::Direction;

@@ -1,7 +1,7 @@
 //! The search for a least path.
 ghost use Rattle.std.specs.Prelude.{◌≡◌, ℕ, ◌+◌, ◌<◌, [], ◌∷◌, IsTrue, length};
 ghost use Rattle.affinity_mask.specs.ProcSet.{has};
-ghost use Rattle.link_table.specs.Chain.{IsLeastSuch};
+ghost use Rattle.link_state.specs.Chain.{IsLeastSuch};
 ghost use Rattle.path_search.specs.Paths.{Steps, LeadsInto, IsLeastIfAny};
 ghost use Rattle.path_search.specs.Levels.{AreLevels, IsFirstMet};
 

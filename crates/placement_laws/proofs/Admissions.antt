@@ -6,12 +6,12 @@ use Rattle.std.proofs.lemmas.Bool.{cases_eq, true≢false, or_cases, or_left, or
 use Rattle.std.proofs.lemmas.Option.{same_Some}
 use Rattle.affinity_mask.specs.ProcSet.{empty}
 use Rattle.affinity_mask.proofs.Sets.{has-zero}
-use Rattle.link_table.specs.State.{State, IsState, HasSameTasks, HasSameMasks, IsWaiting, task_count, is_ready, is_linked, task_on, state_with_ready, IsMoreUrgent}
-use Rattle.link_table.specs.Chain.{state_after_shift}
-use Rattle.link_table.specs.Certificate.{IsCertificate}
-use Rattle.link_table.proofs.Linked.{place_in, task_on-linked, is_linked-from_on, not_on}
-use Rattle.link_table.proofs.Shifts.{occupant_from, task_on-state_after_shift}
-use Rattle.link_table.proofs.Simple.{Avoids-none}
+use Rattle.link_state.specs.State.{State, IsState, HasSameTasks, HasSameMasks, IsWaiting, task_count, is_ready, is_linked, task_on, state_with_ready, IsMoreUrgent}
+use Rattle.link_state.specs.Chain.{state_after_shift}
+use Rattle.link_state.specs.Certificate.{IsCertificate}
+use Rattle.link_state.proofs.Linked.{place_in, task_on-linked, is_linked-from_on, not_on}
+use Rattle.link_state.proofs.Shifts.{occupant_from, task_on-state_after_shift}
+use Rattle.link_state.proofs.Simple.{Avoids-none}
 use Rattle.placement_laws.specs.Admission.{Admitted}
 use Rattle.certificate_laws.specs.Certified.{HasCertificates}
 use Rattle.placement_laws.specs.Search.{IsWay, IsFull}

@@ -9,16 +9,16 @@ use Rattle.std.proofs.lemmas.List.Folds.{list_any-append, list_any_at}
 use Rattle.std.proofs.lemmas.List.Quantifiers.{all_pairs_push}
 use Rattle.affinity_mask.specs.ProcSet.{has}
 use Rattle.task_set.specs.TaskSet.{TaskData, SetData}
-use Rattle.link_table.specs.State.{State, IsState, HasSameTasks, HasSameMasks, task_count, priority_of, effective_mask, is_ready, is_linked, is_task, start_of, IsMoreUrgent}
-use Rattle.link_table.specs.Placement.{TaskTest, IsSubset, IsBest}
-use Rattle.link_table.proofs.Linked.{place_in, task_on-linked}
-use Rattle.link_table.proofs.SameTasks.{same_count}
+use Rattle.link_state.specs.State.{State, IsState, HasSameTasks, HasSameMasks, task_count, priority_of, effective_mask, is_ready, is_linked, is_task, start_of, IsMoreUrgent}
+use Rattle.link_state.specs.Placement.{TaskTest, IsSubset, IsBest}
+use Rattle.link_state.proofs.Linked.{place_in, task_on-linked}
+use Rattle.link_state.proofs.SameTasks.{same_count}
 use Rattle.placement_laws.specs.Admission.{is_among, IsMostUrgentAbsent, Admitted}
 use Rattle.certificate_laws.specs.Certified.{HasCertificates}
 use Rattle.placement_laws.proofs.Admissions.{same_answer}
 use Rattle.certificate_laws.proofs.Best.{linked_is_best}
 use Rattle.certificate_laws.proofs.Counts.{count_below, count_below-one_more}
-use Rattle.link_table.proofs.Start.{none_ready}
+use Rattle.link_state.proofs.Start.{none_ready}
 use Rattle.certificate_laws.proofs.Kept.{HasCertificates-start}
 use Rattle.placement_laws.proofs.MostUrgent.{among_place}
 

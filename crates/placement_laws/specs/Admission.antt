@@ -3,8 +3,8 @@
 -- task is displaced, it is linked itself or not, and each waiting task has a certificate.
 use Rattle.std.specs.Prelude.{◌≡◌, ℕ, ◌≤◌, Bool, true, false, List, ◌==◌, ◌&&◌, ◌||◌}
 use Rattle.std.specs.List.{list_any}
-use Rattle.link_table.specs.State.{State, HasSameTasks, HasSameMasks, priority_of, is_ready, is_linked}
-use Rattle.link_table.specs.Placement.{TaskTest}
+use Rattle.link_state.specs.State.{State, HasSameTasks, HasSameMasks, priority_of, is_ready, is_linked}
+use Rattle.link_state.specs.Placement.{TaskTest}
 use Rattle.certificate_laws.specs.Certified.{HasCertificates}
 
 -- whether a task is in the list

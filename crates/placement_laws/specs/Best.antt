@@ -1,7 +1,7 @@
 -- Every set of tasks has a best subset. It is the only one: that is a law of link_table.
 use Rattle.std.specs.Prelude.{◌≡◌, ℕ, ◌<◌, true}
-use Rattle.link_table.specs.State.{State, IsState, task_count}
-use Rattle.link_table.specs.Placement.{TaskTest, IsBest}
+use Rattle.link_state.specs.State.{State, IsState, task_count}
+use Rattle.link_state.specs.Placement.{TaskTest, IsBest}
 
 -- a set of tasks of a state has a best subset
 abbrev pub BestExists : Type 0

@@ -2,7 +2,7 @@
 use Rattle.std.specs.Prelude.{List}
 use Rattle.task_set.specs.TaskSet.{SetData, IsTaskSet}
 use Rattle.scheduler_reply.specs.declared.reply.Entry.{Entry}
-use Rattle.link_table.specs.History.{IsBestThroughout}
+use Rattle.link_state.specs.History.{IsBestThroughout}
 use Rattle.certificate_laws.specs.Certified.{IsCertifiedThroughout}
 use Rattle.certificate_laws.specs.Improving.{HasNoImprovingChainThroughout}
 use Rattle.certificate_laws.specs.Passing.{IsPassing}

@@ -4,8 +4,8 @@
 -- was not visited is occupied, and its occupant may run only within it as well.
 use Rattle.std.specs.Prelude.{◌≡◌, ℕ, ◌+◌, ◌≤◌, false, List, length, reverse, IsTrue, ◌⊎◌, Some, All}
 use Rattle.affinity_mask.specs.ProcSet.{has, members, Within}
-use Rattle.link_table.specs.State.{State, effective_mask, task_on}
-use Rattle.link_table.specs.Chain.{EndsIdle, IsSimple}
+use Rattle.link_state.specs.State.{State, effective_mask, task_on}
+use Rattle.link_state.specs.Chain.{EndsIdle, IsSimple}
 use Rattle.placement_laws.specs.declared.search.Found.{Found}
 use Rattle.placement_laws.specs.declared.search.Found.TheVariants.{Way, Full}
 

@@ -1,7 +1,7 @@
 //! The best set of tasks, found by admitting one task after the other.
 ghost use Rattle.std.specs.Prelude.{◌≡◌, ℕ, ◌<◌, true, false, length, All, AllPairs, IfOk, MatchOption};
-ghost use Rattle.link_table.specs.State.{IsState, task_count, is_ready, start_of, IsMoreUrgent};
-ghost use Rattle.link_table.specs.Placement.{IsSubset, IsBest};
+ghost use Rattle.link_state.specs.State.{IsState, task_count, is_ready, start_of, IsMoreUrgent};
+ghost use Rattle.link_state.specs.Placement.{IsSubset, IsBest};
 ghost use Rattle.placement_laws.specs.Admission.{is_among, IsMostUrgentAbsent, Admitted};
 ghost use Rattle.certificate_laws.specs.Certified.{HasCertificates};
 

@@ -1,6 +1,6 @@
 //! The test of a certificate for each waiting task.
 ghost use Rattle.std.specs.Prelude.{◌≡◌, ◌↔◌, length, IsTrue};
-ghost use Rattle.link_table.specs.State.{task_count};
+ghost use Rattle.link_state.specs.State.{task_count};
 ghost use Rattle.certificate_laws.specs.Certified.{IsCertifiedBy};
 ghost use Rattle.certificate_laws.specs.Laws.{LinkedIsBest, LinkedIsLargest, LinkedIsAsUrgent};
 

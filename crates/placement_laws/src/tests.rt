@@ -1,6 +1,6 @@
 //! What no clause says: that the calls say of small states what a reader works out by hand.
 ghost use Rattle.std.specs.Prelude.{◌<◌, IsTrue, All};
-ghost use Rattle.link_table.specs.State.{IsState, IsWaiting, task_count};
+ghost use Rattle.link_state.specs.State.{IsState, IsWaiting, task_count};
 
 use crate::{all_certified, best_set};
 use affinity_mask::ProcSet;

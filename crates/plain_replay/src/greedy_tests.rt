@@ -1,6 +1,6 @@
 //! Generated histories: after every entry the linked tasks are those that a plain greedy program finds.
 ghost use Rattle.std.specs.Prelude.{IsTrue};
-ghost use Rattle.link_table.specs.State.{task_count};
+ghost use Rattle.link_state.specs.State.{task_count};
 ghost use Rattle.certificate_laws.specs.Passing.{IsOfTask};
 
 use crate::task_sets::all_below;

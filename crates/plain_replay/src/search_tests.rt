@@ -1,6 +1,6 @@
 //! What searches, certificates and best sets say of the states to which arrivals and a departure lead.
 ghost use Rattle.std.specs.Prelude.{◌<◌, ◌≤◌};
-ghost use Rattle.link_table.specs.State.{task_count, IsState};
+ghost use Rattle.link_state.specs.State.{task_count, IsState};
 
 use crate::task_sets::{all_below, mask_of, set_of};
 use affinity_mask::ProcSet;

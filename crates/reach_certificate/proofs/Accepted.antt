@@ -4,10 +4,10 @@ use Rattle.task_set.specs.Context.{context_after_take, context_after_run}
 use Rattle.task_set.specs.declared.context.Context.{Context}
 use Rattle.task_set.specs.declared.event.Event.{Event}
 use Rattle.scheduler_reply.specs.declared.reply.Entry.{Entry}
-use Rattle.link_table.specs.State.{State, IsState, task_count}
-use Rattle.link_table.specs.Dispatch.{taken_between, places_of, tick_runs}
-use Rattle.link_table.specs.History.{effect_of}
-use Rattle.link_table.proofs.SameTasks.{same_tasks-effect, same_count}
+use Rattle.link_state.specs.State.{State, IsState, task_count}
+use Rattle.link_state.specs.Dispatch.{taken_between, places_of, tick_runs}
+use Rattle.link_state.specs.History.{effect_of}
+use Rattle.link_state.proofs.SameTasks.{same_tasks-effect, same_count}
 use Rattle.certificate_laws.specs.Certified.{HasCertificates}
 use Rattle.reach_certificate.specs.Checker.{CheckerData, IsChecker}
 use Rattle.reach_certificate.specs.Contexts.{context_after_takes, context_after_all_runs, context_after_entry, EachBecomes}

@@ -3,12 +3,12 @@ use Rattle.std.proofs.Common.{◌≡◌, ◌≢◌, ℕ, zero, suc, ◌+◌, ◌
 use Rattle.std.proofs.lemmas.Bool.{cases_eq, cases_lt, true≢false}
 use Rattle.std.proofs.lemmas.Option.{same_Some}
 use Rattle.affinity_mask.specs.ProcSet.{has, Within}
-use Rattle.link_table.specs.State.{State, IsState, task_on, task_count, effective_mask, priority_of}
-use Rattle.link_table.specs.Chain.{CanShift, CanEnterAt}
-use Rattle.link_table.specs.Step.{CanEnterInto, IsNobodyInto, IsMostUrgentInto}
-use Rattle.link_table.proofs.Ends.{has_decided, CanShift_decided}
-use Rattle.link_table.proofs.Least.{Decided}
-use Rattle.link_table.proofs.Masks.{effective_mask_below}
+use Rattle.link_state.specs.State.{State, IsState, task_on, task_count, effective_mask, priority_of}
+use Rattle.link_state.specs.Chain.{CanShift, CanEnterAt}
+use Rattle.link_state.specs.Step.{CanEnterInto, IsNobodyInto, IsMostUrgentInto}
+use Rattle.link_state.proofs.Ends.{has_decided, CanShift_decided}
+use Rattle.link_state.proofs.Least.{Decided}
+use Rattle.link_state.proofs.Masks.{effective_mask_below}
 use Rattle.reach_certificate.specs.Defect.{AllFit, IsFirstMisfit, FitsAt, MovesBack, ReachFits, BackFits, EntersRightly, EntersWrongly, last_processor}
 use Rattle.link_table.proofs.Leaders.{IsFoundInto, IsFound-nothing, IsComing, IsNotLessUrgent, into_more, into_passed, into_whole}
 use Rattle.certificate_laws.proofs.Fullness.{waiting_decided}

@@ -8,12 +8,12 @@ use Rattle.scheduler_reply.specs.declared.reply.Came.{Came}
 use Rattle.scheduler_reply.specs.declared.reply.Came.TheVariants.{Placed, Displaced, Waits}
 use Rattle.scheduler_reply.specs.declared.reply.Gone.{Gone}
 use Rattle.scheduler_reply.specs.declared.reply.Reply.{Reply}
-use Rattle.link_table.specs.State.{State, IsState, priority_of, state_after_leaving}
-use Rattle.link_table.specs.Step.{IsNobodyInto, IsMostUrgentInto}
-use Rattle.link_table.proofs.Leaving.{IsState-state_after_leaving}
-use Rattle.link_table.proofs.Linked.{is_linked-from_on, not_on, occupied_number}
+use Rattle.link_state.specs.State.{State, IsState, priority_of, state_after_leaving}
+use Rattle.link_state.specs.Step.{IsNobodyInto, IsMostUrgentInto}
+use Rattle.link_state.proofs.Leaving.{IsState-state_after_leaving}
+use Rattle.link_state.proofs.Linked.{is_linked-from_on, not_on, occupied_number}
 use Rattle.scheduler_reply.proofs.Replies.{one_came, one_gone}
-use Rattle.link_table.proofs.Unique.{ready_number}
+use Rattle.link_state.proofs.Unique.{ready_number}
 use Rattle.certificate_laws.specs.Passing.{ArrivalPasses, DeparturePasses, Passes}
 use Rattle.reach_certificate.specs.Defect.{AllFit, IsFirstMisfit, PlacedFits, DisplacedFits, FreedFits, ReachFits, BackFits, AgainstFits, IsNoLessUrgent, processor_count, OverFits, HasBadOver, EntersRightly, EntersWrongly, DisplacesRightly, DisplacesWrongly, CameIsRight, IsCameDefect, GoneIsRight, IsGoneDefect, IsAllowed, IsPartDefect}
 use Rattle.reach_certificate.specs.DefectLaws.{PassingHasNoDefect, DefectIsUnique}

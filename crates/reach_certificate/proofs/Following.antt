@@ -13,9 +13,9 @@ use Rattle.task_set.specs.declared.event.Event.TheVariants.{Arrive, Depart, Tick
 use Rattle.scheduler_reply.specs.declared.reply.Reply.{Reply}
 use Rattle.scheduler_reply.specs.declared.reply.Entry.{Entry}
 use Rattle.scheduler_reply.specs.Reply.{chain_of}
-use Rattle.link_table.specs.State.{State, IsState, is_task, task_on}
-use Rattle.link_table.specs.Dispatch.{taken_between, places_of, tick_runs}
-use Rattle.link_table.specs.History.{effect_of, state_after_reply}
+use Rattle.link_state.specs.State.{State, IsState, is_task, task_on}
+use Rattle.link_state.specs.Dispatch.{taken_between, places_of, tick_runs}
+use Rattle.link_state.specs.History.{effect_of, state_after_reply}
 use Rattle.certificate_laws.specs.Passing.{Passes}
 use Rattle.reach_certificate.specs.Contexts.{context_after_takes, context_after_all_runs, context_after_entry, EachBecomes}
 use Rattle.reach_certificate.specs.Places.{places_among}

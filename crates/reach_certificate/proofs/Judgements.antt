@@ -8,12 +8,12 @@ use Rattle.scheduler_reply.specs.declared.reply.Gone.{Gone}
 use Rattle.scheduler_reply.specs.declared.reply.Reply.{Reply}
 use Rattle.scheduler_reply.specs.declared.reply.Reply.TheVariants.{Left, Ticked, AlreadyReady, NotReady}
 use Rattle.scheduler_reply.specs.Reply.{came_of, gone_of}
-use Rattle.link_table.specs.State.{State, IsState, IsMoreUrgent, is_ready, is_linked, task_on, effective_mask, priority_of, state_after_leaving}
-use Rattle.link_table.specs.Chain.{CanShift}
-use Rattle.link_table.proofs.Ends.{has_decided, CanShift_decided}
-use Rattle.link_table.proofs.Least.{Decided}
-use Rattle.link_table.proofs.Leaving.{IsState-state_after_leaving}
-use Rattle.link_table.proofs.Linked.{task_on-linked, place_in, occupied_number}
+use Rattle.link_state.specs.State.{State, IsState, IsMoreUrgent, is_ready, is_linked, task_on, effective_mask, priority_of, state_after_leaving}
+use Rattle.link_state.specs.Chain.{CanShift}
+use Rattle.link_state.proofs.Ends.{has_decided, CanShift_decided}
+use Rattle.link_state.proofs.Least.{Decided}
+use Rattle.link_state.proofs.Leaving.{IsState-state_after_leaving}
+use Rattle.link_state.proofs.Linked.{task_on-linked, place_in, occupied_number}
 use Rattle.scheduler_reply.proofs.Replies.{came_said, came_says, gone_said, gone_says}
 use Rattle.certificate_laws.specs.Passing.{ArrivalPasses, DeparturePasses}
 use Rattle.reach_certificate.specs.Defect.{AllFit, IsFirstMisfit, BeginsFor, MovesBack, PlacedFits, DisplacedFits, FreedFits, ReachFits, BackFits, AgainstFits, IsNoLessUrgent, processor_count, OverFits, HasBadOver, DisplacesRightly, DisplacesWrongly, CameIsRight, IsCameDefect, GoneIsRight, IsGoneDefect, IsOfProcessors, IsReplyDefect}

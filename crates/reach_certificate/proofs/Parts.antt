@@ -1,8 +1,8 @@
 -- What is found of the parts of a reply.
 use Rattle.std.proofs.Common.{◌≡◌, ◌≢◌, ℕ, List, [], ◌∷◌, length, Option, Some, None, refl, inl, arith}
 use Rattle.std.specs.Prelude.{MatchOption}
-use Rattle.link_table.specs.State.{State, task_on}
-use Rattle.link_table.specs.Chain.{CanShift}
+use Rattle.link_state.specs.State.{State, task_on}
+use Rattle.link_state.specs.Chain.{CanShift}
 use Rattle.reach_certificate.specs.Defect.{AllFit, BeginsFor, DisplacedFits, MovesBack, FreedFits, last_processor}
 use Rattle.reach_certificate.proofs.ChainPlaces.{fit_is_not_empty, fit_ends}
 

@@ -12,17 +12,17 @@ use Rattle.scheduler_reply.specs.declared.reply.Came.{Came}
 use Rattle.scheduler_reply.specs.declared.reply.Came.TheVariants.{Placed, Displaced, Waits}
 use Rattle.scheduler_reply.specs.declared.reply.Reply.{Reply}
 use Rattle.scheduler_reply.specs.Reply.{reply_of_came, chain_of}
-use Rattle.link_table.specs.State.{State, IsState, IsWaiting, is_ready, is_task, is_linked, task_on, task_count, state_with_ready, state_after_leaving}
-use Rattle.link_table.specs.Chain.{IsChainOf, IsSimple, occupant_after_shift, state_after_shift}
-use Rattle.link_table.specs.Dispatch.{taken_between}
-use Rattle.link_table.specs.History.{state_after_entering, state_after_reply}
-use Rattle.link_table.proofs.Leaving.{IsState-state_after_leaving, task_on-state_after_leaving, task_on-stays}
-use Rattle.link_table.proofs.Linked.{is_task-same, is_task-true, linked_number, not_on, occupied_number, place_in, task_on-linked}
-use Rattle.link_table.proofs.Paths.{IsChainOf-reverse}
-use Rattle.link_table.proofs.Readiness.{IsState-state_with_ready, IsWaiting-state_with_ready}
-use Rattle.link_table.proofs.SameTasks.{reply_keeps_tasks}
-use Rattle.link_table.proofs.Shifts.{IsState-state_after_shift, occupant-first, occupant-later, task_on-state_after_shift}
-use Rattle.link_table.proofs.Simple.{IsSimple-cons, IsSimple-head, IsSimple-reverse, IsSimple-tail}
+use Rattle.link_state.specs.State.{State, IsState, IsWaiting, is_ready, is_task, is_linked, task_on, task_count, state_with_ready, state_after_leaving}
+use Rattle.link_state.specs.Chain.{IsChainOf, IsSimple, occupant_after_shift, state_after_shift}
+use Rattle.link_state.specs.Dispatch.{taken_between}
+use Rattle.link_state.specs.History.{state_after_entering, state_after_reply}
+use Rattle.link_state.proofs.Leaving.{IsState-state_after_leaving, task_on-state_after_leaving, task_on-stays}
+use Rattle.link_state.proofs.Linked.{is_task-same, is_task-true, linked_number, not_on, occupied_number, place_in, task_on-linked}
+use Rattle.link_state.proofs.Paths.{IsChainOf-reverse}
+use Rattle.link_state.proofs.Readiness.{IsState-state_with_ready, IsWaiting-state_with_ready}
+use Rattle.link_state.proofs.SameTasks.{reply_keeps_tasks}
+use Rattle.link_state.proofs.Shifts.{IsState-state_after_shift, occupant-first, occupant-later, task_on-state_after_shift}
+use Rattle.link_state.proofs.Simple.{IsSimple-cons, IsSimple-head, IsSimple-reverse, IsSimple-tail}
 use Rattle.certificate_laws.specs.Passing.{CamePasses, EnteringPasses, Passes}
 use Rattle.certificate_laws.proofs.Passed.{passing_keeps_state}
 use Rattle.reach_certificate.specs.Places.{places_among}

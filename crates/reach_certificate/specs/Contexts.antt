@@ -4,8 +4,8 @@ use Rattle.std.specs.Prelude.{◌≡◌, ℕ, ◌<◌, List, length, get_or, fol
 use Rattle.task_set.specs.Context.{context_after_take, context_after_run}
 use Rattle.task_set.specs.declared.context.Context.{Context}
 use Rattle.task_set.specs.declared.event.Event.{Event}
-use Rattle.link_table.specs.State.{State}
-use Rattle.link_table.specs.Dispatch.{places_of, taken_between, tick_runs}
+use Rattle.link_state.specs.State.{State}
+use Rattle.link_state.specs.Dispatch.{places_of, taken_between, tick_runs}
 
 -- the context after takes on these processors, in turn
 abbrev pub context_after_takes : Context → List ℕ → Context

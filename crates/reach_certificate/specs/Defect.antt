@@ -13,9 +13,9 @@ use Rattle.scheduler_reply.specs.declared.reply.Reply.{Reply}
 use Rattle.scheduler_reply.specs.declared.reply.Reply.TheVariants.{Left, Ticked, AlreadyReady, NotReady}
 use Rattle.scheduler_reply.specs.declared.reply.Entry.{Entry}
 use Rattle.scheduler_reply.specs.Reply.{reply_of_came, reply_of_gone, sets_of}
-use Rattle.link_table.specs.State.{State, effective_mask, task_on, is_ready, is_linked, priority_of, IsWaiting, IsMoreUrgent, state_after_leaving}
-use Rattle.link_table.specs.Chain.{CanShift, CanEnterAt}
-use Rattle.link_table.specs.Step.{IsNobodyInto, IsMostUrgentInto}
+use Rattle.link_state.specs.State.{State, effective_mask, task_on, is_ready, is_linked, priority_of, IsWaiting, IsMoreUrgent, state_after_leaving}
+use Rattle.link_state.specs.Chain.{CanShift, CanEnterAt}
+use Rattle.link_state.specs.Step.{IsNobodyInto, IsMostUrgentInto}
 use Rattle.reach_certificate.specs.declared.defect.Defect.{Defect}
 use Rattle.reach_certificate.specs.declared.defect.Defect.TheVariants.{WrongReply, BadChain, BadSet, WrongTask}
 

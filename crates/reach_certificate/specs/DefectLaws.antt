@@ -5,9 +5,9 @@ use Rattle.task_set.specs.declared.context.Context.{Context}
 use Rattle.task_set.specs.declared.event.Event.{Event}
 use Rattle.scheduler_reply.specs.declared.reply.Reply.{Reply}
 use Rattle.scheduler_reply.specs.declared.reply.Entry.{Entry}
-use Rattle.link_table.specs.State.{State, IsState, task_count}
-use Rattle.link_table.specs.History.{effect_of, state_after}
-use Rattle.link_table.specs.Dispatch.{context_of}
+use Rattle.link_state.specs.State.{State, IsState, task_count}
+use Rattle.link_state.specs.History.{effect_of, state_after}
+use Rattle.link_state.specs.Dispatch.{context_of}
 use Rattle.reach_certificate.specs.Contexts.{EachBecomes, context_after_entry}
 use Rattle.reach_certificate.specs.Defect.{IsReplyDefect, IsOfProcessors}
 use Rattle.certificate_laws.specs.Passing.{IsOfTask, Passes}

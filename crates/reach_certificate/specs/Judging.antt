@@ -2,8 +2,8 @@
 -- definitions of defects.
 use Rattle.std.specs.Prelude.{◌≡◌, ℕ, ◌+◌, ◌<◌, List, slice_index, IsTrue, Option, Some, None, MatchOption}
 use Rattle.affinity_mask.specs.ProcSet.{has, Within}
-use Rattle.link_table.specs.State.{State, effective_mask, task_on, IsMoreUrgent}
-use Rattle.link_table.specs.Chain.{CanShift}
+use Rattle.link_state.specs.State.{State, effective_mask, task_on, IsMoreUrgent}
+use Rattle.link_state.specs.Chain.{CanShift}
 use Rattle.reach_certificate.specs.Defect.{AllFit, IsFirstMisfit, FitsAt, BeginsFor, MovesBack, ReachFits, BackFits, IsNoLessUrgent, processor_count}
 use Rattle.reach_certificate.specs.declared.chain_rule.ChainRule.{ChainRule}
 use Rattle.reach_certificate.specs.declared.chain_rule.ChainRule.TheVariants.{ToIdle, ToOccupied, Back}

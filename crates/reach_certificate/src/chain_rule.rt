@@ -1,7 +1,7 @@
 //! The test of a chain.
 ghost use Rattle.std.specs.Prelude.{◌≡◌, ℕ, ◌<◌, ◌↔◌, length, IsTrue};
 ghost use Rattle.affinity_mask.specs.ProcSet.{has};
-ghost use Rattle.link_table.specs.State.{task_count};
+ghost use Rattle.link_state.specs.State.{task_count};
 ghost use Rattle.reach_certificate.specs.Judging.{IsFirstMisfitIfAny, IsChainRuleOf, Begins, Follows, Ends, GoesOn, FitsChainRule, ComesBefore};
 
 use crate::occupants::{can_shift, occupant};

@@ -2,9 +2,9 @@
 ghost use Rattle.std.specs.Prelude.{◌≡◌, ℕ, ◌<◌, map, Err, IsOk, IfOk, IfErr, OnOk, OnErr, slice_get, Some};
 ghost use Rattle.std.specs.List.{range_with_len};
 ghost use Rattle.task_set.specs.Context.{fresh_context};
-ghost use Rattle.link_table.specs.State.{State, start_of, task_count};
-ghost use Rattle.link_table.specs.Step.{SchedulerStep};
-ghost use Rattle.link_table.specs.History.{effect_of};
+ghost use Rattle.link_state.specs.State.{State, start_of, task_count};
+ghost use Rattle.link_state.specs.Step.{SchedulerStep};
+ghost use Rattle.link_state.specs.History.{effect_of};
 ghost use Rattle.reach_certificate.specs.Checker.{IsChecker};
 ghost use Rattle.reach_certificate.specs.Contexts.{EachBecomes, context_after_entry};
 ghost use Rattle.reach_certificate.specs.Defect.{IsDefect};

@@ -3,10 +3,10 @@ ghost use Rattle.std.specs.Prelude.{◌≡◌, ◌≢◌, ◌↔◌, ℕ, ◌<�
 ghost use Rattle.affinity_mask.specs.ProcSet.{has};
 ghost use Rattle.task_set.specs.declared.event.Event.TheVariants.{Arrive, Depart};
 ghost use Rattle.scheduler_reply.specs.declared.reply.Came.TheVariants as came;
-ghost use Rattle.link_table.specs.State.{IsMoreUrgent, is_ready, task_count, task_on, effective_mask, state_with_ready};
-ghost use Rattle.link_table.specs.Chain.{IsChainOf, IsSimple, state_after_shift};
-ghost use Rattle.link_table.specs.Certificate.{IsCertificate};
-ghost use Rattle.link_table.specs.History.{effect_of, state_after_came, state_after_gone, state_after_reply};
+ghost use Rattle.link_state.specs.State.{IsMoreUrgent, is_ready, task_count, task_on, effective_mask, state_with_ready};
+ghost use Rattle.link_state.specs.Chain.{IsChainOf, IsSimple, state_after_shift};
+ghost use Rattle.link_state.specs.Certificate.{IsCertificate};
+ghost use Rattle.link_state.specs.History.{effect_of, state_after_came, state_after_gone, state_after_reply};
 ghost use Rattle.certificate_laws.specs.Passing.{IsOfTask, Passes, ArrivalPasses, DeparturePasses, CamePasses, GonePasses, PlacedPasses, DisplacedPasses};
 ghost use Rattle.reach_certificate.specs.Defect.{IsDefect, IsReplyDefect, IsCameDefect, IsGoneDefect, last_processor};
 

@@ -1,7 +1,7 @@
 //! The test of a set.
 ghost use Rattle.std.specs.Prelude.{◌≡◌, ℕ, ◌<◌, ◌↔◌, IsTrue, false};
 ghost use Rattle.affinity_mask.specs.ProcSet.{has, all_below, Within};
-ghost use Rattle.link_table.specs.State.{task_count};
+ghost use Rattle.link_state.specs.State.{task_count};
 ghost use Rattle.reach_certificate.specs.Judging.{IsFirstMisfitIfAny, IsSetRuleOf, FitsSetRule, IsHeld, Holds, ShiftsInto};
 
 use crate::occupants::occupant;

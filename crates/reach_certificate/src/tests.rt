@@ -1,6 +1,6 @@
 //! What no clause says: that the checker answers on small tables what a reader works out by hand.
 ghost use Rattle.std.specs.Prelude.{◌≡◌, ◌<◌, IsTrue};
-ghost use Rattle.link_table.specs.State.{task_count};
+ghost use Rattle.link_state.specs.State.{task_count};
 ghost use Rattle.certificate_laws.specs.Passing.{IsOfTask};
 
 use crate::{Checker, Defect};

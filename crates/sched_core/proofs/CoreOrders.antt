@@ -3,8 +3,8 @@
 use Rattle.std.proofs.Common.{ℕ, ◌+◌, ◌*◌, ◌≤◌, Bool, true, false, length, arith, if◌then◌else◌, subst, sym}
 use Rattle.std.specs.Prelude.{All}
 use Rattle.task_set.specs.Orders.{IsObeyable, NamesTaskBelow, TakesBelow}
-use Rattle.link_table.specs.State.{task_count}
-use Rattle.link_table.specs.Dispatch.{orders_of, closed_orders_of}
+use Rattle.link_state.specs.State.{task_count}
+use Rattle.link_state.specs.Dispatch.{orders_of, closed_orders_of}
 use Rattle.order_laws.proofs.OrderCounts.{orders_count-from}
 use Rattle.order_laws.proofs.OrderLists.{orders_obeyable-from}
 use Rattle.order_laws.proofs.OrderNames.{orders_name_tasks-from, take_numbers_small-from}

@@ -5,10 +5,10 @@ use Rattle.std.proofs.lemmas.Bool.{cases_Bool, cases_eq}
 use Rattle.std.proofs.lemmas.List.{length-set, get_or-set_same, get_or-set_other, take_more}
 use Rattle.std.proofs.lemmas.List.Elements.{Contains-push, Contains-push_cases, Contains-append_left}
 use Rattle.task_set.specs.declared.order.Order.{Order}
-use Rattle.link_table.specs.State.{State, IsState, task_on, is_task}
-use Rattle.link_table.specs.Chain.{IsSimple}
-use Rattle.link_table.proofs.Linked.{is_task-true}
-use Rattle.link_table.proofs.Simple.{Avoids, Avoids-last, Avoids-take}
+use Rattle.link_state.specs.State.{State, IsState, task_on, is_task}
+use Rattle.link_state.specs.Chain.{IsSimple}
+use Rattle.link_state.proofs.Linked.{is_task-true}
+use Rattle.link_state.proofs.Simple.{Avoids, Avoids-last, Avoids-take}
 use Rattle.sched_core.specs.CoreRows.{RowData, row_at, empty_row, RowChanges, RowChangesIn, RowsChange, NumbersBecome, came, came_between}
 use Rattle.sched_core.proofs.RowLoops.{filtered_count-at, filtered_count-none, change_orders-same_number}
 

@@ -5,8 +5,8 @@ use Rattle.std.specs.Prelude.{Contains}
 use Rattle.std.specs.List.{range_with_len}
 use Rattle.task_set.specs.declared.event.Event.{Event}
 use Rattle.task_set.specs.declared.event.Event.TheVariants.{Arrive, Depart, Tick}
-use Rattle.link_table.specs.State.{State, task_on}
-use Rattle.link_table.specs.Dispatch.{change_orders, tick_orders}
+use Rattle.link_state.specs.State.{State, task_on}
+use Rattle.link_state.specs.Dispatch.{change_orders, tick_orders}
 use Rattle.order_laws.proofs.OrderLists.{change_orders-same}
 use Rattle.sched_core.specs.CoreRows.{RowData, row_at, RowFollows, RowsFollow, RowsRun, RowsChange, HoldOutside, NumbersBecome, came, came_below}
 use Rattle.sched_core.proofs.RowLoops.{filtered_count-none, filtered_count-same}

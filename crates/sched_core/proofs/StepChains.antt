@@ -13,15 +13,15 @@ use Rattle.scheduler_reply.specs.declared.reply.Came.TheVariants as came
 use Rattle.scheduler_reply.specs.declared.reply.Reply.{Reply}
 use Rattle.scheduler_reply.specs.declared.reply.Reply.TheVariants.{Placed, Displaced, Waits, Freed, Left, Ticked, AlreadyReady, NotReady}
 use Rattle.scheduler_reply.specs.Reply.{reply_of_came, chain_of, chains_of}
-use Rattle.link_table.specs.State.{State, IsState, task_on, occupant_but, state_with_ready, state_after_leaving}
-use Rattle.link_table.specs.Chain.{IsBackChain, IsSimple, occupant_after_shift, state_after_shift}
-use Rattle.link_table.specs.Step.{SchedulerStep, Comes, EnterStep}
-use Rattle.link_table.proofs.Ends.{least_chain_to_idle, least_chain_to_task, least_back_chain}
-use Rattle.link_table.proofs.Leaving.{IsState-state_after_leaving}
-use Rattle.link_table.proofs.Linked.{occupied_number}
-use Rattle.link_table.proofs.Shifts.{occupant-later}
-use Rattle.link_table.proofs.Simple.{IsSimple-cons}
-use Rattle.link_table.proofs.StepParts.{IsListOn, step_is_on}
+use Rattle.link_state.specs.State.{State, IsState, task_on, occupant_but, state_with_ready, state_after_leaving}
+use Rattle.link_state.specs.Chain.{IsBackChain, IsSimple, occupant_after_shift, state_after_shift}
+use Rattle.link_state.specs.Step.{SchedulerStep, Comes, EnterStep}
+use Rattle.link_state.proofs.Ends.{least_chain_to_idle, least_chain_to_task, least_back_chain}
+use Rattle.link_state.proofs.Leaving.{IsState-state_after_leaving}
+use Rattle.link_state.proofs.Linked.{occupied_number}
+use Rattle.link_state.proofs.Shifts.{occupant-later}
+use Rattle.link_state.proofs.Simple.{IsSimple-cons}
+use Rattle.link_state.proofs.StepParts.{IsListOn, step_is_on}
 
 -- p stands in the list, or has the occupant that it had
 abbrev pub StaysOutside : List ℕ → State → State → ℕ → Type 0

@@ -7,10 +7,10 @@ use Rattle.task_set.specs.declared.event.Event.{Event}
 use Rattle.task_set.specs.declared.order.Order.{Order}
 use Rattle.scheduler_reply.specs.declared.reply.Reply.{Reply}
 use Rattle.scheduler_reply.specs.declared.reply.Entry.{Entry}
-use Rattle.link_table.specs.State.{State, IsState, task_count}
-use Rattle.link_table.specs.Step.{SchedulerStep}
-use Rattle.link_table.specs.History.{IsLegalFrom, state_after}
-use Rattle.link_table.specs.Dispatch.{orders_of, closed_orders_of}
+use Rattle.link_state.specs.State.{State, IsState, task_count}
+use Rattle.link_state.specs.Step.{SchedulerStep}
+use Rattle.link_state.specs.History.{IsLegalFrom, state_after}
+use Rattle.link_state.specs.Dispatch.{orders_of, closed_orders_of}
 use Rattle.certificate_laws.specs.Certified.{HasCertificates}
 use Rattle.certificate_laws.specs.Justification.{HasJustification}
 use Rattle.order_laws.specs.Start.{NobodyIsReady}

@@ -7,9 +7,9 @@ use Rattle.task_set.specs.declared.event.Event.{Event}
 use Rattle.task_set.specs.declared.event.Event.TheVariants.{Tick}
 use Rattle.task_set.specs.declared.order.Order.{Order}
 use Rattle.task_set.specs.declared.order.Order.TheVariants.{Stop}
-use Rattle.link_table.specs.State.{State, is_task, task_count, task_on}
-use Rattle.link_table.specs.Chain.{IsSimple}
-use Rattle.link_table.specs.Dispatch.{change_orders, tick_orders, release_of}
+use Rattle.link_state.specs.State.{State, is_task, task_count, task_on}
+use Rattle.link_state.specs.Chain.{IsSimple}
+use Rattle.link_state.specs.Dispatch.{change_orders, tick_orders, release_of}
 
 -- the orders to one processor so far, the task that it holds after them, and for how many more there is room
 pub record RowData : Type 0 where

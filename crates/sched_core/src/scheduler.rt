@@ -2,8 +2,8 @@
 ghost use Rattle.std.specs.Prelude.{◌≡◌, ℕ, ◌+◌, ◌*◌, ◌<◌, ◌≤◌, All, IfOk, true, false, [], length, if◌then◌else◌};
 ghost use Rattle.std.specs.Result.{OnOk, OnErr, IsOk};
 ghost use Rattle.task_set.specs.Orders.{IsObeyable, NamesTaskBelow, TakesBelow};
-ghost use Rattle.link_table.specs.State.{task_count, start_of};
-ghost use Rattle.link_table.specs.Step.{SchedulerStep};
+ghost use Rattle.link_state.specs.State.{task_count, start_of};
+ghost use Rattle.link_state.specs.Step.{SchedulerStep};
 ghost use Rattle.certificate_laws.specs.Certified.{HasCertificates};
 ghost use Rattle.certificate_laws.specs.Laws.{LinkedIsBest, LinkedIsLargest, LinkedIsAsUrgent};
 ghost use Rattle.certificate_laws.specs.Passing.{IsOfTask};

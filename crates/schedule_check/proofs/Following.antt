@@ -7,16 +7,16 @@ use Rattle.std.proofs.lemmas.Option.{slice_get_within, slice_get_read, get_or_fr
 use Rattle.task_set.specs.TaskSet.{SetData, TaskData}
 use Rattle.task_set.specs.Context.{fresh_context}
 use Rattle.scheduler_reply.specs.declared.reply.Entry.{Entry}
-use Rattle.link_table.specs.State.{State, start_of, task_count}
-use Rattle.link_table.specs.History.{effect_of, state_after}
-use Rattle.link_table.proofs.Histories.{state_after-push}
+use Rattle.link_state.specs.State.{State, start_of, task_count}
+use Rattle.link_state.specs.History.{effect_of, state_after}
+use Rattle.link_state.proofs.Histories.{state_after-push}
 use Rattle.reach_certificate.specs.Checker.{CheckerData}
 use Rattle.reach_certificate.specs.Contexts.{EachBecomes, context_after_entry}
 use Rattle.reach_certificate.specs.Defect.{IsDefect, number_of}
 use Rattle.certificate_laws.specs.Passing.{Passes, IsPassingFrom, IsOfTask}
 use Rattle.reach_certificate.specs.declared.defect.Defect.{Defect}
 use Rattle.reach_certificate.proofs.ContextsFollow.{contexts-follow}
-use Rattle.link_table.proofs.SameTasks.{same_tasks-history}
+use Rattle.link_state.proofs.SameTasks.{same_tasks-history}
 use Rattle.text_fields.specs.EventText.{IsAboutSet}
 use Rattle.schedule_text.specs.Schedule.{ScheduleData, IsSchedule, IsScheduled}
 use Rattle.valid_schedule.specs.Valid.{HasBadEntry, entry_line_number}

@@ -3,7 +3,7 @@
 -- pass, at the first context that differs. Any other text is refused at its first faulty line.
 use Rattle.std.specs.Prelude.{◌≡◌, ◌⊎◌, ℕ, List, ◌++◌, length, codes}
 use Rattle.affinity_mask.specs.Number.{canonical_number}
-use Rattle.link_table.specs.History.{IsBestThroughout}
+use Rattle.link_state.specs.History.{IsBestThroughout}
 use Rattle.certificate_laws.specs.Improving.{HasNoImprovingChainThroughout}
 use Rattle.text_fields.specs.LineText.{line}
 use Rattle.schedule_text.specs.Schedule.{ScheduleData}

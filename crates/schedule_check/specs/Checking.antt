@@ -1,8 +1,8 @@
 -- One step of a check: the words of the contracts of private functions. The public one says by the definitions of a valid
 -- and of a wrong schedule what was found.
-use Rattle.link_table.specs.Dispatch.{contexts_of}
+use Rattle.link_state.specs.Dispatch.{contexts_of}
 use Rattle.std.specs.Prelude.{◌≡◌, ℕ, take}
-use Rattle.link_table.specs.History.{state_at}
+use Rattle.link_state.specs.History.{state_at}
 use Rattle.reach_certificate.specs.Checker.{CheckerData}
 use Rattle.certificate_laws.specs.Passing.{IsPassing}
 use Rattle.schedule_text.specs.Schedule.{ScheduleData}

@@ -2,15 +2,15 @@
 use Rattle.std.proofs.Common.{◌≡◌, ℕ, List}
 use Rattle.task_set.specs.TaskSet.{SetData}
 use Rattle.task_set.specs.declared.context.Context.{Context}
-use Rattle.link_table.specs.State.{start_of}
-use Rattle.link_table.proofs.Start.{IsState-start}
+use Rattle.link_state.specs.State.{start_of}
+use Rattle.link_state.proofs.Start.{IsState-start}
 use Rattle.certificate_laws.proofs.Improved.{passing_has_no_improving_chain}
 use Rattle.certificate_laws.proofs.Kept.{legal_is_best, legal_passes}
 use Rattle.sched_core.specs.CoreData.{CoreData}
 use Rattle.trace_reader.specs.declared.posted.Posted.{Posted}
 use Rattle.trace_reader.specs.InputText.{IsInputText}
 use Rattle.schedule_text.specs.ScheduleText.{schedule_text}
-use Rattle.link_table.specs.Dispatch.{contexts_of}
+use Rattle.link_state.specs.Dispatch.{contexts_of}
 use Rattle.thread_replay.specs.Replayed.{IsReplayOf}
 use Rattle.schedule_run.specs.Run.{Replays}
 

@@ -1,6 +1,6 @@
 -- Where the events of an input are of one stream, the headline allows one text: a merge of them has just one order, and so
 -- there is one legal history, with one context for each task.
-use Rattle.link_table.specs.Dispatch.{contexts_of}
+use Rattle.link_state.specs.Dispatch.{contexts_of}
 use Rattle.std.proofs.Common.{◌≡◌, List, ℕ, sym, ap, ◌∙◌, subst}
 use Rattle.task_set.specs.TaskSet.{SetData}
 use Rattle.scheduler_reply.specs.declared.reply.Entry.{Entry}

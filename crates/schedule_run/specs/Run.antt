@@ -1,12 +1,12 @@
 -- What a replay of an input is: the bytes read are the text of one input, and the bytes written are the schedule text of one
 -- history, which is a legal merge of its events, keeps the best set linked after every entry, so that no chain of shifts would
 -- bring a waiting task in, and gives the contexts that are printed.
-use Rattle.link_table.specs.Dispatch.{contexts_of}
+use Rattle.link_state.specs.Dispatch.{contexts_of}
 use Rattle.std.specs.Prelude.{◌≡◌, ℕ, List}
 use Rattle.task_set.specs.TaskSet.{SetData}
 use Rattle.task_set.specs.declared.context.Context.{Context}
 use Rattle.scheduler_reply.specs.declared.reply.Entry.{Entry}
-use Rattle.link_table.specs.History.{IsLegal, IsBestThroughout}
+use Rattle.link_state.specs.History.{IsLegal, IsBestThroughout}
 use Rattle.certificate_laws.specs.Improving.{HasNoImprovingChainThroughout}
 use Rattle.trace_reader.specs.declared.posted.Posted.{Posted}
 use Rattle.trace_reader.specs.InputText.{IsInputText}

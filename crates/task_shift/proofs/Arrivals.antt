@@ -2,11 +2,11 @@
 use Rattle.std.proofs.Common.{◌≡◌, ℕ, ◌<◌, ◌≤◌, false, List, Option, Some, None, refl, sym, ◌∙◌, subst, inl, inr, IsTrue, arith, le_antisymm}
 use Rattle.std.proofs.lemmas.Bool.{cases_lt, true≢false}
 use Rattle.affinity_mask.specs.ProcSet.{has}
-use Rattle.link_table.specs.State.{State, IsState, IsMoreUrgent, task_on, task_count, is_ready, priority_of}
-use Rattle.link_table.specs.Chain.{IsReach, EndsIdle, EndsOnTask}
-use Rattle.link_table.specs.Step.{IsOccupied, IsNobodyOn, IsLeastUrgentOn}
-use Rattle.link_table.proofs.Linked.{linked_number}
-use Rattle.link_table.proofs.Paths.{Reaches-online}
+use Rattle.link_state.specs.State.{State, IsState, IsMoreUrgent, task_on, task_count, is_ready, priority_of}
+use Rattle.link_state.specs.Chain.{IsReach, EndsIdle, EndsOnTask}
+use Rattle.link_state.specs.Step.{IsOccupied, IsNobodyOn, IsLeastUrgentOn}
+use Rattle.link_state.proofs.Linked.{linked_number}
+use Rattle.link_state.proofs.Paths.{Reaches-online}
 
 module _ (s : State) (ok : IsState s) (t : ℕ) where
   module _ (reach : ℕ) (reached : IsReach s t reach) where

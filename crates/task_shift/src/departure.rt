@@ -1,7 +1,7 @@
 //! A task departs.
 ghost use Rattle.std.specs.Prelude.{◌≡◌, ◌<◌, [], ◌∷◌};
-ghost use Rattle.link_table.specs.State.{IsState, task_count};
-ghost use Rattle.link_table.specs.Step.{DepartStep, Fills};
+ghost use Rattle.link_state.specs.State.{IsState, task_count};
+ghost use Rattle.link_state.specs.Step.{DepartStep, Fills};
 
 use link_table::{Chain, Gone, Links, Reply};
 use path_search::{back_chain, back_set};

@@ -3,9 +3,9 @@
 use Rattle.std.specs.Prelude.{◌≡◌, ℕ, true, None, List, length}
 use Rattle.task_set.specs.TaskSet.{SetData}
 use Rattle.task_set.specs.Orders.{stints_in}
-use Rattle.link_table.specs.State.{start_of}
-use Rattle.link_table.specs.History.{IsLegal}
-use Rattle.link_table.specs.Dispatch.{closed_orders_of}
+use Rattle.link_state.specs.State.{start_of}
+use Rattle.link_state.specs.History.{IsLegal}
+use Rattle.link_state.specs.Dispatch.{closed_orders_of}
 use Rattle.scheduler_reply.specs.declared.reply.Entry.{Entry}
 use Rattle.trace_reader.specs.declared.posted.Posted.{Posted}
 use Rattle.sched_core.specs.CoreData.{CoreData}

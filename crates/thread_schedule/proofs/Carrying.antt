@@ -5,9 +5,9 @@ use Rattle.task_set.specs.TaskSet.{SetData, IsTaskSet}
 use Rattle.task_set.specs.Orders.{Stint, stints_in}
 use Rattle.task_set.specs.Context.{carried_context}
 use Rattle.task_set.specs.declared.context.Context.{Context}
-use Rattle.link_table.specs.State.{start_of}
-use Rattle.link_table.specs.History.{IsLegal}
-use Rattle.link_table.specs.Dispatch.{closed_orders_of, context_of, contexts_of}
+use Rattle.link_state.specs.State.{start_of}
+use Rattle.link_state.specs.History.{IsLegal}
+use Rattle.link_state.specs.Dispatch.{closed_orders_of, context_of, contexts_of}
 use Rattle.scheduler_reply.specs.declared.reply.Entry.{Entry}
 use Rattle.order_laws.specs.StintLaw.{stints_of_history}
 use Rattle.order_laws.proofs.CarriedThroughout.{stints_give_context}

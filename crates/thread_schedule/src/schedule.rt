@@ -1,6 +1,6 @@
 //! From a set and its events to one history and the contexts that the workers carried.
 ghost use Rattle.std.specs.Prelude.{◌≡◌, All, IfOk};
-ghost use Rattle.link_table.specs.Dispatch.{contexts_of};
+ghost use Rattle.link_state.specs.Dispatch.{contexts_of};
 ghost use Rattle.thread_replay.specs.Replayed.{IsReplayOf};
 ghost use Rattle.trace_reader.specs.Input.{IsPostedOf};
 

@@ -16,14 +16,14 @@ use Rattle.scheduler_reply.specs.declared.reply.Reply.{Reply}
 use Rattle.scheduler_reply.specs.declared.reply.Reply.TheVariants.{Placed, Displaced, Waits, Freed}
 use Rattle.scheduler_reply.specs.declared.reply.Entry.{Entry}
 use Rattle.scheduler_reply.specs.Reply.{chains_of, sets_of}
-use Rattle.link_table.specs.State.{State, IsState, task_count, task_on, is_task, start_of}
-use Rattle.link_table.specs.Step.{SchedulerStep}
-use Rattle.link_table.specs.History.{IsLegal, IsLegalFrom, effect_of}
-use Rattle.link_table.specs.Dispatch.{context_of, processors_of, runs_of, taken_between, trail_after, trail_multiplier}
-use Rattle.link_table.proofs.SameTasks.{same_tasks-effect, same_count}
-use Rattle.link_table.proofs.Start.{IsState-start}
-use Rattle.link_table.proofs.StepParts.{IsListOn, IsSetOn, step_is_on}
-use Rattle.link_table.proofs.Steps.{step_keeps_state}
+use Rattle.link_state.specs.State.{State, IsState, task_count, task_on, is_task, start_of}
+use Rattle.link_state.specs.Step.{SchedulerStep}
+use Rattle.link_state.specs.History.{IsLegal, IsLegalFrom, effect_of}
+use Rattle.link_state.specs.Dispatch.{context_of, processors_of, runs_of, taken_between, trail_after, trail_multiplier}
+use Rattle.link_state.proofs.SameTasks.{same_tasks-effect, same_count}
+use Rattle.link_state.proofs.Start.{IsState-start}
+use Rattle.link_state.proofs.StepParts.{IsListOn, IsSetOn, step_is_on}
+use Rattle.link_state.proofs.Steps.{step_keeps_state}
 use Rattle.text_fields.specs.EventText.{IsAboutSet}
 use Rattle.schedule_text.specs.Schedule.{IsProcessorList, IsOfProcessors, HasProcessors, IsContextOf, AreInOrder, IsScheduleSet, IsSchedule}
 use Rattle.order_laws.proofs.LegalNames.{legal_names}

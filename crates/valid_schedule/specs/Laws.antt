@@ -3,7 +3,7 @@ use Rattle.std.specs.Prelude.{◌≡◌, ℕ, ◌<◌, ◌≤◌, List, length, 
 use Rattle.task_set.specs.TaskSet.{SetData}
 use Rattle.task_set.specs.Event.{HasUnits}
 use Rattle.scheduler_reply.specs.declared.reply.Entry.{Entry}
-use Rattle.link_table.specs.History.{IsLegal, IsBestThroughout}
+use Rattle.link_state.specs.History.{IsLegal, IsBestThroughout}
 use Rattle.certificate_laws.specs.Improving.{HasNoImprovingChainThroughout}
 use Rattle.schedule_text.specs.Schedule.{ScheduleData, IsSchedule, IsScheduleSet}
 use Rattle.valid_schedule.specs.Valid.{IsValid, IsInvalid, schedule_of}

@@ -1,5 +1,5 @@
 use Rattle.std.proofs.Common.{rules, ap, ◌∙◌}
-use Rattle.link_table.specs.State.{start_of}
+use Rattle.link_state.specs.State.{start_of}
 use Rattle.event_history.specs.Turn.{TurnSeat, Setting}
 use Rattle.event_history.proofs.Flushes.{flushed_lem}
 use Rattle.event_history.proofs.Owes.{may_send}

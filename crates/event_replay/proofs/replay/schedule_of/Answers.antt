@@ -1,7 +1,7 @@
 use Rattle.std.proofs.Common.{◌≡◌, ◌<◌, [], length, map, refl, sym, ap, ◌∙◌, arith}
 use Rattle.std.specs.List.{range_with_len}
 use Rattle.task_set.specs.Context.{fresh_context}
-use Rattle.link_table.proofs.SameTasks.{same_tasks-step}
+use Rattle.link_state.proofs.SameTasks.{same_tasks-step}
 use Rattle.sched_core.specs.CoreData.{CoreData, entry_of}
 use Rattle.event_replay.proofs.Entries.{place_fits, entry_followed}
 use Rattle.event_replay.proofs.Running.{contexts_count, running_count, running_length, running_more, running_start, running_state}

@@ -1,5 +1,5 @@
 use Rattle.std.proofs.Common.{◌≡◌, false}
-use Rattle.link_table.specs.State.{start_of}
+use Rattle.link_state.specs.State.{start_of}
 use Rattle.event_replay.proofs.Running.{IsRunning}
 use Rattle.event_replay.proofs.replay.schedule_of.Given as goal
 

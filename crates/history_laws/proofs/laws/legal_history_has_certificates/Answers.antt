@@ -1,4 +1,4 @@
-use Rattle.link_table.specs.State.{IsState}
+use Rattle.link_state.specs.State.{IsState}
 use Rattle.certificate_laws.specs.Certified.{HasCertificates}
 use Rattle.history_laws.proofs.LegalHistories.{legal_is_certified-from, throughout_legal-set}
 use Rattle.history_laws.proofs.laws.legal_history_has_certificates.Goals as goal

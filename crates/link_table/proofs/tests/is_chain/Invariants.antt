@@ -1,5 +1,5 @@
 use Rattle.std.proofs.Common.{◌-◌, get_or, take}
-use Rattle.link_table.specs.Chain.{IsChainOf}
+use Rattle.link_state.specs.Chain.{IsChainOf}
 use Rattle.link_table.proofs.tests.is_chain.Given as goal
 
 abbrev pub invariant-loop-i : goal.invariant-loop-i

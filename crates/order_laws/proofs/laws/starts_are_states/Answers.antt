@@ -1,4 +1,4 @@
-use Rattle.link_table.proofs.Start.{IsState-start}
+use Rattle.link_state.proofs.Start.{IsState-start}
 use Rattle.order_laws.proofs.Starts.{nobody_ready}
 use Rattle.order_laws.proofs.laws.starts_are_states.Goals as goal
 

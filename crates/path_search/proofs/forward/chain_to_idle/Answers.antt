@@ -1,4 +1,4 @@
-use Rattle.link_table.specs.Chain.{EndsIdle}
+use Rattle.link_state.specs.Chain.{EndsIdle}
 use Rattle.path_search.specs.Paths.{EndsIn}
 use Rattle.path_search.proofs.ChainPaths.{IsLeastIfAny-same, EndsIn-idle, idle-EndsIn}
 use Rattle.path_search.proofs.forward.chain_to_idle.Goals as goal

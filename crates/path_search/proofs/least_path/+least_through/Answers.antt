@@ -1,6 +1,6 @@
 use Rattle.std.proofs.Common.{ℕ, ◌+◌, ◌-◌, ◌<◌, List, [], ◌∷◌, ◌++◌, refl, sym, ap, ◌∙◌, subst, arith, IsTrue}
 use Rattle.affinity_mask.specs.ProcSet.{has}
-use Rattle.link_table.specs.Chain.{IsLeastSuch}
+use Rattle.link_state.specs.Chain.{IsLeastSuch}
 use Rattle.path_search.specs.Paths.{Steps, IsPathFrom, LeadsInto}
 use Rattle.path_search.proofs.LeastPaths.{last_is_end, IsPathFrom-below}
 use Rattle.path_search.proofs.Distances.{IsAway-fits, IsAway-below}

@@ -1,6 +1,6 @@
 use Rattle.std.proofs.Common.{◌≡◌, ℕ, ◌+◌, ◌-◌, List, length, sym, subst, arith}
 use Rattle.affinity_mask.proofs.Meetings.{no_member}
-use Rattle.link_table.specs.Chain.{IsLeastSuch}
+use Rattle.link_state.specs.Chain.{IsLeastSuch}
 use Rattle.path_search.specs.Paths.{Steps, LeadsInto}
 use Rattle.path_search.proofs.LeastPaths.{least_one}
 use Rattle.path_search.specs.Levels.{IsFirstMet}

@@ -1,7 +1,7 @@
 use Rattle.std.proofs.Common.{◌≡◌, ℕ, false, true, reverse, sym, ap, ◌∙◌, subst}
 use Rattle.affinity_mask.specs.ProcSet.{empty}
-use Rattle.link_table.specs.State.{State, IsState, IsWaiting, state_with_ready}
-use Rattle.link_table.specs.Chain.{state_after_shift}
+use Rattle.link_state.specs.State.{State, IsState, IsWaiting, state_with_ready}
+use Rattle.link_state.specs.Chain.{state_after_shift}
 use Rattle.placement_laws.specs.Admission.{Admitted}
 use Rattle.placement_laws.specs.Search.{IsWay, IsFull}
 use Rattle.placement_laws.proofs.Admissions.{Admitted-full, Admitted-way}

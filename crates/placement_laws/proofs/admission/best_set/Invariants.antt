@@ -1,5 +1,5 @@
 use Rattle.std.proofs.Common.{not}
-use Rattle.link_table.specs.State.{is_ready, task_count}
+use Rattle.link_state.specs.State.{is_ready, task_count}
 use Rattle.certificate_laws.proofs.Counts.{count_below}
 use Rattle.placement_laws.proofs.Greedy.{IsGreedy}
 use Rattle.placement_laws.proofs.admission.best_set.Given as goal

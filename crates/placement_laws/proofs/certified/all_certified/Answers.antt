@@ -1,9 +1,9 @@
 use Rattle.std.proofs.Common.{ℕ, ◌<◌, ◌≤◌, List, get_or, sym, ◌∙◌, subst, below_more, arith}
 use Rattle.std.proofs.lemmas.Bool.{false≢true}
 use Rattle.std.proofs.lemmas.List.{get_or_default}
-use Rattle.link_table.specs.State.{State, IsState, IsWaiting, task_count}
-use Rattle.link_table.specs.Certificate.{IsCertificate}
-use Rattle.link_table.proofs.Unique.{ready_number}
+use Rattle.link_state.specs.State.{State, IsState, IsWaiting, task_count}
+use Rattle.link_state.specs.Certificate.{IsCertificate}
+use Rattle.link_state.proofs.Unique.{ready_number}
 use Rattle.certificate_laws.specs.Certified.{HasCertificates}
 use Rattle.certificate_laws.proofs.Best.{linked_is_best, linked_is_largest}
 use Rattle.certificate_laws.proofs.Ranked.{linked_is_as_urgent}

@@ -1,6 +1,6 @@
 use Rattle.std.proofs.Common.{ℕ, ◌<◌, get_or}
-use Rattle.link_table.specs.State.{IsWaiting}
-use Rattle.link_table.specs.Certificate.{IsCertificate}
+use Rattle.link_state.specs.State.{IsWaiting}
+use Rattle.link_state.specs.Certificate.{IsCertificate}
 use Rattle.placement_laws.proofs.certified.all_certified.Given as goal
 
 abbrev pub invariant-loop-t : goal.invariant-loop-t

@@ -1,7 +1,7 @@
 use Rattle.std.proofs.Common.{◌≡◌, ◌-◌, ◌<◌, ℕ, List, ◌++◌, ◌∷◌, [], reverse, sym, ap, ◌∙◌, subst, arith}
 use Rattle.std.proofs.lemmas.List.{reverse-append}
 use Rattle.affinity_mask.specs.ProcSet.{has}
-use Rattle.link_table.proofs.Linked.{linked_number}
+use Rattle.link_state.proofs.Linked.{linked_number}
 use Rattle.placement_laws.specs.Search.{IsWay}
 use Rattle.placement_laws.proofs.Searches.{size_of, IsWay-idle, IsWay-more, way_room, IsFull-seen, added_falls}
 use Rattle.placement_laws.proofs.search.+find_way.Goals as goal

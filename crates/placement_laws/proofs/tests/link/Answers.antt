@@ -1,7 +1,7 @@
 use Rattle.std.proofs.Common.{◌≡◌, ℕ, true, List, [], ◌∷◌, ◌++◌, refl, sym, ap, ◌∙◌}
 use Rattle.affinity_mask.specs.ProcSet.{has}
-use Rattle.link_table.specs.State.{State, effective_mask}
-use Rattle.link_table.specs.Chain.{IsChainOf}
+use Rattle.link_state.specs.State.{State, effective_mask}
+use Rattle.link_state.specs.Chain.{IsChainOf}
 use Rattle.placement_laws.proofs.tests.link.Goals as goal
 
 -- one processor of its effective mask is a chain of a task

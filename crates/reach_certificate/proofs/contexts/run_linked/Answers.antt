@@ -1,5 +1,5 @@
 use Rattle.std.proofs.Common.{sym, ◌∙◌, arith}
-use Rattle.link_table.proofs.Linked.{linked_number}
+use Rattle.link_state.proofs.Linked.{linked_number}
 use Rattle.reach_certificate.proofs.Following.{runs_more, runs_whole}
 use Rattle.reach_certificate.proofs.contexts.run_linked.Goals as goal
 

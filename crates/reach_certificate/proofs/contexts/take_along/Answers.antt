@@ -1,5 +1,5 @@
 use Rattle.std.proofs.Common.{get_or, sym, ◌∙◌, arith}
-use Rattle.link_table.proofs.Linked.{linked_number}
+use Rattle.link_state.proofs.Linked.{linked_number}
 use Rattle.reach_certificate.proofs.Following.{takes_more, takes_whole}
 use Rattle.reach_certificate.proofs.contexts.take_along.Goals as goal
 

@@ -1,7 +1,7 @@
 use Rattle.std.proofs.Common.{sym, subst}
-use Rattle.link_table.specs.State.{State}
-use Rattle.link_table.specs.Chain.{IsChainOf}
-use Rattle.link_table.proofs.Steps.{IsChainOf-state_with_ready}
+use Rattle.link_state.specs.State.{State}
+use Rattle.link_state.specs.Chain.{IsChainOf}
+use Rattle.link_state.proofs.Steps.{IsChainOf-state_with_ready}
 use Rattle.reach_certificate.proofs.judge.enter.Goals as goal
 
 pub shift-requires-clause-chain : goal.shift-requires-clause-chain

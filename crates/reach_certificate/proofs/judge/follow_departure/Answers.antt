@@ -2,9 +2,9 @@ use Rattle.std.proofs.Common.{rules, ◌≡◌, ℕ, [], ◌∷◌, false, refl,
 use Rattle.std.proofs.lemmas.Bool.{true≢false}
 use Rattle.scheduler_reply.specs.declared.reply.Reply.{Reply}
 use Rattle.scheduler_reply.specs.declared.reply.Reply.TheVariants.{NotReady}
-use Rattle.link_table.specs.State.{State, IsState, is_ready, state_with_ready}
-use Rattle.link_table.specs.Chain.{state_after_shift}
-use Rattle.link_table.proofs.Linked.{task_on-linked, place_in}
+use Rattle.link_state.specs.State.{State, IsState, is_ready, state_with_ready}
+use Rattle.link_state.specs.Chain.{state_after_shift}
+use Rattle.link_state.proofs.Linked.{task_on-linked, place_in}
 use Rattle.reach_certificate.specs.Defect.{IsAllowedToDeparture}
 use Rattle.reach_certificate.proofs.Returning.{came_back}
 use Rattle.reach_certificate.proofs.judge.follow_departure.Goals as goal

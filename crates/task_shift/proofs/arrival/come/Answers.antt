@@ -1,9 +1,9 @@
 use Rattle.std.proofs.Common.{sym, ◌∙◌}
 use Rattle.std.proofs.lemmas.Bool.{true≢false}
-use Rattle.link_table.specs.Chain.{IsLeastSuch, EndsOnTask}
-use Rattle.link_table.proofs.Ends.{least_chain_to_idle, least_chain_to_task}
-use Rattle.link_table.proofs.Linked.{linked_number}
-use Rattle.link_table.proofs.Readiness.{absent_not_linked}
+use Rattle.link_state.specs.Chain.{IsLeastSuch, EndsOnTask}
+use Rattle.link_state.proofs.Ends.{least_chain_to_idle, least_chain_to_task}
+use Rattle.link_state.proofs.Linked.{linked_number}
+use Rattle.link_state.proofs.Readiness.{absent_not_linked}
 use Rattle.task_shift.proofs.Arrivals.{occupied_reach, more_urgent_reach, nobody_reached}
 use Rattle.task_shift.proofs.arrival.come.Goals as goal
 use Rattle.task_shift.proofs.arrival.come.Goals.{After-unwrap-chain, in_default-least_urgent_on-via-in-Some-least_urgent_on+else-is_more_urgent, in_default-least_urgent_on-via-in_default-least_urgent_on}

@@ -1,7 +1,7 @@
 use Rattle.std.proofs.Common.{sym, ◌∙◌, subst, ◌<◌, inr}
 use Rattle.std.proofs.lemmas.Bool.{true≢false}
-use Rattle.link_table.specs.State.{State}
-use Rattle.link_table.proofs.Linked.{linked_from_not_waiting, occupied_number}
+use Rattle.link_state.specs.State.{State}
+use Rattle.link_state.proofs.Linked.{linked_from_not_waiting, occupied_number}
 use Rattle.task_shift.proofs.departure.depart.Goals as goal
 
 pub leave-p-requires-clause-linked : goal.leave-p-requires-clause-linked

@@ -1,8 +1,8 @@
 use Rattle.std.proofs.Common.{refl}
-use Rattle.link_table.specs.Chain.{IsLeastSuch, EntersBy}
-use Rattle.link_table.proofs.Ends.{least_back_chain}
-use Rattle.link_table.proofs.Paths.{IsChainOf-reverse}
-use Rattle.link_table.proofs.Simple.{IsSimple-reverse}
+use Rattle.link_state.specs.Chain.{IsLeastSuch, EntersBy}
+use Rattle.link_state.proofs.Ends.{least_back_chain}
+use Rattle.link_state.proofs.Paths.{IsChainOf-reverse}
+use Rattle.link_state.proofs.Simple.{IsSimple-reverse}
 use Rattle.task_shift.proofs.Departures.{back_chain_found}
 use Rattle.task_shift.proofs.departure.fill.Goals as goal
 use Rattle.task_shift.proofs.departure.fill.Goals.{After-unwrap-chain}

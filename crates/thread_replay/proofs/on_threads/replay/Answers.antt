@@ -1,7 +1,7 @@
 use Rattle.std.proofs.Common.{rules, ◌≡◌, ◌∙◌, Bool, true, sym, ap, subst}
 use Rattle.task_set.specs.TaskSet.{SetData}
-use Rattle.link_table.specs.State.{start_of}
-use Rattle.link_table.specs.History.{IsLegal}
+use Rattle.link_state.specs.State.{start_of}
+use Rattle.link_state.specs.History.{IsLegal}
 use Rattle.thread_replay.specs.Places.{AllFrom}
 use Rattle.thread_replay.specs.Streams.{IsStreamedAt}
 use Rattle.thread_replay.proofs.Merging.{all_passes, merged, saw_closed}

@@ -1,6 +1,6 @@
 use Rattle.std.proofs.Common.{◌≡◌, map, sym, ap, ◌∙◌, subst}
 use Rattle.task_set.specs.TaskSet.{SetData, IsTaskSet}
-use Rattle.link_table.specs.Dispatch.{contexts_of}
+use Rattle.link_state.specs.Dispatch.{contexts_of}
 use Rattle.thread_schedule.proofs.Beginning.{new_unused}
 use Rattle.thread_schedule.proofs.Carrying.{free_hands, contexts_carried}
 use Rattle.thread_schedule.proofs.schedule.schedule_of.Goals as goal

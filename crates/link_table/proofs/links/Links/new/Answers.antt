@@ -1,9 +1,9 @@
 use Rattle.std.proofs.Common.{◌≡◌, ℕ, List, Option, None, length, replicate, refl, sym, ap, subst, arith}
 use Rattle.affinity_mask.specs.ProcSet.{empty, all_below}
-use Rattle.link_table.specs.State.{State, IsState}
+use Rattle.link_state.specs.State.{State, IsState}
 use Rattle.link_table.specs.LinksView.{AreAwaited}
 use Rattle.link_table.proofs.Awaiting.{AreAwaited-start}
-use Rattle.link_table.proofs.Start.{IsState-start, start_of-columns}
+use Rattle.link_state.proofs.Start.{IsState-start, start_of-columns}
 use Rattle.link_table.proofs.links.Links.new.Goals as goal
 
 pub invariant_of-result : goal.invariant_of-result

@@ -1,11 +1,11 @@
 use Rattle.std.proofs.Common.{◌≡◌, ℕ, ◌-◌, ◌<◌, ◌≤◌, List, length, get_or, false, refl, sym, ap, ◌∙◌, subst, inl, inr, arith}
 use Rattle.std.specs.Prelude.{All}
 use Rattle.scheduler_reply.specs.declared.reply.Entry.{Entry}
-use Rattle.link_table.specs.State.{IsState, task_count}
-use Rattle.link_table.specs.History.{effect_of}
-use Rattle.link_table.specs.Dispatch.{orders_of, processors_of}
-use Rattle.link_table.proofs.Linked.{linked_number}
-use Rattle.link_table.proofs.Steps.{reply_gives_new_state, step_keeps_state}
+use Rattle.link_state.specs.State.{IsState, task_count}
+use Rattle.link_state.specs.History.{effect_of}
+use Rattle.link_state.specs.Dispatch.{orders_of, processors_of}
+use Rattle.link_state.proofs.Linked.{linked_number}
+use Rattle.link_state.proofs.Steps.{reply_gives_new_state, step_keeps_state}
 use Rattle.certificate_laws.proofs.Kept.{step_has_justification}
 use Rattle.sched_core.specs.CoreData.{CoreData, IsCore, Applied, entry_of, max_entries}
 use Rattle.sched_core.specs.CoreView.{core_view}
@@ -13,7 +13,7 @@ use Rattle.scheduler_reply.specs.Reply.{chain_of}
 use Rattle.sched_core.specs.CoreRows.{row_at}
 use Rattle.sched_core.proofs.StepChains.{step_chain_is_on, step_chain_is_simple, step_stays, tick_has_no_chain}
 use Rattle.sched_core.proofs.CoreEntered.{takes_bound, core_entered, core_orders-open, orders_entered, takes_entered}
-use Rattle.link_table.proofs.SameTasks.{same_tasks-step}
+use Rattle.link_state.proofs.SameTasks.{same_tasks-step}
 use Rattle.sched_core.proofs.scheduler.Core.enter.Goals as goal
 
 pub follow_links-requires-clause-can : goal.follow_links-requires-clause-can

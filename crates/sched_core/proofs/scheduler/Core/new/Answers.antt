@@ -1,6 +1,6 @@
 use Rattle.std.proofs.Common.{rules, ◌≡◌, false, sym, ap, ◌∙◌, subst, length}
 use Rattle.std.proofs.lemmas.List.{length-replicate}
-use Rattle.link_table.specs.State.{State}
+use Rattle.link_state.specs.State.{State}
 use Rattle.certificate_laws.specs.Certified.{HasCertificates}
 use Rattle.certificate_laws.proofs.Kept.{HasCertificates-start}
 use Rattle.order_laws.specs.Start.{NobodyIsReady}

@@ -1,0 +1,272 @@
+-- A tree of unions: which leaves stand below a place, that the set at a place has all of theirs, and what a write leaves.
+use Rattle.std.proofs.Common.{◌≡◌, ◌≢◌, ℕ, zero, suc, ◌+◌, ◌-◌, ◌<◌, ◌≤◌, ◌||◌, Bool, true, false, List, length, get_or, set, drop, refl, sym, ap, ◌∙◌, subst, inl, inr, ◌⊎◌, IsTrue, arith, length-set, get_or-set_same, get_or-set_other, replicate}
+use Rattle.std.proofs.lemmas.Bool.{cases_eq, cases_lt, cases_Bool, or_left, or_right, or_cases, true≢false}
+use Rattle.std.proofs.lemmas.List.{get_or-drop, get_or-replicate, get_or_past, length-drop, length-replicate, drop-set-add, drop-set-lt}
+use Rattle.affinity_mask.specs.ProcSet.{has, empty, Within, Meets}
+use Rattle.affinity_mask.proofs.Sets.{has-zero}
+use Rattle.waiting_index.specs.SetTree.{first_below, IsLevel, IsUnion, IsTree, IsMetByNone, IsFirstMeeting}
+
+-- ---- the places below a place
+pub first_below-least : (d k : ℕ) → k ≤ first_below d k
+unfolding first_below
+first_below-least zero k = omega arith
+first_below-least (suc d) k = let below = first_below-least d (k + k) in omega arith
+
+first_below-rises : (d a b : ℕ) → a ≤ b → first_below d a ≤ first_below d b
+unfolding first_below
+first_below-rises zero a b le = le
+first_below-rises (suc d) a b le = first_below-rises d (a + a) (b + b) (omega arith)
+
+first_below-twice : (d k : ℕ) → first_below d (k + k) ≡ first_below d k + first_below d k
+unfolding first_below
+first_below-twice zero k = refl
+first_below-twice (suc d) k = first_below-twice d (k + k)
+
+-- the leaves of half of the tree below, and of the whole
+first_below-next : (d k : ℕ) → first_below (suc d) (k + 1) ≡ first_below d (k + k + 1 + 1)
+unfolding first_below
+first_below-next d k = let e : k + 1 + (k + 1) ≡ k + k + 1 + 1 = omega arith in ap (first_below d) e
+
+first_below-down : (d k : ℕ) → first_below (suc d) k ≡ first_below d (k + k)
+unfolding first_below
+first_below-down d k = refl
+
+first_below-none : (k : ℕ) → first_below zero k ≡ k
+unfolding first_below
+first_below-none k = refl
+
+-- a level of twice as many
+pub IsLevel-twice : (width : ℕ) → IsLevel width → IsLevel (width + width)
+unfolding first_below
+IsLevel-twice width level = (suc (level.0), rw (level.1) (sym (first_below-twice (level.0) 1)))
+
+pub IsLevel-one : IsLevel 1
+unfolding first_below
+IsLevel-one = (0, refl)
+
+pub IsLevel-positive : (width : ℕ) → IsLevel width → 0 < width
+IsLevel-positive width level = let above = first_below-least (level.0) 1 in let e = level.1 in omega arith
+
+-- ---- the set at a place has what the leaves below have
+module _ (width : ℕ) (nodes : List ℕ) (unions : (k : ℕ) → 0 < k → k < width → IsUnion nodes k) where
+  left_within : (k : ℕ) → 0 < k → k < width → Within (get_or nodes (k + k) empty) (get_or nodes k empty)
+  left_within k low high p h = unions k low high p ∙ or_left _ _ h
+
+  right_within : (k : ℕ) → 0 < k → k < width → Within (get_or nodes (k + k + 1) empty) (get_or nodes k empty)
+  right_within k low high p h = unions k low high p ∙ or_right (has (get_or nodes (k + k) empty) p) _ h
+
+  pub leaf_within : (d k j : ℕ) → 0 < k → first_below d k ≤ j → j < first_below d (k + 1) → first_below d (k + 1) ≤ width + width → Within (get_or nodes j empty) (get_or nodes k empty)
+  leaf_within zero k j low from to most =
+      let a = first_below-none k in let b = first_below-none (k + 1) in
+      let same : j ≡ k = omega arith in
+      λ p h. ap (λ n. has (get_or nodes n empty) p) (sym same) ∙ h
+  leaf_within (suc d) k j low from to most =
+      let next = first_below-next d k in
+      let down = first_below-down d k in
+      let deep = first_below-least d (k + k + 1 + 1) in
+      let high : k < width = omega arith in
+      elim (cases_lt j (first_below d (k + k + 1))) [
+        | inl lt ↦
+            let middle = first_below-rises d (k + k + 1) (k + k + 1 + 1) (omega arith) in
+            λ p h. left_within k low high p (leaf_within d (k + k) j (omega arith) (omega arith) lt (omega arith) p h)
+        | inr ge ↦ λ p h. right_within k low high p (leaf_within d (k + k + 1) j (omega arith) ge (omega arith) (omega arith) p h)
+      ]
+
+-- ---- the way down to the first leaf that meets X
+pub record IsOnTheWay (width : ℕ) (nodes : List ℕ) (X k : ℕ) : Type 0 where
+  pub levels : ℕ
+  pub positive : 0 < k
+  pub from : width ≤ first_below levels k
+  pub to : first_below levels (k + 1) ≤ width + width
+  pub meets : Meets X (get_or nodes k empty)
+  pub before : (j : ℕ) → width ≤ j → j < first_below levels k → Meets X (get_or nodes j empty) → ⊥
+
+module _ (width : ℕ) (nodes : List ℕ) (tree : IsTree width nodes) (X : ℕ) where
+  pub way_begins : Meets X (get_or nodes 1 empty) → IsOnTheWay width nodes X 1
+  way_begins meets = record {
+    levels = tree.level.0;
+    positive = omega arith;
+    from = let e = tree.level.1 in omega arith;
+    to = let e = tree.level.1 in let twice = first_below-twice (tree.level.0) 1 in omega arith;
+    meets = meets;
+    before = λ j low high m. absurd (let e = tree.level.1 in omega arith);
+  }
+
+  -- where not even the root meets X, no leaf does
+  pub root_meets_not : (Meets X (get_or nodes 1 empty) → ⊥) → (j : ℕ) → width ≤ j → j < width + width → Meets X (get_or nodes j empty) → ⊥
+  root_meets_not not j low high m =
+      let e = tree.level.1 in
+      let twice = first_below-twice (tree.level.0) 1 in
+      not (m.0, m.1, leaf_within width nodes tree.unions (tree.level.0) 1 j (omega arith) (omega arith) (omega arith) (omega arith) m.0 m.2)
+
+  -- one level down: to the left half, where that meets X, else to the right one
+  pub way_left : (k : ℕ) → k < width → Meets X (get_or nodes (k + k) empty) → IsOnTheWay width nodes X k → IsOnTheWay width nodes X (k + k)
+  way_left k high meets way = go way.levels way.from way.to way.before
+    where
+      go : (d : ℕ) → width ≤ first_below d k → first_below d (k + 1) ≤ width + width → ((j : ℕ) → width ≤ j → j < first_below d k → Meets X (get_or nodes j empty) → ⊥) → IsOnTheWay width nodes X (k + k)
+      go zero from to before = absurd (let none = first_below-none k in omega arith)
+      go (suc d) from to before = record {
+        levels = d;
+        positive = let low = way.positive in omega arith;
+        from = let down = first_below-down d k in omega arith;
+        to = let next = first_below-next d k in let rises = first_below-rises d (k + k + 1) (k + k + 1 + 1) (omega arith) in omega arith;
+        meets = meets;
+        before = λ j low lt m. before j low (let down = first_below-down d k in omega arith) m;
+      }
+
+  pub way_right : (k : ℕ) → k < width → (Meets X (get_or nodes (k + k) empty) → ⊥) → IsOnTheWay width nodes X k → IsOnTheWay width nodes X (k + k + 1)
+  way_right k high not way = go way.levels way.from way.to way.before
+    where
+      there : Meets X (get_or nodes (k + k + 1) empty)
+      there =
+          let p = way.meets.0 in
+          elim (or_cases (has (get_or nodes (k + k) empty) p) (has (get_or nodes (k + k + 1) empty) p) (sym (tree.unions k way.positive high p) ∙ way.meets.2)) [
+            | inl left ↦ absurd (not (p, way.meets.1, left))
+            | inr right ↦ (p, way.meets.1, right)
+          ]
+
+      go : (d : ℕ) → width ≤ first_below d k → first_below d (k + 1) ≤ width + width → ((j : ℕ) → width ≤ j → j < first_below d k → Meets X (get_or nodes j empty) → ⊥) → IsOnTheWay width nodes X (k + k + 1)
+      go zero from to before = absurd (let none = first_below-none k in omega arith)
+      go (suc d) from to before = record {
+        levels = d;
+        positive = omega arith;
+        from = let down = first_below-down d k in let rises = first_below-rises d (k + k) (k + k + 1) (omega arith) in omega arith;
+        to = let next = first_below-next d k in omega arith;
+        meets = there;
+        before = λ j low lt m. elim (cases_lt j (first_below d (k + k))) [
+          | inl less ↦ before j low (let down = first_below-down d k in omega arith) m
+          | inr ge ↦ not (
+            m.0,
+            m.1,
+            leaf_within width nodes tree.unions d (k + k) j (let low = way.positive in omega arith) ge lt
+                (let next = first_below-next d k in let rises = first_below-rises d (k + k + 1) (k + k + 1 + 1) (omega arith) in omega arith) m.0 m.2,
+          )
+        ];
+      }
+
+  -- the way ends at a leaf, which is the first that meets X
+  pub way_ends : (k : ℕ) → width ≤ k → IsOnTheWay width nodes X k → IsFirstMeeting (drop width nodes) X (k - width)
+  way_ends k low way = go way.levels way.to way.before
+    where
+      go : (d : ℕ) → first_below d (k + 1) ≤ width + width → ((j : ℕ) → width ≤ j → j < first_below d k → Meets X (get_or nodes j empty) → ⊥) → IsFirstMeeting (drop width nodes) X (k - width)
+      go zero to before =
+          let none = first_below-none k in
+          let next = first_below-none (k + 1) in
+          let count = tree.count in
+          let rest = length-drop width nodes in
+          let here : width + (k - width) ≡ k = omega arith in
+          record {
+            there = omega arith;
+            meets = subst (λ n. Meets X n) (sym (get_or-drop width nodes (k - width) empty ∙ ap (λ n. get_or nodes n empty) here)) way.meets;
+            first = λ r lt m. before (width + r) (omega arith) (omega arith) (subst (λ n. Meets X n) (get_or-drop width nodes r empty) m);
+          }
+      go (suc d) to before = absurd (let next = first_below-next d k in let deep = first_below-least d (k + k + 1 + 1) in omega arith)
+
+  pub none_meets : (Meets X (get_or nodes 1 empty) → ⊥) → IsMetByNone (drop width nodes) X
+  none_meets not r m = elim (cases_lt r width) [
+    | inl lt ↦ root_meets_not not (width + r) (omega arith) (omega arith) (subst (λ n. Meets X n) (get_or-drop width nodes r empty) m)
+    | inr ge ↦ absurd (past r ge m)
+  ]
+    where
+      past : (r : ℕ) → width ≤ r → Meets X (get_or (drop width nodes) r empty) → ⊥
+      past r ge m =
+          let rest = length-drop width nodes in
+          let count = tree.count in
+          true≢false (sym (m.2) ∙ ap (λ n. has n (m.0)) (get_or_past (drop width nodes) r empty (omega arith)) ∙ has-zero (m.0))
+
+-- ---- a write, and the unions above it made anew from the leaf up
+-- a set was written at place k, and only the union above k may lag behind
+pub record IsHalfWritten (width : ℕ) (nodes row : List ℕ) (k : ℕ) : Type 0 where
+  pub level : IsLevel width
+  pub count : length nodes ≡ width + width
+  pub leaves : drop width nodes ≡ row
+  pub positive : 0 < k
+  pub high : k < width + width
+  pub others : (j : ℕ) → 0 < j → j < width → j + j ≢ k → j + j + 1 ≢ k → IsUnion nodes j
+
+-- another set at a place that is none of these three
+union_elsewhere : (nodes : List ℕ) (j k item : ℕ) → j ≢ k → j + j ≢ k → j + j + 1 ≢ k → IsUnion nodes j → IsUnion (set nodes k item) j
+union_elsewhere nodes j k item here left right union = λ p.
+    rw (get_or-set_other nodes k j item empty here, get_or-set_other nodes k (j + j) item empty left, get_or-set_other nodes k (j + j + 1) item empty right) (union p)
+
+pub written_begins : (width : ℕ) (nodes : List ℕ) → IsTree width nodes → (r item : ℕ) → r < length (drop width nodes) → IsHalfWritten width (set nodes (width + r) item) (set (drop width nodes) r item) (width + r)
+written_begins width nodes tree r item fits =
+    let count = tree.count in
+    let rest = length-drop width nodes in
+    let low = IsLevel-positive width tree.level in
+    record {
+      level = tree.level;
+      count = length-set nodes (width + r) item ∙ tree.count;
+      leaves = drop-set-add width nodes r item;
+      positive = omega arith;
+      high = omega arith;
+      others = λ j from to left right. union_elsewhere nodes j (width + r) item (λ e. omega arith) left right (tree.unions j from to);
+    }
+
+module _ (width : ℕ) (nodes row : List ℕ) (k : ℕ) (half : IsHalfWritten width nodes row k) where
+  -- at the root nothing lags behind
+  pub written_whole : k ≤ 1 → IsTree width nodes
+  written_whole top = record {
+    level = half.level;
+    count = half.count;
+    unions = λ j from to. half.others j from to (λ e. omega arith) (λ e. omega arith);
+  }
+
+  module _ (h sum : ℕ) (above : (h + h ≡ k) ⊎ (h + h + 1 ≡ k)) (low : 1 < k) (is_sum : (p : ℕ) → has sum p ≡ (has (get_or nodes (h + h) empty) p || has (get_or nodes (h + h + 1) empty) p)) where
+    pub half_low : 0 < h
+    half_low = elim above [ inl e ↦ omega arith | inr e ↦ omega arith ]
+
+    pub half_high : h < width
+    half_high = let high = half.high in elim above [ inl e ↦ omega arith | inr e ↦ omega arith ]
+
+    -- a place that is not h is not above k
+    apart : (j : ℕ) → j ≢ h → (j + j ≢ k) × (j + j + 1 ≢ k)
+    apart j ne = elim above [
+      | inl e ↦ ((λ f. ne (omega arith)), (λ f. omega arith))
+      | inr e ↦ ((λ f. omega arith), (λ f. ne (omega arith)))
+    ]
+
+    -- the union at h was that already
+    pub written_same : sum ≡ get_or nodes h empty → IsTree width nodes
+    written_same same = record {
+      level = half.level;
+      count = half.count;
+      unions = λ j from to. elim (cases_eq j h) [
+        | inl e ↦ rw e (λ p. ap (λ n. has n p) (sym same) ∙ is_sum p)
+        | inr ne ↦ half.others j from to ((apart j ne).0) ((apart j ne).1)
+      ];
+    }
+
+    pub written_more : IsHalfWritten width (set nodes h sum) row h
+    written_more =
+        let below = half_high in
+        let from = half_low in
+        let count = half.count in
+        record {
+          level = half.level;
+          count = length-set nodes h sum ∙ half.count;
+          leaves = drop-set-lt width nodes h sum half_high ∙ half.leaves;
+          positive = half_low;
+          high = omega arith;
+          others = λ j low_j to left right. elim (cases_eq j h) [
+            | inl e ↦ rw e (λ p.
+                ap (λ n. has n p) (get_or-set_same nodes h sum empty (omega arith)) ∙ is_sum p
+                ∙ rw (get_or-set_other nodes h (h + h) sum empty (λ f. omega arith), get_or-set_other nodes h (h + h + 1) sum empty (λ f. omega arith)) refl)
+            | inr ne ↦ union_elsewhere nodes j h sum ne left right (half.others j low_j to ((apart j ne).0) ((apart j ne).1))
+          ];
+        }
+
+-- ---- a row of empty sets
+pub IsTree-empty : (width n : ℕ) (nodes : List ℕ) → IsLevel width → n ≡ width + width → nodes ≡ replicate n empty → IsTree width nodes
+IsTree-empty width n nodes level all is = rw is record {
+  level = level;
+  count = length-replicate n empty ∙ all;
+  unions = λ k from to p.
+      rw (get_or-replicate n k empty empty (omega arith), get_or-replicate n (k + k) empty empty (omega arith), get_or-replicate n (k + k + 1) empty empty (omega arith), has-zero p) refl;
+}
+
+pub empty_row : (width n r : ℕ) → get_or (drop width (replicate n empty)) r empty ≡ empty
+empty_row width n r = get_or-drop width (replicate n empty) r empty ∙ elim (cases_lt (width + r) n) [
+  | inl lt ↦ get_or-replicate n (width + r) empty empty lt
+  | inr ge ↦ get_or_past (replicate n empty) (width + r) empty (let l = length-replicate n empty in omega arith)
+]

@@ -1,0 +1,12 @@
+use Rattle.std.proofs.Common.{◌≤◌, ◌-◌}
+use Rattle.waiting_index.specs.SetTree.{IsLevel}
+use Rattle.waiting_index.proofs.set_tree.width_for.Given as goal
+
+abbrev pub invariant-loop-width : goal.invariant-loop-width
+invariant-loop-width l = record {
+  level : IsLevel l.width;
+  bound : l.width ≤ 2048;
+}
+
+abbrev pub decreases-loop-width : goal.decreases-loop-width
+decreases-loop-width l = l.least - l.width

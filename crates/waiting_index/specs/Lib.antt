@@ -1,0 +1,3 @@
+pub mod SetTree
+pub mod UrgencyOrder
+pub mod WaitingTasks

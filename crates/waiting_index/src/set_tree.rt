@@ -1,0 +1,107 @@
+//! Sets in a row, with a tree of unions over them.
+ghost use Rattle.std.specs.Prelude.{◌≡◌, ℕ, ◌<◌, ◌≤◌, set, length, get_or, IfOk, MatchOption};
+ghost use Rattle.affinity_mask.specs.ProcSet.{empty};
+ghost use Rattle.waiting_index.specs.SetTree.{IsLevel, IsMetByNone, IsFirstMeeting};
+
+use affinity_mask::{OutOfMemory, ProcSet};
+use std::alloc::Global;
+use std::marker::Model;
+
+/// A row of sets. The first one that meets a given set is found from the root down: where the union over a half meets
+/// it, some set of that half does.
+#[derive(Drop)]
+pub(crate) struct SetTree {
+    /// How many leaves there are: a power of two.
+    width: usize,
+
+    /// From place 1 on: below place k stand 2k and 2k + 1, and the leaves are the last half.
+    nodes: Vec<ProcSet>,
+}
+
+impl Model for SetTree {
+    ghost use Rattle.std.specs.Prelude.{ℕ, List};
+
+    ghost Value = { List ℕ };
+
+    ghost use Rattle.waiting_index.specs.SetTree.{row_of, IsSummed};
+
+    ghost view = { row_of };
+
+    ghost invariant = { IsSummed };
+}
+
+impl SetTree {
+    /// So many empty sets, or more.
+    pub(crate) fn new(alloc: Global, least: usize) -> Result<SetTree, OutOfMemory>
+        requires { least ≤ 1024 }
+        ensures room { IfOk result (λ tree. least ≤ length tree) }
+        ensures empty { IfOk result (λ tree. (r : ℕ) → get_or tree r empty ≡ empty) }
+    {
+        let width = width_for(least);
+        let mut nodes = Vec::new(alloc);
+        for _k in 0..2 * width {
+            nodes.push(ProcSet::empty())?;
+        }
+        Ok(SetTree { width, nodes })
+    }
+
+    /// The set at a place of the row.
+    pub(crate) fn at(&self, r: usize) -> ProcSet
+        requires { r < length self.now }
+        ensures { result ≡ get_or self.now r empty }
+    {
+        self.nodes[self.width + r]
+    }
+
+    /// Writes a set at a place of the row.
+    pub(crate) fn write(&mut self, r: usize, item: ProcSet)
+        requires { r < length self.old }
+        ensures { self.new ≡ set self.old r item }
+    {
+        let mut k = self.width + r;
+        if item == self.nodes[k] {
+            return;
+        }
+        self.nodes[k] = item;
+        while k > 1 {
+            k /= 2;
+            let sum = self.nodes[k + k].either_of(&self.nodes[k + k + 1]);
+            if sum == self.nodes[k] {
+                return;
+            }
+            self.nodes[k] = sum;
+        }
+    }
+
+    /// The place of the first set of the row that meets this one.
+    pub(crate) fn first_meeting(&self, other: &ProcSet) -> Option<usize>
+        ensures { MatchOption result (IsMetByNone self.now other.now) (IsFirstMeeting self.now other.now) }
+    {
+        if !other.meets(&self.nodes[1]) {
+            return None;
+        }
+        let mut k = 1;
+        while k < self.width {
+            if other.meets(&self.nodes[k + k]) {
+                k += k;
+            } else {
+                k += k + 1;
+            }
+        }
+        Some(k - self.width)
+    }
+}
+
+/// A power of two that is not less.
+fn width_for(least: usize) -> usize
+    requires { least ≤ 1024 }
+    ensures level { IsLevel result }
+    ensures room { least ≤ result }
+    ensures bound { result ≤ 2048 }
+{
+    let mut width = 1;
+    while width < least {
+        width += width;
+    }
+    width
+}
