@@ -63,7 +63,7 @@ fn want_of_memory(rt: HostRuntime) {
 }
 
 /// Processor lists, and what is written for the set of each.
-static LISTS: [(&str, &str); 20] = [
+static LISTS: [(&str, &str); 21] = [
     ("0-3,8", "0-3,8"),
     ("0-0,0", "0"),
     ("5,3,4", "3-5"),
@@ -84,6 +84,12 @@ static LISTS: [(&str, &str); 20] = [
     ("0-62", "0-62"),
     ("1-63", "1-63"),
     ("00-63", "0-63"),
+    // Each processor as an item of its own.
+    (
+        "0,1,2,3,4,5,6,7,8,9,10,11,12,13,14,15,16,17,18,19,20,21,22,23,24,25,26,27,28,29,30,31,\
+        32,33,34,35,36,37,38,39,40,41,42,43,44,45,46,47,48,49,50,51,52,53,54,55,56,57,58,59,60,61,62,63",
+        "0-63",
+    ),
 ];
 
 /// Texts, and why each is no processor list.
@@ -179,17 +185,6 @@ fn lists_are_appended(rt: HostRuntime) -> Result<(), Fail> {
     ProcSet::first(64).without(9).write_list(&mut into)?;
     assert_eq!(rt; into.as_slice(), b"mask 0-8,10-63".as_slice());
     Ok(())
-}
-
-/// Each processor as an item of its own.
-static EACH_PROCESSOR: &str =
-    "0,1,2,3,4,5,6,7,8,9,10,11,12,13,14,15,16,17,18,19,20,21,22,23,24,25,26,27,28,29,30,31,\
-        32,33,34,35,36,37,38,39,40,41,42,43,44,45,46,47,48,49,50,51,52,53,54,55,56,57,58,59,60,61,62,63";
-
-#[test]
-fn each_processor_an_item(rt: HostRuntime) {
-    let read = ProcSet::read_list(EACH_PROCESSOR.as_bytes());
-    assert!(rt; read == Ok(ProcSet::first(64)));
 }
 
 #[test]
