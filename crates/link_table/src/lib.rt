@@ -5,9 +5,7 @@
 //! tasks share a processor, no task has two, and only ready tasks are linked. [`Links::shift`] moves tasks along a
 //! [`Chain`] of processors.
 //!
-//! The definitions of the subject stand here as well, for every crate above: states, placements and the best set,
-//! chains and least chains, the scheduler's step, legal histories, certificates, and what a history orders of each
-//! processor. [`laws`] has what holds of them, as that a step is unique and keeps a state.
+//! The definitions of the subject, states, chains and steps among them, stand in `link_state`.
 #![tactic(auto)]
 
 #[cfg(test)]
