@@ -14,20 +14,29 @@ use std::thread::Threads;
 use std::time::Clock;
 use trace_reader::write_input;
 
+/// Appends a line of a generated input, and an event's with this stream in the place of stream 0; reports whether it is one.
+fn write_on_stream(text: &mut String, line: &str, stream: u32) -> Result<bool, Fail> {
+    match line.strip_prefix("0 ") {
+        Some(event) => {
+            writeln!(text, "{stream} {event}")?;
+            Ok(true)
+        }
+        None => {
+            writeln!(text, "{line}")?;
+            Ok(false)
+        }
+    }
+}
+
 /// A generated input with its events on so many streams, in turn: its text has each event's line begin with stream 0.
-fn on_streams(alloc: Global, text: &str, streams: u32) -> Result<String, AllocError>
+fn on_streams(alloc: Global, text: &str, streams: u32) -> Result<String, Fail>
     requires { 0 < streams }
 {
     let mut spread = String::new(alloc);
     let mut i = 0u32;
     for line in text.lines() {
-        match line.strip_prefix("0 ") {
-            Some(event) => {
-                writeln!(spread, "{} {event}", i % streams)?;
-                i = i.wrapping_add(1);
-            }
-            None => writeln!(spread, "{line}")?,
-        }
+        let is_event = write_on_stream(&mut spread, line, i % streams)?;
+        i = i.wrapping_add(is_event as u32);
     }
     Ok(spread)
 }
@@ -128,7 +137,13 @@ static SUMMARIES: [([&str; 4], &str); 10] = [
     ),
 ];
 
-/// `large` writes this summary for these numbers, after a line of the numbers.
+/// The summary of these numbers, after a line of the numbers.
+fn summary_text(alloc: Global, sizes: [&str; 4], numbers: &str) -> Result<String, AllocError> {
+    let [number, processors, tasks, events] = sizes;
+    format!(in alloc; "large {number} {processors} {tasks} {events}\n{numbers}")
+}
+
+/// `large` writes this summary for these numbers.
 fn expect_summary<R: Threads + Wait + Clock + Sync + Abort>(
     rt: &R,
     alloc: Global,
@@ -136,8 +151,7 @@ fn expect_summary<R: Threads + Wait + Clock + Sync + Abort>(
     numbers: &str,
 ) -> Result<(), Fail> {
     let put = put_for(rt, alloc, "large", sizes)?;
-    let [number, processors, tasks, events] = sizes;
-    let summary = format!(in alloc; "large {number} {processors} {tasks} {events}\n{numbers}")?;
+    let summary = summary_text(alloc, sizes, numbers)?;
     assert_eq!(rt; str::from_utf8(&put), Ok(summary.as_str()));
     Ok(())
 }
@@ -156,8 +170,7 @@ fn generated_text(alloc: Global, number: u64, streams: u32) -> Result<String, Fa
 {
     let input = make_input(alloc, number, 6, 10, 60)?;
     let made = write_input(alloc, &input)?;
-    let text = on_streams(alloc, str::from_utf8(&made).unwrap_or(""), streams)?;
-    Ok(text)
+    on_streams(alloc, str::from_utf8(&made).unwrap_or(""), streams)
 }
 
 /// Runs the input of a number, on so many streams, and checks what it writes.

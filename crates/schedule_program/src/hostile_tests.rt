@@ -1,8 +1,10 @@
 //! Hostile streams: texts that are cut off or changed in one line, one failing read, one failing write.
 use crate::tests::{
-    SMALLEST_INPUT, SMALLEST_SCHEDULE, expect_answer, run_words, sink_of, source_of,
+    SMALLEST_INPUT, SMALLEST_SCHEDULE, expect_answer, replay_with, sink_of, source_of,
 };
+use processor_seat::OpenGate;
 use program_status::Status;
+use shift_io::{MemSink, MemSource};
 use std::alloc::{AllocError, Global};
 use std::process::Abort;
 use std::sync::Wait;
@@ -11,8 +13,8 @@ use std::thread::Threads;
 use std::time::Clock;
 
 /// The first bytes of a text, so many of them.
-fn prefix_of(alloc: Global, text: &str, length: usize) -> Result<Vec<u8>, AllocError> {
-    text.bytes().take(length).collect(alloc)
+fn prefix_of(text: &str, length: usize) -> &[u8] {
+    text.as_bytes().get(..length).unwrap_or(b"")
 }
 
 /// Lengths of prefixes of the smallest input, from the first number up to the second, and the line and kind with which
@@ -39,8 +41,8 @@ fn expect_prefix<R: Threads + Wait + Clock + Sync + Abort>(
     status: Status,
     text: &str,
 ) -> Result<(), Fail> {
-    let input = prefix_of(alloc, SMALLEST_INPUT, length)?;
-    expect_answer(rt, alloc, &["run"], &input, status, text)
+    let input = prefix_of(SMALLEST_INPUT, length);
+    expect_answer(rt, alloc, &["run"], input, status, text)
 }
 
 /// Each prefix of the smallest input, from one length up to another, is refused with this line and kind.
@@ -82,9 +84,9 @@ fn expect_short<R: Threads + Wait + Clock + Sync + Abort>(
     length: usize,
     line: u64,
 ) -> Result<(), Fail> {
-    let prefix = prefix_of(alloc, SMALLEST_SCHEDULE, length)?;
+    let prefix = prefix_of(SMALLEST_SCHEDULE, length);
     let status = Status::Input { line, kind: 24 };
-    expect_answer(rt, alloc, &["check"], &prefix, status, "")
+    expect_answer(rt, alloc, &["check"], prefix, status, "")
 }
 
 /// Each has whole lines, and the next one has no line feed.
@@ -100,6 +102,22 @@ fn prefixes_of_the_smallest_schedule(rt: HostRuntime) -> Result<(), Fail> {
     Ok(())
 }
 
+/// `run` over this source and this sink, where the call of this number fails, has this status and writes these bytes.
+fn expect_at_fault<R: Threads + Wait + Clock + Sync + Abort>(
+    rt: &R,
+    alloc: Global,
+    source: MemSource,
+    sink: MemSink,
+    call: u64,
+    status: Status,
+    bytes: &[u8],
+) -> Result<(), Fail> {
+    let (found, put) = replay_with(rt, alloc, &["run"], source, sink, &OpenGate)?;
+    assert_eq!(rt; found, status, "at {call}");
+    assert_eq!(rt; put.as_slice(), bytes, "at {call}");
+    Ok(())
+}
+
 /// `run` of the smallest input, eight bytes a read, answers so where the read of this number fails.
 fn expect_at_failing_read<R: Threads + Wait + Clock + Sync + Abort>(
     rt: &R,
@@ -108,12 +126,9 @@ fn expect_at_failing_read<R: Threads + Wait + Clock + Sync + Abort>(
     status: Status,
     text: &str,
 ) -> Result<(), Fail> {
-    let mut source = source_of(alloc, SMALLEST_INPUT.as_bytes(), 8, &[call])?;
-    let mut sink = sink_of(alloc, 4096, 4096, &[])?;
-    let found = run_words(rt, alloc, &["run"], &mut source, &mut sink)?;
-    assert_eq!(rt; found, status, "at {call}");
-    assert_eq!(rt; sink.bytes(), text.as_bytes(), "at {call}");
-    Ok(())
+    let source = source_of(alloc, SMALLEST_INPUT.as_bytes(), 8, &[call])?;
+    let sink = sink_of(alloc, 4096, 4096, &[])?;
+    expect_at_fault(rt, alloc, source, sink, call, status, text.as_bytes())
 }
 
 /// Six reads give the 45 bytes, and the seventh finds their end; there is no other.
@@ -122,6 +137,11 @@ fn one_failing_read(rt: HostRuntime) -> Result<(), Fail> {
     for call in 0u64..7 {
         expect_at_failing_read(&rt, rt.alloc(), call, Status::ReadFault, "")?;
     }
+    Ok(())
+}
+
+#[test]
+fn failing_reads_that_never_come(rt: HostRuntime) -> Result<(), Fail> {
     for call in [7, 46] {
         expect_at_failing_read(&rt, rt.alloc(), call, Status::Done, SMALLEST_SCHEDULE)?;
     }
@@ -137,13 +157,10 @@ fn expect_at_failing_write<R: Threads + Wait + Clock + Sync + Abort>(
     status: Status,
     length: usize,
 ) -> Result<(), Fail> {
-    let mut source = source_of(alloc, SMALLEST_INPUT.as_bytes(), 4096, &[])?;
-    let mut sink = sink_of(alloc, 4096, 10, &[call])?;
-    let found = run_words(rt, alloc, &["run"], &mut source, &mut sink)?;
-    let prefix = prefix_of(alloc, SMALLEST_SCHEDULE, length)?;
-    assert_eq!(rt; found, status, "at {call}");
-    assert_eq!(rt; sink.bytes(), prefix.as_slice(), "at {call}");
-    Ok(())
+    let source = source_of(alloc, SMALLEST_INPUT.as_bytes(), 4096, &[])?;
+    let sink = sink_of(alloc, 4096, 10, &[call])?;
+    let bytes = prefix_of(SMALLEST_SCHEDULE, length);
+    expect_at_fault(rt, alloc, source, sink, call, status, bytes)
 }
 
 /// Twelve writes take ten bytes each, and the thirteenth the last two of the 122.
@@ -160,12 +177,17 @@ fn one_failing_write(rt: HostRuntime) -> Result<(), Fail> {
 /// A sink with room for ten bytes takes these, and fails at its second write.
 #[test]
 fn a_full_sink(rt: HostRuntime) -> Result<(), Fail> {
-    let mut source = source_of(rt.alloc(), SMALLEST_INPUT.as_bytes(), 4096, &[])?;
-    let mut sink = sink_of(rt.alloc(), 10, 200, &[])?;
-    let status = run_words(&rt, rt.alloc(), &["run"], &mut source, &mut sink)?;
-    assert_eq!(rt; status, Status::WriteFault);
-    assert_eq!(rt; sink.bytes(), b"schedule 1".as_slice());
-    Ok(())
+    let source = source_of(rt.alloc(), SMALLEST_INPUT.as_bytes(), 4096, &[])?;
+    let sink = sink_of(rt.alloc(), 10, 200, &[])?;
+    expect_at_fault(
+        &rt,
+        rt.alloc(),
+        source,
+        sink,
+        1,
+        Status::WriteFault,
+        b"schedule 1",
+    )
 }
 
 /// A text with another line in the place of this one.

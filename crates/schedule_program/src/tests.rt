@@ -2,7 +2,7 @@
 ghost use Rattle.std.specs.Prelude.{◌<◌};
 
 use crate::run::run;
-use processor_seat::OpenGate;
+use processor_seat::{Gate, OpenGate};
 use program_status::{Status, exit_status};
 use shift_io::{MemSink, MemSource, Sink, Source, StdSink, StdSource};
 use std::alloc::{AllocError, Global};
@@ -12,7 +12,7 @@ use std::sync::Wait;
 use std::test::Fail;
 use std::thread::Threads;
 use std::time::Clock;
-use worked_histories::{HISTORIES, History, texts_of};
+use worked_histories::{History, all_histories, texts_of};
 
 pub(crate) static SMALLEST_INPUT: &str = "apa 1\nprocessors 1\ntask a 5 0\n0 arrive a\nend\n";
 
@@ -54,15 +54,29 @@ fn owned(alloc: Global, words: &[&str]) -> Result<Vec<String>, AllocError> {
     Ok(owned)
 }
 
-pub(crate) fn run_words<R: Threads + Wait + Clock + Sync, S: Source, K: Sink>(
+fn run_words<R: Threads + Wait + Clock + Sync, S: Source, K: Sink, G: Gate + Sync>(
     rt: &R,
     alloc: Global,
     words: &[&str],
     source: &mut S,
     sink: &mut K,
+    gate: &G,
 ) -> Result<Status, AllocError> {
     let words = owned(alloc, words)?;
-    Ok(run(rt, alloc, &words, source, sink, &OpenGate))
+    Ok(run(rt, alloc, &words, source, sink, gate))
+}
+
+/// The status of a call over this source and this sink, with this gate, and the text that it wrote.
+pub(crate) fn replay_with<R: Threads + Wait + Clock + Sync, G: Gate + Sync>(
+    rt: &R,
+    alloc: Global,
+    words: &[&str],
+    mut source: MemSource,
+    mut sink: MemSink,
+    gate: &G,
+) -> Result<(Status, Vec<u8>), AllocError> {
+    let status = run_words(rt, alloc, words, &mut source, &mut sink, gate)?;
+    Ok((status, Vec::from_slice(alloc, sink.bytes())?))
 }
 
 /// The status of a call over memory, and the text that it wrote.
@@ -72,10 +86,9 @@ pub(crate) fn replay<R: Threads + Wait + Clock + Sync>(
     words: &[&str],
     input: &[u8],
 ) -> Result<(Status, Vec<u8>), AllocError> {
-    let mut source = source_of(alloc, input, 1_000_000, &[])?;
-    let mut sink = sink_of(alloc, 524_288, 4096, &[])?;
-    let status = run_words(rt, alloc, words, &mut source, &mut sink)?;
-    Ok((status, Vec::from_slice(alloc, sink.bytes())?))
+    let source = source_of(alloc, input, 1_000_000, &[])?;
+    let sink = sink_of(alloc, 524_288, 4096, &[])?;
+    replay_with(rt, alloc, words, source, sink, &OpenGate)
 }
 
 /// A call over memory has this status, and writes this text.
@@ -88,7 +101,7 @@ pub(crate) fn expect_answer<R: Threads + Wait + Clock + Sync + Abort>(
     text: &str,
 ) -> Result<(), Fail> {
     let (found, put) = replay(rt, alloc, words, input)?;
-    assert_eq!(rt; found, status, "at {:?}", str::from_utf8(input));
+    assert_eq!(rt; found, status, "at {input:?}");
     assert_eq!(rt; str::from_utf8(&put), Ok(text));
     Ok(())
 }
@@ -143,7 +156,7 @@ fn smallest_history_over_std_streams(rt: HostRuntime) -> Result<(), Fail> {
     let mut put = Vec::new(rt.alloc());
     let mut source = StdSource::new(SMALLEST_INPUT.as_bytes());
     let mut sink = StdSink::new(&mut put);
-    let status = run_words(&rt, rt.alloc(), &["run"], &mut source, &mut sink)?;
+    let status = run_words(&rt, rt.alloc(), &["run"], &mut source, &mut sink, &OpenGate)?;
     drop(sink);
     assert_eq!(rt; status, Status::Done);
     assert_eq!(rt; str::from_utf8(&put), Ok(SMALLEST_SCHEDULE));
@@ -163,7 +176,7 @@ fn expect_history<R: Threads + Wait + Clock + Sync + Abort>(
 
 #[test]
 fn worked_histories(rt: HostRuntime) -> Result<(), Fail> {
-    for history in &HISTORIES {
+    for history in all_histories() {
         expect_history(&rt, rt.alloc(), history)?;
     }
     Ok(())
@@ -387,13 +400,20 @@ fn longest_line(rt: HostRuntime) -> Result<(), Fail> {
     expect_refused(&rt, rt.alloc(), &longer, 1, 2)
 }
 
+/// So many line feeds, all given at one call.
+fn line_feeds(alloc: Global, count: usize) -> Result<MemSource, AllocError>
+    requires { 0 < count }
+{
+    let bytes = vec![in alloc; b'\n'; count]?;
+    Ok(MemSource::new(bytes, count, Vec::new(alloc)))
+}
+
 #[test]
 fn sixteen_million_line_feeds(rt: HostRuntime) -> Result<(), Fail> {
-    let bytes = vec![in rt.alloc(); b'\n'; 16_777_217]?;
-    let mut source = MemSource::new(bytes, 16_777_217, Vec::new(rt.alloc()));
-    let mut sink = sink_of(rt.alloc(), 16, 16, &[])?;
-    let status = run_words(&rt, rt.alloc(), &["run"], &mut source, &mut sink)?;
+    let source = line_feeds(rt.alloc(), 16_777_217)?;
+    let sink = sink_of(rt.alloc(), 16, 16, &[])?;
+    let (status, put) = replay_with(&rt, rt.alloc(), &["run"], source, sink, &OpenGate)?;
     assert_eq!(rt; status, Status::TooLong);
-    assert!(rt; sink.bytes().is_empty());
+    assert!(rt; put.is_empty());
     Ok(())
 }

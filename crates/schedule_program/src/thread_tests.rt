@@ -1,10 +1,8 @@
 //! Runs on threads: that streams and workers go on beside each other, and inputs on several streams.
-use crate::run::run;
-use crate::tests::{expect_schedule, expect_valid, replay};
+use crate::tests::{expect_schedule, expect_valid, replay, replay_with, sink_of, source_of};
 use processor_seat::Gate;
 use program_status::Status;
-use shift_io::{MemSink, MemSource};
-use std::alloc::{AllocError, Global};
+use std::alloc::Global;
 use std::process::Abort;
 use std::sync::Wait;
 use std::sync::atomic::{AtomicBool, AtomicU64, Ordering};
@@ -12,7 +10,7 @@ use std::test::Fail;
 use std::thread::Threads;
 use std::time::Clock;
 use std::{str, thread};
-use worked_histories::{HISTORIES, History};
+use worked_histories::{History, all_histories};
 
 /// How often a gate looks before it lets a thread go on all the same.
 const MOST_LOOKS: u32 = 20_000_000;
@@ -89,23 +87,6 @@ impl Gate for WorkerGate {
     }
 }
 
-/// What a run of an input writes, with this gate.
-fn run_with<R: Threads + Wait + Clock + Sync, G: Gate + Sync>(
-    rt: &R,
-    alloc: Global,
-    input: &str,
-    gate: &G,
-) -> Result<(Status, Vec<u8>), AllocError> {
-    let mut words = Vec::new(alloc);
-    words.push(String::from_str(alloc, "run")?)?;
-    let bytes = Vec::from_slice(alloc, input.as_bytes())?;
-    let mut source = MemSource::new(bytes, 4096, Vec::new(alloc));
-    let room = vec![in alloc; 0u8; 4096]?;
-    let mut sink = MemSink::new(room, 4096, Vec::new(alloc));
-    let status = run(rt, alloc, &words, &mut source, &mut sink, gate);
-    Ok((status, Vec::from_slice(alloc, sink.bytes())?))
-}
-
 /// `run` writes this schedule for this input, with this gate.
 fn expect_with_gate<R: Threads + Wait + Clock + Sync + Abort, G: Gate + Sync>(
     rt: &R,
@@ -114,7 +95,9 @@ fn expect_with_gate<R: Threads + Wait + Clock + Sync + Abort, G: Gate + Sync>(
     schedule: &str,
     gate: &G,
 ) -> Result<(), Fail> {
-    let (status, put) = run_with(rt, alloc, input, gate)?;
+    let source = source_of(alloc, input.as_bytes(), 4096, &[])?;
+    let sink = sink_of(alloc, 4096, 4096, &[])?;
+    let (status, put) = replay_with(rt, alloc, &["run"], source, sink, gate)?;
     assert_eq!(rt; status, Status::Done);
     assert_eq!(rt; str::from_utf8(&put), Ok(schedule));
     Ok(())
@@ -241,11 +224,20 @@ fn on_three_streams(alloc: Global, history: &History) -> Result<String, Fail> {
     Ok(input)
 }
 
+/// `run` of a history on three streams writes a valid schedule.
+fn expect_on_three_streams<R: Threads + Wait + Clock + Sync + Abort>(
+    rt: &R,
+    alloc: Global,
+    history: &History,
+) -> Result<(), Fail> {
+    let input = on_three_streams(alloc, history)?;
+    expect_run_on_streams(rt, alloc, &input, history.entries.len(), 3)
+}
+
 #[test]
 fn worked_histories_on_three_streams(rt: HostRuntime) -> Result<(), Fail> {
-    for history in &HISTORIES {
-        let input = on_three_streams(rt.alloc(), history)?;
-        expect_run_on_streams(&rt, rt.alloc(), &input, history.entries.len(), 3)?;
+    for history in all_histories() {
+        expect_on_three_streams(&rt, rt.alloc(), history)?;
     }
     Ok(())
 }
