@@ -16,9 +16,9 @@ pub may_follow : (sent : List Order) (held : Option ℕ) (x : Order) → IsObeya
 may_follow sent held x obeyable holds others may = IsObeyableFrom-push None sent x obeyable others (subst (λ h. MayCome h x) (sym holds) may)
 
 -- what a feed knows after one order more
-pub fed : (tasks : ℕ) (sent new : List Order) (x : Order) (held after : Option ℕ) (stops : Bool) → tasks ≡ 1 → new ≡ sent ++ x ∷ [] → IsObeyable (sent ++ x ∷ []) → task_held sent ≡ held → All (λ order. order ≢ Stop) sent → after ≡ held_after held x → (stops ≡ false → x ≢ Stop) → (tasks ≡ 1) × IsObeyable new × (task_held new ≡ after) × (stops ≡ false → All (λ order. order ≢ Stop) new)
-fed tasks sent new x held after stops one grown obeys holds others is stop = (
-  one,
+pub fed : (n tasks : ℕ) (sent new : List Order) (x : Order) (held after : Option ℕ) (stops : Bool) → tasks ≡ n → new ≡ sent ++ x ∷ [] → IsObeyable (sent ++ x ∷ []) → task_held sent ≡ held → All (λ order. order ≢ Stop) sent → after ≡ held_after held x → (stops ≡ false → x ≢ Stop) → (tasks ≡ n) × IsObeyable new × (task_held new ≡ after) × (stops ≡ false → All (λ order. order ≢ Stop) new)
+fed n tasks sent new x held after stops made grown obeys holds others is stop = (
+  made,
   subst IsObeyable (sym grown) obeys,
   ap task_held grown ∙ fold-append held_after None sent (x ∷ []) ∙ ap (λ h. held_after h x) holds ∙ sym is,
   λ no. subst (All IsOpen) (sym grown) (All-append IsOpen sent (x ∷ []) others (All-cons IsOpen x [] (stop no) (All-nil IsOpen))),

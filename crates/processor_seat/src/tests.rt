@@ -1,16 +1,18 @@
 //! Orders that go through queues to two processors, one call at a time, and on threads.
-ghost use Rattle.std.specs.Prelude.{◌≡◌, ◌^◌, ◌<◌, ◌++◌, ◌∷◌, [], None, true, length, IfOk};
+ghost use Rattle.std.specs.Prelude.{◌≡◌, ◌≢◌, ◌<◌, [], None, true, false, All, length, IfOk};
 ghost use Rattle.std.specs.Thread.{IsSync};
-ghost use Rattle.task_set.specs.Orders.{IsObeyable, NamesTaskBelow, has_stop};
-ghost use Rattle.order_queues.specs.Ends.{new_sender, new_eye, new_receiver};
+ghost use Rattle.task_set.specs.declared.order.Order.TheVariants.{Stop};
+ghost use Rattle.task_set.specs.Orders.{IsObeyable, MayCome, NamesTaskBelow, held_after, has_stop, task_held};
+ghost use Rattle.order_queues.specs.Ends.{QueueData};
 ghost use Rattle.context_slots.specs.Hands.{AreAll, new_hand};
-ghost use Rattle.processor_seat.specs.Stepping.{IsInStep, IsSameSeat};
+ghost use Rattle.processor_seat.specs.Stepping.{ProcessorData, IsInStep, IsSameSeat};
 
 use crate::{Gate, OpenGate, Processor, Step};
 use affinity_mask::{OutOfMemory, ProcSet};
 use context_slots::{Hand, Slots};
 use order_queues::{Eye, Queue, Sender};
 use std::alloc::Global;
+use std::marker::Model;
 use std::process::Abort;
 use std::sync::Wait;
 use std::sync::atomic::{AtomicU64, Ordering};
@@ -20,87 +22,166 @@ use std::thread::Threads;
 use std::time::Clock;
 use task_set::{Context, Order, TaskSet};
 
-/// The sending end of a queue.
+/// The sending end of a queue for two tasks, which ends the test where an order may not come.
 #[derive(Drop)]
 struct End {
     sender: Sender,
     eye: Eye,
+    held: Option<u32>,
+    stopped: bool,
 }
 
-/// A processor that received nothing, and the other end of its queue.
-fn seat(
-    alloc: Global,
-    number: u8,
-    hand: Hand,
-    slots: &Slots,
-    tasks: u32,
-) -> Result<(Queue, End, Processor), OutOfMemory>
-    requires hand { hand ≡ new_hand slots.now.id number }
-    requires tasks { length slots.now.set.tasks ≡ tasks }
-    ensures queue { IfOk result (λ seat. seat.0.tasks ≡ tasks) }
-    ensures end { IfOk result (λ seat. (seat.1.sender ≡ new_sender seat.0) × (seat.1.eye ≡ new_eye seat.0)) }
-    ensures processor { IfOk result (λ seat. seat.2 ≡ record {
-      hand = hand;
-      pending = None;
-      receiver = new_receiver seat.0;
-    }) }
-    ensures in_step { IfOk result (λ seat. IsInStep seat.2) }
-{
-    let (queue, mut sender, receiver) = Queue::new(alloc, tasks)?;
-    let eye = sender.eye(&queue);
-    let processor = Processor::new(number, hand, receiver);
-    Ok((queue, End { sender, eye }, processor))
+impl Model for End {
+    ghost Value = { QueueData };
+
+    ghost view = { λ e. e.sender.queue };
+
+    ghost invariant = { λ e. (e.eye.received_word ≡ e.sender.queue.received_word)
+        × (e.sender.queue.tasks ≡ 2)
+        × IsObeyable e.sender.sent
+        × (task_held e.sender.sent ≡ e.held)
+        × (e.stopped ≡ false → All (λ order. order ≢ Stop) e.sender.sent) };
 }
 
-/// Sends an order to a queue that has room.
-fn send<R: Abort + Wait>(rt: &R, queue: &Queue, end: &mut End, order: Order)
-    requires queue { end.old.sender.queue ≡ queue.now }
-    requires eye { end.old.eye.received_word ≡ queue.now.received_word }
-    requires few { length end.old.sender.sent < 2 ^ 62 }
-    requires obeyable { IsObeyable (end.old.sender.sent ++ order ∷ []) }
-    requires below { NamesTaskBelow queue.now.tasks order }
-    ensures sent { end.new.sender.sent ≡ end.old.sender.sent ++ order ∷ [] }
-    ensures queue { end.new.sender.queue ≡ end.old.sender.queue }
-    ensures eye { end.new.eye.received_word ≡ end.old.eye.received_word }
-{
-    match end.sender.send(rt, queue, &mut end.eye, order) {
-        Ok(()) => {}
-        Err(_back) => panic!(rt; "no room"),
+impl End {
+    fn new(sender: Sender, eye: Eye) -> End
+        requires eye { eye.received_word ≡ sender.queue.received_word }
+        requires two_tasks { sender.queue.tasks ≡ 2 }
+        requires nothing_sent { sender.sent ≡ [] }
+        ensures queue { result ≡ sender.queue }
+    {
+        End {
+            sender,
+            eye,
+            held: None,
+            stopped: false,
+        }
+    }
+
+    /// Sends an order, for which there is room.
+    fn send<R: Abort + Wait>(&mut self, rt: &R, queue: &Queue, order: Order)
+        requires queue { self.old ≡ queue.now }
+        ensures queue { self.new ≡ queue.now }
+    {
+        assert!(rt; !self.stopped);
+        assert!(rt; may_come(self.held, order));
+        assert!(rt; self.sender.count() < 100);
+        match self.sender.send(rt, queue, &mut self.eye, order) {
+            Ok(()) => {
+                self.held = holder_after(self.held, order);
+                self.stopped = is_stop(order);
+            }
+            Err(_back) => panic!(rt; "no room"),
+        }
     }
 }
 
-/// A step that answers this.
-fn step<R: Abort + Wait>(
-    rt: &R,
-    processor: &mut Processor,
-    queue: &Queue,
-    slots: &Slots,
-    answer: Step,
-)
-    requires slots { processor.old.hand.slots ≡ slots.now.id }
-    requires queue { processor.old.receiver.queue ≡ queue.now }
-    requires tasks { queue.now.tasks ≡ length slots.now.set.tasks }
-    requires in_step { IsInStep processor.old }
-    ensures in_step { IsInStep processor.new }
-    ensures seat { IsSameSeat processor.old processor.new }
+fn may_come(held: Option<u32>, order: Order) -> bool
+    ensures { result ≡ true → MayCome held order × NamesTaskBelow 2 order }
 {
-    let found = processor.step(rt, queue, slots, &OpenGate);
-    assert_eq!(rt; found, answer);
+    match (held, order) {
+        (None, Order::Take { task, .. }) => task < 2,
+        (None, Order::Stop) => true,
+        (Some(of), Order::Release(task)) => of == task && task < 2,
+        (Some(_), Order::Run(_)) => true,
+        _ => false,
+    }
 }
 
-/// A step of a processor that has stopped, or stops.
-fn stop<R: Abort + Wait>(rt: &R, processor: &mut Processor, queue: &Queue, slots: &Slots)
-    requires slots { processor.old.hand.slots ≡ slots.now.id }
-    requires queue { processor.old.receiver.queue ≡ queue.now }
-    requires tasks { queue.now.tasks ≡ length slots.now.set.tasks }
-    requires in_step { IsInStep processor.old }
-    ensures in_step { IsInStep processor.new }
-    ensures seat { IsSameSeat processor.old processor.new }
-    ensures stopped { has_stop processor.new.receiver.received ≡ true }
+fn holder_after(held: Option<u32>, order: Order) -> Option<u32>
+    ensures { result ≡ held_after held order }
 {
-    match processor.step(rt, queue, slots, &OpenGate) {
-        Step::Stopped => {}
-        _ => panic!(rt; "it did not stop"),
+    match order {
+        Order::Take { task, .. } => Some(task),
+        Order::Release(_) => None,
+        _ => held,
+    }
+}
+
+fn is_stop(order: Order) -> bool
+    ensures { result ≡ false → order ≢ Stop }
+{
+    matches!(order, Order::Stop)
+}
+
+/// A processor with its queue and the sending end.
+#[derive(Drop)]
+struct Seat {
+    queue: Queue,
+    end: End,
+    processor: Processor,
+}
+
+impl Model for Seat {
+    ghost Value = { ProcessorData };
+
+    ghost view = { λ s. s.processor };
+
+    ghost invariant = { λ s. (s.end ≡ s.queue)
+        × (s.processor.receiver.queue ≡ s.queue)
+        × (s.queue.tasks ≡ 2)
+        × IsInStep s.processor };
+}
+
+/// What happens at a processor: an order is sent to it, or it makes a step that answers this.
+#[derive(Clone, Copy)]
+enum Act {
+    Sends(Order),
+    Steps(Step),
+}
+
+impl Seat {
+    /// A processor that received nothing.
+    fn new(alloc: Global, number: u8, hand: Hand, slots: &Slots) -> Result<Seat, OutOfMemory>
+        requires hand { hand ≡ new_hand slots.now.id number }
+        ensures slots { IfOk result (λ seat. seat.hand.slots ≡ slots.now.id) }
+    {
+        let (queue, mut sender, receiver) = Queue::new(alloc, 2)?;
+        let eye = sender.eye(&queue);
+        Ok(Seat {
+            queue,
+            end: End::new(sender, eye),
+            processor: Processor::new(number, hand, receiver),
+        })
+    }
+
+    fn step<R: Abort + Wait>(&mut self, rt: &R, slots: &Slots, answer: Step)
+        requires slots { self.old.hand.slots ≡ slots.now.id }
+        requires tasks { length slots.now.set.tasks ≡ 2 }
+        ensures slots { self.new.hand.slots ≡ slots.now.id }
+    {
+        let found = self.processor.step(rt, &self.queue, slots, &OpenGate);
+        assert_eq!(rt; found, answer);
+    }
+
+    fn act<R: Abort + Wait>(&mut self, rt: &R, slots: &Slots, act: Act)
+        requires slots { self.old.hand.slots ≡ slots.now.id }
+        requires tasks { length slots.now.set.tasks ≡ 2 }
+        ensures slots { self.new.hand.slots ≡ slots.now.id }
+    {
+        match act {
+            Act::Sends(order) => self.end.send(rt, &self.queue, order),
+            Act::Steps(answer) => self.step(rt, slots, answer),
+        }
+    }
+
+    /// The hand of the processor, which has stopped, or stops by one step.
+    fn into_hand<R: Abort + Wait>(self, rt: &R, slots: &Slots) -> Hand
+        requires slots { self.hand.slots ≡ slots.now.id }
+        requires tasks { length slots.now.set.tasks ≡ 2 }
+        ensures { (result.slots ≡ slots.now.id) × (result.holds ≡ None) }
+    {
+        let Seat {
+            queue,
+            end: _,
+            mut processor,
+        } = self;
+        match processor.step(rt, &queue, slots, &OpenGate) {
+            Step::Stopped => {}
+            _ => panic!(rt; "it did not stop"),
+        }
+        let (hand, _receiver) = processor.finish();
+        hand
     }
 }
 
@@ -116,94 +197,107 @@ fn contexts(alloc: Global, slots: Slots, hands: Vec<Hand>) -> Result<Vec<Context
 
 /// The contexts in the end, of two hands that hold nothing.
 fn contexts_of_two(
+    rt: &impl Abort,
     alloc: Global,
     slots: Slots,
-    mut hands: Vec<Hand>,
     hand_0: Hand,
     hand_1: Hand,
 ) -> Result<Vec<Context>, Fail>
     requires processors { slots.set.processors ≡ 2 }
-    requires none { hands.items ≡ [] }
-    requires hand_0 { (hand_0.slots ≡ slots.id) × (hand_0.number ≡ 0) × (hand_0.holds ≡ None) }
-    requires hand_1 { (hand_1.slots ≡ slots.id) × (hand_1.number ≡ 1) × (hand_1.holds ≡ None) }
+    requires hand_0 { (hand_0.slots ≡ slots.id) × (hand_0.holds ≡ None) }
+    requires hand_1 { (hand_1.slots ≡ slots.id) × (hand_1.holds ≡ None) }
 {
+    assert!(rt; hand_0.number() == 0 && hand_1.number() == 1);
+    let mut hands = Vec::new(alloc);
     hands.push(hand_0)?;
     hands.push(hand_1)?;
     contexts(alloc, slots, hands)
 }
 
-/// Two processors hand the task 0 over, one step at a time.
-fn hand_over<R: Abort + Wait>(
+/// A set of two tasks on two processors.
+fn two_tasks(rt: &impl Abort, alloc: Global) -> Result<TaskSet, Fail>
+    ensures { IfOk result (λ set. (length set.tasks ≡ 2) × (set.processors ≡ 2)) }
+{
+    let mut set = TaskSet::new(alloc, 2)?;
+    assert!(rt; set.add("a", 1, ProcSet::first(2)) == Ok(0));
+    assert!(rt; set.add("b", 2, ProcSet::first(1)) == Ok(1));
+    assert!(rt; set.len() == 2 && set.processors() == 2);
+    Ok(set)
+}
+
+/// Slots for two processors, with their hands.
+fn two_hands(alloc: Global, set: &TaskSet) -> Result<(Slots, Hand, Hand), OutOfMemory>
+    requires { set.now.processors ≡ 2 }
+    ensures slots { IfOk result (λ made. made.0.set ≡ set.now) }
+    ensures hands { IfOk result (λ made. (made.1 ≡ new_hand made.0.id 0) × (made.2 ≡ new_hand made.0.id 1)) }
+{
+    let (slots, mut hands) = Slots::new(alloc, set)?;
+    let hand_1 = hands.pop().unwrap();
+    let hand_0 = hands.pop().unwrap();
+    Ok((slots, hand_0, hand_1))
+}
+
+/// What happens at two processors, one act after the other, each at the processor of this number.
+fn act_all<R: Abort + Wait>(
     rt: &R,
     alloc: Global,
     slots: &Slots,
     hand_0: Hand,
     hand_1: Hand,
+    acts: &[(u8, Act)],
 ) -> Result<(Hand, Hand), OutOfMemory>
     requires hand_0 { hand_0 ≡ new_hand slots.now.id 0 }
     requires hand_1 { hand_1 ≡ new_hand slots.now.id 1 }
     requires tasks { length slots.now.set.tasks ≡ 2 }
-    ensures hand_0 { IfOk result (λ hands. (hands.0.slots ≡ slots.now.id) × (hands.0.number ≡ 0) × (hands.0.holds ≡ None)) }
-    ensures hand_1 { IfOk result (λ hands. (hands.1.slots ≡ slots.now.id) × (hands.1.number ≡ 1) × (hands.1.holds ≡ None)) }
+    ensures hand_0 { IfOk result (λ hands. (hands.0.slots ≡ slots.now.id) × (hands.0.holds ≡ None)) }
+    ensures hand_1 { IfOk result (λ hands. (hands.1.slots ≡ slots.now.id) × (hands.1.holds ≡ None)) }
 {
-    let (queue_0, mut end_0, mut processor_0) = seat(alloc, 0, hand_0, slots, 2)?;
-    let (queue_1, mut end_1, mut processor_1) = seat(alloc, 1, hand_1, slots, 2)?;
+    let mut first = Seat::new(alloc, 0, hand_0, slots)?;
+    let mut second = Seat::new(alloc, 1, hand_1, slots)?;
+    for &(number, act) in acts {
+        if number == 0 {
+            first.act(rt, slots, act);
+        } else {
+            second.act(rt, slots, act);
+        }
+    }
+    Ok((first.into_hand(rt, slots), second.into_hand(rt, slots)))
+}
+
+/// Two processors hand the task 0 over. The second one's take is not at its turn before the first one has the task, nor
+/// while it has it.
+fn hand_over() -> [(u8, Act); 18] {
     let first = Order::Take { task: 0, number: 0 };
     let second = Order::Take { task: 0, number: 1 };
-    step(rt, &mut processor_0, &queue_0, slots, Step::Empty);
-    send(rt, &queue_0, &mut end_0, first);
-    send(rt, &queue_1, &mut end_1, second);
-    let missed = Step::NotTurn { task: 0, found: 0 };
-    step(rt, &mut processor_1, &queue_1, slots, missed);
-    step(rt, &mut processor_0, &queue_0, slots, Step::Did(first));
-    let missed = Step::NotTurn { task: 0, found: 1 };
-    step(rt, &mut processor_1, &queue_1, slots, missed);
-    send(rt, &queue_0, &mut end_0, Order::Run(4));
-    send(rt, &queue_0, &mut end_0, Order::Release(0));
-    send(rt, &queue_0, &mut end_0, Order::Stop);
-    step(
-        rt,
-        &mut processor_0,
-        &queue_0,
-        slots,
-        Step::Did(Order::Run(4)),
-    );
-    step(
-        rt,
-        &mut processor_0,
-        &queue_0,
-        slots,
-        Step::Did(Order::Release(0)),
-    );
-    step(rt, &mut processor_1, &queue_1, slots, Step::Did(second));
-    stop(rt, &mut processor_0, &queue_0, slots);
-    stop(rt, &mut processor_0, &queue_0, slots);
-    send(rt, &queue_1, &mut end_1, Order::Release(0));
-    send(rt, &queue_1, &mut end_1, Order::Stop);
-    step(
-        rt,
-        &mut processor_1,
-        &queue_1,
-        slots,
-        Step::Did(Order::Release(0)),
-    );
-    stop(rt, &mut processor_1, &queue_1, slots);
-    let (hand_0, _receiver_0) = processor_0.finish();
-    let (hand_1, _receiver_1) = processor_1.finish();
-    Ok((hand_0, hand_1))
+    let release = Order::Release(0);
+    [
+        (0, Act::Steps(Step::Empty)),
+        (0, Act::Sends(first)),
+        (1, Act::Sends(second)),
+        (1, Act::Steps(Step::NotTurn { task: 0, found: 0 })),
+        (0, Act::Steps(Step::Did(first))),
+        (1, Act::Steps(Step::NotTurn { task: 0, found: 1 })),
+        (0, Act::Sends(Order::Run(4))),
+        (0, Act::Sends(release)),
+        (0, Act::Sends(Order::Stop)),
+        (0, Act::Steps(Step::Did(Order::Run(4)))),
+        (0, Act::Steps(Step::Did(release))),
+        (1, Act::Steps(Step::Did(second))),
+        (0, Act::Steps(Step::Stopped)),
+        (0, Act::Steps(Step::Stopped)),
+        (1, Act::Sends(release)),
+        (1, Act::Sends(Order::Stop)),
+        (1, Act::Steps(Step::Did(release))),
+        (1, Act::Steps(Step::Stopped)),
+    ]
 }
 
 #[test]
 fn processors_by_calls(rt: HostRuntime) -> Result<(), Fail> {
-    let mut set = TaskSet::new(rt.alloc(), 2)?;
-    assert_eq!(rt; set.add("a", 1, ProcSet::first(2)), Ok(0));
-    assert_eq!(rt; set.add("b", 2, ProcSet::first(1)), Ok(1));
-    assert_eq!(rt; set.len(), 2);
-    let (slots, mut hands) = Slots::new(rt.alloc(), &set)?;
-    let hand_1 = hands.pop().unwrap();
-    let hand_0 = hands.pop().unwrap();
-    let (hand_0, hand_1) = hand_over(&rt, rt.alloc(), &slots, hand_0, hand_1)?;
-    let contexts = contexts_of_two(rt.alloc(), slots, hands, hand_0, hand_1)?;
+    let set = two_tasks(&rt, rt.alloc())?;
+    let (slots, hand_0, hand_1) = two_hands(rt.alloc(), &set)?;
+    let (hand_0, hand_1) = act_all(&rt, rt.alloc(), &slots, hand_0, hand_1, &hand_over())?;
+    let contexts = contexts_of_two(&rt, rt.alloc(), slots, hand_0, hand_1)?;
     let a = Context {
         task: 0,
         units: 4,
@@ -240,19 +334,24 @@ impl Gate for Takes {
 
 /// Sends two stints of the task 0, of which the second is two turns later, and Stop.
 fn send_two_stints<R: Abort + Wait>(rt: &R, queue: &Queue, end: &mut End, number: u32, units: u32)
-    requires end { end.old.sender ≡ new_sender queue.now }
-    requires eye { end.old.eye.received_word ≡ queue.now.received_word }
-    requires tasks { 0 < queue.now.tasks }
+    requires queue { end.old ≡ queue.now }
     requires number { number < 2 }
 {
-    send(rt, queue, end, Order::Take { task: 0, number });
-    send(rt, queue, end, Order::Run(units));
-    send(rt, queue, end, Order::Release(0));
-    let number = number + 2;
-    send(rt, queue, end, Order::Take { task: 0, number });
-    send(rt, queue, end, Order::Run(units));
-    send(rt, queue, end, Order::Release(0));
-    send(rt, queue, end, Order::Stop);
+    let orders = [
+        Order::Take { task: 0, number },
+        Order::Run(units),
+        Order::Release(0),
+        Order::Take {
+            task: 0,
+            number: number + 2,
+        },
+        Order::Run(units),
+        Order::Release(0),
+        Order::Stop,
+    ];
+    for order in orders {
+        end.send(rt, queue, order);
+    }
 }
 
 /// A processor that works to its end.
@@ -275,27 +374,23 @@ fn worked<R: Wait + Clock, G: Gate>(
     processor
 }
 
-/// Two processors hand the task 0 to and fro, each in a thread of its own.
-fn hand_to_and_fro<R: Abort + Threads + Wait + Clock + Sync, G: Gate + Sync>(
+/// Works two processors to their ends, each in a thread of its own.
+fn both_worked<R: Threads + Wait + Clock + Sync, G: Gate + Sync>(
     rt: &R,
-    alloc: Global,
     slots: &Slots,
     gate: &G,
-    hand_0: Hand,
-    hand_1: Hand,
-) -> Result<(Hand, Hand), OutOfMemory>
-    requires hand_0 { hand_0 ≡ new_hand slots.now.id 0 }
-    requires hand_1 { hand_1 ≡ new_hand slots.now.id 1 }
-    requires tasks { length slots.now.set.tasks ≡ 1 }
-    ensures hand_0 { IfOk result (λ hands. (hands.0.slots ≡ slots.now.id) × (hands.0.number ≡ 0) × (hands.0.holds ≡ None)) }
-    ensures hand_1 { IfOk result (λ hands. (hands.1.slots ≡ slots.now.id) × (hands.1.number ≡ 1) × (hands.1.holds ≡ None)) }
+    first: &Queue,
+    one: Processor,
+    second: &Queue,
+    other: Processor,
+) -> (Processor, Processor)
+    requires one { (one.hand.slots ≡ slots.now.id) × (one.receiver.queue ≡ first.now) × IsInStep one }
+    requires other { (other.hand.slots ≡ slots.now.id) × (other.receiver.queue ≡ second.now) × IsInStep other }
+    requires tasks { (first.now.tasks ≡ 2) × (second.now.tasks ≡ 2) × (length slots.now.set.tasks ≡ 2) }
+    ensures one { IsInStep result.0 × (has_stop result.0.receiver.received ≡ true) × IsSameSeat one result.0 }
+    ensures other { IsInStep result.1 × (has_stop result.1.receiver.received ≡ true) × IsSameSeat other result.1 }
 {
-    let (queue_0, mut end_0, one) = seat(alloc, 0, hand_0, slots, 1)?;
-    let (queue_1, mut end_1, other) = seat(alloc, 1, hand_1, slots, 1)?;
-    send_two_stints(rt, &queue_0, &mut end_0, 0, 3);
-    send_two_stints(rt, &queue_1, &mut end_1, 1, 5);
-    let (first, second) = (&queue_0, &queue_1);
-    let (one, other) = thread::join(
+    thread::join(
         rt,
         move || -> Processor
             requires { IsSync R.row × IsSync G.row × (one.hand.slots ≡ slots.now.id) × (one.receiver.queue ≡ first.now)
@@ -307,7 +402,37 @@ fn hand_to_and_fro<R: Abort + Threads + Wait + Clock + Sync, G: Gate + Sync>(
                 × (second.now.tasks ≡ length slots.now.set.tasks) × IsInStep other }
             ensures { IsInStep result × (has_stop result.receiver.received ≡ true) × IsSameSeat other result }
         { worked(rt, other, second, slots, gate) },
-    );
+    )
+}
+
+/// Two processors hand the task 0 to and fro, each in a thread of its own.
+fn hand_to_and_fro<R: Abort + Threads + Wait + Clock + Sync, G: Gate + Sync>(
+    rt: &R,
+    alloc: Global,
+    slots: &Slots,
+    gate: &G,
+    hand_0: Hand,
+    hand_1: Hand,
+) -> Result<(Hand, Hand), OutOfMemory>
+    requires hand_0 { hand_0 ≡ new_hand slots.now.id 0 }
+    requires hand_1 { hand_1 ≡ new_hand slots.now.id 1 }
+    requires tasks { length slots.now.set.tasks ≡ 2 }
+    ensures hand_0 { IfOk result (λ hands. (hands.0.slots ≡ slots.now.id) × (hands.0.holds ≡ None)) }
+    ensures hand_1 { IfOk result (λ hands. (hands.1.slots ≡ slots.now.id) × (hands.1.holds ≡ None)) }
+{
+    let Seat {
+        queue: queue_0,
+        end: mut end_0,
+        processor: one,
+    } = Seat::new(alloc, 0, hand_0, slots)?;
+    let Seat {
+        queue: queue_1,
+        end: mut end_1,
+        processor: other,
+    } = Seat::new(alloc, 1, hand_1, slots)?;
+    send_two_stints(rt, &queue_0, &mut end_0, 0, 3);
+    send_two_stints(rt, &queue_1, &mut end_1, 1, 5);
+    let (one, other) = both_worked(rt, slots, gate, &queue_0, one, &queue_1, other);
     let (hand_0, _receiver_0) = one.finish();
     let (hand_1, _receiver_1) = other.finish();
     Ok((hand_0, hand_1))
@@ -315,24 +440,16 @@ fn hand_to_and_fro<R: Abort + Threads + Wait + Clock + Sync, G: Gate + Sync>(
 
 #[test]
 fn task_goes_to_and_fro(rt: HostRuntime) -> Result<(), Fail> {
-    let mut set = TaskSet::new(rt.alloc(), 2)?;
-    assert_eq!(rt; set.add("a", 1, ProcSet::first(2)), Ok(0));
-    assert_eq!(rt; set.len(), 1);
-    let (slots, mut hands) = Slots::new(rt.alloc(), &set)?;
-    let hand_1 = hands.pop().unwrap();
-    let hand_0 = hands.pop().unwrap();
+    let set = two_tasks(&rt, rt.alloc())?;
+    let (slots, hand_0, hand_1) = two_hands(rt.alloc(), &set)?;
     let gate = Takes {
         count: AtomicU64::new(0),
     };
     let (hand_0, hand_1) = hand_to_and_fro(&rt, rt.alloc(), &slots, &gate, hand_0, hand_1)?;
-    hands.push(hand_0)?;
-    hands.push(hand_1)?;
-    let contexts = contexts(rt.alloc(), slots, hands)?;
-    assert_eq!(rt; contexts.len(), 1);
-    assert_eq!(rt; contexts[0].units, 16);
-    assert_eq!(rt; contexts[0].stints, 4);
-    assert_eq!(rt; contexts[0].moves, 3);
-    assert_eq!(rt; contexts[0].last, Some(1));
+    let contexts = contexts_of_two(&rt, rt.alloc(), slots, hand_0, hand_1)?;
+    assert_eq!(rt; contexts.len(), 2);
+    let a = &contexts[0];
+    assert_eq!(rt; (a.units, a.stints, a.moves, a.last), (16, 4, 3, Some(1)));
     assert_eq!(rt; gate.count.load(Ordering::SeqCst), 4);
     Ok(())
 }

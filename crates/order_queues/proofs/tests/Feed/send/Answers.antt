@@ -17,4 +17,4 @@ invariant_of-self g c =
     let may : MayCome c.self.inside.held c.args.order = search rules in
     let one : c.send.new.self.queue.tasks ≡ 1 = search rules in
     let grown : c.send.new.self.sent ≡ c.self.inside.sender.sent ++ c.args.order ∷ [] = search rules in
-    fed c.send.new.self.queue.tasks c.self.inside.sender.sent c.send.new.self.sent c.args.order c.self.inside.held c.holder_after-self-inside.result c.is_stop-self-inside.result one grown (may_follow c.self.inside.sender.sent c.self.inside.held c.args.order fits.1 fits.2 (fits.3 going) may) fits.2 (fits.3 going) c.holder_after-self-inside.ensures c.is_stop-self-inside.ensures
+    fed 1 c.send.new.self.queue.tasks c.self.inside.sender.sent c.send.new.self.sent c.args.order c.self.inside.held c.holder_after-self-inside.result c.is_stop-self-inside.result one grown (may_follow c.self.inside.sender.sent c.self.inside.held c.args.order fits.1 fits.2 (fits.3 going) may) fits.2 (fits.3 going) c.holder_after-self-inside.ensures c.is_stop-self-inside.ensures
