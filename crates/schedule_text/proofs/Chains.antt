@@ -13,45 +13,49 @@ use Rattle.std.proofs.lemmas.Fmt.{decimal_injective}
 use Rattle.text_fields.proofs.Words.{head_same, tail_same}
 use Rattle.schedule_text.proofs.Fields.{number_lacks, split_joined, joined_split, split_some}
 
--- the processors of the first links
-abbrev pub AreProcessorsSoFar : List (Bor (List ℕ)) → ℕ → List ℕ → Type 0
-AreProcessorsSoFar links i chain = IsProcessorList chain × (map canonical_number chain ≡ take i (texts links))
+-- the processors of these links
+abbrev pub AreProcessorsSoFar : List (Bor (List ℕ)) → List ℕ → Type 0
+AreProcessorsSoFar links chain = IsProcessorList chain × (map canonical_number chain ≡ texts links)
 
-text_at : (links : List (Bor (List ℕ))) (i : ℕ) (d : Bor (List ℕ)) → i < length links
-    → get_or (texts links) i [] ≡ (get_or links i d).now
-text_at links i d within = get_or-map (λ (link : Bor (List ℕ)). link.now) links i d [] within
-
-length_texts : (links : List (Bor (List ℕ))) → length (texts links) ≡ length links
-length_texts links = length-map links (λ (link : Bor (List ℕ)). link.now)
-
-pub list_more : (links : List (Bor (List ℕ))) (chain : List ℕ) (i p : ℕ) (d : Bor (List ℕ))
-    → AreProcessorsSoFar links i chain → i < length links → length chain ≢ 64
-    → IsNumberField 0 63 (get_or links i d).now p → AreProcessorsSoFar links (i + 1) (chain ++ p ∷ [])
-list_more links chain i p d so_far within short f =
+pub list_more : (links : List (Bor (List ℕ))) (link : Bor (List ℕ)) (chain : List ℕ) (p : ℕ)
+    → AreProcessorsSoFar links chain → length chain ≢ 64 → IsNumberField 0 63 link.now p
+    → AreProcessorsSoFar (links ++ link ∷ []) (chain ++ p ∷ [])
+list_more links link chain p so_far short f =
     let small : p < 64 = (let high = f.range.1 in omega arith) in
-    let few : length (chain ++ p ∷ []) ≤ 64 = (let before = so_far.0.0 in omega (arith, length-append chain (p ∷ []))) in
-    let inside : i < length (texts links) = omega (arith, length_texts links) in
-    let last : get_or (texts links) i [] ≡ canonical_number p = text_at links i d within ∙ f.is_text in (
+    let few : length (chain ++ p ∷ []) ≤ 64 = (let before = so_far.0.0 in omega (arith, length-append chain (p ∷ []))) in (
       (few, All-push (λ (q : ℕ). q < 64) chain p so_far.0.1 small),
       map-append canonical_number chain (p ∷ [])
           ∙ ap (λ (prefix : List (List ℕ)). prefix ++ canonical_number p ∷ []) so_far.1
-          ∙ ap (λ (link : List ℕ). take i (texts links) ++ link ∷ []) (sym last)
-          ∙ sym (take_more (texts links) i [] inside),
+          ∙ ap (λ (text : List ℕ). texts links ++ text ∷ []) (sym f.is_text)
+          ∙ sym (map-append (λ (link : Bor (List ℕ)). link.now) links (link ∷ [])),
     )
 
--- a link that is no processor is of no list
-pub list_none : (links : List (Bor (List ℕ))) (i : ℕ) (d : Bor (List ℕ)) → i < length links
-    → ((n : ℕ) → IsNumberField 0 63 (get_or links i d).now n → ⊥) → (list : List ℕ)
-    → AreProcessorFields (texts links) list → ⊥
-list_none links i d within none list of_row =
-    let count : length list ≡ length links = sym (length-map list canonical_number)
-    ∙ ap length (sym of_row.each_field) ∙ length_texts links in
+-- a list with a link that is no processor is no list of processors
+pub list_none : (all : List (List ℕ)) (i : ℕ) (link : List ℕ) → i < length all → link ≡ get_or all i link
+    → ((n : ℕ) → IsNumberField 0 63 link n → ⊥) → (list : List ℕ) → AreProcessorFields all list → ⊥
+list_none all i link within here none list of_row =
+    let count : length list ≡ length all = sym (length-map list canonical_number) ∙ sym (ap length of_row.each_field) in
     let inside : i < length list = omega arith in
     let small : get_or list i 0 < 64 = All-get_or (λ (q : ℕ). q < 64) list i 0 inside of_row.list.1 in
-    let same : (get_or links i d).now ≡ canonical_number (get_or list i 0) = sym (text_at links i d within)
-    ∙ ap (λ (fields : List (List ℕ)). get_or fields i []) of_row.each_field
-    ∙ get_or-map canonical_number list i 0 [] inside in
+    let same : link ≡ canonical_number (get_or list i 0) = here
+    ∙ ap (λ (fields : List (List ℕ)). get_or fields i link) of_row.each_field
+    ∙ get_or-map canonical_number list i 0 link inside in
     none (get_or list i 0) (record { range = (omega arith, omega arith); is_text = same })
+
+-- 64 links and one more are no list of processors
+pub list_full : (all : List (List ℕ)) (links : List (Bor (List ℕ))) (chain : List ℕ)
+    → AreProcessorsSoFar links chain → length chain ≡ 64 → length links < length all → (list : List ℕ)
+    → AreProcessorFields all list → ⊥
+list_full all links chain so_far full within list of_row =
+    let count : length list ≡ length all = sym (length-map list canonical_number) ∙ sym (ap length of_row.each_field) in
+    let few : length list ≤ 64 = of_row.list.0 in
+    let read : length chain ≡ length links = sym (length-map chain canonical_number) ∙ ap length so_far.1
+    ∙ length-map links (λ (link : Bor (List ℕ)). link.now) in
+    absurd (omega arith)
+
+pub list_read : (all : List (List ℕ)) (links : List (Bor (List ℕ))) (chain : List ℕ)
+    → AreProcessorsSoFar links chain → texts links ≡ all → AreProcessorFields all chain
+list_read all links chain so_far cut = record { list = so_far.0; each_field = sym (so_far.1 ∙ cut) }
 
 -- ---- the field of a chain
 

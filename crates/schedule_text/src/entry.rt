@@ -8,13 +8,12 @@ use crate::fault::TextKind;
 use crate::field::{known_task, number_of};
 use crate::reply::read_reply;
 use scheduler_reply::Entry;
-use std::alloc::Global;
 use task_set::{Event, TaskSet};
 use text_fields::is_word;
 use text_fields::limits::{MAX_STREAM, MAX_UNITS};
 
 /// The entry of some fields.
-pub fn read_entry(alloc: Global, set: &TaskSet, fields: &[&[u8]]) -> Result<Entry, TextKind>
+pub fn read_entry(set: &TaskSet, fields: &[&[u8]]) -> Result<Entry, TextKind>
     ensures read { IfOk result (IsEntryFields set.now (texts fields.now)) }
     ensures refused { IfErr result (λ kind. IsOutOfMemory kind
         ⊎ IsEntryFault set.now (texts fields.now) kind) }
@@ -28,7 +27,7 @@ pub fn read_entry(alloc: Global, set: &TaskSet, fields: &[&[u8]]) -> Result<Entr
     };
     match read_event(set, word, value) {
         Ok(event) => {
-            let reply = read_reply(alloc, set, rest)?;
+            let reply = read_reply(set, rest)?;
             Ok(Entry {
                 caller: stream as u32,
                 event,
@@ -37,7 +36,7 @@ pub fn read_entry(alloc: Global, set: &TaskSet, fields: &[&[u8]]) -> Result<Entr
         }
         Err(TextKind::UnknownTask) => {
             // A reply that is of no form is reported first.
-            let _known = read_reply(alloc, set, rest)?;
+            let _known = read_reply(set, rest)?;
             Err(TextKind::UnknownTask)
         }
         Err(kind) => Err(kind),

@@ -11,16 +11,12 @@ ghost use Rattle.schedule_text.specs.declared.fault.TextKind.TheVariants.{BadLin
 use crate::fault::TextKind;
 use affinity_mask::{OutOfMemory, ProcSet};
 use scheduler_reply::Chain;
-use std::alloc::Global;
 use task_set::TaskSet;
 use text_fields::limits::MAX_PROCESSOR;
-use text_fields::{is_word, read_number, task_of};
+use text_fields::{is_word, line_end, read_number, task_of};
 
 /// The most processors of a chain.
 const MAX_CHAIN: usize = 64;
-
-/// How many fields the longest line of a schedule has, that of a context.
-const LINE_FIELDS: usize = 11;
 
 /// The first line of some bytes, which a line feed ends, and what stands after it.
 pub fn ended_line(bytes: &[u8]) -> Option<(&[u8], &[u8])>
@@ -29,30 +25,24 @@ pub fn ended_line(bytes: &[u8]) -> Option<(&[u8], &[u8])>
         (λ parts. (bytes.now ≡ parts.0.now ++ 10 ∷ parts.1.now)
         × (Contains parts.0.now 10 → ⊥)) }
 {
-    let end = bytes.iter().position(|byte| *byte == b'\n')?;
-    Some((&bytes[..end], &bytes[end + 1..]))
+    match line_end(bytes) {
+        Some(end) => Some((&bytes[..end], &bytes[end + 1..])),
+        None => None,
+    }
 }
 
-/// The fields of a line: what stands between its spaces.
-pub fn spaced_fields(alloc: Global, text: &[u8]) -> Result<Vec<&[u8]>, OutOfMemory>
-    ensures { IfOk result (λ fields. texts fields.items ≡ spaced_fields_of text.now) }
+/// The fields of a line, in this room: what stands between its spaces.
+pub fn spaced_fields<'a, 'r>(
+    text: &'a [u8],
+    room: &'r mut Vec<&'a [u8]>,
+) -> Result<&'r [&'a [u8]], OutOfMemory>
+    ensures { IfOk result (λ fields. texts fields.now ≡ spaced_fields_of text.now) }
 {
-    let mut fields = Vec::with_capacity(alloc, LINE_FIELDS)?;
+    room.clear();
     for field in text.split(|byte| *byte == b' ') {
-        fields.push(field)?;
+        room.push(field)?;
     }
-    Ok(fields)
-}
-
-/// The links of a chain: what stands between its arrows.
-fn links(alloc: Global, text: &[u8]) -> Result<Vec<&[u8]>, OutOfMemory>
-    ensures { IfOk result (λ links. texts links.items ≡ links_of text.now) }
-{
-    let mut links = Vec::new(alloc);
-    for link in text.split(|byte| *byte == b'>') {
-        links.push(link)?;
-    }
-    Ok(links)
+    Ok(room.as_slice())
 }
 
 /// Whether the bytes can stand for a name.
@@ -83,7 +73,7 @@ fn has_leading_zero(field: &[u8]) -> bool
 }
 
 /// The processors of a canonical list, which has one at least.
-pub fn list_of(alloc: Global, field: &[u8]) -> Result<ProcSet, TextKind>
+pub fn list_of(field: &[u8]) -> Result<ProcSet, TextKind>
     ensures read { IfOk result (IsListField field.now) }
     ensures refused { IfErr result (λ kind. IsOutOfMemory kind
         ⊎ ((kind ≡ BadLine) × ((X : ℕ) → IsListField field.now X → ⊥))) }
@@ -91,10 +81,8 @@ pub fn list_of(alloc: Global, field: &[u8]) -> Result<ProcSet, TextKind>
     let Ok(set) = ProcSet::read_list(field) else {
         return Err(TextKind::BadLine);
     };
-    let mut text = Vec::new(alloc);
-    set.write_list(&mut text)?;
     let _processors = set.count();
-    if text.as_slice() == field {
+    if set.is_list(field) {
         Ok(set)
     } else {
         Err(TextKind::BadLine)
@@ -102,7 +90,7 @@ pub fn list_of(alloc: Global, field: &[u8]) -> Result<ProcSet, TextKind>
 }
 
 /// The processors of a canonical list, or none for '-'.
-pub fn set_of(alloc: Global, field: &[u8]) -> Result<ProcSet, TextKind>
+pub fn set_of(field: &[u8]) -> Result<ProcSet, TextKind>
     ensures read { IfOk result (IsSetField field.now) }
     ensures refused { IfErr result (λ kind. IsOutOfMemory kind
         ⊎ ((kind ≡ BadLine) × ((X : ℕ) → IsSetField field.now X → ⊥))) }
@@ -110,12 +98,12 @@ pub fn set_of(alloc: Global, field: &[u8]) -> Result<ProcSet, TextKind>
     if is_word(field, "-") {
         Ok(ProcSet::empty())
     } else {
-        list_of(alloc, field)
+        list_of(field)
     }
 }
 
 /// The processors joined by '>', or none for '-'.
-pub fn chain_of(alloc: Global, field: &[u8]) -> Result<Chain, TextKind>
+pub fn chain_of(field: &[u8]) -> Result<Chain, TextKind>
     ensures read { IfOk result (IsChainField field.now) }
     ensures refused { IfErr result (λ kind. IsOutOfMemory kind
         ⊎ ((kind ≡ BadLine) × ((chain : List ℕ) → IsChainField field.now chain → ⊥))) }
@@ -123,21 +111,20 @@ pub fn chain_of(alloc: Global, field: &[u8]) -> Result<Chain, TextKind>
     if is_word(field, "-") {
         return Ok(Chain::new());
     }
-    let links = links(alloc, field)?;
-    match processors_of(&links) {
+    match processors_of(field) {
         Some(chain) => Ok(chain),
         None => Err(TextKind::BadLine),
     }
 }
 
-/// The processors that some fields name, at most 64.
-fn processors_of(links: &[&[u8]]) -> Option<Chain>
+/// The processors that a field names between its arrows, at most 64.
+fn processors_of(field: &[u8]) -> Option<Chain>
     ensures { MatchOption result
-        ((chain : List ℕ) → AreProcessorFields (texts links.now) chain → ⊥)
-        (AreProcessorFields (texts links.now)) }
+        ((chain : List ℕ) → AreProcessorFields (links_of field.now) chain → ⊥)
+        (AreProcessorFields (links_of field.now)) }
 {
     let mut chain = Chain::new();
-    for link in links {
+    for link in field.split(|byte| *byte == b'>') {
         let p = number_of(link, 0, MAX_PROCESSOR)?;
         if chain.len() == MAX_CHAIN {
             return None;
@@ -152,12 +139,15 @@ pub fn known_task(set: &TaskSet, name: &[u8]) -> Result<u32, TextKind>
     ensures read { IfOk result (λ t. IsNameOf set.now t name.now) }
     ensures refused { IfErr result (IsNameFault set.now name.now) }
 {
-    if !is_field(name) {
-        return Err(TextKind::BadLine);
-    }
     match task_of(set, name) {
         Some(t) => Ok(t),
-        None => Err(TextKind::UnknownTask),
+        None => {
+            if is_field(name) {
+                Err(TextKind::UnknownTask)
+            } else {
+                Err(TextKind::BadLine)
+            }
+        }
     }
 }
 

@@ -19,7 +19,7 @@ use text_fields::limits::{MAX_PRIORITY, MAX_PROCESSOR};
 use text_fields::{is_word, write_number};
 
 /// Adds the task of some fields.
-pub fn add_task(alloc: Global, set: &mut TaskSet, fields: &[&[u8]]) -> Result<(), TextKind>
+pub fn add_task(set: &mut TaskSet, fields: &[&[u8]]) -> Result<(), TextKind>
     ensures read { OnOk result (IsAdded (texts fields.now) set.old set.new) }
     ensures refused { IfErr result (λ kind. IsOutOfMemory kind
         ⊎ IsTaskFault set.old (texts fields.now) kind) }
@@ -33,7 +33,7 @@ pub fn add_task(alloc: Global, set: &mut TaskSet, fields: &[&[u8]]) -> Result<()
     let Some(priority) = number_of(number, 0, MAX_PRIORITY) else {
         return Err(TextKind::BadLine);
     };
-    let mask = list_of(alloc, list)?;
+    let mask = list_of(list)?;
     let Ok(name) = str::from_utf8(name) else {
         return Err(TextKind::TaskRefused(TaskFault::BadName));
     };
@@ -58,7 +58,12 @@ pub fn is_numbered(
 }
 
 /// The context of a line, where it is that of this task.
-pub fn read_context(alloc: Global, set: &TaskSet, t: u32, text: &[u8]) -> Result<Context, TextKind>
+pub fn read_context<'a>(
+    set: &TaskSet,
+    t: u32,
+    text: &'a [u8],
+    room: &mut Vec<&'a [u8]>,
+) -> Result<Context, TextKind>
     requires { t < length set.now.tasks }
     ensures read { IfOk result (IsContextText set.now t text.now) }
     ensures refused { IfErr result (λ kind. IsOutOfMemory kind
@@ -66,8 +71,8 @@ pub fn read_context(alloc: Global, set: &TaskSet, t: u32, text: &[u8]) -> Result
         × ((context : Context) → IsContextText set.now t text.now context → ⊥))) }
 {
     let _valid = set.len();
-    let fields = spaced_fields(alloc, text)?;
-    match context_of(set, t, &fields) {
+    let fields = spaced_fields(text, room)?;
+    match context_of(set, t, fields) {
         Some(context) => Ok(context),
         None => Err(TextKind::BadLine),
     }

@@ -39,6 +39,7 @@ pub fn read_schedule(alloc: Global, bytes: &[u8]) -> Result<Schedule, TextFault>
 fn read_lines(alloc: Global, version: u64, bytes: &[u8]) -> Result<Schedule, TextFault>
     ensures { IsAnswerTo version bytes.now result }
 {
+    let mut room = Vec::new(alloc);
     let mut stage = Stage::HeaderExpected;
     let mut rest = bytes;
     let mut line = 1;
@@ -47,7 +48,7 @@ fn read_lines(alloc: Global, version: u64, bytes: &[u8]) -> Result<Schedule, Tex
             let kind = TextKind::Short;
             return Err(TextFault { line, kind });
         };
-        match stage.after_line(alloc, version, text) {
+        match stage.after_line(alloc, version, text, &mut room) {
             Ok(Reached::Expected(next)) => {
                 stage = next;
                 rest = after;

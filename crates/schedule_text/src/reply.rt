@@ -9,12 +9,11 @@ ghost use Rattle.schedule_text.specs.declared.fault.TextKind.TheVariants.{BadLin
 use crate::fault::TextKind;
 use crate::field::{chain_of, known_task, set_of, somebody_of};
 use scheduler_reply::Reply;
-use std::alloc::Global;
 use task_set::TaskSet;
 use text_fields::is_word;
 
 /// The reply of some fields.
-pub fn read_reply(alloc: Global, set: &TaskSet, fields: &[&[u8]]) -> Result<Reply, TextKind>
+pub fn read_reply(set: &TaskSet, fields: &[&[u8]]) -> Result<Reply, TextKind>
     ensures read { IfOk result (IsReplyFields set.now (texts fields.now)) }
     ensures refused { IfErr result (λ kind. IsOutOfMemory kind
         ⊎ IsReplyFault set.now (texts fields.now) kind) }
@@ -24,12 +23,12 @@ pub fn read_reply(alloc: Global, set: &TaskSet, fields: &[&[u8]]) -> Result<Repl
             Some(reply) => Ok(reply),
             None => Err(TextKind::BadLine),
         },
-        [word, value] => valued_reply(alloc, word, value),
+        [word, value] => valued_reply(word, value),
         [word, chain, middle, name, last, processors] => {
             if is_displaced(word, middle, last) {
-                displaced_reply(alloc, set, chain, name, processors)
+                displaced_reply(set, chain, name, processors)
             } else if is_freed(word, middle, last) {
-                freed_reply(alloc, set, chain, name, processors)
+                freed_reply(set, chain, name, processors)
             } else {
                 Err(TextKind::BadLine)
             }
@@ -73,17 +72,17 @@ fn word_reply(word: &[u8]) -> Option<Reply>
 }
 
 /// The reply of a word and a chain or a set.
-fn valued_reply(alloc: Global, word: &[u8], value: &[u8]) -> Result<Reply, TextKind>
+fn valued_reply(word: &[u8], value: &[u8]) -> Result<Reply, TextKind>
     ensures read { IfOk result (λ reply. (tasks : SetData)
         → IsReplyFields tasks (word.now ∷ value.now ∷ []) reply) }
     ensures refused { IfErr result (λ kind. IsOutOfMemory kind
         ⊎ ((kind ≡ BadLine) × (IsSomeReply (word.now ∷ value.now ∷ []) → ⊥))) }
 {
     if is_word(word, "placed") {
-        let chain = chain_of(alloc, value)?;
+        let chain = chain_of(value)?;
         Ok(Reply::Placed { chain })
     } else if is_word(word, "waits") {
-        let reach = set_of(alloc, value)?;
+        let reach = set_of(value)?;
         Ok(Reply::Waits { reach })
     } else {
         Err(TextKind::BadLine)
@@ -92,7 +91,6 @@ fn valued_reply(alloc: Global, word: &[u8], value: &[u8]) -> Result<Reply, TextK
 
 /// The reply that a task was displaced.
 fn displaced_reply(
-    alloc: Global,
     set: &TaskSet,
     chain: &[u8],
     name: &[u8],
@@ -103,15 +101,14 @@ fn displaced_reply(
     ensures refused { IfErr result (λ kind. IsOutOfMemory kind
         ⊎ IsReplyFault set.now (displaced_fields chain.now name.now processors.now) kind) }
 {
-    let chain = chain_of(alloc, chain)?;
-    let reach = set_of(alloc, processors)?;
+    let chain = chain_of(chain)?;
+    let reach = set_of(processors)?;
     let out = known_task(set, name)?;
     Ok(Reply::Displaced { chain, out, reach })
 }
 
 /// The reply that a processor was freed.
 fn freed_reply(
-    alloc: Global,
     set: &TaskSet,
     chain: &[u8],
     name: &[u8],
@@ -122,8 +119,8 @@ fn freed_reply(
     ensures refused { IfErr result (λ kind. IsOutOfMemory kind
         ⊎ IsReplyFault set.now (freed_fields chain.now name.now processors.now) kind) }
 {
-    let chain = chain_of(alloc, chain)?;
-    let back = set_of(alloc, processors)?;
+    let chain = chain_of(chain)?;
+    let back = set_of(processors)?;
     let entered = somebody_of(set, name)?;
     Ok(Reply::Freed {
         entered,

@@ -55,8 +55,14 @@ pub enum Reached {
 }
 
 impl Stage {
-    /// What a line leads to.
-    pub fn after_line(self, alloc: Global, version: u64, text: &[u8]) -> Result<Reached, TextKind>
+    /// What a line leads to. The room is for its fields.
+    pub fn after_line<'a>(
+        self,
+        alloc: Global,
+        version: u64,
+        text: &'a [u8],
+        room: &mut Vec<&'a [u8]>,
+    ) -> Result<Reached, TextKind>
         requires { IsPrefix (progress_of self) }
         ensures read { IfOk result (λ next. Leads version (progress_of self) text.now
             (progress_after next)) }
@@ -65,15 +71,15 @@ impl Stage {
     {
         match self {
             Stage::HeaderExpected => read_header(alloc, version, text),
-            Stage::ProcessorsExpected => start(alloc, version, text),
-            Stage::TasksExpected { set } => read_task(alloc, version, set, text),
+            Stage::ProcessorsExpected => start(alloc, version, text, room),
+            Stage::TasksExpected { set } => read_task(alloc, version, set, text, room),
             Stage::EntriesExpected {
                 set,
                 count,
                 entries,
             } => {
                 if (entries.len() as u64) < count {
-                    list_entry(alloc, version, set, count, entries, text)
+                    list_entry(version, set, count, entries, text, room)
                 } else {
                     begin_contexts(alloc, version, set, count, entries, text)
                 }
@@ -84,7 +90,7 @@ impl Stage {
                 contexts,
             } => {
                 if contexts.len() < set.len() as usize {
-                    list_context(alloc, version, set, entries, contexts, text)
+                    list_context(version, set, entries, contexts, text, room)
                 } else {
                     end(version, set, entries, contexts, text)
                 }
@@ -108,14 +114,19 @@ fn read_header(alloc: Global, version: u64, text: &[u8]) -> Result<Reached, Text
 }
 
 /// No task yet, on as many processors as a line says.
-fn start(alloc: Global, version: u64, text: &[u8]) -> Result<Reached, TextKind>
+fn start<'a>(
+    alloc: Global,
+    version: u64,
+    text: &'a [u8],
+    room: &mut Vec<&'a [u8]>,
+) -> Result<Reached, TextKind>
     ensures read { IfOk result (λ next. Leads version ProcessorsExpected text.now
         (progress_after next)) }
     ensures refused { IfErr result (λ kind. IsOutOfMemory kind
         ⊎ IsLineFault version ProcessorsExpected text.now kind) }
 {
-    let fields = spaced_fields(alloc, text)?;
-    let Some(processors) = number_after(&fields, "processors", 1, MAX_PROCESSORS) else {
+    let fields = spaced_fields(text, room)?;
+    let Some(processors) = number_after(fields, "processors", 1, MAX_PROCESSORS) else {
         return Err(TextKind::BadLine);
     };
     let set = TaskSet::new(alloc, processors as u8)?;
@@ -123,19 +134,20 @@ fn start(alloc: Global, version: u64, text: &[u8]) -> Result<Reached, TextKind>
 }
 
 /// Reads a task, or how many entries there are.
-fn read_task(
+fn read_task<'a>(
     alloc: Global,
     version: u64,
     mut set: TaskSet,
-    text: &[u8],
+    text: &'a [u8],
+    room: &mut Vec<&'a [u8]>,
 ) -> Result<Reached, TextKind>
     ensures read { IfOk result (λ next. Leads version (TasksExpected set) text.now
         (progress_after next)) }
     ensures refused { IfErr result (λ kind. IsOutOfMemory kind
         ⊎ IsLineFault version (TasksExpected set) text.now kind) }
 {
-    let fields = spaced_fields(alloc, text)?;
-    match number_after(&fields, "history", 0, MAX_ENTRIES) {
+    let fields = spaced_fields(text, room)?;
+    match number_after(fields, "history", 0, MAX_ENTRIES) {
         Some(count) => {
             let entries = Vec::new(alloc);
             Ok(Reached::Expected(Stage::EntriesExpected {
@@ -145,20 +157,20 @@ fn read_task(
             }))
         }
         None => {
-            add_task(alloc, &mut set, &fields)?;
+            add_task(&mut set, fields)?;
             Ok(Reached::Expected(Stage::TasksExpected { set }))
         }
     }
 }
 
 /// Lists the entry of a line.
-fn list_entry(
-    alloc: Global,
+fn list_entry<'a>(
     version: u64,
     set: TaskSet,
     count: u64,
     mut entries: Vec<Entry>,
-    text: &[u8],
+    text: &'a [u8],
+    room: &mut Vec<&'a [u8]>,
 ) -> Result<Reached, TextKind>
     requires { length entries.items < count }
     ensures read { IfOk result (λ next. Leads version (EntriesExpected set count entries.items)
@@ -167,8 +179,8 @@ fn list_entry(
         ⊎ IsLineFault version (EntriesExpected set count entries.items) text.now kind) }
 {
     let _valid = set.len();
-    let fields = spaced_fields(alloc, text)?;
-    let entry = read_entry(alloc, &set, &fields)?;
+    let fields = spaced_fields(text, room)?;
+    let entry = read_entry(&set, fields)?;
     if entries.push(entry).is_err() {
         return Err(TextKind::OutOfMemory);
     }
@@ -206,13 +218,13 @@ fn begin_contexts(
 }
 
 /// Lists the context of a line.
-fn list_context(
-    alloc: Global,
+fn list_context<'a>(
     version: u64,
     set: TaskSet,
     entries: Vec<Entry>,
     mut contexts: Vec<Context>,
-    text: &[u8],
+    text: &'a [u8],
+    room: &mut Vec<&'a [u8]>,
 ) -> Result<Reached, TextKind>
     requires { length contexts.items < length set.tasks }
     ensures read { IfOk result (λ next. Leads version
@@ -221,7 +233,7 @@ fn list_context(
         ⊎ IsLineFault version (ContextsExpected set entries.items contexts.items) text.now kind) }
 {
     let _valid = set.len();
-    let context = read_context(alloc, &set, contexts.len() as u32, text)?;
+    let context = read_context(&set, contexts.len() as u32, text, room)?;
     if contexts.push(context).is_err() {
         return Err(TextKind::OutOfMemory);
     }

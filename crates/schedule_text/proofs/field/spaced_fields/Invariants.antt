@@ -3,4 +3,4 @@ use Rattle.text_fields.specs.Fields.{texts}
 use Rattle.schedule_text.proofs.field.spaced_fields.Given as goal
 
 abbrev pub invariant-loop-field : goal.invariant-loop-field
-invariant-loop-field l = texts l.fields.items ≡ texts l.yielded
+invariant-loop-field l = texts l.room.items ≡ texts l.yielded

@@ -7,16 +7,14 @@ use Rattle.schedule_text.proofs.line.read_context.Goals as goal
 
 pub returns-in-Some-clause-read : goal.returns-in-Some-clause-read
 returns-in-Some-clause-read c =
-    let cut : texts c.deref.result.now ≡ spaced_fields_of c.args.text.now = ap texts c.deref.ensures.value
-    ∙ c.in_ok-fields.ensures in
+    let cut : texts c.in_ok-fields.fields.now ≡ spaced_fields_of c.args.text.now = c.in_ok-fields.ensures in
     context_to_text c.args.set.now c.args.t c.args.text.now c.in-Some.context
     (subst (λ (fields : List (List ℕ)). IsContextFields c.args.set.now c.args.t fields c.in-Some.context) cut
     c.in-Some.ensures)
 
-pub returns-clause-refused : goal.returns-clause-refused
-returns-clause-refused c =
-    let cut : texts c.deref.result.now ≡ spaced_fields_of c.args.text.now = ap texts c.deref.ensures.value
-    ∙ c.in_ok-fields.ensures in
+pub returns-in-None-clause-refused : goal.returns-in-None-clause-refused
+returns-in-None-clause-refused c =
+    let cut : texts c.in_ok-fields.fields.now ≡ spaced_fields_of c.args.text.now = c.in_ok-fields.ensures in
     inr (
       refl,
       λ context f. c.in-None.ensures context

@@ -8,12 +8,12 @@ pub returns-in_err-entry-clause-refused : goal.returns-in_err-entry-clause-refus
 returns-in_err-entry-clause-refused c =
     let p = err_from_is_err_and c.from_residual-in_err-entry.result c.from_residual-in_err-entry.ensures.1 in
     rw (p.1, p.2) (entry_refused c.args.version c.args.set c.args.count c.args.entries.items
-    (texts c.deref.result.now) c.args.text.now c.in_err-entry.field-0.0
-    (ap texts c.deref.ensures.value ∙ c.in_ok-fields.ensures) c.len-valid.ensures.valid c.requires
+    (texts c.in_ok-fields.fields.now) c.args.text.now c.in_err-entry.field-0.0
+    c.in_ok-fields.ensures c.len-valid.ensures.valid c.requires
     c.in_err-entry.ensures.refused)
 
 pub returns-clause-read : goal.returns-clause-read
 returns-clause-read c =
     entry_read c.args.set c.args.count c.args.entries.items c.push.new.self.items c.in_ok-entry.entry
-    (texts c.deref.result.now) c.args.text.now (ap texts c.deref.ensures.value ∙ c.in_ok-fields.ensures)
+    (texts c.in_ok-fields.fields.now) c.args.text.now c.in_ok-fields.ensures
     c.requires c.in_ok-entry.ensures.read (search rules)

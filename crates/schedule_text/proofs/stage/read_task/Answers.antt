@@ -8,8 +8,8 @@ use Rattle.schedule_text.proofs.stage.read_task.Goals as goal
 
 pub returns-in-Some-clause-read : goal.returns-in-Some-clause-read
 returns-in-Some-clause-read c =
-    history_read c.args.set (texts c.deref.result.now) c.args.text.now c.in-Some.count
-    c.new-entries.result.items (ap texts c.deref.ensures.value ∙ c.in_ok-fields.ensures) c.in-Some.ensures
+    history_read c.args.set (texts c.in_ok-fields.fields.now) c.args.text.now c.in-Some.count
+    c.new-entries.result.items c.in_ok-fields.ensures c.in-Some.ensures
     c.new-entries.ensures.items
 
 pub returns-in_err-add_task-in-None-clause-refused :
@@ -17,13 +17,11 @@ pub returns-in_err-add_task-in-None-clause-refused :
 returns-in_err-add_task-in-None-clause-refused c =
     let p = err_from_is_err_and c.from_residual-in_err-add_task-in-None.result
     c.from_residual-in_err-add_task-in-None.ensures.1 in
-    rw (p.1, p.2) (task_refused_line c.args.version c.args.set (texts c.deref.result.now) c.args.text.now
-    c.in_err-add_task-in-None.field-0.0 (ap texts c.deref.ensures.value ∙ c.in_ok-fields.ensures)
-    c.in-None.ensures (subst (λ (cut : List (List ℕ)). IsOutOfMemory c.in_err-add_task-in-None.field-0.0
-    ⊎ IsTaskFault c.args.set cut c.in_err-add_task-in-None.field-0.0) (ap texts
-    (c.deref-in-None.ensures.value ∙ sym c.deref.ensures.value)) c.in_err-add_task-in-None.ensures.refused))
+    rw (p.1, p.2) (task_refused_line c.args.version c.args.set (texts c.in_ok-fields.fields.now) c.args.text.now
+    c.in_err-add_task-in-None.field-0.0 c.in_ok-fields.ensures
+    c.in-None.ensures c.in_err-add_task-in-None.ensures.refused)
 
-pub returns-clause-read : goal.returns-clause-read
-returns-clause-read c =
-    task_read c.args.set c.add_task.new.set (texts c.deref-in-None.result.now) c.args.text.now
-    (ap texts c.deref-in-None.ensures.value ∙ c.in_ok-fields.ensures) c.in_ok-add_task-in-None.ensures.read
+pub returns-in_ok-add_task-in-None-clause-read : goal.returns-in_ok-add_task-in-None-clause-read
+returns-in_ok-add_task-in-None-clause-read c =
+    task_read c.args.set c.add_task.new.set (texts c.in_ok-fields.fields.now) c.args.text.now
+    c.in_ok-fields.ensures c.in_ok-add_task-in-None.ensures.read

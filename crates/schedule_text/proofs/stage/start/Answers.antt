@@ -6,14 +6,14 @@ use Rattle.schedule_text.proofs.stage.start.Goals as goal
 
 pub returns-in_default-clause-refused : goal.returns-in_default-clause-refused
 returns-in_default-clause-refused c =
-    inr (processors_none (texts c.deref.result.now) c.args.text.now
-    (ap texts c.deref.ensures.value ∙ c.in_ok-fields.ensures) c.in_default.ensures)
+    inr (processors_none (texts c.in_ok-fields.fields.now) c.args.text.now
+    c.in_ok-fields.ensures c.in_default.ensures)
 
 pub returns-clause-read : goal.returns-clause-read
 returns-clause-read c = (
   c.in-Some.processors,
   ap TasksExpected c.in_ok-set.ensures,
-  processors_read (texts c.deref.result.now)
-      c.args.text.now c.in-Some.processors (ap texts c.deref.ensures.value ∙ c.in_ok-fields.ensures)
+  processors_read (texts c.in_ok-fields.fields.now)
+      c.args.text.now c.in-Some.processors c.in_ok-fields.ensures
       c.in-Some.ensures,
 )
