@@ -1,14 +1,14 @@
 -- Waiting tasks by rank and by task: what a write changes, and who is the first that waits for a processor of a set.
-use Rattle.std.proofs.Common.{◌≡◌, ◌≢◌, ℕ, ◌+◌, ◌<◌, ◌≤◌, List, length, get_or, set, map, replicate, refl, sym, ap, ◌∙◌, subst, inl, inr, arith, length-set, get_or-set_same, get_or-set_other}
+use Rattle.std.proofs.Common.{◌≡◌, ℕ, ◌+◌, ◌<◌, ◌≤◌, List, length, get_or, set, map, replicate, sym, ap, ◌∙◌, subst, inl, inr, arith, length-set, get_or-set_same, get_or-set_other}
 use Rattle.std.proofs.lemmas.Bool.{cases_eq, cases_lt, true≢false}
 use Rattle.std.proofs.lemmas.List.{get_or-map, get_or_read, get_or_default, get_or_past, get_or-replicate, length-map, length-replicate, ext_get_or}
 use Rattle.std.proofs.lemmas.List.Elements.{All-get_or}
 use Rattle.affinity_mask.specs.ProcSet.{has, empty, Meets}
 use Rattle.affinity_mask.proofs.Sets.{has-zero}
 use Rattle.waiting_index.specs.declared.ranked.Ranked.{Ranked}
-use Rattle.waiting_index.specs.UrgencyOrder.{entry_of, IsEntry, IsUrgencyOrder}
+use Rattle.waiting_index.specs.UrgencyOrder.{entry_of, IsEntry}
 use Rattle.waiting_index.specs.SetTree.{IsMetByNone, IsFirstMeeting}
-use Rattle.waiting_index.specs.WaitingTasks.{Waiting, IsNobodyFor, IsFirstFor, AreRanks, IsRanking}
+use Rattle.waiting_index.specs.WaitingTasks.{IsNobodyFor, IsFirstFor, IsRanking}
 
 -- the empty set meets none
 meets_empty : (X Y : ℕ) → Y ≡ empty → Meets X Y → ⊥

@@ -1,4 +1,4 @@
-use Rattle.std.proofs.Common.{◌≡◌, ℕ, ◌+◌, replicate, get_or, drop, length, sym, ap, ◌∙◌, arith}
+use Rattle.std.proofs.Common.{length, ap, ◌∙◌, arith}
 use Rattle.std.proofs.lemmas.List.{length-drop, length-replicate}
 use Rattle.affinity_mask.specs.ProcSet.{empty}
 use Rattle.waiting_index.proofs.Trees.{IsTree-empty, empty_row}

@@ -1,5 +1,5 @@
-use Rattle.std.proofs.Common.{◌≡◌, ℕ, ◌+◌, ◌<◌, List, set, length, sym, ap, ◌∙◌, subst, inl, inr, ◌⊎◌, arith}
-use Rattle.waiting_index.proofs.Trees.{IsHalfWritten, written_begins, written_whole, written_same, written_more}
+use Rattle.std.proofs.Common.{ℕ, ◌+◌, ◌<◌, List, set, length, sym, subst}
+use Rattle.waiting_index.proofs.Trees.{IsHalfWritten, written_begins}
 use Rattle.waiting_index.proofs.set_tree.SetTree.write.Goals as goal
 
 pub loop-k-init : goal.loop-k-init

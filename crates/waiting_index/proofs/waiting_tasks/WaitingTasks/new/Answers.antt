@@ -1,6 +1,5 @@
-use Rattle.std.proofs.Common.{◌≡◌, ℕ, List, length, ap, arith}
+use Rattle.std.proofs.Common.{ℕ, List, length, ap, arith}
 use Rattle.waiting_index.proofs.Ranks.{nobody_at_first}
-use Rattle.waiting_index.specs.WaitingTasks.{Waiting}
 use Rattle.waiting_index.proofs.waiting_tasks.WaitingTasks.new.Goals as goal
 
 pub returns : goal.returns

@@ -1,5 +1,5 @@
-use Rattle.std.proofs.Common.{◌≡◌, ◌<◌, ℕ, List, length, set, sym, ap, subst}
-use Rattle.waiting_index.specs.WaitingTasks.{Waiting, waiting_view}
+use Rattle.std.proofs.Common.{◌<◌, length, set, sym, ap, subst}
+use Rattle.waiting_index.specs.WaitingTasks.{Waiting}
 use Rattle.waiting_index.proofs.Ranks.{rank_in_row, rank_read, by_task_of-set, IsRanking-set}
 use Rattle.waiting_index.proofs.waiting_tasks.WaitingTasks.write.Goals as goal
 
