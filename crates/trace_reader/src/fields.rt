@@ -5,13 +5,13 @@ ghost use Rattle.trace_reader.specs.Reading.{IsFirstLine};
 ghost use Rattle.text_fields.specs.Fields.{texts};
 
 use affinity_mask::OutOfMemory;
-use std::alloc::Global;
+use text_fields::line_end;
 
 /// The first line of some bytes, and what stands after it.
 pub fn first_line(bytes: &[u8]) -> (&[u8], &[u8])
     ensures { IsFirstLine bytes.now result.0.now result.1.now }
 {
-    match bytes.iter().position(|byte| *byte == b'\n') {
+    match line_end(bytes) {
         Some(end) => (&bytes[..end], &bytes[end + 1..]),
         None => (bytes, &[]),
     }
@@ -24,17 +24,20 @@ pub fn is_plain(line: &[u8]) -> bool
     line.iter().all(|byte| matches!(*byte, b'\t' | b' '..=b'~'))
 }
 
-/// The fields of a line.
-pub fn fields(alloc: Global, line: &[u8]) -> Result<Vec<&[u8]>, OutOfMemory>
-    ensures { IfOk result (λ fields. texts fields.items ≡ fields_of line.now) }
+/// The fields of a line, in this room.
+pub fn fields<'a, 'r>(
+    line: &'a [u8],
+    room: &'r mut Vec<&'a [u8]>,
+) -> Result<&'r [&'a [u8]], OutOfMemory>
+    ensures { IfOk result (λ fields. texts fields.now ≡ fields_of line.now) }
 {
-    let mut fields = Vec::new(alloc);
+    room.clear();
     for field in line.split(|byte| is_space_or_tab(*byte)) {
         if !field.is_empty() {
-            fields.push(field)?;
+            room.push(field)?;
         }
     }
-    Ok(fields)
+    Ok(room.as_slice())
 }
 
 /// Whether a byte is a blank.

@@ -35,12 +35,13 @@ pub fn read_input(alloc: Global, bytes: &[u8]) -> Result<Input, InputFault>
 fn read_lines(alloc: Global, version: u64, bytes: &[u8]) -> Result<Input, InputFault>
     ensures { IsAnswerTo version bytes.now result }
 {
+    let mut room = Vec::new(alloc);
     let mut stage = Stage::HeaderExpected;
     let mut rest = bytes;
     let mut line = 1;
     while !rest.is_empty() {
         let (text, after) = first_line(rest);
-        stage = match stage.after_line(alloc, version, text) {
+        stage = match stage.after_line(alloc, version, text, &mut room) {
             Ok(next) => next,
             Err(kind) => return Err(InputFault { line, kind }),
         };

@@ -42,8 +42,14 @@ pub enum Stage {
 }
 
 impl Stage {
-    /// What is expected after one more line.
-    pub fn after_line(self, alloc: Global, version: u64, line: &[u8]) -> Result<Stage, InputKind>
+    /// What is expected after one more line. The room is for its fields.
+    pub fn after_line<'a>(
+        self,
+        alloc: Global,
+        version: u64,
+        line: &'a [u8],
+        room: &mut Vec<&'a [u8]>,
+    ) -> Result<Stage, InputKind>
         requires { (said : List (List (List ℕ))) × Expects version said (progress_of self) }
         ensures read { IfOk result (λ next. SaysLine version (progress_of self) line.now
             (progress_of next)) }
@@ -56,11 +62,11 @@ impl Stage {
         if line.len() > MAX_LINE {
             return Err(InputKind::LongLine);
         }
-        let fields = fields(alloc, line)?;
-        if is_comment(&fields) {
+        let fields = fields(line, room)?;
+        if is_comment(fields) {
             Ok(self)
         } else {
-            self.after(alloc, version, &fields)
+            self.after(alloc, version, fields)
         }
     }
 

@@ -5,4 +5,4 @@ use Rattle.text_fields.specs.Fields.{texts}
 use Rattle.trace_reader.proofs.fields.fields.Given as goal
 
 abbrev pub invariant-loop-field : goal.invariant-loop-field
-invariant-loop-field l = texts l.fields.items ≡ filter (λ piece. not (is_nothing piece)) (texts l.yielded)
+invariant-loop-field l = texts l.room.items ≡ filter (λ piece. not (is_nothing piece)) (texts l.yielded)

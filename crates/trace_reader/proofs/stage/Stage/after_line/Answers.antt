@@ -6,7 +6,7 @@ use Rattle.trace_reader.proofs.stage.Stage.after_line.Goals as goal
 pub returns-then-line-gt-MAX_LINE-clause-refused : goal.returns-then-line-gt-MAX_LINE-clause-refused
 returns-then-line-gt-MAX_LINE-clause-refused c = inr (c.is_plain.ensures.0 (search rules), search (rules, arith))
 
-pub returns-clause-refused : goal.returns-clause-refused
-returns-clause-refused c =
+pub returns-else-is_comment-clause-refused : goal.returns-else-is_comment-clause-refused
+returns-else-is_comment-clause-refused c =
     after_refused c.args.version (progress_of c.args.self) c.args.line.now _ c.after.result
     (search (rules, arith)) (search rules) (search rules) c.after.ensures.refused
