@@ -153,7 +153,10 @@ fn assert_written(rt: &(impl Abort + AllocGlobal), text: &str, expected: &str) -
 /// Asserts that this text is the canonical list of the set, or that it is another text.
 fn assert_canonical(rt: &impl Abort, set: &ProcSet, text: &str, canonical: &str) {
     let is_list = set.is_list(text.as_bytes());
-    assert!(rt; is_list == (text == canonical), "canonical is {canonical}, of {text}");
+    assert!(rt;
+        is_list == (text == canonical),
+        "canonical is {canonical}, of {text}"
+    );
 }
 
 #[test]
