@@ -241,3 +241,79 @@ fn worked_histories_on_three_streams(rt: HostRuntime) -> Result<(), Fail> {
     }
     Ok(())
 }
+
+/// It looks at a counter before it lets a thread go on, at each call another number of times, below 1,000.
+#[derive(Drop)]
+struct SlowGate {
+    pace: u64,
+    calls: AtomicU64,
+}
+
+impl SlowGate {
+    /// How often it looks at a call of this number.
+    fn looks(&self, call: u64) -> u64 {
+        let pace = self.pace.wrapping_mul(7);
+        pace.wrapping_add(call.wrapping_mul(13)) % 1000
+    }
+}
+
+impl Gate for SlowGate {
+    fn at(&self, _who: u32, _point: u32) {
+        let call = self.calls.fetch_add(1, Ordering::SeqCst);
+        for _ in 0..self.looks(call) {
+            let _seen = self.calls.load(Ordering::SeqCst);
+        }
+    }
+}
+
+/// What `run` writes for an input with a slow gate, which is called before and after each of so many posts.
+fn put_slowly<R: Threads + Wait + Clock + Sync + Abort>(
+    rt: &R,
+    alloc: Global,
+    input: &str,
+    posts: u64,
+    pace: u64,
+) -> Result<Vec<u8>, Fail> {
+    let gate = SlowGate {
+        pace,
+        calls: AtomicU64::new(0),
+    };
+    let source = source_of(alloc, input.as_bytes(), 4096, &[])?;
+    let sink = sink_of(alloc, 4096, 4096, &[])?;
+    let (status, put) = replay_with(rt, alloc, &["run"], source, sink, &gate)?;
+    let calls = gate.calls.load(Ordering::SeqCst);
+    assert!(rt; status == Status::Done, "at the pace {pace}");
+    assert!(rt; calls >= posts.saturating_add(posts), "at the pace {pace}");
+    Ok(put)
+}
+
+/// `run` of 29 events on three streams with a slow gate writes a valid schedule, with each stream in its order.
+fn expect_slow<R: Threads + Wait + Clock + Sync + Abort>(
+    rt: &R,
+    alloc: Global,
+    input: &str,
+    pace: u64,
+) -> Result<(), Fail> {
+    let put = put_slowly(rt, alloc, input, 29, pace)?;
+    expect_valid(rt, alloc, &put, 29)?;
+    expect_in_order(rt, alloc, input, str::from_utf8(&put).unwrap_or(""), 3)
+}
+
+/// The two clusters on three streams.
+fn two_clusters_on_three_streams(rt: &impl Abort, alloc: Global) -> Result<String, Fail> {
+    for history in all_histories() {
+        if history.name == "two_clusters" {
+            return on_three_streams(alloc, history);
+        }
+    }
+    panic!(rt; "there are no two clusters")
+}
+
+#[test]
+fn slow_gates(rt: HostRuntime) -> Result<(), Fail> {
+    let input = two_clusters_on_three_streams(&rt, rt.alloc())?;
+    for pace in 0..20 {
+        expect_slow(&rt, rt.alloc(), &input, pace)?;
+    }
+    Ok(())
+}
