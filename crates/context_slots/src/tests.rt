@@ -6,6 +6,7 @@ ghost use Rattle.context_slots.specs.Hands.{HandData, AreFreeFrom, AreAll};
 use crate::{Hand, Slots};
 use affinity_mask::{OutOfMemory, ProcSet};
 use std::alloc::{AllocError, Global};
+use std::process::Abort;
 use std::sync::Wait;
 use std::test::Fail;
 use std::thread;
@@ -43,6 +44,50 @@ fn push_hand(slots: &Slots, hands: &mut Vec<Hand>, hand: Hand) -> Result<(), Out
     Ok(())
 }
 
+/// What the hand finds at the task 0, which it does not get for the stint of this number.
+fn found(slots: &Slots, hand: &mut Hand, number: u32) -> Result<u64, Fail>
+    requires hand { (hand.old.slots ≡ slots.now.id) × (hand.old.holds ≡ None) }
+    requires tasks { 0 < length slots.now.set.tasks }
+    ensures { OnOk result ((hand.new.slots ≡ slots.now.id) × (hand.new.holds ≡ None)
+        × (hand.new.number ≡ hand.old.number)) }
+{
+    match slots.take(hand, 0, number) {
+        Ok(_held) => Err(Fail::new("taken out of turn")),
+        Err(no) => Ok(no.found),
+    }
+}
+
+/// The hand takes the task 0 at its turn, runs it and releases it.
+fn take_and_run(slots: &Slots, hand: &mut Hand, number: u32, units: u32) -> Result<(), Fail>
+    requires hand { (hand.old.slots ≡ slots.now.id) × (hand.old.holds ≡ None) }
+    requires tasks { 0 < length slots.now.set.tasks }
+    ensures { OnOk result ((hand.new.slots ≡ slots.now.id) × (hand.new.holds ≡ None)
+        × (hand.new.number ≡ hand.old.number)) }
+{
+    let mut held = slots.take(hand, 0, number)?;
+    slots.run(hand, &mut held, units);
+    slots.release(hand, held);
+    Ok(())
+}
+
+/// The first hand has the task 0 for its first stint: what the second one finds meanwhile, by a take and by a look.
+fn first_stint(slots: &Slots, first: &mut Hand, second: &mut Hand) -> Result<(u64, u64), Fail>
+    requires first { (first.old.slots ≡ slots.now.id) × (first.old.holds ≡ None) }
+    requires second { (second.old.slots ≡ slots.now.id) × (second.old.holds ≡ None) }
+    requires tasks { 0 < length slots.now.set.tasks }
+    ensures first { OnOk result ((first.new.slots ≡ slots.now.id) × (first.new.holds ≡ None)
+        × (first.new.number ≡ first.old.number)) }
+    ensures second { OnOk result ((second.new.slots ≡ slots.now.id) × (second.new.holds ≡ None)
+        × (second.new.number ≡ second.old.number)) }
+{
+    let mut held = slots.take(first, 0, 0)?;
+    let out = found(slots, second, 0)?;
+    let turn = slots.turn(second, 0);
+    slots.run(first, &mut held, 5);
+    slots.release(first, held);
+    Ok((out, turn))
+}
+
 /// Two processors pass task 0 from one to the other: what the second one finds, one look after the other.
 fn pass_by_calls(slots: &Slots, first: &mut Hand, second: &mut Hand) -> Result<[u64; 3], Fail>
     requires first { (first.old.slots ≡ slots.now.id) × (first.old.holds ≡ None) }
@@ -53,29 +98,32 @@ fn pass_by_calls(slots: &Slots, first: &mut Hand, second: &mut Hand) -> Result<[
     ensures second { OnOk result ((second.new.slots ≡ slots.now.id) × (second.new.holds ≡ None)
         × (second.new.number ≡ second.old.number)) }
 {
-    let mut held = slots.take(first, 0, 0)?;
-    let Err(out) = slots.take(second, 0, 0) else {
-        return Err(Fail::new("taken twice"));
-    };
-    let turn = slots.turn(second, 0);
-    slots.run(first, &mut held, 5);
-    slots.release(first, held);
-    let Err(next) = slots.take(second, 0, 0) else {
-        return Err(Fail::new("taken for a stint that has ended"));
-    };
-    let mut held = slots.take(second, 0, 1)?;
-    slots.run(second, &mut held, 2);
-    slots.release(second, held);
-    Ok([out.found, turn, next.found])
+    let (out, turn) = first_stint(slots, first, second)?;
+    let next = found(slots, second, 0)?;
+    take_and_run(slots, second, 1, 2)?;
+    Ok([out, turn, next])
 }
 
-#[test]
-fn hand_over_by_calls(rt: HostRuntime) -> Result<(), Fail> {
-    let mut set = TaskSet::new(rt.alloc(), 2)?;
-    set.add("a", 1, ProcSet::first(2))?;
-    set.add("b", 2, ProcSet::one(0))?;
-    assert!(rt; set.len() == 2);
-    let (slots, mut hands) = new_slots(rt.alloc(), &set)?;
+/// The contexts in the end.
+fn contexts(alloc: Global, slots: Slots, hands: Vec<Hand>) -> Result<Vec<Context>, Fail>
+    requires { AreAll slots hands.items }
+{
+    match slots.close(alloc, hands) {
+        Ok(contexts) => Ok(contexts),
+        Err(_unclosed) => Err(Fail::new("out of memory")),
+    }
+}
+
+/// What two hands find as they pass task 0 on, and the contexts in the end.
+fn passed(
+    rt: &impl Abort,
+    alloc: Global,
+    slots: Slots,
+    mut hands: Vec<Hand>,
+) -> Result<([u64; 3], Vec<Context>), Fail>
+    requires hands { AreAll slots hands.items }
+    requires tasks { length slots.set.tasks ≡ 2 }
+{
     let Some(mut second) = pop_hand(&slots, &mut hands) else {
         return Err(Fail::new("no hand"));
     };
@@ -84,12 +132,20 @@ fn hand_over_by_calls(rt: HostRuntime) -> Result<(), Fail> {
     };
     assert_eq!(rt; (first.number(), second.number()), (0, 1));
     let found = pass_by_calls(&slots, &mut first, &mut second)?;
-    assert_eq!(rt; found, [1, 1, 2]);
     push_hand(&slots, &mut hands, first)?;
     push_hand(&slots, &mut hands, second)?;
-    let Ok(contexts) = slots.close(rt.alloc(), hands) else {
-        return Err(Fail::new("out of memory"));
-    };
+    Ok((found, contexts(alloc, slots, hands)?))
+}
+
+#[test]
+fn hand_over_by_calls(rt: HostRuntime) -> Result<(), Fail> {
+    let mut set = TaskSet::new(rt.alloc(), 2)?;
+    set.add("a", 1, ProcSet::first(2))?;
+    set.add("b", 2, ProcSet::one(0))?;
+    assert!(rt; set.len() == 2);
+    let (slots, hands) = new_slots(rt.alloc(), &set)?;
+    let (found, contexts) = passed(&rt, rt.alloc(), slots, hands)?;
+    assert_eq!(rt; found, [1, 1, 2]);
     let a = Context {
         task: 0,
         units: 7,
@@ -201,30 +257,47 @@ fn all_go_round<R: Threads + Wait + Sync>(
     each_goes_round(rt, slots, hands)
 }
 
-#[test]
-fn eight_threads_pass_contexts_round(rt: HostRuntime) -> Result<(), Fail> {
-    let mut set = TaskSet::new(rt.alloc(), PROCESSORS)?;
+/// The set of the round.
+fn round_set(rt: &impl Abort, alloc: Global) -> Result<TaskSet, Fail>
+    ensures { IfOk result (λ set. length set.tasks ≡ 64) }
+{
+    let mut set = TaskSet::new(alloc, PROCESSORS)?;
     for t in 0..TASKS {
-        let name = format!(in rt.alloc(); "t{t}")?;
+        let name = format!(in alloc; "t{t}")?;
         set.add(&name, t, ProcSet::first(PROCESSORS))?;
     }
     assert!(rt; set.len() == 64);
-    let (slots, hands) = new_slots(rt.alloc(), &set)?;
-    let hands = all_go_round(&rt, &slots, hands)?;
-    let Ok(contexts) = slots.close(rt.alloc(), hands) else {
-        return Err(Fail::new("out of memory"));
-    };
-    let mut expected = Vec::with_capacity(rt.alloc(), TASKS as usize)?;
+    Ok(set)
+}
+
+/// A context of each task that did nothing.
+fn fresh_contexts(alloc: Global) -> Result<Vec<Context>, AllocError> {
+    let mut contexts = Vec::with_capacity(alloc, TASKS as usize)?;
     for t in 0..TASKS {
-        expected.push(Context::fresh(t))?;
+        contexts.push(Context::fresh(t))?;
     }
+    Ok(contexts)
+}
+
+/// The contexts after the round, made by one processor after the other.
+fn after_round(contexts: &mut Vec<Context>) {
     for i in 0..STINTS {
         let (task, _number, processor, units) = stint_of_round(i);
-        if let Some(context) = expected.get_mut(task as usize) {
+        if let Some(context) = contexts.get_mut(task as usize) {
             context.took(processor);
             context.ran(processor, units);
         }
     }
+}
+
+#[test]
+fn eight_threads_pass_contexts_round(rt: HostRuntime) -> Result<(), Fail> {
+    let set = round_set(&rt, rt.alloc())?;
+    let (slots, hands) = new_slots(rt.alloc(), &set)?;
+    let hands = all_go_round(&rt, &slots, hands)?;
+    let contexts = contexts(rt.alloc(), slots, hands)?;
+    let mut expected = fresh_contexts(rt.alloc())?;
+    after_round(&mut expected);
     assert_eq!(rt; contexts.as_slice(), expected.as_slice());
     Ok(())
 }
