@@ -6,9 +6,10 @@ use Rattle.sched_core.specs.declared.fault.CoreFault.{CoreFault}
 use Rattle.sched_core.specs.declared.fault.CoreFault.TheVariants.{Closed, Full, OutOfMemory}
 use Rattle.event_history.specs.declared.fault.Receipt.{Receipt}
 
--- the core was open, and has one entry more
+-- the core was open and had room, and has one entry more
 pub record Entered (old : CoreData) (caller : ℕ) (event : Event) (new : CoreData) (receipt : Receipt) : Type 0 where
   pub at_place : receipt.place ≡ length old.history
+  pub fits : receipt.place < max_entries
   pub history : new.history ≡ old.history ++ entry_of caller event receipt.reply ∷ []
   pub start : new.start ≡ old.start
   pub was_open : old.closed ≡ false

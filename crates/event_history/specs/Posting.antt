@@ -31,6 +31,7 @@ pub record Posted (set : SetData) (old : PassData) (event : Event) (receipt : Re
   pub before : List Entry
   pub seen : new.seen ≡ before ++ entry_of old.caller event receipt.reply ∷ []
   pub at_place : length before ≡ receipt.place
+  pub fits : receipt.place < max_entries
   pub begins : IsPrefix old.seen before
   pub knew : old.known ≤ receipt.place
   pub legal : IsLegal set new.seen

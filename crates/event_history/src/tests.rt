@@ -1,14 +1,15 @@
 //! What no clause says: that calls succeed with ample memory, what they answer on runs followed by hand, and that they
 //! may be made from several threads at once.
-ghost use Rattle.std.specs.Prelude.{◌≡◌, ◌∷◌, [], length};
+ghost use Rattle.std.specs.Prelude.{◌≡◌, ◌∷◌, [], IfOk, length, map};
 ghost use Rattle.certificate_laws.specs.Passing.{IsOfTask};
 ghost use Rattle.link_state.specs.State.{task_count};
+ghost use Rattle.order_queues.specs.Ends.{new_sender};
 ghost use Rattle.event_history.specs.Boards.{AreAll, Grown};
 
 use crate::{Board, EndFault, Pass, PostFault, Receipt};
-use affinity_mask::ProcSet;
+use affinity_mask::{OutOfMemory, ProcSet};
 use link_table::{Chain, Entry, Reply};
-use order_queues::{Queue, Receiver};
+use order_queues::{Queue, Receiver, Sender};
 use sched_core::Core;
 use std::alloc::Global;
 use std::process::Abort;
@@ -31,22 +32,41 @@ struct Bench {
     ghost ends: { queues.items ≡ receivers.0.queue ∷ receivers.1.queue ∷ [] },
 }
 
+/// A set for two processors, with a task that may run on both and a less urgent one that may run on the first alone.
+fn two_tasks(rt: &impl Abort, alloc: Global) -> Result<TaskSet, Fail>
+    ensures { IfOk result (λ set. (length set.tasks ≡ 2) × (set.processors ≡ 2)) }
+{
+    let mut set = TaskSet::new(alloc, 2)?;
+    set.add("a", 1, ProcSet::first(2))?;
+    set.add("b", 2, ProcSet::first(1))?;
+    assert!(rt; set.len() == 2 && set.processors() == 2);
+    Ok(set)
+}
+
+/// Two queues for two tasks, and their ends.
+fn two_queues(alloc: Global) -> Result<(Vec<Queue>, Vec<Sender>, (Receiver, Receiver)), OutOfMemory>
+    ensures senders { IfOk result (λ made. made.1.items ≡ map new_sender made.0.items) }
+    ensures ends { IfOk result
+        (λ made. made.0.items ≡ made.2.0.queue ∷ made.2.1.queue ∷ []) }
+    ensures tasks { IfOk result
+        (λ made. (made.2.0.queue.tasks ≡ 2) × (made.2.1.queue.tasks ≡ 2)) }
+{
+    let (first, first_sender, first_receiver) = Queue::new(alloc, 2)?;
+    let (second, second_sender, second_receiver) = Queue::new(alloc, 2)?;
+    let mut queues = Vec::with_capacity(alloc, 2)?;
+    queues.push_reserved(first);
+    queues.push_reserved(second);
+    let mut senders = Vec::with_capacity(alloc, 2)?;
+    senders.push_reserved(first_sender);
+    senders.push_reserved(second_sender);
+    Ok((queues, senders, (first_receiver, second_receiver)))
+}
+
 impl Bench {
-    /// A board over two processors, with a task that may run on both and a less urgent one that may run on the first
-    /// alone.
+    /// A board over two processors.
     fn new(rt: &impl Abort, alloc: Global) -> Result<Bench, Fail> {
-        let mut set = TaskSet::new(alloc, 2)?;
-        set.add("a", 1, ProcSet::first(2))?;
-        set.add("b", 2, ProcSet::first(1))?;
-        assert!(rt; set.len() == 2 && set.processors() == 2);
-        let (q0, s0, r0) = Queue::new(alloc, 2)?;
-        let (q1, s1, r1) = Queue::new(alloc, 2)?;
-        let mut queues = Vec::with_capacity(alloc, 2)?;
-        queues.push_reserved(q0);
-        queues.push_reserved(q1);
-        let mut senders = Vec::with_capacity(alloc, 2)?;
-        senders.push_reserved(s0);
-        senders.push_reserved(s1);
+        let set = two_tasks(rt, alloc)?;
+        let (queues, senders, receivers) = two_queues(alloc)?;
         let Ok((board, mut passes)) = Board::new(alloc, &set, senders, queues.as_slice(), 2) else {
             assert!(rt; false);
             unreachable!()
@@ -59,7 +79,7 @@ impl Bench {
             first,
             second,
             queues,
-            receivers: (r0, r1),
+            receivers,
         })
     }
 
@@ -134,33 +154,47 @@ fn placed(rt: &impl Abort, processors: &[u8]) -> Reply {
     Reply::Placed { chain }
 }
 
-#[test]
-fn board_by_calls(rt: HostRuntime) -> Result<(), Fail> {
-    let mut bench = Bench::new(&rt, rt.alloc())?;
-    let reply = placed(&rt, &[0]);
-    assert_eq!(rt;
-        bench.post(&rt, Event::Arrive(0)),
-        Ok(Receipt { place: 0, reply })
-    );
-    let reply = placed(&rt, &[0, 1]);
-    assert_eq!(rt;
-        bench.try_post(Event::Arrive(1)),
-        Ok(Receipt { place: 1, reply })
-    );
+/// The first pass posts an event, which gets this place and this reply.
+fn posts<R: Wait + Abort>(rt: &R, bench: &mut Bench, event: Event, place: u64, reply: Reply)
+    requires { IsOfTask 2 event }
+{
+    let posted = bench.post(rt, event);
+    assert_eq!(rt; posted, Ok(Receipt { place, reply }));
+}
+
+/// The second pass posts an event by one try, which gets this place and this reply.
+fn tries<R: Wait + Abort>(rt: &R, bench: &mut Bench, event: Event, place: u64, reply: Reply)
+    requires { IsOfTask 2 event }
+{
+    let posted = bench.try_post(event);
+    assert_eq!(rt; posted, Ok(Receipt { place, reply }));
+}
+
+/// There are two entries, and both passes know of them once they met.
+fn knows_two<R: Wait + Abort>(rt: &R, bench: &mut Bench) {
     assert_eq!(rt; bench.count(), 2);
     bench.meet();
     assert!(rt; bench.first.known() == 2 && bench.second.known() == 2 && !bench.first.saw_close());
-    let reply = Reply::AlreadyReady;
-    assert_eq!(rt;
-        bench.post(&rt, Event::Arrive(1)),
-        Ok(Receipt { place: 2, reply })
-    );
-    bench.finish(&rt);
-    assert_eq!(rt; bench.post(&rt, Event::Tick(1)), Err(EndFault::Closed));
+}
+
+/// No pass posts any more, and the second one has seen the close.
+fn is_closed<R: Wait + Abort>(rt: &R, bench: &mut Bench) {
+    assert_eq!(rt; bench.post(rt, Event::Tick(1)), Err(EndFault::Closed));
     assert_eq!(rt; bench.try_post(Event::Tick(1)), Err(PostFault::Closed));
     assert!(rt;
         bench.second.saw_close() && bench.second.known() == 3 && bench.second.caller() == 1
     );
+}
+
+#[test]
+fn board_by_calls(rt: HostRuntime) -> Result<(), Fail> {
+    let mut bench = Bench::new(&rt, rt.alloc())?;
+    posts(&rt, &mut bench, Event::Arrive(0), 0, placed(&rt, &[0]));
+    tries(&rt, &mut bench, Event::Arrive(1), 1, placed(&rt, &[0, 1]));
+    knows_two(&rt, &mut bench);
+    posts(&rt, &mut bench, Event::Arrive(1), 2, Reply::AlreadyReady);
+    bench.finish(&rt);
+    is_closed(&rt, &mut bench);
     assert_eq!(rt; bench.flush(&rt), 0);
     assert_eq!(rt; bench.close(&rt, rt.alloc())?.history().len(), 3);
     Ok(())
@@ -177,15 +211,20 @@ fn received<R: Wait>(rt: &R, bench: &mut Bench) -> u32 {
     count
 }
 
+/// The first task arrives, and 300 ticks are posted.
+fn ticks<R: Wait + Abort>(rt: &R, bench: &mut Bench) {
+    assert!(rt; bench.post(rt, Event::Arrive(0)).is_ok());
+    for _ in 0..300 {
+        assert!(rt; bench.post(rt, Event::Tick(1)).is_ok());
+    }
+}
+
 // Processor 0 gets a Take and 300 Runs, and at the close a Release and a Stop, and processor 1 a Stop. A queue has room
 // for 256 orders: of 301 there are 45 left, and after the close 2 more.
 #[test]
 fn owed_orders_wait_for_room(rt: HostRuntime) -> Result<(), Fail> {
     let mut bench = Bench::new(&rt, rt.alloc())?;
-    assert!(rt; bench.post(&rt, Event::Arrive(0)).is_ok());
-    for _ in 0..300 {
-        assert!(rt; bench.post(&rt, Event::Tick(1)).is_ok());
-    }
+    ticks(&rt, &mut bench);
     assert_eq!(rt; bench.flush(&rt), 45);
     bench.finish(&rt);
     assert_eq!(rt; bench.flush(&rt), 47);
@@ -224,7 +263,29 @@ fn stands(history: &[Entry], event: Event, receipt: &Option<Receipt>) -> bool {
     }
 }
 
-/// Both passes post at once, each on a thread of its own.
+/// Two passes of a board post at once, each on a thread of its own.
+fn both_post<R: Threads + Wait + Sync>(
+    rt: &R,
+    board: &Board,
+    first: Pass,
+    one: Event,
+    second: Pass,
+    other: Event,
+) -> ((Pass, Option<Receipt>), (Pass, Option<Receipt>))
+    requires board { (first.board ≡ board.now.id) × (second.board ≡ board.now.id) }
+    requires one { IsOfTask (length board.now.set.tasks) one }
+    requires other { IsOfTask (length board.now.set.tasks) other }
+    ensures first { Grown first result.0.0 × (result.0.0.eyes ≡ first.eyes) }
+    ensures second { Grown second result.1.0 × (result.1.0.eyes ≡ second.eyes) }
+{
+    thread::join(
+        rt,
+        || post_with(rt, board, first, one),
+        || post_with(rt, board, second, other),
+    )
+}
+
+/// Both passes post at once.
 fn post_at_once<R: Threads + Wait + Sync>(
     rt: &R,
     bench: Bench,
@@ -240,11 +301,7 @@ fn post_at_once<R: Threads + Wait + Sync>(
         queues,
         receivers,
     } = bench;
-    let ((first, of_first), (second, of_second)) = thread::join(
-        rt,
-        || post_with(rt, &board, first, one),
-        || post_with(rt, &board, second, other),
-    );
+    let ((first, of_first), (second, of_second)) = both_post(rt, &board, first, one, second, other);
     let bench = Bench {
         board,
         first,
@@ -309,9 +366,7 @@ fn goes_on(rt: &impl Abort, core: &mut Core) -> Result<(), Fail> {
 /// A core that was moved to another thread and back goes on as one that stayed.
 #[test]
 fn cores_move_between_threads(rt: HostRuntime) -> Result<(), Fail> {
-    let mut set = TaskSet::new(rt.alloc(), 2)?;
-    set.add("a", 1, ProcSet::first(2))?;
-    set.add("b", 2, ProcSet::first(1))?;
+    let set = two_tasks(&rt, rt.alloc())?;
     let (one, other) = (Core::new(rt.alloc(), &set)?, Core::new(rt.alloc(), &set)?);
     assert!(rt; one.links().len() == 2 && other.links().len() == 2);
     let (mut one, mut other) = arrived_elsewhere(&rt, one, other);
@@ -412,25 +467,40 @@ fn all_stand(history: &[Entry], told: &[Told]) -> bool {
     true
 }
 
-#[test]
-fn eight_threads_post(rt: HostRuntime) -> Result<(), Fail> {
-    let mut set = TaskSet::new(rt.alloc(), 1)?;
+/// A set of eight tasks on one processor.
+fn eight_tasks(rt: &impl Abort, alloc: Global) -> Result<TaskSet, Fail>
+    ensures { IfOk result (λ set. (length set.tasks ≡ 8) × (set.processors ≡ 1)) }
+{
+    let mut set = TaskSet::new(alloc, 1)?;
     let mut priority = 0u32;
     for name in ["a", "b", "c", "d", "e", "f", "g", "h"] {
         priority = priority.saturating_add(1);
         set.add(name, priority, ProcSet::first(1))?;
     }
     assert!(rt; set.len() == THREADS && set.processors() == 1);
-    let (queue, sender, _receiver) = Queue::new(rt.alloc(), THREADS)?;
-    let mut queues = Vec::with_capacity(rt.alloc(), 1)?;
+    Ok(set)
+}
+
+/// A board of eight callers over that set, with their passes.
+fn eight_callers(rt: &impl Abort, alloc: Global) -> Result<(Board, Vec<Pass>), Fail>
+    ensures passes { IfOk result (λ made. AreAll made.0 made.1.items) }
+    ensures tasks { IfOk result (λ made. length made.0.set.tasks ≡ 8) }
+{
+    let set = eight_tasks(rt, alloc)?;
+    let (queue, sender, _receiver) = Queue::new(alloc, THREADS)?;
+    let mut queues = Vec::with_capacity(alloc, 1)?;
     queues.push_reserved(queue);
-    let mut senders = Vec::with_capacity(rt.alloc(), 1)?;
+    let mut senders = Vec::with_capacity(alloc, 1)?;
     senders.push_reserved(sender);
-    let Ok((board, mut passes)) = Board::new(rt.alloc(), &set, senders, queues.as_slice(), THREADS)
-    else {
-        assert!(rt; false);
-        unreachable!()
-    };
+    match Board::new(alloc, &set, senders, queues.as_slice(), THREADS) {
+        Ok(made) => Ok(made),
+        Err(_unmade) => Err(Fail::new("out of memory")),
+    }
+}
+
+#[test]
+fn eight_threads_post(rt: HostRuntime) -> Result<(), Fail> {
+    let (board, mut passes) = eight_callers(&rt, rt.alloc())?;
     let told = Mutex::new(Vec::new(rt.alloc()));
     post_shares(&rt, &board, &mut passes, &told);
     let Ok((core, _senders)) = board.close(passes) else {

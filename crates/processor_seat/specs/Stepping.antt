@@ -54,12 +54,13 @@ pub record HasMissed (old : ProcessorData) (task found : ℕ) (new : ProcessorDa
   pub missed : IsMissed order task found old.hand new.hand
   pub pending : new.pending ≡ Some order
 
--- no order was pending, and `next` gave none
+-- no order was pending, `next` gave none, and Stop was not received
 pub record FoundNone (old new : ProcessorData) : Type 0 where
   pub pending : old.pending ≡ None
   pub hand : new.hand ≡ old.hand
   pub pending_now : new.pending ≡ None
   pub none_came : Receives old.receiver None new.receiver
+  pub not_stopped : has_stop new.receiver.received ≡ false
 
 -- Stop was received, before or now
 pub record HasStopped (old new : ProcessorData) : Type 0 where
