@@ -36,14 +36,21 @@ struct Bench {
     ghost seated: { IsSeated queues.items slots first × IsSeated queues.items slots second },
 }
 
+/// Adds a task to the set.
+fn add(rt: &impl Abort, set: &mut TaskSet, name: &str, priority: u32, mask: ProcSet) {
+    let added = set.add(name, priority, mask).is_ok();
+    assert!(rt; added);
+}
+
 /// A task that may run on both processors, and a less urgent one that may run on the first alone.
 fn two_tasks(rt: &impl Abort, alloc: Global) -> Result<TaskSet, Fail>
     ensures { IfOk result (λ set. (length set.tasks ≡ 2) × (set.processors ≡ 2)) }
 {
     let mut set = TaskSet::new(alloc, 2)?;
-    set.add("a", 1, ProcSet::first(2))?;
-    set.add("b", 2, ProcSet::one(0))?;
-    assert!(rt; set.len() == 2 && set.processors() == 2);
+    add(rt, &mut set, "a", 1, ProcSet::first(2));
+    add(rt, &mut set, "b", 2, ProcSet::one(0));
+    assert!(rt; set.len() == 2);
+    assert!(rt; set.processors() == 2);
     Ok(set)
 }
 
@@ -197,10 +204,10 @@ fn list_of_two(
 ) -> Result<Vec<Processor>, OutOfMemory>
     ensures { IfOk result (λ two. two.items ≡ first ∷ second ∷ []) }
 {
-    let mut processors = Vec::with_capacity(alloc, 2)?;
-    processors.push_reserved(first);
-    processors.push_reserved(second);
-    Ok(processors)
+    match Vec::from_array(alloc, [first, second]) {
+        Ok(two) => Ok(two),
+        Err(_back) => Err(OutOfMemory),
+    }
 }
 
 impl Bench {
