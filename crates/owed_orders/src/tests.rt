@@ -97,6 +97,27 @@ fn seated(queues: &[Queue], slots: &Slots, number: u8, hand: Hand, receiver: Rec
     Processor::new(number, hand, receiver)
 }
 
+/// Slots and two processors that did nothing yet, with the receiving ends of the two queues.
+fn two_seats(
+    alloc: Global,
+    set: &TaskSet,
+    queues: &[Queue],
+    receivers: (Receiver, Receiver),
+) -> Result<(Slots, Processor, Processor), OutOfMemory>
+    requires processors { set.now.processors ≡ 2 }
+    requires ends { queues.now ≡ receivers.0.queue ∷ receivers.1.queue ∷ [] }
+    requires new { (receivers.0 ≡ new_receiver receivers.0.queue)
+        × (receivers.1 ≡ new_receiver receivers.1.queue) }
+    ensures slots { IfOk result (λ made. made.0.set ≡ set.now) }
+    ensures first { IfOk result (λ made. IsSeated queues.now made.0 made.1) }
+    ensures second { IfOk result (λ made. IsSeated queues.now made.0 made.2) }
+{
+    let (slots, hand_0, hand_1) = two_hands(alloc, set)?;
+    let first = seated(queues, &slots, 0, hand_0, receivers.0);
+    let second = seated(queues, &slots, 1, hand_1, receivers.1);
+    Ok((slots, first, second))
+}
+
 /// A board of one caller, with its pass.
 fn board_of(
     alloc: Global,
@@ -213,11 +234,27 @@ fn list_of_two(
 impl Bench {
     fn new(rt: &impl Abort, alloc: Global) -> Result<Bench, Fail> {
         let set = two_tasks(rt, alloc)?;
-        let (queues, senders, (receiver_0, receiver_1)) = two_queues(alloc)?;
-        let (slots, hand_0, hand_1) = two_hands(alloc, &set)?;
-        let first = seated(&queues, &slots, 0, hand_0, receiver_0);
-        let second = seated(&queues, &slots, 1, hand_1, receiver_1);
-        let (board, pass) = board_of(alloc, &set, senders, &queues)?;
+        let (queues, senders, receivers) = two_queues(alloc)?;
+        Bench::over(alloc, &set, queues, senders, receivers)
+    }
+
+    /// A bench with these queues and their ends.
+    fn over(
+        alloc: Global,
+        set: &TaskSet,
+        queues: Vec<Queue>,
+        senders: Vec<Sender>,
+        receivers: (Receiver, Receiver),
+    ) -> Result<Bench, Fail>
+        requires set { (length set.now.tasks ≡ 2) × (set.now.processors ≡ 2) }
+        requires senders { senders.items ≡ map new_sender queues.items }
+        requires ends { queues.items ≡ receivers.0.queue ∷ receivers.1.queue ∷ [] }
+        requires new { (receivers.0 ≡ new_receiver receivers.0.queue)
+            × (receivers.1 ≡ new_receiver receivers.1.queue) }
+        requires tasks { (receivers.0.queue.tasks ≡ 2) × (receivers.1.queue.tasks ≡ 2) }
+    {
+        let (board, pass) = board_of(alloc, set, senders, &queues)?;
+        let (slots, first, second) = two_seats(alloc, set, &queues, receivers)?;
         Ok(Bench {
             board,
             pass,
