@@ -54,6 +54,16 @@ fn two_tasks(rt: &impl Abort, alloc: Global) -> Result<TaskSet, Fail>
     Ok(set)
 }
 
+/// A list of two things.
+fn list_of_two<T: Drop>(alloc: Global, first: T, second: T) -> Result<Vec<T>, OutOfMemory>
+    ensures { IfOk result (λ two. two.items ≡ first ∷ second ∷ []) }
+{
+    let mut two = Vec::with_capacity(alloc, 2)?;
+    two.push_reserved(first);
+    two.push_reserved(second);
+    Ok(two)
+}
+
 /// Two queues for two tasks, and their ends.
 fn two_queues(alloc: Global) -> Result<(Vec<Queue>, Vec<Sender>, (Receiver, Receiver)), OutOfMemory>
     ensures senders { IfOk result (λ made. made.1.items ≡ map new_sender made.0.items) }
@@ -66,12 +76,8 @@ fn two_queues(alloc: Global) -> Result<(Vec<Queue>, Vec<Sender>, (Receiver, Rece
 {
     let (first, first_sender, first_receiver) = Queue::new(alloc, 2)?;
     let (second, second_sender, second_receiver) = Queue::new(alloc, 2)?;
-    let mut queues = Vec::with_capacity(alloc, 2)?;
-    queues.push_reserved(first);
-    queues.push_reserved(second);
-    let mut senders = Vec::with_capacity(alloc, 2)?;
-    senders.push_reserved(first_sender);
-    senders.push_reserved(second_sender);
+    let queues = list_of_two(alloc, first, second)?;
+    let senders = list_of_two(alloc, first_sender, second_sender)?;
     Ok((queues, senders, (first_receiver, second_receiver)))
 }
 
@@ -215,20 +221,6 @@ fn last_two(
         return Err(Fail::new("no two processors"));
     };
     Ok((first, second))
-}
-
-/// A list of two processors.
-fn list_of_two(
-    alloc: Global,
-    first: Processor,
-    second: Processor,
-) -> Result<Vec<Processor>, OutOfMemory>
-    ensures { IfOk result (λ two. two.items ≡ first ∷ second ∷ []) }
-{
-    match Vec::from_array(alloc, [first, second]) {
-        Ok(two) => Ok(two),
-        Err(_back) => Err(OutOfMemory),
-    }
 }
 
 impl Bench {
