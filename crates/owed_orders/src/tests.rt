@@ -85,7 +85,8 @@ fn two_queues(alloc: Global) -> Result<(Vec<Queue>, Vec<Sender>, (Receiver, Rece
 fn two_hands(alloc: Global, set: &TaskSet) -> Result<(Slots, Hand, Hand), OutOfMemory>
     requires { set.now.processors ≡ 2 }
     ensures slots { IfOk result (λ made. made.0.set ≡ set.now) }
-    ensures hands { IfOk result (λ made. (made.1 ≡ new_hand made.0.id 0) × (made.2 ≡ new_hand made.0.id 1)) }
+    ensures hands { IfOk result (λ made. (made.1 ≡ new_hand made.0.id 0)
+        × (made.2 ≡ new_hand made.0.id 1)) }
 {
     let (slots, mut hands) = Slots::new(alloc, set)?;
     let hand_1 = hands.pop().unwrap();
