@@ -1,5 +1,5 @@
 -- The bytes of a canonical list, as they are written and compared run by run.
-use Rattle.std.proofs.Common.{◌≡◌, ◌≢◌, ℕ, zero, suc, ◌+◌, ◌-◌, ◌*◌, ◌/◌, ◌%◌, ◌<◌, ◌≤◌, ◌^◌, ◌↔◌, inl, inr, Bool, true, false, nat_eq, IsTrue, Option, Some, None, Bor, List, [], ◌∷◌, ◌++◌, length, drop, take, get_or, refl, sym, ◌∙◌, ap, ap₂, subst, arith, ne_eqb, eq-eqb, eqb-true, append_assoc, append-nil, length-append, if◌then◌else◌}
+use Rattle.std.proofs.Common.{◌≡◌, ◌≢◌, ℕ, zero, suc, ◌+◌, ◌/◌, ◌%◌, ◌<◌, ◌≤◌, inl, inr, Bool, true, false, nat_eq, Option, Some, None, Bor, List, [], ◌∷◌, ◌++◌, length, take, refl, sym, ◌∙◌, ap, arith, ne_eqb, append_assoc, append-nil, length-append, if◌then◌else◌}
 use Rattle.std.proofs.lemmas.Bool.{cases_lt}
 use Rattle.std.proofs.lemmas.Fmt.{decimal_digit, decimal_step}
 use Rattle.std.proofs.lemmas.List.{take-take}
@@ -7,7 +7,7 @@ use Rattle.std.proofs.Math.Seq.{take-append_seam}
 use Rattle.affinity_mask.specs.Number.{canonical_number}
 use Rattle.affinity_mask.specs.ProcSet.{all_below, Within}
 use Rattle.affinity_mask.specs.ListText.{comma, dash, run_text, canonical_list}
-use Rattle.affinity_mask.specs.ListSteps.{list_below, end_text, IsNextRun, IsWhole, item_text, AfterFront}
+use Rattle.affinity_mask.specs.ListSteps.{list_below, end_text, IsNextRun, item_text, AfterFront}
 use Rattle.affinity_mask.proofs.Written.{list_below-all}
 
 -- ---- numbers below 100

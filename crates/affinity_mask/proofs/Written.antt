@@ -1,15 +1,14 @@
 -- The canonical list, written from processor 0 upward: its text up to each processor.
-use Rattle.std.proofs.Common.{◌≡◌, ◌≢◌, ℕ, zero, suc, ◌+◌, ◌<◌, ◌≤◌, inl, inr, Bool, true, false, not, ◌&&◌, nat_eq, nat_lt, List, [], ◌∷◌, ◌++◌, length, take, map, All, refl, sym, ◌∙◌, ap, ap₂, arith, ⊎_elim, ne_eqb, eq-eqb, append_assoc, append-nil, length-append, add-one, if◌then◌else◌}
+use Rattle.std.proofs.Common.{◌≡◌, ◌≢◌, ℕ, zero, suc, ◌<◌, ◌≤◌, inl, inr, true, false, nat_eq, List, [], ◌∷◌, ◌++◌, length, map, All, refl, sym, ◌∙◌, ap, ap₂, arith, ⊎_elim, ne_eqb, eq-eqb, append_assoc, append-nil, length-append, if◌then◌else◌}
 use Rattle.std.specs.List.{join_with_byte, zip}
-use Rattle.std.proofs.lemmas.Bool.{cases_Bool, cases_eq, cases_lt, le-ltb, lt-ltb, true≢false}
-use Rattle.std.proofs.lemmas.List.{map-append, take-take}
-use Rattle.std.proofs.Math.Seq.{take-append_seam}
+use Rattle.std.proofs.lemmas.Bool.{cases_Bool, cases_eq, cases_lt, true≢false}
+use Rattle.std.proofs.lemmas.List.{map-append}
 use Rattle.std.proofs.lemmas.List.Elements.{All-head, All-map, All-weaker}
 use Rattle.affinity_mask.specs.Number.{canonical_number}
-use Rattle.affinity_mask.specs.ProcSet.{has, empty, all_below, Within, IsLeastMember}
+use Rattle.affinity_mask.specs.ProcSet.{has, all_below, Within}
 use Rattle.affinity_mask.specs.ListText.{comma, dash, begins_run, ends_run, run_text, canonical_list}
 use Rattle.affinity_mask.specs.ListSteps.{end_text, list_below}
-use Rattle.affinity_mask.proofs.Sets.{has-all_below, has-zero}
+use Rattle.affinity_mask.proofs.Sets.{has-all_below}
 use Rattle.affinity_mask.proofs.Runs.{IsClosed, IsOpen, Ascends, skip, single, begin, finish, stay, found_none, zip_back, number_of, ends-suc}
 
 -- ---- joined texts

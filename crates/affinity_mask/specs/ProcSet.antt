@@ -1,6 +1,6 @@
 -- Sets of processors. A set of processors is a number, and p is in the set where the number has a one at place p. So
 -- each number is just one finite set, and two sets with the same members are equal.
-use Rattle.std.specs.Prelude.{ℕ, zero, suc, ◌-◌, ◌^◌, ◌≤◌, Bool, IsTrue, ◌==◌, bit_and, List, [], ◌∷◌, ◌++◌, if◌then◌else◌}
+use Rattle.std.specs.Prelude.{ℕ, zero, suc, ◌-◌, ◌^◌, ◌≤◌, Bool, IsTrue, ◌==◌, bit_and, bit_or, bit_xor, List, [], ◌∷◌, ◌++◌, if◌then◌else◌}
 use Rattle.std.specs.Int.{bit_at}
 
 -- whether p is in the set
@@ -18,6 +18,14 @@ all_below m = 2 ^ m - 1
 -- the members of both sets
 unfoldable pub intersection : ℕ → ℕ → ℕ
 intersection X Y = bit_and X Y
+
+-- the set and p, which may be in it already
+unfoldable pub with_member : ℕ → ℕ → ℕ
+with_member X p = bit_or X (2 ^ p)
+
+-- the set but for p, which need not be in it
+unfoldable pub without_member : ℕ → ℕ → ℕ
+without_member X p = bit_xor X (bit_and X (2 ^ p))
 
 -- each member of X is one of Y
 abbrev pub Within : ℕ → ℕ → Type 0

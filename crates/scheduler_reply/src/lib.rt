@@ -2,8 +2,8 @@
 //!
 //! A [`Reply`] says what the scheduler did, with the [`Chain`] of processors along which tasks were shifted or the set of
 //! processors that justifies it. Its parts are [`Came`], the result of an arrival, and [`Gone`], who came in at a
-//! processor that became idle. An [`Entry`] is an event with its caller and its reply. Here they are plain data: what
-//! makes a reply the right one is defined in link_table.
+//! processor that became idle; a task that had to leave its processor is in [`Moved`]. An [`Entry`] is an event with its caller and its reply. Here they are plain data: what
+//! makes a reply the right one is defined in link_state.
 #![tactic(auto)]
 
 pub mod chain;
@@ -12,4 +12,4 @@ pub mod reply;
 mod tests;
 
 pub use chain::Chain;
-pub use reply::{Came, Entry, Gone, Reply};
+pub use reply::{Came, Entry, Gone, Moved, Reply};

@@ -39,6 +39,28 @@ pub enum Reply {
     AlreadyReady,
     /// The task that departed was absent before, and nothing changed.
     NotReady,
+
+    /// The mask of an absent task was set.
+    Masked,
+
+    /// The mask of a ready task was set while the task was absent. `gone` says who came in at its processor, where it
+    /// left one; it had waited where that is missing. `came` says what its return came to.
+    Remasked {
+        gone: Option<Gone>,
+        came: Came,
+    },
+    /// The processor was off line before, and nothing changed.
+    AlreadyOff,
+    /// The processor was on line before, and nothing changed.
+    AlreadyOn,
+    /// The processor is off line. `moved` has the task that was on it, if there was one.
+    Off {
+        moved: Option<Moved>,
+    },
+    /// The processor is on line and became idle, and the parts say who came in.
+    On {
+        parts: Gone,
+    },
 }
 
 /// The result of an arrival.
@@ -74,6 +96,71 @@ pub struct Gone {
     pub back: ProcSet,
 }
 
+/// What a task came to that had to leave its processor.
+#[derive(Debug, Drop, PartialEq)]
+pub struct Moved {
+    pub task: u32,
+    pub came: Came,
+}
+
+impl Came {
+    ghost use Rattle.scheduler_reply.specs.Reply.{came_chain};
+
+    /// The processors along which the task was shifted. There are none where it waits.
+    pub fn chain(&self) -> &[u8]
+        ensures value { result.now ≡ came_chain self.now }
+        ensures each { All (λ p. p < 64) result.now }
+    {
+        match self {
+            Came::Placed { chain } => chain.processors(),
+            Came::Displaced { chain, .. } => chain.processors(),
+            Came::Waits { .. } => &[],
+        }
+    }
+
+    /// An equal result, for which no memory is taken.
+    pub fn copy(&self) -> Came
+        ensures { result ≡ self.now }
+    {
+        match self {
+            Came::Placed { chain } => Came::Placed {
+                chain: chain.copy(),
+            },
+            Came::Displaced { chain, out, reach } => Came::Displaced {
+                chain: chain.copy(),
+                out: *out,
+                reach: *reach,
+            },
+            Came::Waits { reach } => Came::Waits { reach: *reach },
+        }
+    }
+}
+
+impl Gone {
+    /// An equal value, for which no memory is taken.
+    pub fn copy(&self) -> Gone
+        ensures { result ≡ self.now }
+    {
+        Gone {
+            entered: self.entered,
+            chain: self.chain.copy(),
+            back: self.back,
+        }
+    }
+}
+
+impl Moved {
+    /// An equal value, for which no memory is taken.
+    pub fn copy(&self) -> Moved
+        ensures { result ≡ self.now }
+    {
+        Moved {
+            task: self.task,
+            came: self.came.copy(),
+        }
+    }
+}
+
 impl From<Came> for Reply {
     ghost use Rattle.scheduler_reply.specs.Reply.{reply_of_came};
 
@@ -103,22 +190,38 @@ impl From<Gone> for Reply {
 }
 
 impl Reply {
-    ghost use Rattle.scheduler_reply.specs.Reply.{came_of, gone_of, chain_of};
+    ghost use Rattle.scheduler_reply.specs.Reply.{came_of, gone_of, filling_chain, coming_chain};
 
-    /// The processors of its chain. There are none where it has no chain.
-    pub fn chain(&self) -> &[u8]
-        ensures value { result.now ≡ chain_of self.now }
+    /// The processors along which a processor was filled that became idle. There are none where none was.
+    pub fn filling_chain(&self) -> &[u8]
+        ensures value { result.now ≡ filling_chain self.now }
+        ensures each { All (λ p. p < 64) result.now }
+    {
+        match self {
+            Reply::Freed { chain, .. } => chain.processors(),
+            Reply::Remasked {
+                gone: Some(gone), ..
+            } => gone.chain.processors(),
+            Reply::On { parts } => parts.chain.processors(),
+            _ => &[],
+        }
+    }
+
+    /// The processors along which a task came that arrived, or arrived again. There are none where none did.
+    pub fn coming_chain(&self) -> &[u8]
+        ensures value { result.now ≡ coming_chain self.now }
         ensures each { All (λ p. p < 64) result.now }
     {
         match self {
             Reply::Placed { chain } => chain.processors(),
             Reply::Displaced { chain, .. } => chain.processors(),
-            Reply::Freed { chain, .. } => chain.processors(),
+            Reply::Remasked { came, .. } => came.chain(),
+            Reply::Off { moved: Some(moved) } => moved.came.chain(),
             _ => &[],
         }
     }
 
-    /// The result of an arrival, where the reply says that. No memory is taken.
+    /// The result of an arrival, where the reply is that alone. No memory is taken.
     pub fn came(&self) -> Option<Came>
         ensures { result ≡ came_of self.now }
     {
@@ -136,7 +239,7 @@ impl Reply {
         }
     }
 
-    /// Who came in at a processor that became idle, where the reply says that. No memory is taken.
+    /// Who came in at a processor that became idle, where the reply is that alone. No memory is taken.
     pub fn gone(&self) -> Option<Gone>
         ensures { result ≡ gone_of self.now }
     {
@@ -181,6 +284,19 @@ impl Reply {
             Reply::Ticked => Reply::Ticked,
             Reply::AlreadyReady => Reply::AlreadyReady,
             Reply::NotReady => Reply::NotReady,
+            Reply::Masked => Reply::Masked,
+            Reply::Remasked { gone, came } => Reply::Remasked {
+                gone: gone.as_ref().map(|gone| gone.copy()),
+                came: came.copy(),
+            },
+            Reply::AlreadyOff => Reply::AlreadyOff,
+            Reply::AlreadyOn => Reply::AlreadyOn,
+            Reply::Off { moved } => Reply::Off {
+                moved: moved.as_ref().map(|moved| moved.copy()),
+            },
+            Reply::On { parts } => Reply::On {
+                parts: parts.copy(),
+            },
         }
     }
 }
