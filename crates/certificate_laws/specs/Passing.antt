@@ -4,22 +4,22 @@
 -- passes where each reply does in the state to which the replies before it lead.
 use Rattle.std.specs.Prelude.{◌≡◌, ℕ, ◌<◌, ◌≤◌, ◌⊎◌, false, true, List, [], ◌∷◌, IsTrue, Option, Some, None}
 use Rattle.affinity_mask.specs.ProcSet.{has, Within}
-use Rattle.task_set.specs.TaskSet.{SetData}
-use Rattle.task_set.specs.Event.{IsOfTasks}
+use Rattle.task_set.specs.TaskSet.{SetData, IsMask}
 use Rattle.task_set.specs.declared.event.Event.{Event}
-use Rattle.task_set.specs.declared.event.Event.TheVariants.{Arrive, Depart, Tick}
+use Rattle.task_set.specs.declared.event.Event.TheVariants.{Arrive, Depart, Tick, Affinity, Offline, Online}
 use Rattle.scheduler_reply.specs.declared.reply.Came.{Came}
 use Rattle.scheduler_reply.specs.declared.reply.Came.TheVariants.{Placed, Displaced, Waits}
 use Rattle.scheduler_reply.specs.declared.reply.Gone.{Gone}
 use Rattle.scheduler_reply.specs.declared.reply.Reply.{Reply}
-use Rattle.scheduler_reply.specs.declared.reply.Reply.TheVariants.{Left, Ticked, AlreadyReady, NotReady}
+use Rattle.scheduler_reply.specs.declared.reply.Moved.{Moved}
+use Rattle.scheduler_reply.specs.declared.reply.Reply.TheVariants.{Left, Ticked, AlreadyReady, NotReady, Masked, Remasked, AlreadyOff, AlreadyOn, Off, On}
 use Rattle.scheduler_reply.specs.Reply.{reply_of_came, reply_of_gone}
 use Rattle.scheduler_reply.specs.declared.reply.Entry.{Entry}
-use Rattle.link_state.specs.State.{State, effective_mask, task_on, task_count, is_ready, priority_of, start_of, IsWaiting, IsMoreUrgent, state_after_leaving}
+use Rattle.link_state.specs.State.{State, effective_mask, task_on, task_count, is_ready, priority_of, start_of, IsIdle, IsWaiting, IsMoreUrgent, state_with_mask, state_with_online, state_with_offline, state_after_leaving}
 use Rattle.link_state.specs.Chain.{CanShift, IsSimple, EndsIdle, EndsOnTask, EntersBy}
 use Rattle.link_state.specs.Certificate.{IsCertificate}
 use Rattle.link_state.specs.Step.{IsNobodyInto, IsMostUrgentInto}
-use Rattle.link_state.specs.History.{effect_of}
+use Rattle.link_state.specs.History.{effect_of, state_after_left}
 
 -- t is placed: the chain ends on an idle processor
 pub record PlacedPasses (s : State) (t : ℕ) (chain : List ℕ) : Type 0 where
@@ -81,15 +81,53 @@ pub record LinkedPasses (s : State) (t : ℕ) (reply : Reply) : Type 0 where
 abbrev pub DeparturePasses : State → ℕ → Reply → Type 0
 DeparturePasses s t reply = ((is_ready s t ≡ false) × (reply ≡ NotReady)) ⊎ ((IsWaiting s t × (reply ≡ Left)) ⊎ LinkedPasses s t reply)
 
--- the task of the event, if it has one, is one of so many
-abbrev pub IsOfTask : ℕ → Event → Type 0
-IsOfTask count event = IsOfTasks count event
+-- t leaves: it had waited, or who comes in at its processor passes
+abbrev pub LeavingPasses : State → ℕ → Option Gone → Type 0
+LeavingPasses s t None = IsWaiting s t
+LeavingPasses s t (Some gone) = (place : ℕ) × (task_on s place ≡ Some t) × GonePasses (state_after_leaving s t) place gone
 
--- the reply to an event of one of the tasks passes; that to a tick is always the same
+-- t, which is ready, leaves, its mask changes while it is absent, and what it comes to passes
+pub record ReturnPasses (s : State) (t mask : ℕ) (reply : Reply) : Type 0 where
+  pub gone : Option Gone
+  pub came : Came
+  pub answer : reply ≡ Remasked gone came
+  pub leaves : LeavingPasses s t gone
+  pub passes : CamePasses (state_with_mask (state_after_left s t gone) t mask) t came
+
+-- the mask of t changes, and the reply passes
+abbrev pub AffinityPasses : State → ℕ → ℕ → Reply → Type 0
+AffinityPasses s t mask reply = ((is_ready s t ≡ false) × (reply ≡ Masked)) ⊎ ReturnPasses s t mask reply
+
+-- the task of p leaves, p goes off line while the task is absent, and what the task comes to passes
+pub record MovedPasses (s : State) (p : ℕ) (reply : Reply) : Type 0 where
+  pub moved : Moved
+  pub occupied : task_on s p ≡ Some moved.task
+  pub answer : reply ≡ Off (Some moved)
+  pub passes : CamePasses (state_with_offline (state_after_leaving s moved.task) p) moved.task moved.came
+
+-- p goes off line, and the reply passes
+abbrev pub OfflinePasses : State → ℕ → Reply → Type 0
+OfflinePasses s p reply = ((has s.online p ≡ false) × (reply ≡ AlreadyOff)) ⊎ ((IsIdle s p × (reply ≡ Off None)) ⊎ MovedPasses s p reply)
+
+-- p comes on line, and who comes in there passes
+pub record FilledPasses (s : State) (p : ℕ) (reply : Reply) : Type 0 where
+  pub off : has s.online p ≡ false
+  pub parts : Gone
+  pub answer : reply ≡ On parts
+  pub passes : GonePasses (state_with_online s p) p parts
+
+-- p comes on line, and the reply passes
+abbrev pub OnlinePasses : State → ℕ → Reply → Type 0
+OnlinePasses s p reply = ((has s.online p ≡ true) × (reply ≡ AlreadyOn)) ⊎ FilledPasses s p reply
+
+-- the reply to an event of one of the tasks or processors passes; that to a tick is always the same
 abbrev pub Passes : State → Event → Reply → Type 0
 Passes s (Arrive t) reply = (t < task_count s) × ArrivalPasses s t reply
 Passes s (Depart t) reply = (t < task_count s) × DeparturePasses s t reply
 Passes s (Tick units) reply = reply ≡ Ticked
+Passes s (Affinity t mask) reply = (t < task_count s) × IsMask s.processors mask × AffinityPasses s t mask reply
+Passes s (Offline p) reply = (p < s.processors) × OfflinePasses s p reply
+Passes s (Online p) reply = (p < s.processors) × OnlinePasses s p reply
 
 -- each reply passes in the state to which those before it lead
 abbrev pub IsPassingFrom : State → List Entry → Type 0

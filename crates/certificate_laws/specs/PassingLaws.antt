@@ -19,7 +19,7 @@ PassingKeepsCertificates = (s : State) (event : Event) (reply : Reply) → IsSta
 
 -- a reply that passes is justified by the state after it
 abbrev pub PassingHasJustification : Type 0
-PassingHasJustification = (s : State) (event : Event) (reply : Reply) → IsState s → HasCertificates s → Passes s event reply → HasJustification (state_after_reply s event reply) event reply
+PassingHasJustification = (s : State) (event : Event) (reply : Reply) → IsState s → HasCertificates s → Passes s event reply → HasJustification s (state_after_reply s event reply) event reply
 
 -- the reply of each step of the scheduler passes
 abbrev pub StepPasses : Type 0

@@ -1,4 +1,5 @@
 pub mod BestOnce
+pub mod Changes
 pub mod Contexts
 pub mod Ends
 pub mod Histories

@@ -5,22 +5,26 @@ use Rattle.std.proofs.lemmas.List.{get_or_past}
 use Rattle.std.proofs.lemmas.Option.{same_Some}
 use Rattle.affinity_mask.specs.ProcSet.{has}
 use Rattle.affinity_mask.proofs.Sets.{same_set}
+use Rattle.task_set.specs.TaskSet.{IsMask}
 use Rattle.task_set.specs.declared.event.Event.{Event}
-use Rattle.task_set.specs.declared.event.Event.TheVariants.{Arrive, Depart, Tick}
+use Rattle.task_set.specs.declared.event.Event.TheVariants.{Arrive, Depart, Tick, Affinity, Offline, Online}
 use Rattle.scheduler_reply.specs.declared.reply.Came.{Came}
 use Rattle.scheduler_reply.specs.declared.reply.Came.TheVariants.{Placed, Displaced, Waits}
 use Rattle.scheduler_reply.specs.declared.reply.Gone.{Gone}
 use Rattle.scheduler_reply.specs.declared.reply.Reply.{Reply}
+use Rattle.scheduler_reply.specs.declared.reply.Reply.TheVariants.{Remasked, Off, On}
 use Rattle.scheduler_reply.specs.Reply.{reply_of_came, reply_of_gone}
-use Rattle.link_state.specs.State.{State, IsState, IsWaiting, is_ready, task_count, priority_of, state_after_leaving}
+use Rattle.link_state.specs.State.{State, IsState, IsWaiting, is_ready, task_on, task_count, priority_of, state_with_mask, state_with_online, state_with_offline, state_after_leaving}
 use Rattle.link_state.specs.Chain.{IsReach, Reaches, ReachesBack, IsLeastSuch, EndsIdle, EndsOnTask, EntersBy}
-use Rattle.link_state.specs.Step.{IsOccupied, ComesPlaced, ComesDisplaced, ComesWaits, Comes, ArriveStep, Fills, DepartsLinked, DepartStep, EnterStep, SchedulerStep}
-use Rattle.link_state.specs.History.{state_after_reply}
+use Rattle.link_state.specs.Step.{IsOccupied, ComesPlaced, ComesDisplaced, ComesWaits, Comes, ArriveStep, Fills, DepartsLinked, DepartStep, EnterStep, LeaveStep, Remasks, AffinityStep, OffOccupied, OfflineStep, OnlineStep, SchedulerStep}
+use Rattle.link_state.specs.History.{state_after_reply, state_after_left}
 use Rattle.link_state.specs.Laws.{StepIsUnique}
+use Rattle.link_state.proofs.Changes.{IsState-state_with_online}
 use Rattle.link_state.proofs.Least.{least_unique}
 use Rattle.link_state.proofs.Leaving.{IsState-state_after_leaving}
 use Rattle.link_state.proofs.Linked.{linked_number, not_on}
-use Rattle.link_state.proofs.Steps.{reply_gives_new_state}
+use Rattle.link_state.proofs.Masks.{effective_mask_online}
+use Rattle.link_state.proofs.Steps.{reply_gives_new_state, leave_effect, has_left, IsState-remasked, IsState-moved}
 
 -- two sets of the numbers with one property are equal
 same_members : (X Y : ℕ) (P : ℕ → Type 0) → ((q : ℕ) → IsTrue (has X q) ↔ P q) → ((q : ℕ) → IsTrue (has Y q) ↔ P q) → X ≡ Y
@@ -138,10 +142,75 @@ module _ (s : State) (ok : IsState s) (t : ℕ) where
   depart_unique reply other new next (inr (inr linked)) (inr (inl waiting)) = absurd (linked_not_waiting reply new linked waiting.waits)
   depart_unique reply other new next (inr (inr linked)) (inr (inr linked')) = linked_once reply other new next linked linked'
 
+  -- ---- the mask of a task changes
+  -- a task that is on a processor did not wait
+  leave_once : (gone other : Option Gone) (new next : State) → LeaveStep s t gone new → LeaveStep s t other next → gone ≡ other
+  leave_once None None new next step step' = refl
+  leave_once None (Some gone') new next step step' = absurd (not_on s step'.0 t step.0.not_linked step'.1)
+  leave_once (Some gone) None new next step step' = absurd (not_on s step.0 t step'.0.not_linked step.1)
+  leave_once (Some gone) (Some gone') new next step step' =
+      let same_place : step'.0 ≡ step.0 = ok.once step'.0 step.0 t step'.1 step.1 in
+      let fills' = subst (λ (p : ℕ). Fills (state_after_leaving s t) p gone' next) same_place step'.2 in
+      ap (λ (g : Gone). Some g) (fills_once (state_after_leaving s t) (IsState-state_after_leaving s ok t) step.0 gone gone' new next step.2 fills')
+
+  left_ready : (gone : Option Gone) (new : State) → LeaveStep s t gone new → is_ready s t ≡ true
+  left_ready None new step = step.0.ready
+  left_ready (Some gone) new step = ok.linked_ready step.0 t step.1
+
+  remasks_once : (mask : ℕ) (reply other : Reply) (new next : State) → t < task_count s → IsMask s.processors mask → Remasks s t mask reply new → Remasks s t mask other next → reply ≡ other
+  remasks_once mask reply other new next number lawful step step' =
+      let same_gone = leave_once step.gone step'.gone step.between step'.between step.leaves step'.leaves in
+      let effect' = leave_effect s t step'.gone step'.between step'.leaves in
+      let same_between : step'.between ≡ step.between = effect' ∙ ap (state_after_left s t) (sym same_gone) ∙ sym (leave_effect s t step.gone step.between step.leaves) in
+      let comes' = subst (λ (x : State). Comes (state_with_mask x t mask) t step'.came next) same_between step'.comes in
+      let left = has_left s ok t mask step.gone step.between number lawful step.leaves in
+      let same_came = comes_once (state_with_mask step.between t mask) (IsState-remasked s t mask step.between left) t step.came step'.came new next step.comes comes' in
+      step.answer ∙ (λ i. Remasked (same_gone i) (same_came i)) ∙ sym step'.answer
+
+  affinity_unique : (mask : ℕ) (reply other : Reply) (new next : State) → t < task_count s → IsMask s.processors mask → AffinityStep s t mask reply new → AffinityStep s t mask other next → reply ≡ other
+  affinity_unique mask reply other new next number lawful (inl absent) (inl absent') = absent.answer ∙ sym absent'.answer
+  affinity_unique mask reply other new next number lawful (inl absent) (inr remasks) = absurd (true≢false (sym (left_ready remasks.gone remasks.between remasks.leaves) ∙ absent.absent))
+  affinity_unique mask reply other new next number lawful (inr remasks) (inl absent) = absurd (true≢false (sym (left_ready remasks.gone remasks.between remasks.leaves) ∙ absent.absent))
+  affinity_unique mask reply other new next number lawful (inr remasks) (inr remasks') = remasks_once mask reply other new next number lawful remasks remasks'
+
+-- ---- a processor goes off line or comes on line
+module _ (s : State) (ok : IsState s) (p : ℕ) where
+  -- the processor of a task is on line
+  occupied_online : (t : ℕ) → task_on s p ≡ Some t → has s.online p ≡ true
+  occupied_online t on = effective_mask_online s t p (ok.allowed p t on)
+
+  moved_once : (reply other : Reply) (new next : State) → OffOccupied s p reply new → OffOccupied s p other next → reply ≡ other
+  moved_once reply other new next step step' =
+      let t = step.moved.task in
+      let same_task : step'.moved.task ≡ t = same_Some step'.moved.task t (sym step'.occupied ∙ step.occupied) in
+      let comes' = subst (λ (u : ℕ). Comes (state_with_offline (state_after_leaving s u) p) u step'.moved.came next) same_task step'.comes in
+      let same_came = comes_once (state_with_offline (state_after_leaving s t) p) (IsState-moved s ok p t step.occupied) t step.moved.came step'.moved.came new next step.comes comes' in
+      step.answer ∙ (λ i. Off (Some (record { task = sym same_task i; came = same_came i }))) ∙ sym step'.answer
+
+  offline_unique : (reply other : Reply) (new next : State) → OfflineStep s p reply new → OfflineStep s p other next → reply ≡ other
+  offline_unique reply other new next (inl again) (inl again') = again.answer ∙ sym again'.answer
+  offline_unique reply other new next (inl again) (inr (inl idle)) = absurd (true≢false (sym idle.idle.0 ∙ again.off))
+  offline_unique reply other new next (inl again) (inr (inr occupied)) = absurd (true≢false (sym (occupied_online occupied.moved.task occupied.occupied) ∙ again.off))
+  offline_unique reply other new next (inr (inl idle)) (inl again) = absurd (true≢false (sym idle.idle.0 ∙ again.off))
+  offline_unique reply other new next (inr (inl idle)) (inr (inl idle')) = idle.answer ∙ sym idle'.answer
+  offline_unique reply other new next (inr (inl idle)) (inr (inr occupied)) = absurd (let nobody = idle.idle.1 in let on = occupied.occupied in cc)
+  offline_unique reply other new next (inr (inr occupied)) (inl again) = absurd (true≢false (sym (occupied_online occupied.moved.task occupied.occupied) ∙ again.off))
+  offline_unique reply other new next (inr (inr occupied)) (inr (inl idle)) = absurd (let nobody = idle.idle.1 in let on = occupied.occupied in cc)
+  offline_unique reply other new next (inr (inr occupied)) (inr (inr occupied')) = moved_once reply other new next occupied occupied'
+
+  online_unique : (reply other : Reply) (new next : State) → p < s.processors → OnlineStep s p reply new → OnlineStep s p other next → reply ≡ other
+  online_unique reply other new next number (inl again) (inl again') = again.answer ∙ sym again'.answer
+  online_unique reply other new next number (inl again) (inr fills) = absurd (true≢false (sym again.on ∙ fills.off))
+  online_unique reply other new next number (inr fills) (inl again) = absurd (true≢false (sym again.on ∙ fills.off))
+  online_unique reply other new next number (inr fills) (inr fills') = fills.answer ∙ ap (λ (g : Gone). On g) (fills_once (state_with_online s p) (IsState-state_with_online s p ok number) p fills.parts fills'.parts new next fills.fills fills'.fills) ∙ sym fills'.answer
+
 reply_unique : (s : State) (event : Event) (reply other : Reply) (new next : State) → IsState s → SchedulerStep s event reply new → SchedulerStep s event other next → reply ≡ other
 reply_unique s (Arrive t) reply other new next ok step step' = arrive_unique s ok t reply other new next step.1 step'.1
 reply_unique s (Depart t) reply other new next ok step step' = depart_unique s ok t reply other new next step.1 step'.1
 reply_unique s (Tick units) reply other new next ok step step' = step.0 ∙ sym step'.0
+reply_unique s (Affinity t mask) reply other new next ok step step' = affinity_unique s ok t mask reply other new next step.0 step.1 step.2 step'.2
+reply_unique s (Offline p) reply other new next ok step step' = offline_unique s ok p reply other new next step.1 step'.1
+reply_unique s (Online p) reply other new next ok step step' = online_unique s ok p reply other new next step.0 step.1 step'.1
 
 pub step_is_unique : StepIsUnique
 step_is_unique s event reply other new next ok step step' =

@@ -7,7 +7,7 @@ use Rattle.std.specs.List.{range_with_len, zip}
 use Rattle.task_set.specs.TaskSet.{SetData}
 use Rattle.task_set.specs.declared.context.Context.{Context}
 use Rattle.task_set.specs.declared.event.Event.{Event}
-use Rattle.task_set.specs.declared.event.Event.TheVariants.{Arrive, Depart, Tick}
+use Rattle.task_set.specs.declared.event.Event.TheVariants.{Tick}
 use Rattle.task_set.specs.declared.order.Order.{Order}
 use Rattle.task_set.specs.declared.order.Order.TheVariants.{Release, Take, Run, Stop}
 use Rattle.scheduler_reply.specs.declared.reply.Entry.{Entry}
@@ -51,8 +51,7 @@ change_orders takes old new = if is_same_occupant old new then [] else release_o
 abbrev pub tick_orders : Event → Option ℕ → List Order
 tick_orders (Tick units) (Some t) = Run units ∷ []
 tick_orders (Tick units) None = []
-tick_orders (Arrive t) occupant = []
-tick_orders (Depart t) occupant = []
+tick_orders event occupant = []
 
 -- the orders of p by a history from s, before which each task was taken so many times
 abbrev pub orders_from : State → (ℕ → ℕ) → List Entry → ℕ → List Order
@@ -73,8 +72,7 @@ closed_orders_of s history p = orders_of s history p ++ release_of (task_on (sta
 -- the runs of an event on these processors: a tick runs its units on each
 abbrev pub tick_runs : Event → List ℕ → List (ℕ × ℕ)
 tick_runs (Tick units) places = map (λ p. (p, units)) places
-tick_runs (Arrive t) places = []
-tick_runs (Depart t) places = []
+tick_runs event places = []
 
 -- the runs of t by a history from s: one pair of processor and units for each tick at which t is linked
 abbrev pub runs_of : State → List Entry → ℕ → List (ℕ × ℕ)

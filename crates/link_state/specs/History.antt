@@ -4,14 +4,14 @@
 use Rattle.std.specs.Prelude.{ℕ, ◌≤◌, List, [], ◌∷◌, reverse, take, length, Option, Some, None}
 use Rattle.task_set.specs.TaskSet.{SetData}
 use Rattle.task_set.specs.declared.event.Event.{Event}
-use Rattle.task_set.specs.declared.event.Event.TheVariants.{Arrive, Depart}
+use Rattle.task_set.specs.declared.event.Event.TheVariants.{Arrive, Depart, Affinity, Offline, Online}
 use Rattle.scheduler_reply.specs.declared.reply.Came.{Came}
 use Rattle.scheduler_reply.specs.declared.reply.Came.TheVariants as came
 use Rattle.scheduler_reply.specs.declared.reply.Gone.{Gone}
 use Rattle.scheduler_reply.specs.declared.reply.Reply.{Reply}
-use Rattle.scheduler_reply.specs.declared.reply.Reply.TheVariants.{Placed, Displaced, Waits, Freed, Left}
+use Rattle.scheduler_reply.specs.declared.reply.Reply.TheVariants.{Placed, Displaced, Waits, Freed, Left, Masked, Remasked, Off, On}
 use Rattle.scheduler_reply.specs.declared.reply.Entry.{Entry}
-use Rattle.link_state.specs.State.{State, start_of, is_ready, is_linked, state_with_ready, state_with_absent, state_after_leaving}
+use Rattle.link_state.specs.State.{State, start_of, is_ready, is_linked, state_with_ready, state_with_absent, state_with_mask, state_with_online, state_with_offline, state_after_leaving}
 use Rattle.link_state.specs.Chain.{state_after_shift}
 use Rattle.link_state.specs.Placement.{TaskTest, IsBest}
 use Rattle.link_state.specs.Step.{SchedulerStep}
@@ -31,6 +31,11 @@ state_after_came s t (came.Waits reach) = state_with_ready s t
 abbrev pub state_after_gone : State → Gone → State
 state_after_gone s gone = state_after_entering s gone.entered gone.chain
 
+-- the state after t, which was ready, left: it had waited, or somebody came in at its processor, or nobody
+abbrev pub state_after_left : State → ℕ → Option Gone → State
+state_after_left s t None = state_with_absent s t
+state_after_left s t (Some gone) = state_after_gone (state_after_leaving s t) gone
+
 -- the state after a reply to an event; a reply that is none to the event changes nothing
 abbrev pub state_after_reply : State → Event → Reply → State
 state_after_reply s (Arrive t) (Placed chain) = state_after_came s t (came.Placed chain)
@@ -38,6 +43,11 @@ state_after_reply s (Arrive t) (Displaced chain out reach) = state_after_came s 
 state_after_reply s (Arrive t) (Waits reach) = state_after_came s t (came.Waits reach)
 state_after_reply s (Depart t) (Freed entered chain back) = state_after_gone (state_after_leaving s t) (record { entered = entered; chain = chain; back = back })
 state_after_reply s (Depart t) Left = state_with_absent s t
+state_after_reply s (Affinity t mask) Masked = state_with_mask s t mask
+state_after_reply s (Affinity t mask) (Remasked gone came) = state_after_came (state_with_mask (state_after_left s t gone) t mask) t came
+state_after_reply s (Offline p) (Off None) = state_with_offline s p
+state_after_reply s (Offline p) (Off (Some moved)) = state_after_came (state_with_offline (state_after_leaving s moved.task) p) moved.task moved.came
+state_after_reply s (Online p) (On parts) = state_after_gone (state_with_online s p) parts
 state_after_reply s event reply = s
 
 -- the effect of an entry: the state after its reply

@@ -1,6 +1,7 @@
 -- What holds of every scheduler's step, whatever program takes it. Each law is proved as the contract of a function of
 -- `laws`.
 use Rattle.std.specs.Prelude.{◌≡◌, ℕ, ◌<◌, ◌≤◌, true, List, length}
+use Rattle.task_set.specs.Event.{IsOfVersion}
 use Rattle.task_set.specs.declared.event.Event.{Event}
 use Rattle.scheduler_reply.specs.declared.reply.Reply.{Reply}
 use Rattle.link_state.specs.State.{State, IsState, HasSameTasks, HasSameMasks, task_count}
@@ -21,9 +22,9 @@ ReplyGivesNewState = (s : State) (event : Event) (reply : Reply) (new : State) �
 abbrev pub ReplyKeepsTasks : Type 0
 ReplyKeepsTasks = (s : State) (event : Event) (reply : Reply) → HasSameTasks s (state_after_reply s event reply)
 
--- no reply changes the masks, nor which processors are on line
+-- of the first version of an input, no event changes the masks, nor which processors are on line
 abbrev pub ReplyKeepsMasks : Type 0
-ReplyKeepsMasks = (s : State) (event : Event) (reply : Reply) → HasSameMasks s (state_after_reply s event reply)
+ReplyKeepsMasks = (s : State) (event : Event) (reply : Reply) → IsOfVersion 1 event → HasSameMasks s (state_after_reply s event reply)
 
 -- a step leads from a state to a state: its links are a placement of ready tasks again
 abbrev pub StepKeepsState : Type 0

@@ -3,7 +3,7 @@
 -- number of the task, and the links by the number of the processor.
 use Rattle.std.specs.Prelude.{◌≡◌, ℕ, ◌<◌, ◌≤◌, Bool, true, false, List, length, get_or, replicate, set, map, IsTrue, Option, Some, None, ◌==◌, if◌then◌else◌}
 use Rattle.std.specs.List.{list_any}
-use Rattle.affinity_mask.specs.ProcSet.{has, empty, all_below, intersection, Within}
+use Rattle.affinity_mask.specs.ProcSet.{has, empty, all_below, intersection, with_member, without_member, Within}
 use Rattle.task_set.specs.TaskSet.{SetData, IsMask, priorities, masks}
 
 -- masks and `online` are sets of processors; `on` has the task linked to each processor, if there is one
@@ -23,7 +23,7 @@ task_count s = length s.priorities
 abbrev pub priority_of : State → ℕ → ℕ
 priority_of s t = get_or s.priorities t 0
 
--- the processors that a task may run on while all of them are on line
+-- the processors that a task may run on while all of them are on line; a mask may change
 abbrev pub mask_of : State → ℕ → ℕ
 mask_of s t = get_or s.masks t empty
 
@@ -104,6 +104,18 @@ state_with_ready s t = record s { ready = set s.ready t true }
 -- t is absent, and all else stays
 abbrev pub state_with_absent : State → ℕ → State
 state_with_absent s t = record s { ready = set s.ready t false }
+
+-- the mask of t is this one, and all else stays
+abbrev pub state_with_mask : State → ℕ → ℕ → State
+state_with_mask s t mask = record s { masks = set s.masks t mask }
+
+-- p is on line, and all else stays
+abbrev pub state_with_online : State → ℕ → State
+state_with_online s p = record s { online = with_member s.online p }
+
+-- p is off line, and all else stays
+abbrev pub state_with_offline : State → ℕ → State
+state_with_offline s p = record s { online = without_member s.online p }
 
 -- no task is linked to p, and all else stays
 abbrev pub state_with_idle : State → ℕ → State

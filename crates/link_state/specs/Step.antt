@@ -1,18 +1,23 @@
 -- What the scheduler does at an event. An arriving task is shifted along its least chain to
 -- an idle processor, else along its least chain to the least urgent task that it reaches where that one is less urgent,
 -- else it waits; when a task leaves a processor, the most urgent waiting task that can be shifted there comes in, along
--- its least back chain. The reply says which case it was: what an arrival came to, or who came in.
+-- its least back chain. A ready task whose mask changes leaves, and arrives again with the new mask; so does the task of
+-- a processor that goes off line; a processor that comes on line has become idle. The reply says which case it was: what
+-- an arrival came to, or who came in.
 use Rattle.std.specs.Prelude.{◌≡◌, ℕ, ◌<◌, ◌≤◌, ◌⊎◌, true, false, List, [], ◌∷◌, reverse, IsTrue, Option, Some, None}
 use Rattle.affinity_mask.specs.ProcSet.{has}
+use Rattle.task_set.specs.TaskSet.{IsMask}
+use Rattle.task_set.specs.Event.{IsOfSystem}
 use Rattle.task_set.specs.declared.event.Event.{Event}
-use Rattle.task_set.specs.declared.event.Event.TheVariants.{Arrive, Depart, Tick}
+use Rattle.task_set.specs.declared.event.Event.TheVariants.{Arrive, Depart, Tick, Affinity, Offline, Online}
 use Rattle.scheduler_reply.specs.declared.reply.Came.{Came}
 use Rattle.scheduler_reply.specs.declared.reply.Came.TheVariants.{Placed, Displaced, Waits}
 use Rattle.scheduler_reply.specs.declared.reply.Gone.{Gone}
 use Rattle.scheduler_reply.specs.declared.reply.Reply.{Reply}
-use Rattle.scheduler_reply.specs.declared.reply.Reply.TheVariants.{Left, Ticked, AlreadyReady, NotReady}
+use Rattle.scheduler_reply.specs.declared.reply.Moved.{Moved}
+use Rattle.scheduler_reply.specs.declared.reply.Reply.TheVariants.{Left, Ticked, AlreadyReady, NotReady, Masked, Remasked, AlreadyOff, AlreadyOn, Off, On}
 use Rattle.scheduler_reply.specs.Reply.{reply_of_came, reply_of_gone}
-use Rattle.link_state.specs.State.{State, task_on, task_count, is_ready, priority_of, IsWaiting, IsMoreUrgent, state_with_ready, state_with_absent, state_after_leaving}
+use Rattle.link_state.specs.State.{State, task_on, task_count, is_ready, priority_of, IsIdle, IsWaiting, IsMoreUrgent, state_with_ready, state_with_absent, state_with_mask, state_with_online, state_with_offline, state_after_leaving}
 use Rattle.link_state.specs.Chain.{IsReach, IsBackReach, IsLeastSuch, EndsIdle, EndsOnTask, EntersBy, CanEnterAt, Shifted}
 
 -- each processor of the set is occupied
@@ -121,8 +126,79 @@ pub record DepartsLinked (s : State) (t : ℕ) (reply : Reply) (new : State) : T
 abbrev pub DepartStep : State → ℕ → Reply → State → Type 0
 DepartStep s t reply new = DepartsAgain s t reply new ⊎ (DepartsWaiting s t reply new ⊎ DepartsLinked s t reply new)
 
--- the scheduler's step at an event of one of the tasks; a tick changes nothing
+-- t was absent, and its mask changes
+pub record MasksAbsent (s : State) (t mask : ℕ) (reply : Reply) (new : State) : Type 0 where
+  pub absent : is_ready s t ≡ false
+  pub answer : reply ≡ Masked
+  pub masked : new ≡ state_with_mask s t mask
+
+-- t, which is ready, becomes absent: it had waited, or it leaves a processor, which others fill
+abbrev pub LeaveStep : State → ℕ → Option Gone → State → Type 0
+LeaveStep s t None new = IsWaiting s t × (new ≡ state_with_absent s t)
+LeaveStep s t (Some gone) new = (place : ℕ) × (task_on s place ≡ Some t) × Fills (state_after_leaving s t) place gone new
+
+-- t was ready: it leaves, its mask changes while it is absent, and it comes back
+pub record Remasks (s : State) (t mask : ℕ) (reply : Reply) (new : State) : Type 0 where
+  pub gone : Option Gone
+  pub came : Came
+  pub answer : reply ≡ Remasked gone came
+  pub between : State
+  pub leaves : LeaveStep s t gone between
+  pub comes : Comes (state_with_mask between t mask) t came new
+
+-- the mask of t changes, with this reply
+abbrev pub AffinityStep : State → ℕ → ℕ → Reply → State → Type 0
+AffinityStep s t mask reply new = MasksAbsent s t mask reply new ⊎ Remasks s t mask reply new
+
+-- p was off line before, and nothing changes
+pub record OffAgain (s : State) (p : ℕ) (reply : Reply) (new : State) : Type 0 where
+  pub off : has s.online p ≡ false
+  pub answer : reply ≡ AlreadyOff
+  pub same : new ≡ s
+
+-- p was idle, and goes off line
+pub record OffIdle (s : State) (p : ℕ) (reply : Reply) (new : State) : Type 0 where
+  pub idle : IsIdle s p
+  pub answer : reply ≡ Off None
+  pub off : new ≡ state_with_offline s p
+
+-- p was occupied: its task leaves, p goes off line while the task is absent, and the task comes back
+pub record OffOccupied (s : State) (p : ℕ) (reply : Reply) (new : State) : Type 0 where
+  pub moved : Moved
+  pub occupied : task_on s p ≡ Some moved.task
+  pub answer : reply ≡ Off (Some moved)
+  pub comes : Comes (state_with_offline (state_after_leaving s moved.task) p) moved.task moved.came new
+
+-- p goes off line, with this reply
+abbrev pub OfflineStep : State → ℕ → Reply → State → Type 0
+OfflineStep s p reply new = OffAgain s p reply new ⊎ (OffIdle s p reply new ⊎ OffOccupied s p reply new)
+
+-- p was on line before, and nothing changes
+pub record OnAgain (s : State) (p : ℕ) (reply : Reply) (new : State) : Type 0 where
+  pub on : has s.online p ≡ true
+  pub answer : reply ≡ AlreadyOn
+  pub same : new ≡ s
+
+-- p was off line: it comes on line, and others fill it
+pub record OnFills (s : State) (p : ℕ) (reply : Reply) (new : State) : Type 0 where
+  pub off : has s.online p ≡ false
+  pub parts : Gone
+  pub answer : reply ≡ On parts
+  pub fills : Fills (state_with_online s p) p parts new
+
+-- p comes on line, with this reply
+abbrev pub OnlineStep : State → ℕ → Reply → State → Type 0
+OnlineStep s p reply new = OnAgain s p reply new ⊎ OnFills s p reply new
+
+-- the event is of the processors and the tasks of the state
+abbrev pub IsEventFor : State → Event → Type 0
+IsEventFor s event = IsOfSystem s.processors (task_count s) event
+
+-- the scheduler's step at an event of one of the tasks or processors; a tick changes nothing
 abbrev pub SchedulerStep : State → Event → Reply → State → Type 0
 SchedulerStep s (Arrive t) reply new = (t < task_count s) × ArriveStep s t reply new
 SchedulerStep s (Depart t) reply new = (t < task_count s) × DepartStep s t reply new
 SchedulerStep s (Tick units) reply new = (reply ≡ Ticked) × (new ≡ s)
+SchedulerStep s (Affinity t mask) reply new = (t < task_count s) × IsMask s.processors mask × AffinityStep s t mask reply new
+SchedulerStep s (Offline p) reply new = (p < s.processors) × OfflineStep s p reply new
+SchedulerStep s (Online p) reply new = (p < s.processors) × OnlineStep s p reply new

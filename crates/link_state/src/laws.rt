@@ -18,7 +18,7 @@ pub fn reply_keeps_tasks()
     ensures { ReplyKeepsTasks }
 {}
 
-/// No reply changes the masks, nor which processors are on line.
+/// No reply to an arrival, a departure or a tick changes the masks, nor which processors are on line.
 pub fn reply_keeps_masks()
     ensures { ReplyKeepsMasks }
 {}

@@ -201,6 +201,37 @@ impl Links {
         self.waiting.write(t, runs);
     }
 
+    /// Sets the mask of an absent task.
+    pub fn set_mask(&mut self, t: u32, mask: ProcSet)
+        requires number { t < task_count self.old }
+        requires absent { is_ready self.old t ≡ false }
+        requires mask { IsMask self.old.processors mask }
+        ensures mask { self.new ≡ state_with_mask self.old t mask }
+        ensures valid { IsState self.new }
+    {
+        self.places.set_mask(t, mask);
+    }
+
+    /// Whether a processor is on line.
+    pub fn is_online(&self, p: u8) -> bool
+        requires { p < self.now.processors }
+        ensures value { result ≡ has self.now.online p }
+        ensures valid { IsState self.now }
+    {
+        self.places.online().has(p)
+    }
+
+    /// Puts a processor to which nobody is linked on line, or takes it off line.
+    pub fn set_online(&mut self, p: u8, on: bool)
+        requires processor { p < self.old.processors }
+        requires nobody { task_on self.old p ≡ None }
+        ensures online { self.new ≡ (if on then state_with_online self.old p else state_with_offline self.old p) }
+        ensures valid { IsState self.new }
+    {
+        self.places.set_online(p, on);
+        self.rewrite_waiting();
+    }
+
     /// Shifts a waiting task along one of its chains, and answers the task that this displaces, which waits then.
     pub fn shift(&mut self, t: u32, chain: &Chain) -> Option<u32>
         requires number { t < task_count self.old }
