@@ -68,7 +68,8 @@ outside_below m X (suc n) = elim (outside_below m X n) [
   ]
 ]
 
-mask_decided : (m X : ℕ) → IsMask m X ⊎ ((X ≡ empty) ⊎ ((p : ℕ) × IsLeastOutside m X p))
+-- a set of processors is a mask on m processors, or it is empty, or it has a least number outside
+pub mask_decided : (m X : ℕ) → IsMask m X ⊎ ((X ≡ empty) ⊎ ((p : ℕ) × IsLeastOutside m X p))
 mask_decided m X = elim (cases_eq X empty) [
   | inl none ↦ inr (inl none)
   | inr some ↦ elim (outside_below m X X) [

@@ -9,7 +9,7 @@ use Rattle.affinity_mask.specs.ListText.{canonical_list}
 use Rattle.task_set.specs.TaskSet.{TaskData, SetData, priorities, masks}
 use Rattle.task_set.specs.Refusal.{new_task, IsNameOf}
 use Rattle.task_set.specs.declared.event.Event.{Event}
-use Rattle.task_set.specs.declared.event.Event.TheVariants.{Arrive, Depart, Tick}
+use Rattle.task_set.specs.declared.event.Event.TheVariants.{Arrive, Depart, Tick, Affinity, Offline, Online}
 use Rattle.text_fields.specs.LineText.{task_line}
 use Rattle.text_fields.specs.EventText.{name_of, event_text}
 use Rattle.text_fields.proofs.NamedTasks.{no_task, named_task, name_at}
@@ -82,3 +82,25 @@ pub tick_written : (set : SetData) (event : Event) (units : ℕ) (t0 t1 t2 : Lis
     → t1 ≡ t0 ++ codes "tick " → t2 ≡ t1 ++ canonical_number units → t2 ≡ t0 ++ event_text set event
 unfolding event_text
 tick_written set event units t0 t1 t2 is e1 e2 = rw is (worded (codes "tick ") (canonical_number units) t0 t1 t2 e1 e2)
+
+-- a word, a piece, a space, and another piece
+worded_twice : (word piece other t0 t1 t2 t3 t4 : List ℕ) → t1 ≡ t0 ++ word → t2 ≡ t1 ++ piece → t3 ≡ t2 ++ 32 ∷ []
+    → t4 ≡ t3 ++ other → t4 ≡ t0 ++ (word ++ piece ++ codes " " ++ other)
+worded_twice word piece other t0 t1 t2 t3 t4 e1 e2 e3 e4 = rw (e4, e3, e2, e1) (simp append_assoc)
+
+pub affinity_written : (set : SetData) (event : Event) (t mask : ℕ) (t0 t1 t2 t3 t4 : List ℕ)
+    → event ≡ Affinity t mask → t1 ≡ t0 ++ codes "affinity " → t2 ≡ t1 ++ name_of set t → t3 ≡ t2 ++ 32 ∷ []
+    → t4 ≡ t3 ++ canonical_list mask → t4 ≡ t0 ++ event_text set event
+unfolding event_text
+affinity_written set event t mask t0 t1 t2 t3 t4 is e1 e2 e3 e4 =
+    rw is (worded_twice (codes "affinity ") (name_of set t) (canonical_list mask) t0 t1 t2 t3 t4 e1 e2 e3 e4)
+
+pub offline_written : (set : SetData) (event : Event) (p : ℕ) (t0 t1 t2 : List ℕ) → event ≡ Offline p
+    → t1 ≡ t0 ++ codes "offline " → t2 ≡ t1 ++ canonical_number p → t2 ≡ t0 ++ event_text set event
+unfolding event_text
+offline_written set event p t0 t1 t2 is e1 e2 = rw is (worded (codes "offline ") (canonical_number p) t0 t1 t2 e1 e2)
+
+pub online_written : (set : SetData) (event : Event) (p : ℕ) (t0 t1 t2 : List ℕ) → event ≡ Online p
+    → t1 ≡ t0 ++ codes "online " → t2 ≡ t1 ++ canonical_number p → t2 ≡ t0 ++ event_text set event
+unfolding event_text
+online_written set event p t0 t1 t2 is e1 e2 = rw is (worded (codes "online ") (canonical_number p) t0 t1 t2 e1 e2)

@@ -1,7 +1,10 @@
-//! The version and the limits of both formats. Specifications name these numbers themselves.
+//! The versions and the limits of both formats. Specifications name these numbers themselves.
 
-/// The version of both formats.
-pub const VERSION: u64 = 1;
+/// The version of both formats in which masks stay and all processors are on line.
+pub const FIRST_VERSION: u8 = 1;
+
+/// The version of both formats in which masks change, and processors go off line and come back.
+pub const LAST_VERSION: u8 = 2;
 
 /// The greatest number of processors.
 pub const MAX_PROCESSORS: u64 = 64;

@@ -1,6 +1,6 @@
 //! The common pieces of both texts, spelled out by hand.
 
-ghost use Rattle.std.specs.Prelude.{◌≤◌, length, IfOk};
+ghost use Rattle.std.specs.Prelude.{◌≡◌, ◌≤◌, length, IfOk};
 
 use crate::{
     is_word, read_number, task_of, write_event_text, write_number, write_processors_line,
@@ -46,7 +46,8 @@ const NAMES: [(&[u8], Option<u32>); 6] = [
 
 /// Two tasks on four processors.
 fn two_tasks(alloc: Global) -> Result<TaskSet, Fail>
-    ensures { IfOk result (λ set. 2 ≤ length set.tasks) }
+    ensures tasks { IfOk result (λ set. 2 ≤ length set.tasks) }
+    ensures processors { IfOk result (λ set. set.processors ≡ 4) }
 {
     let mut set = TaskSet::new(alloc, 4)?;
     set.add("irq", 4294967295, ProcSet::one(3))?;
@@ -114,5 +115,26 @@ fn events_as_text(rt: HostRuntime) -> Result<(), Fail> {
     write_event_text(&mut text, &set, Event::Tick(1000000))?;
     let want = "arrive _b.0-Z,depart irq,tick 1000000";
     assert_eq!(rt; str::from_utf8(&text), Ok(want));
+    Ok(())
+}
+
+#[test]
+fn events_of_processors_as_text(rt: HostRuntime) -> Result<(), Fail> {
+    let set = two_tasks(rt.alloc())?;
+    let mut text = Vec::new(rt.alloc());
+    write_event_text(&mut text, &set, Event::Offline(0))?;
+    text.push(b',')?;
+    write_event_text(&mut text, &set, Event::Online(3))?;
+    assert_eq!(rt; str::from_utf8(&text), Ok("offline 0,online 3"));
+    Ok(())
+}
+
+#[test]
+fn an_affinity_event_as_text(rt: HostRuntime) -> Result<(), Fail> {
+    let set = two_tasks(rt.alloc())?;
+    let mut text = Vec::new(rt.alloc());
+    let mask = ProcSet::first(4).without(1);
+    write_event_text(&mut text, &set, Event::Affinity { task: 0, mask })?;
+    assert_eq!(rt; str::from_utf8(&text), Ok("affinity irq 0,2-3"));
     Ok(())
 }

@@ -1,6 +1,5 @@
-use Rattle.std.proofs.Common.{arith, ◌+◌, ◌*◌, ◌-◌, ◌≡◌, ◌<◌, take, get_or}
+use Rattle.std.proofs.Common.{arith, ◌+◌}
 use Rattle.std.proofs.lemmas.Str.Parse.{digits_value-take-le}
-use Rattle.affinity_mask.specs.Number.{number_value}
 use Rattle.affinity_mask.proofs.Numbers.{digit-range, value-more}
 use Rattle.text_fields.proofs.number.value_up_to.Goals as goal
 
