@@ -4,7 +4,7 @@ use Rattle.std.specs.Prelude.{option_to_list}
 use Rattle.std.specs.List.{range_with_len, flat_map}
 use Rattle.std.proofs.lemmas.List.Elements.{All-nil, filter-append}
 use Rattle.task_set.specs.declared.event.Event.{Event}
-use Rattle.task_set.specs.declared.event.Event.TheVariants.{Arrive, Depart, Tick}
+use Rattle.task_set.specs.declared.event.Event.TheVariants.{Tick}
 use Rattle.task_set.specs.Orders.{Stint, stints_in}
 use Rattle.task_set.specs.Context.{carried_context, context_after_stint, fresh_context, stints_of_task}
 use Rattle.task_set.proofs.Stints.{stints_from-append}
@@ -32,11 +32,9 @@ module _ (start : State) (idle : (q : ℕ) → task_on start q ≡ None) (t : �
   followed-entry : (history : List Entry) (entry : Entry) (event : Event) → entry.event ≡ event → IsState (state_after start history) → (state_after start history).processors ≡ start.processors
       → SchedulerStep (state_after start history) event entry.reply (next_state start history entry) → IsState (next_state start history entry)
       → IsFollowed start history t → IsFollowed start (history ++ entry ∷ []) t
-  followed-entry history entry (Arrive u) is ok same step ok' =
-      followed-change start idle history t entry (record { orders = λ occupant. rw is refl; runs = λ places. rw is refl }) ok ok' same (same_tasks-effect (state_after start history) entry).processors
-  followed-entry history entry (Depart u) is ok same step ok' =
-      followed-change start idle history t entry (record { orders = λ occupant. rw is refl; runs = λ places. rw is refl }) ok ok' same (same_tasks-effect (state_after start history) entry).processors
   followed-entry history entry (Tick units) is ok same step ok' = followed-tick start idle history t entry units is step.1 ok
+  followed-entry history entry event is ok same step ok' =
+      followed-change start idle history t entry (record { orders = λ occupant. rw is refl; runs = λ places. rw is refl }) ok ok' same (same_tasks-effect (state_after start history) entry).processors
 
   -- ---- a whole history
   followed-history : (history rest : List Entry) → IsState (state_after start history) → (state_after start history).processors ≡ start.processors → IsLegalFrom (state_after start history) rest

@@ -3,7 +3,7 @@ use Rattle.std.proofs.Common.{◌≡◌, ℕ, ◌+◌, ◌*◌, ◌≤◌, List,
 use Rattle.std.proofs.lemmas.Bool.{cases_eq}
 use Rattle.std.proofs.lemmas.List.{length-append}
 use Rattle.task_set.specs.declared.event.Event.{Event}
-use Rattle.task_set.specs.declared.event.Event.TheVariants.{Arrive, Depart, Tick}
+use Rattle.task_set.specs.declared.event.Event.TheVariants.{Tick}
 use Rattle.scheduler_reply.specs.declared.reply.Entry.{Entry}
 use Rattle.link_state.specs.State.{State, start_of, task_on}
 use Rattle.link_state.specs.Step.{SchedulerStep}
@@ -27,9 +27,8 @@ length-tick units None = omega arith
 length-tick units (Some a) = omega arith
 
 length-event : (takes : ℕ → ℕ) (event : Event) (old new : Option ℕ) → ((units : ℕ) → event ≡ Tick units → new ≡ old) → length (event_orders takes event old new) ≤ 2
-length-event takes (Arrive t) old new stays = rw (append-nil (change_orders takes old new)) (length-change takes old new)
-length-event takes (Depart t) old new stays = rw (append-nil (change_orders takes old new)) (length-change takes old new)
 length-event takes (Tick units) old new stays = rw (event_orders-tick takes units old new (stays units refl)) (length-tick units old)
+length-event takes event old new stays = rw (append-nil (change_orders takes old new)) (length-change takes old new)
 
 -- a step gives a processor at most two orders
 pub length-entry_orders : (s : State) (takes : ℕ → ℕ) (entry : Entry) (p : ℕ) → SchedulerStep s entry.event entry.reply (effect_of s entry) → length (entry_orders s takes entry p) ≤ 2

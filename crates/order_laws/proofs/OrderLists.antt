@@ -4,7 +4,7 @@ use Rattle.std.proofs.lemmas.Bool.{cases_eq}
 use Rattle.std.proofs.lemmas.List.Sums.{fold-append}
 use Rattle.task_set.specs.Orders.{held_after, IsObeyableFrom}
 use Rattle.task_set.specs.declared.event.Event.{Event}
-use Rattle.task_set.specs.declared.event.Event.TheVariants.{Arrive, Depart, Tick}
+use Rattle.task_set.specs.declared.event.Event.TheVariants.{Tick}
 use Rattle.task_set.specs.declared.order.Order.{Order}
 use Rattle.task_set.specs.declared.order.Order.TheVariants.{Stop}
 use Rattle.scheduler_reply.specs.declared.reply.Reply.{Reply}
@@ -53,8 +53,7 @@ tick_then units (Some a) rest h = (tt, tt, h)
 held-tick : (event : Event) (occupant held : Option ℕ) → fold held_after held (tick_orders event occupant) ≡ held
 held-tick (Tick units) None held = refl
 held-tick (Tick units) (Some a) held = refl
-held-tick (Arrive t) occupant held = refl
-held-tick (Depart t) occupant held = refl
+held-tick event occupant held = refl
 
 -- the orders of an event by which the occupant changes
 abbrev pub event_orders : (ℕ → ℕ) → Event → Option ℕ → Option ℕ → List Order
@@ -66,10 +65,9 @@ event_orders-tick takes units old new e =
     ap (λ (o : Option ℕ). event_orders takes (Tick units) old o) e ∙ ap (λ (orders : List Order). orders ++ tick_orders (Tick units) old) (change_orders-same takes old)
 
 event_then : (takes : ℕ → ℕ) (event : Event) (old new : Option ℕ) (rest : List Order) → ((units : ℕ) → event ≡ Tick units → new ≡ old) → IsObeyableFrom new rest → IsObeyableFrom old (event_orders takes event old new ++ rest)
-event_then takes (Arrive t) old new rest stays h = rw (append-nil (change_orders takes old new)) (change_then takes old new rest h)
-event_then takes (Depart t) old new rest stays h = rw (append-nil (change_orders takes old new)) (change_then takes old new rest h)
 event_then takes (Tick units) old new rest stays h =
     rw (event_orders-tick takes units old new (stays units refl)) (tick_then units old rest (subst (λ (o : Option ℕ). IsObeyableFrom o rest) (stays units refl) h))
+event_then takes event old new rest stays h = rw (append-nil (change_orders takes old new)) (change_then takes old new rest h)
 
 held-event : (takes : ℕ → ℕ) (event : Event) (old new : Option ℕ) → fold held_after old (event_orders takes event old new) ≡ new
 held-event takes event old new =

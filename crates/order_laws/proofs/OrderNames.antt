@@ -7,7 +7,7 @@ use Rattle.std.proofs.lemmas.List.{length-map}
 use Rattle.std.proofs.lemmas.List.Elements.{All-nil, All-cons, All-append}
 use Rattle.task_set.specs.TaskSet.{TaskData}
 use Rattle.task_set.specs.declared.event.Event.{Event}
-use Rattle.task_set.specs.declared.event.Event.TheVariants.{Arrive, Depart, Tick}
+use Rattle.task_set.specs.declared.event.Event.TheVariants.{Tick}
 use Rattle.task_set.specs.declared.order.Order.{Order}
 use Rattle.task_set.specs.declared.order.Order.TheVariants.{Release, Take, Run, Stop}
 use Rattle.scheduler_reply.specs.declared.reply.Entry.{Entry}
@@ -36,10 +36,9 @@ module _ (P : Order → Type 0) where
   ]
 
   all-tick : (event : Event) (o : Option ℕ) → ((units : ℕ) → P (Run units)) → All P (tick_orders event o)
-  all-tick (Arrive t) o runs = All-nil P
-  all-tick (Depart t) o runs = All-nil P
   all-tick (Tick units) None runs = All-nil P
   all-tick (Tick units) (Some a) runs = All-cons P (Run units) [] (runs units) (All-nil P)
+  all-tick event o runs = All-nil P
 
   pub all-event : (takes : ℕ → ℕ) (event : Event) (old new : Option ℕ) → ((a : ℕ) → old ≡ Some a → P (Release a)) → ((b : ℕ) → new ≡ Some b → P (Take b (takes b))) → ((units : ℕ) → P (Run units)) → All P (event_orders takes event old new)
   all-event takes event old new released taken runs = All-append P (change_orders takes old new) (tick_orders event old) (all-change takes old new released taken) (all-tick event old runs)

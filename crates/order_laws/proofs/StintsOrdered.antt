@@ -4,7 +4,7 @@ use Rattle.std.specs.Prelude.{option_to_list}
 use Rattle.std.specs.Option.{option_map}
 use Rattle.std.proofs.lemmas.List.Sums.{fold-append}
 use Rattle.task_set.specs.declared.event.Event.{Event}
-use Rattle.task_set.specs.declared.event.Event.TheVariants.{Arrive, Depart, Tick}
+use Rattle.task_set.specs.declared.event.Event.TheVariants.{Tick}
 use Rattle.task_set.specs.declared.order.Order.{Order}
 use Rattle.task_set.specs.declared.order.Order.TheVariants.{Release, Take}
 use Rattle.task_set.specs.Orders.{held_after, Stint, stint_after, stints_from, stints_in, stint_under_way}
@@ -120,8 +120,7 @@ module _ (p t : ℕ) (takes : ℕ → ℕ) (under_way : Option Stint) (old new :
 pub ended-tick : (p : ℕ) (under_way : Option Stint) (event : Event) (occupant : Option ℕ) → stints_from p under_way (tick_orders event occupant) ≡ []
 ended-tick p under_way (Tick units) None = refl
 ended-tick p under_way (Tick units) (Some t) = refl
-ended-tick p under_way (Arrive t) occupant = refl
-ended-tick p under_way (Depart t) occupant = refl
+ended-tick p under_way event occupant = refl
 
 -- the orders after the close end the stint that is under way
 pub ended-close : (p : ℕ) (under_way : Option Stint) (occupant : Option ℕ) → task_of under_way ≡ occupant → stints_from p under_way (close_orders occupant) ≡ option_to_list under_way
