@@ -3,3 +3,4 @@ pub mod Fields
 pub mod LineEnd
 pub mod LineText
 pub mod Number
+pub mod Version
