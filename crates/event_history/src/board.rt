@@ -1,6 +1,6 @@
 //! The board that the callers share, and the calls that they make with their passes.
 ghost use Rattle.std.specs.Prelude.{◌≡◌, ◌≤◌, length, map, true, IfOk, IfErr, MatchResult};
-ghost use Rattle.certificate_laws.specs.Passing.{IsOfTask};
+ghost use Rattle.task_set.specs.Event.{IsOfSystem};
 ghost use Rattle.order_queues.specs.Ends.{new_eye, new_sender};
 ghost use Rattle.event_history.specs.Boards.{AreNew, AreAll, AreEyesOf, AreFor, Grown, IsMade};
 ghost use Rattle.event_history.specs.Holdings.{queues_of};
@@ -112,7 +112,7 @@ impl Board {
     /// anything changes.
     pub fn try_post(&self, pass: &mut Pass, event: Event) -> Result<Receipt, PostFault>
         requires board { pass.old.board ≡ self.now.id }
-        requires of_task { IsOfTask (length self.now.set.tasks) event }
+        requires of_task { IsOfSystem self.now.set.processors (length self.now.set.tasks) event }
         ensures grown { Grown pass.old pass.new }
         ensures eyes { pass.new.eyes ≡ pass.old.eyes }
         ensures posted { IfOk result
@@ -144,7 +144,7 @@ impl Board {
     /// Posts an event, by as many tries as it takes to find the turn free.
     pub fn post<R: Wait>(&self, rt: &R, pass: &mut Pass, event: Event) -> Result<Receipt, EndFault>
         requires board { pass.old.board ≡ self.now.id }
-        requires of_task { IsOfTask (length self.now.set.tasks) event }
+        requires of_task { IsOfSystem self.now.set.processors (length self.now.set.tasks) event }
         ensures grown { Grown pass.old pass.new }
         ensures eyes { pass.new.eyes ≡ pass.old.eyes }
         ensures posted { IfOk result

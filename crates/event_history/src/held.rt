@@ -1,6 +1,6 @@
 //! What a turn gives: the core and the senders.
 ghost use Rattle.std.specs.Prelude.{◌≡◌, IfOk, IfErr, length, map, true, slice_get, Some};
-ghost use Rattle.certificate_laws.specs.Passing.{IsOfTask};
+ghost use Rattle.link_state.specs.Step.{IsEventFor};
 ghost use Rattle.link_state.specs.State.{task_count, start_of};
 ghost use Rattle.order_queues.specs.Ends.{EyeData};
 ghost use Rattle.sched_core.specs.CoreData.{IsCore, core_orders};
@@ -65,7 +65,7 @@ impl Held {
 
     /// One entry more in the core, with a copy of its reply.
     pub fn enter(&mut self, caller: u32, event: Event) -> Result<Receipt, CoreFault>
-        requires { IsOfTask (task_count self.old.core.start) event }
+        requires { IsEventFor self.old.core.start event }
         ensures senders { self.new.senders ≡ self.old.senders }
         ensures entered { IfOk result (Entered self.old.core caller event self.new.core) }
         ensures refused { IfErr result (IsNoEntry self.old.core self.new.core) }
@@ -107,7 +107,7 @@ impl Held {
 
 /// One entry more in the core, with a copy of its reply.
 fn enter(core: &mut Core, caller: u32, event: Event) -> Result<Receipt, CoreFault>
-    requires { IsOfTask (task_count core.old.start) event }
+    requires { IsEventFor core.old.start event }
     ensures entered { IfOk result (Entered core.old caller event core.new) }
     ensures refused { IfErr result (IsNoEntry core.old core.new) }
 {

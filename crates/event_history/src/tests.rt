@@ -1,7 +1,7 @@
 //! What no clause says: that calls succeed with ample memory, what they answer on runs followed by hand, and that they
 //! may be made from several threads at once.
 ghost use Rattle.std.specs.Prelude.{◌≡◌, ◌∷◌, [], IfOk, length, map};
-ghost use Rattle.certificate_laws.specs.Passing.{IsOfTask};
+ghost use Rattle.task_set.specs.Event.{IsOfSystem};
 ghost use Rattle.link_state.specs.State.{task_count};
 ghost use Rattle.order_queues.specs.Ends.{new_sender};
 ghost use Rattle.event_history.specs.Boards.{AreAll, Grown};
@@ -85,14 +85,14 @@ impl Bench {
 
     /// Posts an event with the first pass.
     fn post<R: Wait>(&mut self, rt: &R, event: Event) -> Result<Receipt, EndFault>
-        requires { IsOfTask 2 event }
+        requires { IsOfSystem 2 2 event }
     {
         self.board.post(rt, &mut self.first, event)
     }
 
     /// One try to post an event with the second pass.
     fn try_post(&mut self, event: Event) -> Result<Receipt, PostFault>
-        requires { IsOfTask 2 event }
+        requires { IsOfSystem 2 2 event }
     {
         self.board.try_post(&mut self.second, event)
     }
@@ -156,7 +156,7 @@ fn placed(rt: &impl Abort, processors: &[u8]) -> Reply {
 
 /// The first pass posts an event, which gets this place and this reply.
 fn posts<R: Wait + Abort>(rt: &R, bench: &mut Bench, event: Event, place: u64, reply: Reply)
-    requires { IsOfTask 2 event }
+    requires { IsOfSystem 2 2 event }
 {
     let posted = bench.post(rt, event);
     assert_eq!(rt; posted, Ok(Receipt { place, reply }));
@@ -164,7 +164,7 @@ fn posts<R: Wait + Abort>(rt: &R, bench: &mut Bench, event: Event, place: u64, r
 
 /// The second pass posts an event by one try, which gets this place and this reply.
 fn tries<R: Wait + Abort>(rt: &R, bench: &mut Bench, event: Event, place: u64, reply: Reply)
-    requires { IsOfTask 2 event }
+    requires { IsOfSystem 2 2 event }
 {
     let posted = bench.try_post(event);
     assert_eq!(rt; posted, Ok(Receipt { place, reply }));
@@ -243,7 +243,7 @@ fn post_with<R: Wait>(
     event: Event,
 ) -> (Pass, Option<Receipt>)
     requires board { pass.board ≡ board.now.id }
-    requires of_task { IsOfTask (length board.now.set.tasks) event }
+    requires of_task { IsOfSystem board.now.set.processors (length board.now.set.tasks) event }
     ensures { Grown pass result.0 × (result.0.eyes ≡ pass.eyes) }
 {
     match board.post(rt, &mut pass, event) {
@@ -273,8 +273,8 @@ fn both_post<R: Threads + Wait + Sync>(
     other: Event,
 ) -> ((Pass, Option<Receipt>), (Pass, Option<Receipt>))
     requires board { (first.board ≡ board.now.id) × (second.board ≡ board.now.id) }
-    requires one { IsOfTask (length board.now.set.tasks) one }
-    requires other { IsOfTask (length board.now.set.tasks) other }
+    requires one { IsOfSystem board.now.set.processors (length board.now.set.tasks) one }
+    requires other { IsOfSystem board.now.set.processors (length board.now.set.tasks) other }
     ensures first { Grown first result.0.0 × (result.0.0.eyes ≡ first.eyes) }
     ensures second { Grown second result.1.0 × (result.1.0.eyes ≡ second.eyes) }
 {
@@ -292,7 +292,7 @@ fn post_at_once<R: Threads + Wait + Sync>(
     one: Event,
     other: Event,
 ) -> (Bench, Option<Receipt>, Option<Receipt>)
-    requires { IsOfTask 2 one × IsOfTask 2 other }
+    requires { IsOfSystem 2 2 one × IsOfSystem 2 2 other }
 {
     let Bench {
         board,

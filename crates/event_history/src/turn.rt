@@ -1,7 +1,7 @@
 //! The turn word: its rule, the kinds of step that change it, and the calls that are made of these steps.
 ghost use Rattle.std.specs.Prelude.{◌≡◌, ℕ, ◌+◌, ◌<◌, ◌≤◌, [], length, map, IfOk, IfErr, true};
 ghost use Rattle.task_set.specs.TaskSet.{IsTaskSet};
-ghost use Rattle.certificate_laws.specs.Passing.{IsOfTask};
+ghost use Rattle.task_set.specs.Event.{IsOfSystem};
 ghost use Rattle.event_history.specs.Turn.{Setting, setting_of, TurnRule, fresh, loads_play, takes_play, posts_play, leaves_play, made_one, newcomer, note, informed, taken_in, spent};
 
 use crate::eyes::Eyes;
@@ -187,7 +187,7 @@ pub fn post_once<J: Over>(
     requires setting { J.setting ≡ setting_of turn.now.key }
     requires table { IsOfTurn turn.now.table_id state.old }
     requires free { IsFree state.old.seat.me × Agrees state.old }
-    requires of_task { IsOfTask (length turn.now.key.set.value.tasks) event }
+    requires of_task { IsOfSystem turn.now.key.set.value.processors (length turn.now.key.set.value.tasks) event }
     ensures same { (state.new.seat.table_id ≡ state.old.seat.table_id)
         × (state.new.eyes ≡ state.old.eyes) × Agrees state.new × IsFree state.new.seat.me }
     ensures grown { Grown (data_at turn.now.table_id state.old)

@@ -6,12 +6,12 @@ use Rattle.task_set.specs.declared.context.Context.{Context}
 use Rattle.scheduler_reply.specs.declared.reply.Entry.{Entry}
 use Rattle.link_state.specs.History.{IsLegal}
 use Rattle.link_state.specs.Dispatch.{contexts_of}
-use Rattle.certificate_laws.specs.Passing.{IsOfTask}
+use Rattle.task_set.specs.Event.{IsOfSystem}
 use Rattle.trace_reader.specs.declared.posted.Posted.{Posted}
 
 -- the posted event is of a task of the set, or of none
 abbrev pub IsKnown : SetData → Posted → Type 0
-IsKnown set posted = IsOfTask (length set.tasks) posted.event
+IsKnown set posted = IsOfSystem set.processors (length set.tasks) posted.event
 
 -- the event that an entry is of, on its stream
 abbrev pub posted_of : Entry → Posted

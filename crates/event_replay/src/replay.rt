@@ -2,7 +2,7 @@
 ghost use Rattle.std.specs.Prelude.{◌≡◌, ◌<◌, ◌≤◌, IfOk, All, length, true, false};
 ghost use Rattle.link_state.specs.State.{start_of, task_count};
 ghost use Rattle.event_replay.specs.Replay.{IsKnown, Schedules};
-ghost use Rattle.certificate_laws.specs.Passing.{IsOfTask};
+ghost use Rattle.link_state.specs.Step.{IsEventFor};
 ghost use Rattle.sched_core.specs.CoreData.{Applied, max_entries};
 
 use affinity_mask::OutOfMemory;
@@ -44,7 +44,7 @@ pub fn schedule_of(alloc: Global, set: &TaskSet, events: &[Posted]) -> Result<Sc
 /// Applies an event to a core that is open and not full, and answers the place of its entry. `Err` says that the memory
 /// was out.
 fn enter(core: &mut Core, posted: Posted) -> Result<usize, OutOfMemory>
-    requires known { IsOfTask (task_count core.old.links) posted.event }
+    requires known { IsEventFor core.old.links posted.event }
     requires not_closed { core.old.closed ≡ false }
     requires not_full { length core.old.history < max_entries }
     ensures { IfOk result (λ place.

@@ -18,3 +18,4 @@ pub mod Start
 pub mod StepParts
 pub mod Steps
 pub mod Unique
+pub mod Versions

@@ -1,6 +1,5 @@
 //! More orders than a queue holds, for processors that have no thread: one call at a time, and by a drive.
 ghost use Rattle.std.specs.Prelude.{◌≡◌, ◌∷◌, [], All, None, Some, IfOk, length, map, slice_get};
-ghost use Rattle.certificate_laws.specs.Passing.{IsOfTask};
 ghost use Rattle.order_queues.specs.Ends.{new_receiver, new_sender};
 ghost use Rattle.context_slots.specs.Hands.{new_hand};
 ghost use Rattle.event_history.specs.Boards.{AreEyesOf, AreFor};
@@ -259,7 +258,7 @@ impl Bench {
     }
 
     fn post<R: Wait + Abort>(&mut self, rt: &R, event: Event)
-        requires { IsOfTask 2 event }
+        requires { IsOfSystem 2 2 event }
     {
         let posted = self.board.post(rt, &mut self.pass, event).is_ok();
         assert!(rt; posted);

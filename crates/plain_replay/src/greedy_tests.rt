@@ -1,7 +1,7 @@
 //! Generated histories: after every entry the linked tasks are those that a plain greedy program finds.
 ghost use Rattle.std.specs.Prelude.{IsTrue};
 ghost use Rattle.link_state.specs.State.{task_count};
-ghost use Rattle.certificate_laws.specs.Passing.{IsOfTask};
+ghost use Rattle.link_state.specs.Step.{IsEventFor};
 
 use crate::task_sets::all_below;
 use generated_input::make_input;
@@ -25,7 +25,7 @@ fn follow(ready: &mut Vec<u32>, event: Event) -> Result<(), AllocError> {
 
 /// Whether the event, where it is of a task, is of one that the links have.
 fn is_known(links: &Links, event: Event) -> bool
-    ensures { IsTrue result → IsOfTask (task_count links.now) event }
+    ensures { IsTrue result → IsEventFor links.now event }
 {
     match event {
         Event::Arrive(t) | Event::Depart(t) => t < links.len(),

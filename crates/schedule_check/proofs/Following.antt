@@ -13,7 +13,8 @@ use Rattle.link_state.proofs.Histories.{state_after-push}
 use Rattle.reach_certificate.specs.Checker.{CheckerData}
 use Rattle.reach_certificate.specs.Contexts.{EachBecomes, context_after_entry}
 use Rattle.reach_certificate.specs.Defect.{IsDefect, number_of}
-use Rattle.certificate_laws.specs.Passing.{Passes, IsPassingFrom, IsOfTask}
+use Rattle.certificate_laws.specs.Passing.{Passes, IsPassingFrom}
+use Rattle.link_state.specs.Step.{IsEventFor}
 use Rattle.reach_certificate.specs.declared.defect.Defect.{Defect}
 use Rattle.reach_certificate.proofs.ContextsFollow.{contexts-follow}
 use Rattle.link_state.proofs.SameTasks.{same_tasks-history}
@@ -66,12 +67,17 @@ pub followed_count : (schedule : ScheduleData) (n : ℕ) (checker : CheckerData)
 followed_count schedule n checker followed =
     ap task_count followed.links ∙ ap length (same_tasks-history (start_of schedule.set) (take n schedule.entries)).priorities ∙ length-map schedule.set.tasks (λ (task : TaskData). task.priority)
 
--- each entry is of a task of the set, or of none
-pub entry_known : (schedule : ScheduleData) (n : ℕ) (entry : Entry) (checker : CheckerData) → IsSchedule schedule → slice_get schedule.entries n ≡ Some entry → HasFollowed schedule n checker → IsOfTask (task_count checker.links) entry.event
+-- and as many processors
+pub followed_processors : (schedule : ScheduleData) (n : ℕ) (checker : CheckerData) → HasFollowed schedule n checker → checker.links.processors ≡ schedule.set.processors
+followed_processors schedule n checker followed =
+    ap (λ (s : State). s.processors) followed.links ∙ (same_tasks-history (start_of schedule.set) (take n schedule.entries)).processors
+
+-- each entry is of a task and a processor of the set, or of none
+pub entry_known : (schedule : ScheduleData) (n : ℕ) (entry : Entry) (checker : CheckerData) → IsSchedule schedule → slice_get schedule.entries n ≡ Some entry → HasFollowed schedule n checker → IsEventFor checker.links entry.event
 entry_known schedule n entry checker ok there followed =
     let at_n = get_or_from_slice_get schedule.entries n entry entry there in
     let scheduled : IsScheduled schedule.set entry = subst (IsScheduled schedule.set) at_n (ok.each_entry n entry (slice_get_within schedule.entries n entry there)) in
-    rw (followed_count schedule n checker followed) scheduled.tasks.event
+    rw (followed_processors schedule n checker followed, followed_count schedule n checker followed) scheduled.tasks.event
 
 -- an entry as the loop reads it
 pub entry_read : (schedule : ScheduleData) (items : List Entry) (n : ℕ) (entry : Entry) → items ≡ schedule.entries → n < length items → entry ≡ get_or items n entry → slice_get schedule.entries n ≡ Some entry

@@ -1,7 +1,7 @@
 -- Streams of events: what a pass has posted of its stream.
 use Rattle.std.specs.Prelude.{◌≡◌, ℕ, ◌<◌, ◌==◌, ◌⊎◌, Bool, true, false, List, [], ◌∷◌, ◌++◌, length, map, filter, All}
 use Rattle.task_set.specs.declared.event.Event.{Event}
-use Rattle.certificate_laws.specs.Passing.{IsOfTask}
+use Rattle.task_set.specs.Event.{IsOfSystem}
 use Rattle.trace_reader.specs.declared.posted.Posted.{Posted}
 use Rattle.event_history.specs.Boards.{BoardData, PassData, AreEyesOf}
 use Rattle.event_history.specs.Merging.{AreEventsAt}
@@ -10,7 +10,7 @@ use Rattle.thread_replay.specs.Places.{AllFrom}
 
 -- each event is of a task of the board's set, and on the stream of one of its callers
 pub record IsForBoard (board : BoardData) (posted : Posted) : Type 0 where
-  pub known : IsOfTask (length board.set.tasks) posted.event
+  pub known : IsOfSystem board.set.processors (length board.set.tasks) posted.event
   pub stream : posted.stream < board.callers
 
 -- the pass is that of caller n of the board, with an eye for each of its queues

@@ -3,7 +3,7 @@
 //! A stream's thread gets the pass of its caller by value and gives it back when it is joined: the pass knows the places
 //! of its entries. Where no thread can be started, the caller posts the stream itself.
 ghost use Rattle.std.specs.Prelude.{◌≡◌, ◌≤◌, ◌<◌, ◌&&◌, ◌∷◌, [], All, Bool, true, length, vec_capacity, IfOk, IfSome, MatchResult};
-ghost use Rattle.certificate_laws.specs.Passing.{IsOfTask};
+ghost use Rattle.task_set.specs.Event.{IsOfSystem};
 ghost use Rattle.event_history.specs.Boards.{AreAll, AreEyesOf, Grown};
 ghost use Rattle.thread_replay.specs.Merge.{events_of_stream};
 ghost use Rattle.thread_replay.specs.Places.{AllFrom};
@@ -67,7 +67,7 @@ fn post_one<R: Wait, G: Gate>(
     event: Event,
 ) -> Result<bool, EndFault>
     requires board { pass.old.board ≡ board.now.id }
-    requires known { IsOfTask (length board.now.set.tasks) event }
+    requires known { IsOfSystem board.now.set.processors (length board.now.set.tasks) event }
     ensures grown { Grown pass.old pass.new }
     ensures eyes { pass.new.eyes ≡ pass.old.eyes }
     ensures adds { IfOk result (λ _. Adds pass.old (event ∷ []) pass.new) }
@@ -91,7 +91,7 @@ fn post_next<R: Wait, G: Gate>(
 ) -> Option<u32>
     requires pass { IsPassAt board.now pass.old.caller pass.old }
     requires queues { queues.now ≡ board.now.queues }
-    requires known { IsOfTask (length board.now.set.tasks) posted.event }
+    requires known { IsOfSystem board.now.set.processors (length board.now.set.tasks) posted.event }
     requires owing { owing < 32 }
     ensures pass { IsPassAt board.now pass.old.caller pass.new }
     ensures adds { IfSome result (λ _. Adds pass.old (events_of_stream pass.old.caller (posted ∷ [])) pass.new) }
