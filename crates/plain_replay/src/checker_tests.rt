@@ -1,5 +1,5 @@
 //! That the checker follows the core, by calls of both.
-use crate::task_sets::set_of;
+use crate::task_sets::{is_event_for, set_of};
 use link_table::Entry;
 use reach_certificate::Checker;
 use sched_core::Core;
@@ -7,24 +7,16 @@ use std::process::Abort;
 use std::test::Fail;
 use task_set::{Context, Event};
 
-/// Applies an event of a task of the core.
-fn apply(rt: &impl Abort, core: &mut Core, event: Event) {
-    let count = core.links().len();
-    match event {
-        Event::Arrive(t) | Event::Depart(t) => assert!(rt; t < count),
-        Event::Tick(_) => {}
-    }
+/// Applies an event of a task or a processor of the core.
+pub(crate) fn apply(rt: &impl Abort, core: &mut Core, event: Event) {
+    assert!(rt; is_event_for(core.links(), event));
     let applied = core.apply(0, event).is_ok();
     assert!(rt; applied);
 }
 
 /// Asserts that the checker accepts the entry.
-fn accept(rt: &impl Abort, checker: &mut Checker, entry: &Entry) {
-    let count = checker.links().len();
-    match entry.event {
-        Event::Arrive(t) | Event::Depart(t) => assert!(rt; t < count),
-        Event::Tick(_) => {}
-    }
+pub(crate) fn accept(rt: &impl Abort, checker: &mut Checker, entry: &Entry) {
+    assert!(rt; is_event_for(checker.links(), entry.event));
     let accepted = checker.accept(entry).is_ok();
     assert!(rt; accepted, "at {:?}", entry.event);
 }

@@ -1,9 +1,6 @@
 //! Generated histories: after every entry the linked tasks are those that a plain greedy program finds.
-ghost use Rattle.std.specs.Prelude.{IsTrue};
-ghost use Rattle.link_state.specs.State.{task_count};
-ghost use Rattle.link_state.specs.Step.{IsEventFor};
 
-use crate::task_sets::all_below;
+use crate::task_sets::{all_below, is_event_for};
 use generated_input::make_input;
 use link_table::{Links, Reply};
 use placement_laws::best_set;
@@ -18,23 +15,13 @@ fn follow(ready: &mut Vec<u32>, event: Event) -> Result<(), AllocError> {
     match event {
         Event::Arrive(t) => ready.push(t)?,
         Event::Depart(t) => ready.retain(|&other| other != t),
-        Event::Tick(_) => {}
+        _ => {}
     }
     Ok(())
 }
 
-/// Whether the event, where it is of a task, is of one that the links have.
-fn is_known(links: &Links, event: Event) -> bool
-    ensures { IsTrue result → IsEventFor links.now event }
-{
-    match event {
-        Event::Arrive(t) | Event::Depart(t) => t < links.len(),
-        Event::Tick(_) => true,
-    }
-}
-
 /// The tasks that are linked, in the order of their numbers, which here is that of their urgency.
-fn linked_tasks(alloc: Global, links: &Links) -> Result<Vec<u32>, AllocError> {
+pub(crate) fn linked_tasks(alloc: Global, links: &Links) -> Result<Vec<u32>, AllocError> {
     let mut linked = Vec::new(alloc);
     for t in 0..links.len() {
         if links.of(t).is_some() {
@@ -45,7 +32,7 @@ fn linked_tasks(alloc: Global, links: &Links) -> Result<Vec<u32>, AllocError> {
 }
 
 /// The tasks that the greedy program takes of the ready ones.
-fn greedy(rt: &(impl Abort + AllocGlobal), set: &TaskSet, ready: &[u32]) -> Result<Vec<u32>, Fail> {
+pub(crate) fn greedy(rt: &(impl Abort + AllocGlobal), set: &TaskSet, ready: &[u32]) -> Result<Vec<u32>, Fail> {
     assert!(rt; all_below(ready, set.len()));
     let best = best_set(rt.alloc(), set, ready)?;
     Ok(best)
@@ -83,7 +70,7 @@ impl Reached {
             Reply::Freed { .. } => self.freed = true,
             Reply::Left => self.left = true,
             Reply::Ticked => self.ticked = true,
-            Reply::AlreadyReady | Reply::NotReady => {}
+            _ => {}
         }
     }
 
@@ -94,7 +81,7 @@ impl Reached {
 
 /// Applies the event, and notes the reply.
 fn apply(rt: &impl Abort, core: &mut Core, event: Event, reached: &mut Reached) {
-    assert!(rt; is_known(core.links(), event));
+    assert!(rt; is_event_for(core.links(), event));
     let applied = core.apply(0, event).is_ok();
     assert!(rt; applied);
     if let Some(entry) = core.history().last() {

@@ -5,6 +5,8 @@
 #![tactic(auto)]
 
 #[cfg(test)]
+mod change_tests;
+#[cfg(test)]
 mod checker_tests;
 #[cfg(test)]
 mod greedy_tests;

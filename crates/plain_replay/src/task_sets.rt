@@ -1,10 +1,13 @@
 //! Sets of tasks from tables, for the tests.
-ghost use Rattle.std.specs.Prelude.{◌<◌, IsTrue, All};
+ghost use Rattle.std.specs.Prelude.{◌<◌, ◌≤◌, IsTrue, All};
+ghost use Rattle.task_set.specs.TaskSet.{IsMask};
+ghost use Rattle.link_state.specs.Step.{IsEventFor};
 
 use affinity_mask::ProcSet;
+use link_table::Links;
 use std::process::Abort;
 use std::test::Fail;
-use task_set::TaskSet;
+use task_set::{Event, TaskSet};
 
 /// The set of these processors.
 pub fn mask_of(rt: &impl Abort, members: &[u8]) -> ProcSet {
@@ -41,4 +44,24 @@ pub fn all_below(tasks: &[u32], n: u32) -> bool
     ensures { IsTrue result → All (λ t. t < n) tasks.now }
 {
     tasks.iter().all(|&t| t < n)
+}
+
+/// Whether the task, the mask and the processor of the event are of these links.
+pub fn is_event_for(links: &Links, event: Event) -> bool
+    ensures { IsTrue result → IsEventFor links.now event }
+{
+    match event {
+        Event::Arrive(t) | Event::Depart(t) => t < links.len(),
+        Event::Tick(_) => true,
+        Event::Affinity { task, mask } => task < links.len() && is_mask(mask, links.processors()),
+        Event::Offline(p) | Event::Online(p) => p < links.processors(),
+    }
+}
+
+/// Whether the set is a mask on so many processors.
+fn is_mask(set: ProcSet, processors: u8) -> bool
+    requires { processors ≤ 64 }
+    ensures { IsTrue result → IsMask processors set }
+{
+    !set.is_empty() && set.within(&ProcSet::first(processors))
 }

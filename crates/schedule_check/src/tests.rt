@@ -4,9 +4,10 @@ use program_status::{Status, exit_status, report};
 use std::alloc::{AllocError, Global};
 use std::cell::RefCell;
 use std::fmt::{Display, Write};
+use std::process::Abort;
 use std::test::Fail;
 use std::{io, str};
-use worked_histories::{HISTORIES, texts_of};
+use worked_histories::{CHANGES, HISTORIES, History, texts_of};
 
 const SMALLEST_SCHEDULE: &str =
     "schedule 1\nprocessors 1\ntask a 5 0\nhistory 1\n0 arrive a placed 0\n\
@@ -17,8 +18,8 @@ const LONGER_CHAIN: &str = "schedule 1\nprocessors 3\ntask a 3 0-2\ntask t 4 0-1
 0 arrive a placed 0\n0 arrive t placed 0>2\ncontexts 2\na units 0 stints 2 moves 1 last 2 trail 0\n\
 t units 0 stints 1 moves 0 last 0 trail 1\nend\n";
 
-/// One change of a schedule text, and the answer to it.
-struct Change {
+/// A schedule text with other bytes at one place, and the answer to it.
+struct Altered {
     /// The history whose text is changed; no name is the smallest one.
     history: &'static str,
     old: &'static str,
@@ -26,23 +27,23 @@ struct Change {
     status: Status,
 }
 
-static CHANGES: [Change; 12] = [
+static ALTERED: [Altered; 18] = [
     // The task that arrives is absent.
-    Change {
+    Altered {
         history: "",
         old: "0 arrive a placed 0",
         new: "0 arrive a already",
         status: Status::Invalid { line: 5, defect: 1 },
     },
     // The mask of b has not processor 1.
-    Change {
+    Altered {
         history: "first_shift",
         old: "0 arrive b placed 0>1",
         new: "0 arrive b placed 1",
         status: Status::Invalid { line: 7, defect: 2 },
     },
     // A task on processor 0 may run on processor 1 too.
-    Change {
+    Altered {
         history: "waits_with_a_reach_wider_than_its_mask",
         old: "waits 0-2",
         new: "waits 0",
@@ -52,7 +53,7 @@ static CHANGES: [Change; 12] = [
         },
     },
     // On processor 2 is a task that is less urgent than the one that waits.
-    Change {
+    Altered {
         history: "displaced_at_the_end_of_a_chain",
         old: "displaced 0>1>2 out c reach 0-2",
         new: "waits 0-2",
@@ -62,7 +63,7 @@ static CHANGES: [Change; 12] = [
         },
     },
     // The task on processor 1 may run on processor 0.
-    Change {
+    Altered {
         history: "enters_through_a_back_chain",
         old: "freed 0>1 enters w1 back 0-1",
         new: "freed 0>1 enters w1 back 0",
@@ -72,7 +73,7 @@ static CHANGES: [Change; 12] = [
         },
     },
     // The other one that waits is more urgent.
-    Change {
+    Altered {
         history: "enters_through_a_back_chain",
         old: "freed 0>1 enters w1 back 0-1",
         new: "freed 0 enters w2 back 0-1",
@@ -81,7 +82,7 @@ static CHANGES: [Change; 12] = [
             defect: 4,
         },
     },
-    Change {
+    Altered {
         history: "first_shift",
         old: "last 0 trail 1",
         new: "last 0 trail 2",
@@ -90,51 +91,101 @@ static CHANGES: [Change; 12] = [
             defect: 5,
         },
     },
-    Change {
+    Altered {
         history: "",
         old: "history 1",
         new: "history 01",
         status: Status::Input { line: 4, kind: 21 },
     },
-    Change {
+    Altered {
         history: "first_shift",
         old: "task b 2 0",
         new: "task b 1 0",
         status: Status::Input { line: 4, kind: 22 },
     },
-    Change {
+    Altered {
         history: "",
         old: "0 arrive a placed 0",
         new: "0 arrive q placed 0",
         status: Status::Input { line: 5, kind: 23 },
     },
-    Change {
+    Altered {
         history: "",
         old: "end\n",
         new: "end",
         status: Status::Input { line: 8, kind: 24 },
     },
-    Change {
+    Altered {
         history: "",
         old: "end\n",
         new: "end\nx",
         status: Status::Input { line: 9, kind: 25 },
     },
+    // Processor 1 is occupied, so the task that comes back cannot go there as if it were idle.
+    Altered {
+        history: "mask_change_moves_a_running_task",
+        old: "then placed 1>0",
+        new: "then placed 1",
+        status: Status::Invalid { line: 8, defect: 2 },
+    },
+    // The task had run, so somebody may come in at its processor.
+    Altered {
+        history: "mask_change_moves_a_running_task",
+        old: "remasked freed 0 enters - back 0-1 then",
+        new: "remasked left then",
+        status: Status::Invalid { line: 8, defect: 1 },
+    },
+    // Task b waits, and may run on the processor that task a left.
+    Altered {
+        history: "mask_change_without_orders",
+        old: "freed 0 enters b back 0",
+        new: "freed 0 enters - back 0",
+        status: Status::Invalid { line: 7, defect: 4 },
+    },
+    // It is task a that ran there.
+    Altered {
+        history: "processors_leave_until_none_is_left",
+        old: "off a then displaced 1 out b reach 1",
+        new: "off b then displaced 1 out b reach 1",
+        status: Status::Invalid { line: 8, defect: 1 },
+    },
+    // Processor 0 is off line, and so it holds nobody.
+    Altered {
+        history: "processors_leave_until_none_is_left",
+        old: "off a then displaced 1 out b reach 1",
+        new: "off a then displaced 1 out b reach 0-1",
+        status: Status::Invalid { line: 8, defect: 3 },
+    },
+    // Of the two tasks that wait task a is the more urgent one.
+    Altered {
+        history: "processors_leave_until_none_is_left",
+        old: "on 1 enters a back 1",
+        new: "on 1 enters b back 1",
+        status: Status::Invalid {
+            line: 11,
+            defect: 4,
+        },
+    },
 ];
 
 /// The schedule text of a history, or of the smallest one.
 fn schedule_named(alloc: Global, name: &str) -> Result<String, AllocError> {
-    for history in &HISTORIES {
-        if history.name == name {
+    match history_named(&HISTORIES, name).or(history_named(&CHANGES, name)) {
+        Some(history) => {
             let (_, schedule) = texts_of(alloc, history)?;
-            return Ok(schedule);
+            Ok(schedule)
         }
+        None => String::from_str(alloc, SMALLEST_SCHEDULE),
     }
-    String::from_str(alloc, SMALLEST_SCHEDULE)
+}
+
+/// The history of this name, if the table has it.
+fn history_named<'a>(histories: &'a [History], name: &str) -> Option<&'a History> {
+    histories.iter().find(|history| history.name == name)
 }
 
 /// The text with the change.
-fn changed(alloc: Global, change: &Change) -> Result<Option<String>, AllocError> {
+fn changed(alloc: Global, change: &Altered) -> Result<Option<String>, AllocError> {
     let schedule = schedule_named(alloc, change.history)?;
     match schedule.split_once(change.old) {
         Some((before, after)) => Ok(Some(format!(in alloc; "{before}{}{after}", change.new)?)),
@@ -151,24 +202,30 @@ fn is_valid(alloc: Global, schedule: &str, count: usize) -> Result<bool, AllocEr
     }
 }
 
+/// The schedule of a history is found valid.
+fn expect_right(rt: &impl Abort, alloc: Global, history: &History) -> Result<(), AllocError> {
+    let (_, schedule) = texts_of(alloc, history)?;
+    let valid = is_valid(alloc, &schedule, history.entries.len())?;
+    assert!(rt; valid, "in {}", history.name);
+    Ok(())
+}
+
 #[test]
 fn right_schedules(rt: HostRuntime) -> Result<(), Fail> {
     assert!(rt; is_valid(rt.alloc(), SMALLEST_SCHEDULE, 1)?);
     assert!(rt; is_valid(rt.alloc(), LONGER_CHAIN, 2)?);
     for history in &HISTORIES {
-        let (_, schedule) = texts_of(rt.alloc(), history)?;
-        assert!(rt;
-            is_valid(rt.alloc(), &schedule, history.entries.len())?,
-            "in {}",
-            history.name
-        );
+        expect_right(&rt, rt.alloc(), history)?;
+    }
+    for history in &CHANGES {
+        expect_right(&rt, rt.alloc(), history)?;
     }
     Ok(())
 }
 
 #[test]
 fn changed_schedules(rt: HostRuntime) -> Result<(), Fail> {
-    for change in &CHANGES {
+    for change in &ALTERED {
         let text = changed(rt.alloc(), change)?;
         assert!(rt;
             text.is_some(),

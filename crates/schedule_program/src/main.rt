@@ -2,6 +2,8 @@
 #![tactic(auto)]
 
 #[cfg(test)]
+mod change_tests;
+#[cfg(test)]
 mod generated_tests;
 #[cfg(test)]
 mod hostile_tests;

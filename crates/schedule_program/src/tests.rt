@@ -135,7 +135,7 @@ pub(crate) fn expect_valid<R: Threads + Wait + Clock + Sync + Abort>(
 }
 
 /// `run` refuses an input with this line and kind, and writes nothing.
-fn expect_refused<R: Threads + Wait + Clock + Sync + Abort>(
+pub(crate) fn expect_refused<R: Threads + Wait + Clock + Sync + Abort>(
     rt: &R,
     alloc: Global,
     input: &str,
@@ -164,7 +164,7 @@ fn smallest_history_over_std_streams(rt: HostRuntime) -> Result<(), Fail> {
 }
 
 /// A history has the schedule that was worked out for it, which is valid.
-fn expect_history<R: Threads + Wait + Clock + Sync + Abort>(
+pub(crate) fn expect_history<R: Threads + Wait + Clock + Sync + Abort>(
     rt: &R,
     alloc: Global,
     history: &History,
@@ -307,7 +307,7 @@ fn exit_statuses(rt: HostRuntime) {
 
 /// Texts at a limit, or with two tasks that clash, each with the line and the kind of its fault.
 static LIMITS_AND_CLASHES: [(&str, u64, u8); 9] = [
-    ("apa 2\n", 1, 3),
+    ("apa 3\n", 1, 3),
     ("apa 1\nprocessors 65\n", 2, 4),
     ("apa 1\nprocessors 1\ntask a 4294967296 0\nend\n", 3, 5),
     ("apa 1\nprocessors 1\ntask a 1 0,,1\nend\n", 3, 6),

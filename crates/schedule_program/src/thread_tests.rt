@@ -213,7 +213,7 @@ pub(crate) fn expect_run_on_streams<R: Threads + Wait + Clock + Sync + Abort>(
 
 /// The input of a history, with its events on three streams in turn.
 fn on_three_streams(alloc: Global, history: &History) -> Result<String, Fail> {
-    let mut input = format!(in alloc; "apa 1\n{}", history.head)?;
+    let mut input = format!(in alloc; "apa {}\n{}", history.version, history.head)?;
     let mut stream = 0u32;
     for (event, _reply) in history.entries {
         let rest = event.strip_prefix("0").unwrap_or("");
@@ -225,7 +225,7 @@ fn on_three_streams(alloc: Global, history: &History) -> Result<String, Fail> {
 }
 
 /// `run` of a history on three streams writes a valid schedule.
-fn expect_on_three_streams<R: Threads + Wait + Clock + Sync + Abort>(
+pub(crate) fn expect_on_three_streams<R: Threads + Wait + Clock + Sync + Abort>(
     rt: &R,
     alloc: Global,
     history: &History,

@@ -5,6 +5,9 @@ pub struct History {
     /// What it shows.
     pub name: &'static str,
 
+    /// The version of both texts.
+    pub version: u8,
+
     /// The lines of the processors and of the tasks, as both texts have them.
     pub head: &'static str,
 
@@ -15,14 +18,20 @@ pub struct History {
     pub contexts: &'static [&'static str],
 }
 
-/// The histories, out of sight of the proof of a test, which would read the whole table.
+/// The histories of the first version, out of sight of the proof of a test, which would read the whole table.
 pub fn all_histories() -> &'static [History] {
     &HISTORIES
+}
+
+/// Those of the second version, in which masks change and processors go off line and come back.
+pub fn all_changes() -> &'static [History] {
+    &CHANGES
 }
 
 pub static HISTORIES: [History; 13] = [
     History {
         name: "one_processor_arrivals",
+        version: 1,
         head: "processors 1\ntask a 5 0\ntask b 2 0\ntask c 9 0\n",
         entries: &[
             ("0 arrive a", "placed 0"),
@@ -38,6 +47,7 @@ pub static HISTORIES: [History; 13] = [
     },
     History {
         name: "no_events",
+        version: 1,
         head: "processors 2\ntask a 1 0-1\ntask b 2 1\n",
         entries: &[],
         contexts: &[
@@ -47,12 +57,14 @@ pub static HISTORIES: [History; 13] = [
     },
     History {
         name: "no_task",
+        version: 1,
         head: "processors 1\n",
         entries: &[("0 tick 5", "ticked")],
         contexts: &[],
     },
     History {
         name: "first_shift",
+        version: 1,
         head: "processors 2\ntask a 1 0-1\ntask b 2 0\n",
         entries: &[("0 arrive a", "placed 0"), ("0 arrive b", "placed 0>1")],
         contexts: &[
@@ -62,6 +74,7 @@ pub static HISTORIES: [History; 13] = [
     },
     History {
         name: "two_idle_processors_at_equal_length",
+        version: 1,
         head: "processors 3\ntask a 3 0-2\ntask t 4 0\n",
         entries: &[("0 arrive a", "placed 0"), ("0 arrive t", "placed 0>1")],
         contexts: &[
@@ -71,6 +84,7 @@ pub static HISTORIES: [History; 13] = [
     },
     History {
         name: "displaced_at_the_end_of_a_chain",
+        version: 1,
         head: "processors 3\ntask a 2 0-1\ntask b 3 1-2\ntask c 9 2\ntask d 1 0\n",
         entries: &[
             ("0 arrive a", "placed 0"),
@@ -88,6 +102,7 @@ pub static HISTORIES: [History; 13] = [
     },
     History {
         name: "waits_with_a_reach_wider_than_its_mask",
+        version: 1,
         head: "processors 3\ntask a 2 0-1\ntask b 3 1-2\ntask c 4 2\ntask d 9 0\n",
         entries: &[
             ("0 arrive a", "placed 0"),
@@ -104,6 +119,7 @@ pub static HISTORIES: [History; 13] = [
     },
     History {
         name: "departure_that_admits_nobody",
+        version: 1,
         head: "processors 2\ntask a 1 0\ntask b 2 1\n",
         entries: &[
             ("0 arrive a", "placed 0"),
@@ -117,6 +133,7 @@ pub static HISTORIES: [History; 13] = [
     },
     History {
         name: "enters_through_a_back_chain",
+        version: 1,
         head: "processors 2\ntask x 1 0\ntask y 2 0-1\ntask w1 3 1\ntask w2 5 0\n",
         entries: &[
             ("0 arrive x", "placed 0"),
@@ -134,6 +151,7 @@ pub static HISTORIES: [History; 13] = [
     },
     History {
         name: "refused_events_stand_in_the_history",
+        version: 1,
         head: "processors 1\ntask a 1 0\ntask b 2 0\n",
         entries: &[
             ("0 arrive a", "placed 0"),
@@ -150,6 +168,7 @@ pub static HISTORIES: [History; 13] = [
     },
     History {
         name: "ticks",
+        version: 1,
         head: "processors 1\ntask a 1 0\n",
         entries: &[
             ("0 tick 7", "ticked"),
@@ -160,6 +179,7 @@ pub static HISTORIES: [History; 13] = [
     },
     History {
         name: "back_on_the_same_processor",
+        version: 1,
         head: "processors 1\ntask a 1 0\n",
         entries: &[
             ("0 arrive a", "placed 0"),
@@ -172,6 +192,7 @@ pub static HISTORIES: [History; 13] = [
     },
     History {
         name: "two_clusters",
+        version: 1,
         head: "processors 8\ntask irq0 1 0\ntask irq4 2 4\ntask audio 5 0-1\ntask ctl 6 0-3\ntask net 8 4-5\ntask video 10 0-3\ntask disk 12 4-7\ntask ui 15 0-7\ntask log 20 0-7\ntask sync 22 2-3\ntask batch 30 0-7\ntask idle_scan 40 4-7\n",
         entries: &[
             ("0 arrive audio", "placed 0"),
@@ -218,5 +239,90 @@ pub static HISTORIES: [History; 13] = [
             "batch units 0 stints 1 moves 0 last 4 trail 10",
             "idle_scan units 0 stints 0 moves 0 last - trail 11",
         ],
+    },
+];
+
+pub static CHANGES: [History; 5] = [
+    History {
+        name: "mask_change_moves_a_running_task",
+        version: 2,
+        head: "processors 2\ntask a 1 0-1\ntask b 2 0-1\n",
+        entries: &[
+            ("0 arrive a", "placed 0"),
+            ("0 arrive b", "placed 1"),
+            (
+                "0 affinity a 1",
+                "remasked freed 0 enters - back 0-1 then placed 1>0",
+            ),
+            ("0 tick 3", "ticked"),
+        ],
+        contexts: &[
+            "a units 3 stints 2 moves 1 last 1 trail 193",
+            "b units 3 stints 2 moves 1 last 0 trail 6364136223846793197",
+        ],
+    },
+    History {
+        name: "mask_change_of_a_waiting_task",
+        version: 2,
+        head: "processors 2\ntask a 1 0\ntask b 2 0\n",
+        entries: &[
+            ("0 arrive a", "placed 0"),
+            ("0 arrive b", "waits 0"),
+            ("0 affinity b 0-1", "remasked left then placed 1"),
+            ("0 depart b", "freed 1 enters - back 1"),
+            ("0 affinity b 1", "masked"),
+        ],
+        contexts: &[
+            "a units 0 stints 1 moves 0 last 0 trail 0",
+            "b units 0 stints 1 moves 0 last 1 trail 1",
+        ],
+    },
+    History {
+        name: "mask_change_without_orders",
+        version: 2,
+        head: "processors 1\ntask a 1 0\ntask b 2 0\n",
+        entries: &[
+            ("0 arrive a", "placed 0"),
+            ("0 arrive b", "waits 0"),
+            (
+                "0 affinity a 0",
+                "remasked freed 0 enters b back 0 then displaced 0 out b reach 0",
+            ),
+        ],
+        contexts: &[
+            "a units 0 stints 1 moves 0 last 0 trail 0",
+            "b units 0 stints 0 moves 0 last - trail 1",
+        ],
+    },
+    History {
+        name: "processors_leave_until_none_is_left",
+        version: 2,
+        head: "processors 2\ntask a 1 0-1\ntask b 2 0-1\n",
+        entries: &[
+            ("0 arrive a", "placed 0"),
+            ("0 arrive b", "placed 1"),
+            ("0 offline 0", "off a then displaced 1 out b reach 1"),
+            ("0 offline 0", "already_off"),
+            ("0 offline 1", "off a then waits -"),
+            ("0 online 1", "on 1 enters a back 1"),
+            ("0 online 1", "already_on"),
+        ],
+        contexts: &[
+            "a units 0 stints 3 moves 1 last 1 trail 0",
+            "b units 0 stints 1 moves 0 last 1 trail 1",
+        ],
+    },
+    History {
+        name: "idle_processor_off_line",
+        version: 2,
+        head: "processors 2\ntask a 1 1\n",
+        entries: &[
+            ("0 offline 0", "off -"),
+            ("0 arrive a", "placed 1"),
+            ("0 offline 1", "off a then waits -"),
+            ("0 affinity a 0", "remasked left then waits -"),
+            ("0 online 0", "on 0 enters a back 0"),
+        ],
+        contexts: &["a units 0 stints 2 moves 1 last 0 trail 0"],
     },
 ];

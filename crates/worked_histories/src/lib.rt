@@ -5,5 +5,5 @@
 mod histories;
 mod texts;
 
-pub use histories::{HISTORIES, History, all_histories};
+pub use histories::{CHANGES, HISTORIES, History, all_changes, all_histories};
 pub use texts::texts_of;

@@ -4,8 +4,8 @@ use std::alloc::{AllocError, Global};
 
 /// The input of a history, and its schedule.
 pub fn texts_of(alloc: Global, history: &History) -> Result<(String, String), AllocError> {
-    let mut input = format!(in alloc; "apa 1\n{}", history.head)?;
-    let mut schedule = format!(in alloc; "schedule 1\n{}", history.head)?;
+    let mut input = format!(in alloc; "apa {}\n{}", history.version, history.head)?;
+    let mut schedule = format!(in alloc; "schedule {}\n{}", history.version, history.head)?;
     writeln!(schedule, "history {}", history.entries.len())?;
     for (event, reply) in history.entries {
         writeln!(input, "{event}")?;
