@@ -1,6 +1,6 @@
 -- Each history whose replies pass leaves every waiting task with a certificate, after every entry; and so does each legal
 -- history, whose replies pass.
-use Rattle.std.proofs.Common.{◌≡◌, ℕ, zero, suc, false, List, [], ◌∷◌, take, length, replicate, get_or, refl, sym, ◌∙◌, subst}
+use Rattle.std.proofs.Common.{ℕ, zero, suc, List, [], ◌∷◌, take, length, sym, ◌∙◌, subst}
 use Rattle.std.proofs.lemmas.Bool.{true≢false}
 use Rattle.task_set.specs.TaskSet.{SetData, IsTaskSet}
 use Rattle.task_set.specs.declared.event.Event.{Event}
@@ -16,7 +16,9 @@ use Rattle.certificate_laws.specs.Justification.{HasJustification}
 use Rattle.certificate_laws.specs.Laws.{HoldsThroughout}
 use Rattle.certificate_laws.specs.Passing.{IsPassing, IsPassingFrom}
 use Rattle.certificate_laws.proofs.Best.{linked_is_best}
-use Rattle.certificate_laws.proofs.Passed.{passing_keeps_certificates, passing_keeps_state, passing_has_justification, step_passes}
+use Rattle.certificate_laws.proofs.KeptStates.{passing_keeps_state}
+use Rattle.certificate_laws.proofs.Passed.{passing_keeps_certificates, passing_has_justification}
+use Rattle.certificate_laws.proofs.StepsPass.{step_passes}
 
 -- ---- from state to state
 pub IsState-passed : (s : State) (history : List Entry) → IsState s → IsPassingFrom s history → IsState (state_after s history)
@@ -69,6 +71,6 @@ pub step_keeps_certificates : (s : State) (event : Event) (reply : Reply) (new :
 step_keeps_certificates s event reply new ok certificates step =
     subst HasCertificates (sym (reply_gives_new_state s event reply new step)) (passing_keeps_certificates s event reply ok certificates (step_passes s event reply new ok step))
 
-pub step_has_justification : (s : State) (event : Event) (reply : Reply) (new : State) → IsState s → HasCertificates s → SchedulerStep s event reply new → HasJustification new event reply
+pub step_has_justification : (s : State) (event : Event) (reply : Reply) (new : State) → IsState s → HasCertificates s → SchedulerStep s event reply new → HasJustification s new event reply
 step_has_justification s event reply new ok certificates step =
-    subst (λ (s' : State). HasJustification s' event reply) (sym (reply_gives_new_state s event reply new step)) (passing_has_justification s event reply ok certificates (step_passes s event reply new ok step))
+    subst (λ (s' : State). HasJustification s s' event reply) (sym (reply_gives_new_state s event reply new step)) (passing_has_justification s event reply ok certificates (step_passes s event reply new ok step))

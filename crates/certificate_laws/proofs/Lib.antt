@@ -6,7 +6,12 @@ pub mod Fullness
 pub mod Improved
 pub mod Kept
 pub mod KeptByArrivals
+pub mod KeptByChanges
 pub mod KeptByDepartures
+pub mod KeptByFilling
 pub mod KeptByShifts
+pub mod KeptStates
 pub mod Passed
 pub mod Ranked
+pub mod StepsPass
+pub mod Touched

@@ -6,3 +6,4 @@ pub mod Laws
 pub mod Passing
 pub mod PassingLaws
 pub mod Ranks
+pub mod Touched

@@ -8,6 +8,7 @@ use Rattle.link_state.specs.History.{state_after_reply}
 use Rattle.certificate_laws.specs.Certified.{HasCertificates}
 use Rattle.certificate_laws.specs.Justification.{HasJustification}
 use Rattle.certificate_laws.specs.Passing.{Passes}
+use Rattle.certificate_laws.specs.Touched.{StaysOutside, touched}
 
 -- a reply that passes leads from a state to a state
 abbrev pub PassingKeepsState : Type 0
@@ -20,6 +21,10 @@ PassingKeepsCertificates = (s : State) (event : Event) (reply : Reply) → IsSta
 -- a reply that passes is justified by the state after it
 abbrev pub PassingHasJustification : Type 0
 PassingHasJustification = (s : State) (event : Event) (reply : Reply) → IsState s → HasCertificates s → Passes s event reply → HasJustification s (state_after_reply s event reply) event reply
+
+-- a reply that passes changes the occupants of the processors that it touches alone
+abbrev pub PassingStaysOutside : Type 0
+PassingStaysOutside = (s : State) (event : Event) (reply : Reply) → IsState s → Passes s event reply → StaysOutside s (state_after_reply s event reply) (touched event reply)
 
 -- the reply of each step of the scheduler passes
 abbrev pub StepPasses : Type 0

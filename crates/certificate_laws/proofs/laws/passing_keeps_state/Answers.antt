@@ -1,5 +1,5 @@
-use Rattle.certificate_laws.proofs.Passed as passed
+use Rattle.certificate_laws.proofs.KeptStates as kept
 use Rattle.certificate_laws.proofs.laws.passing_keeps_state.Goals as goal
 
 pub returns : goal.returns
-returns c = passed.passing_keeps_state
+returns c = kept.passing_keeps_state
