@@ -15,13 +15,14 @@ use Rattle.program_status.specs.Refusal.{RefusesInput}
 -- the bytes read are an input, and the bytes written are the schedule text of a legal history of exactly its events, in the
 -- order of their lines, with the contexts that this history gives
 pub record Replays (read put : List ℕ) : Type 0 where
+  pub version : ℕ
   pub set : SetData
   pub events : List Posted
   pub history : List Entry
   pub contexts : List Context
-  pub input : IsInputText read set events
+  pub input : IsInputText version read set events
   pub schedule : Schedules set events history contexts
-  pub text : put ≡ schedule_text set history contexts
+  pub text : put ≡ schedule_text version set history contexts
 
 -- all that was left of a source was read, and this is the schedule text of it
 pub record ReadsAndReplays (old new : Option (List ℕ)) (put : List ℕ) : Type 0 where

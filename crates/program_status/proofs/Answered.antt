@@ -19,13 +19,13 @@ pub answers_memory : {Makes : List ℕ → Type 0} {Accepts : Type 0} {Refuses :
 answers_memory = record { makes = tt; refused = inr refl; accepts = λ a. refl; refuses = λ expected why. inr refl }
 
 -- the fault of an input text, as `read_input` has it
-pub answers_fault : {Makes : List ℕ → Type 0} (bytes : List ℕ) (fault : InputFault) → ((set : SetData) (events : List Posted) → IsInputText bytes set events → fault.kind ≡ kind.OutOfMemory)
+pub answers_fault : {Makes : List ℕ → Type 0} (bytes : List ℕ) (fault : InputFault) → ((version : ℕ) (set : SetData) (events : List Posted) → IsInputText version bytes set events → fault.kind ≡ kind.OutOfMemory)
     → (fault.kind ≡ kind.OutOfMemory) ⊎ IsInputRefused bytes fault.line fault.kind
     → ((line : ℕ) (cause : InputKind) → IsInputRefused bytes line cause → (fault.kind ≡ kind.OutOfMemory) ⊎ ((fault.line ≡ line) × (fault.kind ≡ cause)))
     → Answers Makes (IsAccepted bytes) (IsAnsweredInput (RefusesInput bytes)) (Err (status_of_fault fault))
 answers_fault bytes fault accepts refused refuses = record {
   makes = tt;
   refused = refusal_of_fault bytes fault refused;
-  accepts = λ accepted. memory_of_fault fault (accepts accepted.0 accepted.1 accepted.2);
+  accepts = λ accepted. memory_of_fault fault (accepts accepted.0 accepted.1 accepted.2 accepted.3);
   refuses = λ expected why. status_of_refused bytes expected fault why (refuses why.number why.cause.cause why.cause.refused);
 }

@@ -11,9 +11,9 @@ use Rattle.schedule_text.specs.declared.fault.TextKind.{TextKind}
 use Rattle.program_status.specs.declared.status.Status.{Status}
 use Rattle.program_status.specs.declared.status.Status.TheVariants.{Input, Invalid}
 
--- the bytes are an input text
+-- the bytes are an input text, of either version
 abbrev pub IsAccepted : List ℕ → Type 0
-IsAccepted bytes = (set : SetData) × (events : List Posted) × IsInputText bytes set events
+IsAccepted bytes = (version : ℕ) × (set : SetData) × (events : List Posted) × IsInputText version bytes set events
 
 -- the bytes are no input text: refused at this line, with a kind of this number
 pub record RefusesInput (bytes : List ℕ) (line kind : ℕ) : Type 0 where

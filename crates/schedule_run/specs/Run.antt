@@ -17,12 +17,13 @@ use Rattle.schedule_text.specs.ScheduleText.{schedule_text}
 
 -- the headline: from the bytes read to the bytes written, by one history
 pub record Replays (read put : List ℕ) : Type 0 where
+  pub version : ℕ
   pub set : SetData
   pub events : List Posted
   pub history : List Entry
   pub printed : List Context
-  pub input : IsInputText read set events
-  pub text : put ≡ schedule_text set history printed
+  pub input : IsInputText version read set events
+  pub text : put ≡ schedule_text version set history printed
   pub merge : IsMerge events history
   pub legal : IsLegal set history
   pub best : IsBestThroughout set history

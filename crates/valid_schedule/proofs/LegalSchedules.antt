@@ -11,9 +11,8 @@ use Rattle.affinity_mask.specs.ProcSet.{has}
 use Rattle.affinity_mask.proofs.Sets.{has-all_below}
 use Rattle.task_set.specs.TaskSet.{TaskData, SetData}
 use Rattle.task_set.specs.declared.event.Event.{Event}
-use Rattle.task_set.specs.declared.event.Event.TheVariants.{Arrive, Depart, Tick}
+use Rattle.task_set.specs.declared.event.Event.TheVariants.{Arrive, Depart, Tick, Affinity, Offline, Online}
 use Rattle.scheduler_reply.specs.declared.reply.Reply.{Reply}
-use Rattle.scheduler_reply.specs.declared.reply.Reply.TheVariants.{Placed, Displaced, Waits, Freed}
 use Rattle.scheduler_reply.specs.declared.reply.Entry.{Entry}
 use Rattle.scheduler_reply.specs.Reply.{chains_of, sets_of}
 use Rattle.link_state.specs.State.{State, IsState, task_count, task_on, is_task, start_of}
@@ -24,6 +23,7 @@ use Rattle.link_state.proofs.SameTasks.{same_tasks-effect, same_count}
 use Rattle.link_state.proofs.Start.{IsState-start}
 use Rattle.link_state.proofs.StepParts.{IsListOn, IsSetOn, step_is_on}
 use Rattle.link_state.proofs.Steps.{step_keeps_state}
+use Rattle.link_state.proofs.Versions.{legal_has_version}
 use Rattle.text_fields.specs.EventText.{IsAboutSet}
 use Rattle.schedule_text.specs.Schedule.{IsProcessorList, IsOfProcessors, HasProcessors, IsContextOf, AreInOrder, IsScheduleSet, IsSchedule}
 use Rattle.order_laws.proofs.LegalNames.{legal_names}
@@ -53,18 +53,21 @@ step_processors : (s : State) (event : Event) (reply : Reply) (new : State) → 
 step_processors s event reply new ok step = let on = step_is_on s event reply new ok step in reply_processors s ok reply on.chains on.sets
 
 -- ---- the entries
--- the event is of a task of the set
-about_step : (set : SetData) (s : State) (event : Event) (reply : Reply) (new : State) → task_count s ≡ length set.tasks → SchedulerStep s event reply new → IsAboutSet set event
-about_step set s (Arrive t) reply new same step = rw (← same) step.0
-about_step set s (Depart t) reply new same step = rw (← same) step.0
-about_step set s (Tick units) reply new same step = tt
+-- the event is of a task and a processor of the set
+about_step : (set : SetData) (s : State) (event : Event) (reply : Reply) (new : State) → task_count s ≡ length set.tasks → s.processors ≡ set.processors → SchedulerStep s event reply new → IsAboutSet set event
+about_step set s (Arrive t) reply new same machine step = rw (← same) step.0
+about_step set s (Depart t) reply new same machine step = rw (← same) step.0
+about_step set s (Tick units) reply new same machine step = tt
+about_step set s (Affinity t mask) reply new same machine step = (rw (← same) step.0, rw (← machine) step.1)
+about_step set s (Offline p) reply new same machine step = rw (← machine) step.0
+about_step set s (Online p) reply new same machine step = rw (← machine) step.0
 
-about_from : (set : SetData) (s : State) (history : List Entry) → task_count s ≡ length set.tasks → IsLegalFrom s history → All (λ (e : Entry). IsAboutSet set e.event) history
-about_from set s [] same legal = All-nil (λ (e : Entry). IsAboutSet set e.event)
-about_from set s (entry ∷ rest) same legal =
+about_from : (set : SetData) (s : State) (history : List Entry) → task_count s ≡ length set.tasks → s.processors ≡ set.processors → IsLegalFrom s history → All (λ (e : Entry). IsAboutSet set e.event) history
+about_from set s [] same machine legal = All-nil (λ (e : Entry). IsAboutSet set e.event)
+about_from set s (entry ∷ rest) same machine legal =
     All-cons (λ (e : Entry). IsAboutSet set e.event) entry rest
-    (about_step set s entry.event entry.reply (effect_of s entry) same legal.0)
-    (about_from set (effect_of s entry) rest (same_count s (effect_of s entry) (same_tasks-effect s entry) ∙ same) legal.1)
+    (about_step set s entry.event entry.reply (effect_of s entry) same machine legal.0)
+    (about_from set (effect_of s entry) rest (same_count s (effect_of s entry) (same_tasks-effect s entry) ∙ same) ((same_tasks-effect s entry).processors ∙ machine) legal.1)
 
 processors_from : (s : State) (history : List Entry) → IsState s → IsLegalFrom s history → All (λ (e : Entry). HasProcessors e.reply) history
 processors_from s [] ok legal = All-nil (λ (e : Entry). HasProcessors e.reply)
@@ -117,24 +120,26 @@ contexts_in_order s history n few most t context within =
     rw (get_or-map-range_with_len (context_of s history) 0 n t t context (omega arith) (omega arith)) (given_context s history t few (omega arith))
 
 -- ---- the schedule
-legal_schedule : (set : SetData) (history : List Entry) → IsWritableHistory set history → IsSchedule (schedule_of set history)
-legal_schedule set history writable =
+legal_schedule : (version : ℕ) (set : SetData) (history : List Entry) → IsWritableHistory version set history → IsSchedule (schedule_of version set history)
+legal_schedule version set history writable =
     let valid = writable.tasks.valid in
     let start = start_of set in
     let same : task_count start ≡ length set.tasks = length-map set.tasks (λ (task : TaskData). task.priority) in
-    let about = about_from set start history same writable.legal in
+    let about = about_from set start history same refl writable.legal in
+    let of_version = legal_has_version version start history writable.legal (λ k d within. (writable.posted k d within).2) in
     let named = legal_names set history valid writable.legal in
     let of_processors = processors_from start history (IsState-start set valid) writable.legal in
     record {
+      known = writable.known;
       tasks = writable.tasks;
       few = writable.few;
-      each_entry = λ k d within. record { caller = (writable.posted k d within).0; tasks = record { event = about k d within; reply = named k d within }; units = (writable.posted k d within).1; processors = of_processors k d within };
+      each_entry = λ k d within. record { caller = (writable.posted k d within).0; tasks = record { event = about k d within; reply = named k d within }; of_version = of_version k d within; units = (writable.posted k d within).1; processors = of_processors k d within };
       one_each = length-map-range_with_len (context_of start history) 0 (length set.tasks);
       in_order = contexts_in_order start history (length set.tasks) valid.processors.1 valid.count;
     }
 
-pub legal_is_valid : (set : SetData) (history : List Entry) → IsWritableHistory set history → IsSchedule (schedule_of set history) × IsValid (schedule_of set history)
-legal_is_valid set history writable = (
-  legal_schedule set history writable,
+pub legal_is_valid : (version : ℕ) (set : SetData) (history : List Entry) → IsWritableHistory version set history → IsSchedule (schedule_of version set history) × IsValid (schedule_of version set history)
+legal_is_valid version set history writable = (
+  legal_schedule version set history writable,
   record { passing = legal_passes (start_of set) history (IsState-start set writable.tasks.valid) writable.legal; contexts = refl },
 )

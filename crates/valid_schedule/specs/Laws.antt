@@ -1,10 +1,11 @@
 -- The laws about valid schedules.
 use Rattle.std.specs.Prelude.{◌≡◌, ℕ, ◌<◌, ◌≤◌, List, length, All}
 use Rattle.task_set.specs.TaskSet.{SetData}
-use Rattle.task_set.specs.Event.{HasUnits}
+use Rattle.task_set.specs.Event.{HasUnits, IsOfVersion}
 use Rattle.scheduler_reply.specs.declared.reply.Entry.{Entry}
 use Rattle.link_state.specs.History.{IsLegal, IsBestThroughout}
 use Rattle.certificate_laws.specs.Improving.{HasNoImprovingChainThroughout}
+use Rattle.text_fields.specs.Version.{IsVersion}
 use Rattle.schedule_text.specs.Schedule.{ScheduleData, IsSchedule, IsScheduleSet}
 use Rattle.valid_schedule.specs.Valid.{IsValid, IsInvalid, schedule_of}
 
@@ -24,17 +25,19 @@ ValidIsBest = (schedule : ScheduleData) → IsSchedule schedule → IsValid sche
 abbrev pub ValidHasNoImprovingChain : Type 0
 ValidHasNoImprovingChain = (schedule : ScheduleData) → IsSchedule schedule → IsValid schedule → HasNoImprovingChainThroughout schedule.set schedule.entries
 
--- the stream of the entry is below 16, and a tick has units of the format
-abbrev pub IsPostedEntry : Entry → Type 0
-IsPostedEntry entry = (entry.caller < 16) × HasUnits entry.event
+-- the stream of the entry is below 16, a tick has units of the format, and its version has such an event
+abbrev pub IsPostedEntry : ℕ → Entry → Type 0
+IsPostedEntry version entry = (entry.caller < 16) × HasUnits entry.event × IsOfVersion version entry.event
 
--- the history has so few entries that a schedule can have them, each of them can be written, and it is legal
-pub record IsWritableHistory (set : SetData) (history : List Entry) : Type 0 where
+-- the history has so few entries that a schedule can have them, each of them can be written in this version of the
+-- format, and it is legal
+pub record IsWritableHistory (version : ℕ) (set : SetData) (history : List Entry) : Type 0 where
+  pub known : IsVersion version
   pub tasks : IsScheduleSet set
   pub few : length history ≤ 20000
-  pub posted : All IsPostedEntry history
+  pub posted : All (IsPostedEntry version) history
   pub legal : IsLegal set history
 
 -- the schedule of such a history is a valid one
 abbrev pub LegalIsValid : Type 0
-LegalIsValid = (set : SetData) (history : List Entry) → IsWritableHistory set history → IsSchedule (schedule_of set history) × IsValid (schedule_of set history)
+LegalIsValid = (version : ℕ) (set : SetData) (history : List Entry) → IsWritableHistory version set history → IsSchedule (schedule_of version set history) × IsValid (schedule_of version set history)

@@ -77,6 +77,6 @@ pub record IsInvalidText (bytes : List ℕ) (number defect : ℕ) : Type 0 where
   pub is_text : IsTextOf bytes schedule
   pub invalid : IsInvalid schedule number defect
 
--- the schedule of a history, with the contexts that it gives
-abbrev pub schedule_of : SetData → List Entry → ScheduleData
-schedule_of set history = record { set = set; entries = history; contexts = contexts_of set history }
+-- the schedule of a history in a version of the format, with the contexts that it gives
+abbrev pub schedule_of : ℕ → SetData → List Entry → ScheduleData
+schedule_of version set history = record { version = version; set = set; entries = history; contexts = contexts_of set history }
