@@ -16,17 +16,17 @@ use Rattle.generated_run.specs.declared.sizes.Sizes.{Sizes}
 abbrev pub IsInputOf : Sizes → SetData → List Posted → Type 0
 IsInputOf sizes set events = IsGeneratedInput sizes.number sizes.processors sizes.tasks sizes.events set events
 
--- the text is the canonical one of the input of these numbers
+-- the text is the canonical one of the input of these numbers, in the first version
 pub record WritesInput (sizes : Sizes) (put : List ℕ) : Type 0 where
   pub set : SetData
   pub events : List Posted
   pub generated : IsInputOf sizes set events
-  pub text : put ≡ canonical_input_text set events
+  pub text : put ≡ canonical_input_text 1 set events
 
 -- what `make` writes: that text and no other, and it is an input text
 pub record IsMakeOf (sizes : Sizes) (put : List ℕ) : Type 0 where
   pub writes : WritesInput sizes put
-  pub input : IsInputText put writes.set writes.events
+  pub input : IsInputText 1 put writes.set writes.events
   pub only : (other : List ℕ) → WritesInput sizes other → other ≡ put
 
 -- the text is the summary of a legal history of the events of the input of these numbers, in their order, and of the

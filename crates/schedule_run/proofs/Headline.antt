@@ -14,8 +14,9 @@ use Rattle.link_state.specs.Dispatch.{contexts_of}
 use Rattle.thread_replay.specs.Replayed.{IsReplayOf}
 use Rattle.schedule_run.specs.Run.{Replays}
 
-pub headline : (read put : List ℕ) (set : SetData) (events : List Posted) (core : CoreData) (printed : List Context) → IsInputText read set events → IsReplayOf set events core → printed ≡ contexts_of set core.history → put ≡ schedule_text set core.history printed → Replays read put
-headline read put set events core printed input replayed contexts text = record {
+pub headline : (read put : List ℕ) (version : ℕ) (set : SetData) (events : List Posted) (core : CoreData) (printed : List Context) → IsInputText version read set events → IsReplayOf set events core → printed ≡ contexts_of set core.history → put ≡ schedule_text version set core.history printed → Replays read put
+headline read put version set events core printed input replayed contexts text = record {
+  version = version;
   set = set;
   events = events;
   history = core.history;

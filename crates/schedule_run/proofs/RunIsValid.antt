@@ -1,6 +1,5 @@
 -- The text of a replay is the text of a valid schedule: its history is legal, and it has the contexts that its history gives.
 use Rattle.std.proofs.Common.{ℕ, ◌<◌, ◌≤◌, List, length, All, sym, subst, arith}
-use Rattle.task_set.specs.Event.{HasUnits}
 use Rattle.task_set.specs.declared.context.Context.{Context}
 use Rattle.trace_reader.specs.declared.posted.Posted.{Posted}
 use Rattle.schedule_text.specs.Schedule.{IsSchedule}
@@ -9,35 +8,31 @@ use Rattle.valid_schedule.specs.Laws.{IsWritableHistory}
 use Rattle.valid_schedule.specs.Valid.{IsValid}
 use Rattle.valid_schedule.proofs.LegalSchedules.{legal_is_valid}
 use Rattle.schedule_run.specs.Run.{Replays, IsRunOf}
-use Rattle.schedule_run.proofs.InputNumbers.{input_streams, input_priorities}
+use Rattle.schedule_run.proofs.InputNumbers.{IsOfFormat, input_streams, input_priorities, input_version}
 use Rattle.schedule_run.proofs.OneText.{one_text}
 
--- a stream and units of the format
-IsOfFormat : Posted → Type 0
-IsOfFormat posted = (posted.stream < 16) × HasUnits posted.event
-
-writable_history : (read put : List ℕ) (replayed : Replays read put) → IsWritableHistory replayed.set replayed.history
-unfolding IsOfFormat
+writable_history : (read put : List ℕ) (replayed : Replays read put) → IsWritableHistory replayed.version replayed.set replayed.history
 writable_history read put replayed =
-    let posted = input_streams read replayed.set replayed.events replayed.input in
+    let posted = input_streams replayed.version read replayed.set replayed.events replayed.input in
     let streams : All (λ (p : Posted). p.stream < 16) replayed.events = λ k d within. (posted k d within).0 in
     let count = merge_length replayed.events replayed.history streams replayed.merge in
     let input_few = replayed.input.says.few in
     record {
-      tasks = record { valid = replayed.input.says.valid; priorities = input_priorities read replayed.set replayed.events replayed.input };
+      known = input_version replayed.version read replayed.set replayed.events replayed.input;
+      tasks = record { valid = replayed.input.says.valid; priorities = input_priorities replayed.version read replayed.set replayed.events replayed.input };
       few = omega arith;
-      posted = merge_posted IsOfFormat replayed.events replayed.history posted replayed.merge;
+      posted = merge_posted (IsOfFormat replayed.version) replayed.events replayed.history posted replayed.merge;
       legal = replayed.legal;
     }
 
 pub is_run_of : (read put : List ℕ) → Replays read put → IsRunOf read put
 is_run_of read put replayed =
-    let made = legal_is_valid replayed.set replayed.history (writable_history read put replayed) in
+    let made = legal_is_valid replayed.version replayed.set replayed.history (writable_history read put replayed) in
     record {
       replayed = replayed;
-      schedule = record { set = replayed.set; entries = replayed.history; contexts = replayed.printed };
+      schedule = record { version = replayed.version; set = replayed.set; entries = replayed.history; contexts = replayed.printed };
       is_text = record {
-        is_schedule = subst (λ (contexts : List Context). IsSchedule (record { set = replayed.set; entries = replayed.history; contexts = contexts })) (sym replayed.contexts) made.0;
+        is_schedule = subst (λ (contexts : List Context). IsSchedule (record { version = replayed.version; set = replayed.set; entries = replayed.history; contexts = contexts })) (sym replayed.contexts) made.0;
         text = replayed.text;
       };
       valid = record { passing = made.1.passing; contexts = replayed.contexts };

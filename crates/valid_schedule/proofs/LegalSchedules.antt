@@ -133,7 +133,7 @@ legal_schedule version set history writable =
       known = writable.known;
       tasks = writable.tasks;
       few = writable.few;
-      each_entry = λ k d within. record { caller = (writable.posted k d within).0; tasks = record { event = about k d within; reply = named k d within }; of_version = of_version k d within; units = (writable.posted k d within).1; processors = of_processors k d within };
+      each_entry = λ k d within. record { caller = (writable.posted k d within).0; tasks = record { event = about k d within; reply = named k d within }; of_version = record { event = (of_version k d within).0; reply = (of_version k d within).1 }; units = (writable.posted k d within).1; processors = of_processors k d within };
       one_each = length-map-range_with_len (context_of start history) 0 (length set.tasks);
       in_order = contexts_in_order start history (length set.tasks) valid.processors.1 valid.count;
     }
