@@ -26,7 +26,7 @@ struct Bench {
     second: Pass,
     queues: Vec<Queue>,
     receivers: (Receiver, Receiver),
-    ghost tasks: { length board.set.tasks ≡ 2 },
+    ghost tasks: { (length board.set.tasks ≡ 2) × (board.set.processors ≡ 2) },
     ghost passes: { AreAll board (first ∷ second ∷ []) },
     ghost lanes: { queues.items ≡ board.queues },
     ghost ends: { queues.items ≡ receivers.0.queue ∷ receivers.1.queue ∷ [] },
@@ -68,8 +68,7 @@ impl Bench {
         let set = two_tasks(rt, alloc)?;
         let (queues, senders, receivers) = two_queues(alloc)?;
         let Ok((board, mut passes)) = Board::new(alloc, &set, senders, queues.as_slice(), 2) else {
-            assert!(rt; false);
-            unreachable!()
+            return Err(OutOfMemory.into());
         };
         let (Some(second), Some(first)) = (passes.pop(), passes.pop()) else {
             unreachable!()
@@ -136,8 +135,7 @@ impl Bench {
         passes.push_reserved(first);
         passes.push_reserved(second);
         let Ok((core, senders)) = board.close(passes) else {
-            assert!(rt; false);
-            unreachable!()
+            return Err(OutOfMemory.into());
         };
         assert_eq!(rt; senders.len(), 2);
         Ok(core)
@@ -390,7 +388,7 @@ struct Told {
 /// The event that a caller posts at this number: it arrives and departs with a task of its own, and every tick has
 /// another length.
 fn event_of(caller: u32, number: u32) -> Event
-    ensures { IsOfTask 8 result }
+    ensures { IsOfSystem 1 8 result }
 {
     let task = caller % THREADS;
     match number % 4 {
@@ -403,7 +401,7 @@ fn event_of(caller: u32, number: u32) -> Event
 /// Posts a caller's events, as long as nothing is refused, and writes the receipts down.
 fn post_share<R: Wait>(rt: &R, board: &Board, pass: &mut Pass, told: &Mutex<Vec<Told>>)
     requires board { pass.old.board ≡ board.now.id }
-    requires tasks { length board.now.set.tasks ≡ 8 }
+    requires tasks { (length board.now.set.tasks ≡ 8) × (board.now.set.processors ≡ 1) }
     ensures { Grown pass.old pass.new × (pass.new.eyes ≡ pass.old.eyes) }
 {
     let caller = pass.caller();
@@ -431,7 +429,7 @@ fn post_shares<R: Threads + Wait + Sync>(
     told: &Mutex<Vec<Told>>,
 )
     requires passes { AreAll board.now passes.old.items }
-    requires tasks { length board.now.set.tasks ≡ 8 }
+    requires tasks { (length board.now.set.tasks ≡ 8) × (board.now.set.processors ≡ 1) }
     ensures { AreAll board.now passes.new.items }
 {
     thread::for_each_mut(
@@ -439,7 +437,8 @@ fn post_shares<R: Threads + Wait + Sync>(
         passes.as_mut_slice(),
         THREADS as usize,
         &|_, pass: &mut Pass|
-            requires { (pass.old.board ≡ board.now.id) × (length board.now.set.tasks ≡ 8) }
+            requires { (pass.old.board ≡ board.now.id) × (length board.now.set.tasks ≡ 8)
+                × (board.now.set.processors ≡ 1) }
             ensures { Grown pass.old pass.new × (pass.new.eyes ≡ pass.old.eyes) }
         { post_share(rt, board, pass, told) },
     );
@@ -484,7 +483,8 @@ fn eight_tasks(rt: &impl Abort, alloc: Global) -> Result<TaskSet, Fail>
 /// A board of eight callers over that set, with their passes.
 fn eight_callers(rt: &impl Abort, alloc: Global) -> Result<(Board, Vec<Pass>), Fail>
     ensures passes { IfOk result (λ made. AreAll made.0 made.1.items) }
-    ensures tasks { IfOk result (λ made. length made.0.set.tasks ≡ 8) }
+    ensures tasks { IfOk result
+        (λ made. (length made.0.set.tasks ≡ 8) × (made.0.set.processors ≡ 1)) }
 {
     let set = eight_tasks(rt, alloc)?;
     let (queue, sender, _receiver) = Queue::new(alloc, THREADS)?;

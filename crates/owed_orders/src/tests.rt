@@ -27,7 +27,8 @@ struct Bench {
     slots: Slots,
     first: Processor,
     second: Processor,
-    ghost tasks: { (length board.set.tasks ≡ 2) × (slots.set.processors ≡ 2) },
+    ghost tasks: { (length board.set.tasks ≡ 2) × (board.set.processors ≡ 2)
+        × (slots.set.processors ≡ 2) },
     ghost pass_is: { pass.board ≡ board.id },
     ghost eyes: { AreEyesOf board.queues pass.eyes },
     ghost lanes: { queues.items ≡ board.queues },

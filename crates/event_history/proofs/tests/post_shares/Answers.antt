@@ -9,7 +9,7 @@ for_each_mut-requires-clause-accepts g c κs within = λ i p low is.
     let board = c.args.board.now in
     let items : List PassData = c.as_mut_slice.result.now in
     let from : AreFrom board 0 items = subst (AreFrom board 0) (sym c.as_mut_slice.ensures.value) c.requires.passes.1 in
-    (ap (λ (q : PassData). q.board) is ∙ board_at board 0 items i p.now from low, c.requires.tasks)
+    (ap (λ (q : PassData). q.board) is ∙ board_at board 0 items i p.now from low, c.requires.tasks.0, c.requires.tasks.1)
 
 pub returns : goal.returns
 returns g c =
