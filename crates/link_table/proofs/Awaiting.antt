@@ -1,19 +1,20 @@
 -- The processors that tasks wait for: who waits for some, and what stays as it was when tasks move.
 use Rattle.std.proofs.Common.{◌≡◌, ◌≢◌, ℕ, ◌<◌, Bool, true, false, not, ◌&&◌, List, [], ◌∷◌, length, get_or, set, replicate, Option, Some, None, refl, sym, ap, ◌∙◌, subst, inl, inr, ◌⊎◌, IsTrue, arith, length-set, get_or-set_same, get_or-set_other}
 use Rattle.std.specs.Prelude.{MatchOption}
-use Rattle.std.proofs.lemmas.Bool.{cases_eq, cases_lt, cases_Bool, true≢false}
+use Rattle.std.proofs.lemmas.Bool.{cases_eq, cases_lt, cases_Bool, and_from, and_parts, true≢false}
 use Rattle.std.proofs.lemmas.List.{set-set, get_or-replicate, length-replicate, length-map}
 use Rattle.std.proofs.lemmas.List.FromFn.{get_or-map-range_with_len}
 use Rattle.std.proofs.lemmas.Option.{same_Some}
 use Rattle.affinity_mask.specs.ProcSet.{has, empty, Meets}
-use Rattle.affinity_mask.proofs.Sets.{has-zero, same_set}
+use Rattle.affinity_mask.proofs.Sets.{has-zero, has-intersection, same_set}
 use Rattle.task_set.specs.TaskSet.{TaskData, SetData, priorities}
-use Rattle.link_state.specs.State.{State, IsState, IsWaiting, task_count, task_on, is_ready, is_linked, effective_mask, start_of, state_with_ready, state_with_absent, state_with_idle, state_after_leaving}
+use Rattle.link_state.specs.State.{State, IsState, IsWaiting, task_count, task_on, is_ready, is_linked, mask_of, effective_mask, start_of, state_with_ready, state_with_absent, state_with_mask, state_with_idle, state_after_leaving}
 use Rattle.link_state.specs.Chain.{IsChainOf, IsSimple, occupant_after_shift, state_after_shift}
-use Rattle.link_table.specs.Layout.{layout_of, runs_on}
+use Rattle.link_table.specs.Layout.{layout_of, mask_has}
 use Rattle.link_table.specs.LinksView.{awaited, AreAwaited}
 use Rattle.link_state.specs.Step.{IsNobodyInto, IsMostUrgentInto}
 use Rattle.waiting_index.specs.WaitingTasks.{Waiting, IsNobodyFor, IsFirstFor, masks_with}
+use Rattle.link_state.proofs.Changes.{mask_of-other}
 use Rattle.link_state.proofs.Idling.{IsWaiting-state_with_idle, task_on-state_with_idle}
 use Rattle.link_state.proofs.Leaving.{task_on-state_after_leaving, task_on-stays}
 use Rattle.link_state.proofs.Linked.{place_in, is_linked-from_on, task_on-linked, not_on, not_linked-from_on, linked_number}
@@ -25,7 +26,7 @@ use Rattle.link_state.proofs.Start.{none_ready}
 use Rattle.link_state.proofs.Unique.{ready_number}
 
 -- ---- who waits for some processor
-pub awaited-waiting : (s : State) (t : ℕ) → IsWaiting s t → awaited s t ≡ effective_mask s t
+pub awaited-waiting : (s : State) (t : ℕ) → IsWaiting s t → awaited s t ≡ mask_of s t
 awaited-waiting s t waits = rw (waits.ready, waits.not_linked) refl
 
 awaited-absent : (s : State) (t : ℕ) → is_ready s t ≡ false → awaited s t ≡ empty
@@ -37,7 +38,7 @@ awaited-linked s t linked = elim (cases_Bool (is_ready s t)) [
   | inr absent ↦ awaited-absent s t absent
 ]
 
-awaited-same : (s new : State) (t : ℕ) → is_ready new t ≡ is_ready s t → is_linked new t ≡ is_linked s t → effective_mask new t ≡ effective_mask s t → awaited s t ≡ awaited new t
+awaited-same : (s new : State) (t : ℕ) → is_ready new t ≡ is_ready s t → is_linked new t ≡ is_linked s t → mask_of new t ≡ mask_of s t → awaited s t ≡ awaited new t
 awaited-same s new t ready linked mask = rw (ready, linked, mask) refl
 
 waits_from_awaited : (s : State) (X t : ℕ) → Meets X (awaited s t) → IsWaiting s t
@@ -49,23 +50,27 @@ waits_from_awaited s X t m = elim (cases_Bool (is_ready s t)) [
   | inr absent ↦ absurd (true≢false (sym (m.2) ∙ ap (λ n. has n (m.0)) (awaited-absent s t absent) ∙ has-zero (m.0)))
 ]
 
--- the first that waits for a processor of the set is the most urgent one that can enter there
-pub most_urgent_from_first : (s : State) → IsState s → (w : Waiting) → w.priorities ≡ s.priorities → AreAwaited s w.masks → (X : ℕ) (found : Option ℕ) → MatchOption found (IsNobodyFor w X) (IsFirstFor w X) → MatchOption found (IsNobodyInto s X) (IsMostUrgentInto s X)
-most_urgent_from_first s ok w same are X found h = go found h
+-- the first that waits for a processor on line of the set is the most urgent one that can enter there
+pub most_urgent_from_first : (s : State) → IsState s → (w : Waiting) → w.priorities ≡ s.priorities → AreAwaited s w.masks → (X Y : ℕ) → ((p : ℕ) → has Y p ≡ (has X p && has s.online p)) → (found : Option ℕ) → MatchOption found (IsNobodyFor w Y) (IsFirstFor w Y) → MatchOption found (IsNobodyInto s X) (IsMostUrgentInto s X)
+most_urgent_from_first s ok w same are X Y is_both found h = go found h
   where
-    seen : (v p : ℕ) → IsWaiting s v → IsTrue (has X p) → IsTrue (has (effective_mask s v) p) → Meets X (get_or w.masks v empty)
-    seen v p waits inside can = (p, inside, ap (λ n. has n p) (are.each v (ready_number s ok v waits.ready) ∙ awaited-waiting s v waits) ∙ can)
+    seen : (v p : ℕ) → IsWaiting s v → IsTrue (has X p) → IsTrue (has (effective_mask s v) p) → Meets Y (get_or w.masks v empty)
+    seen v p waits inside can =
+        let parts = and_parts (has (mask_of s v) p) (has s.online p) (sym (has-intersection (mask_of s v) s.online p) ∙ can) in
+        (p, is_both p ∙ and_from (has X p) (has s.online p) inside parts.1, ap (λ n. has n p) (are.each v (ready_number s ok v waits.ready) ∙ awaited-waiting s v waits) ∙ parts.0)
 
-    go : (found : Option ℕ) → MatchOption found (IsNobodyFor w X) (IsFirstFor w X) → MatchOption found (IsNobodyInto s X) (IsMostUrgentInto s X)
+    go : (found : Option ℕ) → MatchOption found (IsNobodyFor w Y) (IsFirstFor w Y) → MatchOption found (IsNobodyInto s X) (IsMostUrgentInto s X)
     go None none = λ v p waits inside can. none v (seen v p waits inside can)
     go (Some t) first =
         let number : t < task_count s = rw same at first.number in
-        let m : Meets X (awaited s t) = subst (λ n. Meets X n) (are.each t number) first.waits in
-        let waits = waits_from_awaited s X t m in
+        let m : Meets Y (awaited s t) = subst (λ n. Meets Y n) (are.each t number) first.waits in
+        let waits = waits_from_awaited s Y t m in
+        let inside = and_parts (has X m.0) (has s.online m.0) (sym (is_both m.0) ∙ m.1) in
+        let masked : IsTrue (has (mask_of s t) m.0) = ap (λ n. has n (m.0)) (sym (awaited-waiting s t waits)) ∙ m.2 in
         record {
           waits = waits;
-          there = (m.0, m.1, ap (λ n. has n (m.0)) (sym (awaited-waiting s t waits)) ∙ m.2);
-          most_urgent = λ v p waits_v inside can. rw same at first.most_urgent v (seen v p waits_v inside can);
+          there = (m.0, inside.0, has-intersection (mask_of s t) s.online m.0 ∙ and_from (has (mask_of s t) m.0) (has s.online m.0) masked inside.1);
+          most_urgent = λ v p waits_v inside_v can. rw same at first.most_urgent v (seen v p waits_v inside_v can);
         }
 
 -- ---- nobody waits at first
@@ -74,6 +79,10 @@ AreAwaited-start set masks is = rw is record {
   count = length-replicate (length (priorities set)) empty;
   each = λ t lt. get_or-replicate (length (priorities set)) t empty empty lt ∙ sym (awaited-absent (start_of set) t (none_ready (length set.tasks) t));
 }
+
+-- ---- nothing of it changes where other processors are on line
+pub AreAwaited-online : (s : State) (masks : List ℕ) (online : ℕ) → AreAwaited s masks → AreAwaited (record s { online = online }) masks
+AreAwaited-online s masks online are = record { count = are.count; each = are.each }
 
 -- ---- one task changes, and the others stay as they were
 same_linked : (s new : State) (u : ℕ) → ((p : ℕ) → task_on s p ≡ Some u → is_linked new u ≡ true) → ((p : ℕ) → task_on new p ≡ Some u → is_linked s u ≡ true) → is_linked new u ≡ is_linked s u
@@ -93,20 +102,30 @@ module _ (s : State) (ok : IsState s) (masks : List ℕ) (are : AreAwaited s mas
     ];
   }
 
-  pub AreAwaited-ready : IsWaiting (state_with_ready s t) t → AreAwaited (state_with_ready s t) (set masks t (effective_mask s t))
-  AreAwaited-ready waits = written (state_with_ready s t) (effective_mask s t) refl (sym (awaited-waiting (state_with_ready s t) t waits))
+  pub AreAwaited-ready : IsWaiting (state_with_ready s t) t → AreAwaited (state_with_ready s t) (set masks t (mask_of s t))
+  AreAwaited-ready waits = written (state_with_ready s t) (mask_of s t) refl (sym (awaited-waiting (state_with_ready s t) t waits))
       (λ u ne lt. awaited-same s (state_with_ready s t) u (get_or-set_other s.ready t u true false ne) refl refl)
 
   pub AreAwaited-absent : AreAwaited (state_with_absent s t) (set masks t empty)
   AreAwaited-absent = written (state_with_absent s t) empty refl (sym (awaited-absent (state_with_absent s t) t (get_or-set_same s.ready t false false (let n = ok.ready_count in omega arith))))
       (λ u ne lt. awaited-same s (state_with_absent s t) u (get_or-set_other s.ready t u false false ne) refl refl)
 
-  pub AreAwaited-idle : (p : ℕ) → task_on s p ≡ Some t → AreAwaited (state_with_idle s p) (set masks t (effective_mask s t))
-  AreAwaited-idle p on = written (state_with_idle s p) (effective_mask s t) refl (sym (awaited-waiting (state_with_idle s p) t (IsWaiting-state_with_idle s ok p t on)))
+  pub AreAwaited-idle : (p : ℕ) → task_on s p ≡ Some t → AreAwaited (state_with_idle s p) (set masks t (mask_of s t))
+  AreAwaited-idle p on = written (state_with_idle s p) (mask_of s t) refl (sym (awaited-waiting (state_with_idle s p) t (IsWaiting-state_with_idle s ok p t on)))
       (λ u ne lt. awaited-same s (state_with_idle s p) u refl (same_linked s (state_with_idle s p) u (there u ne) (λ q e. is_linked-from_on s q u (task_on-state_with_idle s p q u e).0)) refl)
     where
       there : (u : ℕ) → u ≢ t → (q : ℕ) → task_on s q ≡ Some u → is_linked (state_with_idle s p) u ≡ true
       there u ne q e = is_linked-from_on (state_with_idle s p) q u (get_or-set_other s.on p q None None (λ same. ne (same_Some u t (sym e ∙ ap (task_on s) same ∙ on))) ∙ e)
+
+  -- another mask of an absent task: it does not wait
+  pub AreAwaited-masked : is_ready s t ≡ false → (mask : ℕ) → AreAwaited (state_with_mask s t mask) masks
+  AreAwaited-masked absent mask = record {
+    count = are.count;
+    each = λ u lt. are.each u lt ∙ elim (cases_eq u t) [
+      | inl e ↦ rw e (awaited-absent s t absent ∙ sym (awaited-absent (state_with_mask s t mask) t absent))
+      | inr ne ↦ awaited-same s (state_with_mask s t mask) u refl refl (mask_of-other s t mask u ne)
+    ];
+  }
 
   -- a linked task leaves: it did not wait, and does not then
   pub AreAwaited-leaving : is_linked s t ≡ true → AreAwaited (state_after_leaving s t) masks
@@ -189,7 +208,7 @@ module _ (s : State) (ok : IsState s) (t : ℕ) (number : t < task_count s) (wai
           not_linked = not_linked-from_on (state_after_shift s t chain) u (λ p e. handed_on-apart s ok t waits chain (Avoids-none chain simple) p u handed e);
         }
 
-    pub AreAwaited-shift : (out : Option ℕ) (runs : ℕ) → out ≡ handed_on s (Some t) chain → ((q : ℕ) → has runs q ≡ runs_on (layout_of s) out q) → AreAwaited (state_after_shift s t chain) (masks_with (set masks t empty) out runs)
+    pub AreAwaited-shift : (out : Option ℕ) (runs : ℕ) → out ≡ handed_on s (Some t) chain → ((q : ℕ) → has runs q ≡ mask_has (layout_of s) out q) → AreAwaited (state_after_shift s t chain) (masks_with (set masks t empty) out runs)
     AreAwaited-shift None runs is are_runs = record {
       count = length-set masks t empty ∙ are.count;
       each = λ u lt. first_written u lt (λ handed. (let e : ◌≡◌ {A = Option ℕ} None (Some u) = is ∙ handed in cc));
@@ -201,18 +220,18 @@ module _ (s : State) (ok : IsState s) (t : ℕ) (number : t < task_count s) (wai
             let there = displaced_on v (sym is) in
             let below = linked_number s there.0 v ok there.1 in
             rw e (get_or-set_same (set masks t empty) v runs empty (let n = are.count in let m = length-set masks t empty in omega arith)
-            ∙ same_set runs (effective_mask s v) are_runs ∙ sym (awaited-waiting (state_after_shift s t chain) v (displaced_waits v (sym is))))
+            ∙ same_set runs (mask_of s v) are_runs ∙ sym (awaited-waiting (state_after_shift s t chain) v (displaced_waits v (sym is))))
         | inr ne ↦ get_or-set_other (set masks t empty) v u runs empty ne ∙ first_written u lt (λ handed. ne (sym (same_Some v u (is ∙ handed))))
       ];
     }
 
 -- ---- a task that is not linked becomes ready, and is shifted: whether it waited or not, it waits for nothing then
 pub AreAwaited-enter : (s : State) → IsState s → (t : ℕ) → t < task_count s → is_linked s t ≡ false → (chain : List ℕ) (end : ℕ) → IsChainOf (state_with_ready s t) t chain end → IsSimple chain
-    → (masks : List ℕ) → AreAwaited s masks → (out : Option ℕ) (runs : ℕ) → out ≡ handed_on (state_with_ready s t) (Some t) chain → ((q : ℕ) → has runs q ≡ runs_on (layout_of s) out q)
+    → (masks : List ℕ) → AreAwaited s masks → (out : Option ℕ) (runs : ℕ) → out ≡ handed_on (state_with_ready s t) (Some t) chain → ((q : ℕ) → has runs q ≡ mask_has (layout_of s) out q)
     → AreAwaited (state_after_shift (state_with_ready s t) t chain) (masks_with (set masks t empty) out runs)
 AreAwaited-enter s ok t number not_linked chain end is_chain simple masks are out runs is are_runs =
     let new = state_with_ready s t in
     let waits : IsWaiting new t = record { ready = is_ready-state_with_ready s ok t number; not_linked = not_linked } in
     let ready = AreAwaited-ready s ok masks are t number waits in
-    subst (λ (written : List ℕ). AreAwaited (state_after_shift new t chain) (masks_with written out runs)) (set-set masks t (effective_mask s t) empty)
-    (AreAwaited-shift new (IsState-state_with_ready s ok t number) t number waits chain end is_chain simple (set masks t (effective_mask s t)) ready out runs is are_runs)
+    subst (λ (written : List ℕ). AreAwaited (state_after_shift new t chain) (masks_with written out runs)) (set-set masks t (mask_of s t) empty)
+    (AreAwaited-shift new (IsState-state_with_ready s ok t number) t number waits chain end is_chain simple (set masks t (mask_of s t)) ready out runs is are_runs)

@@ -3,20 +3,32 @@ use Rattle.std.proofs.Common.{◌≡◌, ℕ, ◌<◌, ◌≤◌, Bool, true, fa
 use Rattle.std.proofs.Math.Bool.{and-true, and-false}
 use Rattle.std.proofs.lemmas.Bool.{cases_eq, and_parts, or_cases, true≢false, false≢true}
 use Rattle.affinity_mask.specs.ProcSet.{has, empty}
-use Rattle.affinity_mask.proofs.Sets.{has-zero}
+use Rattle.affinity_mask.proofs.Sets.{has-zero, has-intersection}
 use Rattle.link_state.specs.State.{State, IsState, task_on, effective_mask}
 use Rattle.link_state.specs.Chain.{CanShift}
-use Rattle.link_table.specs.Layout.{Layout, layout_of, runs_on}
+use Rattle.link_table.specs.Layout.{Layout, layout_of, mask_has, runs_on}
 use Rattle.link_state.proofs.Masks.{effective_mask_below}
 
 occupant_runs : (s : State) (q : ℕ) (o : Option ℕ) → runs_on (layout_of s) o q ≡ true → (u : ℕ) × (o ≡ Some u) × IsTrue (has (effective_mask s u) q)
 occupant_runs s q None h = absurd (false≢true h)
 occupant_runs s q (Some u) h = (u, refl, h)
 
--- it depends on the masks and on who is on line alone
-pub runs_on-same : (a b : Layout) → a.masks ≡ b.masks → a.online ≡ b.online → (o : Option ℕ) (q : ℕ) → runs_on a o q ≡ runs_on b o q
-runs_on-same a b masks online None q = refl
-runs_on-same a b masks online (Some t) q = rw (masks, online) refl
+-- whether the mask of an occupant has a processor depends on the masks alone
+pub mask_has-same : (a b : Layout) → a.masks ≡ b.masks → (o : Option ℕ) (q : ℕ) → mask_has a o q ≡ mask_has b o q
+mask_has-same a b masks None q = refl
+mask_has-same a b masks (Some t) q = rw masks refl
+
+-- the occupant may run there where that processor is on line too
+runs_on-parts : (a : Layout) (o : Option ℕ) (q : ℕ) → runs_on a o q ≡ (mask_has a o q && has a.online q)
+runs_on-parts a None q = refl
+runs_on-parts a (Some t) q = has-intersection (get_or a.masks t empty) a.online q
+
+pub runs_on-online : (a : Layout) (o : Option ℕ) (q : ℕ) → has a.online q ≡ true → mask_has a o q ≡ runs_on a o q
+runs_on-online a o q online = sym (runs_on-parts a o q ∙ ap (λ b. mask_has a o q && b) online ∙ and-true (mask_has a o q))
+
+-- and nobody may run on a processor that is off line
+pub runs_on-offline : (a : Layout) (o : Option ℕ) (q : ℕ) → has a.online q ≡ false → false ≡ runs_on a o q
+runs_on-offline a o q offline = sym (runs_on-parts a o q ∙ ap (λ b. mask_has a o q && b) offline ∙ and-false (mask_has a o q))
 
 -- the set of all processors that pass the test
 pub fed_from_test : (s : State) (found q : ℕ) → ((p : ℕ) → has found p ≡ runs_on (layout_of s) (task_on s p) q) → (p : ℕ) → IsTrue (has found p) ↔ CanShift s p q

@@ -5,9 +5,9 @@ use Rattle.std.specs.Option.{ForSome}
 use Rattle.std.proofs.lemmas.Bool.{cases_eq, cases_lt, and_parts, ltb-true, true≢false}
 use Rattle.std.proofs.lemmas.List.{length-replicate, get_or-replicate, get_or_past}
 use Rattle.std.proofs.lemmas.Option.{same_Some}
-use Rattle.affinity_mask.specs.ProcSet.{has, empty, all_below}
+use Rattle.affinity_mask.specs.ProcSet.{has, empty, all_below, Within}
 use Rattle.affinity_mask.proofs.Sets.{has-zero, has-all_below, has-intersection}
-use Rattle.link_table.specs.Layout.{Layout, occupant_in, runs_on, IsNowhere, with_occupant, places_without, places_with}
+use Rattle.link_table.specs.Layout.{Layout, occupant_in, mask_has, IsNowhere, with_occupant, with_mask, places_without, places_with}
 use Rattle.link_table.specs.PlacesView.{IsIndex}
 use Rattle.link_state.proofs.Idling.{idle_at}
 use Rattle.link_state.proofs.Start.{none_on}
@@ -21,11 +21,11 @@ cases_Some (Some u) t = elim (cases_eq u t) [
 ]
 
 -- ---- the start
-pub IsIndex-start : (masks : List ℕ) (m : ℕ) (of on : List (Option ℕ)) (feeders : List ℕ) (linked online : ℕ) → m ≤ 64 → of ≡ replicate (length masks) None → on ≡ replicate m None → feeders ≡ replicate m empty → linked ≡ empty → online ≡ all_below m
+pub IsIndex-start : (masks : List ℕ) (m : ℕ) (of on : List (Option ℕ)) (feeders : List ℕ) (linked online : ℕ) → m ≤ 64 → ((t : ℕ) → Within (get_or masks t empty) (all_below m)) → of ≡ replicate (length masks) None → on ≡ replicate m None → feeders ≡ replicate m empty → linked ≡ empty
     → IsIndex (record { masks = masks; online = online; on = on }) of linked feeders
-IsIndex-start masks m of on feeders linked online few e1 e2 e3 e4 e5 = rw (e1, e2, e3, e4, e5) record {
+IsIndex-start masks m of on feeders linked online few lawful e1 e2 e3 e4 = rw (e1, e2, e3, e4) record {
   few = rw (length-replicate {A = Option ℕ} m None) few;
-  online = rw (length-replicate {A = Option ℕ} m None) (λ p h. h);
+  masks = rw (length-replicate {A = Option ℕ} m None) lawful;
   places_count = length-replicate (length masks) None;
   feeders_count = length-replicate m empty ∙ sym (length-replicate m None);
   place = λ p t e. absurd (let n = none_on m p in cc);
@@ -33,7 +33,7 @@ IsIndex-start masks m of on feeders linked online few e1 e2 e3 e4 e5 = rw (e1, e
   occupied = λ p. has-zero p ∙ ap (λ (o : Option ℕ). is_some o) (sym (none_on m p));
   fed = λ q p lt.
       let within : q < m = rw (length-replicate {A = Option ℕ} m None) at lt in
-      ap (λ (X : ℕ). has X p) (get_or-replicate m q empty empty within) ∙ has-zero p ∙ ap (λ (o : Option ℕ). runs_on (record { masks = masks; online = all_below m; on = replicate m None }) o q) (sym (none_on m p));
+      ap (λ (X : ℕ). has X p) (get_or-replicate m q empty empty within) ∙ has-zero p ∙ ap (λ (o : Option ℕ). mask_has (record { masks = masks; online = online; on = replicate m None }) o q) (sym (none_on m p));
 }
 
 -- ---- the places of tasks
@@ -105,11 +105,11 @@ module _ (a : Layout) (of : List (Option ℕ)) (linked : ℕ) (feeders : List �
   -- the index is written at p
   pub IsIndex-replaced : (of_then : List (Option ℕ)) (linked_then : ℕ) (feeders_then written : List ℕ) (runs : ℕ) → of_then ≡ places_with (places_without of (occupant_in a p)) guest p
       → ((q : ℕ) → has linked_then q ≡ (if q == p then is_some guest else has linked q)) → feeders_then ≡ written → length written ≡ length feeders
-      → ((q r : ℕ) → q < length feeders → has (get_or written q 0) r ≡ (if r == p then has runs q else has (get_or feeders q 0) r)) → ((q : ℕ) → has runs q ≡ runs_on a guest q)
+      → ((q r : ℕ) → q < length feeders → has (get_or written q 0) r ≡ (if r == p then has runs q else has (get_or feeders q 0) r)) → ((q : ℕ) → has runs q ≡ mask_has a guest q)
       → IsIndex (with_occupant a p guest) of_then linked_then feeders_then
   IsIndex-replaced of_then linked_then feeders_then written runs of_is linked_is written_is count feeders_are runs_are = rw (of_is, written_is) record {
     few = let n = length-set a.on p guest in let m = ix.few in omega arith;
-    online = rw (length-set a.on p guest) ix.online;
+    masks = rw (length-set a.on p guest) ix.masks;
     places_count = length-places_with of (occupant_in a p) guest p ∙ ix.places_count;
     feeders_count = count ∙ ix.feeders_count ∙ sym (length-set a.on p guest);
     place = place_then;
@@ -124,8 +124,8 @@ module _ (a : Layout) (of : List (Option ℕ)) (linked : ℕ) (feeders : List �
         let within : q < length feeders = omega arith in
         let there : q < length a.on = omega arith in
         elim (cases_eq r p) [
-          | inl same ↦ feeders_are q r within ∙ if_same r p (has runs q) (has (get_or feeders q 0) r) same ∙ runs_are q ∙ ap (λ (o : Option ℕ). runs_on a o q) (sym (ap (λ (n : ℕ). get_or (set a.on p guest) n None) same ∙ get_or-set_same a.on p guest None below))
-          | inr other ↦ feeders_are q r within ∙ if_other r p (has runs q) (has (get_or feeders q 0) r) other ∙ ix.fed q r there ∙ ap (λ (o : Option ℕ). runs_on a o q) (sym (get_or-set_other a.on p r guest None other))
+          | inl same ↦ feeders_are q r within ∙ if_same r p (has runs q) (has (get_or feeders q 0) r) same ∙ runs_are q ∙ ap (λ (o : Option ℕ). mask_has a o q) (sym (ap (λ (n : ℕ). get_or (set a.on p guest) n None) same ∙ get_or-set_same a.on p guest None below))
+          | inr other ↦ feeders_are q r within ∙ if_other r p (has runs q) (has (get_or feeders q 0) r) other ∙ ix.fed q r there ∙ ap (λ (o : Option ℕ). mask_has a o q) (sym (get_or-set_other a.on p r guest None other))
         ];
   }
 
@@ -136,11 +136,30 @@ occupant_listed a of linked feeders ix p u e = elim (cases_lt u (length of)) [
   | inr ge ↦ absurd (let past = get_or_past of u None ge in let there = ix.place p u e in cc)
 ]
 
--- a guest may run on processors of the machine alone
-pub runs_inside : (a : Layout) (of : List (Option ℕ)) (linked : ℕ) (feeders : List ℕ) → IsIndex a of linked feeders → (guest : Option ℕ) (runs : ℕ) → ((q : ℕ) → has runs q ≡ runs_on a guest q) → (q : ℕ) → IsTrue (has runs q) → q < length feeders
-runs_inside a of linked feeders ix None runs are q h = absurd (true≢false (sym h ∙ are q))
-runs_inside a of linked feeders ix (Some t) runs are q h =
-    let parts = and_parts (has (get_or a.masks t empty) q) (has a.online q) (sym (has-intersection (get_or a.masks t empty) a.online q) ∙ sym (are q) ∙ h) in
-    let below = ltb-true q (length a.on) (sym (has-all_below (length a.on) q) ∙ ix.online q parts.1) in
+-- the mask of a guest has processors of the machine alone
+pub mask_inside : (a : Layout) (of : List (Option ℕ)) (linked : ℕ) (feeders : List ℕ) → IsIndex a of linked feeders → (guest : Option ℕ) (mask : ℕ) → ((q : ℕ) → has mask q ≡ mask_has a guest q) → (q : ℕ) → IsTrue (has mask q) → q < length feeders
+mask_inside a of linked feeders ix None mask are q h = absurd (true≢false (sym h ∙ are q))
+mask_inside a of linked feeders ix (Some t) mask are q h =
+    let below = ltb-true q (length a.on) (sym (has-all_below (length a.on) q) ∙ ix.masks t q (sym (are q) ∙ h)) in
     let count = ix.feeders_count in
     omega arith
+
+-- ---- another mask of a task that is nowhere
+pub IsIndex-masked : (a : Layout) (of : List (Option ℕ)) (linked : ℕ) (feeders : List ℕ) → IsIndex a of linked feeders → (t mask : ℕ) → t < length a.masks → IsNowhere a t → Within mask (all_below (length a.on)) → IsIndex (with_mask a t mask) of linked feeders
+IsIndex-masked a of linked feeders ix t mask number nowhere lawful = record {
+  few = ix.few;
+  masks = λ u. elim (cases_eq u t) [
+    | inl same ↦ rw (same, get_or-set_same a.masks t mask empty number) lawful
+    | inr other ↦ rw (get_or-set_other a.masks t u mask empty other) (ix.masks u)
+  ];
+  places_count = ix.places_count ∙ sym (length-set a.masks t mask);
+  feeders_count = ix.feeders_count;
+  place = ix.place;
+  occupant = ix.occupant;
+  occupied = ix.occupied;
+  fed = λ q p lt. ix.fed q p lt ∙ kept q (occupant_in a p) (nowhere p);
+}
+  where
+    kept : (q : ℕ) (o : Option ℕ) → (o ≡ Some t → ⊥) → mask_has a o q ≡ mask_has (with_mask a t mask) o q
+    kept q None other = refl
+    kept q (Some u) other = ap (λ (X : ℕ). has X q) (sym (get_or-set_other a.masks t u mask empty (λ same. other (ap (λ (n : ℕ). Some n) same))))

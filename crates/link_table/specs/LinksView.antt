@@ -1,13 +1,13 @@
 -- What contracts see of a table of links. Its fields are the columns of a state, and beside them the processors that each
--- task waits for.
+-- task waits for, on line or not.
 use Rattle.std.specs.Prelude.{◌≡◌, ℕ, ◌<◌, ◌&&◌, not, List, length, get_or, if◌then◌else◌}
 use Rattle.affinity_mask.specs.ProcSet.{empty}
-use Rattle.link_state.specs.State.{State, IsState, task_count, is_ready, is_linked, effective_mask}
+use Rattle.link_state.specs.State.{State, IsState, task_count, is_ready, is_linked, mask_of}
 use Rattle.link_table.specs.declared.links.Links.TheInside.{Inside}
 
--- the processors that a task waits for: those that it may run on, where it waits
+-- the processors that a task waits for: those of its mask, where it waits
 abbrev pub awaited : State → ℕ → ℕ
-awaited s t = if is_ready s t && not (is_linked s t) then effective_mask s t else empty
+awaited s t = if is_ready s t && not (is_linked s t) then mask_of s t else empty
 
 -- the sets by task are those that the tasks wait for
 pub record AreAwaited (s : State) (masks : List ℕ) : Type 0 where

@@ -1,5 +1,5 @@
 //! The table of links.
-ghost use Rattle.std.specs.Prelude.{◌≡◌, ℕ, ◌<◌, ◌≤◌, ◌↔◌, IsTrue, IsNone, IfOk, IfSome, is_some, Some, true, false, MatchOption};
+ghost use Rattle.std.specs.Prelude.{◌≡◌, ℕ, ◌<◌, ◌≤◌, ◌↔◌, IsTrue, IsNone, IfOk, IfSome, is_some, Some, None, true, false, MatchOption, if◌then◌else◌};
 ghost use Rattle.affinity_mask.specs.ProcSet.{has};
 
 use crate::places::Places;
@@ -33,7 +33,8 @@ impl Model for Links {
 }
 
 impl Links {
-    ghost use Rattle.link_state.specs.State.{State, IsState, HasSameTasks, task_count, priority_of, mask_of, is_ready, is_linked, effective_mask, task_on, IsIdle, IsWaiting, start_of, state_with_ready, state_with_absent, state_with_idle, state_after_leaving};
+    ghost use Rattle.task_set.specs.TaskSet.{IsMask};
+    ghost use Rattle.link_state.specs.State.{State, IsState, HasSameTasks, task_count, priority_of, mask_of, is_ready, is_linked, effective_mask, task_on, IsIdle, IsWaiting, start_of, state_with_ready, state_with_absent, state_with_mask, state_with_online, state_with_offline, state_with_idle, state_after_leaving};
     ghost use Rattle.link_state.specs.Step.{IsNobodyInto, IsMostUrgentInto};
     ghost use Rattle.link_state.specs.Chain.{CanShift, IsChainOf, IsSimple, Shifted, task_put_out};
 
@@ -116,6 +117,15 @@ impl Links {
         self.places.online()
     }
 
+    /// Whether a processor is on line.
+    pub fn is_online(&self, p: u8) -> bool
+        requires { p < self.now.processors }
+        ensures value { result ≡ has self.now.online p }
+        ensures valid { IsState self.now }
+    {
+        self.places.online().has(p)
+    }
+
     /// The idle processors: they are on line, and nobody is linked to them.
     pub fn idle(&self) -> ProcSet
         ensures contents { (p : ℕ) → IsTrue (has result p) ↔ IsIdle self.now p }
@@ -185,7 +195,7 @@ impl Links {
         ensures test { MatchOption result (IsNobodyInto self.now set) (IsMostUrgentInto self.now set) }
         ensures valid { IsState self.now }
     {
-        self.waiting.first_for(set)
+        self.waiting.first_for(set.both(&self.places.online()))
     }
 
     /// An absent task becomes ready, and waits.
@@ -197,8 +207,7 @@ impl Links {
         ensures valid { IsState self.new }
     {
         self.ready[t as usize] = true;
-        let runs = self.places.effective(t);
-        self.waiting.write(t, runs);
+        self.waiting.write(t, self.places.mask(t));
     }
 
     /// Sets the mask of an absent task.
@@ -212,15 +221,6 @@ impl Links {
         self.places.set_mask(t, mask);
     }
 
-    /// Whether a processor is on line.
-    pub fn is_online(&self, p: u8) -> bool
-        requires { p < self.now.processors }
-        ensures value { result ≡ has self.now.online p }
-        ensures valid { IsState self.now }
-    {
-        self.places.online().has(p)
-    }
-
     /// Puts a processor to which nobody is linked on line, or takes it off line.
     pub fn set_online(&mut self, p: u8, on: bool)
         requires processor { p < self.old.processors }
@@ -229,7 +229,6 @@ impl Links {
         ensures valid { IsState self.new }
     {
         self.places.set_online(p, on);
-        self.rewrite_waiting();
     }
 
     /// Shifts a waiting task along one of its chains, and answers the task that this displaces, which waits then.
@@ -261,8 +260,8 @@ impl Links {
         for i in 0..chain.len() {
             guest = self.places.replace(chain.at(i), guest);
         }
-        let runs = self.places.runs_on(guest);
-        self.waiting.exchange(t, guest, runs);
+        let mask = self.places.mask_of(guest);
+        self.waiting.exchange(t, guest, mask);
         guest
     }
 
@@ -289,7 +288,7 @@ impl Links {
         let Some(t) = self.places.replace(p, None) else {
             unreachable!()
         };
-        self.waiting.write(t, self.places.effective(t));
+        self.waiting.write(t, self.places.mask(t));
         t
     }
 

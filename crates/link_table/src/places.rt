@@ -1,7 +1,7 @@
 //! Where tasks are linked, with an index: each answer is one read.
-ghost use Rattle.std.specs.Prelude.{◌≡◌, ℕ, ◌<◌, ◌≤◌, ◌==◌, length, slice_index, replicate, is_some, IfOk, IfSome, IfNone, if◌then◌else◌, None, IsTrue};
+ghost use Rattle.std.specs.Prelude.{◌≡◌, ℕ, ◌<◌, ◌≤◌, ◌==◌, length, get_or, slice_index, replicate, is_some, IfOk, IfSome, IfNone, if◌then◌else◌, None, IsTrue};
 ghost use Rattle.std.specs.Option.{ForSome};
-ghost use Rattle.affinity_mask.specs.ProcSet.{has, all_below};
+ghost use Rattle.affinity_mask.specs.ProcSet.{has, empty, all_below, Within};
 ghost use Rattle.link_table.specs.Layout.{places_without, places_with};
 
 use affinity_mask::{OutOfMemory, ProcSet};
@@ -23,7 +23,7 @@ pub(crate) struct Places {
     /// The occupied processors.
     linked: ProcSet,
 
-    /// By processor: the occupied processors whose occupant may run on it.
+    /// By processor, on line or not: the occupied processors whose occupant's mask has it.
     feeders: Vec<ProcSet>,
 }
 
@@ -40,7 +40,7 @@ impl Model for Places {
 }
 
 impl Places {
-    ghost use Rattle.link_table.specs.Layout.{Layout, effective_in, occupant_in, runs_on, IsNowhere, with_occupant};
+    ghost use Rattle.link_table.specs.Layout.{Layout, effective_in, occupant_in, mask_has, runs_on, IsNowhere, with_mask, with_online, with_occupant};
 
     /// All processors are on line and idle.
     pub(crate) fn new(
@@ -48,7 +48,8 @@ impl Places {
         processors: u8,
         masks: Vec<ProcSet>,
     ) -> Result<Places, OutOfMemory>
-        requires { processors ≤ 64 }
+        requires processors { processors ≤ 64 }
+        requires masks { (t : ℕ) → Within (get_or masks.items t empty) (all_below processors) }
         ensures { IfOk result (λ places. places ≡ record {
           masks = masks.items;
           online = all_below processors;
@@ -127,18 +128,40 @@ impl Places {
         requires { q < length self.now.on }
         ensures { (p : ℕ) → has result p ≡ runs_on self.now (occupant_in self.now p) q }
     {
-        self.feeders[q as usize]
+        if self.online.has(q) {
+            self.feeders[q as usize]
+        } else {
+            ProcSet::empty()
+        }
     }
 
-    /// The processors that a task may run on. Nobody runs anywhere.
-    pub(crate) fn runs_on(&self, guest: Option<u32>) -> ProcSet
+    /// The mask of a task. Nobody's is empty.
+    pub(crate) fn mask_of(&self, guest: Option<u32>) -> ProcSet
         requires { ForSome guest (λ t. t < length self.now.masks) }
-        ensures { (q : ℕ) → has result q ≡ runs_on self.now guest q }
+        ensures { (q : ℕ) → has result q ≡ mask_has self.now guest q }
     {
         match guest {
-            Some(t) => self.effective(t),
+            Some(t) => self.mask(t),
             None => ProcSet::empty(),
         }
+    }
+
+    /// Another mask for a task that is nowhere.
+    pub(crate) fn set_mask(&mut self, t: u32, mask: ProcSet)
+        requires number { t < length self.old.masks }
+        requires nowhere { IsNowhere self.old t }
+        requires mask { Within mask (all_below (length self.old.on)) }
+        ensures { self.new ≡ with_mask self.old t mask }
+    {
+        self.masks[t as usize] = mask;
+    }
+
+    /// Puts a processor on line, or takes it off line.
+    pub(crate) fn set_online(&mut self, p: u8, on: bool)
+        requires { p < length self.old.on }
+        ensures { self.new ≡ with_online self.old p on }
+    {
+        self.online = marked(self.online, p, on);
     }
 
     /// Puts a task that is nowhere, or nobody, on a processor, and answers who was there.
@@ -150,12 +173,12 @@ impl Places {
         ensures out { result ≡ occupant_in self.old p }
     {
         let out = self.on[p as usize];
-        let before = self.runs_on(out);
-        let runs = self.runs_on(guest);
+        let before = self.mask_of(out);
+        let after = self.mask_of(guest);
         self.on[p as usize] = guest;
         write_places(&mut self.of, out, guest, p);
         self.linked = marked(self.linked, p, guest.is_some());
-        write_feeders(&mut self.feeders, p, before, runs);
+        write_feeders(&mut self.feeders, p, before, after);
         out
     }
 
@@ -196,19 +219,19 @@ fn marked(set: ProcSet, p: u8, is_in: bool) -> ProcSet
     if is_in { set.with(p) } else { set.without(p) }
 }
 
-/// Of each processor the set has p then just where it is one of those that the occupant of p may run on. Before it had
-/// p where the last occupant might, so the sets stay where both may run, or neither.
-fn write_feeders(feeders: &mut [ProcSet], p: u8, before: ProcSet, runs: ProcSet)
+/// Of each processor the set has p then just where the mask of the occupant of p has that processor. Before it had p
+/// where the mask of the last occupant did, so the sets stay where both masks have the processor, or neither.
+fn write_feeders(feeders: &mut [ProcSet], p: u8, before: ProcSet, after: ProcSet)
     requires processor { p < 64 }
     requires before_inside { (q : ℕ) → IsTrue (has before q) → q < length feeders.old }
-    requires inside { (q : ℕ) → IsTrue (has runs q) → q < length feeders.old }
+    requires after_inside { (q : ℕ) → IsTrue (has after q) → q < length feeders.old }
     requires as_before { (q : ℕ) → q < length feeders.old → has (slice_index feeders.old q) p ≡ has before q }
     ensures { (q r : ℕ) → q < length feeders.old → has (slice_index feeders.new q) r
-        ≡ (if r == p then has runs q else has (slice_index feeders.old q) r) }
+        ≡ (if r == p then has after q else has (slice_index feeders.old q) r) }
 {
-    let mut rest = before.minus(&runs).either_of(&runs.minus(&before));
+    let mut rest = before.minus(&after).either_of(&after.minus(&before));
     while let Some(q) = rest.least() {
-        feeders[q as usize] = marked(feeders[q as usize], p, runs.has(q));
+        feeders[q as usize] = marked(feeders[q as usize], p, after.has(q));
         rest = rest.without(q);
     }
 }

@@ -1,5 +1,5 @@
 -- Waiting tasks by rank and by task: what a write changes, and who is the first that waits for a processor of a set.
-use Rattle.std.proofs.Common.{◌≡◌, ℕ, ◌+◌, ◌<◌, ◌≤◌, List, length, get_or, set, map, replicate, sym, ap, ◌∙◌, subst, inl, inr, arith, length-set, get_or-set_same, get_or-set_other}
+use Rattle.std.proofs.Common.{◌≡◌, ℕ, ◌<◌, ◌≤◌, List, length, get_or, set, map, replicate, sym, ap, ◌∙◌, subst, inl, inr, arith, length-set, get_or-set_same, get_or-set_other}
 use Rattle.std.proofs.lemmas.Bool.{cases_eq, cases_lt, true≢false}
 use Rattle.std.proofs.lemmas.List.{get_or-map, get_or_read, get_or_default, get_or_past, get_or-replicate, length-map, length-replicate, ext_get_or}
 use Rattle.std.proofs.lemmas.List.Elements.{All-get_or}
@@ -35,7 +35,7 @@ module _ (ps : List ℕ) (order : List Ranked) (ranks sets : List ℕ) (ok : IsR
 
   -- and it is in the row
   pub rank_in_row : (t : ℕ) → t < length ps → get_or ranks t 0 < length sets
-  rank_in_row t lt = let fits = rank_fits t lt in let count = ok.order_count in let room = ok.room in omega arith
+  rank_in_row t lt = let fits = rank_fits t lt in let count = ok.order_count in let room = ok.width.room in omega arith
 
   -- the rank that was read is that of t
   pub rank_read : (t r : ℕ) → t < length ps → r ≡ get_or ranks t r → r ≡ get_or ranks t 0
@@ -126,7 +126,7 @@ module _ (ps : List ℕ) (order : List Ranked) (ranks sets : List ℕ) (ok : IsR
       order_count = ok.order_count;
       ranks_count = ok.ranks_count;
       placed = ok.placed;
-      room = let n = length-set sets (get_or ranks t 0) item in let room = ok.room in omega arith;
+      width = rw (length-set sets (get_or ranks t 0) item) ok.width;
       few = ok.few;
       rest = λ r ge. get_or-set_other sets (get_or ranks t 0) r item empty (λ e. (let fits = rank_fits t number in let count = ok.order_count in omega arith)) ∙ ok.rest r ge;
     }
@@ -139,10 +139,3 @@ nobody_at_first n ranks sets count none = ext_get_or empty (by_task_of ranks set
   where
     m : length (by_task_of ranks sets) ≡ length ranks
     m = length-map ranks (λ r. get_or sets r empty)
-
--- ---- a table becomes equal to another one, task by task
-pub same_more : (masks other : List ℕ) (t item : ℕ) → t < length masks → item ≡ get_or other t empty → ((k : ℕ) → k < t → get_or masks k empty ≡ get_or other k empty) → (k : ℕ) → k < t + 1 → get_or (set masks t item) k empty ≡ get_or other k empty
-same_more masks other t item fits is same k lt = elim (cases_lt k t) [
-  | inl less ↦ get_or-set_other masks t k item empty (λ e. omega arith) ∙ same k less
-  | inr ge ↦ let last : k ≡ t = omega arith in ap (λ n. get_or (set masks t item) n empty) last ∙ get_or-set_same masks t item empty fits ∙ is ∙ ap (λ n. get_or other n empty) (sym last)
-]

@@ -1,10 +1,10 @@
 -- A tree of unions: which leaves stand below a place, that the set at a place has all of theirs, and what a write leaves.
-use Rattle.std.proofs.Common.{◌≡◌, ◌≢◌, ℕ, zero, suc, ◌+◌, ◌-◌, ◌<◌, ◌≤◌, ◌||◌, List, length, get_or, set, drop, refl, sym, ap, ◌∙◌, subst, inl, inr, ◌⊎◌, arith, length-set, get_or-set_same, get_or-set_other, replicate}
+use Rattle.std.proofs.Common.{◌≡◌, ◌≢◌, ℕ, zero, suc, ◌+◌, ◌-◌, ◌<◌, ◌≤◌, ◌||◌, List, length, get_or, set, drop, refl, sym, ap, ◌∙◌, subst, inl, inr, ◌⊎◌, arith, length-set, get_or-set_same, get_or-set_other, replicate, le_antisymm}
 use Rattle.std.proofs.lemmas.Bool.{cases_eq, cases_lt, or_left, or_right, or_cases, true≢false}
 use Rattle.std.proofs.lemmas.List.{get_or-drop, get_or-replicate, get_or_past, length-drop, length-replicate, drop-set-add, drop-set-lt}
 use Rattle.affinity_mask.specs.ProcSet.{has, empty, Within, Meets}
 use Rattle.affinity_mask.proofs.Sets.{has-zero}
-use Rattle.waiting_index.specs.SetTree.{first_below, IsLevel, IsUnion, IsTree, IsMetByNone, IsFirstMeeting}
+use Rattle.waiting_index.specs.SetTree.{first_below, IsLevel, IsWidthFor, IsUnion, IsTree, IsMetByNone, IsFirstMeeting}
 
 -- ---- the places below a place
 pub first_below-least : (d k : ℕ) → k ≤ first_below d k
@@ -46,6 +46,26 @@ IsLevel-one = (0, refl)
 
 pub IsLevel-positive : (width : ℕ) → IsLevel width → 0 < width
 IsLevel-positive width level = let above = first_below-least (level.0) 1 in let e = level.1 in omega arith
+
+-- of two levels the one with more leaves has twice as many or more
+level_above : (a b : ℕ) → first_below a 1 < first_below b 1 → first_below a 1 + first_below a 1 ≤ first_below b 1
+level_above zero zero less = absurd (omega arith)
+level_above zero (suc b) less = let none = first_below-none 1 in let down = first_below-down b 1 in let twice = first_below-twice b 1 in let low = first_below-least b 1 in omega arith
+level_above (suc a) zero less = absurd (let none = first_below-none 1 in let low = first_below-least (suc a) 1 in omega arith)
+level_above (suc a) (suc b) less =
+    let down_a = first_below-down a 1 in
+    let twice_a = first_below-twice a 1 in
+    let down_b = first_below-down b 1 in
+    let twice_b = first_below-twice b 1 in
+    let above = level_above a b (omega arith) in
+    omega arith
+
+pub level_past : (width other : ℕ) → IsLevel width → IsLevel other → width < other → width + width ≤ other
+level_past width other level other_level less = let a = level.1 in let b = other_level.1 in let above = level_above (level.0) (other_level.0) (omega arith) in omega arith
+
+-- so many leaves have one width alone
+pub IsWidthFor-unique : (count a b : ℕ) → IsWidthFor count a → IsWidthFor count b → a ≡ b
+IsWidthFor-unique count a b first second = le_antisymm (first.least b second.level second.room) (second.least a first.level first.room)
 
 -- ---- the set at a place has what the leaves below have
 module _ (width : ℕ) (nodes : List ℕ) (unions : (k : ℕ) → 0 < k → k < width → IsUnion nodes k) where

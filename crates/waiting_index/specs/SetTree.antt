@@ -1,6 +1,6 @@
 -- A row of sets, with a tree of unions over it. The places of the tree are numbered from 1, the root: below place k stand
 -- the places 2k and 2k + 1, and the sets of the row stand at the leaves, which are the last half of all places.
-use Rattle.std.specs.Prelude.{◌≡◌, ℕ, zero, suc, ◌+◌, ◌<◌, ◌||◌, List, drop, length, get_or}
+use Rattle.std.specs.Prelude.{◌≡◌, ℕ, zero, suc, ◌+◌, ◌<◌, ◌≤◌, ◌||◌, List, drop, length, get_or}
 use Rattle.affinity_mask.specs.ProcSet.{has, empty, Meets}
 use Rattle.waiting_index.specs.declared.set_tree.SetTree.TheInside.{Inside}
 
@@ -12,6 +12,12 @@ first_below (suc levels) k = first_below levels (k + k)
 -- so many leaves are the whole level of a tree
 abbrev pub IsLevel : ℕ → Type 0
 IsLevel width = (levels : ℕ) × (width ≡ first_below levels 1)
+
+-- the least level that has so many leaves
+pub record IsWidthFor (count width : ℕ) : Type 0 where
+  pub level : IsLevel width
+  pub room : count ≤ width
+  pub least : (other : ℕ) → IsLevel other → count ≤ other → width ≤ other
 
 -- the set at a place is the union of the two below it
 abbrev pub IsUnion : List ℕ → ℕ → Type 0

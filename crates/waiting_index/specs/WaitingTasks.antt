@@ -3,6 +3,7 @@
 -- where the task waits and may run there.
 use Rattle.std.specs.Prelude.{◌≡◌, ℕ, ◌<◌, ◌≤◌, List, length, get_or, map, set, Option, Some, None}
 use Rattle.affinity_mask.specs.ProcSet.{empty, Meets}
+use Rattle.waiting_index.specs.SetTree.{IsWidthFor}
 use Rattle.waiting_index.specs.UrgencyOrder.{IsUrgencyOrder}
 use Rattle.waiting_index.specs.declared.ranked.Ranked.{Ranked}
 use Rattle.waiting_index.specs.declared.waiting_tasks.WaitingTasks.TheInside.{Inside}
@@ -41,7 +42,7 @@ pub record IsRanking (priorities : List ℕ) (order : List Ranked) (ranks sets :
   pub order_count : length order ≡ length priorities
   pub ranks_count : length ranks ≡ length priorities
   pub placed : AreRanks order ranks
-  pub room : length priorities ≤ length sets
+  pub width : IsWidthFor (length priorities) (length sets)
   pub few : length priorities ≤ 1024
   pub rest : (r : ℕ) → length priorities ≤ r → get_or sets r empty ≡ empty
 

@@ -1,7 +1,7 @@
 //! Sets in a row, with a tree of unions over them.
 ghost use Rattle.std.specs.Prelude.{◌≡◌, ℕ, ◌<◌, ◌≤◌, set, length, get_or, IfOk, MatchOption};
 ghost use Rattle.affinity_mask.specs.ProcSet.{empty};
-ghost use Rattle.waiting_index.specs.SetTree.{IsLevel, IsMetByNone, IsFirstMeeting};
+ghost use Rattle.waiting_index.specs.SetTree.{IsWidthFor, IsMetByNone, IsFirstMeeting};
 
 use affinity_mask::{OutOfMemory, ProcSet};
 use std::alloc::Global;
@@ -34,7 +34,7 @@ impl SetTree {
     /// So many empty sets, or more.
     pub(crate) fn new(alloc: Global, least: usize) -> Result<SetTree, OutOfMemory>
         requires { least ≤ 1024 }
-        ensures room { IfOk result (λ tree. least ≤ length tree) }
+        ensures width { IfOk result (λ tree. IsWidthFor least (length tree)) }
         ensures empty { IfOk result (λ tree. (r : ℕ) → get_or tree r empty ≡ empty) }
     {
         let width = width_for(least);
@@ -43,14 +43,6 @@ impl SetTree {
             nodes.push(ProcSet::empty())?;
         }
         Ok(SetTree { width, nodes })
-    }
-
-    /// The set at a place of the row.
-    pub(crate) fn at(&self, r: usize) -> ProcSet
-        requires { r < length self.now }
-        ensures { result ≡ get_or self.now r empty }
-    {
-        self.nodes[self.width + r]
     }
 
     /// Writes a set at a place of the row.
@@ -90,13 +82,20 @@ impl SetTree {
         }
         Some(k - self.width)
     }
+
+    /// Becomes equal to another row of as many sets. No memory is taken.
+    pub(crate) fn set_to(&mut self, other: &SetTree)
+        requires { length self.old ≡ length other.now }
+        ensures { self.new ≡ other.now }
+    {
+        self.nodes.copy_from_slice(&other.nodes);
+    }
 }
 
-/// A power of two that is not less.
+/// The least power of two that is not less.
 fn width_for(least: usize) -> usize
     requires { least ≤ 1024 }
-    ensures level { IsLevel result }
-    ensures room { least ≤ result }
+    ensures width { IsWidthFor least result }
     ensures bound { result ≤ 2048 }
 {
     let mut width = 1;

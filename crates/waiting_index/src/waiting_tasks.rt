@@ -78,14 +78,6 @@ impl WaitingTasks {
         self.by_task[t as usize]
     }
 
-    /// The processors that a task waits for.
-    fn mask(&self, t: u32) -> ProcSet
-        requires { t < length self.now.priorities }
-        ensures { result ≡ get_or self.now.masks t empty }
-    {
-        self.sets.at(self.ranks[t as usize] as usize)
-    }
-
     /// A task waits for these processors then, or for none.
     pub fn write(&mut self, t: u32, runs: ProcSet)
         requires { t < length self.old.priorities }
@@ -121,10 +113,9 @@ impl WaitingTasks {
         requires { self.old.priorities ≡ other.now.priorities }
         ensures { self.new ≡ other.now }
     {
-        let _valid = self.len();
-        for t in 0..other.len() {
-            self.write(t, other.mask(t));
-        }
+        self.order.copy_from_slice(&other.order);
+        self.ranks.copy_from_slice(&other.ranks);
+        self.sets.set_to(&other.sets);
     }
 }
 

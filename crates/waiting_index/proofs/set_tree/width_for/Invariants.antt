@@ -1,10 +1,11 @@
-use Rattle.std.proofs.Common.{◌≤◌, ◌-◌}
+use Rattle.std.proofs.Common.{ℕ, ◌≤◌, ◌-◌}
 use Rattle.waiting_index.specs.SetTree.{IsLevel}
 use Rattle.waiting_index.proofs.set_tree.width_for.Given as goal
 
 abbrev pub invariant-loop-width : goal.invariant-loop-width
 invariant-loop-width l = record {
   level : IsLevel l.width;
+  least : (other : ℕ) → IsLevel other → l.least ≤ other → l.width ≤ other;
   bound : l.width ≤ 2048;
 }
 

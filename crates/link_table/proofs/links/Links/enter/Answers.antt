@@ -5,11 +5,11 @@ use Rattle.std.proofs.lemmas.Option.{get_or_from_slice_get}
 use Rattle.affinity_mask.specs.ProcSet.{has, empty}
 use Rattle.link_state.specs.State.{State, IsState, IsWaiting, task_count, is_linked, state_with_ready}
 use Rattle.link_state.specs.Chain.{IsChainOf, IsSimple, state_after_shift}
-use Rattle.link_table.specs.Layout.{Layout, layout_of, runs_on}
+use Rattle.link_table.specs.Layout.{Layout, layout_of, mask_has}
 use Rattle.link_table.specs.LinksView.{AreAwaited, links_view}
 use Rattle.waiting_index.specs.WaitingTasks.{masks_with}
 use Rattle.link_table.proofs.Awaiting.{AreAwaited-enter}
-use Rattle.link_table.proofs.Feeding.{runs_on-same}
+use Rattle.link_table.proofs.Feeding.{mask_has-same}
 use Rattle.link_state.proofs.Simple.{Avoids-none, Avoids-take}
 use Rattle.link_state.proofs.Shifts.{IsState-state_after_shift, chain_below, handed_on, handed_on-end, handed_on-read, handed_on-number, handed_on-apart, place_in_table, table_after, table_after-nothing, table_after-push}
 use Rattle.link_state.proofs.Readiness.{IsState-state_with_ready, is_ready-state_with_ready}
@@ -101,8 +101,8 @@ guest_number s ok t number chain simple n whole guest is u e =
     let all = take_all n chain whole in
     handed_on-number s ok t number chain (Avoids-none chain simple) u (sym (rw all at is) ∙ e)
 
-pub runs_on-runs-requires : goal.runs_on-runs-requires
-runs_on-runs-requires c = λ u e.
+pub mask_of-mask-requires : goal.mask_of-mask-requires
+mask_of-mask-requires c = λ u e.
     let s = state_with_ready c.args.self.now c.args.t in
     let ok = IsState-state_with_ready c.args.self.now (rw c.self.view_is at c.self.invariant.state) c.args.t c.requires.number in
     rw (c.loop-i.invariant.masks, ok.masks_count) (guest_number s ok c.args.t c.requires.number c.args.chain.now c.requires.simple c.loop-i.i (omega arith) c.loop-i.guest c.loop-i.invariant.guest u e)
@@ -125,11 +125,11 @@ invariant_of-self c =
     let chain = c.args.chain.now in
     let end = c.requires.chain.0 in
     let is_chain = chain_then old t chain c.requires.chain in
-    let runs : (q : ℕ) → has c.runs_on-runs.result q ≡ runs_on (layout_of s) c.loop-i.guest q = λ q. c.runs_on-runs.ensures q ∙ runs_on-same c.loop-i.self-inside.places (layout_of s) i.masks i.online c.loop-i.guest q in
+    let mask : (q : ℕ) → has c.mask_of-mask.result q ≡ mask_has (layout_of s) c.loop-i.guest q = λ q. c.mask_of-mask.ensures q ∙ mask_has-same c.loop-i.self-inside.places (layout_of s) i.masks c.loop-i.guest q in
     rw c.exchange.ensures record {
       state = subst IsState (shifted_columns c) (IsState-state_after_shift s ok t chain end ready is_chain c.requires.simple);
-      waiting = subst (λ (s : State). AreAwaited s (masks_with (set c.loop-i.self-inside.waiting.masks t empty) c.loop-i.guest c.runs_on-runs.result)) (shifted_columns c)
-          (AreAwaited-enter old before t c.requires.number c.requires.not_linked chain end is_chain c.requires.simple c.loop-i.self-inside.waiting.masks i.waiting c.loop-i.guest c.runs_on-runs.result (handed c) runs);
+      waiting = subst (λ (s : State). AreAwaited s (masks_with (set c.loop-i.self-inside.waiting.masks t empty) c.loop-i.guest c.mask_of-mask.result)) (shifted_columns c)
+          (AreAwaited-enter old before t c.requires.number c.requires.not_linked chain end is_chain c.requires.simple c.loop-i.self-inside.waiting.masks i.waiting c.loop-i.guest c.mask_of-mask.result (handed c) mask);
     }
 
 pub returns-clause-out : goal.returns-clause-out

@@ -12,7 +12,7 @@ invariant_of-self c =
     let t = c.in-Some.t in
     let on : task_on (links_view a) c.args.p ≡ Some t = sym c.replace.ensures.out ∙ c.in-Some.is in
     let number = linked_number (links_view a) c.args.p t c.self.invariant.state on in
-    rw (c.write.ensures, c.effective.ensures, c.replace.ensures.replaced) record {
+    rw (c.write.ensures, c.mask.ensures, c.replace.ensures.replaced) record {
       state = IsState-state_with_idle (links_view a) c.self.invariant.state c.args.p;
       waiting = AreAwaited-idle (links_view a) c.self.invariant.state a.waiting.masks c.self.invariant.waiting t number c.args.p on;
     }
@@ -21,8 +21,8 @@ pub returns-clause-waits : goal.returns-clause-waits
 returns-clause-waits c =
     rw (c.write.ensures, c.replace.ensures.replaced) (IsWaiting-state_with_idle (links_view c.self.inside) c.self.invariant.state c.args.p c.in-Some.t (sym c.replace.ensures.out ∙ c.in-Some.is))
 
-pub effective-requires : goal.effective-requires
-effective-requires c =
+pub mask-requires : goal.mask-requires
+mask-requires c =
     let a = c.self.inside in
     let number = linked_number (links_view a) c.args.p c.in-Some.t c.self.invariant.state (sym c.replace.ensures.out ∙ c.in-Some.is) in
     rw c.replace.ensures.replaced (omega (arith, number, c.self.invariant.state.masks_count))
