@@ -5,4 +5,4 @@ pub mod RowLoops
 mod RowsChanged
 mod RowsFollowed
 mod RowsStarted
-mod StepChains
+mod StepTouches

@@ -1,5 +1,5 @@
 -- The rows of orders, as a loop goes over them one by one.
-use Rattle.std.proofs.Common.{◌≡◌, ◌≢◌, ℕ, zero, suc, ◌+◌, ◌<◌, ◌≤◌, Bool, true, false, cond, List, [], ◌∷◌, ◌++◌, length, filter, set, Option, Some, None, refl, sym, ap, ◌∙◌, subst, inl, inr, arith}
+use Rattle.std.proofs.Common.{◌≡◌, ◌≢◌, ℕ, zero, suc, ◌+◌, ◌<◌, ◌≤◌, Bool, true, false, cond, List, [], ◌∷◌, ◌++◌, length, filter, set, ◌⊎◌, Option, Some, None, refl, sym, ap, ◌∙◌, subst, inl, inr, arith, zero-add}
 use Rattle.std.specs.List.{range_with_len}
 use Rattle.std.proofs.lemmas.Bool.{cases_lt, cases_eq}
 use Rattle.std.proofs.lemmas.List.{map-id, length-append, length-set, get_or-set_same, get_or-set_other}
@@ -128,6 +128,25 @@ filtered_count-at test other x (suc n) fits fails same = elim (cases_eq x n) [
 
     earlier_one : (a b a' b' here there extra : ℕ) → a' ≡ a + here → b' ≡ b + there → a ≡ b + extra → here ≡ there → a' ≡ b' + extra
     earlier_one a b a' b' here there extra e f g h = omega arith
+
+-- where each number is judged by one of two tests, and fails the other, both together count what the test counts
+pub filtered_count-split : (test first later : ℕ → Bool) (n : ℕ) → ((p : ℕ) → p < n → ((later p ≡ false) × (test p ≡ first p)) ⊎ ((first p ≡ false) × (test p ≡ later p)))
+    → length (filter test (range_with_len 0 n)) ≡ length (filter first (range_with_len 0 n)) + length (filter later (range_with_len 0 n))
+filtered_count-split test first later zero split = refl
+filtered_count-split test first later (suc n) split =
+    both (length (filter test (range_with_len 0 n))) (length (filter first (range_with_len 0 n))) (length (filter later (range_with_len 0 n))) _ _ _ (cond (test n) 1 0) (cond (first n) 1 0) (cond (later n) 1 0)
+    (filtered_count-suc test n) (filtered_count-suc first n) (filtered_count-suc later n) (filtered_count-split test first later n (λ p below. split p (omega arith))) (here (split n (omega arith)))
+  where
+    both : (a b c a' b' c' x y z : ℕ) → a' ≡ a + x → b' ≡ b + y → c' ≡ c + z → a ≡ b + c → x ≡ y + z → a' ≡ b' + c'
+    both a b c a' b' c' x y z e f g h i = omega arith
+
+    alone : (b : Bool) → cond b 1 0 ≡ cond b 1 0 + cond false 1 0
+    alone true = refl
+    alone false = refl
+
+    here : ((later n ≡ false) × (test n ≡ first n)) ⊎ ((first n ≡ false) × (test n ≡ later n)) → cond (test n) 1 0 ≡ cond (first n) 1 0 + cond (later n) 1 0
+    here (inl (fails, same)) = rw (fails, same) (alone (first n))
+    here (inr (fails, same)) = rw (fails, same) (sym (zero-add (cond (later n) 1 0)))
 
 -- the orders at a change name the take of the occupant alone
 pub change_orders-same_number : (takes others : ℕ → ℕ) (held occupant : Option ℕ) → ((t : ℕ) → occupant ≡ Some t → takes t ≡ others t) → change_orders takes held occupant ≡ change_orders others held occupant

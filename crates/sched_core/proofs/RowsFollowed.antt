@@ -1,12 +1,15 @@
--- The rows of all processors after an event: those of the reply's chain changed to their occupants, and the others hold
--- them already.
+-- The rows of all processors after an event: those of the processors that it touches changed to their occupants, and the
+-- others hold them already.
 use Rattle.std.proofs.Common.{◌≡◌, ℕ, ◌+◌, ◌<◌, List, [], ◌++◌, length, get_or, filter, Option, refl, sym, ap, ◌∙◌, subst, inl, inr, arith, append-nil}
 use Rattle.std.specs.Prelude.{Contains}
 use Rattle.std.specs.List.{range_with_len}
 use Rattle.task_set.specs.declared.event.Event.{Event}
-use Rattle.task_set.specs.declared.event.Event.TheVariants.{Arrive, Depart, Tick}
+use Rattle.task_set.specs.declared.event.Event.TheVariants.{Tick, Offline}
+use Rattle.scheduler_reply.specs.declared.reply.Reply.{Reply}
+use Rattle.scheduler_reply.specs.Reply.{chain_of}
 use Rattle.link_state.specs.State.{State, task_on}
 use Rattle.link_state.specs.Dispatch.{change_orders, tick_orders}
+use Rattle.certificate_laws.specs.Touched.{touched}
 use Rattle.order_laws.proofs.OrderLists.{change_orders-same}
 use Rattle.sched_core.specs.CoreRows.{RowData, row_at, RowFollows, RowsFollow, RowsRun, RowsChange, HoldOutside, NumbersBecome, came, came_below}
 use Rattle.sched_core.proofs.RowLoops.{filtered_count-none, filtered_count-same}
@@ -15,10 +18,7 @@ use Rattle.sched_core.proofs.RowsChanged.{came-same, nothing_in}
 -- ---- a tick
 -- where the chain is empty, each row holds its occupant
 pub all_hold : (chain : List ℕ) (rows : List RowData) (links : State) → chain ≡ [] → HoldOutside chain rows links → (p : ℕ) → p < length rows → (row_at rows p).held ≡ task_on links p
-all_hold chain rows links none outside p fits = elim (outside p fits) [
-  | inl there ↦ absurd (nothing_in p (subst (λ (xs : List ℕ). Contains xs p) none there))
-  | inr held ↦ held
-]
+all_hold chain rows links none outside p fits = outside p fits (λ there. nothing_in p (subst (λ (xs : List ℕ). Contains xs p) none there))
 
 module _ (old new : List RowData) (links : State) (units : ℕ) (held : (p : ℕ) → p < length old → (row_at old p).held ≡ task_on links p) (ran : RowsRun old units new) where
   pub rows_follow-tick : (takes : ℕ → ℕ) (event : Event) → event ≡ Tick units → RowsFollow old takes links event new
@@ -44,10 +44,14 @@ module _ (old new : List RowData) (links : State) (units : ℕ) (held : (p : ℕ
   }
 
 -- ---- any other event
+-- but where a processor goes off line, the processors of the reply's chains are touched alone
+pub touched_by_chains : (event : Event) (reply : Reply) → ((p : ℕ) → event ≡ Offline p → ⊥) → touched event reply ≡ chain_of reply
+touched_by_chains (Offline p) reply other = absurd (other p refl)
+touched_by_chains event reply other = refl
+
 no_tick_orders : (event : Event) → ((units : ℕ) → event ≡ Tick units → ⊥) → (held : Option ℕ) → tick_orders event held ≡ []
-no_tick_orders (Arrive t) other held = refl
-no_tick_orders (Depart t) other held = refl
 no_tick_orders (Tick units) other held = absurd (other units refl)
+no_tick_orders event other held = refl
 
 module _ (chain : List ℕ) (links : State) (old : List RowData) (takes : List ℕ) (new : List RowData) (counted : List ℕ) (outside : HoldOutside chain old links) (changed : RowsChange chain links old takes new counted) where
   pub rows_follow-change : (event : Event) → ((units : ℕ) → event ≡ Tick units → ⊥) → RowsFollow old (λ t. get_or takes t 0) links event new
@@ -63,25 +67,20 @@ module _ (chain : List ℕ) (links : State) (old : List RowData) (takes : List �
           held = there.1.held;
           room = there.1.room;
         }
-        | inr same ↦ elim (outside p fits) [
-          | inl there ↦ absurd (same.0 there)
-          | inr held ↦
-              let none : change_orders number (row_at old p).held (task_on links p) ≡ [] = ap (change_orders number (row_at old p).held) (sym held) ∙ change_orders-same number (row_at old p).held in
-              record {
-                orders = ap (λ (r : RowData). r.orders) same.1 ∙ rw (no_tick_orders event other (row_at old p).held, none) (sym (append-nil (row_at old p).orders) ∙ sym (append-nil ((row_at old p).orders ++ [])));
-                held = ap (λ (r : RowData). r.held) same.1 ∙ held;
-                room = rw same.1 (omega arith);
-              }
-        ]
+        | inr same ↦
+            let held = outside p fits same.0 in
+            let none : change_orders number (row_at old p).held (task_on links p) ≡ [] = ap (change_orders number (row_at old p).held) (sym held) ∙ change_orders-same number (row_at old p).held in
+            record {
+              orders = ap (λ (r : RowData). r.orders) same.1 ∙ rw (no_tick_orders event other (row_at old p).held, none) (sym (append-nil (row_at old p).orders) ∙ sym (append-nil ((row_at old p).orders ++ [])));
+              held = ap (λ (r : RowData). r.held) same.1 ∙ held;
+              room = rw same.1 (omega arith);
+            }
       ]
 
   held_now : (p : ℕ) → p < length old → (row_at new p).held ≡ task_on links p
   held_now p fits = elim (changed.each p) [
     | inl there ↦ there.1.held
-    | inr same ↦ elim (outside p fits) [
-      | inl there ↦ absurd (same.0 there)
-      | inr held ↦ ap (λ (r : RowData). r.held) same.1 ∙ held
-    ]
+    | inr same ↦ ap (λ (r : RowData). r.held) same.1 ∙ outside p fits same.0
   ]
 
   pub numbers_follow : length old ≡ links.processors → NumbersBecome (λ t n. n + length (came_below old links links.processors t)) takes counted

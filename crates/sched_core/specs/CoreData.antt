@@ -52,14 +52,14 @@ abbrev pub entry_of : ℕ → Event → Reply → Entry
 entry_of caller event reply = record { caller = caller; event = event; reply = reply }
 
 -- the event of this caller was applied: the history has one more entry, at this place, which is the scheduler's step
--- from the links before it to the links after it; its reply is justified by the links after it, and it takes the room
--- of one entry at most
+-- from the links before it to the links after it; its reply is justified by the links before it
+-- and after it, and it takes the room of one entry at most
 pub record Applied (old : CoreData) (caller : ℕ) (event : Event) (place : ℕ) (new : CoreData) : Type 0 where
   pub reply : Reply
   pub at_place : place ≡ length old.history
   pub history : new.history ≡ old.history ++ entry_of caller event reply ∷ []
   pub step : SchedulerStep old.links event reply new.links
-  pub justified : HasJustification new.links event reply
+  pub justified : HasJustification old.links new.links event reply
   pub start : new.start ≡ old.start
   pub closed : new.closed ≡ old.closed
   pub spare : old.spare ≤ new.spare + 1

@@ -1,14 +1,14 @@
 -- The orders to each processor, as a core keeps them. A row has the orders to one processor so far, the task that the
 -- processor holds after them, and the room for further orders; a row follows an event by the orders of that event, and
--- then holds the occupant. Where a reply has no chain, or the processor is not in it, the row holds the occupant already.
-use Rattle.std.specs.Prelude.{◌≡◌, ℕ, ◌+◌, ◌^◌, ◌<◌, ◌≤◌, Bool, All, List, [], ◌∷◌, ◌++◌, length, get_or, Option, None, ◌&&◌, not, filter, Contains, ◌⊎◌}
+-- then holds the occupant. A row holds its occupant already where the event does not touch its processor.
+use Rattle.std.specs.Prelude.{◌≡◌, ◌≢◌, ℕ, ◌+◌, ◌^◌, ◌<◌, ◌≤◌, Bool, All, List, [], ◌∷◌, ◌++◌, length, get_or, Option, None, ◌&&◌, not, filter, Contains, ◌⊎◌}
 use Rattle.std.specs.List.{range_with_len}
+use Rattle.std.specs.Option.{ForSome}
 use Rattle.task_set.specs.declared.event.Event.{Event}
 use Rattle.task_set.specs.declared.event.Event.TheVariants.{Tick}
 use Rattle.task_set.specs.declared.order.Order.{Order}
 use Rattle.task_set.specs.declared.order.Order.TheVariants.{Stop}
-use Rattle.link_state.specs.State.{State, is_task, task_count, task_on}
-use Rattle.link_state.specs.Chain.{IsSimple}
+use Rattle.link_state.specs.State.{State, IsState, is_task, task_count, task_on}
 use Rattle.link_state.specs.Dispatch.{change_orders, tick_orders, release_of}
 
 -- the orders to one processor so far, the task that it holds after them, and for how many more there is room
@@ -55,11 +55,18 @@ pub record RowReleases (old new : RowData) : Type 0 where
   pub held : new.held ≡ None
   pub room : old.room ≤ new.room + 1
 
--- the row changes to this occupant by a release and a take, with these numbers of takes so far
+-- the row has room for two orders, and this occupant was taken fewer times than a take can count
+pub record CanChange (row : RowData) (takes : ℕ → ℕ) (occupant : Option ℕ) : Type 0 where
+  pub room : 2 ≤ row.room
+  pub small : ForSome occupant (λ t. takes t < 2 ^ 31)
+
+-- the row changes to this occupant by a release and a take, with these numbers of takes so far; a row that holds the
+-- occupant already stays as it was
 pub record RowChanges (old : RowData) (takes : ℕ → ℕ) (occupant : Option ℕ) (new : RowData) : Type 0 where
   pub orders : new.orders ≡ old.orders ++ change_orders takes old.held occupant
   pub held : new.held ≡ occupant
   pub room : old.room ≤ new.room + 2
+  pub kept : old.held ≡ occupant → new ≡ old
 
 -- the row gives the task that is held these units, if one is held
 pub record RowRuns (old : RowData) (units : ℕ) (new : RowData) : Type 0 where
@@ -72,25 +79,24 @@ pub record RowsRun (old : List RowData) (units : ℕ) (new : List RowData) : Typ
   pub count : length new ≡ length old
   pub each : (p : ℕ) → p < length old → RowRuns (row_at old p) units (row_at new p)
 
--- no processor stands in the chain twice, each is one of the links, and each row has room for two orders more; the numbers
--- of takes are those of the tasks of the links, and small
+-- each processor of the chain is one of the links, in which a processor may stand twice; the numbers of takes are those
+-- of the tasks of the links; and each row can change to its occupant where it does not hold it yet
 pub record CanFollow (chain : List ℕ) (links : State) (rows : List RowData) (takes : List ℕ) : Type 0 where
-  pub simple : IsSimple chain
+  pub state : IsState links
   pub below : All (λ p. p < links.processors) chain
   pub one_each : length rows ≡ links.processors
-  pub room : HasRoomInEach 2 rows
   pub number_each : length takes ≡ task_count links
-  pub small : (t : ℕ) → t < task_count links → get_or takes t 0 < 2 ^ 30
+  pub each : (p : ℕ) → p < links.processors → (row_at rows p).held ≢ task_on links p → CanChange (row_at rows p) (λ t. get_or takes t 0) (task_on links p)
 
 -- the row of each processor outside the chain holds the occupant
 abbrev pub HoldOutside : List ℕ → List RowData → State → Type 0
-HoldOutside chain rows links = (p : ℕ) → p < length rows → Contains chain p ⊎ ((row_at rows p).held ≡ task_on links p)
+HoldOutside chain rows links = (p : ℕ) → p < length rows → (Contains chain p → ⊥) → (row_at rows p).held ≡ task_on links p
 
 -- the processors to which t came between two tables of rows
 abbrev pub came_between : List RowData → List RowData → ℕ → List ℕ
 came_between old new t = filter (λ p. came t (row_at old p).held (row_at new p).held) (range_with_len 0 (length old))
 
--- a row of the chain changes to its occupant, and any other is as it was
+-- the row of a processor of the chain changes to its occupant, and any other is as it was
 abbrev pub RowChangesIn : List ℕ → State → (ℕ → ℕ) → ℕ → RowData → RowData → Type 0
 RowChangesIn chain links takes p old new = (Contains chain p × RowChanges old takes (task_on links p) new) ⊎ ((Contains chain p → ⊥) × (new ≡ old))
 

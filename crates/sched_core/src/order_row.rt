@@ -1,5 +1,5 @@
 //! The orders to one processor.
-ghost use Rattle.std.specs.Prelude.{◌≡◌, ℕ, ◌+◌, ◌-◌, ◌^◌, ◌<◌, ◌≤◌, List, [], ◌∷◌, ◌++◌, get_or, vec_len, if◌then◌else◌};
+ghost use Rattle.std.specs.Prelude.{◌≡◌, ◌≢◌, ℕ, ◌+◌, ◌-◌, ◌<◌, ◌≤◌, List, [], ◌∷◌, ◌++◌, get_or, vec_len, if◌then◌else◌};
 ghost use Rattle.std.specs.Result.{OnOk};
 ghost use Rattle.std.specs.Option.{ForSome};
 
@@ -26,7 +26,7 @@ impl Model for OrderRow {
 }
 
 impl OrderRow {
-    ghost use Rattle.sched_core.specs.CoreRows.{OnlyGrew, RowReleases, RowChanges, RowRuns, RowCloses, NumbersBecome, came, empty_row};
+    ghost use Rattle.sched_core.specs.CoreRows.{OnlyGrew, RowReleases, CanChange, RowChanges, RowRuns, RowCloses, NumbersBecome, came, empty_row};
 
     /// No orders, and nobody held. It takes no memory.
     pub fn new(alloc: Global) -> OrderRow
@@ -63,11 +63,11 @@ impl OrderRow {
     }
 
     /// Where the occupant is another than the task that is held, that one is released, and the occupant taken. `takes`
-    /// says how often each task was taken, and counts on.
+    /// says how often each task was taken, and counts on. Where it is that one, nothing changes.
     pub fn change(&mut self, takes: &mut Vec<u32>, occupant: Option<u32>)
-        requires room { 2 ≤ self.old.room }
         requires known { ForSome occupant (λ t. t < vec_len takes.old) }
-        requires small { ForSome occupant (λ t. get_or takes.old.items t 0 < 2 ^ 31) }
+        requires can { self.old.held ≢ occupant
+            → CanChange self.old (λ t. get_or takes.old.items t 0) occupant }
         ensures row { RowChanges self.old (λ t. get_or takes.old.items t 0) occupant self.new }
         ensures takes { NumbersBecome (λ t n. if came t self.old.held occupant then n + 1 else n)
             takes.old.items takes.new.items }

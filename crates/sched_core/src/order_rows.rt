@@ -2,6 +2,7 @@
 ghost use Rattle.std.specs.Prelude.{◌≡◌, ℕ, ◌+◌, [], length, get_or, replicate, IfOk};
 ghost use Rattle.std.specs.Result.{OnOk};
 ghost use Rattle.scheduler_reply.specs.Reply.{chain_of};
+ghost use Rattle.certificate_laws.specs.Touched.{touched};
 ghost use Rattle.sched_core.specs.CoreRows.{HasRoomInEach, CanFollow, HoldOutside, RowsOnlyGrew, RowsRun, RowsChange, RowsFollow, RowsClose, NumbersBecome, came_below, empty_row};
 
 use crate::order_row::OrderRow;
@@ -43,27 +44,31 @@ pub fn reserve_rows(rows: &mut Vec<OrderRow>, room: usize) -> Result<(), OutOfMe
     Ok(())
 }
 
-/// The orders of an event that led to these links. Only the processors of the reply's chain may have another occupant,
-/// so no other row is looked at, but for a tick, at which each task that is held runs. `takes` says how often each task
-/// was taken, and counts on.
+/// The orders of an event that led to these links. Only the processors that it touches may have another occupant, so no
+/// other row is looked at, but for a tick, at which each task that is held runs. `takes` says how often each task was
+/// taken, and counts on.
 pub fn follow_links(
     rows: &mut Vec<OrderRow>,
     takes: &mut Vec<u32>,
     links: &Links,
-    event: Event,
+    event: &Event,
     reply: &Reply,
 )
-    requires can { CanFollow (chain_of reply.now) links.now rows.old.items takes.old.items }
-    requires outside { HoldOutside (chain_of reply.now) rows.old.items links.now }
-    requires tick { (units : ℕ) → event ≡ Event.Tick units → chain_of reply.now ≡ [] }
-    ensures rows { RowsFollow rows.old.items (λ t. get_or takes.old.items t 0) links.now event rows.new.items }
+    requires can { CanFollow (touched event.now reply.now) links.now rows.old.items takes.old.items }
+    requires outside { HoldOutside (touched event.now reply.now) rows.old.items links.now }
+    requires tick { (units : ℕ) → event.now ≡ Event.Tick units → chain_of reply.now ≡ [] }
+    requires room { HasRoomInEach 1 rows.old.items }
+    ensures rows { RowsFollow rows.old.items (λ t. get_or takes.old.items t 0) links.now event.now rows.new.items }
     ensures takes { NumbersBecome (λ t n. n + length (came_below rows.old.items links.now links.now.processors t))
         takes.old.items takes.new.items }
 {
-    if let Event::Tick(units) = event {
-        run_rows(rows, units);
-    } else {
-        follow_chain(rows, takes, links, reply.chain());
+    match event {
+        Event::Tick(units) => run_rows(rows, *units),
+        Event::Offline(p) => {
+            follow_chain(rows, takes, links, &[*p]);
+            follow_reply(rows, takes, links, reply);
+        }
+        _ => follow_reply(rows, takes, links, reply),
     }
 }
 
@@ -77,7 +82,17 @@ fn run_rows(rows: &mut Vec<OrderRow>, units: u32)
     }
 }
 
-/// The rows of a chain change to their occupants.
+/// The rows of a reply's chains change to their occupants.
+fn follow_reply(rows: &mut Vec<OrderRow>, takes: &mut Vec<u32>, links: &Links, reply: &Reply)
+    requires { CanFollow (chain_of reply.now) links.now rows.old.items takes.old.items }
+    ensures { RowsChange (chain_of reply.now) links.now rows.old.items takes.old.items
+        rows.new.items takes.new.items }
+{
+    follow_chain(rows, takes, links, reply.filling_chain());
+    follow_chain(rows, takes, links, reply.coming_chain());
+}
+
+/// The rows of a chain change to their occupants. A processor may stand in it twice: its row holds the occupant then.
 fn follow_chain(rows: &mut Vec<OrderRow>, takes: &mut Vec<u32>, links: &Links, chain: &[u8])
     requires { CanFollow chain.now links.now rows.old.items takes.old.items }
     ensures { RowsChange chain.now links.now rows.old.items takes.old.items

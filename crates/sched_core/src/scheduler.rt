@@ -3,10 +3,9 @@ ghost use Rattle.std.specs.Prelude.{◌≡◌, ℕ, ◌+◌, ◌*◌, ◌<◌, �
 ghost use Rattle.std.specs.Result.{OnOk, OnErr, IsOk};
 ghost use Rattle.task_set.specs.Orders.{IsObeyable, NamesTaskBelow, TakesBelow};
 ghost use Rattle.link_state.specs.State.{task_count, start_of};
-ghost use Rattle.link_state.specs.Step.{SchedulerStep};
+ghost use Rattle.link_state.specs.Step.{IsEventFor, SchedulerStep};
 ghost use Rattle.certificate_laws.specs.Certified.{HasCertificates};
 ghost use Rattle.certificate_laws.specs.Laws.{LinkedIsBest, LinkedIsLargest, LinkedIsAsUrgent};
-ghost use Rattle.certificate_laws.specs.Passing.{IsOfTask};
 ghost use Rattle.sched_core.specs.CoreData.{CoreData, IsCore, Applied, AppliedOrRefused, OnlyMadeRoom, core_orders, max_entries};
 ghost use Rattle.certificate_laws.specs.Improving.{HasNoImprovingChain};
 
@@ -18,7 +17,7 @@ use link_table::{Entry, Links, Reply};
 use std::alloc::Global;
 use std::marker::Model;
 use task_set::{Event, Order, TaskSet};
-use task_shift::{arrive, depart};
+use task_shift::{affinity, arrive, depart, offline, online};
 
 /// A history has at most so many entries.
 pub const MAX_ENTRIES: usize = 20_000;
@@ -123,7 +122,7 @@ impl Core {
     /// Before the call and after it, whatever it answers, the linked tasks are the best placeable set of the ready ones,
     /// and each task that waits has a certificate of it.
     pub fn apply(&mut self, caller: u32, event: Event) -> Result<u64, CoreFault>
-        requires { IsOfTask (task_count self.old.links) event }
+        requires { IsEventFor self.old.links event }
         ensures answer { AppliedOrRefused self.old caller event result self.new }
 
         // Whatever is answered, the links are those of a strong scheduler.
@@ -138,7 +137,7 @@ impl Core {
 
     /// One entry more, where the core is open and there is room.
     fn append(&mut self, caller: u32, event: Event) -> Result<u64, CoreFault>
-        requires { IsOfTask (task_count self.old.links) event }
+        requires { IsEventFor self.old.links event }
         ensures answer { AppliedOrRefused self.old caller event result self.new }
         ensures valid { IsCore self.new }
     {
@@ -156,15 +155,15 @@ impl Core {
 
     /// One entry more, for which there is room.
     fn enter(&mut self, caller: u32, event: Event)
-        requires of_task { IsOfTask (task_count self.old.links) event }
+        requires of_system { IsEventFor self.old.links event }
         requires not_closed { self.old.closed ≡ false }
         requires room { 1 ≤ self.old.spare }
         requires not_full { length self.old.history < max_entries }
         ensures applied { Applied self.old caller event (length self.old.history) self.new }
         ensures valid { IsCore self.new }
     {
-        let reply = reply_to(&mut self.links, event);
-        follow_links(&mut self.rows, &mut self.takes, &self.links, event, &reply);
+        let reply = reply_to(&mut self.links, &event);
+        follow_links(&mut self.rows, &mut self.takes, &self.links, &event, &reply);
         self.history.push_reserved(Entry {
             caller,
             event,
@@ -231,13 +230,16 @@ impl Core {
 }
 
 /// The scheduler's reply to an event, which the links follow.
-fn reply_to(links: &mut Links, event: Event) -> Reply
-    requires { IsOfTask (task_count links.old) event }
-    ensures { SchedulerStep links.old event result links.new }
+fn reply_to(links: &mut Links, event: &Event) -> Reply
+    requires { IsEventFor links.old event.now }
+    ensures { SchedulerStep links.old event.now result links.new }
 {
     match event {
-        Event::Arrive(t) => arrive(links, t),
-        Event::Depart(t) => depart(links, t),
+        Event::Arrive(t) => arrive(links, *t),
+        Event::Depart(t) => depart(links, *t),
         Event::Tick(_) => Reply::Ticked,
+        Event::Affinity { task, mask } => affinity(links, *task, *mask),
+        Event::Offline(p) => offline(links, *p),
+        Event::Online(p) => online(links, *p),
     }
 }

@@ -9,9 +9,9 @@ use Rattle.link_state.proofs.Steps.{reply_gives_new_state, step_keeps_state}
 use Rattle.certificate_laws.proofs.Kept.{step_has_justification}
 use Rattle.sched_core.specs.CoreData.{CoreData, IsCore, Applied, entry_of, max_entries}
 use Rattle.sched_core.specs.CoreView.{core_view}
-use Rattle.scheduler_reply.specs.Reply.{chain_of}
+use Rattle.certificate_laws.specs.Touched.{touched}
 use Rattle.sched_core.specs.CoreRows.{row_at}
-use Rattle.sched_core.proofs.StepChains.{step_chain_is_on, step_chain_is_simple, step_stays, tick_has_no_chain}
+use Rattle.sched_core.proofs.StepTouches.{step_stays_outside, tick_has_no_chain}
 use Rattle.sched_core.proofs.CoreEntered.{takes_bound, core_entered, core_orders-open, orders_entered, takes_entered}
 use Rattle.link_state.proofs.SameTasks.{same_tasks-step}
 use Rattle.sched_core.proofs.scheduler.Core.enter.Goals as goal
@@ -25,28 +25,38 @@ follow_links-requires-clause-can c =
     let step = c.reply_to-reply.ensures in
     let same = same_tasks-step inside.links c.args.event reply new step in
     let open_before : inside.closed ≡ false = ap (λ (core : CoreData). core.closed) c.self.view_is ∙ c.requires.not_closed in
+    let state : IsState new = step_keeps_state inside.links c.args.event reply new kept.core.state step in
     record {
-      simple = step_chain_is_simple inside.links c.args.event reply new kept.core.state step;
-      below = subst (λ (n : ℕ). All (λ p. p < n) (chain_of reply)) (sym same.processors) (step_chain_is_on inside.links c.args.event reply new kept.core.state step);
+      state = state;
+      below = subst (λ (n : ℕ). All (λ p. p < n) (touched c.args.event reply)) (sym same.processors) (step_stays_outside inside.links c.args.event reply new kept.core.state step).below;
       one_each = kept.rows_count ∙ sym same.processors;
-      room = λ p fits. let room = (kept.rows_open open_before p (subst (λ (n : ℕ). p < n) kept.rows_count fits)).room in omega (arith, room);
       number_each = kept.takes_count ∙ sym (ap length same.priorities);
-      small = λ t known.
-          let number : t < task_count inside.links = subst (λ (k : ℕ). t < k) (ap length same.priorities) known in
-          let bound = takes_bound inside.start inside.history.items t kept.core.start.processors in
-          omega (arith, kept.takes t number, bound, kept.core.fits);
+      each = λ p fits other. record {
+        room = let room = (kept.rows_open open_before p (subst (λ (n : ℕ). p < n) same.processors fits)).room in omega (arith, room);
+        small = λ t on.
+            let number : t < task_count inside.links = subst (λ (k : ℕ). t < k) (ap length same.priorities) (linked_number new p t state on) in
+            let bound = takes_bound inside.start inside.history.items t kept.core.start.processors in
+            omega (arith, kept.takes t number, bound, kept.core.fits);
+      };
     }
 
 pub follow_links-requires-clause-outside : goal.follow_links-requires-clause-outside
-follow_links-requires-clause-outside c = λ p fits.
+follow_links-requires-clause-outside c = λ p fits free.
+    let inside = c.self.inside in
+    let kept = c.self.invariant in
+    let reply = c.reply_to-reply.result in
+    let open_before : inside.closed ≡ false = ap (λ (core : CoreData). core.closed) c.self.view_is ∙ c.requires.not_closed in
+    let below : p < inside.links.processors = subst (λ (n : ℕ). p < n) kept.rows_count fits in
+    (kept.rows_open open_before p below).held
+    ∙ sym ((step_stays_outside inside.links c.args.event reply c.reply_to-reply.new.links kept.core.state c.reply_to-reply.ensures).same p free)
+
+pub follow_links-requires-clause-room : goal.follow_links-requires-clause-room
+follow_links-requires-clause-room c = λ p fits.
     let inside = c.self.inside in
     let kept = c.self.invariant in
     let open_before : inside.closed ≡ false = ap (λ (core : CoreData). core.closed) c.self.view_is ∙ c.requires.not_closed in
-    let below : p < inside.links.processors = subst (λ (n : ℕ). p < n) kept.rows_count fits in
-    elim (step_stays inside.links c.args.event c.reply_to-reply.result c.reply_to-reply.new.links kept.core.state c.reply_to-reply.ensures p below) [
-      | inl there ↦ inl there
-      | inr stays ↦ inr ((kept.rows_open open_before p below).held ∙ sym stays)
-    ]
+    let room = (kept.rows_open open_before p (subst (λ (n : ℕ). p < n) kept.rows_count fits)).room in
+    omega (arith, room)
 
 pub follow_links-requires-clause-tick : goal.follow_links-requires-clause-tick
 follow_links-requires-clause-tick c = tick_has_no_chain c.self.inside.links c.args.event c.reply_to-reply.result c.reply_to-reply.new.links c.reply_to-reply.ensures
