@@ -1,4 +1,4 @@
--- Every set of tasks has a best subset. It is the only one: that is a law of link_table.
+-- Every set of tasks has a best subset. It is the only one: that is a law of link_state.
 use Rattle.std.specs.Prelude.{◌≡◌, ℕ, ◌<◌, true}
 use Rattle.link_state.specs.State.{State, IsState, task_count}
 use Rattle.link_state.specs.Placement.{TaskTest, IsBest}

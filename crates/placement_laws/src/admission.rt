@@ -11,9 +11,10 @@ use link_table::Links;
 use std::alloc::Global;
 use task_set::TaskSet;
 
-/// The best placeable set of these tasks over the masks of the set, most urgent first. The list may be empty, and in
-/// any order. This is the plain, slow program beside the definition, for tests: it admits the tasks by urgency, and
-/// leaves one out where the processors that it reaches are all held by more urgent tasks.
+/// The best placeable set of these tasks over the masks of the set and all its processors, most urgent first. The list
+/// may be empty, and in any order. This is the plain, slow program beside the definition, for tests of histories in which
+/// no mask changes and no processor goes off line: it admits the tasks by urgency, and leaves one out where the processors
+/// that it reaches are all held by more urgent tasks.
 pub fn best_set(alloc: Global, set: &TaskSet, ready: &[u32]) -> Result<Vec<u32>, OutOfMemory>
     requires { All (λ t. t < length set.now.tasks) ready.now }
     ensures best { IfOk result (λ best. IsBest (start_of set.now) (is_among ready.now) (is_among best.items)) }

@@ -5,7 +5,8 @@ ghost use Rattle.certificate_laws.specs.Laws.{HoldsWhereCertified, LinkedIsBest,
 ghost use Rattle.placement_laws.specs.Best.{BestExists};
 ghost use Rattle.placement_laws.specs.Histories.{PassingHistoryHasCertificates, PassingHistoryIsBest, PassingHistoryHasNoImprovingChain};
 
-/// Every set of tasks of a state has a best placeable subset. Its `best_is_unique` stands in link_table.
+/// Every set of tasks of a state, whatever its masks and the processors on line, has a best placeable subset. That it has
+/// no other is `best_is_unique` of link_state.
 pub fn best_exists()
     ensures { BestExists }
 {}
@@ -35,8 +36,8 @@ pub fn passing_history_has_certificates()
     ensures { PassingHistoryHasCertificates }
 {}
 
-/// After every entry of such a history, of arrivals, departures and ticks alike, the linked tasks are the best placeable
-/// set of the ready tasks.
+/// After every entry of such a history, whatever its events, the linked tasks are the best placeable set of the ready
+/// tasks, over the masks of that moment and the processors that are on line then.
 pub fn passing_history_is_best()
     ensures { PassingHistoryIsBest }
 {}

@@ -62,6 +62,21 @@ fn wait(rt: &impl Abort, links: &mut Links, t: u32)
     links.make_ready(t);
 }
 
+/// The mask of an absent task becomes the set of these processors.
+fn change_mask(rt: &impl Abort, links: &mut Links, t: u32, members: &[u8]) {
+    let mask = mask_of(rt, members);
+    assert!(rt; t < links.len() && !links.is_ready(t));
+    assert!(rt; !mask.is_empty() && mask.within(&ProcSet::first(links.processors())));
+    links.set_mask(t, mask);
+}
+
+/// An idle processor goes off line.
+fn take_off_line(rt: &impl Abort, links: &mut Links, p: u8) {
+    assert!(rt; p < links.processors());
+    assert!(rt; links.on(p).is_none());
+    links.set_online(p, false);
+}
+
 /// Whether each number of the list is below n.
 fn all_below(tasks: &[u32], n: u32) -> bool
     ensures { IsTrue result → All (λ t. t < n) tasks.now }
@@ -125,6 +140,45 @@ static CERTIFIED: [([&[u8]; 4], bool); 2] = [
     ([&[], &[], &[1], &[0]], false),
 ];
 
+/// The links of these tasks once w1 may run on 0 alone: x on 0, y on 1.
+fn two_wait_for_one(rt: &(impl Abort + AllocGlobal), set: &TaskSet) -> Result<Links, Fail> {
+    let mut links = Links::new(rt.alloc(), set)?;
+    change_mask(rt, &mut links, 2, &[0]);
+    link(rt, &mut links, 0, 0);
+    link(rt, &mut links, 1, 1);
+    wait(rt, &mut links, 2);
+    wait(rt, &mut links, 3);
+    Ok(links)
+}
+
+/// The links of these tasks once processor 1 is off line: x on 0. The mask of w1 has no other processor.
+fn three_wait(rt: &(impl Abort + AllocGlobal), set: &TaskSet) -> Result<Links, Fail> {
+    let mut links = Links::new(rt.alloc(), set)?;
+    take_off_line(rt, &mut links, 1);
+    link(rt, &mut links, 0, 0);
+    wait(rt, &mut links, 1);
+    wait(rt, &mut links, 2);
+    wait(rt, &mut links, 3);
+    Ok(links)
+}
+
+/// Sets of processors for the four tasks once w1 may run on 0 alone, and whether they certify that w1 and w2 wait.
+static CERTIFIED_FOR_ONE: [([&[u8]; 4], bool); 3] = [
+    ([&[], &[], &[0], &[0]], true),
+    ([&[], &[], &[0, 1], &[0]], true),
+    ([&[], &[], &[1], &[0]], false),
+];
+
+/// Sets of processors for the four tasks once processor 1 is off line, and whether they certify that y, w1 and w2 wait.
+static CERTIFIED_OFF_LINE: [([&[u8]; 4], bool); 4] = [
+    // The empty set certifies w1, which has no processor to run on.
+    ([&[], &[0], &[], &[0]], true),
+    ([&[], &[0], &[0], &[0]], true),
+    // Nobody is on 1.
+    ([&[], &[0, 1], &[], &[0]], false),
+    ([&[], &[0], &[1], &[0]], false),
+];
+
 /// Ready tasks of the four, and the best set of them.
 static BEST_OF_FOUR: [(&[u32], &[u32]); 2] = [(&[0, 1, 2, 3], &[0, 1]), (&[1, 2, 3], &[1, 2])];
 
@@ -135,6 +189,26 @@ fn laws_by_calls(rt: HostRuntime) -> Result<(), Fail> {
     assert!(rt; 3 < links.len());
     assert!(rt; is_certificate(&links, 3, ProcSet::first(2)));
     for (sets, expected) in &CERTIFIED {
+        assert_certified(&rt, &links, sets, *expected);
+    }
+    Ok(())
+}
+
+#[test]
+fn certificates_once_a_mask_changed(rt: HostRuntime) -> Result<(), Fail> {
+    let set = set_of(&rt, 2, &TWO_WAIT)?;
+    let links = two_wait_for_one(&rt, &set)?;
+    for (sets, expected) in &CERTIFIED_FOR_ONE {
+        assert_certified(&rt, &links, sets, *expected);
+    }
+    Ok(())
+}
+
+#[test]
+fn certificates_once_a_processor_is_off_line(rt: HostRuntime) -> Result<(), Fail> {
+    let set = set_of(&rt, 2, &TWO_WAIT)?;
+    let links = three_wait(&rt, &set)?;
+    for (sets, expected) in &CERTIFIED_OFF_LINE {
         assert_certified(&rt, &links, sets, *expected);
     }
     Ok(())
