@@ -17,4 +17,4 @@ mod tests;
 mod urgency;
 
 pub use links::Links;
-pub use scheduler_reply::{Came, Chain, Entry, Gone, Reply};
+pub use scheduler_reply::{Came, Chain, Entry, Gone, Moved, Reply};

@@ -20,7 +20,7 @@ pub fn arrive(links: &mut Links, t: u32) -> Reply
 }
 
 /// An absent task becomes ready, and comes to an idle processor, or to that of a less urgent task, or waits.
-fn come(links: &mut Links, t: u32) -> Came
+pub(crate) fn come(links: &mut Links, t: u32) -> Came
     requires number { t < task_count links.old }
     requires absent { is_ready links.old t ≡ false }
     ensures comes { Comes links.old t result links.new }

@@ -1,7 +1,7 @@
 //! A task departs.
-ghost use Rattle.std.specs.Prelude.{◌≡◌, ◌<◌, [], ◌∷◌};
-ghost use Rattle.link_state.specs.State.{IsState, task_count};
-ghost use Rattle.link_state.specs.Step.{DepartStep, Fills};
+ghost use Rattle.std.specs.Prelude.{◌≡◌, ◌<◌, true, [], ◌∷◌};
+ghost use Rattle.link_state.specs.State.{IsState, task_count, is_ready};
+ghost use Rattle.link_state.specs.Step.{DepartStep, LeaveStep, Fills};
 
 use link_table::{Chain, Gone, Links, Reply};
 use path_search::{back_chain, back_set};
@@ -16,16 +16,30 @@ pub fn depart(links: &mut Links, t: u32) -> Reply
     if !links.is_ready(t) {
         return Reply::NotReady;
     }
+    match withdraw(links, t) {
+        Some(gone) => gone.into(),
+        None => Reply::Left,
+    }
+}
+
+/// A ready task becomes absent. Where it leaves a processor, the most urgent waiting task that can be shifted there
+/// comes in.
+pub(crate) fn withdraw(links: &mut Links, t: u32) -> Option<Gone>
+    requires number { t < task_count links.old }
+    requires ready { is_ready links.old t ≡ true }
+    ensures leaves { LeaveStep links.old t result links.new }
+    ensures valid { IsState links.new }
+{
     if links.is_waiting(t) {
         links.make_absent(t);
-        return Reply::Left;
+        return None;
     }
     let p = links.leave(t);
-    fill(links, p).into()
+    Some(fill(links, p))
 }
 
 /// Lets the most urgent waiting task in that can be shifted to processor `p`, which nobody is linked to.
-fn fill(links: &mut Links, p: u8) -> Gone
+pub(crate) fn fill(links: &mut Links, p: u8) -> Gone
     requires { p < links.old.processors }
     ensures fills { Fills links.old p result links.new }
     ensures valid { IsState links.new }
