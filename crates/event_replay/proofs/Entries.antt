@@ -1,15 +1,14 @@
 -- The entry of an event that was applied: its place, and how contexts follow it.
 use Rattle.std.proofs.Common.{◌≡◌, ℕ, ◌+◌, ◌<◌, List, [], ◌∷◌, ◌++◌, length, get_or, ap, ◌∙◌, arith, length-append}
 use Rattle.std.proofs.lemmas.List.{get_or-append-add}
-use Rattle.task_set.specs.declared.context.Context.{Context}
 use Rattle.task_set.specs.declared.event.Event.{Event}
 use Rattle.scheduler_reply.specs.declared.reply.Entry.{Entry}
 use Rattle.link_state.specs.State.{State, IsState}
 use Rattle.link_state.specs.History.{effect_of}
 use Rattle.link_state.proofs.Steps.{reply_gives_new_state}
 use Rattle.certificate_laws.specs.Passing.{Passes}
-use Rattle.certificate_laws.proofs.Passed.{step_passes}
-use Rattle.reach_certificate.specs.Contexts.{context_after_entry, EachBecomes}
+use Rattle.certificate_laws.proofs.StepsPass.{step_passes}
+use Rattle.reach_certificate.specs.Contexts.{ContextsData, HaveFollowed}
 use Rattle.sched_core.specs.CoreData.{CoreData, Applied, entry_of}
 
 module _ (old new : CoreData) (caller : ℕ) (event : Event) (place : ℕ) (applied : Applied old caller event place new) where
@@ -30,11 +29,11 @@ module _ (old new : CoreData) (caller : ℕ) (event : Event) (place : ℕ) (appl
       ∙ get_or-append-add old.history (entry ∷ []) 0 d
 
   -- contexts that follow the entry that is read at its place follow the event
-  pub entry_followed : IsState old.links → (history : List Entry) (links : State) (read : Entry) → history ≡ new.history → links ≡ new.links → read ≡ get_or history place read → (contexts after : List Context)
-      → ((s : State) → IsState s → Passes s read.event read.reply → links ≡ effect_of s read → EachBecomes (context_after_entry s links read.event) contexts after)
-      → EachBecomes (context_after_entry old.links new.links event) contexts after
-  entry_followed ok history links read entries same at contexts after follow =
+  pub entry_followed : IsState old.links → (history : List Entry) (links : State) (read : Entry) → history ≡ new.history → links ≡ new.links → read ≡ get_or history place read → (contexts after : ContextsData) → contexts.held ≡ old.links.on
+      → ((s : State) → IsState s → Passes s read.event read.reply → links ≡ effect_of s read → contexts.held ≡ s.on → HaveFollowed s links read.event contexts after)
+      → HaveFollowed old.links new.links event contexts after
+  entry_followed ok history links read entries same at contexts after held follow =
       let is : read ≡ entry = at ∙ ap (λ (xs : List Entry). get_or xs place read) entries ∙ there read in
       let passes = step_passes old.links event applied.reply new.links ok applied.step in
       let effect : new.links ≡ effect_of old.links entry = reply_gives_new_state old.links event applied.reply new.links applied.step in
-      (rw (is, same) at follow) old.links ok passes effect
+      (rw (is, same) at follow) old.links ok passes effect held

@@ -6,7 +6,7 @@ ghost use Rattle.link_state.specs.Step.{IsEventFor};
 ghost use Rattle.sched_core.specs.CoreData.{Applied, max_entries};
 
 use affinity_mask::OutOfMemory;
-use reach_certificate::{follow, fresh_contexts};
+use reach_certificate::Contexts;
 use sched_core::{Core, CoreFault};
 use std::alloc::Global;
 use task_set::{Context, TaskSet};
@@ -32,13 +32,16 @@ pub fn schedule_of(alloc: Global, set: &TaskSet, events: &[Posted]) -> Result<Sc
     ensures closed { IfOk result (λ made. made.core.closed ≡ true) }
 {
     let mut core = Core::new(alloc, set)?;
-    let mut contexts = fresh_contexts(alloc, set.len())?;
+    let mut contexts = Contexts::new(alloc, core.links())?;
     for posted in events {
         let place = enter(&mut core, *posted)?;
-        follow(&mut contexts, core.links(), &core.history()[place]);
+        contexts.follow(core.links(), &core.history()[place]);
     }
     core.close_now();
-    Ok(Schedule { core, contexts })
+    Ok(Schedule {
+        core,
+        contexts: contexts.into_list(),
+    })
 }
 
 /// Applies an event to a core that is open and not full, and answers the place of its entry. `Err` says that the memory
