@@ -3,18 +3,17 @@ use Rattle.std.proofs.Common.{◌≡◌, ℕ, ◌+◌, ◌<◌, ◌≤◌, List,
 use Rattle.std.specs.List.{range_with_len}
 use Rattle.std.proofs.lemmas.List.{take_more, map-append, length-map, length-take-le}
 use Rattle.std.proofs.lemmas.List.FromFn.{get_or-map-range_with_len, length-map-range_with_len}
-use Rattle.task_set.specs.TaskSet.{SetData, IsTaskSet, TaskData}
+use Rattle.task_set.specs.TaskSet.{SetData, TaskData}
 use Rattle.task_set.specs.Context.{fresh_context}
 use Rattle.task_set.specs.Event.{IsOfSystem}
 use Rattle.task_set.specs.declared.event.Event.{Event}
 use Rattle.task_set.specs.declared.context.Context.{Context}
 use Rattle.scheduler_reply.specs.declared.reply.Entry.{Entry}
-use Rattle.link_state.specs.State.{State, IsState, start_of, task_count}
+use Rattle.link_state.specs.State.{State, start_of, task_count}
 use Rattle.link_state.specs.Step.{SchedulerStep, IsEventFor}
 use Rattle.link_state.specs.History.{IsLegal, state_after, effect_of}
 use Rattle.link_state.specs.Dispatch.{context_of, contexts_of}
-use Rattle.link_state.proofs.Histories.{state_after-push, IsLegalFrom-push, IsState-state_after}
-use Rattle.link_state.proofs.Start.{IsState-start}
+use Rattle.link_state.proofs.Histories.{state_after-push, IsLegalFrom-push}
 use Rattle.link_state.proofs.Steps.{reply_gives_new_state}
 use Rattle.trace_reader.specs.declared.posted.Posted.{Posted}
 use Rattle.reach_certificate.specs.Contexts.{ContextsData, HaveFollowed}
@@ -43,9 +42,6 @@ running_processors set events n links entries contexts running =
 pub running_event : (set : SetData) (events : List Posted) (n : ℕ) (links : State) (entries : List Entry) (contexts : ContextsData) (event : Event) → IsRunning set events n links entries contexts → IsOfSystem set.processors (length set.tasks) event → IsEventFor links event
 running_event set events n links entries contexts event running known =
     rw (running_count set events n links entries contexts running, running_processors set events n links entries contexts running) known
-
-pub running_state : (set : SetData) (events : List Posted) (n : ℕ) (links : State) (entries : List Entry) (contexts : ContextsData) → IsTaskSet set → IsRunning set events n links entries contexts → IsState links
-running_state set events n links entries contexts valid_set running = rw running.state (IsState-state_after (start_of set) entries (IsState-start set valid_set) running.legal)
 
 -- one event more
 pub running_more : (set : SetData) (events : List Posted) (n : ℕ) (d : Posted) (links new : State) (entries : List Entry) (contexts after : ContextsData) (entry : Entry) → n < length events → IsRunning set events n links entries contexts

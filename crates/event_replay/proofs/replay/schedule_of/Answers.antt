@@ -1,9 +1,9 @@
-use Rattle.std.proofs.Common.{◌≡◌, ◌<◌, List, [], length, Option, refl, sym, ap, ◌∙◌, arith}
+use Rattle.std.proofs.Common.{◌≡◌, ℕ, ◌<◌, List, [], length, Option, refl, sym, ap, ◌∙◌, arith}
 use Rattle.link_state.specs.State.{State}
 use Rattle.link_state.proofs.SameTasks.{same_tasks-step}
 use Rattle.sched_core.specs.CoreData.{CoreData, entry_of}
 use Rattle.event_replay.proofs.Entries.{place_fits, entry_followed}
-use Rattle.event_replay.proofs.Running.{contexts_count, running_count, running_event, running_length, running_more, running_start, running_state}
+use Rattle.event_replay.proofs.Running.{contexts_count, running_count, running_event, running_length, running_more, running_start}
 use Rattle.event_replay.proofs.replay.schedule_of.Goals as goal
 
 pub loop-posted-init : goal.loop-posted-init
@@ -15,6 +15,7 @@ loop-posted-init c =
           (rw links at c.in_ok-contexts.ensures.each) (rw links at c.in_ok-contexts.ensures.held)),
       ap (λ (x : CoreData). x.closed) core,
       ap (λ (x : CoreData). x.start) core,
+      c.links.ensures.valid.state,
     )
 
 pub enter-requires-clause-known : goal.enter-requires-clause-known
@@ -40,7 +41,7 @@ follow-requires-clause-count c =
 pub follow-requires-clause-processors : goal.follow-requires-clause-processors
 follow-requires-clause-processors c =
     let running = c.loop-posted.invariant.0 in
-    let state = running_state c.args.set.now c.args.events.now c.loop-posted.posted-index c.loop-posted.core.links c.loop-posted.core.history c.loop-posted.contexts c.len.ensures.valid running in
+    let state = c.loop-posted.invariant.3 in
     let same = same_tasks-step c.loop-posted.core.links _ _ c.enter.new.core.links c.in_ok-place.ensures.step in
     rw c.links-2.ensures.value (ap (λ (held : List (Option ℕ)). length held) running.held ∙ state.on_count ∙ sym same.processors)
 
@@ -48,10 +49,11 @@ pub loop-posted-preserved : goal.loop-posted-preserved
 loop-posted-preserved c =
     let applied = c.in_ok-place.ensures in
     let running = c.loop-posted.invariant.0 in
-    let state = running_state c.args.set.now c.args.events.now c.loop-posted.posted-index c.loop-posted.core.links c.loop-posted.core.history c.loop-posted.contexts c.len.ensures.valid running in
+    let state = c.loop-posted.invariant.3 in
     let follows = entry_followed c.loop-posted.core c.enter.new.core _ _ c.in_ok-place.place applied state c.history.result.now c.links-2.result.now c.index-history-place.result c.history.ensures.value c.links-2.ensures.value c.index-history-place.is c.loop-posted.contexts c.follow.new.contexts running.held c.follow.ensures in (
       rw applied.history (running_more c.args.set.now c.args.events.now c.loop-posted.posted-index _ c.loop-posted.core.links c.enter.new.core.links c.loop-posted.core.history c.loop-posted.contexts c.follow.new.contexts
           (entry_of _ _ applied.reply) c.loop-posted-test.true running refl applied.step follows),
       applied.closed ∙ c.loop-posted.invariant.1,
       applied.start ∙ c.loop-posted.invariant.2,
+      c.links-2.ensures.valid.state,
     )
