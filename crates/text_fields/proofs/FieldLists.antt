@@ -13,6 +13,13 @@ texts_one [] d some few = absurd (omega arith)
 texts_one (x ∷ []) d some few = refl
 texts_one (x ∷ y ∷ us) d some few = absurd (omega arith)
 
+pub texts_two : (fields : List (Bor (List ℕ))) (d : Bor (List ℕ)) → 2 ≤ length fields → length fields < 3
+    → texts fields ≡ (get_or fields 0 d).now ∷ (get_or fields 1 d).now ∷ []
+texts_two [] d some few = absurd (omega arith)
+texts_two (x ∷ []) d some few = absurd (omega arith)
+texts_two (x ∷ y ∷ []) d some few = refl
+texts_two (x ∷ y ∷ z ∷ us) d some few = absurd (omega arith)
+
 pub texts_three : (fields : List (Bor (List ℕ))) (d : Bor (List ℕ)) → 3 ≤ length fields → length fields < 4
     → texts fields ≡ (get_or fields 0 d).now ∷ (get_or fields 1 d).now ∷ (get_or fields 2 d).now ∷ []
 texts_three [] d some few = absurd (omega arith)
@@ -36,6 +43,13 @@ take_whole zero [] le = refl
 take_whole (suc n) [] le = refl
 take_whole zero (x ∷ xs) le = absurd (omega arith)
 take_whole (suc n) (x ∷ xs) le = ap (λ (rest : List (Bor (List ℕ))). x ∷ rest) (take_whole n xs (omega arith))
+
+-- the first field, and the others
+pub texts_first_one : (fields : List (Bor (List ℕ))) (d : Bor (List ℕ)) → 1 ≤ length fields
+    → texts fields ≡ (get_or fields 0 d).now ∷ texts (take (length fields - 1) (drop 1 fields))
+texts_first_one [] d some = absurd (omega arith)
+texts_first_one (x ∷ us) d some =
+    ap (λ (rest : List (Bor (List ℕ))). x.now ∷ texts rest) (sym (take_whole (length (x ∷ us) - 1) us (omega arith)))
 
 -- the first three fields, and the others
 pub texts_first_three : (fields : List (Bor (List ℕ))) (d : Bor (List ℕ)) → 3 ≤ length fields

@@ -12,13 +12,15 @@ use Rattle.affinity_mask.proofs.Runs.{canonical_list-IsListText}
 use Rattle.task_set.specs.Name.{IsName}
 use Rattle.task_set.specs.TaskSet.{TaskData, SetData, IsMask, IsTaskSet}
 use Rattle.task_set.specs.declared.event.Event.{Event}
-use Rattle.task_set.specs.declared.event.Event.TheVariants.{Arrive, Depart, Tick}
+use Rattle.task_set.specs.declared.event.Event.TheVariants.{Arrive, Depart, Tick, Affinity, Offline, Online}
+use Rattle.task_set.specs.Event.{IsOfVersion}
 use Rattle.trace_reader.specs.declared.posted.Posted.{Posted}
 use Rattle.text_fields.specs.LineText.{task_fields, line, processors_line, task_line, PrioritiesFit}
 use Rattle.text_fields.specs.EventText.{event_fields, name_of, event_text}
-use Rattle.trace_reader.specs.CanonicalText.{event_line, header_line, canonical_text, canonical_input_text}
+use Rattle.text_fields.specs.Version.{IsVersion}
+use Rattle.trace_reader.specs.CanonicalText.{event_line, header_line, canonical_input_text}
 use Rattle.trace_reader.specs.Input.{IsEventOf, IsPostedOf, IsInput}
-use Rattle.trace_reader.specs.InputText.{IsHeader, IsProcessorsLine, IsTaskLine, IsEventFields, IsEventLine, IsBody, IsTextOf, IsInputText, end_line}
+use Rattle.trace_reader.specs.InputText.{IsHeader, IsProcessorsLine, IsTaskLine, IsEventFields, IsEventLine, IsBody, IsInputText, end_line}
 use Rattle.trace_reader.specs.Lines.{lines_of, said_by, is_skipped}
 use Rattle.text_fields.proofs.NamedTasks.{has_name, name_valid}
 use Rattle.trace_reader.proofs.CanonicalFields.{IsField, IsLineOf, spaced, text_of, lines_of-text, said_by-text, clean-text}
@@ -51,12 +53,19 @@ task-text task =
     ap line (pieces (codes "task ") task.name (codes " ") (canonical_number task.priority) (codes " ")
     (canonical_list task.mask))
 
+affinity_pieces : (a b c d e f : List ℕ) → a ++ (b ++ (c ++ (d ++ (e ++ f)))) ≡ a ++ b ++ (c ++ d ++ e ++ f)
+affinity_pieces a b c d e f = simp append_assoc
+
 spaced-event : (set : SetData) (number : List ℕ) (event : Event) → spaced (number ∷ event_fields set event)
     ≡ number ++ codes " " ++ event_text set event
 unfolding event_text
 spaced-event set number (Arrive t) = sym (append_assoc number (codes " ") (codes "arrive " ++ name_of set t))
 spaced-event set number (Depart t) = sym (append_assoc number (codes " ") (codes "depart " ++ name_of set t))
 spaced-event set number (Tick units) = sym (append_assoc number (codes " ") (codes "tick " ++ canonical_number units))
+spaced-event set number (Affinity t mask) =
+    affinity_pieces number (codes " ") (codes "affinity ") (name_of set t) (codes " ") (canonical_list mask)
+spaced-event set number (Offline p) = sym (append_assoc number (codes " ") (codes "offline " ++ canonical_number p))
+spaced-event set number (Online p) = sym (append_assoc number (codes " ") (codes "online " ++ canonical_number p))
 
 event-text : (set : SetData) (posted : Posted) → line (spaced (posted_fields set posted)) ≡ event_line set posted
 unfolding event_line
@@ -72,8 +81,8 @@ whole : (header processors tasks events end : List ℕ) → header ++ (processor
 whole header processors tasks events end = simp append_assoc
 
 text-lines : (version : ℕ) (set : SetData) (events : List Posted)
-    → text_of (body_fields version set events ++ end_line ∷ []) ≡ canonical_text version set events
-unfolding canonical_text
+    → text_of (body_fields version set events ++ end_line ∷ []) ≡ canonical_input_text version set events
+unfolding canonical_input_text
 text-lines version set events =
     let listed : List (List (List ℕ)) = map task_fields set.tasks ++ map (posted_fields set) events in
     let both : text_of listed ≡ flat_map task_line set.tasks ++ flat_map (event_line set) events =
@@ -110,6 +119,15 @@ three_fields first second third f g h unskipped = record {
   unskipped = unskipped;
 }
 
+four_fields : (first second third fourth : List ℕ) → IsField first → IsField second → IsField third → IsField fourth
+    → is_skipped (first ∷ second ∷ third ∷ fourth ∷ []) ≡ false → IsLineOf (first ∷ second ∷ third ∷ fourth ∷ [])
+four_fields first second third fourth f g h k unskipped = record {
+  some = omega arith;
+  few = omega arith;
+  each_field = All-from_recursion IsField (first ∷ second ∷ third ∷ fourth ∷ []) (f, (g, (h, (k, tt))));
+  unskipped = unskipped;
+}
+
 header-line : (version : ℕ) → version < 2 ^ 64 → IsLineOf (header_fields version)
 header-line version small =
     two_fields (codes "apa") (canonical_number version) (word-field (codes "apa") refl) (number-field version small) refl
@@ -124,8 +142,13 @@ end-line = record {
 
 -- ---- what the lines say
 
-header-says : (version : ℕ) → version < 2 ^ 64 → IsHeader version (header_fields version)
-header-says version small = (canonical_number version, refl, number-value version small)
+-- a version is a small number
+version-small : (version : ℕ) → IsVersion version → version < 2 ^ 64
+version-small version known = let most : version ≤ 2 = known.1 in omega arith
+
+header-says : (version : ℕ) → IsVersion version → IsHeader version (header_fields version)
+header-says version known =
+    (canonical_number version, refl, (number-value version (version-small version known), known.0, known.1))
 
 -- the number of processors
 record IsProcessorsData (fields : List (List ℕ)) (m : ℕ) : Type 0 where
@@ -190,6 +213,10 @@ task-says m most task t =
       mask-list m task.mask most t.mask,
     )
 
+-- the number of a processor is small
+processor-small : (set : SetData) → IsTaskSet set → (p : ℕ) → p < set.processors → p < 2 ^ 64
+processor-small set valid p within = omega (arith, valid.processors.1)
+
 event-line : (set : SetData) (stream : ℕ) (event : Event) → IsTaskSet set → stream < 16 → IsEventOf set event
     → IsLineOf (canonical_number stream ∷ event_fields set event)
 event-line set stream (Arrive t) valid few (within, any) =
@@ -202,21 +229,60 @@ event-line set stream (Depart t) valid few (within, any) =
     three_fields (canonical_number stream) (codes "depart") (name_of set t) (number-field stream small)
     (word-field (codes "depart") refl) (name-field (name_of set t) (name_valid set t valid within))
     (number-unskipped stream (codes "depart" ∷ name_of set t ∷ []) small)
+event-line set stream (Affinity t mask) valid few (about, any) =
+    let small : stream < 2 ^ 64 = omega (arith, few) in
+    four_fields (canonical_number stream) (codes "affinity") (name_of set t) (canonical_list mask)
+    (number-field stream small) (word-field (codes "affinity") refl)
+    (name-field (name_of set t) (name_valid set t valid about.0))
+    (list-field mask (mask-list set.processors mask valid.processors.1 about.1))
+    (number-unskipped stream (codes "affinity" ∷ name_of set t ∷ canonical_list mask ∷ []) small)
+event-line set stream (Offline p) valid few (within, any) =
+    let small : stream < 2 ^ 64 = omega (arith, few) in
+    three_fields (canonical_number stream) (codes "offline") (canonical_number p) (number-field stream small)
+    (word-field (codes "offline") refl) (number-field p (processor-small set valid p within))
+    (number-unskipped stream (codes "offline" ∷ canonical_number p ∷ []) small)
+event-line set stream (Online p) valid few (within, any) =
+    let small : stream < 2 ^ 64 = omega (arith, few) in
+    three_fields (canonical_number stream) (codes "online") (canonical_number p) (number-field stream small)
+    (word-field (codes "online") refl) (number-field p (processor-small set valid p within))
+    (number-unskipped stream (codes "online" ∷ canonical_number p ∷ []) small)
 event-line set stream (Tick units) valid few (any, bounds) =
     let small : stream < 2 ^ 64 = omega (arith, few) in
     three_fields (canonical_number stream) (codes "tick") (canonical_number units) (number-field stream small)
     (word-field (codes "tick") refl) (number-field units (omega (arith, bounds.1)))
     (number-unskipped stream (codes "tick" ∷ canonical_number units ∷ []) small)
 
-event-says : (set : SetData) (event : Event) → IsEventOf set event → IsEventFields set (event_fields set event) event
-event-says set (Arrive t) (within, any) = (name_of set t, refl, has_name set t within)
-event-says set (Depart t) (within, any) = (name_of set t, refl, has_name set t within)
-event-says set (Tick units) (any, bounds) =
+event-says : (set : SetData) → IsTaskSet set → (event : Event) → IsEventOf set event
+    → IsEventFields set (event_fields set event) event
+event-says set valid (Arrive t) (within, any) = (name_of set t, refl, has_name set t within)
+event-says set valid (Depart t) (within, any) = (name_of set t, refl, has_name set t within)
+event-says set valid (Affinity t mask) (about, any) = (
+  name_of set t,
+  canonical_list mask,
+  refl,
+  has_name set t about.0,
+  mask-list set.processors mask valid.processors.1 about.1,
+)
+event-says set valid (Offline p) (within, any) =
+    (canonical_number p, refl, (number-value p (processor-small set valid p within), within))
+event-says set valid (Online p) (within, any) =
+    (canonical_number p, refl, (number-value p (processor-small set valid p within), within))
+event-says set valid (Tick units) (any, bounds) =
     (canonical_number units, refl, (number-value units (omega (arith, bounds.1)), bounds.0, bounds.1))
 
-posted-says : (set : SetData) (posted : Posted) → IsPostedOf set posted
-    → IsEventLine set (posted_fields set posted) posted
-posted-says set posted p = (
+-- a posted event of the set that the version has
+record IsListed (version : ℕ) (set : SetData) (posted : Posted) : Type 0 where
+  posted_of : IsPostedOf set posted
+  of_version : IsOfVersion version posted.event
+
+listed-events : (version : ℕ) (set : SetData) (events : List Posted)
+    → IsInput (record { version = version; set = set; events = events }) → All (IsListed version set) events
+listed-events version set events input k d lt =
+    record { posted_of = input.each_event k d lt; of_version = input.of_version k d lt }
+
+posted-says : (version : ℕ) (set : SetData) → IsTaskSet set → (posted : Posted) → IsListed version set posted
+    → IsEventLine version set (posted_fields set posted) posted
+posted-says version set valid posted listed = let p = listed.posted_of in (
   event_fields set posted.event,
   (
     canonical_number posted.stream,
@@ -228,7 +294,8 @@ posted-says set posted p = (
           (arith, p.stream),
     ),
   ),
-  event-says set posted.event p.event,
+  event-says set valid posted.event p.event,
+  listed.of_version,
 )
 
 -- ---- the whole
@@ -238,61 +305,60 @@ zip-map : {A B : Type 0} (P : B → Type 0) (R : A → B → Type 0) (f : B → 
 zip-map P R f each [] all = tt
 zip-map P R f each (x ∷ xs) all = (each x (All-head P x xs all), zip-map P R f each xs (All-tail P x xs all))
 
-body-lines : (version : ℕ) → version < 2 ^ 64 → (set : SetData) (events : List Posted)
-    → IsInput (record { set = set; events = events }) → PrioritiesFit set
-    → All IsLineOf (body_fields version set events)
-body-lines version small set events input fit =
-    let valid = input.valid in
-    let tasks : All IsLineOf (map task_fields set.tasks) =
-    All-map IsLineOf task_fields set.tasks
-    (All-weaker (IsTask set.processors) (λ (task : TaskData). IsLineOf (task_fields task))
-    (task-line set.processors valid.processors.1) set.tasks (tasks-of set valid fit)) in
-    let posts : All IsLineOf (map (posted_fields set) events) =
-    All-map IsLineOf (posted_fields set) events
-    (All-weaker (IsPostedOf set) (λ (posted : Posted). IsLineOf (posted_fields set posted))
-    (λ posted p. event-line set posted.stream posted.event valid p.stream p.event) events input.each_event) in
-    let listed : List (List (List ℕ)) = map task_fields set.tasks ++ map (posted_fields set) events in
-    All-cons IsLineOf (header_fields version) (processors_fields set ∷ listed) (header-line version small)
-    (All-cons IsLineOf (processors_fields set) listed (processors-line set valid).line
-    (All-append IsLineOf (map task_fields set.tasks) (map (posted_fields set) events) tasks posts))
+module _ (version : ℕ) (set : SetData) (events : List Posted)
+    (input : IsInput (record { version = version; set = set; events = events })) (fit : PrioritiesFit set) where
+  body-lines : All IsLineOf (body_fields version set events)
+  body-lines =
+      let valid = input.valid in
+      let tasks : All IsLineOf (map task_fields set.tasks) =
+      All-map IsLineOf task_fields set.tasks
+      (All-weaker (IsTask set.processors) (λ (task : TaskData). IsLineOf (task_fields task))
+      (task-line set.processors valid.processors.1) set.tasks (tasks-of set valid fit)) in
+      let posts : All IsLineOf (map (posted_fields set) events) =
+      All-map IsLineOf (posted_fields set) events
+      (All-weaker (IsPostedOf set) (λ (posted : Posted). IsLineOf (posted_fields set posted))
+      (λ posted p. event-line set posted.stream posted.event valid p.stream p.event) events input.each_event) in
+      let listed : List (List (List ℕ)) = map task_fields set.tasks ++ map (posted_fields set) events in
+      All-cons IsLineOf (header_fields version) (processors_fields set ∷ listed)
+      (header-line version (version-small version input.version))
+      (All-cons IsLineOf (processors_fields set) listed (processors-line set valid).line
+      (All-append IsLineOf (map task_fields set.tasks) (map (posted_fields set) events) tasks posts))
 
-body-says : (version : ℕ) → version < 2 ^ 64 → (set : SetData) (events : List Posted)
-    → IsInput (record { set = set; events = events }) → PrioritiesFit set
-    → IsBody version (body_fields version set events) set events
-body-says version small set events input fit =
-    let valid = input.valid in record {
-      header = header_fields version;
-      processors = processors_fields set;
-      task_lines = map task_fields set.tasks;
-      event_lines = map (posted_fields set) events;
-      order = refl;
-      is_header = header-says version small;
-      is_processors = (processors-line set valid).says;
-      each_task = zip-map (IsTask set.processors) IsTaskLine task_fields
-          (task-says set.processors valid.processors.1) set.tasks (tasks-of set valid fit);
-      each_event = zip-map (IsPostedOf set) (IsEventLine set) (posted_fields set) (posted-says set) events
-          input.each_event;
-      valid = valid;
-      few = input.few;
-    }
+  body-says : IsBody version (body_fields version set events) set events
+  body-says =
+      let valid = input.valid in record {
+        header = header_fields version;
+        processors = processors_fields set;
+        task_lines = map task_fields set.tasks;
+        event_lines = map (posted_fields set) events;
+        order = refl;
+        is_header = header-says version input.version;
+        is_processors = (processors-line set valid).says;
+        each_task = zip-map (IsTask set.processors) IsTaskLine task_fields
+            (task-says set.processors valid.processors.1) set.tasks (tasks-of set valid fit);
+        each_event = zip-map (IsListed version set) (IsEventLine version set) (posted_fields set)
+            (posted-says version set valid) events (listed-events version set events input);
+        about_set = λ k d lt. (input.each_event k d lt).event.0;
+        valid = valid;
+        few = input.few;
+      }
 
-canonical_text-IsTextOf : (version : ℕ) → version < 2 ^ 64 → (set : SetData) (events : List Posted)
-    → IsInput (record { set = set; events = events }) → PrioritiesFit set
-    → IsTextOf version (canonical_text version set events) set events
-canonical_text-IsTextOf version small set events input fit =
-    let body = body_fields version set events in
-    let lines : All IsLineOf (body ++ end_line ∷ []) =
-    All-append IsLineOf body (end_line ∷ []) (body-lines version small set events input fit)
-    (All-cons IsLineOf end_line [] end-line (All-nil IsLineOf)) in
-    let cut : lines_of (canonical_text version set events) ≡ map spaced (body ++ end_line ∷ []) =
-    ap lines_of (sym (text-lines version set events)) ∙ lines_of-text (body ++ end_line ∷ []) lines in
-    record {
-      body = body;
-      clean = rw cut (clean-text (body ++ end_line ∷ []) lines);
-      order = ap said_by cut ∙ said_by-text (body ++ end_line ∷ []) lines;
-      says = body-says version small set events input fit;
-    }
+  canonical_text : IsInputText version (canonical_input_text version set events) set events
+  canonical_text =
+      let body = body_fields version set events in
+      let lines : All IsLineOf (body ++ end_line ∷ []) =
+      All-append IsLineOf body (end_line ∷ []) body-lines
+      (All-cons IsLineOf end_line [] end-line (All-nil IsLineOf)) in
+      let cut : lines_of (canonical_input_text version set events) ≡ map spaced (body ++ end_line ∷ []) =
+      ap lines_of (sym (text-lines version set events)) ∙ lines_of-text (body ++ end_line ∷ []) lines in
+      record {
+        body = body;
+        clean = rw cut (clean-text (body ++ end_line ∷ []) lines);
+        order = ap said_by cut ∙ said_by-text (body ++ end_line ∷ []) lines;
+        says = body-says;
+      }
 
-pub canonical_text-IsInputText : (set : SetData) (events : List Posted) → IsInput (record { set = set; events = events })
-    → PrioritiesFit set → IsInputText (canonical_input_text set events) set events
-canonical_text-IsInputText set events input fit = canonical_text-IsTextOf 1 (lit< tt) set events input fit
+pub canonical_text-IsInputText : (version : ℕ) (set : SetData) (events : List Posted)
+    → IsInput (record { version = version; set = set; events = events }) → PrioritiesFit set
+    → IsInputText version (canonical_input_text version set events) set events
+canonical_text-IsInputText version set events input fit = canonical_text version set events input fit

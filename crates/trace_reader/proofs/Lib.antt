@@ -5,6 +5,7 @@ mod ReadLines
 pub mod Expected
 mod Paths
 mod Forms
+mod AboutSet
 pub mod Steps
 pub mod Faults
 pub mod LinesCut

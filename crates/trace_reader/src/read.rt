@@ -12,28 +12,30 @@ use crate::fields::first_line;
 use crate::input::Input;
 use crate::stage::Stage;
 use std::alloc::Global;
-use text_fields::limits::VERSION;
 
 /// The input of a text, or the first line that has a fault, with its kind. `OutOfMemory` may come in place of either.
 pub fn read_input(alloc: Global, bytes: &[u8]) -> Result<Input, InputFault>
-    ensures input { IfOk result (λ input. IsInputText bytes.now input.set input.events) }
+    ensures input { IfOk result (λ input. IsInputText input.version bytes.now input.set
+        input.events) }
     ensures refused { IfErr result (λ fault. IsOutOfMemory fault.kind
         ⊎ IsInputRefused bytes.now fault.line fault.kind) }
 
     // Only `OutOfMemory` comes in place of the expected answer.
-    ensures accepts { (set : SetData) (events : List Posted) → IsInputText bytes.now set events
-        → MatchResult result (λ input. (input.set ≡ set) × (input.events ≡ events))
+    ensures accepts { (version : ℕ) (set : SetData) (events : List Posted)
+        → IsInputText version bytes.now set events
+        → MatchResult result
+        (λ input. (input.version ≡ version) × (input.set ≡ set) × (input.events ≡ events))
         (λ fault. IsOutOfMemory fault.kind) }
     ensures refuses { (line : ℕ) (kind : InputKind) → IsInputRefused bytes.now line kind
         → MatchResult result (λ input. ⊥)
         (λ fault. IsOutOfMemory fault.kind ⊎ ((fault.line ≡ line) × (fault.kind ≡ kind))) }
 {
-    read_lines(alloc, VERSION, bytes)
+    read_lines(alloc, bytes)
 }
 
-/// Reads a text of this version line by line, from the first to the last.
-fn read_lines(alloc: Global, version: u64, bytes: &[u8]) -> Result<Input, InputFault>
-    ensures { IsAnswerTo version bytes.now result }
+/// Reads a text line by line, from the first to the last.
+fn read_lines(alloc: Global, bytes: &[u8]) -> Result<Input, InputFault>
+    ensures { IsAnswerTo bytes.now result }
 {
     let mut room = Vec::new(alloc);
     let mut stage = Stage::HeaderExpected;
@@ -41,7 +43,7 @@ fn read_lines(alloc: Global, version: u64, bytes: &[u8]) -> Result<Input, InputF
     let mut line = 1;
     while !rest.is_empty() {
         let (text, after) = first_line(rest);
-        stage = match stage.after_line(alloc, version, text, &mut room) {
+        stage = match stage.after_line(alloc, text, &mut room) {
             Ok(next) => next,
             Err(kind) => return Err(InputFault { line, kind }),
         };

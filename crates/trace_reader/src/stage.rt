@@ -1,26 +1,24 @@
 //! What was read so far, and what is expected.
-ghost use Rattle.std.specs.Prelude.{◌≡◌, ◌≢◌, ℕ, ◌<◌, ◌≤◌, ◌↔◌, ◌⊎◌, IsTrue, List, [], ◌∷◌, length, IfOk, IfErr, OnOk, MatchOption, MatchBool};
+ghost use Rattle.std.specs.Prelude.{◌≡◌, ◌≢◌, ℕ, ◌≤◌, ◌↔◌, ◌⊎◌, IsTrue, List, [], length, IfOk, IfErr, OnOk, MatchOption, MatchBool};
 ghost use Rattle.task_set.specs.TaskSet.{SetData};
-ghost use Rattle.task_set.specs.Refusal.{IsNameOf, IsNewName};
 ghost use Rattle.trace_reader.specs.declared.posted.Posted.{Posted};
-ghost use Rattle.trace_reader.specs.declared.fault.InputKind.TheVariants.{UnknownTask};
-ghost use Rattle.text_fields.specs.Number.{IsNumberOf};
-ghost use Rattle.trace_reader.specs.InputText.{IsHeader, IsProcessorsLine, IsEventFields, IsEventLine, end_line};
+ghost use Rattle.trace_reader.specs.InputText.{IsHeader, IsProcessorsLine, end_line};
 ghost use Rattle.trace_reader.specs.InputFault.{IsFieldsFault, IsLineFault};
 ghost use Rattle.trace_reader.specs.LineForms.{BeginsTask, IsForTask};
 ghost use Rattle.trace_reader.specs.Progress.{Expects, HeaderExpected, ProcessorsExpected, Listed, Ended};
-ghost use Rattle.trace_reader.specs.Reading.{progress_of, Says, SaysLine, SaysTask, IsOutOfMemory, IsEventFault, IsChangeFault};
+ghost use Rattle.trace_reader.specs.Reading.{progress_of, Says, SaysLine, SaysTask, IsOutOfMemory};
 ghost use Rattle.text_fields.specs.Fields.{texts};
 
+use crate::event::{outside_of, read_event};
 use crate::fault::InputKind;
 use crate::fields::{fields, is_comment, is_plain};
-use crate::input::{Input, MAX_EVENTS, MAX_PRIORITY, MAX_PROCESSORS, MAX_STREAM, MAX_UNITS};
+use crate::input::{FIRST_VERSION, Input, LAST_VERSION, MAX_EVENTS, MAX_PRIORITY, MAX_PROCESSORS};
 use crate::posted::Posted;
 use affinity_mask::ProcSet;
 use std::alloc::Global;
 use std::str;
-use task_set::{Event, TaskFault, TaskSet};
-use text_fields::{is_word, read_number, task_of};
+use task_set::{TaskFault, TaskSet};
+use text_fields::{is_word, read_number};
 
 /// The most bytes of a line, without its line feed.
 const MAX_LINE: usize = 4096;
@@ -32,13 +30,23 @@ pub enum Stage {
     HeaderExpected,
 
     /// The number of processors is expected.
-    ProcessorsExpected,
+    ProcessorsExpected {
+        version: u8,
+    },
 
     /// Tasks, then events, then the end are expected.
-    Listed { set: TaskSet, events: Vec<Posted> },
+    Listed {
+        version: u8,
+        set: TaskSet,
+        events: Vec<Posted>,
+    },
 
     /// The end came.
-    Ended { set: TaskSet, events: Vec<Posted> },
+    Ended {
+        version: u8,
+        set: TaskSet,
+        events: Vec<Posted>,
+    },
 }
 
 impl Stage {
@@ -46,15 +54,14 @@ impl Stage {
     pub fn after_line<'a>(
         self,
         alloc: Global,
-        version: u64,
         line: &'a [u8],
         room: &mut Vec<&'a [u8]>,
     ) -> Result<Stage, InputKind>
-        requires { (said : List (List (List ℕ))) × Expects version said (progress_of self) }
-        ensures read { IfOk result (λ next. SaysLine version (progress_of self) line.now
+        requires { (said : List (List (List ℕ))) × Expects said (progress_of self) }
+        ensures read { IfOk result (λ next. SaysLine (progress_of self) line.now
             (progress_of next)) }
         ensures refused { IfErr result (λ kind. IsOutOfMemory kind
-            ⊎ IsLineFault version (progress_of self) line.now kind) }
+            ⊎ IsLineFault (progress_of self) line.now kind) }
     {
         if !is_plain(line) {
             return Err(InputKind::BadByte);
@@ -66,60 +73,74 @@ impl Stage {
         if is_comment(fields) {
             Ok(self)
         } else {
-            self.after(alloc, version, fields)
+            self.after(alloc, fields)
         }
     }
 
     /// The input, if the end came.
     pub fn into_input(self) -> Option<Input>
-        requires { (version : ℕ) × (said : List (List (List ℕ)))
-            × Expects version said (progress_of self) }
+        requires { (said : List (List (List ℕ))) × Expects said (progress_of self) }
         ensures { MatchOption result
-            ((set : SetData) (events : List Posted) → progress_of self ≢ Ended set events)
-            (λ input. progress_of self ≡ Ended input.set input.events) }
+            ((version : ℕ) (set : SetData) (events : List Posted)
+            → progress_of self ≢ Ended version set events)
+            (λ input. progress_of self ≡ Ended input.version input.set input.events) }
     {
         match self {
-            Stage::Ended { set, events } => Some(Input::new(set, events)),
+            Stage::Ended {
+                version,
+                set,
+                events,
+            } => Some(Input::new(version, set, events)),
             _ => None,
         }
     }
 
     /// What is expected after a line that is not skipped, by its fields.
-    fn after(self, alloc: Global, version: u64, fields: &[&[u8]]) -> Result<Stage, InputKind>
-        requires { (said : List (List (List ℕ))) × Expects version said (progress_of self) }
-        ensures read { IfOk result (λ next. Says version (progress_of self) (texts fields.now)
+    fn after(self, alloc: Global, fields: &[&[u8]]) -> Result<Stage, InputKind>
+        requires { (said : List (List (List ℕ))) × Expects said (progress_of self) }
+        ensures read { IfOk result (λ next. Says (progress_of self) (texts fields.now)
             (progress_of next)) }
         ensures refused { IfErr result (λ kind. IsOutOfMemory kind
-            ⊎ IsFieldsFault version (progress_of self) (texts fields.now) kind) }
+            ⊎ IsFieldsFault (progress_of self) (texts fields.now) kind) }
     {
         match self {
-            Stage::HeaderExpected => read_header(version, fields),
-            Stage::ProcessorsExpected => start(alloc, version, fields),
-            Stage::Listed { set, events } => read_listed(version, set, events, fields),
+            Stage::HeaderExpected => read_header(fields),
+            Stage::ProcessorsExpected { version } => start(alloc, version, fields),
+            Stage::Listed {
+                version,
+                set,
+                events,
+            } => read_listed(version, set, events, fields),
             Stage::Ended { .. } => Err(InputKind::AfterEnd),
         }
     }
 }
 
 /// Reads the header.
-fn read_header(version: u64, fields: &[&[u8]]) -> Result<Stage, InputKind>
-    ensures read { IfOk result (λ next. (progress_of next ≡ ProcessorsExpected)
-        × IsHeader version (texts fields.now)) }
-    ensures refused { IfErr result (IsFieldsFault version HeaderExpected (texts fields.now)) }
+fn read_header(fields: &[&[u8]]) -> Result<Stage, InputKind>
+    ensures read { IfOk result (λ next. Says HeaderExpected (texts fields.now)
+        (progress_of next)) }
+    ensures refused { IfErr result (IsFieldsFault HeaderExpected (texts fields.now)) }
 {
-    match fields {
-        [word, number] if is_word(word, "apa") && is_version(number, version) => {
-            Ok(Stage::ProcessorsExpected)
-        }
-        _ => Err(InputKind::BadHeader),
+    match read_version(fields) {
+        Some(version) => Ok(Stage::ProcessorsExpected { version }),
+        None => Err(InputKind::BadHeader),
     }
 }
 
-/// Whether a field is the number of this version.
-fn is_version(number: &[u8], version: u64) -> bool
-    ensures { IsTrue result ↔ IsNumberOf number.now version }
+/// Which version a header says.
+fn read_version(fields: &[&[u8]]) -> Option<u8>
+    ensures { MatchOption result
+        ((version : ℕ) → IsHeader version (texts fields.now) → ⊥)
+        (λ version. IsHeader version (texts fields.now)) }
 {
-    read_number(number, version, version).is_some()
+    match fields {
+        [word, number] if is_word(word, "apa") => {
+            let version = read_number(number, FIRST_VERSION as u64, LAST_VERSION as u64)?;
+            Some(version as u8)
+        }
+        _ => None,
+    }
 }
 
 /// How many processors a line says that there are, from 1 to 64.
@@ -138,35 +159,43 @@ fn read_processors(fields: &[&[u8]]) -> Option<u8>
 }
 
 /// Nothing is listed yet, on as many processors as a line says.
-fn start(alloc: Global, version: u64, fields: &[&[u8]]) -> Result<Stage, InputKind>
-    ensures read { IfOk result (λ next. Says version ProcessorsExpected (texts fields.now)
+fn start(alloc: Global, version: u8, fields: &[&[u8]]) -> Result<Stage, InputKind>
+    ensures read { IfOk result (λ next. Says (ProcessorsExpected version) (texts fields.now)
         (progress_of next)) }
     ensures refused { IfErr result (λ kind. IsOutOfMemory kind
-        ⊎ IsFieldsFault version ProcessorsExpected (texts fields.now) kind) }
+        ⊎ IsFieldsFault (ProcessorsExpected version) (texts fields.now) kind) }
 {
     let Some(processors) = read_processors(fields) else {
         return Err(InputKind::BadProcessors);
     };
     let set = TaskSet::new(alloc, processors)?;
     let events = Vec::new(alloc);
-    Ok(Stage::Listed { set, events })
+    Ok(Stage::Listed {
+        version,
+        set,
+        events,
+    })
 }
 
 /// Reads a task, an event or the end after what was listed.
 fn read_listed(
-    version: u64,
+    version: u8,
     set: TaskSet,
     events: Vec<Posted>,
     fields: &[&[u8]],
 ) -> Result<Stage, InputKind>
     requires { length events.items ≤ 20000 }
-    ensures read { IfOk result (λ next. Says version (Listed set events.items) (texts fields.now)
+    ensures read { IfOk result (λ next. Says (Listed version set events.items) (texts fields.now)
         (progress_of next)) }
     ensures refused { IfErr result (λ kind. IsOutOfMemory kind
-        ⊎ IsFieldsFault version (Listed set events.items) (texts fields.now) kind) }
+        ⊎ IsFieldsFault (Listed version set events.items) (texts fields.now) kind) }
 {
     if is_end(fields) {
-        Ok(Stage::Ended { set, events })
+        Ok(Stage::Ended {
+            version,
+            set,
+            events,
+        })
     } else if is_for_task(&events, fields) {
         list_task(version, set, events, fields)
     } else {
@@ -185,24 +214,28 @@ fn is_for_task(events: &[Posted], fields: &[&[u8]]) -> bool
 
 /// Lists the task of a line.
 fn list_task(
-    version: u64,
+    version: u8,
     mut set: TaskSet,
     events: Vec<Posted>,
     fields: &[&[u8]],
 ) -> Result<Stage, InputKind>
     requires { IsForTask events.items (texts fields.now) }
-    ensures read { IfOk result (λ next. Says version (Listed set events.items) (texts fields.now)
+    ensures read { IfOk result (λ next. Says (Listed version set events.items) (texts fields.now)
         (progress_of next)) }
     ensures refused { IfErr result (λ kind. IsOutOfMemory kind
-        ⊎ IsFieldsFault version (Listed set events.items) (texts fields.now) kind) }
+        ⊎ IsFieldsFault (Listed version set events.items) (texts fields.now) kind) }
 {
     add_task(version, &mut set, fields)?;
-    Ok(Stage::Listed { set, events })
+    Ok(Stage::Listed {
+        version,
+        set,
+        events,
+    })
 }
 
 /// Lists the event of a line.
 fn list_event(
-    version: u64,
+    version: u8,
     set: TaskSet,
     mut events: Vec<Posted>,
     fields: &[&[u8]],
@@ -210,19 +243,26 @@ fn list_event(
     requires task { IsForTask events.items (texts fields.now) → ⊥ }
     requires end { texts fields.now ≢ end_line }
     requires few { length events.items ≤ 20000 }
-    ensures read { IfOk result (λ next. Says version (Listed set events.items) (texts fields.now)
+    ensures read { IfOk result (λ next. Says (Listed version set events.items) (texts fields.now)
         (progress_of next)) }
     ensures refused { IfErr result (λ kind. IsOutOfMemory kind
-        ⊎ IsFieldsFault version (Listed set events.items) (texts fields.now) kind) }
+        ⊎ IsFieldsFault (Listed version set events.items) (texts fields.now) kind) }
 {
-    let posted = read_event(&set, fields)?;
+    let posted = read_event(version, &set, fields)?;
     if events.len() == MAX_EVENTS {
         return Err(InputKind::ManyEvents);
+    }
+    if let Some(p) = outside_of(&set, posted.event) {
+        return Err(InputKind::OutsideAffinity(p));
     }
     if events.push(posted).is_err() {
         return Err(InputKind::OutOfMemory);
     }
-    Ok(Stage::Listed { set, events })
+    Ok(Stage::Listed {
+        version,
+        set,
+        events,
+    })
 }
 
 /// Whether the line is `end` alone.
@@ -246,11 +286,11 @@ fn begins_task(fields: &[&[u8]]) -> bool
 }
 
 /// Adds the task of a line that begins with `task`.
-fn add_task(version: u64, set: &mut TaskSet, fields: &[&[u8]]) -> Result<(), InputKind>
+fn add_task(version: u8, set: &mut TaskSet, fields: &[&[u8]]) -> Result<(), InputKind>
     requires { BeginsTask (texts fields.now) }
     ensures read { OnOk result (SaysTask (texts fields.now) set.old set.new) }
     ensures refused { IfErr result (λ kind. IsOutOfMemory kind
-        ⊎ IsFieldsFault version (Listed set.old []) (texts fields.now) kind) }
+        ⊎ IsFieldsFault (Listed version set.old []) (texts fields.now) kind) }
 {
     let [_word, name, number, list] = fields else {
         return Err(InputKind::BadTask);
@@ -264,52 +304,4 @@ fn add_task(version: u64, set: &mut TaskSet, fields: &[&[u8]]) -> Result<(), Inp
     };
     set.add(name, priority as u32, mask)?;
     Ok(())
-}
-
-/// The event of a line, on its stream.
-fn read_event(set: &TaskSet, fields: &[&[u8]]) -> Result<Posted, InputKind>
-    ensures read { IfOk result (IsEventLine set.now (texts fields.now)) }
-    ensures refused { IfErr result (IsEventFault set.now (texts fields.now)) }
-{
-    let [number, word, value] = fields else {
-        return Err(InputKind::BadEvent);
-    };
-    let Some(stream) = read_number(number, 0, MAX_STREAM) else {
-        return Err(InputKind::BadEvent);
-    };
-    let event = event_of(set, word, value)?;
-    Ok(Posted {
-        stream: stream as u32,
-        event,
-    })
-}
-
-/// The event of a word and a value: a task arrives or departs, or units of time pass.
-fn event_of(set: &TaskSet, word: &[u8], value: &[u8]) -> Result<Event, InputKind>
-    ensures read { IfOk result (IsEventFields set.now (word.now ∷ value.now ∷ [])) }
-    ensures refused { IfErr result (IsChangeFault set.now word.now value.now) }
-{
-    if is_word(word, "arrive") {
-        Ok(Event::Arrive(known_task(set, value)?))
-    } else if is_word(word, "depart") {
-        Ok(Event::Depart(known_task(set, value)?))
-    } else if is_word(word, "tick") {
-        match read_number(value, 1, MAX_UNITS) {
-            Some(units) => Ok(Event::Tick(units as u32)),
-            None => Err(InputKind::BadEvent),
-        }
-    } else {
-        Err(InputKind::BadEvent)
-    }
-}
-
-/// The task that has this name.
-fn known_task(set: &TaskSet, name: &[u8]) -> Result<u32, InputKind>
-    ensures read { IfOk result (λ t. IsNameOf set.now t name.now) }
-    ensures refused { IfErr result (λ kind. (kind ≡ UnknownTask) × IsNewName set.now name.now) }
-{
-    match task_of(set, name) {
-        Some(t) => Ok(t),
-        None => Err(InputKind::UnknownTask),
-    }
 }

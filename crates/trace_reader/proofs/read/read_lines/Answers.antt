@@ -8,7 +8,7 @@ returns-in-Err c = (
   tt,
   elim c.in-Err.ensures.refused [
     | inl none ↦ inl none
-    | inr fault ↦ inr (read_refused c.args.version c.args.bytes.now c.loop-rest.rest.now _ _ c.loop-rest.line _
+    | inr fault ↦ inr (read_refused c.args.bytes.now c.loop-rest.rest.now _ _ c.loop-rest.line _
         c.in-Err.kind
         c.loop-rest.invariant (search rules) c.first_line.ensures fault)
   ],
@@ -16,13 +16,13 @@ returns-in-Err c = (
 
 pub loop-rest-preserved : goal.loop-rest-preserved
 loop-rest-preserved c =
-    read_more c.args.version c.args.bytes.now c.loop-rest.rest.now _ _ c.loop-rest.line _ _ c.loop-rest.invariant
+    read_more c.args.bytes.now c.loop-rest.rest.now _ _ c.loop-rest.line _ _ c.loop-rest.invariant
     (search rules) c.first_line.ensures c.in-Ok.ensures.read
 
 pub returns-in-Some : goal.returns-in-Some
 returns-in-Some c = (
-  read_end c.args.version c.args.bytes.now c.loop-rest.rest.now c.loop-rest.line _ c.loop-rest.invariant
-      (nil_from_length c.loop-rest.rest.now (search (rules, arith))) c.in-Some.input.set c.in-Some.input.events
+  read_end c.args.bytes.now c.loop-rest.rest.now c.loop-rest.line _ c.loop-rest.invariant
+      (nil_from_length c.loop-rest.rest.now (search (rules, arith))) c.in-Some.input.version c.in-Some.input.set c.in-Some.input.events
       c.in-Some.ensures,
   tt,
 )

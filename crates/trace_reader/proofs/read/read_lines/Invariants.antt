@@ -4,7 +4,7 @@ use Rattle.trace_reader.proofs.ReadLines.{IsReadTo}
 use Rattle.trace_reader.proofs.read.read_lines.Given as goal
 
 abbrev pub invariant-loop-rest : goal.invariant-loop-rest
-invariant-loop-rest l = IsReadTo l.fn.version l.fn.bytes l.rest l.line (progress_of l.stage)
+invariant-loop-rest l = IsReadTo l.fn.bytes l.rest l.line (progress_of l.stage)
 
 abbrev pub decreases-loop-rest : goal.decreases-loop-rest
 decreases-loop-rest l = length l.rest
