@@ -8,7 +8,7 @@ use Rattle.trace_reader.specs.declared.fault.InputKind.{InputKind}
 use Rattle.trace_reader.specs.declared.fault.InputKind.TheVariants.{BadByte, LongLine}
 use Rattle.trace_reader.specs.Lines.{lines_of, fields_of, is_skipped, said_by, IsPlain, IsClean}
 use Rattle.trace_reader.specs.InputText.{IsInputText}
-use Rattle.trace_reader.specs.InputFault.{IsFieldsFault, IsLineFault, IsFirstFault, IsInputRefused}
+use Rattle.trace_reader.specs.InputFault.{IsFieldsFault, IsLineFault, IsFirstFault}
 use Rattle.trace_reader.specs.Progress.{Progress, HeaderExpected, Ended, Expects}
 use Rattle.trace_reader.specs.Reading.{Says}
 use Rattle.trace_reader.specs.Laws.{TextHasOneInput, TextHasOneFault, InputHasNoFault}

@@ -2,8 +2,8 @@
 //!
 //! [`read_input`] reads the text of an [`Input`]: a header with the version, the number of processors, a line for each
 //! task, a line for each event on its stream, and the end, with comments, blank lines and further blanks where a person
-//! puts them. Any other text is refused with the first line that has a fault, and the kind of the fault. [`write_input`] writes the
-//! canonical text of an input, and [`read_number`] reads one number of the formats.
+//! puts them. Any other text is refused with the first line that has a fault, and the kind of the fault.
+//! [`write_input`] writes the canonical text of an input, and [`read_number`] reads one number of the formats.
 #![tactic(auto)]
 
 mod event;
