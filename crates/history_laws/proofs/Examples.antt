@@ -1,14 +1,17 @@
 -- Small histories, followed by hand: what they change, order and give computes to the values that a reader expects.
-use Rattle.std.proofs.Common.{◌≡◌, ℕ, List, [], ◌∷◌, map, length, Option, Some, None, refl}
+use Rattle.std.proofs.Common.{◌≡◌, ℕ, true, List, [], ◌∷◌, map, length, Option, Some, None, refl}
 use Rattle.std.specs.List.{range_with_len}
 use Rattle.task_set.specs.TaskSet.{SetData, TaskData}
 use Rattle.task_set.specs.declared.context.Context.{Context}
 use Rattle.task_set.specs.declared.event.Event.{Event}
-use Rattle.task_set.specs.declared.event.Event.TheVariants.{Arrive, Depart, Tick}
+use Rattle.task_set.specs.declared.event.Event.TheVariants.{Arrive, Depart, Tick, Affinity, Offline, Online}
 use Rattle.task_set.specs.declared.order.Order.{Order}
 use Rattle.task_set.specs.declared.order.Order.TheVariants.{Release, Take, Run, Stop}
+use Rattle.affinity_mask.specs.ProcSet.{all_below, with_member, without_member}
+use Rattle.scheduler_reply.specs.declared.reply.Came.TheVariants as came
+use Rattle.scheduler_reply.specs.declared.reply.Gone.{Gone}
 use Rattle.scheduler_reply.specs.declared.reply.Reply.{Reply}
-use Rattle.scheduler_reply.specs.declared.reply.Reply.TheVariants.{Placed, Displaced, Waits, Freed, Left, Ticked, AlreadyReady, NotReady}
+use Rattle.scheduler_reply.specs.declared.reply.Reply.TheVariants.{Placed, Displaced, Waits, Freed, Left, Ticked, AlreadyReady, NotReady, Remasked, AlreadyOff, AlreadyOn, Off, On}
 use Rattle.scheduler_reply.specs.declared.reply.Entry.{Entry}
 use Rattle.link_state.specs.State.{start_of}
 use Rattle.link_state.specs.History.{state_after}
@@ -23,6 +26,10 @@ entry event reply = record { caller = 0; event = event; reply = reply }
 
 abbrev pub context : ℕ → ℕ → ℕ → ℕ → Option ℕ → ℕ → Context
 context t units stints moves last trail = record { task = t; units = units; stints = stints; moves = moves; last = last; trail = trail }
+
+-- who came in, and by which chain and set
+abbrev pub came_in : Option ℕ → List ℕ → ℕ → Gone
+came_in entered chain back = record { entered = entered; chain = chain; back = back }
 
 -- what a history leads to: the links, the orders of each processor up to its stop, and the context of each task
 pub record Gives (set : SetData) (history : List Entry) (links : List (Option ℕ)) (orders : List (List Order)) (contexts : List Context) : Type 0 where
@@ -164,3 +171,78 @@ back_on_the_same_processor_gives : Gives back_on_the_same_processor_set back_on_
     ((Take 0 0 ∷ Run 1 ∷ Release 0 ∷ Take 0 1 ∷ Run 2 ∷ Release 0 ∷ Stop ∷ []) ∷ [])
     (context 0 3 2 0 (Some 0) 1476348704584616896 ∷ [])
 back_on_the_same_processor_gives = record { links_are = refl; orders_are = refl; contexts_are = refl }
+
+-- ---- the first task leaves its processor at a change of its mask, and shifts the second one there as it comes back
+abbrev pub remasked_task_moves_set : SetData
+remasked_task_moves_set = record { processors = 2; tasks = task 1 3 ∷ task 2 3 ∷ [] }
+
+abbrev pub remasked_task_moves : List Entry
+remasked_task_moves =
+    entry (Arrive 0) (Placed (0 ∷ []))
+    ∷ entry (Arrive 1) (Placed (1 ∷ []))
+    ∷ entry (Affinity 0 2) (Remasked (Some (came_in None (0 ∷ []) 3)) (came.Placed (1 ∷ 0 ∷ [])))
+    ∷ entry (Tick 3) Ticked
+    ∷ []
+
+remasked_task_moves_gives : Gives remasked_task_moves_set remasked_task_moves
+    (Some 1 ∷ Some 0 ∷ [])
+    (
+    (Take 0 0 ∷ Release 0 ∷ Take 1 1 ∷ Run 3 ∷ Release 1 ∷ Stop ∷ [])
+    ∷ (Take 1 0 ∷ Release 1 ∷ Take 0 1 ∷ Run 3 ∷ Release 0 ∷ Stop ∷ [])
+    ∷ []
+    )
+    (context 0 3 2 1 (Some 1) 193 ∷ context 1 3 2 1 (Some 0) 6364136223846793197 ∷ [])
+remasked_task_moves_gives = record { links_are = refl; orders_are = refl; contexts_are = refl }
+
+remasked_task_moves_masks : (state_after (start_of remasked_task_moves_set) remasked_task_moves).masks ≡ 2 ∷ 3 ∷ []
+remasked_task_moves_masks = refl
+
+-- ---- a task that leaves its processor, and comes back to it by the same entry, gives no order
+abbrev pub remasked_task_comes_back_set : SetData
+remasked_task_comes_back_set = record { processors = 1; tasks = task 1 1 ∷ task 2 1 ∷ [] }
+
+abbrev pub remasked_task_comes_back : List Entry
+remasked_task_comes_back =
+    entry (Arrive 0) (Placed (0 ∷ []))
+    ∷ entry (Arrive 1) (Waits 1)
+    ∷ entry (Affinity 0 1) (Remasked (Some (came_in (Some 1) (0 ∷ []) 1)) (came.Displaced (0 ∷ []) 1 1))
+    ∷ []
+
+remasked_task_comes_back_gives : Gives remasked_task_comes_back_set remasked_task_comes_back
+    (Some 0 ∷ [])
+    ((Take 0 0 ∷ Release 0 ∷ Stop ∷ []) ∷ [])
+    (context 0 0 1 0 (Some 0) 0 ∷ context 1 0 0 0 None 1 ∷ [])
+remasked_task_comes_back_gives = record { links_are = refl; orders_are = refl; contexts_are = refl }
+
+-- ---- both processors go off line, and one of them comes back
+abbrev pub processors_go_off_line_set : SetData
+processors_go_off_line_set = record { processors = 2; tasks = task 1 3 ∷ task 2 3 ∷ [] }
+
+abbrev pub processors_go_off_line : List Entry
+processors_go_off_line =
+    entry (Arrive 0) (Placed (0 ∷ []))
+    ∷ entry (Arrive 1) (Placed (1 ∷ []))
+    ∷ entry (Offline 0) (Off (Some record { task = 0; came = came.Displaced (1 ∷ []) 1 2 }))
+    ∷ entry (Offline 0) AlreadyOff
+    ∷ entry (Offline 1) (Off (Some record { task = 0; came = came.Waits 0 }))
+    ∷ entry (Online 1) (On (came_in (Some 0) (1 ∷ []) 2))
+    ∷ entry (Online 1) AlreadyOn
+    ∷ []
+
+processors_go_off_line_gives : Gives processors_go_off_line_set processors_go_off_line
+    (None ∷ Some 0 ∷ [])
+    (
+    (Take 0 0 ∷ Release 0 ∷ Stop ∷ [])
+    ∷ (Take 1 0 ∷ Release 1 ∷ Take 0 1 ∷ Release 0 ∷ Take 0 2 ∷ Release 0 ∷ Stop ∷ [])
+    ∷ []
+    )
+    (context 0 0 3 1 (Some 1) 0 ∷ context 1 0 1 0 (Some 1) 1 ∷ [])
+processors_go_off_line_gives = record { links_are = refl; orders_are = refl; contexts_are = refl }
+
+-- both tasks are ready then, and processor 1 alone is on line
+processors_go_off_line_ready : (state_after (start_of processors_go_off_line_set) processors_go_off_line).ready ≡ true ∷ true ∷ []
+processors_go_off_line_ready = refl
+
+processors_go_off_line_online : (state_after (start_of processors_go_off_line_set) processors_go_off_line).online ≡ 2
+unfolding all_below with_member without_member
+processors_go_off_line_online = refl

@@ -1,23 +1,28 @@
--- In every state there is a step at every event of a task.
-use Rattle.std.proofs.Common.{◌≡◌, ℕ, ◌<◌, ◌≤◌, false, List, [], ◌∷◌, reverse, Option, Some, None, refl, sym, ap, ◌∙◌, subst, inl, inr, ◌⊎◌, IsTrue, arith, le_antisymm}
+-- In every state there is a step at every event of a task or a processor.
+use Rattle.std.proofs.Common.{◌≡◌, ℕ, ◌<◌, ◌≤◌, true, false, List, [], ◌∷◌, reverse, Option, Some, None, refl, sym, ap, ◌∙◌, subst, inl, inr, ◌⊎◌, IsTrue, arith, le_antisymm}
 use Rattle.std.proofs.lemmas.Bool.{cases_lt, cases_Bool, true≢false}
 use Rattle.std.proofs.lemmas.List.{get_or_past}
 use Rattle.affinity_mask.specs.ProcSet.{has}
-use Rattle.task_set.specs.declared.event.Event.TheVariants.{Arrive, Depart, Tick}
+use Rattle.task_set.specs.TaskSet.{IsMask}
+use Rattle.task_set.specs.declared.event.Event.TheVariants.{Arrive, Depart, Tick, Affinity, Offline, Online}
 use Rattle.scheduler_reply.specs.declared.reply.Reply.{Reply}
 use Rattle.scheduler_reply.specs.declared.reply.Came.{Came}
 use Rattle.scheduler_reply.specs.declared.reply.Came.TheVariants.{Placed, Displaced, Waits}
-use Rattle.scheduler_reply.specs.declared.reply.Reply.TheVariants.{Freed, Left, Ticked, AlreadyReady, NotReady}
-use Rattle.scheduler_reply.specs.Reply.{reply_of_came}
-use Rattle.link_state.specs.State.{State, IsState, IsWaiting, IsMoreUrgent, task_on, task_count, is_ready, is_linked, priority_of, effective_mask, state_with_ready, state_with_absent, state_after_leaving}
+use Rattle.scheduler_reply.specs.declared.reply.Gone.{Gone}
+use Rattle.scheduler_reply.specs.declared.reply.Moved.{Moved}
+use Rattle.scheduler_reply.specs.declared.reply.Reply.TheVariants.{Left, Ticked, AlreadyReady, NotReady, Masked, Remasked, AlreadyOff, AlreadyOn, Off, On}
+use Rattle.scheduler_reply.specs.Reply.{reply_of_came, reply_of_gone}
+use Rattle.link_state.specs.State.{State, IsState, IsWaiting, IsMoreUrgent, task_on, task_count, is_ready, is_linked, priority_of, effective_mask, state_with_ready, state_with_absent, state_with_mask, state_with_online, state_with_offline, state_after_leaving}
 use Rattle.link_state.specs.Chain.{IsReach, IsBackReach, EndsIdle, CanEnterAt, state_after_shift}
-use Rattle.link_state.specs.Step.{IsOccupied, Comes, ArriveStep, DepartStep, EnterStep}
+use Rattle.link_state.specs.Step.{IsOccupied, Comes, ArriveStep, DepartStep, EnterStep, Fills, LeaveStep, AffinityStep, OfflineStep, OnlineStep}
+use Rattle.link_state.proofs.Changes.{IsState-state_with_online}
 use Rattle.link_state.proofs.Ends.{has_decided, least_chain_to_idle, least_chain_to_task, least_back_chain}
 use Rattle.link_state.proofs.Least.{Decided}
 use Rattle.link_state.proofs.Leaving.{IsState-state_after_leaving}
 use Rattle.link_state.proofs.Linked.{place_in, task_on-linked, linked_number, occupied_number}
 use Rattle.link_state.proofs.Masks.{online_below, effective_mask_below}
 use Rattle.link_state.proofs.Paths.{Reaches-online}
+use Rattle.link_state.proofs.Steps.{has_left, IsState-remasked, IsState-moved, absent_moved}
 use Rattle.history_laws.specs.StepLaws.{StepExists}
 use Rattle.history_laws.proofs.StepReach.{reach_exists, back_reach_exists}
 use Rattle.certificate_laws.proofs.FirstFound.{FirstBelow, first_below, exists_below, both_decided}
@@ -30,8 +35,9 @@ either : (x y : ℕ) → (x ≤ y) ⊎ (y ≤ x)
 either x y = elim (cases_lt x y) [ inl lt ↦ inl (omega arith) | inr ge ↦ inr ge ]
 
 -- ---- arrivals
-abbrev SomeArriveStep : State → ℕ → Type 0
-SomeArriveStep s t = (reply : Reply) × (new : State) × ArriveStep s t reply new
+-- what an absent task comes to
+abbrev SomeComing : State → ℕ → Type 0
+SomeComing s t = (came : Came) × (new : State) × Comes s t came new
 
 -- the priority of an occupant, where there is one
 abbrev priority_on : State → Option ℕ → ℕ
@@ -39,18 +45,14 @@ priority_on s None = 0
 priority_on s (Some u) = priority_of s u
 
 module _ (s : State) (ok : IsState s) (t : ℕ) (number : t < task_count s) (absent : is_ready s t ≡ false) where
-  -- what t comes to is the reply
-  comes : (came : Came) (new : State) → Comes s t came new → SomeArriveStep s t
-  comes came new step = (reply_of_came came, new, inr record { absent = absent; came = came; answer = refl; comes = step })
-
-  placed : (chain : List ℕ) → EndsIdle s t chain → SomeArriveStep s t
+  placed : (chain : List ℕ) → EndsIdle s t chain → SomeComing s t
   placed chain ends =
       let least = (least_chain_to_idle s t ok).exists chain ends in
-      comes (Placed least.0) (state_after_shift (state_with_ready s t) t least.0) record { least = least.1; shifted = refl }
+      (Placed least.0, state_after_shift (state_with_ready s t) t least.0, record { least = least.1; shifted = refl })
 
   module _ (reach : ℕ) (reached : IsReach s t reach) (occupied : IsOccupied s reach) where
-    waits : ((p : ℕ) → IsTrue (has reach p) → (u : ℕ) × (task_on s p ≡ Some u) × IsMoreUrgent s u t) → SomeArriveStep s t
-    waits more_urgent = comes (Waits reach) (state_with_ready s t) record { reached = reached; more_urgent = more_urgent; waits = refl }
+    waits : ((p : ℕ) → IsTrue (has reach p) → (u : ℕ) × (task_on s p ≡ Some u) × IsMoreUrgent s u t) → SomeComing s t
+    waits more_urgent = (Waits reach, state_with_ready s t, record { reached = reached; more_urgent = more_urgent; waits = refl })
 
     -- the occupants of p are the least urgent ones that are reached
     module _ (p : ℕ) (inside : IsTrue (has reach p)) (least_urgent : (q : ℕ) → IsTrue (has reach q) → priority_on s (task_on s q) ≤ priority_on s (task_on s p)) (d : ℕ) (on : task_on s p ≡ Some d) where
@@ -61,21 +63,24 @@ module _ (s : State) (ok : IsState s) (t : ℕ) (number : t < task_count s) (abs
           let b : priority_on s (task_on s p) ≡ priority_of s d = ap (priority_on s) on in
           omega arith
 
-      displaced : priority_of s t < priority_of s d → SomeArriveStep s t
+      displaced : priority_of s t < priority_of s d → SomeComing s t
       displaced lt =
           let path = (reached p).0 inside in
-          let least = (least_chain_to_task s t d ok).exists path.0 (p, path.1, on) in
-          comes (Displaced least.0 d reach) (state_after_shift (state_with_ready s t) t least.0) record {
-            reached = reached;
-            occupied = occupied;
-            out_there = record { there = (p, inside, on); least_urgent = λ q u there on_q. no_less_urgent q u there on_q };
-            out_less_urgent = lt;
-            least = least.1;
-            shifted = refl;
-          }
+          let least = (least_chain_to_task s t d ok).exists path.0 (p, path.1, on) in (
+            Displaced least.0 d reach,
+            state_after_shift (state_with_ready s t) t least.0,
+            record {
+              reached = reached;
+              occupied = occupied;
+              out_there = record { there = (p, inside, on); least_urgent = λ q u there on_q. no_less_urgent q u there on_q };
+              out_less_urgent = lt;
+              least = least.1;
+              shifted = refl;
+            },
+          )
 
       -- an occupant is another task than the one that arrives, and so it has another priority
-      kept_out : priority_of s d ≤ priority_of s t → SomeArriveStep s t
+      kept_out : priority_of s d ≤ priority_of s t → SomeComing s t
       kept_out le = waits (λ q there.
           let u = (occupied q there).0 in
           let on_q = (occupied q there).1 in
@@ -92,13 +97,13 @@ module _ (s : State) (ok : IsState s) (t : ℕ) (number : t < task_count s) (abs
     abbrev NoMoreUrgentOn : ℕ → ℕ → Type 0
     NoMoreUrgentOn p q = priority_on s (task_on s q) ≤ priority_on s (task_on s p)
 
-    all_occupied : SomeArriveStep s t
+    all_occupied : SomeComing s t
     all_occupied = go (first_below (λ p. IsTrue (has reach p)) (has_decided reach) NoMoreUrgentOn (λ p q. either (priority_on s (task_on s q)) (priority_on s (task_on s p))) (λ p q r le more. omega arith) s.processors)
       where
         inside_below : (p : ℕ) → IsTrue (has reach p) → p < s.processors
         inside_below p there = let u = occupied p there in occupied_number s p u.0 ok u.1
 
-        go : FirstBelow (λ p. IsTrue (has reach p)) NoMoreUrgentOn s.processors → SomeArriveStep s t
+        go : FirstBelow (λ p. IsTrue (has reach p)) NoMoreUrgentOn s.processors → SomeComing s t
         go (inr none) = waits (λ p there. absurd (none p (inside_below p there) there))
         go (inl found) =
             let p = found.0 in
@@ -109,8 +114,8 @@ module _ (s : State) (ok : IsState s) (t : ℕ) (number : t < task_count s) (abs
               | inr ge ↦ kept_out p found.2 least_urgent d.0 d.1 ge
             ]
 
-  arrives_absent : SomeArriveStep s t
-  arrives_absent =
+  pub comes_exists : SomeComing s t
+  comes_exists =
       let reach = (reach_exists s ok t).0 in
       let reached = (reach_exists s ok t).1 in
       elim (exists_below (λ q. IsTrue (has reach q) × (task_on s q ≡ None)) (λ q. both_decided (IsTrue (has reach q)) (task_on s q ≡ None) (has_decided reach q) (nobody_decided (task_on s q))) s.processors) [
@@ -122,13 +127,18 @@ module _ (s : State) (ok : IsState s) (t : ℕ) (number : t < task_count s) (abs
       occupant_of p reach reached none there None idle = absurd (none (p, online_below s ok p (Reaches-online s t p ((reached p).0 there)), (there, idle)))
       occupant_of p reach reached none there (Some u) on = (u, on)
 
+abbrev SomeArriveStep : State → ℕ → Type 0
+SomeArriveStep s t = (reply : Reply) × (new : State) × ArriveStep s t reply new
+
 arrive_exists : (s : State) → IsState s → (t : ℕ) → t < task_count s → SomeArriveStep s t
 arrive_exists s ok t number = elim (cases_Bool (is_ready s t)) [
   | inl ready ↦ (AlreadyReady, s, inl record { ready = ready; answer = refl; same = refl })
-  | inr absent ↦ arrives_absent s ok t number absent
+  | inr absent ↦
+      let found = comes_exists s ok t number absent in
+      (reply_of_came found.0, found.1, inr record { absent = absent; came = found.0; answer = refl; comes = found.2 })
 ]
 
--- ---- departures
+-- ---- a processor becomes idle
 abbrev SomeEnterStep : State → ℕ → ℕ → Type 0
 SomeEnterStep s p back = (entered : Option ℕ) × (chain : List ℕ) × (new : State) × EnterStep s p entered chain back new
 
@@ -196,39 +206,80 @@ module _ (s : State) (ok : IsState s) (p : ℕ) (inside : p < s.processors) (bac
             ),
           )
 
+-- whoever comes in
+fill_exists : (s : State) → IsState s → (p : ℕ) → p < s.processors → (gone : Gone) × (new : State) × Fills s p gone new
+fill_exists s ok p inside =
+    let back = back_reach_exists s ok p inside in
+    let step = enter_exists s ok p inside back.0 back.1 in
+    (record { entered = step.0; chain = step.1; back = back.0 }, step.2, record { reached = back.1; enters = step.3 })
+
+-- ---- departures
+-- a ready task leaves
+leave_exists : (s : State) → IsState s → (t : ℕ) → is_ready s t ≡ true → (gone : Option Gone) × (between : State) × LeaveStep s t gone between
+leave_exists s ok t ready = elim (cases_Bool (is_linked s t)) [
+  | inl linked ↦
+      let p = place_in t s.on in
+      let on = task_on-linked s t linked in
+      let filled = fill_exists (state_after_leaving s t) (IsState-state_after_leaving s ok t) p (occupied_number s p t ok on) in
+      (Some filled.0, filled.1, (p, on, filled.2))
+  | inr free ↦ (None, state_with_absent s t, (record { ready = ready; not_linked = free }, refl))
+]
+
 abbrev SomeDepartStep : State → ℕ → Type 0
 SomeDepartStep s t = (reply : Reply) × (new : State) × DepartStep s t reply new
 
--- a task leaves the processor that it is linked to
-depart_linked : (s : State) → IsState s → (t p : ℕ) → task_on s p ≡ Some t → SomeDepartStep s t
-depart_linked s ok t p on =
-    let left = state_after_leaving s t in
-    let left_ok = IsState-state_after_leaving s ok t in
-    let inside : p < s.processors = occupied_number s p t ok on in
-    let back = back_reach_exists left left_ok p inside in
-    let step = enter_exists left left_ok p inside back.0 back.1 in (
-      Freed step.0 step.1 back.0,
-      step.2,
-      inr (inr record {
-        place = p;
-        linked = on;
-        gone = record { entered = step.0; chain = step.1; back = back.0 };
-        answer = refl;
-        fills = record { reached = back.1; enters = step.3 };
-      }),
-    )
+departs : (s : State) (t : ℕ) (gone : Option Gone) (new : State) → LeaveStep s t gone new → SomeDepartStep s t
+departs s t None new leaves = (Left, new, inr (inl record { waits = leaves.0; answer = refl; left = leaves.1 }))
+departs s t (Some gone) new leaves = (reply_of_gone gone, new, inr (inr record { place = leaves.0; linked = leaves.1; gone = gone; answer = refl; fills = leaves.2 }))
 
 depart_exists : (s : State) → IsState s → (t : ℕ) → SomeDepartStep s t
 depart_exists s ok t = elim (cases_Bool (is_ready s t)) [
-  | inl ready ↦ elim (cases_Bool (is_linked s t)) [
-    | inl linked ↦ depart_linked s ok t (place_in t s.on) (task_on-linked s t linked)
-    | inr free ↦ (Left, state_with_absent s t, inr (inl record { waits = record { ready = ready; not_linked = free }; answer = refl; left = refl }))
-  ]
+  | inl ready ↦ let found = leave_exists s ok t ready in departs s t found.0 found.1 found.2
   | inr absent ↦ (NotReady, s, inl record { absent = absent; answer = refl; same = refl })
 ]
+
+-- ---- changes of masks
+affinity_exists : (s : State) → IsState s → (t mask : ℕ) → t < task_count s → IsMask s.processors mask → (reply : Reply) × (new : State) × AffinityStep s t mask reply new
+affinity_exists s ok t mask number lawful = elim (cases_Bool (is_ready s t)) [
+  | inl ready ↦
+      let gone = leave_exists s ok t ready in
+      let left = has_left s ok t mask gone.0 gone.1 number lawful gone.2 in
+      let came = comes_exists (state_with_mask gone.1 t mask) (IsState-remasked s t mask gone.1 left) t left.number left.absent in
+      (Remasked gone.0 came.0, came.1, inr record { gone = gone.0; came = came.0; answer = refl; between = gone.1; leaves = gone.2; comes = came.2 })
+  | inr absent ↦ (Masked, state_with_mask s t mask, inl record { absent = absent; answer = refl; masked = refl })
+]
+
+-- ---- processors
+module _ (s : State) (ok : IsState s) (p : ℕ) where
+  abbrev SomeOfflineStep : Type 0
+  SomeOfflineStep = (reply : Reply) × (new : State) × OfflineStep s p reply new
+
+  goes_off : IsTrue (has s.online p) → (o : Option ℕ) → task_on s p ≡ o → SomeOfflineStep
+  goes_off online None idle = (Off None, state_with_offline s p, inr (inl record { idle = (online, idle); answer = refl; off = refl }))
+  goes_off online (Some t) on =
+      let came = comes_exists (state_with_offline (state_after_leaving s t) p) (IsState-moved s ok p t on) t (linked_number s p t ok on) (absent_moved s ok p t on) in
+      let moved : Moved = record { task = t; came = came.0 } in
+      (Off (Some moved), came.1, inr (inr record { moved = moved; occupied = on; answer = refl; comes = came.2 }))
+
+  offline_exists : SomeOfflineStep
+  offline_exists = elim (cases_Bool (has s.online p)) [
+    | inl online ↦ goes_off online (task_on s p) refl
+    | inr off ↦ (AlreadyOff, s, inl record { off = off; answer = refl; same = refl })
+  ]
+
+  online_exists : p < s.processors → (reply : Reply) × (new : State) × OnlineStep s p reply new
+  online_exists inside = elim (cases_Bool (has s.online p)) [
+    | inl online ↦ (AlreadyOn, s, inl record { on = online; answer = refl; same = refl })
+    | inr off ↦
+        let filled = fill_exists (state_with_online s p) (IsState-state_with_online s p ok inside) p inside in
+        (On filled.0, filled.1, inr record { off = off; parts = filled.0; answer = refl; fills = filled.2 })
+  ]
 
 -- ---- all events
 pub step_exists : StepExists
 step_exists s (Arrive t) ok number = let step = arrive_exists s ok t number in (step.0, step.1, (number, step.2))
 step_exists s (Depart t) ok number = let step = depart_exists s ok t in (step.0, step.1, (number, step.2))
-step_exists s (Tick units) ok number = (Ticked, s, (refl, refl))
+step_exists s (Tick units) ok tick = (Ticked, s, (refl, refl))
+step_exists s (Affinity t mask) ok known = let step = affinity_exists s ok t mask known.0 known.1 in (step.0, step.1, (known.0, known.1, step.2))
+step_exists s (Offline p) ok number = let step = offline_exists s ok p in (step.0, step.1, (number, step.2))
+step_exists s (Online p) ok number = let step = online_exists s ok p number in (step.0, step.1, (number, step.2))

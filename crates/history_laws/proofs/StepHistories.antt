@@ -1,9 +1,10 @@
--- Events of tasks have just one legal history: each step is there, and there is no other.
+-- Events of tasks and processors have just one legal history: each step is there, and there is no other.
 use Rattle.std.proofs.Common.{◌≡◌, ℕ, List, [], ◌∷◌, length, map, refl, sym, ap, ◌∙◌, subst}
 use Rattle.std.specs.Prelude.{All}
 use Rattle.std.proofs.lemmas.List.{length-map}
 use Rattle.std.proofs.lemmas.List.Elements.{All-head, All-tail}
 use Rattle.task_set.specs.TaskSet.{TaskData}
+use Rattle.task_set.specs.Event.{IsOfSystem}
 use Rattle.task_set.specs.declared.event.Event.{Event}
 use Rattle.scheduler_reply.specs.declared.reply.Entry.{Entry}
 use Rattle.link_state.specs.State.{State, IsState, start_of, task_count}
@@ -13,28 +14,29 @@ use Rattle.link_state.proofs.SameTasks.{same_tasks-effect, same_count}
 use Rattle.link_state.proofs.Start.{IsState-start}
 use Rattle.link_state.proofs.Steps.{reply_gives_new_state, step_keeps_state}
 use Rattle.link_state.proofs.Unique.{step_is_unique}
-use Rattle.certificate_laws.specs.Passing.{IsOfTask}
 use Rattle.history_laws.specs.StepLaws.{LegalHistoryExists, LegalHistoryIsUnique, caller_and_event}
 use Rattle.history_laws.proofs.StepExists.{step_exists}
 
 -- ---- there is one
--- the event of each pair is of one of n tasks
-abbrev AreOfTasks : ℕ → List (ℕ × Event) → Type 0
-AreOfTasks n events = All (λ posted. IsOfTask n posted.1) events
+-- the event of each pair is of a system of m processors and n tasks
+abbrev AreOfSystem : ℕ → ℕ → List (ℕ × Event) → Type 0
+AreOfSystem m n events = All (λ posted. IsOfSystem m n posted.1) events
 
-pub history_exists-from : (s : State) (n : ℕ) (events : List (ℕ × Event)) → IsState s → task_count s ≡ n → AreOfTasks n events → (history : List Entry) × IsLegalFrom s history × (map caller_and_event history ≡ events)
-history_exists-from s n [] ok count known = ([], tt, refl)
-history_exists-from s n (posted ∷ rest) ok count known =
+pub history_exists-from : (s : State) (m n : ℕ) (events : List (ℕ × Event)) → IsState s → s.processors ≡ m → task_count s ≡ n → AreOfSystem m n events → (history : List Entry) × IsLegalFrom s history × (map caller_and_event history ≡ events)
+history_exists-from s m n [] ok processors count known = ([], tt, refl)
+history_exists-from s m n (posted ∷ rest) ok processors count known =
     let event = posted.1 in
-    let found = step_exists s event ok (subst (λ (m : ℕ). IsOfTask m event) (sym count) (All-head (λ (p : ℕ × Event). IsOfTask n p.1) posted rest known)) in
+    let here : IsOfSystem m n event = All-head (λ (p : ℕ × Event). IsOfSystem m n p.1) posted rest known in
+    let found = step_exists s event ok (rw (processors, count) here) in
     let entry : Entry = record { caller = posted.0; event = event; reply = found.0 } in
     let next = effect_of s entry in
     let step : SchedulerStep s event found.0 next = subst (SchedulerStep s event found.0) (reply_gives_new_state s event found.0 found.1 found.2) found.2 in
-    let later = history_exists-from next n rest (step_keeps_state s event found.0 next ok step) (same_count s next (same_tasks-effect s entry) ∙ count) (All-tail (λ (p : ℕ × Event). IsOfTask n p.1) posted rest known) in
+    let same = same_tasks-effect s entry in
+    let later = history_exists-from next m n rest (step_keeps_state s event found.0 next ok step) (same.processors ∙ processors) (same_count s next same ∙ count) (All-tail (λ (p : ℕ × Event). IsOfSystem m n p.1) posted rest known) in
     (entry ∷ later.0, (step, later.1), ap (λ (events : List (ℕ × Event)). posted ∷ events) later.2)
 
 pub legal_history_exists : LegalHistoryExists
-legal_history_exists set events valid_set known = history_exists-from (start_of set) (length set.tasks) events (IsState-start set valid_set) (length-map set.tasks (λ (t : TaskData). t.priority)) known
+legal_history_exists set events valid_set known = history_exists-from (start_of set) set.processors (length set.tasks) events (IsState-start set valid_set) refl (length-map set.tasks (λ (t : TaskData). t.priority)) known
 
 -- ---- there is no other
 same_entry : (a b : Entry) → a.caller ≡ b.caller → a.event ≡ b.event → a.reply ≡ b.reply → a ≡ b

@@ -1,5 +1,5 @@
--- The best set over legal histories, whatever their masks, arrivals, departures and ticks: from any state in which nobody
--- is ready, and so from the start of a set.
+-- The best set over legal histories, whatever their masks and their events: from any state in which nobody is ready, and so
+-- from the start of a set.
 use Rattle.std.specs.Prelude.{ℕ, ◌≤◌, List, length}
 use Rattle.task_set.specs.TaskSet.{SetData, IsTaskSet}
 use Rattle.scheduler_reply.specs.declared.reply.Entry.{Entry}

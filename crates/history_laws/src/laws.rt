@@ -4,12 +4,12 @@ ghost use Rattle.history_laws.specs.ImprovingLaw.{LegalHistoryHasNoImprovingChai
 ghost use Rattle.history_laws.specs.LegalLaw.{LegalHistoryHasCertificatesFrom, LegalHistoryHasCertificates, LegalHistoryIsBestFrom, LegalHistoryIsBest, LegalHistoryIsMostUrgentFrom, LegalHistoryIsMostUrgent};
 ghost use Rattle.history_laws.specs.StepLaws.{StepExists, LegalHistoryExists, LegalHistoryIsUnique};
 
-/// In every state the scheduler has a reply to every event of one of the tasks, and a state to go to.
+/// In every state the scheduler has a reply to every event of one of the tasks or processors, and a state to go to.
 pub fn step_exists()
     ensures { StepExists }
 {}
 
-/// Events of tasks of a set have just one legal history.
+/// Events of the tasks and processors of a set have just one legal history.
 pub fn events_have_one_history()
     ensures exists { LegalHistoryExists }
     ensures unique { LegalHistoryIsUnique }
@@ -22,8 +22,8 @@ pub fn legal_history_has_certificates()
     ensures of_set { LegalHistoryHasCertificates }
 {}
 
-/// After every entry of a legal history, of arrivals, departures and ticks alike, the linked tasks are the best placeable
-/// set of the ready tasks.
+/// After every entry of a legal history, whatever its events, the linked tasks are the best placeable set of the ready
+/// tasks.
 pub fn legal_history_is_best()
     ensures from_start { LegalHistoryIsBestFrom }
     ensures of_set { LegalHistoryIsBest }
