@@ -19,7 +19,7 @@ STATUS_LINES = {
     6: re.compile(rb'out of memory\n'),
 }
 
-INPUT_KINDS = range(1, 13)
+INPUT_KINDS = range(1, 14)
 SCHEDULE_KINDS = range(21, 26)
 
 

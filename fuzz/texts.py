@@ -10,9 +10,10 @@ LISTS = [b'0', b'1', b'63', b'64', b'0-1', b'0-63', b'0-64', b'1-0', b'0,1', b'1
 CHAINS = [b'0', b'1', b'0>1', b'1>0', b'0>0', b'0>1>2', b'2>1>0', b'63', b'64', b'0>', b'>0', b'>', b'0>01', b'-', b'0,1']
 NAMES = [b'a', b'b', b't0', b't1', b't2', b'_', b'-', b'.', b'a.b-c_9', b'9a', b'#a', b'n' * 32, b'n' * 33, b'end', b'task',
          b'units', b'nobody', b'\xc3\xbc', b'\xff', b'']
-WORDS = [b'apa', b'schedule', b'processors', b'task', b'arrive', b'depart', b'tick', b'end', b'history', b'contexts', b'placed',
-         b'displaced', b'waits', b'freed', b'left', b'ticked', b'already', b'absent', b'out', b'reach', b'enters', b'back',
-         b'units', b'stints', b'moves', b'last', b'trail', b'#']
+WORDS = [b'apa', b'schedule', b'processors', b'task', b'arrive', b'depart', b'tick', b'affinity', b'offline', b'online', b'end',
+         b'history', b'contexts', b'placed', b'displaced', b'waits', b'freed', b'left', b'ticked', b'already', b'absent', b'masked',
+         b'remasked', b'then', b'already_off', b'already_on', b'off', b'on', b'out', b'reach', b'enters', b'back', b'units',
+         b'stints', b'moves', b'last', b'trail', b'#']
 BYTES = b'\0\t\n\r\x0b\x1b #+,-.019>AZ_az~\x7f\x80\xc3\xff'
 BLANKS = [b'  ', b'\t', b' \t ', b'\r', b'']
 FIELD = re.compile(rb'[^ \t\n]+')
@@ -22,6 +23,33 @@ def spread(chance, text, streams):
     """The text with each event on any of so many streams."""
     return b'\n'.join(b'%d' % chance.randrange(streams) + line[1:] if line.startswith(b'0 ') else line
                       for line in text.split(b'\n'))
+
+
+def event_size(fields):
+    """How many of some fields are those of the event that they begin with."""
+    return 3 if fields[:1] == [b'affinity'] else 2
+
+
+def with_changes(chance, text):
+    """An input of version 1, as `make` writes it, in version 2: masks change, processors go off line and come back."""
+    lines = text.replace(b'apa 1', b'apa 2').split(b'\n')
+    first = next(i for i, line in enumerate(lines) if i > 1 and not line.startswith(b'task '))
+    names = [line.split(b' ')[1] for line in lines[2:first]]
+    processors = int(lines[1].split(b' ')[1])
+    for _ in range(chance.choice([0, 1, 3, 10, 30])):
+        at = chance.randrange(first, len(lines) - 1)
+        lines.insert(at, b'0 ' + change_event(chance, processors, names))
+    return b'\n'.join(lines)
+
+
+def change_event(chance, processors, names):
+    """An event of version 2 about one of the processors or one of the tasks."""
+    word = chance.choice([b'affinity', b'affinity', b'offline', b'online', b'online'])
+    if word != b'affinity':
+        return b'%s %d' % (word, chance.randrange(processors))
+    width = chance.choice([1, 2, 3, processors])
+    mask = {min(processors - 1, chance.randrange(processors) + i) for i in range(width)}
+    return b'affinity %s %s' % (chance.choice(names), canonical_list(mask))
 
 
 def changed(chance, base, others):
@@ -194,7 +222,7 @@ def members_of(text):
 
 # Changes of a schedule that leave most of its lines in their form.
 
-ENTRY = re.compile(rb'[0-9]+ (arrive|depart|tick) \S+ ')
+ENTRY = re.compile(rb'[0-9]+ ((arrive|depart|tick|offline|online) \S+|affinity \S+ \S+) ')
 
 
 def entries_in(lines):
@@ -209,8 +237,35 @@ def swap_replies(chance, text, _others):
     if not entries:
         return text
     to, of = chance.choice(entries), chance.choice(entries)
-    lines[to] = b' '.join(lines[to].split(b' ')[:3] + lines[of].split(b' ')[3:])
+    lines[to] = ENTRY.match(lines[to])[0] + lines[of][ENTRY.match(lines[of]).end():]
     return b'\n'.join(lines)
+
+
+CAME = rb'placed \S+|displaced \S+ out \S+ reach \S+|waits \S+'
+GONE = rb'freed \S+ enters \S+ back \S+|left'
+
+
+def swap_parts(chance, text, _others):
+    """Puts a part of one reply into another reply: before `then`, after it, or alone."""
+    parts = list(re.finditer(chance.choice([CAME, GONE, CAME + b'|' + GONE]), text))
+    if not parts:
+        return text
+    to, of = chance.choice(parts), chance.choice(parts)
+    return text[:to.start()] + of[0] + text[to.end():]
+
+
+def change_parts(chance, text, _others):
+    """Drops a part of a reply, or adds one."""
+    parts = list(re.finditer(rb'(?:remasked (?:' + GONE + rb')|off \S+) then (' + CAME + rb')|(?<= )(?:' + CAME + b')', text))
+    if not parts:
+        return text
+    part = chance.choice(parts)
+    gone = chance.choice(re.findall(GONE, text) + [b'left'])
+    name = chance.choice(re.findall(rb'(?<=task )\S+', text) + [b'-'])
+    came = part[1] or part[0]
+    other = chance.choice([came, b'remasked left then ' + came, b'remasked %s then %s' % (gone, came), b'off %s then %s' % (name, came),
+                           b'off -', b'off ' + name, b'masked'])
+    return text[:part.start()] + other + text[part.end():]
 
 
 def change_count(lines, more):
@@ -254,17 +309,18 @@ def canonical_list(members):
 
 def change_set(chance, text, _others):
     """Puts a processor into the set of a reply or into a mask, or takes it out."""
-    lists = list(re.finditer(rb'(?:waits|reach|back|task \S+ [0-9]+) ([0-9]{1,3}(?:[-,][0-9]{1,3})*)(?=\n)', text))
+    lists = list(re.finditer(rb'(?:waits|reach|back|affinity \S+|task \S+ [0-9]+) (-|[0-9]{1,3}(?:[-,][0-9]{1,3})*)(?=[ \n])', text))
     if not lists:
         return text
     found = chance.choice(lists)
-    members = set(members_of(found[1])) ^ {chance.choice([0, 1, 2, 3, 4, 5, 6, 7, 12, 63])}
+    members = set(members_of(found[1])) if found[1] != b'-' else set()
+    members ^= {chance.choice([0, 1, 2, 3, 4, 5, 6, 7, 12, 63])}
     return text[:found.start(1)] + canonical_list(members) + text[found.end(1):]
 
 
 def change_chain(chance, text, _others):
     """Changes the items of a chain, or puts another chain in its place."""
-    chains = list(re.finditer(rb'(?:placed|displaced|freed) ([0-9>]+)', text))
+    chains = list(re.finditer(rb' (?:placed|displaced|freed|on) ([0-9>]+)', text))
     if not chains:
         return text
     found = chance.choice(chains)
@@ -279,19 +335,45 @@ def change_chain(chance, text, _others):
 def other_name(chance, text, _others):
     """Another task in the place of one, in an event or in a reply."""
     names = re.findall(rb'(?<=task )\S+', text)
-    places = list(re.finditer(rb'(?:arrive|depart|out|enters) (\S+)', text))
+    places = list(re.finditer(rb' (?:arrive|depart|affinity|off|out|enters) (\S+)', text))
     if not names or not places:
         return text
     found = chance.choice(places)
     return text[:found.start(1)] + chance.choice(names + [b'-']) + text[found.end(1):]
 
 
-ENTRY_CHANGES = [swap_replies, swap_replies, add_entry, add_entry, drop_entry, change_set, change_set, change_set, change_chain,
-                 change_chain, change_chain, other_name, other_name, nudge_number]
+# Changes of what version 2 has more.
+
+def change_version(_chance, text, _others):
+    """Another version in the first line."""
+    line, feed, rest = text.partition(b'\n')
+    return line.translate(bytes.maketrans(b'12', b'21')) + feed + rest
+
+
+def add_change(chance, text, _others):
+    """Puts an event of version 2 before an event of an input, right or with something wrong about it."""
+    lines = text.split(b'\n')
+    events = [i for i, line in enumerate(lines) if re.match(rb'[0-9]+ [a-z]', line) or line == b'end']
+    names = re.findall(rb'(?<=task )\S+', text)
+    processors = re.match(rb'apa [12]\nprocessors ([1-9][0-9]?)\n', text)
+    if not events or not names or not processors:
+        return text
+    line = b'0 ' + change_event(chance, int(processors[1]), names)
+    if chance.random() < 0.5:
+        fields = line.split(b' ')
+        at = chance.choice([*range(len(fields)), -1, -1, -1])
+        fields[at] = chance.choice([NUMBERS, WORDS, NAMES, LISTS][at] + LISTS + [processors[1], b'0-' + processors[1]] * 5)
+        line = b' '.join(fields)
+    lines.insert(chance.choice(events), line)
+    return b'\n'.join(lines)
+
+
+ENTRY_CHANGES = [swap_replies, swap_replies, swap_parts, swap_parts, change_parts, change_parts, add_entry, add_entry, drop_entry,
+                 change_set, change_set, change_set, change_chain, change_chain, change_chain, other_name, other_name, nudge_number]
 
 CHANGES = [flip_bit, put_byte, drop_bytes, cut_text, drop_line, repeat_line, swap_lines, take_line, lengthen_line,
            replace_field, replace_field, replace_field, nudge_number, nudge_number, change_items, change_items, swap_fields,
-           swap_fields, drop_or_repeat_field, change_blank]
+           swap_fields, drop_or_repeat_field, change_blank, change_version, add_change, add_change]
 
 
 # Texts at the limits of what is read.
@@ -336,12 +418,14 @@ def spelled_line(chance, fields):
     fields = list(fields)
     if fields[0] == b'task':
         fields[2], fields[3] = spelled_number(chance, fields[2]), spelled_list(chance, fields[3])
-    elif fields[0] == b'processors':
+    elif fields[0] in (b'apa', b'processors'):
         fields[1] = spelled_number(chance, fields[1])
     elif fields[0].isdigit():
         fields[0] = spelled_number(chance, fields[0])
-        if fields[1] == b'tick':
+        if fields[1] in (b'tick', b'offline', b'online'):
             fields[2] = spelled_number(chance, fields[2])
+        elif fields[1] == b'affinity':
+            fields[3] = spelled_list(chance, fields[3])
     blank = chance.choice([b' ', b'  ', b'\t', b' \t'])
     return chance.choice([b'', b'', b' ', b'\t']) + blank.join(fields) + chance.choice([b'', b'', b'  '])
 
@@ -354,7 +438,7 @@ def respelled(chance, text):
             lines.append(chance.choice([b'', b' \t', b'# 0 arrive nobody', b'#end']))
         fields = line.split()
         is_skipped = not fields or fields[0].startswith(b'#')
-        lines.append(line if is_skipped or fields[0] == b'apa' else spelled_line(chance, fields))
+        lines.append(line if is_skipped else spelled_line(chance, fields))
     return b'\n'.join(line for line in lines if len(line) <= 4096)
 
 
