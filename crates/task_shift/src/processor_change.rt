@@ -9,6 +9,7 @@ use link_table::{Links, Moved, Reply};
 
 /// A processor goes off line. Its task, if it has one, comes to another processor, or waits. Nothing changes where it
 /// was off line before. No memory is taken.
+#[tactic(auto, using(link_state::proofs::Linked::linked_number))]
 pub fn offline(links: &mut Links, p: u8) -> Reply
     requires { p < links.old.processors }
     ensures step { OfflineStep links.old p result links.new }
