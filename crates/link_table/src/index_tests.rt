@@ -162,16 +162,50 @@ fn leave_or_wait(rt: &impl Abort, numbers: &mut Numbers, links: &mut Links, t: u
     }
 }
 
-/// An absent task becomes ready; a waiting one is shifted, or becomes absent; a linked one leaves its processor.
+/// An absent task gets a mask that is taken at random, or becomes ready.
+fn mask_or_ready(rt: &impl Abort, numbers: &mut Numbers, links: &mut Links, t: u32) {
+    let processors = links.processors();
+    assert!(rt; 0 < processors && processors <= 64);
+    assert!(rt; t < links.len() && !links.is_ready(t));
+    let mask = numbers.some_of(processors);
+    if mask.is_empty() || numbers.below(2) == 0 {
+        links.make_ready(t);
+        return;
+    }
+    assert!(rt; mask.within(&ProcSet::first(processors)));
+    links.set_mask(t, mask);
+    assert!(rt; links.mask(t) == mask, "the mask of {t}");
+}
+
+/// A processor to which nobody is linked goes off line, or comes on line. Answers the processors on line then.
+fn turn(rt: &impl Abort, numbers: &mut Numbers, links: &mut Links, online: ProcSet) -> ProcSet {
+    let processors = links.processors();
+    assert!(rt; 0 < processors);
+    let p = numbers.below(u32::from(processors)) as u8;
+    assert!(rt; p < processors && p < 64);
+    if links.on(p).is_some() {
+        return online;
+    }
+    let on = !online.has(p);
+    links.set_online(p, on);
+    if on {
+        online.with(p)
+    } else {
+        online.without(p)
+    }
+}
+
+/// An absent task gets another mask, or becomes ready; a waiting one is shifted, or becomes absent; a linked one leaves
+/// its processor.
 fn step(rt: &impl Abort, numbers: &mut Numbers, links: &mut Links, t: u32) {
     assert!(rt; t < links.len());
     if !links.is_ready(t) {
-        links.make_ready(t);
+        mask_or_ready(rt, numbers, links, t);
     } else if !links.is_waiting(t) {
         leave_or_wait(rt, numbers, links, t);
     } else if numbers.below(4) == 0 {
         links.make_absent(t);
-    } else {
+    } else if !links.effective(t).is_empty() {
         shift_some(rt, numbers, links, t);
     }
 }
@@ -205,9 +239,12 @@ fn run(
     let mut numbers = Numbers { state: 1 };
     let set = some_set(rt, &mut numbers, processors, tasks)?;
     let mut links = Links::new(rt.alloc(), &set)?;
+    let mut online = ProcSet::first(processors);
     for _step in 0..steps {
         let t = numbers.below(tasks);
         step(rt, &mut numbers, &mut links, t);
+        online = turn(rt, &mut numbers, &mut links, online);
+        assert!(rt; links.online() == online, "on line");
         compare(rt, &links, numbers.some_of(processors));
     }
     Ok(())
@@ -239,5 +276,20 @@ fn two_wait_for_two_processors(rt: HostRuntime) -> Result<(), Fail> {
     assert_eq!(rt; links.most_urgent_in(ProcSet::empty()), None);
     assert!(rt; links.feeders(0) == ProcSet::first(2));
     assert!(rt; links.feeders(1) == ProcSet::one(1));
+    Ok(())
+}
+
+#[test]
+fn a_task_waits_for_no_processor(rt: HostRuntime) -> Result<(), Fail> {
+    let mut set = TaskSet::new(rt.alloc(), 2)?;
+    set.add("w", 1, ProcSet::one(1))?;
+    let mut links = Links::new(rt.alloc(), &set)?;
+    links.make_ready(0);
+    links.set_online(1, false);
+    assert!(rt; links.effective(0).is_empty() && links.is_waiting(0));
+    assert!(rt; links.idle() == ProcSet::one(0));
+    assert_eq!(rt; links.most_urgent_in(ProcSet::first(2)), None);
+    links.set_online(1, true);
+    assert_eq!(rt; links.most_urgent_in(ProcSet::first(2)), Some(0));
     Ok(())
 }

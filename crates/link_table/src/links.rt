@@ -207,7 +207,8 @@ impl Links {
         ensures valid { IsState self.new }
     {
         self.ready[t as usize] = true;
-        self.waiting.write(t, self.places.mask(t));
+        let mask = self.places.mask(t);
+        self.waiting.write(t, mask);
     }
 
     /// Sets the mask of an absent task.

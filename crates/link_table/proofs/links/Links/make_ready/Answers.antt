@@ -10,7 +10,7 @@ invariant_of-self c =
     let a = c.self.inside in
     let number = subst (λ (s : State). c.args.t < task_count s) (sym c.self.view_is) c.requires.number in
     let absent = subst (λ (s : State). is_ready s c.args.t ≡ false) (sym c.self.view_is) c.requires.absent in
-    rw (c.write.ensures, c.mask.ensures) record {
+    rw (c.write.ensures, c.mask-mask.ensures) record {
       state = IsState-state_with_ready (links_view a) c.self.invariant.state c.args.t number;
       waiting = AreAwaited-ready (links_view a) c.self.invariant.state a.waiting.masks c.self.invariant.waiting c.args.t number (IsWaiting-state_with_ready (links_view a) c.self.invariant.state c.args.t number absent);
     }
