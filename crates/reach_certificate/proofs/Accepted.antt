@@ -4,7 +4,7 @@ use Rattle.task_set.specs.Context.{context_after_take, context_after_run}
 use Rattle.task_set.specs.declared.context.Context.{Context}
 use Rattle.task_set.specs.declared.event.Event.{Event}
 use Rattle.scheduler_reply.specs.declared.reply.Entry.{Entry}
-use Rattle.link_state.specs.State.{State, IsState, task_count}
+use Rattle.link_state.specs.State.{State, IsState, HasSameTasks, task_count}
 use Rattle.link_state.specs.Dispatch.{taken_between, places_of, tick_runs}
 use Rattle.link_state.specs.History.{effect_of}
 use Rattle.link_state.proofs.SameTasks.{same_tasks-effect, same_count}
@@ -14,7 +14,8 @@ use Rattle.reach_certificate.specs.Contexts.{context_after_takes, context_after_
 use Rattle.certificate_laws.specs.Laws.{LinkedIsBest}
 use Rattle.certificate_laws.specs.Passing.{Passes}
 use Rattle.certificate_laws.proofs.Best.{linked_is_best}
-use Rattle.certificate_laws.proofs.Passed.{passing_keeps_certificates, passing_keeps_state}
+use Rattle.certificate_laws.proofs.KeptStates.{passing_keeps_state}
+use Rattle.certificate_laws.proofs.Passed.{passing_keeps_certificates}
 
 -- ---- a context is always that of its task
 takes_keep_task : (c : Context) (places : List ℕ) → (context_after_takes c places).task ≡ c.task
@@ -31,6 +32,16 @@ entry_keeps_task old new event t c =
 
 -- ---- an entry that passes
 module _ (old : CheckerData) (checker : IsChecker old) (entry : Entry) (passes : Passes old.links entry.event entry.reply) (links : State) (effect : links ≡ effect_of old.links entry) where
+  pub same_as_before : HasSameTasks old.links links
+  same_as_before = rw effect (same_tasks-effect old.links entry)
+
+  -- links of the same tasks as before are of the same tasks as after
+  pub saved_same : (saved : State) → HasSameTasks old.links saved → HasSameTasks links saved
+  saved_same saved same = record {
+    processors = same.processors ∙ sym same_as_before.processors;
+    priorities = same.priorities ∙ sym same_as_before.priorities;
+  }
+
   pub tasks_same : task_count links ≡ task_count old.links
   tasks_same = ap task_count effect ∙ same_count old.links (effect_of old.links entry) (same_tasks-effect old.links entry)
 

@@ -1,25 +1,28 @@
 -- How contexts follow the links, processor by processor.
-use Rattle.std.proofs.Common.{◌≡◌, ℕ, ◌+◌, ◌<◌, ◌≤◌, Bool, true, false, cond, List, [], ◌∷◌, ◌++◌, length, get_or, map, filter, take, refl, sym, ap, ◌∙◌, arith, if◌then◌else◌}
+use Rattle.std.proofs.Common.{◌≡◌, ℕ, ◌+◌, Bool, true, false, cond, List, [], ◌∷◌, ◌++◌, length, get_or, map, filter, Option, None, refl, sym, ap, ◌∙◌, subst, inl, inr, arith, if◌then◌else◌}
 use Rattle.std.specs.List.{range_with_len, fold}
-use Rattle.std.proofs.lemmas.List.{map-id, take_all}
-use Rattle.std.proofs.lemmas.List.Elements.{filter_more}
+use Rattle.std.proofs.lemmas.List.{get_or_default, map-id, same_lists}
 use Rattle.std.proofs.lemmas.List.Folds.{fold-map}
 use Rattle.std.proofs.lemmas.List.FromFn.{filter_of_map_range_with_len_more}
 use Rattle.std.proofs.lemmas.List.Sums.{fold-append}
-use Rattle.task_set.specs.Context.{context_after_take, context_after_run}
+use Rattle.task_set.specs.Context.{context_after_run}
 use Rattle.task_set.specs.declared.context.Context.{Context}
 use Rattle.task_set.specs.declared.event.Event.{Event}
-use Rattle.task_set.specs.declared.event.Event.TheVariants.{Arrive, Depart, Tick}
+use Rattle.task_set.specs.declared.event.Event.TheVariants.{Arrive, Depart, Tick, Affinity, Offline, Online}
 use Rattle.scheduler_reply.specs.declared.reply.Reply.{Reply}
 use Rattle.scheduler_reply.specs.declared.reply.Entry.{Entry}
 use Rattle.scheduler_reply.specs.Reply.{chain_of}
 use Rattle.link_state.specs.State.{State, IsState, is_task, task_on}
 use Rattle.link_state.specs.Dispatch.{taken_between, places_of, tick_runs}
 use Rattle.link_state.specs.History.{effect_of, state_after_reply}
+use Rattle.link_state.proofs.SameTasks.{same_tasks-effect}
 use Rattle.certificate_laws.specs.Passing.{Passes}
-use Rattle.reach_certificate.specs.Contexts.{context_after_takes, context_after_all_runs, context_after_entry, EachBecomes}
-use Rattle.reach_certificate.specs.Places.{places_among}
-use Rattle.reach_certificate.proofs.Touching.{takes_along}
+use Rattle.certificate_laws.specs.Touched.{StaysOutside, touched}
+use Rattle.certificate_laws.proofs.KeptStates.{passing_keeps_state}
+use Rattle.certificate_laws.proofs.Touched.{passing_stays_outside, stands_or_stays}
+use Rattle.reach_certificate.specs.CaughtUp.{HaveCaughtUp, taken_among}
+use Rattle.reach_certificate.specs.Contexts.{ContextsData, context_after_takes, context_after_all_runs, context_after_entry, EachBecomes, HaveFollowed}
+use Rattle.reach_certificate.proofs.CatchingUp.{EachBecomes-then, caught_up-then, taken_nowhere}
 
 -- ---- one number more, where it passes a test
 fold_pushed : (f : Context → ℕ → Context) (c : Context) (xs : List ℕ) (b : Bool) (x : ℕ) → fold f c (xs ++ cond b (x ∷ []) []) ≡ (if b then f (fold f c xs) x else fold f c xs)
@@ -34,31 +37,6 @@ range_more test n =
     ap (filter test) (sym (map-id (range_with_len 0 (n + 1))))
     ∙ filter_of_map_range_with_len_more test (λ k. k) 0 n n (omega arith)
     ∙ ap (λ (xs : List ℕ). filter test xs ++ cond (test n) (n ∷ []) []) (map-id (range_with_len 0 n))
-
--- ---- what becomes of each context
-pub EachBecomes-then : (first second whole : ℕ → Context → Context) → ((t : ℕ) (c : Context) → second t (first t c) ≡ whole t c) → (old mid new : List Context) → EachBecomes first old mid → EachBecomes second mid new → EachBecomes whole old new
-EachBecomes-then first second whole same old mid new one other = record {
-  count = other.count ∙ one.count;
-  each = λ t d fits. other.each t d (rw one.count fits) ∙ ap (second t) (one.each t d fits) ∙ same t (get_or old t d);
-}
-
--- ---- takes, as far as the chain was followed
-pub takes_more : (s : State) (chain : List ℕ) (i : ℕ) → i < length chain → (start contexts after : List Context)
-    → EachBecomes (λ t c. context_after_takes c (places_among s (take i chain) t)) start contexts
-    → EachBecomes (λ t c. if is_task t (task_on s (get_or chain i 0)) then context_after_take c (get_or chain i 0) else c) contexts after
-    → EachBecomes (λ t c. context_after_takes c (places_among s (take (i + 1) chain) t)) start after
-takes_more s chain i fits start contexts after so_far here = EachBecomes-then _ _ _ (λ t c. sym (one_more t c)) start contexts after so_far here
-  where
-    one_more : (t : ℕ) (c : Context) → context_after_takes c (places_among s (take (i + 1) chain) t)
-        ≡ (if is_task t (task_on s (get_or chain i 0)) then context_after_take (context_after_takes c (places_among s (take i chain) t)) (get_or chain i 0) else context_after_takes c (places_among s (take i chain) t))
-    one_more t c =
-        ap (context_after_takes c) (filter_more (λ q. is_task t (task_on s q)) chain i 0 fits)
-        ∙ fold_pushed context_after_take c (places_among s (take i chain) t) (is_task t (task_on s (get_or chain i 0))) (get_or chain i 0)
-
-pub takes_whole : (s : State) (chain : List ℕ) (n : ℕ) → length chain ≤ n → (contexts after : List Context)
-    → EachBecomes (λ t c. context_after_takes c (places_among s (take n chain) t)) contexts after
-    → EachBecomes (λ t c. context_after_takes c (places_among s chain t)) contexts after
-takes_whole s chain n whole contexts after takes = rw (take_all n chain whole) at takes
 
 -- ---- runs, as far as the processors were gone over
 -- the context of t after it ran on each processor below n on which it is
@@ -88,36 +66,85 @@ runs_whole s n units whole contexts after runs = record {
 }
 
 -- ---- the whole entry
--- at a tick nobody moves
-tick_still : (old : State) (event : Event) (reply : Reply) (units : ℕ) → event ≡ Tick units → Passes old event reply → (state_after_reply old event reply ≡ old) × (chain_of reply ≡ [])
-tick_still old (Arrive t) reply units is passes = cc
-tick_still old (Depart t) reply units is passes = cc
-tick_still old (Tick more) reply units is passes = (ap (state_after_reply old (Tick more)) passes, ap chain_of passes)
+-- at a tick nothing changes
+tick_still : (old : State) (event : Event) (reply : Reply) (units : ℕ) → event ≡ Tick units → Passes old event reply → state_after_reply old event reply ≡ old
+tick_still old (Tick more) reply units is passes = ap (state_after_reply old (Tick more)) passes
+tick_still old _ reply units is passes = absurd (cc)
 
-module _ (old : State) (ok : IsState old) (entry : Entry) (passes : Passes old entry.event entry.reply) (new : State) (effect : new ≡ effect_of old entry) (contexts after : List Context) where
-  taken : (t : ℕ) → places_among new (chain_of entry.reply) t ≡ taken_between old new t
-  taken t = takes_along old ok entry.event entry.reply passes new effect t
+-- another event than a tick runs nothing
+no_runs : (event : Event) (places : List ℕ) → ((units : ℕ) → event ≡ Tick units → ⊥) → tick_runs event places ≡ []
+no_runs (Tick units) places none = absurd (none units refl)
+no_runs (Arrive t) places none = refl
+no_runs (Depart t) places none = refl
+no_runs (Affinity t mask) places none = refl
+no_runs (Offline p) places none = refl
+no_runs (Online p) places none = refl
 
-  pub followed_tick : (units : ℕ) → entry.event ≡ Tick units → EachBecomes (λ t c. context_after_all_runs c (tick_runs (Tick units) (places_of new t))) contexts after → EachBecomes (context_after_entry old new entry.event) contexts after
-  followed_tick units is runs =
-      let still = tick_still old entry.event entry.reply units is passes in
-      record {
-        count = runs.count;
-        each = λ t d fits. runs.each t d fits ∙ same t (get_or contexts t d) (effect ∙ still.0) still.1;
-      }
-    where
-      same : (t : ℕ) (c : Context) → new ≡ old → chain_of entry.reply ≡ [] → context_after_all_runs c (tick_runs (Tick units) (places_of new t)) ≡ context_after_entry old new entry.event t c
-      same t c stays nobody =
-          let none : taken_between old new t ≡ [] = sym (taken t) ∙ ap (λ (places : List ℕ). places_among new places t) nobody in
-          rw (none, is) (ap (λ (s : State). context_after_all_runs c (tick_runs (Tick units) (places_of s t))) stays)
+-- another one than a processor that goes off line touches the chains alone
+pub touches_chains : (event : Event) (reply : Reply) → ((p : ℕ) → event ≡ Offline p → ⊥) → touched event reply ≡ chain_of reply
+touches_chains (Offline p) reply none = absurd (none p refl)
+touches_chains (Arrive t) reply none = refl
+touches_chains (Depart t) reply none = refl
+touches_chains (Tick units) reply none = refl
+touches_chains (Affinity t mask) reply none = refl
+touches_chains (Online p) reply none = refl
 
-  pub followed_other : ((units : ℕ) → entry.event ≡ Tick units → ⊥) → EachBecomes (λ t c. context_after_takes c (places_among new (chain_of entry.reply) t)) contexts after → EachBecomes (context_after_entry old new entry.event) contexts after
-  followed_other no_tick takes = record {
-    count = takes.count;
-    each = λ t d fits. takes.each t d fits ∙ ap (context_after_takes (get_or contexts t d)) (taken t) ∙ no_runs entry.event no_tick t (context_after_takes (get_or contexts t d) (taken_between old new t));
+module _ (old : State) (ok : IsState old) (entry : Entry) (passes : Passes old entry.event entry.reply) (new : State) (effect : new ≡ effect_of old entry) (before after : ContextsData) (held : before.held ≡ old.on) where
+  new_ok : IsState new
+  new_ok = rw effect (passing_keeps_state old entry.event entry.reply ok passes)
+
+  same_processors : new.processors ≡ old.processors
+  same_processors = ap (λ (s : State). s.processors) effect ∙ (same_tasks-effect old entry).processors
+
+  taken_is : after.held ≡ new.on → (t : ℕ) → taken_among before.held after.held t ≡ taken_between old new t
+  taken_is now t = rw (held, now, ok.on_count) refl
+
+  pub followed_tick : (units : ℕ) → entry.event ≡ Tick units → after.held ≡ before.held → EachBecomes (λ t c. context_after_all_runs c (tick_runs (Tick units) (places_of new t))) before.each after.each → HaveFollowed old new entry.event before after
+  followed_tick units is kept runs = record {
+    each = record { count = runs.count; each = λ t d fits. runs.each t d fits ∙ whole t (get_or before.each t d) };
+    held = now;
   }
     where
-      no_runs : (event : Event) → ((units : ℕ) → event ≡ Tick units → ⊥) → (t : ℕ) (c : Context) → c ≡ context_after_all_runs c (tick_runs event (places_of old t))
-      no_runs (Arrive u) none t c = refl
-      no_runs (Depart u) none t c = refl
-      no_runs (Tick units) none t c = absurd (none units refl)
+      still : new ≡ old
+      still = effect ∙ tick_still old entry.event entry.reply units is passes
+
+      now : after.held ≡ new.on
+      now = kept ∙ held ∙ sym (ap (λ (s : State). s.on) still)
+
+      nobody : (t : ℕ) → taken_between old new t ≡ []
+      nobody t = sym (taken_is now t) ∙ ap (λ (xs : List (Option ℕ)). taken_among before.held xs t) kept ∙ taken_nowhere before.held t
+
+      whole : (t : ℕ) (c : Context) → context_after_all_runs c (tick_runs (Tick units) (places_of new t)) ≡ context_after_entry old new entry.event t c
+      whole t c = rw (nobody t, is) (ap (λ (s : State). context_after_all_runs c (tick_runs (Tick units) (places_of s t))) still)
+
+  pub followed_other : ((units : ℕ) → entry.event ≡ Tick units → ⊥) → HaveCaughtUp new (touched entry.event entry.reply) before after → HaveFollowed old new entry.event before after
+  followed_other no_tick caught = record {
+    each = record { count = caught.each.count; each = λ t d fits. caught.each.each t d fits ∙ whole t (get_or before.each t d) };
+    held = now;
+  }
+    where
+      outside : StaysOutside old new (touched entry.event entry.reply)
+      outside = rw effect (passing_stays_outside old entry.event entry.reply ok passes)
+
+      at : (p : ℕ) → get_or after.held p None ≡ task_on new p
+      at p = elim (stands_or_stays old new (touched entry.event entry.reply) outside p) [
+        | inl there ↦ caught.there p there
+        | inr same ↦ elim (caught.either p) [
+          | inr linked ↦ linked
+          | inl stays ↦ stays ∙ ap (λ (xs : List (Option ℕ)). get_or xs p None) held ∙ sym same
+        ]
+      ]
+
+      count : length after.held ≡ length new.on
+      count = caught.count ∙ ap length held ∙ ok.on_count ∙ sym same_processors ∙ sym new_ok.on_count
+
+      now : after.held ≡ new.on
+      now = same_lists after.held new.on count (λ k d fits. get_or_default after.held k d None fits ∙ at k ∙ get_or_default new.on k None d (rw (← count) fits))
+
+      whole : (t : ℕ) (c : Context) → context_after_takes c (taken_among before.held after.held t) ≡ context_after_entry old new entry.event t c
+      whole t c = rw (taken_is now t, no_runs entry.event (places_of old t) no_tick) refl
+
+  pub followed_offline : (p : ℕ) → entry.event ≡ Offline p → (mid : ContextsData) → length before.held ≡ new.processors → HaveCaughtUp new (p ∷ []) before mid → HaveCaughtUp new (chain_of entry.reply) mid after → HaveFollowed old new entry.event before after
+  followed_offline p is mid count one other =
+      followed_other (λ units e. let wrong = sym is ∙ e in cc)
+      (subst (λ (event : Event). HaveCaughtUp new (touched event entry.reply) before after) (sym is) (caught_up-then new new_ok (p ∷ []) (chain_of entry.reply) before mid after count one other))

@@ -1,5 +1,10 @@
 pub mod Accepted
+pub mod Alone
+pub mod CatchingUp
+pub mod ChainEnds
 pub mod ChainPlaces
+pub mod ChangeDefects
+pub mod ChangeJudgements
 pub mod ContextsFollow
 pub mod Decisions
 pub mod Defects
@@ -9,7 +14,8 @@ pub mod Feeders
 pub mod Fitting
 pub mod Following
 pub mod Judgements
-pub mod Parts
+pub mod Online
+pub mod PartDefects
+pub mod PartJudgements
 pub mod Returning
 pub mod Seen
-pub mod Touching

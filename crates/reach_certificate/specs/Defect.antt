@@ -5,17 +5,19 @@
 use Rattle.std.specs.Prelude.{◌≡◌, ◌≢◌, ℕ, ◌+◌, ◌-◌, ◌<◌, ◌≤◌, ◌⊎◌, true, false, List, length, slice_index, IsTrue, Option, Some, None, IsSome, All}
 use Rattle.affinity_mask.specs.ProcSet.{has, all_below, Within}
 use Rattle.task_set.specs.declared.event.Event.{Event}
-use Rattle.task_set.specs.declared.event.Event.TheVariants.{Arrive, Depart, Tick}
+use Rattle.task_set.specs.declared.event.Event.TheVariants.{Arrive, Depart, Tick, Affinity, Offline, Online}
 use Rattle.scheduler_reply.specs.declared.reply.Came.{Came}
 use Rattle.scheduler_reply.specs.declared.reply.Came.TheVariants as came
 use Rattle.scheduler_reply.specs.declared.reply.Gone.{Gone}
+use Rattle.scheduler_reply.specs.declared.reply.Moved.{Moved}
 use Rattle.scheduler_reply.specs.declared.reply.Reply.{Reply}
-use Rattle.scheduler_reply.specs.declared.reply.Reply.TheVariants.{Left, Ticked, AlreadyReady, NotReady}
+use Rattle.scheduler_reply.specs.declared.reply.Reply.TheVariants.{Left, Ticked, AlreadyReady, NotReady, Masked, Remasked, AlreadyOff, AlreadyOn, Off, On}
 use Rattle.scheduler_reply.specs.declared.reply.Entry.{Entry}
 use Rattle.scheduler_reply.specs.Reply.{reply_of_came, reply_of_gone, sets_of}
-use Rattle.link_state.specs.State.{State, effective_mask, task_on, is_ready, is_linked, priority_of, IsWaiting, IsMoreUrgent, state_after_leaving}
+use Rattle.link_state.specs.State.{State, effective_mask, task_on, is_ready, is_linked, priority_of, IsIdle, IsWaiting, IsMoreUrgent, state_with_mask, state_with_online, state_with_offline, state_after_leaving}
 use Rattle.link_state.specs.Chain.{CanShift, CanEnterAt}
 use Rattle.link_state.specs.Step.{IsNobodyInto, IsMostUrgentInto}
+use Rattle.link_state.specs.History.{state_after_left}
 use Rattle.reach_certificate.specs.declared.defect.Defect.{Defect}
 use Rattle.reach_certificate.specs.declared.defect.Defect.TheVariants.{WrongReply, BadChain, BadSet, WrongTask}
 
@@ -47,11 +49,34 @@ IsAllowedToDeparture s t reply =
     ((is_ready s t ≡ false) × (reply ≡ NotReady))
     ⊎ ((IsWaiting s t × (reply ≡ Left)) ⊎ ((is_linked s t ≡ true) × ((gone : Gone) × (reply ≡ reply_of_gone gone))))
 
+-- and with a change of the mask of t: it was absent, or had waited and came back, or was linked to a processor at which
+-- somebody comes in, or nobody, and came back
+abbrev pub IsAllowedToAffinity : State → ℕ → Reply → Type 0
+IsAllowedToAffinity s t reply =
+    ((is_ready s t ≡ false) × (reply ≡ Masked))
+    ⊎ ((IsWaiting s t × ((came : Came) × (reply ≡ Remasked None came)))
+    ⊎ ((is_linked s t ≡ true) × ((gone : Gone) × (came : Came) × (reply ≡ Remasked (Some gone) came))))
+
+-- and where p goes off line: it was off line, or idle, or its occupant is the task that came back
+abbrev pub IsAllowedToOffline : State → ℕ → Reply → Type 0
+IsAllowedToOffline s p reply =
+    ((has s.online p ≡ false) × (reply ≡ AlreadyOff))
+    ⊎ ((IsIdle s p × (reply ≡ Off None)) ⊎ ((moved : Moved) × (reply ≡ Off (Some moved)) × (task_on s p ≡ Some moved.task)))
+
+-- and where p comes on line: it was on line, or somebody comes in there, or nobody
+abbrev pub IsAllowedToOnline : State → ℕ → Reply → Type 0
+IsAllowedToOnline s p reply =
+    ((has s.online p ≡ true) × (reply ≡ AlreadyOn))
+    ⊎ ((has s.online p ≡ false) × ((parts : Gone) × (reply ≡ On parts)))
+
 -- and with the event
 abbrev pub IsAllowed : State → Event → Reply → Type 0
 IsAllowed s (Arrive t) reply = IsAllowedToArrival s t reply
 IsAllowed s (Depart t) reply = IsAllowedToDeparture s t reply
 IsAllowed s (Tick units) reply = reply ≡ Ticked
+IsAllowed s (Affinity t mask) reply = IsAllowedToAffinity s t reply
+IsAllowed s (Offline p) reply = IsAllowedToOffline s p reply
+IsAllowed s (Online p) reply = IsAllowedToOnline s p reply
 
 -- ---- the chain
 -- place i of a chain fits: there is a processor, the machine has it, and the chain has not visited it before; the first
@@ -179,12 +204,40 @@ IsGoneDefect s p gone (BadSet q) = AllFit (FreedFits s p gone.entered gone.chain
 IsGoneDefect s p gone (WrongTask x) = AllFit (FreedFits s p gone.entered gone.chain) (length gone.chain) × AllFit (BackFits s p gone.back) processor_count × EntersWrongly s gone.entered gone.chain gone.back x
 IsGoneDefect s p gone _ = ⊥
 
+-- ---- a task leaves, and comes back
+-- a part fails of who came in at the processor of t, once t has left it
+abbrev pub IsVacatedDefect : State → ℕ → Gone → Defect → Type 0
+IsVacatedDefect s t gone defect = (place : ℕ) × (task_on s place ≡ Some t) × IsGoneDefect (state_after_leaving s t) place gone defect
+
+-- t leaves rightly: it had waited, or all parts are right of who came in at its processor
+abbrev pub LeavesRightly : State → ℕ → Option Gone → Type 0
+LeavesRightly s t None = IsWaiting s t
+LeavesRightly s t (Some gone) = (place : ℕ) × (task_on s place ≡ Some t) × GoneIsRight (state_after_leaving s t) place gone
+
+-- a part fails of who came in, where t leaves a processor
+abbrev pub IsLeavingDefect : State → ℕ → Option Gone → Defect → Type 0
+IsLeavingDefect s t None defect = ⊥
+IsLeavingDefect s t (Some gone) defect = IsVacatedDefect s t gone defect
+
+-- a part fails of how t leaves, or else of what t comes to once its mask has changed
+abbrev pub IsReturnDefect : State → ℕ → ℕ → Option Gone → Came → Defect → Type 0
+IsReturnDefect s t mask gone came defect =
+    IsLeavingDefect s t gone defect
+    ⊎ (LeavesRightly s t gone × IsCameDefect (state_with_mask (state_after_left s t gone) t mask) t came defect)
+
+-- a part fails of what the task of p comes to once p is off line
+abbrev pub IsMovedDefect : State → ℕ → Moved → Defect → Type 0
+IsMovedDefect s p moved defect = (task_on s p ≡ Some moved.task) × IsCameDefect (state_with_offline (state_after_leaving s moved.task) p) moved.task moved.came defect
+
 -- ---- the first part of a reply that fails
 -- the reply may stand with the event, and a part of it fails first
 abbrev pub IsPartDefect : State → Event → Reply → Defect → Type 0
 IsPartDefect s (Arrive t) reply defect = (came : Came) × (reply ≡ reply_of_came came) × (is_ready s t ≡ false) × IsCameDefect s t came defect
-IsPartDefect s (Depart t) reply defect = (gone : Gone) × (reply ≡ reply_of_gone gone) × ((place : ℕ) × (task_on s place ≡ Some t) × IsGoneDefect (state_after_leaving s t) place gone defect)
+IsPartDefect s (Depart t) reply defect = (gone : Gone) × (reply ≡ reply_of_gone gone) × IsVacatedDefect s t gone defect
 IsPartDefect s (Tick units) reply defect = ⊥
+IsPartDefect s (Affinity t mask) reply defect = (gone : Option Gone) × (came : Came) × (reply ≡ Remasked gone came) × IsReturnDefect s t mask gone came defect
+IsPartDefect s (Offline p) reply defect = (moved : Moved) × (reply ≡ Off (Some moved)) × IsMovedDefect s p moved defect
+IsPartDefect s (Online p) reply defect = (parts : Gone) × (reply ≡ On parts) × (has s.online p ≡ false) × IsGoneDefect (state_with_online s p) p parts defect
 
 -- the reply may not stand with the event, or this part of it fails first
 abbrev pub IsReplyDefect : State → Event → Reply → Defect → Type 0

@@ -5,12 +5,13 @@ use Rattle.task_set.specs.declared.context.Context.{Context}
 use Rattle.task_set.specs.declared.event.Event.{Event}
 use Rattle.scheduler_reply.specs.declared.reply.Reply.{Reply}
 use Rattle.scheduler_reply.specs.declared.reply.Entry.{Entry}
-use Rattle.link_state.specs.State.{State, IsState, task_count}
+use Rattle.link_state.specs.State.{State, IsState}
+use Rattle.link_state.specs.Step.{IsEventFor}
 use Rattle.link_state.specs.History.{effect_of, state_after}
 use Rattle.link_state.specs.Dispatch.{context_of}
 use Rattle.reach_certificate.specs.Contexts.{EachBecomes, context_after_entry}
 use Rattle.reach_certificate.specs.Defect.{IsReplyDefect, IsOfProcessors}
-use Rattle.certificate_laws.specs.Passing.{IsOfTask, Passes}
+use Rattle.certificate_laws.specs.Passing.{Passes}
 use Rattle.reach_certificate.specs.declared.defect.Defect.{Defect}
 
 -- no reply passes and has a defect
@@ -21,9 +22,9 @@ PassingHasNoDefect = (s : State) (event : Event) (reply : Reply) (defect : Defec
 abbrev pub DefectIsUnique : Type 0
 DefectIsUnique = (s : State) (event : Event) (reply : Reply) (one other : Defect) → IsState s → IsReplyDefect s event reply one → IsReplyDefect s event reply other → one ≡ other
 
--- each reply to an event of a task passes, or has a defect
+-- each reply to an event of the tasks and processors passes, or has a defect
 abbrev pub PassesOrHasDefect : Type 0
-PassesOrHasDefect = (s : State) (event : Event) (reply : Reply) → IsState s → IsOfTask (task_count s) event → IsOfProcessors reply → Passes s event reply ⊎ ((defect : Defect) × IsReplyDefect s event reply defect)
+PassesOrHasDefect = (s : State) (event : Event) (reply : Reply) → IsState s → IsEventFor s event → IsOfProcessors reply → Passes s event reply ⊎ ((defect : Defect) × IsReplyDefect s event reply defect)
 
 -- contexts of a history that follow one more entry are those of the history with that entry
 abbrev pub ContextsFollow : Type 0

@@ -1,7 +1,9 @@
+pub mod CaughtUp
 pub mod Checker
 pub mod CheckerView
 pub mod Contexts
+pub mod ContextsView
 pub mod Defect
 pub mod DefectLaws
 pub mod Judging
-pub mod Places
+pub mod Returning

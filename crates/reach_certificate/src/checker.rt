@@ -3,16 +3,16 @@ ghost use Rattle.std.specs.Prelude.{◌≡◌, ℕ, ◌<◌, map, Err, IsOk, IfO
 ghost use Rattle.std.specs.List.{range_with_len};
 ghost use Rattle.task_set.specs.Context.{fresh_context};
 ghost use Rattle.link_state.specs.State.{State, start_of, task_count};
-ghost use Rattle.link_state.specs.Step.{SchedulerStep};
+ghost use Rattle.link_state.specs.Step.{IsEventFor, SchedulerStep};
 ghost use Rattle.link_state.specs.History.{effect_of};
 ghost use Rattle.reach_certificate.specs.Checker.{IsChecker};
 ghost use Rattle.reach_certificate.specs.Contexts.{EachBecomes, context_after_entry};
 ghost use Rattle.reach_certificate.specs.Defect.{IsDefect};
 ghost use Rattle.certificate_laws.specs.Laws.{LinkedIsBest};
-ghost use Rattle.certificate_laws.specs.Passing.{IsOfTask, Passes};
+ghost use Rattle.certificate_laws.specs.Passing.{Passes};
 ghost use Rattle.reach_certificate.specs.declared.defect.Defect.{Defect};
 
-use crate::contexts::{follow, fresh_contexts};
+use crate::contexts::Contexts;
 use crate::defect::Defect;
 use crate::judge::follow_entry;
 use affinity_mask::OutOfMemory;
@@ -26,7 +26,9 @@ use task_set::{Context, TaskSet};
 #[derive(Drop)]
 pub struct Checker {
     links: Links,
-    contexts: Vec<Context>,
+    /// The links before the last entry at which a task left and came back: they undo one that is refused.
+    saved: Links,
+    contexts: Contexts,
 }
 
 impl Model for Checker {
@@ -51,14 +53,20 @@ impl Checker {
         ensures valid { IfOk result IsChecker }
     {
         let links = Links::new(alloc, set)?;
-        let contexts = fresh_contexts(alloc, links.len())?;
-        Ok(Checker { links, contexts })
+        prove!(links.processors() <= 64);
+        let saved = Links::new(alloc, set)?;
+        let contexts = Contexts::new(alloc, &links)?;
+        Ok(Checker {
+            links,
+            saved,
+            contexts,
+        })
     }
 
     /// Judges an entry by its chain and its set alone, and follows it where it passes. An entry that is refused changes
     /// nothing. No memory is taken.
     pub fn accept(&mut self, entry: &Entry) -> Result<(), Defect>
-        requires { IsOfTask (task_count self.old.links) entry.now.event }
+        requires { IsEventFor self.old.links entry.now.event }
         ensures accepted { OnOk result (Passes self.old.links entry.now.event entry.now.reply) }
         ensures links { OnOk result (self.new.links ≡ effect_of self.old.links entry.now) }
         ensures contexts { OnOk result (EachBecomes (context_after_entry self.old.links self.new.links entry.now.event)
@@ -76,10 +84,10 @@ impl Checker {
         ensures best { LinkedIsBest self.new.links }
         ensures valid { IsChecker self.new }
     {
-        if let Some(defect) = follow_entry(&mut self.links, entry) {
+        if let Some(defect) = follow_entry(&mut self.links, &mut self.saved, entry) {
             return Err(defect);
         }
-        follow(&mut self.contexts, &self.links, entry);
+        self.contexts.follow(&self.links, entry);
         Ok(())
     }
 
@@ -99,6 +107,6 @@ impl Checker {
         ensures task { result.now.task ≡ t }
         ensures valid { IsChecker self.now }
     {
-        &self.contexts[t as usize]
+        self.contexts.of(t)
     }
 }

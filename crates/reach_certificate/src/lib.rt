@@ -12,6 +12,7 @@
 
 mod certificate;
 mod chain_rule;
+mod change;
 mod checker;
 mod contexts;
 mod defect;
@@ -19,11 +20,10 @@ mod entrant;
 mod judge;
 pub mod laws;
 mod occupants;
+mod parts;
 mod set_rule;
-#[cfg(test)]
-mod tests;
 
 pub use certificate::is_certificate;
 pub use checker::Checker;
-pub use contexts::{follow, fresh_contexts};
+pub use contexts::Contexts;
 pub use defect::Defect;

@@ -1,12 +1,10 @@
-use Rattle.std.proofs.Common.{rules, ◌≡◌, ℕ, [], ◌∷◌, false, refl, sym, ap, ◌∙◌, inl, inr}
+use Rattle.std.proofs.Common.{rules, ◌≡◌, ℕ, false, refl, sym, ◌∙◌, inl, inr}
 use Rattle.std.proofs.lemmas.Bool.{true≢false}
 use Rattle.scheduler_reply.specs.declared.reply.Reply.{Reply}
 use Rattle.scheduler_reply.specs.declared.reply.Reply.TheVariants.{NotReady}
-use Rattle.link_state.specs.State.{State, IsState, is_ready, state_with_ready}
-use Rattle.link_state.specs.Chain.{state_after_shift}
+use Rattle.link_state.specs.State.{State, IsState, is_ready}
 use Rattle.link_state.proofs.Linked.{task_on-linked, place_in}
 use Rattle.reach_certificate.specs.Defect.{IsAllowedToDeparture}
-use Rattle.reach_certificate.proofs.Returning.{came_back}
 use Rattle.reach_certificate.proofs.judge.follow_departure.Goals as goal
 
 -- of a task that is absent nothing but that may be said
@@ -18,9 +16,3 @@ absent_alone s ok t reply absent other (inr (inr linked)) = true≢false (sym (o
 pub returns-then-not-is_ready-clause-judged : goal.returns-then-not-is_ready-clause-judged
 returns-then-not-is_ready-clause-judged c =
     inl (refl, absent_alone c.args.links.now c.is_ready.ensures.valid c.args.t c.args.reply.now (sym c.is_ready.ensures.value ∙ c.if-not-is_ready.true) (λ e. search rules))
-
-pub returns-in-Some-gone_defect-clause-refused : goal.returns-in-Some-gone_defect-clause-refused
-returns-in-Some-gone_defect-clause-refused c =
-    c.come_back.ensures
-    ∙ ap (λ (s : State). state_after_shift (state_with_ready s c.args.t) c.args.t (c.leave-p.result ∷ [])) c.leave-p.ensures.left
-    ∙ came_back c.args.links.now c.is_ready.ensures.valid c.args.t c.leave-p.result c.leave-p.ensures.place

@@ -2,27 +2,33 @@ use Rattle.std.proofs.Common.{List, length, get_or, sym, ap, ◌∙◌, subst, a
 use Rattle.std.proofs.lemmas.List.FromFn.{get_or-map-range_with_len, length-map-range_with_len}
 use Rattle.task_set.specs.Context.{fresh_context}
 use Rattle.task_set.specs.declared.context.Context.{Context}
+use Rattle.link_state.specs.State.{State, HasSameTasks, task_count}
 use Rattle.certificate_laws.specs.Certified.{HasCertificates}
 use Rattle.certificate_laws.proofs.Kept.{HasCertificates-start}
 use Rattle.reach_certificate.specs.Checker.{IsChecker}
 use Rattle.reach_certificate.proofs.checker.Checker.new.Goals as goal
 use Rattle.reach_certificate.proofs.checker.Checker.new.Goals.{In_ok-contexts}
 
-made : (c : In_ok-contexts) → IsChecker (record { links = c.in_ok-links.links; contexts = c.in_ok-contexts.contexts.items })
+made : (c : In_ok-contexts) → IsChecker (record { links = c.in_ok-links.links; contexts = c.in_ok-contexts.contexts.each })
 made c =
-    let fresh = c.in_ok-contexts.ensures in
-    let count = c.len.ensures.value in
+    let fresh = c.in_ok-contexts.ensures.each in
+    let count = task_count c.in_ok-links.links in
     record {
-      state = c.len.ensures.valid;
+      state = c.processors.ensures.valid;
       certificates = subst HasCertificates (sym c.in_ok-links.ensures) (HasCertificates-start c.args.set.now);
-      count = ap length fresh ∙ length-map-range_with_len fresh_context 0 c.len.result ∙ count;
+      count = ap length fresh ∙ length-map-range_with_len fresh_context 0 count;
       tasks = λ t d lt.
           ap (λ (xs : List Context). (get_or xs t d).task) fresh
-          ∙ ap (λ (x : Context). x.task) (get_or-map-range_with_len fresh_context 0 c.len.result t t d (omega arith) (omega arith));
+          ∙ ap (λ (x : Context). x.task) (get_or-map-range_with_len fresh_context 0 count t t d lt (omega arith));
     }
 
+same : (c : In_ok-contexts) → HasSameTasks c.in_ok-links.links c.in_ok-saved.saved
+same c =
+    let e = c.in_ok-saved.ensures ∙ sym c.in_ok-links.ensures in
+    record { processors = ap (λ (s : State). s.processors) e; priorities = ap (λ (s : State). s.priorities) e }
+
 pub invariant_of-result : goal.invariant_of-result
-invariant_of-result c = made c
+invariant_of-result c = record { checker = made c; held = c.in_ok-contexts.ensures.held; saved = same c }
 
 pub returns-clause-valid : goal.returns-clause-valid
 returns-clause-valid c = made c
