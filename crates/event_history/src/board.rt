@@ -154,8 +154,10 @@ impl Board {
             (λ receipt. TookTurn pass.old pass.new receipt.place)
             (λ _. TookTurn pass.old pass.new (length pass.new.seen)) }
     {
+        // Each try takes a copy of it.
+        let event = &event;
         for _ in rt.forever() {
-            match self.try_post(pass, event) {
+            match self.try_post(pass, *event) {
                 Ok(receipt) => return Ok(receipt),
                 Err(PostFault::Busy { found: _ }) => thread::yield_now(),
                 Err(PostFault::Closed) => return Err(EndFault::Closed),
