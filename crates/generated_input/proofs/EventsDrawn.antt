@@ -8,7 +8,8 @@ use Rattle.std.proofs.Math.Seq.{take-append_seam}
 use Rattle.task_set.specs.TaskSet.{SetData}
 use Rattle.task_set.specs.declared.event.Event.{Event}
 use Rattle.task_set.specs.declared.event.Event.TheVariants.{Arrive, Depart, Tick}
-use Rattle.trace_reader.specs.Input.{IsEventOf, IsPostedOf}
+use Rattle.task_set.specs.Event.{IsOfVersion}
+use Rattle.trace_reader.specs.Input.{IsEventOf, IsPostedOf, AreOfVersion}
 use Rattle.trace_reader.specs.declared.posted.Posted.{Posted}
 use Rattle.generated_input.specs.Generated.{is_ready_after, event_of_task, generated_event, draws_before, events_of, AreGeneratedEvents}
 use Rattle.generated_input.specs.Generator.{state_after, drawn}
@@ -85,3 +86,24 @@ drawn_are_posted set number tasks count posted size some drawn_events = λ k d w
       stream = omega (arith, drawn_events.one_stream k d within);
       event = rw (← there, generated) of_set;
     }
+
+-- ---- of each version
+event_of_task_of_version : (version t : ℕ) (ready : Bool) → IsOfVersion version (if ready then Depart t else Arrive t)
+event_of_task_of_version version t true = tt
+event_of_task_of_version version t false = tt
+
+event_of_version : (version number tasks draws : ℕ) (earlier : List Event) (tick : Bool)
+    → IsOfVersion version (if tick then Tick (1 + drawn number (draws + 1) 100) else event_of_task (drawn number (draws + 1) tasks) earlier)
+event_of_version version number tasks draws earlier true = tt
+event_of_version version number tasks draws earlier false =
+    event_of_task_of_version version _ (is_ready_after (drawn number (draws + 1) tasks) earlier)
+
+-- every version has each generated event
+pub drawn_are_of_version : (version number tasks count : ℕ) (posted : List Posted) → AreDrawnEvents number tasks count posted → AreOfVersion version posted
+drawn_are_of_version version number tasks count posted drawn_events = λ k d within.
+    let there : get_or (events_of posted) k d.event ≡ (get_or posted k d).event = get_or-map (λ (one : Posted). one.event) posted k d d.event within in
+    let fits : k < length (events_of posted) = rw (length-map posted (λ (one : Posted). one.event)) within in
+    let generated = get_or_from_slice_get (events_of posted) k _ d.event (drawn_events.each_event k fits) in
+    let before = take k (events_of posted) in
+    let of_version = event_of_version version number tasks (draws_before tasks before) before (nat_eq (drawn number (draws_before tasks before) 8) 0) in
+    rw (← there, generated) of_version

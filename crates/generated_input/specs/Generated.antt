@@ -5,7 +5,7 @@ use Rattle.affinity_mask.specs.Number.{canonical_number}
 use Rattle.affinity_mask.specs.ProcSet.{has}
 use Rattle.task_set.specs.TaskSet.{TaskData, SetData}
 use Rattle.task_set.specs.declared.event.Event.{Event}
-use Rattle.task_set.specs.declared.event.Event.TheVariants.{Arrive, Depart, Tick}
+use Rattle.task_set.specs.declared.event.Event.TheVariants.{Arrive, Depart, Tick, Affinity, Offline, Online}
 use Rattle.trace_reader.specs.declared.posted.Posted.{Posted}
 use Rattle.generated_input.specs.Generator.{drawn}
 
@@ -37,6 +37,9 @@ abbrev pub ready_after_event : ℕ → Bool → Event → Bool
 ready_after_event t ready (Arrive u) = if u == t then true else ready
 ready_after_event t ready (Depart u) = if u == t then false else ready
 ready_after_event t ready (Tick units) = ready
+ready_after_event t ready (Affinity u mask) = ready
+ready_after_event t ready (Offline p) = ready
+ready_after_event t ready (Online p) = ready
 
 -- whether task t is ready after these events; at first nobody is
 abbrev pub is_ready_after : ℕ → List Event → Bool

@@ -1,5 +1,5 @@
 //! Inputs that are made from a number.
-ghost use Rattle.std.specs.Prelude.{◌≤◌, IfOk};
+ghost use Rattle.std.specs.Prelude.{◌≡◌, ◌≤◌, IfOk};
 ghost use Rattle.generated_input.specs.Generated.{IsGeneratedInput};
 
 use crate::events::draw_events;
@@ -8,9 +8,10 @@ use crate::tasks::draw_tasks;
 use affinity_mask::OutOfMemory;
 use std::alloc::Global;
 use trace_reader::Input;
+use trace_reader::input::FIRST_VERSION;
 
-/// The input of a number, with so many processors (1 to 64), tasks (1 to 1,024) and events (up to 20,000), all on
-/// stream 0. Refused only where memory is out.
+/// The input of a number, of version 1, with so many processors (1 to 64), tasks (1 to 1,024) and events (up to 20,000),
+/// all on stream 0. Refused only where memory is out.
 pub fn make_input(
     alloc: Global,
     number: u64,
@@ -21,11 +22,12 @@ pub fn make_input(
     requires processors { (1 ≤ processors) × (processors ≤ 64) }
     requires tasks { (1 ≤ tasks) × (tasks ≤ 1024) }
     requires events { events ≤ 20000 }
-    ensures { IfOk result (λ input.
+    ensures generated { IfOk result (λ input.
         IsGeneratedInput number processors tasks events input.set input.events) }
+    ensures version { IfOk result (λ input. input.version ≡ 1) }
 {
     let mut generator = Generator { state: number };
     let set = draw_tasks(alloc, &mut generator, processors, tasks)?;
     let posted = draw_events(alloc, &mut generator, tasks, events)?;
-    Ok(Input::new(set, posted))
+    Ok(Input::new(FIRST_VERSION, set, posted))
 }
