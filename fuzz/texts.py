@@ -358,13 +358,12 @@ def add_change(chance, text, _others):
     processors = re.match(rb'apa [12]\nprocessors ([1-9][0-9]?)\n', text)
     if not events or not names or not processors:
         return text
-    line = b'0 ' + change_event(chance, int(processors[1]), names)
-    if chance.random() < 0.5:
-        fields = line.split(b' ')
+    fields = [b'0'] + change_event(chance, int(processors[1]), names).split(b' ')
+    # Two faults in one line show which one is found first.
+    for _ in range(chance.choice([0, 0, 1, 1, 2])):
         at = chance.choice([*range(len(fields)), -1, -1, -1])
         fields[at] = chance.choice([NUMBERS, WORDS, NAMES, LISTS][at] + LISTS + [processors[1], b'0-' + processors[1]] * 5)
-        line = b' '.join(fields)
-    lines.insert(chance.choice(events), line)
+    lines.insert(chance.choice(events), b' '.join(fields))
     return b'\n'.join(lines)
 
 
