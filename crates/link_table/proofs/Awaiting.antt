@@ -1,13 +1,13 @@
 -- The processors that tasks wait for: who waits for some, and what stays as it was when tasks move.
-use Rattle.std.proofs.Common.{◌≡◌, ◌≢◌, ℕ, ◌<◌, Bool, true, false, not, ◌&&◌, List, [], ◌∷◌, length, get_or, set, replicate, Option, Some, None, refl, sym, ap, ◌∙◌, subst, inl, inr, ◌⊎◌, IsTrue, arith, length-set, get_or-set_same, get_or-set_other}
+use Rattle.std.proofs.Common.{◌≡◌, ◌≢◌, ℕ, ◌<◌, true, false, ◌&&◌, List, [], ◌∷◌, length, get_or, set, replicate, Option, Some, None, refl, sym, ap, ◌∙◌, subst, inl, inr, ◌⊎◌, IsTrue, arith, length-set, get_or-set_same, get_or-set_other}
 use Rattle.std.specs.Prelude.{MatchOption}
-use Rattle.std.proofs.lemmas.Bool.{cases_eq, cases_lt, cases_Bool, and_from, and_parts, true≢false}
-use Rattle.std.proofs.lemmas.List.{set-set, get_or-replicate, length-replicate, length-map}
+use Rattle.std.proofs.lemmas.Bool.{cases_eq, cases_Bool, and_from, and_parts, true≢false}
+use Rattle.std.proofs.lemmas.List.{set-set, get_or-replicate, length-replicate}
 use Rattle.std.proofs.lemmas.List.FromFn.{get_or-map-range_with_len}
 use Rattle.std.proofs.lemmas.Option.{same_Some}
 use Rattle.affinity_mask.specs.ProcSet.{has, empty, Meets}
 use Rattle.affinity_mask.proofs.Sets.{has-zero, has-intersection, same_set}
-use Rattle.task_set.specs.TaskSet.{TaskData, SetData, priorities}
+use Rattle.task_set.specs.TaskSet.{SetData, priorities}
 use Rattle.link_state.specs.State.{State, IsState, IsWaiting, task_count, task_on, is_ready, is_linked, mask_of, effective_mask, start_of, state_with_ready, state_with_absent, state_with_mask, state_with_idle, state_after_leaving}
 use Rattle.link_state.specs.Chain.{IsChainOf, IsSimple, occupant_after_shift, state_after_shift}
 use Rattle.link_table.specs.Layout.{layout_of, mask_has}
@@ -17,10 +17,10 @@ use Rattle.waiting_index.specs.WaitingTasks.{Waiting, IsNobodyFor, IsFirstFor, m
 use Rattle.link_state.proofs.Changes.{mask_of-other}
 use Rattle.link_state.proofs.Idling.{IsWaiting-state_with_idle, task_on-state_with_idle}
 use Rattle.link_state.proofs.Leaving.{task_on-state_after_leaving, task_on-stays}
-use Rattle.link_state.proofs.Linked.{place_in, is_linked-from_on, task_on-linked, not_on, not_linked-from_on, linked_number}
+use Rattle.link_state.proofs.Linked.{place_in, is_linked-from_on, task_on-linked, not_linked-from_on, linked_number}
 use Rattle.link_state.proofs.Masks.{effective_mask_below}
 use Rattle.link_state.proofs.Readiness.{IsState-state_with_ready, is_ready-state_with_ready}
-use Rattle.link_state.proofs.Shifts.{occupant-first, occupant-later, occupant_from, occupant_allowed, task_on-state_after_shift, chain_below, handed_on, handed_on-from, handed_on-apart}
+use Rattle.link_state.proofs.Shifts.{occupant-first, occupant-later, occupant_from, occupant_allowed, task_on-state_after_shift, handed_on, handed_on-from, handed_on-apart}
 use Rattle.link_state.proofs.Simple.{Avoids, Avoids-none}
 use Rattle.link_state.proofs.Start.{none_ready}
 use Rattle.link_state.proofs.Unique.{ready_number}

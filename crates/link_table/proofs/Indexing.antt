@@ -2,11 +2,11 @@
 use Rattle.std.proofs.Common.{◌≡◌, ◌≢◌, ℕ, ◌<◌, ◌≤◌, List, length, get_or, set, replicate, Option, Some, None, refl, sym, ap, ◌∙◌, inl, inr, ◌⊎◌, IsTrue, arith, length-set, get_or-set_same, get_or-set_other, eq-eqb, ne_eqb, if◌then◌else◌, ◌==◌}
 use Rattle.std.specs.Prelude.{is_some}
 use Rattle.std.specs.Option.{ForSome}
-use Rattle.std.proofs.lemmas.Bool.{cases_eq, cases_lt, and_parts, ltb-true, true≢false}
+use Rattle.std.proofs.lemmas.Bool.{cases_eq, cases_lt, ltb-true, true≢false}
 use Rattle.std.proofs.lemmas.List.{length-replicate, get_or-replicate, get_or_past}
 use Rattle.std.proofs.lemmas.Option.{same_Some}
 use Rattle.affinity_mask.specs.ProcSet.{has, empty, all_below, Within}
-use Rattle.affinity_mask.proofs.Sets.{has-zero, has-all_below, has-intersection}
+use Rattle.affinity_mask.proofs.Sets.{has-zero, has-all_below}
 use Rattle.link_table.specs.Layout.{Layout, occupant_in, mask_has, IsNowhere, with_occupant, with_mask, places_without, places_with}
 use Rattle.link_table.specs.PlacesView.{IsIndex}
 use Rattle.link_state.proofs.Idling.{idle_at}

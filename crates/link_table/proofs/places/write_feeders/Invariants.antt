@@ -1,5 +1,4 @@
-use Rattle.std.proofs.Common.{◌≡◌, ℕ, ◌-◌, ◌<◌, false, get_or, IsTrue, if◌then◌else◌, ◌==◌}
-use Rattle.affinity_mask.specs.ProcSet.{has}
+use Rattle.std.proofs.Common.{◌-◌}
 use Rattle.link_table.proofs.Rests.{rest_of}
 use Rattle.link_table.proofs.Feeding.{IsFedSoFar}
 use Rattle.link_table.proofs.places.write_feeders.Given as goal

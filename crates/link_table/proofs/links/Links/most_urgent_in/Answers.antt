@@ -1,4 +1,4 @@
-use Rattle.std.proofs.Common.{◌≡◌, ℕ, ◌&&◌, Option, refl, subst}
+use Rattle.std.proofs.Common.{◌≡◌, ℕ, ◌&&◌, refl, subst}
 use Rattle.std.specs.Prelude.{MatchOption}
 use Rattle.affinity_mask.specs.ProcSet.{has}
 use Rattle.link_state.specs.State.{State}

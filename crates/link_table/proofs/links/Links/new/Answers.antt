@@ -1,10 +1,9 @@
-use Rattle.std.proofs.Common.{◌≡◌, ℕ, ◌<◌, List, Option, None, length, get_or, replicate, refl, sym, ap, ◌∙◌, subst, inl, inr, arith}
+use Rattle.std.proofs.Common.{ℕ, List, Option, None, length, replicate, refl, sym, ap, ◌∙◌, subst, inl, inr, arith}
 use Rattle.std.proofs.lemmas.Bool.{cases_lt, lt-ltb, true≢false}
 use Rattle.std.proofs.lemmas.List.{get_or_past}
 use Rattle.affinity_mask.specs.ProcSet.{has, empty, all_below, Within}
 use Rattle.affinity_mask.proofs.Sets.{has-zero, has-all_below}
-use Rattle.task_set.specs.TaskSet.{SetData, IsTaskSet, masks}
-use Rattle.link_state.specs.State.{State, IsState, start_of, mask_of}
+use Rattle.link_state.specs.State.{State, IsState, mask_of}
 use Rattle.link_table.specs.LinksView.{AreAwaited}
 use Rattle.link_table.proofs.Awaiting.{AreAwaited-start}
 use Rattle.link_state.proofs.Start.{IsState-start, start_of-columns}

@@ -1,5 +1,5 @@
-use Rattle.std.proofs.Common.{◌≡◌, true, sym, ap, ◌∙◌}
-use Rattle.link_state.specs.State.{State, state_with_ready}
+use Rattle.std.proofs.Common.{ap, ◌∙◌}
+use Rattle.link_state.specs.State.{State}
 use Rattle.link_state.specs.Chain.{state_after_shift, task_put_out}
 use Rattle.link_state.proofs.Readiness.{ready_already}
 use Rattle.link_table.proofs.links.Links.shift.Goals as goal
