@@ -5,12 +5,10 @@ use Rattle.std.proofs.lemmas.List.{take_more, map-append, length-map, length-tak
 use Rattle.std.proofs.lemmas.List.FromFn.{get_or-map-range_with_len, length-map-range_with_len}
 use Rattle.task_set.specs.TaskSet.{SetData, TaskData}
 use Rattle.task_set.specs.Context.{fresh_context}
-use Rattle.task_set.specs.Event.{IsOfSystem}
-use Rattle.task_set.specs.declared.event.Event.{Event}
 use Rattle.task_set.specs.declared.context.Context.{Context}
 use Rattle.scheduler_reply.specs.declared.reply.Entry.{Entry}
 use Rattle.link_state.specs.State.{State, start_of, task_count}
-use Rattle.link_state.specs.Step.{SchedulerStep, IsEventFor}
+use Rattle.link_state.specs.Step.{SchedulerStep}
 use Rattle.link_state.specs.History.{IsLegal, state_after, effect_of}
 use Rattle.link_state.specs.Dispatch.{context_of, contexts_of}
 use Rattle.link_state.proofs.Histories.{state_after-push, IsLegalFrom-push}
@@ -37,11 +35,6 @@ running_count set events n links entries contexts running =
 pub running_processors : (set : SetData) (events : List Posted) (n : ℕ) (links : State) (entries : List Entry) (contexts : ContextsData) → IsRunning set events n links entries contexts → links.processors ≡ set.processors
 running_processors set events n links entries contexts running =
     ap (λ (s : State). s.processors) running.state ∙ (same_tasks-history (start_of set) entries).processors
-
--- an event of the set is one of the links
-pub running_event : (set : SetData) (events : List Posted) (n : ℕ) (links : State) (entries : List Entry) (contexts : ContextsData) (event : Event) → IsRunning set events n links entries contexts → IsOfSystem set.processors (length set.tasks) event → IsEventFor links event
-running_event set events n links entries contexts event running known =
-    rw (running_count set events n links entries contexts running, running_processors set events n links entries contexts running) known
 
 -- one event more
 pub running_more : (set : SetData) (events : List Posted) (n : ℕ) (d : Posted) (links new : State) (entries : List Entry) (contexts after : ContextsData) (entry : Entry) → n < length events → IsRunning set events n links entries contexts

@@ -1,6 +1,6 @@
 -- The replay of events on one thread: the history has one entry for each event, in their order, and is legal; the
 -- contexts are those that the history gives the tasks.
-use Rattle.std.specs.Prelude.{◌≡◌, ℕ, List, length, map}
+use Rattle.std.specs.Prelude.{◌≡◌, List, length, map}
 use Rattle.task_set.specs.TaskSet.{SetData}
 use Rattle.task_set.specs.declared.context.Context.{Context}
 use Rattle.scheduler_reply.specs.declared.reply.Entry.{Entry}

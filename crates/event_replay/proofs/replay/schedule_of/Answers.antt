@@ -1,9 +1,9 @@
-use Rattle.std.proofs.Common.{◌≡◌, ℕ, ◌<◌, List, [], length, Option, refl, sym, ap, ◌∙◌, arith}
-use Rattle.link_state.specs.State.{State}
+use Rattle.std.proofs.Common.{◌≡◌, ℕ, ◌<◌, List, [], length, Option, sym, ap, ◌∙◌, subst, arith}
 use Rattle.link_state.proofs.SameTasks.{same_tasks-step}
 use Rattle.sched_core.specs.CoreData.{CoreData, entry_of}
+use Rattle.event_replay.specs.Replay.{IsKnown}
 use Rattle.event_replay.proofs.Entries.{place_fits, entry_followed}
-use Rattle.event_replay.proofs.Running.{contexts_count, running_count, running_event, running_length, running_more, running_start}
+use Rattle.event_replay.proofs.Running.{contexts_count, running_count, running_processors, running_length, running_more, running_start}
 use Rattle.event_replay.proofs.replay.schedule_of.Goals as goal
 
 pub loop-posted-init : goal.loop-posted-init
@@ -20,7 +20,10 @@ loop-posted-init c =
 
 pub enter-requires-clause-known : goal.enter-requires-clause-known
 enter-requires-clause-known c =
-    running_event c.args.set.now c.args.events.now c.loop-posted.posted-index c.loop-posted.core.links c.loop-posted.core.history c.loop-posted.contexts _ c.loop-posted.invariant.0 (c.requires.known c.loop-posted.posted-index _ c.loop-posted-test.true)
+    let running = c.loop-posted.invariant.0 in
+    let count = running_count c.args.set.now c.args.events.now c.loop-posted.posted-index c.loop-posted.core.links c.loop-posted.core.history c.loop-posted.contexts running in
+    let processors = running_processors c.args.set.now c.args.events.now c.loop-posted.posted-index c.loop-posted.core.links c.loop-posted.core.history c.loop-posted.contexts running in
+    rw (count, processors) (subst (IsKnown c.args.set.now) (sym c.posted-item.is) (c.requires.known c.loop-posted.posted-index _ c.loop-posted-test.true))
 
 pub enter-requires-clause-not_full : goal.enter-requires-clause-not_full
 enter-requires-clause-not_full c =
@@ -35,7 +38,7 @@ pub follow-requires-clause-count : goal.follow-requires-clause-count
 follow-requires-clause-count c =
     let running = c.loop-posted.invariant.0 in
     let same = same_tasks-step c.loop-posted.core.links _ _ c.enter.new.core.links c.in_ok-place.ensures.step in
-    rw c.links-2.ensures.value (contexts_count c.args.set.now c.loop-posted.core.history c.loop-posted.contexts.each _ running.each_context
+    rw c.links-in-loop-posted.ensures.value (contexts_count c.args.set.now c.loop-posted.core.history c.loop-posted.contexts.each _ running.each_context
     ∙ sym (running_count c.args.set.now c.args.events.now c.loop-posted.posted-index c.loop-posted.core.links c.loop-posted.core.history c.loop-posted.contexts running) ∙ sym (ap length same.priorities))
 
 pub follow-requires-clause-processors : goal.follow-requires-clause-processors
@@ -43,17 +46,17 @@ follow-requires-clause-processors c =
     let running = c.loop-posted.invariant.0 in
     let state = c.loop-posted.invariant.3 in
     let same = same_tasks-step c.loop-posted.core.links _ _ c.enter.new.core.links c.in_ok-place.ensures.step in
-    rw c.links-2.ensures.value (ap (λ (held : List (Option ℕ)). length held) running.held ∙ state.on_count ∙ sym same.processors)
+    rw c.links-in-loop-posted.ensures.value (ap (λ (held : List (Option ℕ)). length held) running.held ∙ state.on_count ∙ sym same.processors)
 
 pub loop-posted-preserved : goal.loop-posted-preserved
 loop-posted-preserved c =
     let applied = c.in_ok-place.ensures in
     let running = c.loop-posted.invariant.0 in
     let state = c.loop-posted.invariant.3 in
-    let follows = entry_followed c.loop-posted.core c.enter.new.core _ _ c.in_ok-place.place applied state c.history.result.now c.links-2.result.now c.index-history-place.result c.history.ensures.value c.links-2.ensures.value c.index-history-place.is c.loop-posted.contexts c.follow.new.contexts running.held c.follow.ensures in (
-      rw applied.history (running_more c.args.set.now c.args.events.now c.loop-posted.posted-index _ c.loop-posted.core.links c.enter.new.core.links c.loop-posted.core.history c.loop-posted.contexts c.follow.new.contexts
-          (entry_of _ _ applied.reply) c.loop-posted-test.true running refl applied.step follows),
+    let follows = entry_followed c.loop-posted.core c.enter.new.core _ _ c.in_ok-place.place applied state c.history.result.now c.links-in-loop-posted.result.now c.index-history-place.result c.history.ensures.value c.links-in-loop-posted.ensures.value c.index-history-place.is c.loop-posted.contexts c.follow.new.self running.held c.follow.ensures in (
+      rw applied.history (running_more c.args.set.now c.args.events.now c.loop-posted.posted-index _ c.loop-posted.core.links c.enter.new.core.links c.loop-posted.core.history c.loop-posted.contexts c.follow.new.self
+          (entry_of _ _ applied.reply) c.loop-posted-test.true running c.posted-item.is applied.step follows),
       applied.closed ∙ c.loop-posted.invariant.1,
       applied.start ∙ c.loop-posted.invariant.2,
-      c.links-2.ensures.valid.state,
+      c.links-in-loop-posted.ensures.valid.state,
     )
