@@ -8,7 +8,7 @@ use task_set::{Event, TaskFault};
 const SMALLEST: &str = "apa 1\nprocessors 1\ntask a 5 0\n0 arrive a\nend\n";
 
 /// Texts, each with the first line that has a fault, and its kind.
-const FIRST_FAULTS: [(&str, u64, InputKind); 22] = [
+const FIRST_FAULTS: [(&str, u64, InputKind); 23] = [
     ("apa 1\r\n", 1, InputKind::BadByte),
     ("# caf\u{e9}\n", 1, InputKind::BadByte),
     ("apa\n", 1, InputKind::BadHeader),
@@ -68,6 +68,11 @@ const FIRST_FAULTS: [(&str, u64, InputKind); 22] = [
         "apa 1\nprocessors 1\nend\n\n# done\nend\n",
         6,
         InputKind::AfterEnd,
+    ),
+    (
+        "apa 2\nprocessors 2\ntask a 1 1\n0 offline 2\n",
+        4,
+        InputKind::BadEvent,
     ),
     ("apa 1\nprocessors 1\n", 3, InputKind::NoEnd),
     ("", 1, InputKind::NoEnd),
