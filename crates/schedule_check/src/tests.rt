@@ -140,7 +140,7 @@ static ALTERED: [Altered; 18] = [
         history: "mask_change_without_orders",
         old: "freed 0 enters b back 0",
         new: "freed 0 enters - back 0",
-        status: Status::Invalid { line: 7, defect: 4 },
+        status: Status::Invalid { line: 8, defect: 4 },
     },
     // It is task a that ran there.
     Altered {

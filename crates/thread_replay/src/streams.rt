@@ -54,7 +54,11 @@ fn gives_orders(reply: &Reply) -> bool {
             back: _,
         }
         | Reply::Ticked => true,
+        Reply::Remasked { gone: _, came: _ } | Reply::Off { moved: _ } | Reply::On { parts: _ } => {
+            true
+        }
         Reply::Waits { reach: _ } | Reply::Left | Reply::AlreadyReady | Reply::NotReady => false,
+        Reply::Masked | Reply::AlreadyOff | Reply::AlreadyOn => false,
     }
 }
 
