@@ -44,7 +44,8 @@ pub fn summary_of<R: Threads + Wait + Clock + Sync, G: Gate + Sync>(
 /// The input of these numbers.
 fn input_of(alloc: Global, sizes: Sizes) -> Result<Input, OutOfMemory>
     requires { AreWithin sizes }
-    ensures { IfOk result (λ input. IsInputOf sizes input.set input.events) }
+    ensures generated { IfOk result (λ input. IsInputOf sizes input.set input.events) }
+    ensures version { IfOk result (λ input. input.version ≡ 1) }
 {
     make_input(
         alloc,

@@ -11,6 +11,6 @@ write_summary-requires-clause-each g c =
 pub returns : goal.returns
 returns g c =
     let valid = c.set.ensures.valid in
-    is_large_of c.args.sizes c.in_ok-input.input.set c.in_ok-input.input.events c.in_ok-made.made.core c.in_ok-made.made.contexts.items _ valid.valid c.in_ok-input.ensures
+    is_large_of c.args.sizes c.in_ok-input.input.set c.in_ok-input.input.events c.in_ok-made.made.core c.in_ok-made.made.contexts.items _ valid.valid c.in_ok-input.ensures.generated
     (rw (c.set.ensures.value, c.events.ensures.value) at c.in_ok-made.ensures.core) (rw c.set.ensures.value at c.in_ok-made.ensures.contexts)
     (rw (c.history.ensures.value, c.deref.ensures.value) at c.in_ok-text.ensures)
