@@ -1,5 +1,5 @@
 -- The text of a line and its fields: each gives the other.
-use Rattle.std.proofs.Common.{◌≡◌, ℕ, ◌<◌, List, [], ◌∷◌, ◌++◌, length, All, Contains, refl, sym, ap, ◌∙◌, arith, append_assoc}
+use Rattle.std.proofs.Common.{◌≡◌, ℕ, ◌<◌, ◌≤◌, Option, Some, None, List, [], ◌∷◌, ◌++◌, length, All, Contains, refl, sym, ap, ◌∙◌, arith, append_assoc}
 use Rattle.std.specs.Prelude.{codes}
 use Rattle.std.specs.List.{join_with_byte}
 use Rattle.std.proofs.lemmas.List.{append_cancel_right}
@@ -9,18 +9,22 @@ use Rattle.affinity_mask.specs.ListText.{canonical_list}
 use Rattle.task_set.specs.TaskSet.{TaskData, SetData, IsTaskSet}
 use Rattle.task_set.specs.declared.context.Context.{Context}
 use Rattle.task_set.specs.declared.event.Event.{Event}
-use Rattle.task_set.specs.declared.event.Event.TheVariants.{Arrive, Depart, Tick}
+use Rattle.task_set.specs.declared.event.Event.TheVariants.{Arrive, Depart, Tick, Affinity, Offline, Online}
 use Rattle.scheduler_reply.specs.declared.reply.Reply.{Reply}
-use Rattle.scheduler_reply.specs.declared.reply.Reply.TheVariants.{Placed, Displaced, Freed}
+use Rattle.scheduler_reply.specs.declared.reply.Reply.TheVariants.{Placed, Displaced, Waits, Freed, Remasked, Off, On}
+use Rattle.scheduler_reply.specs.declared.reply.Came.{Came}
+use Rattle.scheduler_reply.specs.declared.reply.Came.TheVariants as came
+use Rattle.scheduler_reply.specs.declared.reply.Gone.{Gone}
+use Rattle.scheduler_reply.specs.Reply.{IsReplyOfVersion}
 use Rattle.scheduler_reply.specs.declared.reply.Entry.{Entry}
 use Rattle.text_fields.specs.LineText.{line, task_line, task_fields}
 use Rattle.text_fields.specs.EventText.{name_of, event_text, IsAboutSet, event_fields}
-use Rattle.schedule_text.specs.ScheduleText.{chain_text, set_text, somebody_text, number_text, reply_text, entry_line, context_line, IsReplyOf}
+use Rattle.schedule_text.specs.ScheduleText.{chain_text, set_text, somebody_text, number_text, came_text, gone_text, reply_text, entry_line, context_line, IsReplyOf}
 use Rattle.schedule_text.specs.Schedule.{HasProcessors}
-use Rattle.task_set.specs.Event.{HasUnits}
+use Rattle.task_set.specs.Event.{HasUnits, IsOfVersion}
 use Rattle.schedule_text.specs.LineForms.{HasFields, IsTaskForm, IsEntryForm, IsEntryText, IsContextText}
 use Rattle.schedule_text.specs.Fields.{spaced_fields_of}
-use Rattle.schedule_text.specs.LineFields.{reply_fields, entry_fields, context_fields, IsTaskFields, IsContextFields, IsEntryFields, IsSomeEntry}
+use Rattle.schedule_text.specs.LineFields.{came_fields, gone_fields, reply_fields, entry_fields, context_fields, IsTaskFields, IsContextFields, IsEntryFields, IsSomeEntry}
 use Rattle.schedule_text.proofs.Fields.{split_joined, joined_split}
 use Rattle.schedule_text.proofs.Names.{set_fields}
 use Rattle.schedule_text.proofs.Spaces.{EachByte, IsNoSpace, high_no_space, none_from_no_space, field_no_space, fields_no_space, number_bytes, task_bytes, event_bytes, reply_bytes, context_bytes}
@@ -52,25 +56,17 @@ task_spaced added =
     ap line (four_spaced (32 ∷ []) (codes "task") added.name (canonical_number added.priority)
     (canonical_list added.mask))
 
+pair_spaced : (s w a b : List ℕ) → (w ++ s) ++ a ++ s ++ b ≡ w ++ (s ++ (a ++ (s ++ b)))
+pair_spaced s w a b = simp append_assoc
+
 pub event_spaced : (set : SetData) (event : Event) → event_text set event ≡ spaced (event_fields set event)
 unfolding event_text
 event_spaced set (Arrive t) = refl
 event_spaced set (Depart t) = refl
 event_spaced set (Tick n) = refl
-
-six_spaced : (s w a v b u c : List ℕ) → w ++ s ++ a ++ (s ++ v ++ s) ++ b ++ (s ++ u ++ s) ++ c ≡ w
-    ++ (s ++ (a ++ (s ++ (v ++ (s ++ (b ++ (s ++ (u ++ (s ++ c)))))))))
-six_spaced s w a v b u c = simp append_assoc
-
-pub reply_spaced : (set : SetData) (reply : Reply) → reply_text set reply ≡ spaced (reply_fields set reply)
-unfolding reply_text
-reply_spaced set (Displaced chain out reach) =
-    six_spaced (32 ∷ []) (codes "displaced") (chain_text chain) (codes "out") (name_of set out) (codes "reach")
-    (set_text reach)
-reply_spaced set (Freed entered chain back) =
-    six_spaced (32 ∷ []) (codes "freed") (chain_text chain) (codes "enters") (somebody_text set entered)
-    (codes "back") (set_text back)
-reply_spaced set _ = refl
+event_spaced set (Affinity t mask) = pair_spaced (32 ∷ []) (codes "affinity") (name_of set t) (canonical_list mask)
+event_spaced set (Offline p) = refl
+event_spaced set (Online p) = refl
 
 -- the spaced fields of two parts
 spaced_apart : (first : List ℕ) (more : List (List ℕ)) (second : List ℕ) (others : List (List ℕ))
@@ -83,16 +79,84 @@ spaced_apart first (next ∷ more) second others =
 three_spaced : (s a b c : List ℕ) → a ++ s ++ b ++ s ++ c ≡ a ++ (s ++ (b ++ (s ++ c)))
 three_spaced s a b c = simp append_assoc
 
+-- ---- the parts of a reply
+
+six_spaced : (s w a v b u c : List ℕ) → w ++ s ++ a ++ (s ++ v ++ s) ++ b ++ (s ++ u ++ s) ++ c ≡ w
+    ++ (s ++ (a ++ (s ++ (v ++ (s ++ (b ++ (s ++ (u ++ (s ++ c)))))))))
+six_spaced s w a v b u c = simp append_assoc
+
+came_spaced : (set : SetData) (arrival : Came) → came_text set arrival ≡ spaced (came_fields set arrival)
+unfolding came_text
+came_spaced set (came.Placed chain) = refl
+came_spaced set (came.Displaced chain out reach) =
+    six_spaced (32 ∷ []) (codes "displaced") (chain_text chain) (codes "out") (name_of set out) (codes "reach")
+    (set_text reach)
+came_spaced set (came.Waits reach) = refl
+
+five_spaced : (s a v b u c : List ℕ) → a ++ (s ++ v ++ s) ++ b ++ (s ++ u ++ s) ++ c
+    ≡ a ++ (s ++ (v ++ (s ++ (b ++ (s ++ (u ++ (s ++ c)))))))
+five_spaced s a v b u c = simp append_assoc
+
+gone_spaced : (set : SetData) (gone : Gone) → gone_text set gone ≡ spaced (gone_fields set gone)
+unfolding gone_text
+gone_spaced set gone =
+    five_spaced (32 ∷ []) (chain_text gone.chain) (codes "enters") (somebody_text set gone.entered) (codes "back")
+    (set_text gone.back)
+
+-- a word before the result of an arrival
+then_spaced : (set : SetData) (word : List ℕ) (arrival : Came) → word ++ 32 ∷ came_text set arrival
+    ≡ spaced (word ∷ came_fields set arrival)
+then_spaced set word arrival = ap (λ (text : List ℕ). word ++ 32 ∷ text) (came_spaced set arrival) ∙ by arrival
+  where
+    by : (arrival : Came) → word ++ 32 ∷ spaced (came_fields set arrival) ≡ spaced (word ∷ came_fields set arrival)
+    by (came.Placed chain) = refl
+    by (came.Displaced chain out reach) = refl
+    by (came.Waits reach) = refl
+
+-- a part between a word and the word `then`
+around_then : (a b c d : List ℕ) → a ++ b ++ c ++ d ≡ a ++ (b ++ (c ++ d))
+around_then a b c d = simp append_assoc
+
+pub reply_spaced : (set : SetData) (reply : Reply) → reply_text set reply ≡ spaced (reply_fields set reply)
+unfolding reply_text
+reply_spaced set (Placed chain) = came_spaced set (came.Placed chain)
+reply_spaced set (Displaced chain out reach) = came_spaced set (came.Displaced chain out reach)
+reply_spaced set (Waits reach) = came_spaced set (came.Waits reach)
+reply_spaced set (Freed entered chain back) =
+    ap (λ (text : List ℕ). codes "freed " ++ text)
+    (gone_spaced set (record { entered = entered; chain = chain; back = back }))
+reply_spaced set (Remasked None arrival) =
+    ap (λ (text : List ℕ). codes "remasked left " ++ text) (then_spaced set (codes "then") arrival)
+reply_spaced set (Remasked (Some gone) arrival) =
+    around_then (codes "remasked freed ") (gone_text set gone) (codes " then ") (came_text set arrival)
+    ∙ ap (λ (text : List ℕ). codes "remasked freed " ++ (gone_text set gone ++ 32 ∷ text))
+    (then_spaced set (codes "then") arrival)
+    ∙ ap (λ (text : List ℕ). codes "remasked freed " ++ (text ++ 32 ∷ spaced (codes "then" ∷ came_fields set arrival)))
+    (gone_spaced set gone)
+    ∙ ap (λ (text : List ℕ). codes "remasked freed " ++ text)
+    (sym (spaced_apart (chain_text gone.chain)
+    (codes "enters" ∷ somebody_text set gone.entered ∷ codes "back" ∷ set_text gone.back ∷ []) (codes "then")
+    (came_fields set arrival)))
+reply_spaced set (Off None) = refl
+reply_spaced set (Off (Some moved)) =
+    around_then (codes "off ") (name_of set moved.task) (codes " then ") (came_text set moved.came)
+    ∙ ap (λ (text : List ℕ). codes "off " ++ (name_of set moved.task ++ 32 ∷ text))
+    (then_spaced set (codes "then") moved.came)
+reply_spaced set (On parts) = ap (λ (text : List ℕ). codes "on " ++ text) (gone_spaced set parts)
+reply_spaced set _ = refl
+
 -- an event and a reply have fields
 event_some : (set : SetData) (event : Event) → (first : List ℕ) × (more : List (List ℕ))
     × (event_fields set event ≡ first ∷ more)
-event_some set (Arrive t) = (codes "arrive", name_of set t ∷ [], refl)
-event_some set (Depart t) = (codes "depart", name_of set t ∷ [], refl)
-event_some set (Tick n) = (codes "tick", canonical_number n ∷ [], refl)
+event_some set (Arrive t) = (_, _, refl)
+event_some set _ = (_, _, refl)
 
-reply_some : (set : SetData) (reply : Reply) → (first : List ℕ) × (more : List (List ℕ))
+pub reply_some : (set : SetData) (reply : Reply) → (first : List ℕ) × (more : List (List ℕ))
     × (reply_fields set reply ≡ first ∷ more)
-reply_some set (Placed chain) = (_, _, refl)
+reply_some set (Remasked None arrival) = (_, _, refl)
+reply_some set (Remasked (Some gone) arrival) = (_, _, refl)
+reply_some set (Off None) = (_, _, refl)
+reply_some set (Off (Some moved)) = (_, _, refl)
 reply_some set _ = (_, _, refl)
 
 -- a number, and two parts that have fields
@@ -161,9 +225,9 @@ task_to_text text added f =
           (text_back text (task_fields added) f.each_field) ∙ sym (task_spaced added);
     }
 
-pub entry_to_text : (set : SetData) (text : List ℕ) (entry : Entry)
-    → IsEntryFields set (spaced_fields_of text) entry → IsEntryText set text entry
-entry_to_text set text entry f =
+pub entry_to_text : (version : ℕ) (set : SetData) (text : List ℕ) (entry : Entry)
+    → IsEntryFields version (spaced_fields_of text) set entry → IsEntryText version set text entry
+entry_to_text version set text entry f =
     record {
       scheduled = f.scheduled;
       is_text = ap line (text_back text (entry_fields set entry) f.each_field)
@@ -172,31 +236,32 @@ entry_to_text set text entry f =
 
 -- the fields on a stream
 stream_fields : (text : List ℕ) (stream : ℕ) (tasks others : SetData) (e : Event) (r : Reply) → stream < 16
-    → HasFields tasks → HasFields others → IsAboutSet tasks e → HasUnits e → IsReplyOf others r
+    → tasks.processors ≤ 64 → HasFields tasks → HasFields others → IsAboutSet tasks e → HasUnits e → IsReplyOf others r
     → HasProcessors r → text ≡ spaced (canonical_number stream
     ∷ (event_fields tasks e ++ reply_fields others r))
     → spaced_fields_of text ≡ canonical_number stream ∷ (event_fields tasks e ++ reply_fields others r)
-stream_fields text stream tasks others e r small names names' about units about' processors is =
+stream_fields text stream tasks others e r small few names names' about units about' processors is =
     fields_back text (canonical_number stream) (event_fields tasks e ++ reply_fields others r) is
     (All-cons (λ (piece : List ℕ). All IsNoSpace piece) (canonical_number stream)
     (event_fields tasks e ++ reply_fields others r) (number_bytes IsNoSpace high_no_space stream (omega arith))
     (All-append (λ (piece : List ℕ). All IsNoSpace piece) (event_fields tasks e) (reply_fields others r)
-    (event_bytes IsNoSpace high_no_space tasks e (fields_no_space tasks names) about units)
+    (event_bytes IsNoSpace high_no_space tasks e few (fields_no_space tasks names) about units)
     (reply_bytes IsNoSpace high_no_space others r (fields_no_space others names') about' processors)))
 
-pub entry_to_fields : (set : SetData) (text : List ℕ) (entry : Entry) → IsTaskSet set
-    → IsEntryText set text entry → IsEntryFields set (spaced_fields_of text) entry
-entry_to_fields set text entry valid f =
+pub entry_to_fields : (version : ℕ) (set : SetData) (text : List ℕ) (entry : Entry) → IsTaskSet set
+    → IsEntryText version set text entry → IsEntryFields version (spaced_fields_of text) set entry
+entry_to_fields version set text entry valid f =
     let s = f.scheduled in
     record {
       scheduled = s;
-      each_field = stream_fields text entry.caller set set entry.event entry.reply s.caller
+      each_field = stream_fields text entry.caller set set entry.event entry.reply s.caller valid.processors.1
           (set_fields set valid) (set_fields set valid) s.tasks.event s.units s.tasks.reply s.processors
           (line_same text (spaced (entry_fields set entry)) (f.is_text ∙ entry_spaced set entry));
     }
 
-pub form_to_fields : (text : List ℕ) → IsEntryForm text → IsSomeEntry (spaced_fields_of text)
-form_to_fields text f =
+pub form_to_fields : (version m : ℕ) (text : List ℕ) → m ≤ 64 → IsEntryForm version m text
+    → IsSomeEntry version m (spaced_fields_of text)
+form_to_fields version m text few f =
     let e = f.is_event in
     let r = f.is_reply in
     record {
@@ -204,16 +269,33 @@ form_to_fields text f =
       event = event_fields e.tasks e.event;
       reply = reply_fields r.tasks r.reply;
       caller = f.caller;
-      is_event = (e.tasks, e.event, e.names, record { about = e.about; units = e.units; each_field = refl });
-      is_reply = (r.tasks, r.reply, r.names, record { about = r.about; processors = r.processors; each_field = refl });
-      each_field = stream_fields text f.stream e.tasks r.tasks e.event r.reply f.caller e.names r.names e.about
-          e.units r.about r.processors
+      is_event = (
+        e.tasks,
+        e.event,
+        e.names,
+        record {
+          processors = e.processors;
+          about = e.about;
+          of_version = e.of_version;
+          units = e.units;
+          each_field = refl;
+        },
+      );
+      is_reply = (
+        r.tasks,
+        r.reply,
+        r.names,
+        record { about = r.about; of_version = r.of_version; processors = r.processors; each_field = refl },
+      );
+      each_field = stream_fields text f.stream e.tasks r.tasks e.event r.reply f.caller
+          (let on = e.processors in omega arith) e.names r.names e.about e.units r.about r.processors
           (f.is_text ∙ on_stream (canonical_number f.stream) f.event f.reply e.tasks r.tasks e.event r.reply
           e.is_text r.is_text);
     }
 
-pub form_to_text : (text : List ℕ) → IsSomeEntry (spaced_fields_of text) → IsEntryForm text
-form_to_text text f =
+pub form_to_text : (version m : ℕ) (text : List ℕ) → IsSomeEntry version m (spaced_fields_of text)
+    → IsEntryForm version m text
+form_to_text version m text f =
     let e = f.is_event in
     let r = f.is_reply in
     record {
@@ -221,12 +303,22 @@ form_to_text text f =
       event = event_text e.0 e.1;
       reply = reply_text r.0 r.1;
       caller = f.caller;
-      is_event = record { tasks = e.0; event = e.1; names = e.2; about = e.3.about; units = e.3.units; is_text = refl };
+      is_event = record {
+        tasks = e.0;
+        event = e.1;
+        names = e.2;
+        processors = e.3.processors;
+        about = e.3.about;
+        of_version = e.3.of_version;
+        units = e.3.units;
+        is_text = refl;
+      };
       is_reply = record {
         tasks = r.0;
         reply = r.1;
         names = r.2;
         about = r.3.about;
+        of_version = r.3.of_version;
         processors = r.3.processors;
         is_text = refl;
       };

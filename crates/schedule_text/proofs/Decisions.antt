@@ -1,5 +1,5 @@
 -- Fields of which it is known that they say something or nothing.
-use Rattle.std.proofs.Common.{◌≡◌, ◌≢◌, ℕ, zero, suc, ◌<◌, ◌≤◌, ◌^◌, ◌⊎◌, inl, inr, true, nat_lt, List, [], ◌∷◌, length, map, All, Contains, Option, Some, None, refl, sym, ap, ◌∙◌, subst, arith, lit<}
+use Rattle.std.proofs.Common.{◌≡◌, ◌≢◌, ℕ, zero, suc, ◌-◌, ◌<◌, ◌≤◌, ◌^◌, ◌⊎◌, inl, inr, true, nat_lt, List, [], ◌∷◌, length, map, All, Contains, Option, Some, None, refl, sym, ap, ◌∙◌, subst, arith, lit<}
 use Rattle.std.specs.Prelude.{codes}
 use Rattle.std.proofs.lemmas.Bool.{cases_eq, cases_lt}
 use Rattle.std.proofs.lemmas.List.{length-map}
@@ -9,12 +9,13 @@ use Rattle.affinity_mask.specs.Number.{canonical_number}
 use Rattle.affinity_mask.specs.ListText.{IsWellFormed, IsListText, canonical_list}
 use Rattle.affinity_mask.proofs.Sets.{has-all_below}
 use Rattle.affinity_mask.proofs.TextCases.{text_list_or_fault}
+use Rattle.text_fields.proofs.Addable.{mask_decided}
 use Rattle.text_fields.proofs.Decisions.{bytes_decided, number_within_decided}
 use Rattle.schedule_text.specs.Schedule.{IsOfProcessors}
 use Rattle.schedule_text.specs.LineForms.{IsField}
-use Rattle.schedule_text.specs.Fields.{links_of, IsNumberField, IsListField, IsSetField, IsChainField, AreProcessorFields, IsLastField}
+use Rattle.schedule_text.specs.Fields.{links_of, IsNumberField, IsProcessorField, IsListField, IsMaskField, IsSetField, IsChainField, AreProcessorFields, IsLastField}
 use Rattle.text_fields.proofs.Words.{head_same, tail_same}
-use Rattle.schedule_text.proofs.Fields.{number_none, number_differs, list_refused, list_differs, list_read, set_empty, set_read, set_none}
+use Rattle.schedule_text.proofs.Fields.{processor_read, processor_none, mask_none, mask_differs, number_none, number_differs, list_refused, list_differs, list_read, set_empty, set_read, set_none}
 use Rattle.schedule_text.proofs.Chains.{chain_empty, chain_read, chain_none}
 use Rattle.schedule_text.proofs.Contexts.{last_none}
 
@@ -83,6 +84,27 @@ list_field_decided field = elim (text_list_or_fault field) [
   | inl found ↦ elim (bytes_decided (canonical_list found.0) field) [
     | inl same ↦ inl (found.0, list_read field found.0 found.1 (list_processors field found.0 found.1) same)
     | inr differs ↦ inr (list_differs field found.0 found.1 differs)
+  ]
+]
+
+-- a field is a processor of m, or none
+pub processor_field_decided : (m : ℕ) (field : List ℕ) → (1 ≤ m) × (m ≤ 64) → ((p : ℕ) × IsProcessorField m field p)
+    ⊎ ((p : ℕ) → IsProcessorField m field p → ⊥)
+processor_field_decided m field (some, few) = elim (number_field_decided 0 (m - 1) field (omega arith)) [
+  | inl found ↦ inl (found.0, processor_read m field found.0 some found.1)
+  | inr none ↦ inr (processor_none m field none)
+]
+
+-- a field is the list of a mask on m processors, or none
+pub mask_field_decided : (m : ℕ) (field : List ℕ) → m ≤ 64 → ((mask : ℕ) × IsMaskField m field mask)
+    ⊎ ((mask : ℕ) → IsMaskField m field mask → ⊥)
+mask_field_decided m field few = elim (list_field_decided field) [
+  | inr none ↦ inr (mask_none m field few none)
+  | inl found ↦ elim (mask_decided m found.0) [
+    | inl mask ↦ inl (found.0, record { valid = mask; is_text = found.1.is_text })
+    | inr (inl none) ↦ absurd (found.1.some none)
+    | inr (inr outside) ↦ inr (mask_differs m field found.0 few found.1
+        (λ mask. let here = mask.below outside.0 outside.1.member in let high = outside.1.outside in omega arith))
   ]
 ]
 

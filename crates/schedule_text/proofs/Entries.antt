@@ -1,144 +1,145 @@
 -- Entries by their fields: a stream, an event and a reply.
-use Rattle.std.proofs.Common.{◌≡◌, ℕ, inl, inr, List, [], ◌∷◌, ◌++◌, refl, sym, ap, ◌∙◌, subst, arith}
+use Rattle.std.proofs.Common.{◌≡◌, ◌≢◌, ℕ, ◌≤◌, ◌<◌, inl, inr, List, [], ◌∷◌, ◌++◌, length, refl, sym, ap, ◌∙◌, subst, arith}
+use Rattle.std.specs.Prelude.{codes}
+use Rattle.affinity_mask.specs.Number.{canonical_number}
 use Rattle.task_set.specs.TaskSet.{SetData, IsTaskSet}
 use Rattle.task_set.specs.declared.event.Event.{Event}
-use Rattle.task_set.specs.declared.event.Event.TheVariants.{Arrive, Depart, Tick}
+use Rattle.task_set.specs.declared.event.Event.TheVariants.{Arrive, Depart, Tick, Affinity, Offline, Online}
 use Rattle.scheduler_reply.specs.declared.reply.Reply.{Reply}
 use Rattle.scheduler_reply.specs.declared.reply.Entry.{Entry}
-use Rattle.schedule_text.specs.declared.fault.TextKind.{TextKind}
-use Rattle.schedule_text.specs.declared.fault.TextKind.TheVariants.{BadLine, UnknownTask}
 use Rattle.schedule_text.specs.Fields.{IsNumberField}
-use Rattle.schedule_text.specs.LineFields.{IsEventFields, IsReplyFields, IsEntryFields, IsSomeEvent, IsSomeReply, IsSomeEntry, IsEventFault, IsReplyFault, IsEntryFault}
+use Rattle.schedule_text.specs.LineFields.{IsSaid, IsEventFields, IsReplyFields, IsEntryFields, IsSomeEntry, IsEventSize, IsEventThen, reply_fields}
 use Rattle.text_fields.specs.EventText.{event_fields}
-use Rattle.text_fields.proofs.Words.{head_same, tail_same}
+use Rattle.text_fields.proofs.Words.{head_same, tail_same, other_word}
 use Rattle.schedule_text.proofs.Names.{set_fields}
+use Rattle.schedule_text.proofs.Parts.{IsOfParts}
+use Rattle.schedule_text.proofs.Replies.{parts_apart}
 
--- ---- the parts of some fields
+-- ---- where an event ends
 
-two_back : {a b x y : List ℕ} {xs ys : List (List ℕ)} → a ∷ b ∷ xs ≡ x ∷ y ∷ ys → (a ∷ b ∷ [] ≡ x ∷ y ∷ []) × (xs ≡ ys)
-two_back e = (cc, cc)
+-- the first word says how many fields an event has
+pub event_size : (tasks : SetData) (event : Event) → IsEventSize (event_fields tasks event)
+event_size tasks (Affinity t mask) = inl (refl, refl)
+event_size tasks (Arrive t) = inr (λ e. other_word e refl, refl)
+event_size tasks (Depart t) = inr (λ e. other_word e refl, refl)
+event_size tasks (Tick n) = inr (λ e. other_word e refl, refl)
+event_size tasks (Offline p) = inr (λ e. other_word e refl, refl)
+event_size tasks (Online p) = inr (λ e. other_word e refl, refl)
 
--- an event has two fields, after which the reply stands
-pub event_apart : (tasks : SetData) (event : Event) (a b : List ℕ) (xs ys : List (List ℕ)) → a ∷ b ∷ xs
-    ≡ event_fields tasks event ++ ys → (a ∷ b ∷ [] ≡ event_fields tasks event) × (xs ≡ ys)
-event_apart tasks (Arrive t) a b xs ys e = two_back e
-event_apart tasks (Depart t) a b xs ys e = two_back e
-event_apart tasks (Tick n) a b xs ys e = two_back e
+same_size : (a b : List ℕ) (xs us ys vs : List (List ℕ)) → IsEventSize (a ∷ xs) → IsEventSize (b ∷ us)
+    → a ∷ (xs ++ ys) ≡ b ∷ (us ++ vs) → length (a ∷ xs) ≡ length (b ∷ us)
+same_size a b xs us ys vs (inl one) (inl other) e = omega (arith, one.1, other.1)
+same_size a b xs us ys vs (inl one) (inr other) e = absurd (other.0 (sym (head_same e) ∙ one.0))
+same_size a b xs us ys vs (inr one) (inl other) e = absurd (one.0 (head_same e ∙ other.0))
+same_size a b xs us ys vs (inr one) (inr other) e = omega (arith, one.1, other.1)
 
-pub record AreKnown (set : SetData) (number word value : List ℕ) (rest : List (List ℕ)) (entry : Entry) : Type 0 where
-  pub stream : IsNumberField 0 15 number entry.caller
-  pub event : IsEventFields set (word ∷ value ∷ []) entry.event
-  pub reply : IsReplyFields set rest entry.reply
+-- two events with other fields after them
+pub events_apart : (xs us ys vs : List (List ℕ)) → IsEventSize xs → IsEventSize us → xs ++ ys ≡ us ++ vs
+    → (xs ≡ us) × (ys ≡ vs)
+events_apart [] us ys vs size size' e = absurd size
+events_apart (a ∷ xs) [] ys vs size size' e = absurd size'
+events_apart (a ∷ xs) (b ∷ us) ys vs size size' e =
+    parts_apart (a ∷ xs) (b ∷ us) ys vs (same_size a b xs us ys vs size size' e) e
 
-pub known_parts : (set : SetData) (number word value : List ℕ) (rest : List (List ℕ)) (entry : Entry)
-    → IsEntryFields set (number ∷ word ∷ value ∷ rest) entry → AreKnown set number word value rest entry
-known_parts set number word value rest entry f =
-    let apart = event_apart set entry.event word value rest _ (tail_same f.each_field) in
-    let caller = f.scheduled.caller in
-    record {
-      stream = record { range = (omega arith, omega arith); is_text = head_same f.each_field };
-      event = record { about = f.scheduled.tasks.event; units = f.scheduled.units; each_field = apart.0 };
-      reply = record { about = f.scheduled.tasks.reply; processors = f.scheduled.processors; each_field = apart.1 };
-    }
+-- the fields of a line, cut in three
+pub entry_cut : (fields : List (List ℕ)) (number : List ℕ) (rest event reply : List (List ℕ)) → fields ≡ number ∷ rest
+    → IsEventThen rest event reply → fields ≡ number ∷ (event ++ reply)
+entry_cut fields number rest event reply is cut =
+    is ∙ ap (λ (more : List (List ℕ)). number ∷ more) cut.each_field
 
-joined : {a b : List ℕ} {xs ys : List (List ℕ)} → a ≡ b → xs ≡ ys → a ∷ xs ≡ b ∷ ys
-joined one two = cc
+-- ---- the parts of an entry
 
-pub entry_of_parts : (set : SetData) (number word value : List ℕ) (rest : List (List ℕ)) (stream : ℕ)
-    (event : Event) (reply : Reply) → IsNumberField 0 15 number stream
-    → IsEventFields set (word ∷ value ∷ []) event → IsReplyFields set rest reply
-    → IsEntryFields set (number ∷ word ∷ value ∷ rest) (record { caller = stream; event = event; reply = reply })
-entry_of_parts set number word value rest stream event reply s e r = record {
-  scheduled = record {
-    caller = (let high = s.range.1 in omega arith);
-    tasks = record
-        { event = e.about; reply = r.about };
-    units = e.units;
-    processors = r.processors;
-  };
-  each_field = joined s.is_text
-      (ap (λ (prefix : List (List ℕ)). prefix ++ rest) e.each_field
-      ∙ ap (λ (back : List (List ℕ)). event_fields set event ++ back) r.each_field);
-}
+-- the stream of an entry
+pub some_stream : (version m : ℕ) (number : List ℕ) (rest : List (List ℕ)) → IsSomeEntry version m (number ∷ rest)
+    → (stream : ℕ) × IsNumberField 0 15 number stream
+some_stream version m number rest f =
+    (let caller = f.caller in
+    (f.stream, record { range = (omega arith, omega arith); is_text = head_same f.each_field }))
 
-pub some_of_parts : (number word value : List ℕ) (rest : List (List ℕ)) (stream : ℕ)
-    → IsNumberField 0 15 number stream → IsSomeEvent (word ∷ value ∷ []) → IsSomeReply rest
-    → IsSomeEntry (number ∷ word ∷ value ∷ rest)
-some_of_parts number word value rest stream s event reply =
-    record {
-      stream = stream;
-      event = word ∷ value
-          ∷ [];
-      reply = rest;
+-- its event and its reply
+pub some_event_then : (version m : ℕ) (number : List ℕ) (rest : List (List ℕ)) → IsSomeEntry version m (number ∷ rest)
+    → (event : List (List ℕ)) × (reply : List (List ℕ)) × IsEventThen rest event reply
+some_event_then version m number rest f =
+    let e = f.is_event in (
+      f.event,
+      f.reply,
+      record {
+        size = subst IsEventSize (sym e.3.each_field) (event_size e.0 e.1);
+        each_field = tail_same f.each_field;
+      },
+    )
+
+module _ (version : ℕ) (set : SetData) (number : List ℕ) (event reply : List (List ℕ)) where
+  pub entry_of_parts : (stream : ℕ) (e : Event) (r : Reply) → IsNumberField 0 15 number stream
+      → IsEventFields version set.processors event set e → IsReplyFields version reply set r
+      → IsEntryFields version (number ∷ (event ++ reply)) set (record { caller = stream; event = e; reply = r })
+  entry_of_parts stream e r s f g = record {
+    scheduled = record {
       caller = (let high = s.range.1 in omega arith);
-      is_event = event;
-      is_reply = reply;
-      each_field = ap (λ (first : List ℕ). first ∷ word ∷ value ∷ rest) s.is_text;
-    }
+      tasks = record { event = f.about; reply = g.about };
+      of_version = record { event = f.of_version; reply = g.of_version };
+      units = f.units;
+      processors = g.processors;
+    };
+    each_field =
+        ap (λ (first : List ℕ). first ∷ (event ++ reply)) s.is_text
+        ∙ ap (λ (prefix : List (List ℕ)). canonical_number stream ∷ (prefix ++ reply)) f.each_field
+        ∙ ap (λ (back : List (List ℕ)). canonical_number stream ∷ (event_fields set e ++ back)) g.each_field;
+  }
 
-pub record AreSome (number word value : List ℕ) (rest : List (List ℕ)) : Type 0 where
-  pub stream : ℕ
-  pub is_stream : IsNumberField 0 15 number stream
-  pub event : IsSomeEvent (word ∷ value ∷ [])
-  pub reply : IsSomeReply rest
+  -- what an entry of these fields says of its event and of its reply
+  known_parts : IsEventSize event → (entry : Entry) → IsEntryFields version (number ∷ (event ++ reply)) set entry
+      → IsEventFields version set.processors event set entry.event × IsReplyFields version reply set entry.reply
+  known_parts size entry f =
+      let s = f.scheduled in
+      let apart = events_apart event (event_fields set entry.event) reply (reply_fields set entry.reply) size
+      (event_size set entry.event) (tail_same f.each_field) in (
+        record {
+          processors = refl;
+          about = s.tasks.event;
+          of_version = s.of_version.event;
+          units = s.units;
+          each_field = apart.0;
+        },
+        record {
+          about = s.tasks.reply;
+          of_version = s.of_version.reply;
+          processors = s.processors;
+          each_field = apart.1;
+        },
+      )
 
-pub some_parts : (number word value : List ℕ) (rest : List (List ℕ))
-    → IsSomeEntry (number ∷ word ∷ value ∷ rest) → AreSome number word value rest
-some_parts number word value rest f =
-    let event = f.is_event in
-    let same : word ∷ value ∷ rest ≡ event_fields event.0 event.1 ++ f.reply = tail_same f.each_field
-    ∙ ap (λ (prefix : List (List ℕ)). prefix ++ f.reply) event.3.each_field in
-    let apart = event_apart event.0 event.1 word value rest f.reply same in
-    let caller = f.caller in
-    record {
-      stream = f.stream;
-      is_stream = record { range = (omega arith, omega arith); is_text = head_same f.each_field };
-      event = (event.0, event.1, event.2, record { about = event.3.about; units = event.3.units; each_field = apart.0 });
-      reply = subst IsSomeReply (sym apart.1) f.is_reply;
-    }
+  some_parts : IsEventSize event → IsSomeEntry version set.processors (number ∷ (event ++ reply))
+      → IsSaid (IsEventFields version set.processors event) × IsSaid (IsReplyFields version reply)
+  some_parts size f =
+      let e = f.is_event in
+      let apart = events_apart event f.event reply f.reply size
+      (subst IsEventSize (sym e.3.each_field) (event_size e.0 e.1)) (tail_same f.each_field) in (
+        subst (λ (fields : List (List ℕ)). IsSaid (IsEventFields version set.processors fields)) (sym apart.0) f.is_event,
+        subst (λ (fields : List (List ℕ)). IsSaid (IsReplyFields version fields)) (sym apart.1) f.is_reply,
+      )
 
--- ---- faults
-
--- the reply has a fault, where the event is known
-pub reply_fault : (set : SetData) (number word value : List ℕ) (rest : List (List ℕ)) (stream : ℕ)
-    (event : Event) (kind : TextKind) → IsTaskSet set → IsNumberField 0 15 number stream
-    → IsEventFields set (word ∷ value ∷ []) event → IsReplyFault set rest kind
-    → IsEntryFault set (number ∷ word ∷ value ∷ rest) kind
-reply_fault set number word value rest stream event kind valid s e (inl bad) =
-    inl (bad.0, λ some. bad.1 (some_parts number word value rest some).reply)
-reply_fault set number word value rest stream event kind valid s e (inr unknown) = inr (
-  unknown.0,
-  some_of_parts number word value rest stream s (set, event, set_fields set valid, e) unknown.1,
-  λ known. unknown.2 (known.0.reply, (known_parts set number word value rest known.0 known.1).reply),
-)
-
--- the event is of an unknown task, and the reply has a fault
-pub both_faults : (set : SetData) (number word value : List ℕ) (rest : List (List ℕ)) (stream : ℕ)
-    (kind : TextKind) → IsNumberField 0 15 number stream → IsEventFault set (word ∷ value ∷ []) UnknownTask
-    → IsReplyFault set rest kind → IsEntryFault set (number ∷ word ∷ value ∷ rest) kind
-both_faults set number word value rest stream kind s (inl other) r = let e = other.0 in absurd (cc)
-both_faults set number word value rest stream kind s (inr event) (inl bad) =
-    inl (bad.0, λ some. bad.1 (some_parts number word value rest some).reply)
-both_faults set number word value rest stream kind s (inr event) (inr unknown) = inr (
-  unknown.0,
-  some_of_parts number word value rest stream s event.1 unknown.1,
-  λ known. unknown.2 (known.0.reply, (known_parts set number word value rest known.0 known.1).reply),
-)
-
--- the event is of an unknown task, and the reply is known
-pub event_unknown : (set : SetData) (number word value : List ℕ) (rest : List (List ℕ)) (stream : ℕ)
-    (reply : Reply) → IsTaskSet set → IsNumberField 0 15 number stream
-    → IsEventFault set (word ∷ value ∷ []) UnknownTask → IsReplyFields set rest reply
-    → IsEntryFault set (number ∷ word ∷ value ∷ rest) UnknownTask
-event_unknown set number word value rest stream reply valid s (inl other) r = let e = other.0 in absurd (cc)
-event_unknown set number word value rest stream reply valid s (inr event) r = inr (
-  refl,
-  some_of_parts number word value rest stream s event.1 (set, reply, set_fields set valid, r),
-  λ known. event.2 (known.0.event, (known_parts set number word value rest known.0 known.1).event),
-)
-
--- the event is of no form
-pub event_bad : (set : SetData) (number word value : List ℕ) (rest : List (List ℕ))
-    → IsEventFault set (word ∷ value ∷ []) BadLine → IsEntryFault set (number ∷ word ∷ value ∷ rest) BadLine
-event_bad set number word value rest (inl bad) = inl (refl, λ some. bad.1 (some_parts number word value rest some).event)
-event_bad set number word value rest (inr other) = let e = other.0 in absurd (cc)
+  -- an entry is made of an event and a reply
+  pub entry_parts : (stream : ℕ) → IsTaskSet set → IsNumberField 0 15 number stream → IsEventSize event
+      → IsOfParts (IsSaid (IsEventFields version set.processors event))
+      ((e : Event) × IsEventFields version set.processors event set e) (IsSaid (IsReplyFields version reply))
+      ((r : Reply) × IsReplyFields version reply set r)
+      (IsSomeEntry version set.processors (number ∷ (event ++ reply)))
+      ((entry : Entry) × IsEntryFields version (number ∷ (event ++ reply)) set entry)
+  entry_parts stream valid s size = record {
+    form = λ e r. record {
+      stream = stream;
+      event = event;
+      reply = reply;
+      caller = (let high = s.range.1 in omega arith);
+      is_event = e;
+      is_reply = r;
+      each_field = ap (λ (first : List ℕ). first ∷ (event ++ reply)) s.is_text;
+    };
+    first_form = λ f. (some_parts size f).0;
+    second_form = λ f. (some_parts size f).1;
+    first_known = λ known. (known.0.event, (known_parts size known.0 known.1).0);
+    second_known = λ known. (known.0.reply, (known_parts size known.0 known.1).1);
+    first_some = λ known. (set, known.0, set_fields set valid, known.1);
+    second_some = λ known. (set, known.0, set_fields set valid, known.1);
+  }

@@ -1,12 +1,18 @@
--- The fields of a line, taken one by one.
-use Rattle.std.proofs.Common.{◌≡◌, ℕ, ◌<◌, ◌≤◌, List, [], ◌∷◌, length, get_or, Bor, sym, ap, ◌∙◌, arith}
+-- The fields of a line, taken one by one, and cut in two.
+use Rattle.std.proofs.Common.{◌≡◌, ℕ, zero, suc, ◌+◌, ◌-◌, ◌<◌, ◌≤◌, List, [], ◌∷◌, ◌++◌, length, take, drop, get_or, Bor, refl, sym, ap, ◌∙◌, arith, length-append, ◌≢◌, Bool, false, nat_eq}
 use Rattle.std.specs.Prelude.{codes}
-use Rattle.scheduler_reply.specs.declared.reply.Reply.{Reply}
-use Rattle.scheduler_reply.specs.declared.reply.Reply.TheVariants.{Displaced, Freed}
+use Rattle.std.proofs.lemmas.Bool.{true≢false}
 use Rattle.text_fields.specs.Fields.{texts}
-use Rattle.schedule_text.specs.LineFields.{IsSomeReply, displaced_fields, freed_fields, reply_fields}
+use Rattle.schedule_text.specs.LineFields.{IsGoneThen}
 use Rattle.text_fields.proofs.Words.{head_same, tail_same}
-use Rattle.text_fields.proofs.FieldLists.{texts_three}
+use Rattle.text_fields.proofs.FieldLists.{texts_three, texts_four}
+
+pub texts_five : (fields : List (Bor (List ℕ))) (d : Bor (List ℕ)) → 5 ≤ length fields → length fields < 6
+    → texts fields ≡ (get_or fields 0 d).now ∷ (get_or fields 1 d).now ∷ (get_or fields 2 d).now
+    ∷ (get_or fields 3 d).now ∷ (get_or fields 4 d).now ∷ []
+texts_five (x ∷ us) d some few =
+    ap (λ (more : List (List ℕ)). x.now ∷ more) (texts_four us d (omega arith) (omega arith))
+texts_five [] d some few = absurd (omega arith)
 
 pub texts_six : (fields : List (Bor (List ℕ))) (d : Bor (List ℕ)) → 6 ≤ length fields → length fields < 7
     → texts fields ≡ (get_or fields 0 d).now ∷ (get_or fields 1 d).now ∷ (get_or fields 2 d).now
@@ -18,46 +24,55 @@ texts_six [] d some few = absurd (omega arith)
 texts_six (x ∷ []) d some few = absurd (omega arith)
 texts_six (x ∷ y ∷ []) d some few = absurd (omega arith)
 
--- ---- replies of six fields
+take_whole : (n : ℕ) (xs : List (Bor (List ℕ))) → length xs ≤ n → take n xs ≡ xs
+take_whole zero [] le = refl
+take_whole (suc n) [] le = refl
+take_whole zero (x ∷ xs) le = absurd (omega arith)
+take_whole (suc n) (x ∷ xs) le = ap (λ (rest : List (Bor (List ℕ))). x ∷ rest) (take_whole n xs (omega arith))
 
--- the three words of six fields
-abbrev pub AreWords : List ℕ → List ℕ → List ℕ → List ℕ → List ℕ → List ℕ → Type 0
-AreWords a b c one two three = (a ≡ one) × (b ≡ two) × (c ≡ three)
+-- the first field, and the others
+pub texts_rest : (fields : List (Bor (List ℕ))) (d : Bor (List ℕ)) → 1 ≤ length fields
+    → texts fields ≡ (get_or fields 0 d).now ∷ texts (take (length fields - 1) (drop 1 fields))
+texts_rest [] d some = absurd (omega arith)
+texts_rest (x ∷ us) d some =
+    ap (λ (rest : List (Bor (List ℕ))). x.now ∷ texts rest)
+    (sym (take_whole (length (x ∷ us) - 1) us (omega arith)))
 
--- six fields with the words of a displacement
-pub six_displaced : (fields : List (List ℕ)) (a b c d e f : List ℕ) → fields ≡ a ∷ b ∷ c ∷ d ∷ e ∷ f ∷ []
-    → AreWords a c e (codes "displaced") (codes "out") (codes "reach") → displaced_fields b d f ≡ fields
-six_displaced fields a b c d e f six words = sym (six ∙ by words.0 words.1 words.2)
-  where
-    by : {a' c' e' : List ℕ} → a ≡ a' → c ≡ c' → e ≡ e' → a ∷ b ∷ c ∷ d ∷ e ∷ f ∷ [] ≡ a' ∷ b ∷ c' ∷ d ∷ e' ∷ f ∷ []
-    by one two three = cc
+-- the first field is this word
+pub headed : (fields : List (Bor (List ℕ))) (d : Bor (List ℕ)) (word : List ℕ) → 1 ≤ length fields
+    → (get_or fields 0 d).now ≡ word → word ∷ texts (take (length fields - 1) (drop 1 fields)) ≡ texts fields
+headed fields d word some is =
+    sym (texts_rest fields d some
+    ∙ ap (λ (first : List ℕ). first ∷ texts (take (length fields - 1) (drop 1 fields))) is)
 
-pub six_freed : (fields : List (List ℕ)) (a b c d e f : List ℕ) → fields ≡ a ∷ b ∷ c ∷ d ∷ e ∷ f ∷ []
-    → AreWords a c e (codes "freed") (codes "enters") (codes "back") → freed_fields b d f ≡ fields
-six_freed fields a b c d e f six words = sym (six ∙ by words.0 words.1 words.2)
-  where
-    by : {a' c' e' : List ℕ} → a ≡ a' → c ≡ c' → e ≡ e' → a ∷ b ∷ c ∷ d ∷ e ∷ f ∷ [] ≡ a' ∷ b ∷ c' ∷ d ∷ e' ∷ f ∷ []
-    by one two three = cc
+-- there are others
+pub more_than_one : (fields : List (Bor (List ℕ))) (none : Bool)
+    → none ≡ nat_eq (length (take (length fields - 1) (drop 1 fields))) 0 → none ≡ false → length (texts fields) ≢ 1
+more_than_one [] none is differs one = omega (arith, one)
+more_than_one (x ∷ []) none is differs one = true≢false (sym is ∙ differs)
+more_than_one (x ∷ y ∷ fields) none is differs one = omega (arith, one)
 
--- six fields with other words are no reply
-pub six_none : (fields : List (List ℕ)) (a b c d e f : List ℕ) → fields ≡ a ∷ b ∷ c ∷ d ∷ e ∷ f ∷ []
-    → (AreWords a c e (codes "displaced") (codes "out") (codes "reach") → ⊥)
-    → (AreWords a c e (codes "freed") (codes "enters") (codes "back") → ⊥) → IsSomeReply fields → ⊥
-six_none fields a b c d e f six no_out no_entry (tasks, reply, names, g) = by reply (sym six ∙ g.each_field)
-  where
-    by : (reply : Reply) → a ∷ b ∷ c ∷ d ∷ e ∷ f ∷ [] ≡ reply_fields tasks reply → ⊥
-    by (Displaced chain out reach) same =
-        no_out (
-          head_same same,
-          head_same (tail_same (tail_same same)),
-          head_same
-              (tail_same (tail_same (tail_same (tail_same same)))),
-        )
-    by (Freed entered chain back) same =
-        no_entry (
-          head_same same,
-          head_same (tail_same (tail_same same)),
-          head_same
-              (tail_same (tail_same (tail_same (tail_same same)))),
-        )
-    by _ same = omega (arith, ap length same)
+-- the first two fields, and the others
+pub texts_rest_two : (fields : List (Bor (List ℕ))) (d : Bor (List ℕ)) → 2 ≤ length fields
+    → texts fields
+    ≡ (get_or fields 0 d).now ∷ (get_or fields 1 d).now ∷ texts (take (length fields - 2) (drop 2 fields))
+texts_rest_two [] d some = absurd (omega arith)
+texts_rest_two (x ∷ []) d some = absurd (omega arith)
+texts_rest_two (x ∷ y ∷ us) d some =
+    ap (λ (rest : List (Bor (List ℕ))). x.now ∷ y.now ∷ texts rest)
+    (sym (take_whole (length (x ∷ y ∷ us) - 2) us (omega arith)))
+
+-- ---- five fields and the word `then`
+
+-- there are too few fields
+pub short_gone : (fields : List (List ℕ)) → length fields ≤ 5 → (part after : List (List ℕ))
+    → IsGoneThen fields part after → ⊥
+short_gone fields few part after f =
+    omega (arith, few, f.five, ap length f.each_field, length-append part (codes "then" ∷ after))
+
+-- another word stands there
+pub other_gone : (fields : List (Bor (List ℕ))) (d : Bor (List ℕ)) → 5 < length fields
+    → (get_or fields 5 d).now ≢ codes "then" → (part after : List (List ℕ)) → IsGoneThen (texts fields) part after → ⊥
+other_gone (a ∷ b ∷ c ∷ e ∷ f ∷ g ∷ fields) d some other (p ∷ q ∷ r ∷ s ∷ t ∷ []) after cut =
+    other (head_same (tail_same (tail_same (tail_same (tail_same (tail_same cut.each_field))))))
+other_gone fields d some other part after cut = absurd (omega (arith, some, cut.five))

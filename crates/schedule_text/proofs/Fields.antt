@@ -1,5 +1,5 @@
 -- What a field says: numbers, lists, sets and chains of processors.
-use Rattle.std.proofs.Common.{◌≡◌, ◌≢◌, ℕ, zero, suc, ◌+◌, ◌<◌, ◌≤◌, ◌^◌, false, ◌==◌, nat_eq, ◌⊎◌, inl, inr, IsTrue, List, [], ◌∷◌, length, map, get_or, All, Contains, Option, Some, None, MatchOption, refl, sym, ap, ◌∙◌, subst, arith, ne_eqb, eq-eqb, length-append}
+use Rattle.std.proofs.Common.{◌≡◌, ◌≢◌, ℕ, zero, suc, ◌+◌, ◌-◌, ◌<◌, ◌≤◌, ◌^◌, false, true, nat_lt, ◌==◌, nat_eq, ◌⊎◌, inl, inr, IsTrue, List, [], ◌∷◌, length, map, get_or, All, Contains, Option, Some, None, MatchOption, refl, sym, ap, ◌∙◌, subst, arith, ne_eqb, eq-eqb, length-append}
 use Rattle.std.specs.Prelude.{codes}
 use Rattle.std.specs.List.{slice_split, join_with_byte}
 use Rattle.std.specs.Str.Parse.{AllDigits, digits_value}
@@ -8,18 +8,19 @@ use Rattle.std.proofs.lemmas.List.Elements.{All-head, All-tail, All-from_get_or,
 use Rattle.std.proofs.lemmas.List.Splits.{slice_split_none, slice_split_at, length-slice_split, join_with_byte-slice_split}
 use Rattle.std.proofs.lemmas.Fmt.{decimal_is_IsNumeral, decimal_digit, first_decimal, decimal-digits_value}
 use Rattle.std.proofs.lemmas.Str.Parse.{IsNumeralModel, numerals_by_value, tells_digits, digit_at}
-use Rattle.affinity_mask.specs.ProcSet.{has, empty}
+use Rattle.affinity_mask.specs.ProcSet.{has, empty, Within}
 use Rattle.affinity_mask.specs.Number.{canonical_number}
 use Rattle.affinity_mask.specs.ListText.{Item, IsItem, IsWellFormed, IsListText, canonical_list}
 use Rattle.affinity_mask.specs.ListFault.{IsListFault}
 use Rattle.affinity_mask.specs.declared.mask_fault.MaskFault.{MaskFault}
-use Rattle.affinity_mask.proofs.Sets.{has-zero}
+use Rattle.affinity_mask.proofs.Sets.{has-zero, has-all_below}
 use Rattle.affinity_mask.proofs.Runs.{canonical_list-IsListText}
 use Rattle.affinity_mask.proofs.ListTexts.{list_text-one_set, list_text-no_fault}
+use Rattle.task_set.specs.TaskSet.{IsMask}
 use Rattle.text_fields.specs.Number.{IsNumberOf, IsNumberWithin}
 use Rattle.schedule_text.specs.ScheduleText.{set_text}
 use Rattle.schedule_text.specs.Schedule.{IsOfProcessors}
-use Rattle.schedule_text.specs.Fields.{HasLeadingZero, IsNumberField, IsListField, IsSetField}
+use Rattle.schedule_text.specs.Fields.{HasLeadingZero, IsNumberField, IsProcessorField, IsListField, IsMaskField, IsSetField}
 
 -- ---- numbers
 
@@ -172,6 +173,48 @@ list_read field X list processors same =
 -- a field is of one list
 pub list_once : (field : List ℕ) (X Y : ℕ) → IsListField field X → IsListField field Y → X ≡ Y
 list_once field X Y one other = list_text-one_set field X Y (list_text field X one) (list_text field Y other)
+
+-- ---- processors and masks
+
+pub processor_read : (m : ℕ) (field : List ℕ) (p : ℕ) → 1 ≤ m → IsNumberField 0 (m - 1) field p
+    → IsProcessorField m field p
+processor_read m field p some f = (let high = f.range.1 in record { below = omega arith; is_text = f.is_text })
+
+pub processor_number : (m : ℕ) (field : List ℕ) (p : ℕ) → IsProcessorField m field p → IsNumberField 0 (m - 1) field p
+processor_number m field p f =
+    (let below = f.below in record { range = (omega arith, omega arith); is_text = f.is_text })
+
+pub processor_none : (m : ℕ) (field : List ℕ) → ((p : ℕ) → IsNumberField 0 (m - 1) field p → ⊥) → (p : ℕ)
+    → IsProcessorField m field p → ⊥
+processor_none m field none p f = none p (processor_number m field p f)
+
+-- a mask on at most 64 processors is a set of processors
+pub mask_processors : (m X : ℕ) → m ≤ 64 → IsMask m X → IsOfProcessors X
+mask_processors m X few mask p member = has-all_below 64 p ∙ below p (let here = mask.below p member in omega arith)
+  where
+    below : (p : ℕ) → p < 64 → nat_lt p 64 ≡ true
+    below p lt = grind arith
+
+-- a mask is within the numbers below m
+pub mask_within : (m n mask all : ℕ) → n ≡ m → ((q : ℕ) → has all q ≡ nat_lt q n) → IsMask m mask → Within mask all
+mask_within m n mask all same contents valid p member = contents p ∙ below p (let here = valid.below p member in omega arith)
+  where
+    below : (p : ℕ) → p < n → nat_lt p n ≡ true
+    below p lt = grind arith
+
+pub mask_list : (m : ℕ) (field : List ℕ) (mask : ℕ) → m ≤ 64 → IsMaskField m field mask → IsListField field mask
+mask_list m field mask few f =
+    record { some = f.valid.some; processors = mask_processors m mask few f.valid; is_text = f.is_text }
+
+pub mask_none : (m : ℕ) (field : List ℕ) → m ≤ 64 → ((X : ℕ) → IsListField field X → ⊥) → (mask : ℕ)
+    → IsMaskField m field mask → ⊥
+mask_none m field few none mask f = none mask (mask_list m field mask few f)
+
+-- the list of a set that is no mask is the list of no mask
+pub mask_differs : (m : ℕ) (field : List ℕ) (X : ℕ) → m ≤ 64 → IsListField field X → (IsMask m X → ⊥) → (mask : ℕ)
+    → IsMaskField m field mask → ⊥
+mask_differs m field X few f no_mask mask g =
+    no_mask (subst (IsMask m) (list_once field mask X (mask_list m field mask few g) f) g.valid)
 
 none_within : IsOfProcessors empty
 none_within p member = absurd (true≢false (sym member ∙ has-zero p))

@@ -4,7 +4,12 @@ mod Chains
 mod Names
 mod Shapes
 pub mod ReplyParts
+mod Parts
+mod Joined
+mod Arrivals
 mod Replies
+mod ReplyFields
+mod EventFields
 mod FieldLists
 mod Entries
 mod Tasks

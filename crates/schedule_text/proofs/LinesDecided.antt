@@ -8,12 +8,12 @@ use Rattle.task_set.specs.Refusal.{new_task}
 use Rattle.task_set.specs.declared.context.Context.{Context}
 use Rattle.scheduler_reply.specs.declared.reply.Entry.{Entry}
 use Rattle.text_fields.specs.LineText.{line}
-use Rattle.schedule_text.specs.ScheduleText.{context_line, header, text_in}
+use Rattle.schedule_text.specs.ScheduleText.{context_line}
 use Rattle.schedule_text.specs.Schedule.{ScheduleData, IsSchedule, IsContextOf}
-use Rattle.schedule_text.specs.ScheduleFault.{IsLineFault, IsRefusedIn}
-use Rattle.schedule_text.specs.Prefix.{Progress, HeaderExpected, ProcessorsExpected, TasksExpected, EntriesExpected, ContextsExpected, Ended, IsPrefix, IsUnended}
+use Rattle.schedule_text.specs.ScheduleFault.{IsLineFault, IsScheduleRefused}
+use Rattle.schedule_text.specs.Prefix.{Progress, whole, HeaderExpected, ProcessorsExpected, TasksExpected, EntriesExpected, ContextsExpected, Ended, IsPrefix, IsUnended}
 use Rattle.schedule_text.specs.LineForms.{IsField, IsContextText}
-use Rattle.schedule_text.specs.Laws.{AcceptedOrRefused}
+use Rattle.schedule_text.specs.Laws.{text_of_schedule, AcceptedOrRefused}
 use Rattle.schedule_text.specs.declared.fault.TextKind.{TextKind}
 use Rattle.schedule_text.specs.declared.fault.TextKind.TheVariants.{BadLine, TaskRefused, Short, AfterEnd}
 use Rattle.schedule_text.specs.Reading.{Leads}
@@ -27,7 +27,7 @@ use Rattle.schedule_text.proofs.Decisions.{both_decided, field_decided, number_f
 use Rattle.schedule_text.proofs.Tasks.{task_form, task_list}
 use Rattle.schedule_text.proofs.Contexts.{AreSaid, context_said, context_named, context_from_said, wide, wide_below}
 use Rattle.schedule_text.proofs.Bridges.{task_to_text, context_to_fields, context_to_text, entry_to_text}
-use Rattle.schedule_text.proofs.Stages.{processors_none, processors_read, history_none, history_read, task_fault, entry_fault}
+use Rattle.schedule_text.proofs.Stages.{header_none, header_read, processors_none, processors_read, history_none, history_read, task_fault, entry_fault}
 use Rattle.schedule_text.proofs.EntriesDecided.{entry_decided}
 use Rattle.schedule_text.proofs.Prefixes.{IsReadTo, read_start, read_more, read_short, read_fault, read_past, read_end}
 
@@ -163,179 +163,178 @@ context_decided set t text valid within = elim (eleven_decided (spaced_fields_of
       ]
 ]
 
-module _ (version : ℕ) where
-  -- ---- one line
+-- ---- one line
 
-  abbrev IsLineDecided : Progress → List ℕ → Type 0
-  IsLineDecided expected text =
-      ((next : Progress) × Leads version expected text next)
-      ⊎ ((kind : TextKind) × IsLineFault version expected text kind)
+abbrev IsLineDecided : Progress → List ℕ → Type 0
+IsLineDecided expected text =
+    ((next : Progress) × Leads expected text next)
+    ⊎ ((kind : TextKind) × IsLineFault expected text kind)
 
-  tasks_decided : (set : SetData) (text : List ℕ) → IsTaskSet set → IsLineDecided (TasksExpected set) text
-  tasks_decided set text valid = elim (number_after_decided (codes "history") 0 20000 (spaced_fields_of text) (lit< tt)) [
-    | inl count ↦ inl (
-      EntriesExpected set count.0 [],
-      history_read set (spaced_fields_of text) text count.0 []
-          refl count.1 refl,
+tasks_decided : (version : ℕ) (set : SetData) (text : List ℕ) → IsTaskSet set
+    → IsLineDecided (TasksExpected version set) text
+tasks_decided version set text valid = elim (number_after_decided (codes "history") 0 20000 (spaced_fields_of text) (lit< tt)) [
+  | inl count ↦ inl (
+    EntriesExpected version set count.0 [],
+    history_read version set (spaced_fields_of text) text count.0 []
+        refl count.1 refl,
+  )
+  | inr no_count ↦ (
+      let no_history = history_none (spaced_fields_of text) text refl no_count in
+      elim (task_fields_decided (spaced_fields_of text)) [
+        | inr none ↦ inr (BadLine, task_fault version set text BadLine no_history (inl (refl, none)))
+        | inl added ↦ elim (can_add_decided set added.0 valid) [
+          | inl can ↦ inl (
+            TasksExpected version (with_task set added.0),
+            inl
+                (added.0, refl, task_to_text text added.0 added.1, can),
+          )
+          | inr refused ↦ inr (
+            TaskRefused refused.0,
+            task_fault version set text (TaskRefused refused.0)
+                no_history (inr (added.0, refused.0, refl, added.1, refused.1)),
+          )
+        ]
+      ])
+]
+
+entries_decided : (version : ℕ) (set : SetData) (count : ℕ) (entries : List Entry) (text : List ℕ)
+    → IsPrefix (EntriesExpected version set count entries) → IsLineDecided (EntriesExpected version set count entries) text
+entries_decided version set count entries text prefix = elim (cases_lt (length entries) count) [
+  | inl room ↦ elim (entry_decided version set (spaced_fields_of text) prefix.0.valid) [
+    | inl entry ↦ inl (
+      EntriesExpected version set count (entries ++ entry.0 ∷ []),
+      inl
+          (entry.0, refl, room, entry_to_text version set text entry.0 entry.1),
     )
-    | inr no_count ↦ (
-        let no_history = history_none (spaced_fields_of text) text refl no_count in
-        elim (task_fields_decided (spaced_fields_of text)) [
-          | inr none ↦ inr (BadLine, task_fault version set text BadLine no_history (inl (refl, none)))
-          | inl added ↦ elim (can_add_decided set added.0 valid) [
-            | inl can ↦ inl (
-              TasksExpected (with_task set added.0),
-              inl
-                  (added.0, refl, task_to_text text added.0 added.1, can),
-            )
-            | inr refused ↦ inr (
-              TaskRefused refused.0,
-              task_fault version set text (TaskRefused refused.0)
-                  no_history (inr (added.0, refused.0, refl, added.1, refused.1)),
-            )
-          ]
-        ])
+    | inr fault ↦ inr (fault.0, entry_fault version set count entries text fault.0 prefix.0.valid room fault.1)
   ]
-
-  entries_decided : (set : SetData) (count : ℕ) (entries : List Entry) (text : List ℕ)
-      → IsPrefix (EntriesExpected set count entries) → IsLineDecided (EntriesExpected set count entries) text
-  entries_decided set count entries text prefix = elim (cases_lt (length entries) count) [
-    | inl room ↦ elim (entry_decided set (spaced_fields_of text) prefix.0.valid) [
-      | inl entry ↦ inl (
-        EntriesExpected set count (entries ++ entry.0 ∷ []),
-        inl
-            (entry.0, refl, room, entry_to_text set text entry.0 entry.1),
-      )
-      | inr fault ↦ inr (fault.0, entry_fault version set count entries text fault.0 prefix.0.valid room fault.1)
-    ]
-    | inr full ↦ (
-        let few = prefix.2 in
-        let same : length entries ≡ count = omega arith in
-        elim (bytes_decided text (codes "contexts " ++ canonical_number (length set.tasks))) [
-          | inl form ↦ inl (ContextsExpected set entries [], inr (refl, same, form))
-          | inr differs ↦ inr (
-            BadLine,
-            λ form. elim form
-                [ inl entry ↦ (let room = entry.0 in omega arith) | inr other ↦ differs other.1 ],
-          )
-        ])
-  ]
-
-  contexts_decided : (set : SetData) (entries : List Entry) (contexts : List Context) (text : List ℕ)
-      → IsPrefix (ContextsExpected set entries contexts)
-      → IsLineDecided (ContextsExpected set entries contexts) text
-  contexts_decided set entries contexts text prefix = elim (cases_lt (length contexts) (length set.tasks)) [
-    | inl room ↦ elim (context_decided set (length contexts) text prefix.0.valid room) [
-      | inl context ↦ inl (
-        ContextsExpected set entries (contexts ++ context.0 ∷ []),
-        inl
-            (context.0, refl, room, context.1),
-      )
-      | inr none ↦ inr (
-        BadLine,
-        λ form. elim form
-            [ inl found ↦ none found.1.0 found.1.1 | inr other ↦ (let full = other.0 in omega arith) ],
-      )
-    ]
-    | inr full ↦ (
-        let few = prefix.3 in
-        let same : length contexts ≡ length set.tasks = omega arith in
-        elim (bytes_decided text (codes "end")) [
-          | inl form ↦ inl (Ended set entries contexts, inr (refl, same, form))
-          | inr differs ↦ inr (
-            BadLine,
-            λ form. elim form
-                [ inl found ↦ (let room = found.0 in omega arith) | inr other ↦ differs other.1 ],
-          )
-        ])
-  ]
-
-  -- a line leads on, or has a fault
-  line_decided : (expected : Progress) (text : List ℕ) → IsPrefix expected → IsUnended expected
-      → IsLineDecided expected text
-  line_decided HeaderExpected text prefix unended = elim (bytes_decided text (header version)) [
-    | inl same ↦ inl (ProcessorsExpected, (refl, same))
-    | inr differs ↦ inr (BadLine, differs)
-  ]
-  line_decided ProcessorsExpected text prefix unended =
-      elim (number_after_decided (codes "processors") 1 64 (spaced_fields_of text) (lit< tt)) [
-        | inl found ↦ inl (
-          TasksExpected (record { processors = found.0; tasks = [] }),
-          (found.0, refl, processors_read (spaced_fields_of text) text found.0 refl found.1),
+  | inr full ↦ (
+      let few = prefix.3 in
+      let same : length entries ≡ count = omega arith in
+      elim (bytes_decided text (codes "contexts " ++ canonical_number (length set.tasks))) [
+        | inl form ↦ inl (ContextsExpected version set entries [], inr (refl, same, form))
+        | inr differs ↦ inr (
+          BadLine,
+          λ form. elim form
+              [ inl entry ↦ (let room = entry.0 in omega arith) | inr other ↦ differs other.1 ],
         )
-        | inr none ↦ inr (BadLine, processors_none (spaced_fields_of text) text refl none)
-      ]
-  line_decided (TasksExpected set) text prefix unended = tasks_decided set text prefix.valid
-  line_decided (EntriesExpected set count entries) text prefix unended = entries_decided set count entries text prefix
-  line_decided (ContextsExpected set entries contexts) text prefix unended =
-      contexts_decided set entries contexts text prefix
-  line_decided (Ended set entries contexts) text prefix unended = absurd unended
+      ])
+]
 
-  -- ---- the whole text
-
-  -- a line comes, or none
-  line_or_none : (rest : List ℕ)
-      → ((text : List ℕ) × (after : List ℕ) × (rest ≡ text ++ 10 ∷ after) × (Contains text 10 → ⊥))
-      ⊎ (Contains rest 10 → ⊥)
-  line_or_none [] = inr (λ here. absurd (omega (arith, here.1)))
-  line_or_none (byte ∷ rest) = elim (cases_eq byte 10) [
-    | inl feed ↦ inl ([], rest, ap (λ (b : ℕ). b ∷ rest) feed, λ here. absurd (omega (arith, here.1)))
-    | inr other ↦ elim (line_or_none rest) [
-      | inl (text, after, cut, none) ↦ inl
-          (byte ∷ text, after, ap (λ (back : List ℕ). byte ∷ back) cut, not_first byte text other none)
-      | inr none ↦ inr (not_first byte rest other none)
-    ]
+contexts_decided : (version : ℕ) (set : SetData) (entries : List Entry) (contexts : List Context) (text : List ℕ)
+    → IsPrefix (ContextsExpected version set entries contexts)
+    → IsLineDecided (ContextsExpected version set entries contexts) text
+contexts_decided version set entries contexts text prefix = elim (cases_lt (length contexts) (length set.tasks)) [
+  | inl room ↦ elim (context_decided set (length contexts) text prefix.0.valid room) [
+    | inl context ↦ inl (
+      ContextsExpected version set entries (contexts ++ context.0 ∷ []),
+      inl
+          (context.0, refl, room, context.1),
+    )
+    | inr none ↦ inr (
+      BadLine,
+      λ form. elim form
+          [ inl found ↦ none found.1.0 found.1.1 | inr other ↦ (let full = other.0 in omega arith) ],
+    )
   ]
-    where
-      not_first : (byte : ℕ) (text : List ℕ) → byte ≢ 10 → (Contains text 10 → ⊥) → Contains (byte ∷ text) 10 → ⊥
-      not_first byte text other none (zero, within, same) = other same
-      not_first byte text other none (suc k, within, same) = none (k, omega (arith, within), same)
-
-  abbrev IsAnswered : List ℕ → Type 0
-  IsAnswered bytes =
-      ((schedule : ScheduleData) × IsSchedule schedule
-      × (bytes ≡ text_in version schedule.set schedule.entries schedule.contexts)) ⊎ ((line : ℕ)
-      × (kind : TextKind) × IsRefusedIn version bytes line kind)
-
-  ended_answered : (bytes rest : List ℕ) (number : ℕ) (schedule : ScheduleData)
-      → IsReadTo version bytes rest number (Ended schedule.set schedule.entries schedule.contexts)
-      → IsAnswered bytes
-  ended_answered bytes [] number schedule so_far =
-      inl (schedule, so_far.prefix, read_end version bytes [] number schedule so_far refl)
-  ended_answered bytes (byte ∷ rest) number schedule so_far =
-      inr (number, AfterEnd, read_past version bytes (byte ∷ rest) number schedule so_far (λ none. cc))
-
-  ended_decided : (expected : Progress) → IsUnended expected
-      ⊎ ((schedule : ScheduleData) × (expected ≡ Ended schedule.set schedule.entries schedule.contexts))
-  ended_decided (Ended set entries contexts) = inr (record { set = set; entries = entries; contexts = contexts }, refl)
-  ended_decided _ = inl tt
-
-  -- from here on, with so many bytes at most
-  answered_from : (fuel : ℕ) (bytes rest : List ℕ) (number : ℕ) (expected : Progress)
-      → IsReadTo version bytes rest number expected → length rest < fuel → IsAnswered bytes
-  answered_from zero bytes rest number expected so_far bound = absurd (omega arith)
-  answered_from (suc fuel) bytes rest number expected so_far bound = elim (ended_decided expected) [
-    | inr ended ↦ ended_answered bytes rest number ended.0 (subst (IsReadTo version bytes rest number) ended.1 so_far)
-    | inl unended ↦ elim (line_or_none rest) [
-      | inr none ↦ inr (number, Short, read_short version bytes rest number expected so_far unended none)
-      | inl (text, after, cut, one_line) ↦ elim (line_decided expected text so_far.prefix unended) [
-        | inr fault ↦ inr (
-          number,
-          fault.0,
-          read_fault version bytes rest text after number expected fault.0
-              so_far unended cut one_line fault.1,
+  | inr full ↦ (
+      let few = prefix.4 in
+      let same : length contexts ≡ length set.tasks = omega arith in
+      elim (bytes_decided text (codes "end")) [
+        | inl form ↦ inl (Ended version set entries contexts, inr (refl, same, form))
+        | inr differs ↦ inr (
+          BadLine,
+          λ form. elim form
+              [ inl found ↦ (let room = found.0 in omega arith) | inr other ↦ differs other.1 ],
         )
-        | inl next ↦ answered_from fuel bytes after (number + 1) next.0
-            (read_more version bytes rest text after number expected next.0 so_far cut next.1)
-            (omega (arith, bound, ap length cut, length-append text (10 ∷ after)))
-      ]
+      ])
+]
+
+-- a line leads on, or has a fault
+line_decided : (expected : Progress) (text : List ℕ) → IsPrefix expected → IsUnended expected
+    → IsLineDecided expected text
+line_decided HeaderExpected text prefix unended =
+    elim (number_after_decided (codes "schedule") 1 2 (spaced_fields_of text) (lit< tt)) [
+      | inl found ↦ inl (
+        ProcessorsExpected found.0,
+        (found.0, refl, header_read (spaced_fields_of text) text found.0 refl found.1),
+      )
+      | inr none ↦ inr (BadLine, header_none (spaced_fields_of text) text refl none)
+    ]
+line_decided (ProcessorsExpected version) text prefix unended =
+    elim (number_after_decided (codes "processors") 1 64 (spaced_fields_of text) (lit< tt)) [
+      | inl found ↦ inl (
+        TasksExpected version (record { processors = found.0; tasks = [] }),
+        (found.0, refl, processors_read (spaced_fields_of text) text found.0 refl found.1),
+      )
+      | inr none ↦ inr (BadLine, processors_none (spaced_fields_of text) text refl none)
+    ]
+line_decided (TasksExpected version set) text prefix unended = tasks_decided version set text prefix.0.valid
+line_decided (EntriesExpected version set count entries) text prefix unended = entries_decided version set count entries text prefix
+line_decided (ContextsExpected version set entries contexts) text prefix unended =
+    contexts_decided version set entries contexts text prefix
+line_decided (Ended version set entries contexts) text prefix unended = absurd unended
+
+-- ---- the whole text
+
+-- a line comes, or none
+line_or_none : (rest : List ℕ)
+    → ((text : List ℕ) × (after : List ℕ) × (rest ≡ text ++ 10 ∷ after) × (Contains text 10 → ⊥))
+    ⊎ (Contains rest 10 → ⊥)
+line_or_none [] = inr (λ here. absurd (omega (arith, here.1)))
+line_or_none (byte ∷ rest) = elim (cases_eq byte 10) [
+  | inl feed ↦ inl ([], rest, ap (λ (b : ℕ). b ∷ rest) feed, λ here. absurd (omega (arith, here.1)))
+  | inr other ↦ elim (line_or_none rest) [
+    | inl (text, after, cut, none) ↦ inl
+        (byte ∷ text, after, ap (λ (back : List ℕ). byte ∷ back) cut, not_first byte text other none)
+    | inr none ↦ inr (not_first byte rest other none)
+  ]
+]
+  where
+    not_first : (byte : ℕ) (text : List ℕ) → byte ≢ 10 → (Contains text 10 → ⊥) → Contains (byte ∷ text) 10 → ⊥
+    not_first byte text other none (zero, within, same) = other same
+    not_first byte text other none (suc k, within, same) = none (k, omega (arith, within), same)
+
+abbrev IsAnswered : List ℕ → Type 0
+IsAnswered bytes =
+    ((schedule : ScheduleData) × IsSchedule schedule × (bytes ≡ text_of_schedule schedule))
+    ⊎ ((line : ℕ) × (kind : TextKind) × IsScheduleRefused bytes line kind)
+
+ended_answered : (bytes rest : List ℕ) (number : ℕ) (schedule : ScheduleData)
+    → IsReadTo bytes rest number (whole schedule)
+    → IsAnswered bytes
+ended_answered bytes [] number schedule so_far =
+    inl (schedule, so_far.prefix, read_end bytes [] number schedule so_far refl)
+ended_answered bytes (byte ∷ rest) number schedule so_far =
+    inr (number, AfterEnd, read_past bytes (byte ∷ rest) number schedule so_far (λ none. cc))
+
+ended_decided : (expected : Progress) → IsUnended expected
+    ⊎ ((schedule : ScheduleData) × (expected ≡ whole schedule))
+ended_decided (Ended version set entries contexts) =
+    inr (record { version = version; set = set; entries = entries; contexts = contexts }, refl)
+ended_decided _ = inl tt
+
+-- from here on, with so many bytes at most
+answered_from : (fuel : ℕ) (bytes rest : List ℕ) (number : ℕ) (expected : Progress)
+    → IsReadTo bytes rest number expected → length rest < fuel → IsAnswered bytes
+answered_from zero bytes rest number expected so_far bound = absurd (omega arith)
+answered_from (suc fuel) bytes rest number expected so_far bound = elim (ended_decided expected) [
+  | inr ended ↦ ended_answered bytes rest number ended.0 (subst (IsReadTo bytes rest number) ended.1 so_far)
+  | inl unended ↦ elim (line_or_none rest) [
+    | inr none ↦ inr (number, Short, read_short bytes rest number expected so_far unended none)
+    | inl (text, after, cut, one_line) ↦ elim (line_decided expected text so_far.prefix unended) [
+      | inr fault ↦ inr (
+        number,
+        fault.0,
+        read_fault bytes rest text after number expected fault.0
+            so_far unended cut one_line fault.1,
+      )
+      | inl next ↦ answered_from fuel bytes after (number + 1) next.0
+          (read_more bytes rest text after number expected next.0 so_far cut next.1)
+          (omega (arith, bound, ap length cut, length-append text (10 ∷ after)))
     ]
   ]
-
-  accepted : (bytes : List ℕ) → IsAnswered bytes
-  accepted bytes = answered_from (length bytes + 1) bytes bytes 1 HeaderExpected (read_start version bytes) (omega arith)
-
--- ---- the law, of version 1
+]
 
 pub accepted_or_refused : AcceptedOrRefused
-accepted_or_refused bytes = accepted 1 bytes
+accepted_or_refused bytes = answered_from (length bytes + 1) bytes bytes 1 HeaderExpected (read_start bytes) (omega arith)

@@ -9,7 +9,7 @@ use Rattle.text_fields.specs.EventText.{name_of}
 use Rattle.text_fields.proofs.Names.{name_without}
 use Rattle.text_fields.proofs.NamedTasks.{no_task, name_at, known_name}
 use Rattle.schedule_text.specs.LineForms.{IsField, HasFields}
-use Rattle.schedule_text.specs.LineFields.{IsNameFault, IsPartFault}
+use Rattle.schedule_text.specs.LineFields.{IsNameFault, IsPartFault, IsSaidFault}
 use Rattle.schedule_text.specs.declared.fault.TextKind.{TextKind}
 
 name_some : (name : List ℕ) → IsName name → name ≢ []
@@ -46,23 +46,27 @@ name_of_no_dash set t valid within =
     subst (λ (name : List ℕ). name ≢ codes "-") (sym (name_at set t within))
     (name_no_dash (get_or set.tasks t no_task).name (valid.names t no_task within))
 
--- one task alone, of any name
-pub alone : List ℕ → SetData
-alone name = record { processors = 1; tasks = record { name = name; priority = 0; mask = 0 } ∷ [] }
+-- one task alone, of any name, on m processors
+pub alone : ℕ → List ℕ → SetData
+alone m name = record { processors = m; tasks = record { name = name; priority = 0; mask = 0 } ∷ [] }
 
-pub alone_fields : (name : List ℕ) → IsField name → HasFields (alone name)
+pub alone_fields : (m : ℕ) (name : List ℕ) → IsField name → HasFields (alone m name)
 unfolding alone
-alone_fields name field =
+alone_fields m name field =
     All-cons (λ (task : TaskData). IsField task.name) (record { name = name; priority = 0; mask = 0 }) [] field
     (λ k d within. absurd (omega (arith, within)))
 
-pub alone_named : (name : List ℕ) → name ≡ name_of (alone name) 0
+pub alone_named : (m : ℕ) (name : List ℕ) → name ≡ name_of (alone m name) 0
 unfolding alone
-alone_named name = refl
+alone_named m name = refl
 
-pub alone_has : (name : List ℕ) → 0 < length (alone name).tasks
+pub alone_has : (m : ℕ) (name : List ℕ) → 0 < length (alone m name).tasks
 unfolding alone
-alone_has name = omega arith
+alone_has m name = omega arith
+
+pub alone_processors : (m : ℕ) (name : List ℕ) → (alone m name).processors ≡ m
+unfolding alone
+alone_processors m name = refl
 
 -- ---- faults of a name
 
@@ -70,19 +74,28 @@ alone_has name = omega arith
 abbrev pub IsNamed : SetData → List ℕ → Type 0
 IsNamed set name = (t : ℕ) × (t < length set.tasks) × (name ≡ name_of set t)
 
+-- a name that is none of the set, as a part of a line
+pub named_fault : (set : SetData) (name : List ℕ) (kind : TextKind) → IsNameFault set name kind
+    → IsPartFault (IsField name) (IsNamed set name) kind
+named_fault set name kind (inl bad) = inl bad
+named_fault set name kind (inr unknown) = inr (
+  unknown.0,
+  unknown.1,
+  λ task. known_name set task.0 name task.1 task.2 unknown.2,
+)
+
 -- what names a task is at fault where its name is: no tasks have such a name, or only the tasks of the set have none
-pub name_fault : {X : Type 0} (Says : SetData → X → Type 0) (set : SetData) (name : List ℕ) (kind : TextKind) (x : X)
-    → ((tasks : SetData) (y : X) → Says tasks y → IsNamed tasks name) → Says (alone name) x
-    → IsNameFault set name kind
-    → IsPartFault ((tasks : SetData) × (y : X) × HasFields tasks × Says tasks y) ((y : X) × Says set y) kind
-name_fault Says set name kind x named said (inl bad) =
+pub name_fault : {X : Type 0} (Says : SetData → X → Type 0) (set : SetData) (name : List ℕ) (kind : TextKind) (m : ℕ) (x : X)
+    → ((tasks : SetData) (y : X) → Says tasks y → IsNamed tasks name) → Says (alone m name) x
+    → IsNameFault set name kind → IsSaidFault Says set kind
+name_fault Says set name kind m x named said (inl bad) =
     inl (
       bad.0,
       λ some. let task = named some.0 some.1 some.3 in bad.1
           (subst IsField (sym task.2) (name_of_field some.0 task.0 some.2 task.1)),
     )
-name_fault Says set name kind x named said (inr unknown) = inr (
+name_fault Says set name kind m x named said (inr unknown) = inr (
   unknown.0,
-  (alone name, x, alone_fields name unknown.1, said),
+  (alone m name, x, alone_fields m name unknown.1, said),
   λ known. let task = named set known.0 known.1 in known_name set task.0 name task.1 task.2 unknown.2,
 )

@@ -12,10 +12,11 @@ use Rattle.task_set.proofs.Added.{IsTaskSet-push}
 use Rattle.task_set.specs.declared.context.Context.{Context}
 use Rattle.scheduler_reply.specs.declared.reply.Entry.{Entry}
 use Rattle.text_fields.specs.LineText.{line, processors_line, task_line}
-use Rattle.schedule_text.specs.ScheduleText.{entry_line, context_line, header, text_in}
+use Rattle.schedule_text.specs.ScheduleText.{IsVersion, entry_line, context_line, header, schedule_text}
 use Rattle.schedule_text.specs.Schedule.{ScheduleData, IsScheduled, IsContextOf, AreInOrder, IsScheduleSet, IsSchedule}
-use Rattle.schedule_text.specs.ScheduleFault.{IsLineFault, IsRefusedIn}
-use Rattle.schedule_text.specs.Prefix.{Progress, HeaderExpected, ProcessorsExpected, TasksExpected, EntriesExpected, ContextsExpected, Ended, tasks_text, history_text, contexts_text, text_so_far, lines_so_far, IsPrefix, IsUnended}
+use Rattle.schedule_text.specs.ScheduleFault.{IsLineFault, IsScheduleRefused}
+use Rattle.schedule_text.specs.Laws.{text_of_schedule}
+use Rattle.schedule_text.specs.Prefix.{Progress, whole, HeaderExpected, ProcessorsExpected, TasksExpected, EntriesExpected, ContextsExpected, Ended, tasks_text, history_text, contexts_text, text_so_far, lines_so_far, IsPrefix, IsUnended}
 use Rattle.schedule_text.specs.declared.fault.TextKind.{TextKind}
 use Rattle.schedule_text.specs.declared.fault.TextKind.TheVariants.{Short, AfterEnd}
 use Rattle.schedule_text.specs.declared.fault.TextFault.{TextFault}
@@ -43,50 +44,63 @@ in_order_more contexts context before last = λ t d within. elim (cases_lt t (le
 
 -- ---- steps
 
-leads_tasks_prefix : (set : SetData) (text : List ℕ) (next : Progress) → IsScheduleSet set
-    → LeadsTasks set text next → IsPrefix next
-leads_tasks_prefix set text next prefix (inl (added, last, form, can)) =
-    subst IsPrefix (sym last)
-    (record {
-      valid = IsTaskSet-push set added prefix.valid can;
-      priorities = All-push
-          (λ (task : TaskData). task.priority < 2 ^ 32) set.tasks added prefix.priorities form.priority;
-    })
-leads_tasks_prefix set text next prefix (inr (count, last, form)) =
-    subst IsPrefix (sym last) (prefix, form.few, omega arith, All-nil (IsScheduled set))
-
-leads_entries_prefix : (set : SetData) (count : ℕ) (entries : List Entry) (text : List ℕ) (next : Progress)
-    → IsPrefix (EntriesExpected set count entries) → LeadsEntries set count entries text next → IsPrefix next
-leads_entries_prefix set count entries text next prefix (inl (entry, last, room, form)) =
+leads_tasks_prefix : (version : ℕ) (set : SetData) (text : List ℕ) (next : Progress) → IsPrefix (TasksExpected version set)
+    → LeadsTasks version set text next → IsPrefix next
+leads_tasks_prefix version set text next prefix (inl (added, last, form, can)) =
     subst IsPrefix (sym last) (
-      prefix.0,
+      record {
+        valid = IsTaskSet-push set added prefix.0.valid can;
+        priorities = All-push
+            (λ (task : TaskData). task.priority < 2 ^ 32) set.tasks added prefix.0.priorities form.priority;
+      },
       prefix.1,
-      omega (arith, length-append entries (entry ∷ [])),
-      All-push (IsScheduled set) entries entry prefix.3 form.scheduled,
     )
-leads_entries_prefix set count entries text next prefix (inr (last, full, form)) =
-    subst IsPrefix (sym last) (
-      prefix.0,
-      (let few = prefix.1 in omega arith),
-      prefix.3,
-      omega arith,
-      λ t d within. absurd (omega (arith, within)),
-    )
+leads_tasks_prefix version set text next prefix (inr (count, last, form)) =
+    subst IsPrefix (sym last) (prefix.0, prefix.1, form.few, omega arith, All-nil (IsScheduled version set))
 
-leads_contexts_prefix : (set : SetData) (entries : List Entry) (contexts : List Context) (text : List ℕ)
-    (next : Progress) → IsPrefix (ContextsExpected set entries contexts)
-    → LeadsContexts set entries contexts text next → IsPrefix next
-leads_contexts_prefix set entries contexts text next prefix (inl (context, last, room, form)) =
+leads_entries_prefix : (version : ℕ) (set : SetData) (count : ℕ) (entries : List Entry) (text : List ℕ) (next : Progress)
+    → IsPrefix (EntriesExpected version set count entries) → LeadsEntries version set count entries text next
+    → IsPrefix next
+leads_entries_prefix version set count entries text next prefix (inl (entry, last, room, form)) =
     subst IsPrefix (sym last) (
       prefix.0,
       prefix.1,
       prefix.2,
-      omega (arith, length-append contexts (context ∷ [])),
-      in_order_more contexts context prefix.4 form.of_task,
+      omega (arith, length-append entries (entry ∷ [])),
+      All-push (IsScheduled version set) entries entry prefix.4 form.scheduled,
     )
-leads_contexts_prefix set entries contexts text next prefix (inr (last, full, form)) =
+leads_entries_prefix version set count entries text next prefix (inr (last, full, form)) =
+    subst IsPrefix (sym last) (
+      prefix.0,
+      prefix.1,
+      (let few = prefix.2 in omega arith),
+      prefix.4,
+      omega arith,
+      λ t d within. absurd (omega (arith, within)),
+    )
+
+leads_contexts_prefix : (version : ℕ) (set : SetData) (entries : List Entry) (contexts : List Context) (text : List ℕ)
+    (next : Progress) → IsPrefix (ContextsExpected version set entries contexts)
+    → LeadsContexts version set entries contexts text next → IsPrefix next
+leads_contexts_prefix version set entries contexts text next prefix (inl (context, last, room, form)) =
+    subst IsPrefix (sym last) (
+      prefix.0,
+      prefix.1,
+      prefix.2,
+      prefix.3,
+      omega (arith, length-append contexts (context ∷ [])),
+      in_order_more contexts context prefix.5 form.of_task,
+    )
+leads_contexts_prefix version set entries contexts text next prefix (inr (last, full, form)) =
     subst IsPrefix (sym last)
-    (record { tasks = prefix.0; few = prefix.1; each_entry = prefix.2; one_each = full; in_order = prefix.4 })
+    (record {
+      known = prefix.1;
+      tasks = prefix.0;
+      few = prefix.2;
+      each_entry = prefix.3;
+      one_each = full;
+      in_order = prefix.5;
+    })
 
 no_tasks : (m : ℕ) → (1 ≤ m) × (m ≤ 64) → IsScheduleSet (record { processors = m; tasks = [] })
 no_tasks m range = record {
@@ -103,183 +117,183 @@ no_tasks m range = record {
 -- a stage expects a line
 pub unended : (stage : Stage) → IsUnended (progress_of stage)
 unended stages.HeaderExpected = tt
-unended stages.ProcessorsExpected = tt
-unended (stages.TasksExpected set) = tt
-unended (stages.EntriesExpected set count entries) = tt
-unended (stages.ContextsExpected set entries contexts) = tt
+unended (stages.ProcessorsExpected version) = tt
+unended (stages.TasksExpected version set) = tt
+unended (stages.EntriesExpected version set count entries) = tt
+unended (stages.ContextsExpected version set entries contexts) = tt
 
-module _ (version : ℕ) where
-  -- a line leads to a prefix
-  pub leads_prefix : (expected : Progress) (text : List ℕ) (next : Progress) → IsPrefix expected
-      → Leads version expected text next → IsPrefix next
-  leads_prefix HeaderExpected text next prefix step = subst IsPrefix (sym step.0) tt
-  leads_prefix ProcessorsExpected text next prefix step = subst IsPrefix (sym step.1) (no_tasks step.0 step.2.range)
-  leads_prefix (TasksExpected set) text next prefix step = leads_tasks_prefix set text next prefix step
-  leads_prefix (EntriesExpected set count entries) text next prefix step =
-      leads_entries_prefix set count entries text next prefix step
-  leads_prefix (ContextsExpected set entries contexts) text next prefix step =
-      leads_contexts_prefix set entries contexts text next prefix step
-  leads_prefix (Ended set entries contexts) text next prefix step = absurd step
+-- a line leads to a prefix
+pub leads_prefix : (expected : Progress) (text : List ℕ) (next : Progress) → IsPrefix expected
+    → Leads expected text next → IsPrefix next
+leads_prefix HeaderExpected text next prefix step = subst IsPrefix (sym step.1) step.2.known
+leads_prefix (ProcessorsExpected version) text next prefix step =
+    subst IsPrefix (sym step.1) (no_tasks step.0 step.2.range, prefix)
+leads_prefix (TasksExpected version set) text next prefix step = leads_tasks_prefix version set text next prefix step
+leads_prefix (EntriesExpected version set count entries) text next prefix step =
+    leads_entries_prefix version set count entries text next prefix step
+leads_prefix (ContextsExpected version set entries contexts) text next prefix step =
+    leads_contexts_prefix version set entries contexts text next prefix step
+leads_prefix (Ended version set entries contexts) text next prefix step = absurd step
 
-  -- whose text has the line more
-  abbrev IsNextText : Progress → List ℕ → Progress → Type 0
-  IsNextText expected text next = text_so_far version next ≡ text_so_far version expected ++ line text
+-- whose text has the line more
+abbrev IsNextText : Progress → List ℕ → Progress → Type 0
+IsNextText expected text next = text_so_far next ≡ text_so_far expected ++ line text
 
-  next_text : (expected : Progress) (text : List ℕ) (next last : Progress) → next ≡ last
-      → IsNextText expected text last → IsNextText expected text next
-  next_text expected text next last same is = subst (IsNextText expected text) (sym same) is
+next_text : (expected : Progress) (text : List ℕ) (next last : Progress) → next ≡ last
+    → IsNextText expected text last → IsNextText expected text next
+next_text expected text next last same is = subst (IsNextText expected text) (sym same) is
 
-  pub leads_text : (expected : Progress) (text : List ℕ) (next : Progress) → IsPrefix expected
-      → Leads version expected text next → IsNextText expected text next
-  unfolding text_in
-  leads_text HeaderExpected text next prefix step =
-      next_text HeaderExpected text next ProcessorsExpected step.0 (ap line (sym step.1))
-  leads_text ProcessorsExpected text next prefix step =
-      next_text ProcessorsExpected text next (TasksExpected (record { processors = step.0; tasks = [] })) step.1
-      (append-nil (line (header version) ++ line (codes "processors " ++ canonical_number step.0))
-      ∙ ap (λ (last : List ℕ). line (header version) ++ line last) (sym step.2.is_text))
-  leads_text (TasksExpected set) text next prefix (inl (added, last, form, can)) =
-      next_text (TasksExpected set) text next (TasksExpected (with_task set added)) last
-      (more_lines task_line (line (header version) ++ processors_line set) set.tasks added (line text)
-      (sym form.is_text))
-  leads_text (TasksExpected set) text next prefix (inr (count, last, form)) =
-      next_text (TasksExpected set) text next (EntriesExpected set count []) last
-      (append-nil (tasks_text version set ++ line (codes "history " ++ canonical_number count))
-      ∙ ap (λ (end : List ℕ). tasks_text version set ++ line end) (sym form.is_text))
-  leads_text (EntriesExpected set count entries) text next prefix (inl (entry, last, room, form)) =
-      next_text (EntriesExpected set count entries) text next
-      (EntriesExpected set count (entries ++ entry ∷ [])) last
-      (more_lines (entry_line set) (tasks_text version set ++ line (codes "history " ++ canonical_number count))
-      entries entry (line text) (sym form.is_text))
-  leads_text (EntriesExpected set count entries) text next prefix (inr (last, full, form)) =
-      next_text (EntriesExpected set count entries) text next (ContextsExpected set entries []) last
-      (append-nil (history_text version set (length entries) entries
-      ++ line (codes "contexts " ++ canonical_number (length set.tasks))) ∙ ap (λ (end : List ℕ). history_text
-      version set (length entries) entries
-      ++ line end) (sym form) ∙ ap (λ (n : ℕ). history_text version set n entries ++ line text) full)
-  leads_text (ContextsExpected set entries contexts) text next prefix (inl (context, last, room, form)) =
-      next_text (ContextsExpected set entries contexts) text next
-      (ContextsExpected set entries (contexts ++ context ∷ [])) last
-      (more_lines (context_line set) (history_text version set (length entries) entries
-      ++ line (codes "contexts " ++ canonical_number (length set.tasks))) contexts context (line text) (sym
-      form.is_text))
-  leads_text (ContextsExpected set entries contexts) text next prefix (inr (last, full, form)) =
-      next_text (ContextsExpected set entries contexts) text next (Ended set entries contexts) last
-      (ap (λ (n : ℕ). history_text version set (length entries) entries
-      ++ line (codes "contexts " ++ canonical_number n) ++ flat_map (context_line set) contexts
-      ++ line (codes "end")) full ∙ ap (λ (end : List ℕ). contexts_text version set entries contexts
-      ++ line end) (sym form))
-  leads_text (Ended set entries contexts) text next prefix step = absurd step
+pub leads_text : (expected : Progress) (text : List ℕ) (next : Progress) → IsPrefix expected
+    → Leads expected text next → IsNextText expected text next
+unfolding schedule_text
+leads_text HeaderExpected text next prefix step =
+    next_text HeaderExpected text next (ProcessorsExpected step.0) step.1 (ap line (sym step.2.is_text))
+leads_text (ProcessorsExpected version) text next prefix step =
+    next_text (ProcessorsExpected version) text next
+    (TasksExpected version (record { processors = step.0; tasks = [] })) step.1
+    (append-nil (line (header version) ++ line (codes "processors " ++ canonical_number step.0))
+    ∙ ap (λ (last : List ℕ). line (header version) ++ line last) (sym step.2.is_text))
+leads_text (TasksExpected version set) text next prefix (inl (added, last, form, can)) =
+    next_text (TasksExpected version set) text next (TasksExpected version (with_task set added)) last
+    (more_lines task_line (line (header version) ++ processors_line set) set.tasks added (line text)
+    (sym form.is_text))
+leads_text (TasksExpected version set) text next prefix (inr (count, last, form)) =
+    next_text (TasksExpected version set) text next (EntriesExpected version set count []) last
+    (append-nil (tasks_text version set ++ line (codes "history " ++ canonical_number count))
+    ∙ ap (λ (end : List ℕ). tasks_text version set ++ line end) (sym form.is_text))
+leads_text (EntriesExpected version set count entries) text next prefix (inl (entry, last, room, form)) =
+    next_text (EntriesExpected version set count entries) text next
+    (EntriesExpected version set count (entries ++ entry ∷ [])) last
+    (more_lines (entry_line set) (tasks_text version set ++ line (codes "history " ++ canonical_number count))
+    entries entry (line text) (sym form.is_text))
+leads_text (EntriesExpected version set count entries) text next prefix (inr (last, full, form)) =
+    next_text (EntriesExpected version set count entries) text next (ContextsExpected version set entries []) last
+    (append-nil (history_text version set (length entries) entries
+    ++ line (codes "contexts " ++ canonical_number (length set.tasks))) ∙ ap (λ (end : List ℕ). history_text
+    version set (length entries) entries
+    ++ line end) (sym form) ∙ ap (λ (n : ℕ). history_text version set n entries ++ line text) full)
+leads_text (ContextsExpected version set entries contexts) text next prefix (inl (context, last, room, form)) =
+    next_text (ContextsExpected version set entries contexts) text next
+    (ContextsExpected version set entries (contexts ++ context ∷ [])) last
+    (more_lines (context_line set) (history_text version set (length entries) entries
+    ++ line (codes "contexts " ++ canonical_number (length set.tasks))) contexts context (line text) (sym
+    form.is_text))
+leads_text (ContextsExpected version set entries contexts) text next prefix (inr (last, full, form)) =
+    next_text (ContextsExpected version set entries contexts) text next (Ended version set entries contexts) last
+    (ap (λ (n : ℕ). history_text version set (length entries) entries
+    ++ line (codes "contexts " ++ canonical_number n) ++ flat_map (context_line set) contexts
+    ++ line (codes "end")) full ∙ ap (λ (end : List ℕ). contexts_text version set entries contexts
+    ++ line end) (sym form))
+leads_text (Ended version set entries contexts) text next prefix step = absurd step
 
-  -- and a line more
-  pub leads_lines : (expected : Progress) (text : List ℕ) (next : Progress) → Leads version expected text next
-      → lines_so_far next ≡ lines_so_far expected + 1
-  leads_lines HeaderExpected text next step = ap lines_so_far step.0
-  leads_lines ProcessorsExpected text next step = ap lines_so_far step.1
-  leads_lines (TasksExpected set) text next (inl (added, last, form, can)) =
-      ap lines_so_far last ∙ (let count = length-append set.tasks (added ∷ []) in omega arith)
-  leads_lines (TasksExpected set) text next (inr (count, last, form)) = ap lines_so_far last ∙ omega arith
-  leads_lines (EntriesExpected set count entries) text next (inl (entry, last, room, form)) =
-      ap lines_so_far last ∙ (let more = length-append entries (entry ∷ []) in omega arith)
-  leads_lines (EntriesExpected set count entries) text next (inr (last, full, form)) = ap lines_so_far last ∙ omega arith
-  leads_lines (ContextsExpected set entries contexts) text next (inl (context, last, room, form)) =
-      ap lines_so_far last ∙ (let more = length-append contexts (context ∷ []) in omega arith)
-  leads_lines (ContextsExpected set entries contexts) text next (inr (last, full, form)) =
-      ap lines_so_far last ∙ omega arith
-  leads_lines (Ended set entries contexts) text next step = absurd step
+-- and a line more
+pub leads_lines : (expected : Progress) (text : List ℕ) (next : Progress) → Leads expected text next
+    → lines_so_far next ≡ lines_so_far expected + 1
+leads_lines HeaderExpected text next step = ap lines_so_far step.1
+leads_lines (ProcessorsExpected version) text next step = ap lines_so_far step.1
+leads_lines (TasksExpected version set) text next (inl (added, last, form, can)) =
+    ap lines_so_far last ∙ (let count = length-append set.tasks (added ∷ []) in omega arith)
+leads_lines (TasksExpected version set) text next (inr (count, last, form)) = ap lines_so_far last ∙ omega arith
+leads_lines (EntriesExpected version set count entries) text next (inl (entry, last, room, form)) =
+    ap lines_so_far last ∙ (let more = length-append entries (entry ∷ []) in omega arith)
+leads_lines (EntriesExpected version set count entries) text next (inr (last, full, form)) =
+    ap lines_so_far last ∙ omega arith
+leads_lines (ContextsExpected version set entries contexts) text next (inl (context, last, room, form)) =
+    ap lines_so_far last ∙ (let more = length-append contexts (context ∷ []) in omega arith)
+leads_lines (ContextsExpected version set entries contexts) text next (inr (last, full, form)) =
+    ap lines_so_far last ∙ omega arith
+leads_lines (Ended version set entries contexts) text next step = absurd step
 
-  -- ---- what was read
+-- ---- what was read
 
-  -- the bytes before the rest are a prefix of a schedule
-  pub record IsReadTo (bytes rest : List ℕ) (number : ℕ) (expected : Progress) : Type 0 where
-    pub prefix : IsPrefix expected
-    pub order : bytes ≡ text_so_far version expected ++ rest
-    pub place : number ≡ lines_so_far expected + 1
-    pub bound : number + length rest ≤ length bytes + 1
+-- the bytes before the rest are a prefix of a schedule
+pub record IsReadTo (bytes rest : List ℕ) (number : ℕ) (expected : Progress) : Type 0 where
+  pub prefix : IsPrefix expected
+  pub order : bytes ≡ text_so_far expected ++ rest
+  pub place : number ≡ lines_so_far expected + 1
+  pub bound : number + length rest ≤ length bytes + 1
 
-  pub read_start : (bytes : List ℕ) → IsReadTo bytes bytes 1 HeaderExpected
-  read_start bytes = record { prefix = tt; order = refl; place = refl; bound = omega arith }
+pub read_start : (bytes : List ℕ) → IsReadTo bytes bytes 1 HeaderExpected
+read_start bytes = record { prefix = tt; order = refl; place = refl; bound = omega arith }
 
-  pub read_more : (bytes rest text after : List ℕ) (number : ℕ) (expected next : Progress)
-      → IsReadTo bytes rest number expected → rest ≡ text ++ 10 ∷ after → Leads version expected text next
-      → IsReadTo bytes after (number + 1) next
-  read_more bytes rest text after number expected next so_far cut step = record {
-    prefix = leads_prefix expected text next so_far.prefix step;
-    order =
-        so_far.order ∙ ap (λ (back : List ℕ). text_so_far version expected ++ back)
-        (cut ∙ sym (append_assoc text (10 ∷ []) after))
-        ∙ sym (append_assoc (text_so_far version expected) (line text) after)
-        ∙ ap (λ (prefix : List ℕ). prefix ++ after) (sym (leads_text expected text next so_far.prefix step));
-    place = (let place = so_far.place in let lines = leads_lines expected text next step in omega arith);
-    bound = (let bound = so_far.bound in omega (arith, ap length cut, length-append text (10 ∷ after)));
-  }
+pub read_more : (bytes rest text after : List ℕ) (number : ℕ) (expected next : Progress)
+    → IsReadTo bytes rest number expected → rest ≡ text ++ 10 ∷ after → Leads expected text next
+    → IsReadTo bytes after (number + 1) next
+read_more bytes rest text after number expected next so_far cut step = record {
+  prefix = leads_prefix expected text next so_far.prefix step;
+  order =
+      so_far.order ∙ ap (λ (back : List ℕ). text_so_far expected ++ back)
+      (cut ∙ sym (append_assoc text (10 ∷ []) after))
+      ∙ sym (append_assoc (text_so_far expected) (line text) after)
+      ∙ ap (λ (prefix : List ℕ). prefix ++ after) (sym (leads_text expected text next so_far.prefix step));
+  place = (let place = so_far.place in let lines = leads_lines expected text next step in omega arith);
+  bound = (let bound = so_far.bound in omega (arith, ap length cut, length-append text (10 ∷ after)));
+}
 
-  pub read_short : (bytes rest : List ℕ) (number : ℕ) (expected : Progress)
-      → IsReadTo bytes rest number expected → IsUnended expected → (Contains rest 10 → ⊥)
-      → IsRefusedIn version bytes number Short
-  read_short bytes rest number expected so_far unended none =
-      inl (
-        record {
-          expected = expected;
-          rest = rest;
-          prefix = so_far.prefix;
-          unended = unended;
-          order = so_far.order;
-          place = so_far.place;
-          short = none;
-        },
-        refl,
-      )
-
-  pub read_fault : (bytes rest text after : List ℕ) (number : ℕ) (expected : Progress) (kind : TextKind)
-      → IsReadTo bytes rest number expected → IsUnended expected → rest ≡ text ++ 10 ∷ after
-      → (Contains text 10 → ⊥) → IsLineFault version expected text kind → IsRefusedIn version bytes number kind
-  read_fault bytes rest text after number expected kind so_far unended cut one_line fault = inr (inl record {
-    expected = expected;
-    text = text;
-    after = after;
-    prefix = so_far.prefix;
-    unended = unended;
-    order = so_far.order ∙ ap (λ (back : List ℕ). text_so_far version expected ++ back)
-        (cut ∙ sym (append_assoc text (10 ∷ []) after));
-    place = so_far.place;
-    one_line = one_line;
-    fault = fault;
-  })
-
-  pub read_past : (bytes rest : List ℕ) (number : ℕ) (schedule : ScheduleData)
-      → IsReadTo bytes rest number (Ended schedule.set schedule.entries schedule.contexts) → rest ≢ []
-      → IsRefusedIn version bytes number AfterEnd
-  read_past bytes rest number schedule so_far more =
-      inr (inr (
-        record {
-          schedule = schedule;
-          rest = rest;
-          is_schedule = so_far.prefix;
-          order = so_far.order;
-          place = so_far.place;
-          more = more;
-        },
-        refl,
-      ))
-
-  pub read_end : (bytes rest : List ℕ) (number : ℕ) (schedule : ScheduleData)
-      → IsReadTo bytes rest number (Ended schedule.set schedule.entries schedule.contexts) → rest ≡ [] → bytes
-      ≡ text_in version schedule.set schedule.entries schedule.contexts
-  read_end bytes rest number schedule so_far none =
-      so_far.order ∙ ap (λ (back : List ℕ). text_in version schedule.set schedule.entries schedule.contexts
-      ++ back) none ∙ append-nil (text_in version schedule.set schedule.entries schedule.contexts)
-
-  -- what is answered after the last line
-  module _ (bytes after : List ℕ) (number : ℕ) (schedule : ScheduleData)
-      (so_far : IsReadTo bytes after number (Ended schedule.set schedule.entries schedule.contexts)) where
-    pub end_answer : (result : Result ScheduleData TextFault) → IfOk result (λ answer. (answer ≡ schedule) × (after ≡ []))
-        → IfErr result (λ fault. (fault.line ≡ number) × (fault.kind ≡ AfterEnd) × (after ≢ []))
-        → IsAnswerTo version bytes result
-    end_answer (Ok answer) read refused = (
-      subst (λ (s : ScheduleData). IsSchedule s × (bytes ≡ text_in version s.set s.entries s.contexts)) (sym read.0)
-          (so_far.prefix, read_end bytes after number schedule so_far read.1),
-      tt,
+pub read_short : (bytes rest : List ℕ) (number : ℕ) (expected : Progress)
+    → IsReadTo bytes rest number expected → IsUnended expected → (Contains rest 10 → ⊥)
+    → IsScheduleRefused bytes number Short
+read_short bytes rest number expected so_far unended none =
+    inl (
+      record {
+        expected = expected;
+        rest = rest;
+        prefix = so_far.prefix;
+        unended = unended;
+        order = so_far.order;
+        place = so_far.place;
+        short = none;
+      },
+      refl,
     )
-    end_answer (Err fault) read refused =
-        (tt, inr (rw (refused.0, refused.1) (read_past bytes after number schedule so_far refused.2)))
+
+pub read_fault : (bytes rest text after : List ℕ) (number : ℕ) (expected : Progress) (kind : TextKind)
+    → IsReadTo bytes rest number expected → IsUnended expected → rest ≡ text ++ 10 ∷ after
+    → (Contains text 10 → ⊥) → IsLineFault expected text kind → IsScheduleRefused bytes number kind
+read_fault bytes rest text after number expected kind so_far unended cut one_line fault = inr (inl record {
+  expected = expected;
+  text = text;
+  after = after;
+  prefix = so_far.prefix;
+  unended = unended;
+  order = so_far.order ∙ ap (λ (back : List ℕ). text_so_far expected ++ back)
+      (cut ∙ sym (append_assoc text (10 ∷ []) after));
+  place = so_far.place;
+  one_line = one_line;
+  fault = fault;
+})
+
+pub read_past : (bytes rest : List ℕ) (number : ℕ) (schedule : ScheduleData)
+    → IsReadTo bytes rest number (whole schedule) → rest ≢ [] → IsScheduleRefused bytes number AfterEnd
+read_past bytes rest number schedule so_far more =
+    inr (inr (
+      record {
+        schedule = schedule;
+        rest = rest;
+        is_schedule = so_far.prefix;
+        order = so_far.order;
+        place = so_far.place;
+        more = more;
+      },
+      refl,
+    ))
+
+pub read_end : (bytes rest : List ℕ) (number : ℕ) (schedule : ScheduleData)
+    → IsReadTo bytes rest number (whole schedule) → rest ≡ [] → bytes ≡ text_of_schedule schedule
+read_end bytes rest number schedule so_far none =
+    so_far.order ∙ ap (λ (back : List ℕ). text_of_schedule schedule ++ back) none
+    ∙ append-nil (text_of_schedule schedule)
+
+-- what is answered after the last line
+module _ (bytes after : List ℕ) (number : ℕ) (schedule : ScheduleData)
+    (so_far : IsReadTo bytes after number (whole schedule)) where
+  pub end_answer : (result : Result ScheduleData TextFault) → IfOk result (λ answer. (answer ≡ schedule) × (after ≡ []))
+      → IfErr result (λ fault. (fault.line ≡ number) × (fault.kind ≡ AfterEnd) × (after ≢ []))
+      → IsAnswerTo bytes result
+  end_answer (Ok answer) read refused = (
+    subst (λ (s : ScheduleData). IsSchedule s × (bytes ≡ text_of_schedule s)) (sym read.0)
+        (so_far.prefix, read_end bytes after number schedule so_far read.1),
+    tt,
+  )
+  end_answer (Err fault) read refused =
+      (tt, inr (rw (refused.0, refused.1) (read_past bytes after number schedule so_far refused.2)))

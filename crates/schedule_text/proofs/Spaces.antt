@@ -1,6 +1,6 @@
 -- What holds of each byte from ',' on holds of each byte of the fields of a line, where it holds of the names: so the
 -- fields have no space and no line feed.
-use Rattle.std.proofs.Common.{◌≡◌, ◌≢◌, ℕ, ◌<◌, ◌≤◌, ◌^◌, Bool, true, false, ◌&&◌, nat_eq, nat_le, IsTrue, leb-true, inl, inr, List, [], ◌∷◌, length, map, All, Contains, Option, Some, None, IfSome, refl, sym, ◌∙◌, subst, arith, ne_eqb, eq-eqb}
+use Rattle.std.proofs.Common.{◌≡◌, ◌≢◌, ℕ, ◌<◌, ◌≤◌, ◌^◌, Bool, true, false, ◌&&◌, nat_eq, nat_le, IsTrue, leb-true, inl, inr, List, [], ◌∷◌, ◌++◌, length, map, All, Contains, Option, Some, None, IfSome, refl, sym, ◌∙◌, subst, arith, ne_eqb, eq-eqb}
 use Rattle.std.specs.Prelude.{codes}
 use Rattle.std.specs.List.{join_with_byte}
 use Rattle.std.specs.Str.Parse.{AllDigits}
@@ -18,21 +18,26 @@ use Rattle.task_set.specs.TaskSet.{TaskData, SetData, IsTaskSet}
 use Rattle.task_set.specs.Name.{IsName, continues_name}
 use Rattle.task_set.specs.declared.context.Context.{Context}
 use Rattle.task_set.specs.declared.event.Event.{Event}
-use Rattle.task_set.specs.declared.event.Event.TheVariants.{Arrive, Depart, Tick}
+use Rattle.task_set.specs.declared.event.Event.TheVariants.{Arrive, Depart, Tick, Affinity, Offline, Online}
 use Rattle.scheduler_reply.specs.declared.reply.Reply.{Reply}
-use Rattle.scheduler_reply.specs.declared.reply.Reply.TheVariants.{Placed, Displaced, Waits, Freed}
+use Rattle.scheduler_reply.specs.declared.reply.Reply.TheVariants.{Placed, Displaced, Waits, Freed, Remasked, Off, On}
+use Rattle.scheduler_reply.specs.declared.reply.Came.{Came}
+use Rattle.scheduler_reply.specs.declared.reply.Came.TheVariants as came
+use Rattle.scheduler_reply.specs.declared.reply.Gone.{Gone}
+use Rattle.scheduler_reply.specs.Reply.{came_tasks, came_chains, came_sets}
+use Rattle.std.specs.List.{cons_option}
 use Rattle.text_fields.specs.EventText.{name_of, IsAboutSet, event_fields}
-use Rattle.schedule_text.specs.ScheduleText.{chain_text, set_text, somebody_text, number_text, IsReplyOf}
-use Rattle.schedule_text.specs.Schedule.{IsProcessorList, IsOfProcessors, HasProcessors, IsContextOf}
+use Rattle.schedule_text.specs.ScheduleText.{chain_text, set_text, somebody_text, number_text, AreTasksOf, IsReplyOf}
+use Rattle.schedule_text.specs.Schedule.{IsProcessorList, IsOfProcessors, AreOfProcessors, HasProcessors, IsContextOf}
 use Rattle.task_set.specs.Event.{HasUnits}
 use Rattle.schedule_text.specs.LineForms.{IsField, HasFields}
-use Rattle.schedule_text.specs.LineFields.{reply_fields, context_fields}
+use Rattle.schedule_text.specs.LineFields.{came_fields, gone_fields, reply_fields, context_fields}
 use Rattle.text_fields.specs.LineText.{task_fields}
 use Rattle.text_fields.proofs.Names.{name_bytes}
 use Rattle.text_fields.proofs.Words.{and_left, and_right}
 use Rattle.text_fields.proofs.NamedTasks.{name_at, no_task}
-use Rattle.schedule_text.proofs.Fields.{set_list}
-use Rattle.schedule_text.proofs.ReplyParts.{the_task, the_somebody, the_chain, the_set}
+use Rattle.schedule_text.proofs.Fields.{set_list, mask_processors}
+use Rattle.schedule_text.proofs.ReplyParts.{the_task, the_somebody, the_chain, the_set, first_task, other_tasks, first_somebody, after_somebody, first_processors, other_processors}
 
 -- the digits are such bytes
 digits_from : (text : List ℕ) → AllDigits 10 text → All (λ (b : ℕ). 44 ≤ b) text
@@ -167,47 +172,94 @@ module _ (P : ℕ → Type 0) (high : (b : ℕ) → 44 ≤ b → P b) where
   called_bytes : (set : SetData) (t : ℕ) → EachName P set → t < length set.tasks → All P (name_of set t)
   called_bytes set t names within = subst (λ (t : List ℕ). All P t) (sym (name_at set t within)) (names t no_task within)
 
-  pub event_bytes : (set : SetData) (event : Event) → EachName P set → IsAboutSet set event → HasUnits event
-      → EachByte P (event_fields set event)
-  event_bytes set (Arrive t) names about units =
+  pub event_bytes : (set : SetData) (event : Event) → set.processors ≤ 64 → EachName P set → IsAboutSet set event
+      → HasUnits event → EachByte P (event_fields set event)
+  event_bytes set (Arrive t) few names about units =
       worded (codes "arrive") (name_of set t ∷ []) refl
       (more (name_of set t) [] (called_bytes set t names about) none)
-  event_bytes set (Depart t) names about units =
+  event_bytes set (Depart t) few names about units =
       worded (codes "depart") (name_of set t ∷ []) refl
       (more (name_of set t) [] (called_bytes set t names about) none)
-  event_bytes set (Tick n) names about units =
-      (let few : n ≤ 1000000 = units.1 in word_number_bytes (codes "tick") n refl (omega arith))
+  event_bytes set (Tick n) few names about units =
+      (let most : n ≤ 1000000 = units.1 in word_number_bytes (codes "tick") n refl (omega arith))
+  event_bytes set (Affinity t mask) few names about units =
+      worded (codes "affinity") (name_of set t ∷ canonical_list mask ∷ []) refl
+      (more (name_of set t) (canonical_list mask ∷ []) (called_bytes set t names about.0)
+      (more (canonical_list mask) []
+      (mask_bytes mask about.1.some (mask_processors set.processors mask few about.1)) none))
+  event_bytes set (Offline p) few names about units = word_number_bytes (codes "offline") p refl (omega (arith, few, about))
+  event_bytes set (Online p) few names about units = word_number_bytes (codes "online") p refl (omega (arith, few, about))
 
   somebody_bytes : (set : SetData) (entered : Option ℕ) → EachName P set
       → IfSome entered (λ t. t < length set.tasks) → All P (somebody_text set entered)
   somebody_bytes set None names about = dash_bytes
   somebody_bytes set (Some t) names about = called_bytes set t names about
 
-  -- six fields with three words
-  six_bytes : (a b c d e f : List ℕ) → is_high a ≡ true → is_high c ≡ true → is_high e ≡ true → All P b
-      → All P d → All P f → EachByte P (a ∷ b ∷ c ∷ d ∷ e ∷ f ∷ [])
-  six_bytes a b c d e f one two three first second third =
-      worded a (b ∷ c ∷ d ∷ e ∷ f ∷ []) one
-      (more b (c ∷ d ∷ e ∷ f ∷ []) first
-      (worded c (d ∷ e ∷ f ∷ []) two (more d (e ∷ f ∷ []) second
-      (worded e (f ∷ []) three (more f [] third none)))))
+  came_bytes : (set : SetData) (arrival : Came) → EachName P set → AreTasksOf set (came_tasks arrival)
+      → AreOfProcessors (came_chains arrival) (came_sets arrival) → EachByte P (came_fields set arrival)
+  came_bytes set (came.Placed chain) names about has =
+      worded (codes "placed") (chain_text chain ∷ []) refl
+      (more (chain_text chain) [] (chain_bytes chain (the_chain chain [] has)) none)
+  came_bytes set (came.Displaced chain out reach) names about has =
+      worded (codes "displaced")
+      (chain_text chain ∷ codes "out" ∷ name_of set out ∷ codes "reach" ∷ set_text reach ∷ []) refl
+      (more (chain_text chain) (codes "out" ∷ name_of set out ∷ codes "reach" ∷ set_text reach ∷ [])
+      (chain_bytes chain (the_chain chain (reach ∷ []) has))
+      (worded (codes "out") (name_of set out ∷ codes "reach" ∷ set_text reach ∷ []) refl
+      (more (name_of set out) (codes "reach" ∷ set_text reach ∷ []) (called_bytes set out names (the_task set out about))
+      (worded (codes "reach") (set_text reach ∷ []) refl
+      (more (set_text reach) [] (set_bytes reach (the_set (chain ∷ []) reach has)) none)))))
+  came_bytes set (came.Waits reach) names about has =
+      worded (codes "waits") (set_text reach ∷ []) refl
+      (more (set_text reach) [] (set_bytes reach (the_set [] reach has)) none)
+
+  gone_bytes : (set : SetData) (gone : Gone) → EachName P set → AreTasksOf set (cons_option gone.entered [])
+      → AreOfProcessors (gone.chain ∷ []) (gone.back ∷ []) → EachByte P (gone_fields set gone)
+  gone_bytes set gone names about has =
+      let entered = somebody_text set gone.entered in
+      let back = set_text gone.back in
+      more (chain_text gone.chain) (codes "enters" ∷ entered ∷ codes "back" ∷ back ∷ [])
+      (chain_bytes gone.chain (the_chain gone.chain (gone.back ∷ []) has))
+      (worded (codes "enters") (entered ∷ codes "back" ∷ back ∷ []) refl
+      (more entered (codes "back" ∷ back ∷ [])
+      (somebody_bytes set gone.entered names (the_somebody set gone.entered about))
+      (worded (codes "back") (back ∷ []) refl
+      (more back [] (set_bytes gone.back (the_set (gone.chain ∷ []) gone.back has)) none))))
 
   pub reply_bytes : (set : SetData) (reply : Reply) → EachName P set → IsReplyOf set reply → HasProcessors reply
       → EachByte P (reply_fields set reply)
-  reply_bytes set (Placed chain) names about has =
-      worded (codes "placed") (chain_text chain ∷ []) refl
-      (more (chain_text chain) [] (chain_bytes chain (the_chain chain [] has)) none)
+  reply_bytes set (Placed chain) names about has = came_bytes set (came.Placed chain) names about has
   reply_bytes set (Displaced chain out reach) names about has =
-      six_bytes (codes "displaced") (chain_text chain) (codes "out") (name_of set out) (codes "reach") (set_text reach)
-      refl refl refl (chain_bytes chain (the_chain chain (reach ∷ []) has))
-      (called_bytes set out names (the_task set out about)) (set_bytes reach (the_set (chain ∷ []) reach has))
-  reply_bytes set (Waits reach) names about has =
-      worded (codes "waits") (set_text reach ∷ []) refl
-      (more (set_text reach) [] (set_bytes reach (the_set [] reach has)) none)
+      came_bytes set (came.Displaced chain out reach) names about has
+  reply_bytes set (Waits reach) names about has = came_bytes set (came.Waits reach) names about has
   reply_bytes set (Freed entered chain back) names about has =
-      six_bytes (codes "freed") (chain_text chain) (codes "enters") (somebody_text set entered) (codes "back")
-      (set_text back) refl refl refl (chain_bytes chain (the_chain chain (back ∷ []) has))
-      (somebody_bytes set entered names (the_somebody set entered about)) (set_bytes back (the_set (chain ∷ []) back has))
+      let gone : Gone = record { entered = entered; chain = chain; back = back } in
+      worded (codes "freed") (gone_fields set gone) refl (gone_bytes set gone names about has)
+  reply_bytes set (Remasked None arrival) names about has =
+      worded (codes "remasked") (codes "left" ∷ codes "then" ∷ came_fields set arrival) refl
+      (worded (codes "left") (codes "then" ∷ came_fields set arrival) refl
+      (worded (codes "then") (came_fields set arrival) refl (came_bytes set arrival names about has)))
+  reply_bytes set (Remasked (Some gone) arrival) names about has =
+      let after = codes "then" ∷ came_fields set arrival in
+      worded (codes "remasked") (codes "freed" ∷ (gone_fields set gone ++ after)) refl
+      (worded (codes "freed") (gone_fields set gone ++ after) refl
+      (All-append (λ (t : List ℕ). All P t) (gone_fields set gone) after
+      (gone_bytes set gone names (first_somebody set gone.entered (came_tasks arrival) about)
+      (first_processors gone.chain gone.back (came_chains arrival) (came_sets arrival) has))
+      (worded (codes "then") (came_fields set arrival) refl
+      (came_bytes set arrival names (after_somebody set gone.entered (came_tasks arrival) about)
+      (other_processors gone.chain gone.back (came_chains arrival) (came_sets arrival) has)))))
+  reply_bytes set (Off None) names about has =
+      worded (codes "off") (codes "-" ∷ []) refl (more (codes "-") [] dash_bytes none)
+  reply_bytes set (Off (Some moved)) names about has =
+      let after = codes "then" ∷ came_fields set moved.came in
+      worded (codes "off") (name_of set moved.task ∷ after) refl
+      (more (name_of set moved.task) after
+      (called_bytes set moved.task names (first_task set moved.task (came_tasks moved.came) about))
+      (worded (codes "then") (came_fields set moved.came) refl
+      (came_bytes set moved.came names (other_tasks set moved.task (came_tasks moved.came) about) has)))
+  reply_bytes set (On parts) names about has =
+      worded (codes "on") (gone_fields set parts) refl (gone_bytes set parts names about has)
   reply_bytes set _ names about has = worded _ [] refl none
 
   last_bytes : (last : Option ℕ) → IfSome last (λ p. p < 64) → All P (number_text last)

@@ -1,5 +1,5 @@
 -- What the writer appended, piece by piece.
-use Rattle.std.proofs.Common.{◌≡◌, ℕ, zero, suc, ◌+◌, ◌<◌, ◌≤◌, List, [], ◌∷◌, ◌++◌, length, map, take, Option, Some, Result, Ok, Err, OnOk, refl, sym, ap, ◌∙◌, append_assoc, arith}
+use Rattle.std.proofs.Common.{◌≡◌, ℕ, zero, suc, ◌+◌, ◌<◌, ◌≤◌, List, [], ◌∷◌, ◌++◌, length, map, take, Option, Some, None, Result, Ok, Err, OnOk, refl, sym, ap, ◌∙◌, append_assoc, arith}
 use Rattle.std.specs.Prelude.{codes, slice_get}
 use Rattle.std.specs.List.{flat_map, join_with_byte}
 use Rattle.std.proofs.lemmas.List.{map-append, take_more}
@@ -7,11 +7,15 @@ use Rattle.std.proofs.lemmas.Option.{get_or_from_slice_get}
 use Rattle.affinity_mask.specs.Number.{canonical_number}
 use Rattle.task_set.specs.TaskSet.{SetData}
 use Rattle.task_set.specs.declared.context.Context.{Context}
-use Rattle.scheduler_reply.specs.declared.reply.Reply.TheVariants.{Displaced, Freed}
+use Rattle.scheduler_reply.specs.declared.reply.Reply.TheVariants.{Remasked, Off}
+use Rattle.scheduler_reply.specs.declared.reply.Came.{Came}
+use Rattle.scheduler_reply.specs.declared.reply.Came.TheVariants as came
+use Rattle.scheduler_reply.specs.declared.reply.Gone.{Gone}
+use Rattle.scheduler_reply.specs.declared.reply.Moved.{Moved}
 use Rattle.scheduler_reply.specs.declared.reply.Entry.{Entry}
 use Rattle.text_fields.specs.LineText.{line, processors_line, task_line}
 use Rattle.text_fields.specs.EventText.{name_of, event_text}
-use Rattle.schedule_text.specs.ScheduleText.{chain_text, set_text, somebody_text, number_text, reply_text, entry_line, context_line, header, text_in}
+use Rattle.schedule_text.specs.ScheduleText.{chain_text, set_text, somebody_text, number_text, came_text, gone_text, reply_text, entry_line, context_line, header, schedule_text}
 
 -- pieces that are appended one after another
 pieces6 : (old a b c d e f : List ℕ) → old ++ a ++ b ++ c ++ d ++ e ++ f ≡ old ++ (a ++ b ++ c ++ d ++ e ++ f)
@@ -58,25 +62,67 @@ pub displaced_written : {E : Type 0} (set : SetData) (chain : List ℕ) (out rea
     (t0 t1 t2 t3 t4 t5 t6 : List ℕ) (r : Result (Unit {0}) E) → t1 ≡ t0 ++ codes "displaced " → t2 ≡ t1
     ++ chain_text chain → t3 ≡ t2 ++ codes " out " → t4 ≡ t3 ++ name_of set out
     → t5 ≡ t4 ++ codes " reach " → OnOk r (t6 ≡ t5 ++ set_text reach)
-    → OnOk r (t6 ≡ t0 ++ reply_text set (Displaced chain out reach))
-unfolding reply_text
+    → OnOk r (t6 ≡ t0 ++ came_text set (came.Displaced chain out reach))
+unfolding came_text
 displaced_written set chain out reach t0 t1 t2 t3 t4 t5 t6 (Ok x) e1 e2 e3 e4 e5 e6 =
     rw (e6, e5, e4, e3, e2, e1)
     (pieces6 t0 (codes "displaced ") (chain_text chain) (codes " out ") (name_of set out) (codes " reach ")
     (set_text reach))
 displaced_written set chain out reach t0 t1 t2 t3 t4 t5 t6 (Err x) e1 e2 e3 e4 e5 e6 = tt
 
-pub freed_written : {E : Type 0} (set : SetData) (entered : Option ℕ) (chain : List ℕ) (back : ℕ)
-    (t0 t1 t2 t3 t4 t5 t6 : List ℕ) (r : Result (Unit {0}) E) → t1 ≡ t0 ++ codes "freed " → t2 ≡ t1
+gone_pieces : (old a b c d e f : List ℕ) → old ++ a ++ b ++ c ++ d ++ e ++ f ≡ old ++ (a ++ (b ++ c ++ d ++ e ++ f))
+gone_pieces old a b c d e f = simp append_assoc
+
+pub gone_written : {E : Type 0} (set : SetData) (word : List ℕ) (entered : Option ℕ) (chain : List ℕ) (back : ℕ)
+    (t0 t1 t2 t3 t4 t5 t6 : List ℕ) (r : Result (Unit {0}) E) → t1 ≡ t0 ++ word → t2 ≡ t1
     ++ chain_text chain → t3 ≡ t2 ++ codes " enters " → t4 ≡ t3 ++ somebody_text set entered
     → t5 ≡ t4 ++ codes " back " → OnOk r (t6 ≡ t5 ++ set_text back)
-    → OnOk r (t6 ≡ t0 ++ reply_text set (Freed entered chain back))
-unfolding reply_text
-freed_written set entered chain back t0 t1 t2 t3 t4 t5 t6 (Ok x) e1 e2 e3 e4 e5 e6 =
+    → OnOk r (t6 ≡ t0 ++ (word ++ gone_text set (record { entered = entered; chain = chain; back = back })))
+unfolding gone_text
+gone_written set word entered chain back t0 t1 t2 t3 t4 t5 t6 (Ok x) e1 e2 e3 e4 e5 e6 =
     rw (e6, e5, e4, e3, e2, e1)
-    (pieces6 t0 (codes "freed ") (chain_text chain) (codes " enters ") (somebody_text set entered)
-    (codes " back ") (set_text back))
-freed_written set entered chain back t0 t1 t2 t3 t4 t5 t6 (Err x) e1 e2 e3 e4 e5 e6 = tt
+    (gone_pieces t0 word (chain_text chain) (codes " enters ") (somebody_text set entered) (codes " back ")
+    (set_text back))
+gone_written set word entered chain back t0 t1 t2 t3 t4 t5 t6 (Err x) e1 e2 e3 e4 e5 e6 = tt
+
+pieces3 : (old a b c d : List ℕ) → old ++ (a ++ b) ++ (c ++ d) ≡ old ++ (a ++ b ++ c ++ d)
+pieces3 old a b c d = simp append_assoc
+
+pub linked_written : {E : Type 0} (set : SetData) (gone : Option Gone) (some : Gone) (arrival : Came) (t0 t1 t2 : List ℕ)
+    (r : Result (Unit {0}) E) → gone ≡ Some some → t1 ≡ t0 ++ (codes "remasked freed " ++ gone_text set some)
+    → OnOk r (t2 ≡ t1 ++ (codes " then " ++ came_text set arrival))
+    → OnOk r (t2 ≡ t0 ++ reply_text set (Remasked gone arrival))
+unfolding reply_text
+linked_written set gone some arrival t0 t1 t2 (Ok x) is e1 e2 =
+    rw (is, e2, e1)
+    (pieces3 t0 (codes "remasked freed ") (gone_text set some) (codes " then ") (came_text set arrival))
+linked_written set gone some arrival t0 t1 t2 (Err x) is e1 e2 = tt
+
+pub waiting_written : {E : Type 0} (set : SetData) (gone : Option Gone) (arrival : Came) (t0 t1 : List ℕ)
+    (r : Result (Unit {0}) E) → gone ≡ None
+    → OnOk r (t1 ≡ t0 ++ (codes "remasked left then " ++ came_text set arrival))
+    → OnOk r (t1 ≡ t0 ++ reply_text set (Remasked gone arrival))
+unfolding reply_text
+waiting_written set gone arrival t0 t1 (Ok x) is e1 = rw (is, e1) refl
+waiting_written set gone arrival t0 t1 (Err x) is e1 = tt
+
+pieces4 : (old a b c d : List ℕ) → old ++ a ++ b ++ (c ++ d) ≡ old ++ (a ++ b ++ c ++ d)
+pieces4 old a b c d = simp append_assoc
+
+pub moved_written : {E : Type 0} (set : SetData) (moved : Option Moved) (some : Moved) (t0 t1 t2 t3 : List ℕ)
+    (r : Result (Unit {0}) E) → moved ≡ Some some → t1 ≡ t0 ++ codes "off " → t2 ≡ t1 ++ name_of set some.task
+    → OnOk r (t3 ≡ t2 ++ (codes " then " ++ came_text set some.came))
+    → OnOk r (t3 ≡ t0 ++ reply_text set (Off moved))
+unfolding reply_text
+moved_written set moved some t0 t1 t2 t3 (Ok x) is e1 e2 e3 =
+    rw (is, e3, e2, e1) (pieces4 t0 (codes "off ") (name_of set some.task) (codes " then ") (came_text set some.came))
+moved_written set moved some t0 t1 t2 t3 (Err x) is e1 e2 e3 = tt
+
+pub unmoved_written : {E : Type 0} (set : SetData) (moved : Option Moved) (t0 t1 : List ℕ) (r : Result (Unit {0}) E)
+    → moved ≡ None → OnOk r (t1 ≡ t0 ++ codes "off -") → OnOk r (t1 ≡ t0 ++ reply_text set (Off moved))
+unfolding reply_text
+unmoved_written set moved t0 t1 (Ok x) is e1 = rw (is, e1) refl
+unmoved_written set moved t0 t1 (Err x) is e1 = tt
 
 -- ---- lines
 
@@ -115,7 +161,7 @@ pub schedule_written : (version : ℕ) (set : SetData) (entries : List Entry) (c
     → t5 ≡ t4 ++ flat_map (entry_line set) entries
     → t6 ≡ t5 ++ line (codes "contexts " ++ canonical_number (length contexts))
     → t7 ≡ t6 ++ flat_map (context_line set) contexts → t8 ≡ t7 ++ line (codes "end") → t8
-    ≡ text_in version set entries contexts
-unfolding text_in
+    ≡ schedule_text version set entries contexts
+unfolding schedule_text
 schedule_written version set entries contexts t0 t1 t2 t3 t4 t5 t6 t7 t8 e0 e1 e2 e3 e4 e5 e6 e7 e8 =
     rw (e8, e7, e6, e5, e4, e3, e2, e1, e0) refl

@@ -4,7 +4,7 @@ use Rattle.std.specs.List.{slice_split}
 use Rattle.affinity_mask.specs.ProcSet.{empty}
 use Rattle.affinity_mask.specs.Number.{canonical_number}
 use Rattle.affinity_mask.specs.ListText.{canonical_list}
-use Rattle.task_set.specs.TaskSet.{SetData}
+use Rattle.task_set.specs.TaskSet.{SetData, IsMask}
 use Rattle.schedule_text.specs.ScheduleText.{chain_text, set_text, somebody_text, number_text}
 use Rattle.schedule_text.specs.Schedule.{IsProcessorList, IsOfProcessors}
 
@@ -25,11 +25,21 @@ pub record IsNumberField (least most : ℕ) (field : List ℕ) (n : ℕ) : Type 
   pub range : (least ≤ n) × (n ≤ most)
   pub is_text : field ≡ canonical_number n
 
+-- a processor of m, by its canonical number
+pub record IsProcessorField (m : ℕ) (field : List ℕ) (p : ℕ) : Type 0 where
+  pub below : p < m
+  pub is_text : field ≡ canonical_number p
+
 -- the canonical list of some processors
 pub record IsListField (field : List ℕ) (X : ℕ) : Type 0 where
   pub some : X ≢ empty
   pub processors : IsOfProcessors X
   pub is_text : field ≡ canonical_list X
+
+-- the canonical list of a mask on m processors
+pub record IsMaskField (m : ℕ) (field : List ℕ) (mask : ℕ) : Type 0 where
+  pub valid : IsMask m mask
+  pub is_text : field ≡ canonical_list mask
 
 -- a set of processors, of which there may be none
 pub record IsSetField (field : List ℕ) (X : ℕ) : Type 0 where

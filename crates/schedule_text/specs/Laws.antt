@@ -7,7 +7,8 @@ use Rattle.schedule_text.specs.declared.fault.TextKind.{TextKind}
 
 -- the text of a schedule
 abbrev pub text_of_schedule : ScheduleData → List ℕ
-text_of_schedule schedule = schedule_text schedule.set schedule.entries schedule.contexts
+text_of_schedule schedule =
+    schedule_text schedule.version schedule.set schedule.entries schedule.contexts
 
 -- two schedules with one text are equal
 abbrev pub TextHasOneSchedule : Type 0

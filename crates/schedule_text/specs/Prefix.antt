@@ -6,18 +6,22 @@ use Rattle.task_set.specs.TaskSet.{SetData}
 use Rattle.task_set.specs.declared.context.Context.{Context}
 use Rattle.scheduler_reply.specs.declared.reply.Entry.{Entry}
 use Rattle.text_fields.specs.LineText.{line, processors_line, task_line}
-use Rattle.schedule_text.specs.ScheduleText.{entry_line, context_line, header, text_in}
-use Rattle.schedule_text.specs.Schedule.{IsScheduled, AreInOrder, IsScheduleSet, IsSchedule}
+use Rattle.schedule_text.specs.ScheduleText.{IsVersion, entry_line, context_line, header, schedule_text}
+use Rattle.schedule_text.specs.Schedule.{ScheduleData, IsScheduled, AreInOrder, IsScheduleSet, IsSchedule}
 
--- what is expected after a prefix of a schedule: the header, the processors, tasks or the history, entries or the number of
--- contexts, contexts or the end, or nothing
+-- what is expected after a prefix of a schedule: the header, which says the version, and in a version the processors,
+-- tasks or the history, entries or the number of contexts, contexts or the end, or nothing
 pub data Progress : Type 0 where
   HeaderExpected : Progress
-  ProcessorsExpected : Progress
-  TasksExpected : SetData → Progress
-  EntriesExpected : SetData → ℕ → List Entry → Progress
-  ContextsExpected : SetData → List Entry → List Context → Progress
-  Ended : SetData → List Entry → List Context → Progress
+  ProcessorsExpected : ℕ → Progress
+  TasksExpected : ℕ → SetData → Progress
+  EntriesExpected : ℕ → SetData → ℕ → List Entry → Progress
+  ContextsExpected : ℕ → SetData → List Entry → List Context → Progress
+  Ended : ℕ → SetData → List Entry → List Context → Progress
+
+-- nothing after a whole schedule
+abbrev pub whole : ScheduleData → Progress
+whole schedule = Ended schedule.version schedule.set schedule.entries schedule.contexts
 
 -- the text of tasks
 abbrev pub tasks_text : ℕ → SetData → List ℕ
@@ -38,43 +42,46 @@ contexts_text version set entries contexts =
     ++ flat_map (context_line set) contexts
 
 -- the text of a prefix
-abbrev pub text_so_far : ℕ → Progress → List ℕ
-text_so_far version HeaderExpected = []
-text_so_far version ProcessorsExpected = line (header version)
-text_so_far version (TasksExpected set) = tasks_text version set
-text_so_far version (EntriesExpected set count entries) = history_text version set count entries
-text_so_far version (ContextsExpected set entries contexts) =
+abbrev pub text_so_far : Progress → List ℕ
+text_so_far HeaderExpected = []
+text_so_far (ProcessorsExpected version) = line (header version)
+text_so_far (TasksExpected version set) = tasks_text version set
+text_so_far (EntriesExpected version set count entries) = history_text version set count entries
+text_so_far (ContextsExpected version set entries contexts) =
     contexts_text version set entries contexts
-text_so_far version (Ended set entries contexts) = text_in version set entries contexts
+text_so_far (Ended version set entries contexts) = schedule_text version set entries contexts
 
 -- how many lines it has
 abbrev pub lines_so_far : Progress → ℕ
 lines_so_far HeaderExpected = 0
-lines_so_far ProcessorsExpected = 1
-lines_so_far (TasksExpected set) = 2 + length set.tasks
-lines_so_far (EntriesExpected set count entries) = 3 + length set.tasks + length entries
-lines_so_far (ContextsExpected set entries contexts) =
+lines_so_far (ProcessorsExpected version) = 1
+lines_so_far (TasksExpected version set) = 2 + length set.tasks
+lines_so_far (EntriesExpected version set count entries) = 3 + length set.tasks + length entries
+lines_so_far (ContextsExpected version set entries contexts) =
     4 + length set.tasks + length entries + length contexts
-lines_so_far (Ended set entries contexts) = 5 + length set.tasks + length entries + length contexts
+lines_so_far (Ended version set entries contexts) =
+    5 + length set.tasks + length entries + length contexts
 
 -- it is a prefix of some schedule
 abbrev pub IsPrefix : Progress → Type 0
 IsPrefix HeaderExpected = Unit {0}
-IsPrefix ProcessorsExpected = Unit {0}
-IsPrefix (TasksExpected set) = IsScheduleSet set
-IsPrefix (EntriesExpected set count entries) =
-    IsScheduleSet set × (count ≤ 20000) × (length entries ≤ count) × All (IsScheduled set) entries
-IsPrefix (ContextsExpected set entries contexts) =
-    IsScheduleSet set × (length entries ≤ 20000) × All (IsScheduled set) entries
-    × (length contexts ≤ length set.tasks) × AreInOrder contexts
-IsPrefix (Ended set entries contexts) =
-    IsSchedule (record { set = set; entries = entries; contexts = contexts })
+IsPrefix (ProcessorsExpected version) = IsVersion version
+IsPrefix (TasksExpected version set) = IsScheduleSet set × IsVersion version
+IsPrefix (EntriesExpected version set count entries) =
+    IsScheduleSet set × IsVersion version × (count ≤ 20000) × (length entries ≤ count)
+    × All (IsScheduled version set) entries
+IsPrefix (ContextsExpected version set entries contexts) =
+    IsScheduleSet set × IsVersion version × (length entries ≤ 20000)
+    × All (IsScheduled version set) entries × (length contexts ≤ length set.tasks)
+    × AreInOrder contexts
+IsPrefix (Ended version set entries contexts) =
+    IsSchedule (record { version = version; set = set; entries = entries; contexts = contexts })
 
 -- a line is still expected
 abbrev pub IsUnended : Progress → Type 0
 IsUnended HeaderExpected = Unit {0}
-IsUnended ProcessorsExpected = Unit {0}
-IsUnended (TasksExpected set) = Unit {0}
-IsUnended (EntriesExpected set count entries) = Unit {0}
-IsUnended (ContextsExpected set entries contexts) = Unit {0}
-IsUnended (Ended set entries contexts) = ⊥
+IsUnended (ProcessorsExpected version) = Unit {0}
+IsUnended (TasksExpected version set) = Unit {0}
+IsUnended (EntriesExpected version set count entries) = Unit {0}
+IsUnended (ContextsExpected version set entries contexts) = Unit {0}
+IsUnended (Ended version set entries contexts) = ⊥

@@ -1,6 +1,7 @@
--- Schedules. A schedule is a valid set of tasks, at most 20,000 entries and one context for
--- each task, in the order of the tasks; each entry is on a stream below 16, a tick has from 1 to 1,000,000 units, the
--- tasks that it names are of the set, and its chain and its sets are of processors below 64.
+-- Schedules. A schedule has a version of the format, a valid set of tasks, at most 20,000 entries and one context for
+-- each task, in the order of the tasks; each entry is on a stream below 16, its event and its reply are of the version,
+-- a tick has from 1 to 1,000,000 units, what it is about is of the set, and its chains and its sets are of processors
+-- below 64.
 use Rattle.std.specs.Prelude.{◌≡◌, ℕ, ◌<◌, ◌≤◌, ◌^◌, List, length, All, IfSome, slice_index_or}
 use Rattle.affinity_mask.specs.ProcSet.{all_below, Within}
 use Rattle.text_fields.specs.LineText.{PrioritiesFit}
@@ -10,11 +11,12 @@ use Rattle.task_set.specs.Event.{HasUnits}
 use Rattle.scheduler_reply.specs.declared.reply.Reply.{Reply}
 use Rattle.scheduler_reply.specs.declared.reply.Entry.{Entry}
 use Rattle.scheduler_reply.specs.Reply.{chains_of, sets_of}
-use Rattle.schedule_text.specs.ScheduleText.{IsEntryOf}
+use Rattle.schedule_text.specs.ScheduleText.{IsVersion, IsEntryOf, IsEntryOfVersion}
 use Rattle.schedule_text.specs.declared.schedule.Schedule.TheInside.{Inside}
 
 -- what contracts see of a schedule
 pub record ScheduleData : Type 0 where
+  pub version : ℕ
   pub set : SetData
   pub entries : List Entry
   pub contexts : List Context
@@ -27,14 +29,19 @@ IsProcessorList chain = (length chain ≤ 64) × All (λ p. p < 64) chain
 abbrev pub IsOfProcessors : ℕ → Type 0
 IsOfProcessors X = Within X (all_below 64)
 
--- the chain and the sets of a reply are of processors
-abbrev pub HasProcessors : Reply → Type 0
-HasProcessors reply = All IsProcessorList (chains_of reply) × All IsOfProcessors (sets_of reply)
+-- chains and sets of processors
+abbrev pub AreOfProcessors : List (List ℕ) → List ℕ → Type 0
+AreOfProcessors chains sets = All IsProcessorList chains × All IsOfProcessors sets
 
--- an entry of tasks of the set, with the numbers of the format
-pub record IsScheduled (set : SetData) (entry : Entry) : Type 0 where
+-- the chains and the sets of a reply are of processors
+abbrev pub HasProcessors : Reply → Type 0
+HasProcessors reply = AreOfProcessors (chains_of reply) (sets_of reply)
+
+-- an entry of a version about the set, with the numbers of the format
+pub record IsScheduled (version : ℕ) (set : SetData) (entry : Entry) : Type 0 where
   pub caller : entry.caller < 16
   pub tasks : IsEntryOf set entry
+  pub of_version : IsEntryOfVersion version entry
   pub units : HasUnits entry.event
   pub processors : HasProcessors entry.reply
 
@@ -60,15 +67,17 @@ pub record IsScheduleSet (set : SetData) : Type 0 where
 
 -- what holds of each schedule
 pub record IsSchedule (schedule : ScheduleData) : Type 0 where
+  pub known : IsVersion schedule.version
   pub tasks : IsScheduleSet schedule.set
   pub few : length schedule.entries ≤ 20000
-  pub each_entry : All (IsScheduled schedule.set) schedule.entries
+  pub each_entry : All (IsScheduled schedule.version schedule.set) schedule.entries
   pub one_each : length schedule.contexts ≡ length schedule.set.tasks
   pub in_order : AreInOrder schedule.contexts
 
 -- the stored parts
 abbrev pub schedule_view : Inside → ScheduleData
-schedule_view a = record { set = a.set; entries = a.entries.items; contexts = a.contexts.items }
+schedule_view a =
+    record { version = a.version; set = a.set; entries = a.entries.items; contexts = a.contexts.items }
 
 -- the invariant of the fields
 abbrev pub IsStored : Inside → Type 0

@@ -1,7 +1,8 @@
 -- Why a text is not a schedule. A text is read as far as it is the text of a prefix of a
 -- schedule, line by line, and the next line decides: none comes, or it is not of the expected form, or its task is
 -- refused, or it names a task that there is not; after the last line nothing may stand. Any field stands for a name in
--- the form of a task line and of an entry. What is of the right form and no entry of the set names an unknown task.
+-- the form of a task line and of an entry. What is of the right form and no entry of the set names an unknown task. The
+-- header says the version of all lines after it, and what that version does not have is of no form.
 use Rattle.std.specs.Prelude.{◌≡◌, ◌≢◌, ℕ, ◌+◌, ◌<◌, ◌⊎◌, List, [], ◌++◌, length, Contains, Option, Some, None}
 use Rattle.task_set.specs.TaskSet.{TaskData, SetData}
 use Rattle.task_set.specs.Refusal.{IsRefusal}
@@ -9,65 +10,61 @@ use Rattle.task_set.specs.declared.fault.TaskFault.{TaskFault}
 use Rattle.task_set.specs.declared.fault.TaskFault.TheVariants as task
 use Rattle.scheduler_reply.specs.declared.reply.Entry.{Entry}
 use Rattle.text_fields.specs.LineText.{line}
-use Rattle.schedule_text.specs.ScheduleText.{text_in}
 use Rattle.schedule_text.specs.Schedule.{ScheduleData, IsSchedule}
 use Rattle.schedule_text.specs.declared.fault.TextKind.{TextKind}
 use Rattle.schedule_text.specs.declared.fault.TextKind.TheVariants.{BadLine, TaskRefused, UnknownTask, Short, AfterEnd, OutOfMemory}
-use Rattle.schedule_text.specs.Prefix.{Progress, text_so_far, lines_so_far, IsPrefix, IsUnended, TasksExpected, EntriesExpected, Ended}
+use Rattle.schedule_text.specs.Prefix.{Progress, whole, text_so_far, lines_so_far, IsPrefix, IsUnended, TasksExpected, EntriesExpected}
 use Rattle.schedule_text.specs.LineForms.{IsTaskForm, IsEntryForm, IsEntryText, IsForm}
 
 -- the fault of a line, by what is expected
-abbrev pub IsLineFault : ℕ → Progress → List ℕ → TextKind → Type 0
-IsLineFault version expected text BadLine = IsForm version expected text → ⊥
-IsLineFault version expected text (TaskRefused fault) =
-    (set : SetData) × (added : TaskData) × (expected ≡ TasksExpected set) × IsTaskForm text added
-    × IsRefusal set added fault
-IsLineFault version expected text UnknownTask =
-    (set : SetData) × (count : ℕ) × (entries : List Entry)
-    × (expected ≡ EntriesExpected set count entries) × (length entries < count) × IsEntryForm text
-    × ((entry : Entry) → IsEntryText set text entry → ⊥)
-IsLineFault version expected text _ = ⊥
+abbrev pub IsLineFault : Progress → List ℕ → TextKind → Type 0
+IsLineFault expected text BadLine = IsForm expected text → ⊥
+IsLineFault expected text (TaskRefused fault) =
+    (version : ℕ) × (set : SetData) × (added : TaskData) × (expected ≡ TasksExpected version set)
+    × IsTaskForm text added × IsRefusal set added fault
+IsLineFault expected text UnknownTask =
+    (version : ℕ) × (set : SetData) × (count : ℕ) × (entries : List Entry)
+    × (expected ≡ EntriesExpected version set count entries) × (length entries < count)
+    × IsEntryForm version set.processors text
+    × ((entry : Entry) → IsEntryText version set text entry → ⊥)
+IsLineFault expected text _ = ⊥
 
 -- after a prefix of a schedule no further line comes, and one is expected
-pub record IsShort (version : ℕ) (bytes : List ℕ) (number : ℕ) : Type 0 where
+pub record IsShort (bytes : List ℕ) (number : ℕ) : Type 0 where
   pub expected : Progress
   pub rest : List ℕ
   pub prefix : IsPrefix expected
   pub unended : IsUnended expected
-  pub order : bytes ≡ text_so_far version expected ++ rest
+  pub order : bytes ≡ text_so_far expected ++ rest
   pub place : number ≡ lines_so_far expected + 1
   pub short : Contains rest 10 → ⊥
 
 -- after a prefix of a schedule a line comes that has a fault
-pub record IsFaulty (version : ℕ) (bytes : List ℕ) (number : ℕ) (kind : TextKind) : Type 0 where
+pub record IsFaulty (bytes : List ℕ) (number : ℕ) (kind : TextKind) : Type 0 where
   pub expected : Progress
   pub text : List ℕ
   pub after : List ℕ
   pub prefix : IsPrefix expected
   pub unended : IsUnended expected
-  pub order : bytes ≡ text_so_far version expected ++ (line text ++ after)
+  pub order : bytes ≡ text_so_far expected ++ (line text ++ after)
   pub place : number ≡ lines_so_far expected + 1
   pub one_line : Contains text 10 → ⊥
-  pub fault : IsLineFault version expected text kind
+  pub fault : IsLineFault expected text kind
 
 -- after a whole schedule there are more bytes
-pub record IsPastEnd (version : ℕ) (bytes : List ℕ) (number : ℕ) : Type 0 where
+pub record IsPastEnd (bytes : List ℕ) (number : ℕ) : Type 0 where
   pub schedule : ScheduleData
   pub rest : List ℕ
   pub is_schedule : IsSchedule schedule
-  pub order : bytes ≡ text_in version schedule.set schedule.entries schedule.contexts ++ rest
-  pub place : number ≡ lines_so_far (Ended schedule.set schedule.entries schedule.contexts) + 1
+  pub order : bytes ≡ text_so_far (whole schedule) ++ rest
+  pub place : number ≡ lines_so_far (whole schedule) + 1
   pub more : rest ≢ []
 
--- the bytes are refused, as a text of this version, with this line and kind
-abbrev pub IsRefusedIn : ℕ → List ℕ → ℕ → TextKind → Type 0
-IsRefusedIn version bytes number kind =
-    (IsShort version bytes number × (kind ≡ Short))
-    ⊎ (IsFaulty version bytes number kind ⊎ (IsPastEnd version bytes number × (kind ≡ AfterEnd)))
-
--- the bytes are refused with this line and kind; the version of a schedule text is 1
+-- the bytes are refused with this line and kind
 abbrev pub IsScheduleRefused : List ℕ → ℕ → TextKind → Type 0
-IsScheduleRefused bytes number kind = IsRefusedIn 1 bytes number kind
+IsScheduleRefused bytes number kind =
+    (IsShort bytes number × (kind ≡ Short))
+    ⊎ (IsFaulty bytes number kind ⊎ (IsPastEnd bytes number × (kind ≡ AfterEnd)))
 
 -- the number of a kind, as the program prints it; out of memory has none
 abbrev pub kind_number : TextKind → Option ℕ

@@ -1,19 +1,27 @@
--- The schedule text. There is one text for a task set, a history and the contexts of its
+-- The schedule text. There is one text for a version of the format, a task set, a history and the contexts of its
 -- tasks: a header, the tasks, a line for each entry with its reply, and a line for each context. It can be written
--- where each task that an entry names is of the set.
-use Rattle.std.specs.Prelude.{ℕ, ◌<◌, List, [], ◌∷◌, ◌++◌, codes, length, map, All, Option, None, Some, if◌then◌else◌, ◌==◌}
+-- where what each entry is about is of the set.
+use Rattle.std.specs.Prelude.{ℕ, ◌<◌, ◌≤◌, List, [], ◌∷◌, ◌++◌, codes, length, map, All, Option, None, Some, if◌then◌else◌, ◌==◌}
 use Rattle.std.specs.List.{flat_map, join_with_byte}
 use Rattle.affinity_mask.specs.ProcSet.{empty}
 use Rattle.affinity_mask.specs.Number.{canonical_number}
 use Rattle.affinity_mask.specs.ListText.{canonical_list}
 use Rattle.task_set.specs.TaskSet.{SetData}
+use Rattle.task_set.specs.Event.{IsOfVersion}
 use Rattle.task_set.specs.declared.context.Context.{Context}
+use Rattle.scheduler_reply.specs.declared.reply.Came.{Came}
+use Rattle.scheduler_reply.specs.declared.reply.Came.TheVariants as came
+use Rattle.scheduler_reply.specs.declared.reply.Gone.{Gone}
 use Rattle.scheduler_reply.specs.declared.reply.Reply.{Reply}
-use Rattle.scheduler_reply.specs.declared.reply.Reply.TheVariants.{Placed, Displaced, Waits, Freed, Left, Ticked, AlreadyReady, NotReady}
+use Rattle.scheduler_reply.specs.declared.reply.Reply.TheVariants.{Placed, Displaced, Waits, Freed, Left, Ticked, AlreadyReady, NotReady, Masked, Remasked, AlreadyOff, AlreadyOn, Off, On}
 use Rattle.scheduler_reply.specs.declared.reply.Entry.{Entry}
-use Rattle.scheduler_reply.specs.Reply.{tasks_named}
+use Rattle.scheduler_reply.specs.Reply.{tasks_named, IsReplyOfVersion}
 use Rattle.text_fields.specs.LineText.{line, processors_line, task_line}
 use Rattle.text_fields.specs.EventText.{name_of, event_text, IsAboutSet}
+
+-- a version of the format
+abbrev pub IsVersion : ℕ → Type 0
+IsVersion version = (1 ≤ version) × (version ≤ 2)
 
 -- the processors of a chain in order, joined by '>'; '-' where there is none
 abbrev pub chain_text : List ℕ → List ℕ
@@ -34,20 +42,41 @@ abbrev pub number_text : Option ℕ → List ℕ
 number_text None = codes "-"
 number_text (Some n) = canonical_number n
 
--- a reply, with the chain or the set of processors that justifies it
-unfoldable pub reply_text : SetData → Reply → List ℕ
-reply_text set (Placed chain) = codes "placed " ++ chain_text chain
-reply_text set (Displaced chain out reach) =
+-- the result of an arrival, with the chain or the set of processors that justifies it
+unfoldable pub came_text : SetData → Came → List ℕ
+came_text set (came.Placed chain) = codes "placed " ++ chain_text chain
+came_text set (came.Displaced chain out reach) =
     codes "displaced " ++ chain_text chain ++ codes " out " ++ name_of set out ++ codes " reach "
     ++ set_text reach
-reply_text set (Waits reach) = codes "waits " ++ set_text reach
+came_text set (came.Waits reach) = codes "waits " ++ set_text reach
+
+-- who came in at a processor that became idle, with the set that justifies it
+unfoldable pub gone_text : SetData → Gone → List ℕ
+gone_text set gone =
+    chain_text gone.chain ++ codes " enters " ++ somebody_text set gone.entered ++ codes " back "
+    ++ set_text gone.back
+
+-- a reply
+unfoldable pub reply_text : SetData → Reply → List ℕ
+reply_text set (Placed chain) = came_text set (came.Placed chain)
+reply_text set (Displaced chain out reach) = came_text set (came.Displaced chain out reach)
+reply_text set (Waits reach) = came_text set (came.Waits reach)
 reply_text set (Freed entered chain back) =
-    codes "freed " ++ chain_text chain ++ codes " enters " ++ somebody_text set entered
-    ++ codes " back " ++ set_text back
+    codes "freed " ++ gone_text set (record { entered = entered; chain = chain; back = back })
 reply_text set Left = codes "left"
 reply_text set Ticked = codes "ticked"
 reply_text set AlreadyReady = codes "already"
 reply_text set NotReady = codes "absent"
+reply_text set Masked = codes "masked"
+reply_text set (Remasked None result) = codes "remasked left then " ++ came_text set result
+reply_text set (Remasked (Some gone) result) =
+    codes "remasked freed " ++ gone_text set gone ++ codes " then " ++ came_text set result
+reply_text set AlreadyOff = codes "already_off"
+reply_text set AlreadyOn = codes "already_on"
+reply_text set (Off None) = codes "off -"
+reply_text set (Off (Some moved)) =
+    codes "off " ++ name_of set moved.task ++ codes " then " ++ came_text set moved.came
+reply_text set (On parts) = codes "on " ++ gone_text set parts
 
 -- an entry of the history: the stream that posted it, the event and the reply
 unfoldable pub entry_line : SetData → Entry → List ℕ
@@ -67,9 +96,9 @@ context_line set context =
 abbrev pub header : ℕ → List ℕ
 header version = codes "schedule " ++ canonical_number version
 
--- the whole text, in this version
-unfoldable pub text_in : ℕ → SetData → List Entry → List Context → List ℕ
-text_in version set entries contexts =
+-- the whole text, in a version
+unfoldable pub schedule_text : ℕ → SetData → List Entry → List Context → List ℕ
+schedule_text version set entries contexts =
     line (header version) ++ processors_line set ++ flat_map task_line set.tasks
     ++ line (codes "history " ++ canonical_number (length entries))
     ++ flat_map (entry_line set) entries
@@ -77,15 +106,20 @@ text_in version set entries contexts =
     ++ flat_map (context_line set) contexts
     ++ line (codes "end")
 
--- the text of a schedule, which is in version 1
-abbrev pub schedule_text : SetData → List Entry → List Context → List ℕ
-schedule_text set entries contexts = text_in 1 set entries contexts
+-- each number is that of a task of the set
+abbrev pub AreTasksOf : SetData → List ℕ → Type 0
+AreTasksOf set tasks = All (λ t. t < length set.tasks) tasks
 
--- the tasks that a reply names are of the set: who was displaced, and who entered, if somebody did
+-- the tasks that a reply names are of the set
 abbrev pub IsReplyOf : SetData → Reply → Type 0
-IsReplyOf set reply = All (λ t. t < length set.tasks) (tasks_named reply)
+IsReplyOf set reply = AreTasksOf set (tasks_named reply)
 
--- the tasks that an entry names, in its event and in its reply, are of the set
+-- what an entry is about, in its event and in its reply, is of the set
 pub record IsEntryOf (set : SetData) (entry : Entry) : Type 0 where
   pub event : IsAboutSet set entry.event
   pub reply : IsReplyOf set entry.reply
+
+-- a version has the event and the reply of an entry
+pub record IsEntryOfVersion (version : ℕ) (entry : Entry) : Type 0 where
+  pub event : IsOfVersion version entry.event
+  pub reply : IsReplyOfVersion version entry.reply

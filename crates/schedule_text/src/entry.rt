@@ -1,52 +1,108 @@
 //! The lines of entries.
-ghost use Rattle.std.specs.Prelude.{◌⊎◌, ◌∷◌, [], IfOk, IfErr};
+ghost use Rattle.std.specs.Prelude.{◌≡◌, ◌⊎◌, ◌∷◌, [], List, ℕ, codes, IfOk, IfErr, MatchOption};
 ghost use Rattle.text_fields.specs.Fields.{texts};
 ghost use Rattle.schedule_text.specs.Reading.{IsOutOfMemory};
-ghost use Rattle.schedule_text.specs.LineFields.{IsEventFields, IsEventFault, IsEntryFields, IsEntryFault};
+ghost use Rattle.schedule_text.specs.LineFields.{
+  IsEventFields,
+  IsEventFault,
+  IsNoFirstWord,
+  IsEventThen,
+  IsEntryFields,
+  IsEntryFault,
+};
 
 use crate::fault::TextKind;
-use crate::field::{known_task, number_of};
+use crate::field::{both, known_task, mask_of, number_of, processor_of};
 use crate::reply::read_reply;
 use scheduler_reply::Entry;
 use task_set::{Event, TaskSet};
 use text_fields::is_word;
-use text_fields::limits::{MAX_STREAM, MAX_UNITS};
+use text_fields::limits::{LAST_VERSION, MAX_STREAM, MAX_UNITS};
 
-/// The entry of some fields.
-pub fn read_entry(set: &TaskSet, fields: &[&[u8]]) -> Result<Entry, TextKind>
-    ensures read { IfOk result (IsEntryFields set.now (texts fields.now)) }
+/// How many fields an event has that sets a mask.
+const AFFINITY_FIELDS: usize = 3;
+
+/// How many fields any other event has.
+const EVENT_FIELDS: usize = 2;
+
+/// The entry of some fields, in a version of the format.
+pub fn read_entry(version: u8, set: &TaskSet, fields: &[&[u8]]) -> Result<Entry, TextKind>
+    ensures read { IfOk result (IsEntryFields version (texts fields.now) set.now) }
     ensures refused { IfErr result (λ kind. IsOutOfMemory kind
-        ⊎ IsEntryFault set.now (texts fields.now) kind) }
+        ⊎ IsEntryFault version (texts fields.now) set.now kind) }
 {
     let _valid = set.len();
-    let [number, word, value, rest @ ..] = fields else {
+    let [number, rest @ ..] = fields else {
         return Err(TextKind::BadLine);
     };
     let Some(stream) = number_of(number, 0, MAX_STREAM) else {
         return Err(TextKind::BadLine);
     };
-    match read_event(set, word, value) {
-        Ok(event) => {
-            let reply = read_reply(set, rest)?;
-            Ok(Entry {
-                caller: stream as u32,
-                event,
-                reply,
-            })
-        }
-        Err(TextKind::UnknownTask) => {
-            // A reply that is of no form is reported first.
-            let _known = read_reply(set, rest)?;
-            Err(TextKind::UnknownTask)
-        }
+    let Some((event, reply)) = event_then(rest) else {
+        return Err(TextKind::BadLine);
+    };
+    match both(read_event(version, set, event), read_reply(version, set, reply)) {
+        Ok((event, reply)) => Ok(Entry {
+            caller: stream as u32,
+            event,
+            reply,
+        }),
         Err(kind) => Err(kind),
     }
 }
 
-/// The event of a word and a value: a task arrives or departs, or units of time pass.
-fn read_event(set: &TaskSet, word: &[u8], value: &[u8]) -> Result<Event, TextKind>
-    ensures read { IfOk result (IsEventFields set.now (word.now ∷ value.now ∷ [])) }
-    ensures refused { IfErr result (IsEventFault set.now (word.now ∷ value.now ∷ [])) }
+/// The fields of an event, and those after it.
+fn event_then<'f, 'a>(fields: &'f [&'a [u8]]) -> Option<(&'f [&'a [u8]], &'f [&'a [u8]])>
+    ensures { MatchOption result
+        ((event reply : List (List ℕ)) → IsEventThen (texts fields.now) event reply → ⊥)
+        (λ parts. IsEventThen (texts fields.now) (texts parts.0.now) (texts parts.1.now)) }
+{
+    let [word, ..] = fields else {
+        return None;
+    };
+    let count = if is_word(word, "affinity") {
+        AFFINITY_FIELDS
+    } else {
+        EVENT_FIELDS
+    };
+    if fields.len() < count {
+        None
+    } else {
+        Some((&fields[..count], &fields[count..]))
+    }
+}
+
+/// The event of some fields.
+fn read_event(version: u8, set: &TaskSet, fields: &[&[u8]]) -> Result<Event, TextKind>
+    ensures read { IfOk result
+        (IsEventFields version set.now.processors (texts fields.now) set.now) }
+    ensures refused { IfErr result (λ kind. IsOutOfMemory kind
+        ⊎ IsEventFault version (texts fields.now) set.now kind) }
+{
+    if let [word, value] = fields {
+        return valued_event(version, set, word, value);
+    }
+    let [word, name, list] = fields else {
+        return Err(TextKind::BadLine);
+    };
+    if version == LAST_VERSION && is_word(word, "affinity") {
+        affinity_of(set, name, list)
+    } else {
+        Err(TextKind::BadLine)
+    }
+}
+
+/// The event of a word and a value: a task arrives or departs, units of time pass, or a processor goes off line or comes
+/// on line.
+fn valued_event(
+    version: u8,
+    set: &TaskSet,
+    word: &[u8],
+    value: &[u8],
+) -> Result<Event, TextKind>
+    ensures read { IfOk result
+        (IsEventFields version set.now.processors (word.now ∷ value.now ∷ []) set.now) }
+    ensures refused { IfErr result (IsEventFault version (word.now ∷ value.now ∷ []) set.now) }
 {
     if is_word(word, "arrive") {
         Ok(Event::Arrive(known_task(set, value)?))
@@ -57,7 +113,40 @@ fn read_event(set: &TaskSet, word: &[u8], value: &[u8]) -> Result<Event, TextKin
             Some(units) => Ok(Event::Tick(units as u32)),
             None => Err(TextKind::BadLine),
         }
+    } else if version == LAST_VERSION {
+        processor_event(set, word, value)
     } else {
         Err(TextKind::BadLine)
     }
+}
+
+/// The event that a processor goes off line or comes on line, by a word that is no other event's.
+fn processor_event(set: &TaskSet, word: &[u8], value: &[u8]) -> Result<Event, TextKind>
+    requires { IsNoFirstWord word.now }
+    ensures read { IfOk result
+        (IsEventFields 2 set.now.processors (word.now ∷ value.now ∷ []) set.now) }
+    ensures refused { IfErr result (IsEventFault 2 (word.now ∷ value.now ∷ []) set.now) }
+{
+    let Some(p) = processor_of(set, value) else {
+        return Err(TextKind::BadLine);
+    };
+    if is_word(word, "offline") {
+        Ok(Event::Offline(p))
+    } else if is_word(word, "online") {
+        Ok(Event::Online(p))
+    } else {
+        Err(TextKind::BadLine)
+    }
+}
+
+/// The event that a mask is set, by the fields after its word.
+fn affinity_of(set: &TaskSet, name: &[u8], list: &[u8]) -> Result<Event, TextKind>
+    ensures read { IfOk result (IsEventFields 2 set.now.processors
+        (codes "affinity" ∷ name.now ∷ list.now ∷ []) set.now) }
+    ensures refused { IfErr result (λ kind. IsOutOfMemory kind ⊎ IsEventFault 2
+        (codes "affinity" ∷ name.now ∷ list.now ∷ []) set.now kind) }
+{
+    let mask = mask_of(set, list)?;
+    let task = known_task(set, name)?;
+    Ok(Event::Affinity { task, mask })
 }

@@ -3,8 +3,8 @@ ghost use Rattle.std.specs.Prelude.{◌≡◌, ◌≢◌, ℕ, codes, ◌⊎◌,
 ghost use Rattle.text_fields.specs.Fields.{texts};
 ghost use Rattle.schedule_text.specs.LineForms.{IsField};
 ghost use Rattle.schedule_text.specs.Reading.{IsOutOfMemory};
-ghost use Rattle.schedule_text.specs.Fields.{spaced_fields_of, links_of, IsNumberField, IsListField, IsSetField, IsChainField, AreProcessorFields, IsNumberAfter, IsSomebodyField, HasLeadingZero};
-ghost use Rattle.schedule_text.specs.LineFields.{IsNameFault};
+ghost use Rattle.schedule_text.specs.Fields.{spaced_fields_of, links_of, IsNumberField, IsProcessorField, IsListField, IsMaskField, IsSetField, IsChainField, AreProcessorFields, IsNumberAfter, IsSomebodyField, HasLeadingZero};
+ghost use Rattle.schedule_text.specs.LineFields.{IsNameFault, both_of, first_reported};
 ghost use Rattle.task_set.specs.Refusal.{IsNameOf};
 ghost use Rattle.schedule_text.specs.declared.fault.TextKind.TheVariants.{BadLine};
 
@@ -65,6 +65,16 @@ pub fn number_of(field: &[u8], least: u64, most: u64) -> Option<u64>
     }
 }
 
+/// The processor of the set that a canonical number names.
+pub fn processor_of(set: &TaskSet, field: &[u8]) -> Option<u8>
+    ensures { MatchOption result
+        ((p : ℕ) → IsProcessorField set.now.processors field.now p → ⊥)
+        (IsProcessorField set.now.processors field.now) }
+{
+    let p = number_of(field, 0, set.processors() as u64 - 1)?;
+    Some(p as u8)
+}
+
 /// Whether a zero stands before further bytes.
 fn has_leading_zero(field: &[u8]) -> bool
     ensures { IsTrue result ↔ HasLeadingZero field.now }
@@ -84,6 +94,21 @@ pub fn list_of(field: &[u8]) -> Result<ProcSet, TextKind>
     let _processors = set.count();
     if set.is_list(field) {
         Ok(set)
+    } else {
+        Err(TextKind::BadLine)
+    }
+}
+
+/// The mask of a canonical list, which has one processor at least, and those of the set alone.
+pub fn mask_of(set: &TaskSet, field: &[u8]) -> Result<ProcSet, TextKind>
+    ensures read { IfOk result (IsMaskField set.now.processors field.now) }
+    ensures refused { IfErr result (λ kind. IsOutOfMemory kind ⊎ ((kind ≡ BadLine)
+        × ((mask : ℕ) → IsMaskField set.now.processors field.now mask → ⊥))) }
+{
+    let all = ProcSet::first(set.processors());
+    let mask = list_of(field)?;
+    if mask.within(&all) {
+        Ok(mask)
     } else {
         Err(TextKind::BadLine)
     }
@@ -175,5 +200,34 @@ pub fn number_after(fields: &[&[u8]], word: &str, least: u64, most: u64) -> Opti
     match fields {
         [first, number] if is_word(first, word) => number_of(number, least, most),
         _ => None,
+    }
+}
+
+/// Two parts of a line, or of their faults the one that is reported: a wrong form comes before an unknown name.
+pub fn both<A: Drop, B: Drop>(
+    first: Result<A, TextKind>,
+    second: Result<B, TextKind>,
+) -> Result<(A, B), TextKind>
+    ensures { result ≡ both_of first second }
+{
+    match first {
+        Ok(one) => match second {
+            Ok(other) => Ok((one, other)),
+            Err(kind) => Err(kind),
+        },
+        Err(kind) => match second {
+            Ok(_) => Err(kind),
+            Err(other) => Err(first_reported(kind, other)),
+        },
+    }
+}
+
+/// Of two faults the one that is reported.
+fn first_reported(kind: TextKind, other: TextKind) -> TextKind
+    ensures { result ≡ first_reported kind other }
+{
+    match kind {
+        TextKind::UnknownTask => other,
+        _ => kind,
     }
 }

@@ -1,6 +1,6 @@
 //! The reader of a whole text.
 ghost use Rattle.std.specs.Prelude.{◌≡◌, ◌≢◌, ℕ, ◌⊎◌, [], IfOk, IfErr, MatchResult};
-ghost use Rattle.schedule_text.specs.ScheduleText.{schedule_text};
+ghost use Rattle.schedule_text.specs.Laws.{text_of_schedule};
 ghost use Rattle.schedule_text.specs.Schedule.{ScheduleData, IsSchedule};
 ghost use Rattle.schedule_text.specs.ScheduleFault.{IsScheduleRefused};
 ghost use Rattle.schedule_text.specs.Reading.{IsOutOfMemory, IsAnswerTo};
@@ -12,19 +12,17 @@ use crate::field::ended_line;
 use crate::schedule::Schedule;
 use crate::stage::{Reached, Stage};
 use std::alloc::Global;
-use text_fields::limits::VERSION;
 
-/// The schedule of a text, or the first line that has a fault, with its kind. `OutOfMemory` may come in place of
-/// either.
+/// The schedule of a text, or the first line that has a fault, with its kind. The header says the version.
+/// `OutOfMemory` may come in place of either.
 pub fn read_schedule(alloc: Global, bytes: &[u8]) -> Result<Schedule, TextFault>
-    ensures schedule { IfOk result (λ schedule. bytes.now
-        ≡ schedule_text schedule.set schedule.entries schedule.contexts) }
+    ensures schedule { IfOk result (λ schedule. bytes.now ≡ text_of_schedule schedule) }
     ensures refused { IfErr result (λ fault. IsOutOfMemory fault.kind
         ⊎ IsScheduleRefused bytes.now fault.line fault.kind) }
 
     // Only `OutOfMemory` comes in place of the expected answer.
     ensures accepts { (schedule : ScheduleData) → IsSchedule schedule
-        → bytes.now ≡ schedule_text schedule.set schedule.entries schedule.contexts
+        → bytes.now ≡ text_of_schedule schedule
         → MatchResult result
         (λ answer. answer ≡ schedule)
         (λ fault. IsOutOfMemory fault.kind) }
@@ -32,12 +30,12 @@ pub fn read_schedule(alloc: Global, bytes: &[u8]) -> Result<Schedule, TextFault>
         → MatchResult result (λ schedule. ⊥)
         (λ fault. IsOutOfMemory fault.kind ⊎ ((fault.line ≡ line) × (fault.kind ≡ kind))) }
 {
-    read_lines(alloc, VERSION, bytes)
+    read_lines(alloc, bytes)
 }
 
-/// Reads a text of this version line by line, from the first to the last.
-fn read_lines(alloc: Global, version: u64, bytes: &[u8]) -> Result<Schedule, TextFault>
-    ensures { IsAnswerTo version bytes.now result }
+/// Reads a text line by line, from the first to the last.
+fn read_lines(alloc: Global, bytes: &[u8]) -> Result<Schedule, TextFault>
+    ensures { IsAnswerTo bytes.now result }
 {
     let mut room = Vec::new(alloc);
     let mut stage = Stage::HeaderExpected;
@@ -48,7 +46,7 @@ fn read_lines(alloc: Global, version: u64, bytes: &[u8]) -> Result<Schedule, Tex
             let kind = TextKind::Short;
             return Err(TextFault { line, kind });
         };
-        match stage.after_line(alloc, version, text, &mut room) {
+        match stage.after_line(alloc, text, &mut room) {
             Ok(Reached::Expected(next)) => {
                 stage = next;
                 rest = after;

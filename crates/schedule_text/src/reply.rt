@@ -1,62 +1,61 @@
 //! The reply of an entry.
-ghost use Rattle.std.specs.Prelude.{◌≡◌, ◌↔◌, IsTrue, ◌⊎◌, ◌∷◌, [], codes, IfOk, IfErr, MatchOption};
+ghost use Rattle.std.specs.Prelude.{◌≡◌, ◌↔◌, IsTrue, ◌⊎◌, ◌∷◌, [], List, ℕ, codes, IfOk, IfErr, MatchOption};
 ghost use Rattle.task_set.specs.TaskSet.{SetData};
 ghost use Rattle.text_fields.specs.Fields.{texts};
 ghost use Rattle.schedule_text.specs.Reading.{IsOutOfMemory};
-ghost use Rattle.schedule_text.specs.LineFields.{displaced_fields, freed_fields, IsReplyFields, IsReplyFault, IsSomeReply};
+ghost use Rattle.schedule_text.specs.LineFields.{
+  displaced_fields,
+  gone_words,
+  both_of,
+  IsSaid,
+  IsCameFields,
+  IsCameFault,
+  IsGoneFields,
+  IsGoneFault,
+  IsGoneThen,
+  IsReplyFields,
+  IsReplyFault,
+};
 ghost use Rattle.schedule_text.specs.declared.fault.TextKind.TheVariants.{BadLine};
 
 use crate::fault::TextKind;
-use crate::field::{chain_of, known_task, set_of, somebody_of};
-use scheduler_reply::Reply;
+use crate::field::{both, chain_of, known_task, set_of, somebody_of};
+use scheduler_reply::{Came, Gone, Moved, Reply};
 use task_set::TaskSet;
 use text_fields::is_word;
+use text_fields::limits::LAST_VERSION;
 
-/// The reply of some fields.
-pub fn read_reply(set: &TaskSet, fields: &[&[u8]]) -> Result<Reply, TextKind>
-    ensures read { IfOk result (IsReplyFields set.now (texts fields.now)) }
+/// How many fields say who came in at a processor.
+const GONE_FIELDS: usize = 5;
+
+/// The reply of some fields, in a version of the format.
+pub fn read_reply(version: u8, set: &TaskSet, fields: &[&[u8]]) -> Result<Reply, TextKind>
+    ensures read { IfOk result (IsReplyFields version (texts fields.now) set.now) }
     ensures refused { IfErr result (λ kind. IsOutOfMemory kind
-        ⊎ IsReplyFault set.now (texts fields.now) kind) }
+        ⊎ IsReplyFault version (texts fields.now) set.now kind) }
 {
-    match fields {
-        [word] => match word_reply(word) {
-            Some(reply) => Ok(reply),
-            None => Err(TextKind::BadLine),
-        },
-        [word, value] => valued_reply(word, value),
-        [word, chain, middle, name, last, processors] => {
-            if is_displaced(word, middle, last) {
-                displaced_reply(set, chain, name, processors)
-            } else if is_freed(word, middle, last) {
-                freed_reply(set, chain, name, processors)
-            } else {
-                Err(TextKind::BadLine)
-            }
-        }
-        _ => Err(TextKind::BadLine),
+    let [word, rest @ ..] = fields else {
+        return Err(TextKind::BadLine);
+    };
+    if is_word(word, "freed") {
+        Ok(Reply::from(read_gone(set, rest)?))
+    } else if is_word(word, "on") {
+        on_reply(version, set, rest)
+    } else if is_word(word, "off") {
+        off_reply(version, set, rest)
+    } else if is_word(word, "remasked") {
+        remasked_reply(version, set, rest)
+    } else if rest.is_empty() {
+        word_reply(version, word).ok_or(TextKind::BadLine)
+    } else {
+        Ok(Reply::from(read_came(set, fields)?))
     }
 }
 
-/// Whether the words of six fields are those of a reply that a task was displaced.
-fn is_displaced(word: &[u8], middle: &[u8], last: &[u8]) -> bool
-    ensures { IsTrue result ↔ ((word.now ≡ codes "displaced") × (middle.now ≡ codes "out")
-        × (last.now ≡ codes "reach")) }
-{
-    is_word(word, "displaced") && is_word(middle, "out") && is_word(last, "reach")
-}
-
-/// Whether they are those of a reply that a processor was freed.
-fn is_freed(word: &[u8], middle: &[u8], last: &[u8]) -> bool
-    ensures { IsTrue result ↔ ((word.now ≡ codes "freed") × (middle.now ≡ codes "enters")
-        × (last.now ≡ codes "back")) }
-{
-    is_word(word, "freed") && is_word(middle, "enters") && is_word(last, "back")
-}
-
 /// The reply of one word.
-fn word_reply(word: &[u8]) -> Option<Reply>
-    ensures { MatchOption result (IsSomeReply (word.now ∷ []) → ⊥)
-        (λ reply. (tasks : SetData) → IsReplyFields tasks (word.now ∷ []) reply) }
+fn word_reply(version: u8, word: &[u8]) -> Option<Reply>
+    ensures { MatchOption result (IsSaid (IsReplyFields version (word.now ∷ [])) → ⊥)
+        (λ reply. (tasks : SetData) → IsReplyFields version (word.now ∷ []) tasks reply) }
 {
     if is_word(word, "left") {
         Some(Reply::Left)
@@ -66,65 +65,254 @@ fn word_reply(word: &[u8]) -> Option<Reply>
         Some(Reply::AlreadyReady)
     } else if is_word(word, "absent") {
         Some(Reply::NotReady)
+    } else if version != LAST_VERSION {
+        None
+    } else if is_word(word, "masked") {
+        Some(Reply::Masked)
+    } else if is_word(word, "already_off") {
+        Some(Reply::AlreadyOff)
+    } else if is_word(word, "already_on") {
+        Some(Reply::AlreadyOn)
     } else {
         None
     }
 }
 
-/// The reply of a word and a chain or a set.
-fn valued_reply(word: &[u8], value: &[u8]) -> Result<Reply, TextKind>
-    ensures read { IfOk result (λ reply. (tasks : SetData)
-        → IsReplyFields tasks (word.now ∷ value.now ∷ []) reply) }
+/// The result of an arrival.
+fn read_came(set: &TaskSet, fields: &[&[u8]]) -> Result<Came, TextKind>
+    ensures read { IfOk result (IsCameFields (texts fields.now) set.now) }
     ensures refused { IfErr result (λ kind. IsOutOfMemory kind
-        ⊎ ((kind ≡ BadLine) × (IsSomeReply (word.now ∷ value.now ∷ []) → ⊥))) }
+        ⊎ IsCameFault (texts fields.now) set.now kind) }
+{
+    match fields {
+        [word, value] => valued_came(word, value),
+        [word, chain, middle, name, last, processors] => {
+            if is_displaced(word, middle, last) {
+                displaced(set, chain, name, processors)
+            } else {
+                Err(TextKind::BadLine)
+            }
+        }
+        _ => Err(TextKind::BadLine),
+    }
+}
+
+/// The result of an arrival that is said by a word and a chain or a set.
+fn valued_came(word: &[u8], value: &[u8]) -> Result<Came, TextKind>
+    ensures read { IfOk result (λ came. (tasks : SetData)
+        → IsCameFields (word.now ∷ value.now ∷ []) tasks came) }
+    ensures refused { IfErr result (λ kind. IsOutOfMemory kind ⊎ ((kind ≡ BadLine)
+        × (IsSaid (IsCameFields (word.now ∷ value.now ∷ [])) → ⊥))) }
 {
     if is_word(word, "placed") {
         let chain = chain_of(value)?;
-        Ok(Reply::Placed { chain })
+        Ok(Came::Placed { chain })
     } else if is_word(word, "waits") {
         let reach = set_of(value)?;
-        Ok(Reply::Waits { reach })
+        Ok(Came::Waits { reach })
     } else {
         Err(TextKind::BadLine)
     }
 }
 
-/// The reply that a task was displaced.
-fn displaced_reply(
+/// Whether the words of six fields are those of a result that a task was displaced.
+fn is_displaced(word: &[u8], middle: &[u8], last: &[u8]) -> bool
+    ensures { IsTrue result ↔ ((word.now ≡ codes "displaced") × (middle.now ≡ codes "out")
+        × (last.now ≡ codes "reach")) }
+{
+    is_word(word, "displaced") && is_word(middle, "out") && is_word(last, "reach")
+}
+
+/// The result that a task was displaced.
+fn displaced(
     set: &TaskSet,
     chain: &[u8],
     name: &[u8],
     processors: &[u8],
-) -> Result<Reply, TextKind>
-    ensures read { IfOk result (IsReplyFields set.now
-        (displaced_fields chain.now name.now processors.now)) }
+) -> Result<Came, TextKind>
+    ensures read { IfOk result (IsCameFields
+        (displaced_fields chain.now name.now processors.now) set.now) }
     ensures refused { IfErr result (λ kind. IsOutOfMemory kind
-        ⊎ IsReplyFault set.now (displaced_fields chain.now name.now processors.now) kind) }
+        ⊎ IsCameFault (displaced_fields chain.now name.now processors.now) set.now kind) }
 {
     let chain = chain_of(chain)?;
     let reach = set_of(processors)?;
     let out = known_task(set, name)?;
-    Ok(Reply::Displaced { chain, out, reach })
+    Ok(Came::Displaced { chain, out, reach })
 }
 
-/// The reply that a processor was freed.
-fn freed_reply(
+/// Who came in at a processor that became idle.
+fn read_gone(set: &TaskSet, fields: &[&[u8]]) -> Result<Gone, TextKind>
+    ensures read { IfOk result (IsGoneFields (texts fields.now) set.now) }
+    ensures refused { IfErr result (λ kind. IsOutOfMemory kind
+        ⊎ IsGoneFault (texts fields.now) set.now kind) }
+{
+    let [chain, middle, name, last, processors] = fields else {
+        return Err(TextKind::BadLine);
+    };
+    if are_gone_words(middle, last) {
+        gone_of(set, chain, name, processors)
+    } else {
+        Err(TextKind::BadLine)
+    }
+}
+
+/// Whether the words of five fields are those that say who came in.
+fn are_gone_words(middle: &[u8], last: &[u8]) -> bool
+    ensures { IsTrue result ↔ ((middle.now ≡ codes "enters") × (last.now ≡ codes "back")) }
+{
+    is_word(middle, "enters") && is_word(last, "back")
+}
+
+/// Who came in, by the fields between the words.
+fn gone_of(
     set: &TaskSet,
     chain: &[u8],
     name: &[u8],
     processors: &[u8],
-) -> Result<Reply, TextKind>
-    ensures read { IfOk result (IsReplyFields set.now
-        (freed_fields chain.now name.now processors.now)) }
+) -> Result<Gone, TextKind>
+    ensures read { IfOk result (IsGoneFields (gone_words chain.now name.now processors.now)
+        set.now) }
     ensures refused { IfErr result (λ kind. IsOutOfMemory kind
-        ⊎ IsReplyFault set.now (freed_fields chain.now name.now processors.now) kind) }
+        ⊎ IsGoneFault (gone_words chain.now name.now processors.now) set.now kind) }
 {
     let chain = chain_of(chain)?;
     let back = set_of(processors)?;
     let entered = somebody_of(set, name)?;
-    Ok(Reply::Freed {
+    Ok(Gone {
         entered,
         chain,
         back,
     })
+}
+
+/// The reply that a processor is on line, by the fields after its word.
+fn on_reply(version: u8, set: &TaskSet, rest: &[&[u8]]) -> Result<Reply, TextKind>
+    ensures read { IfOk result (IsReplyFields version (codes "on" ∷ texts rest.now) set.now) }
+    ensures refused { IfErr result (λ kind. IsOutOfMemory kind
+        ⊎ IsReplyFault version (codes "on" ∷ texts rest.now) set.now kind) }
+{
+    if version != LAST_VERSION {
+        return Err(TextKind::BadLine);
+    }
+    let parts = read_gone(set, rest)?;
+    Ok(Reply::On { parts })
+}
+
+/// The reply that a processor is off line, by the fields after its word.
+fn off_reply(version: u8, set: &TaskSet, rest: &[&[u8]]) -> Result<Reply, TextKind>
+    ensures read { IfOk result (IsReplyFields version (codes "off" ∷ texts rest.now) set.now) }
+    ensures refused { IfErr result (λ kind. IsOutOfMemory kind
+        ⊎ IsReplyFault version (codes "off" ∷ texts rest.now) set.now kind) }
+{
+    if version != LAST_VERSION {
+        return Err(TextKind::BadLine);
+    }
+    match rest {
+        [dash] => {
+            if is_word(dash, "-") {
+                Ok(Reply::Off { moved: None })
+            } else {
+                Err(TextKind::BadLine)
+            }
+        }
+        [name, then, arrival @ ..] => {
+            if is_word(then, "then") {
+                moved_reply(set, name, arrival)
+            } else {
+                Err(TextKind::BadLine)
+            }
+        }
+        _ => Err(TextKind::BadLine),
+    }
+}
+
+/// The reply that a processor is off line and its task came elsewhere.
+fn moved_reply(set: &TaskSet, name: &[u8], arrival: &[&[u8]]) -> Result<Reply, TextKind>
+    ensures read { IfOk result (IsReplyFields 2
+        (codes "off" ∷ name.now ∷ codes "then" ∷ texts arrival.now) set.now) }
+    ensures refused { IfErr result (λ kind. IsOutOfMemory kind ⊎ IsReplyFault 2
+        (codes "off" ∷ name.now ∷ codes "then" ∷ texts arrival.now) set.now kind) }
+{
+    let _valid = set.len();
+    match both(known_task(set, name), read_came(set, arrival)) {
+        Ok((task, came)) => Ok(Reply::Off {
+            moved: Some(Moved { task, came }),
+        }),
+        Err(kind) => Err(kind),
+    }
+}
+
+/// The reply that the mask of a ready task was set, by the fields after its word.
+fn remasked_reply(version: u8, set: &TaskSet, rest: &[&[u8]]) -> Result<Reply, TextKind>
+    ensures read { IfOk result (IsReplyFields version (codes "remasked" ∷ texts rest.now) set.now) }
+    ensures refused { IfErr result (λ kind. IsOutOfMemory kind
+        ⊎ IsReplyFault version (codes "remasked" ∷ texts rest.now) set.now kind) }
+{
+    let [word, rest @ ..] = rest else {
+        return Err(TextKind::BadLine);
+    };
+    if version != LAST_VERSION {
+        Err(TextKind::BadLine)
+    } else if is_word(word, "left") {
+        waiting_remasked(set, rest)
+    } else if is_word(word, "freed") {
+        linked_remasked(set, rest)
+    } else {
+        Err(TextKind::BadLine)
+    }
+}
+
+/// The reply that the mask of a task was set that had waited, by the fields after its words.
+fn waiting_remasked(set: &TaskSet, rest: &[&[u8]]) -> Result<Reply, TextKind>
+    ensures read { IfOk result (IsReplyFields 2
+        (codes "remasked" ∷ codes "left" ∷ texts rest.now) set.now) }
+    ensures refused { IfErr result (λ kind. IsOutOfMemory kind ⊎ IsReplyFault 2
+        (codes "remasked" ∷ codes "left" ∷ texts rest.now) set.now kind) }
+{
+    let [then, arrival @ ..] = rest else {
+        return Err(TextKind::BadLine);
+    };
+    if is_word(then, "then") {
+        let came = read_came(set, arrival)?;
+        Ok(Reply::Remasked { gone: None, came })
+    } else {
+        Err(TextKind::BadLine)
+    }
+}
+
+/// The reply that the mask of a task was set that left a processor, by the fields after its words.
+fn linked_remasked(set: &TaskSet, rest: &[&[u8]]) -> Result<Reply, TextKind>
+    ensures read { IfOk result (IsReplyFields 2
+        (codes "remasked" ∷ codes "freed" ∷ texts rest.now) set.now) }
+    ensures refused { IfErr result (λ kind. IsOutOfMemory kind ⊎ IsReplyFault 2
+        (codes "remasked" ∷ codes "freed" ∷ texts rest.now) set.now kind) }
+{
+    let _valid = set.len();
+    let Some((gone, arrival)) = gone_then(rest) else {
+        return Err(TextKind::BadLine);
+    };
+    match both(read_gone(set, gone), read_came(set, arrival)) {
+        Ok((gone, came)) => Ok(Reply::Remasked {
+            gone: Some(gone),
+            came,
+        }),
+        Err(kind) => Err(kind),
+    }
+}
+
+/// The fields of who came in, and those after the word `then`, which comes next.
+fn gone_then<'f, 'a>(fields: &'f [&'a [u8]]) -> Option<(&'f [&'a [u8]], &'f [&'a [u8]])>
+    ensures { MatchOption result
+        ((gone arrival : List (List ℕ)) → IsGoneThen (texts fields.now) gone arrival → ⊥)
+        (λ parts. IsGoneThen (texts fields.now) (texts parts.0.now) (texts parts.1.now)) }
+{
+    if fields.len() <= GONE_FIELDS {
+        return None;
+    }
+    if is_word(fields[GONE_FIELDS], "then") {
+        Some((&fields[..GONE_FIELDS], &fields[GONE_FIELDS + 1..]))
+    } else {
+        None
+    }
 }

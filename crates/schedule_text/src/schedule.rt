@@ -9,9 +9,11 @@ use text_fields::limits::MAX_EVENTS;
 /// The greatest number of entries of a schedule.
 pub const MAX_ENTRIES: u64 = MAX_EVENTS as u64;
 
-/// The tasks, the entries in the order of their lines, and the contexts in the order of the tasks.
+/// The version of the format, the tasks, the entries in the order of their lines, and the contexts in the order of the
+/// tasks.
 #[derive(Drop)]
 pub struct Schedule {
+    version: u8,
     set: TaskSet,
     entries: Vec<Entry>,
     contexts: Vec<Context>,
@@ -31,24 +33,40 @@ impl Schedule {
     ghost use Rattle.schedule_text.specs.Schedule.{IsSchedule};
 
     /// A schedule of these parts, which are those of a schedule.
-    pub(crate) fn new(set: TaskSet, entries: Vec<Entry>, contexts: Vec<Context>) -> Schedule
+    pub(crate) fn new(
+        version: u8,
+        set: TaskSet,
+        entries: Vec<Entry>,
+        contexts: Vec<Context>,
+    ) -> Schedule
         requires { IsSchedule (record {
+          version = version;
           set = set;
           entries = entries.items;
           contexts =
               contexts.items;
         }) }
         ensures { result ≡ record {
+          version = version;
           set = set;
           entries = entries.items;
           contexts = contexts.items;
         } }
     {
         Schedule {
+            version,
             set,
             entries,
             contexts,
         }
+    }
+
+    /// The version of the format.
+    pub fn version(&self) -> u8
+        ensures value { result ≡ self.now.version }
+        ensures valid { IsSchedule self.now }
+    {
+        self.version
     }
 
     /// The tasks.

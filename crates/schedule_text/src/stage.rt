@@ -13,7 +13,7 @@ use scheduler_reply::Entry;
 use std::alloc::Global;
 use task_set::{Context, TaskSet};
 use text_fields::is_word;
-use text_fields::limits::MAX_PROCESSORS;
+use text_fields::limits::{FIRST_VERSION, LAST_VERSION, MAX_PROCESSORS};
 
 /// What some lines said, and so what is expected after them.
 #[derive(Drop)]
@@ -21,16 +21,20 @@ pub enum Stage {
     /// The header is expected.
     HeaderExpected,
 
-    /// The number of processors is expected.
-    ProcessorsExpected,
+    /// The number of processors is expected, in a version of the format.
+    ProcessorsExpected {
+        version: u8,
+    },
 
     /// Tasks, and then the number of entries, are expected.
     TasksExpected {
+        version: u8,
         set: TaskSet,
     },
 
     /// Entries up to a count, and then the number of contexts, are expected.
     EntriesExpected {
+        version: u8,
         set: TaskSet,
         count: u64,
         entries: Vec<Entry>,
@@ -38,6 +42,7 @@ pub enum Stage {
 
     /// Contexts, one for each task, and then the end are expected.
     ContextsExpected {
+        version: u8,
         set: TaskSet,
         entries: Vec<Entry>,
         contexts: Vec<Context>,
@@ -59,21 +64,21 @@ impl Stage {
     pub fn after_line<'a>(
         self,
         alloc: Global,
-        version: u64,
         text: &'a [u8],
         room: &mut Vec<&'a [u8]>,
     ) -> Result<Reached, TextKind>
         requires { IsPrefix (progress_of self) }
-        ensures read { IfOk result (λ next. Leads version (progress_of self) text.now
+        ensures read { IfOk result (λ next. Leads (progress_of self) text.now
             (progress_after next)) }
         ensures refused { IfErr result (λ kind. IsOutOfMemory kind
-            ⊎ IsLineFault version (progress_of self) text.now kind) }
+            ⊎ IsLineFault (progress_of self) text.now kind) }
     {
         match self {
-            Stage::HeaderExpected => read_header(alloc, version, text),
-            Stage::ProcessorsExpected => start(alloc, version, text, room),
-            Stage::TasksExpected { set } => read_task(alloc, version, set, text, room),
+            Stage::HeaderExpected => read_header(text, room),
+            Stage::ProcessorsExpected { version } => start(alloc, version, text, room),
+            Stage::TasksExpected { version, set } => read_task(alloc, version, set, text, room),
             Stage::EntriesExpected {
+                version,
                 set,
                 count,
                 entries,
@@ -85,6 +90,7 @@ impl Stage {
                 }
             }
             Stage::ContextsExpected {
+                version,
                 set,
                 entries,
                 contexts,
@@ -99,58 +105,61 @@ impl Stage {
     }
 }
 
-/// Reads the header.
-fn read_header(alloc: Global, version: u64, text: &[u8]) -> Result<Reached, TextKind>
-    ensures read { IfOk result (λ next. Leads version HeaderExpected text.now
-        (progress_after next)) }
+/// Reads the header, which says the version.
+fn read_header<'a>(text: &'a [u8], room: &mut Vec<&'a [u8]>) -> Result<Reached, TextKind>
+    ensures read { IfOk result (λ next. Leads HeaderExpected text.now (progress_after next)) }
     ensures refused { IfErr result (λ kind. IsOutOfMemory kind
-        ⊎ IsLineFault version HeaderExpected text.now kind) }
+        ⊎ IsLineFault HeaderExpected text.now kind) }
 {
-    if is_numbered(alloc, b"schedule ", version, text)? {
-        Ok(Reached::Expected(Stage::ProcessorsExpected))
-    } else {
-        Err(TextKind::BadLine)
+    let fields = spaced_fields(text, room)?;
+    let (first, last) = (FIRST_VERSION as u64, LAST_VERSION as u64);
+    match number_after(fields, "schedule", first, last) {
+        Some(version) => Ok(Reached::Expected(Stage::ProcessorsExpected {
+            version: version as u8,
+        })),
+        None => Err(TextKind::BadLine),
     }
 }
 
 /// No task yet, on as many processors as a line says.
 fn start<'a>(
     alloc: Global,
-    version: u64,
+    version: u8,
     text: &'a [u8],
     room: &mut Vec<&'a [u8]>,
 ) -> Result<Reached, TextKind>
-    ensures read { IfOk result (λ next. Leads version ProcessorsExpected text.now
+    ensures read { IfOk result (λ next. Leads (ProcessorsExpected version) text.now
         (progress_after next)) }
     ensures refused { IfErr result (λ kind. IsOutOfMemory kind
-        ⊎ IsLineFault version ProcessorsExpected text.now kind) }
+        ⊎ IsLineFault (ProcessorsExpected version) text.now kind) }
 {
     let fields = spaced_fields(text, room)?;
     let Some(processors) = number_after(fields, "processors", 1, MAX_PROCESSORS) else {
         return Err(TextKind::BadLine);
     };
     let set = TaskSet::new(alloc, processors as u8)?;
-    Ok(Reached::Expected(Stage::TasksExpected { set }))
+    Ok(Reached::Expected(Stage::TasksExpected { version, set }))
 }
 
 /// Reads a task, or how many entries there are.
 fn read_task<'a>(
     alloc: Global,
-    version: u64,
+    version: u8,
     mut set: TaskSet,
     text: &'a [u8],
     room: &mut Vec<&'a [u8]>,
 ) -> Result<Reached, TextKind>
-    ensures read { IfOk result (λ next. Leads version (TasksExpected set) text.now
+    ensures read { IfOk result (λ next. Leads (TasksExpected version set) text.now
         (progress_after next)) }
     ensures refused { IfErr result (λ kind. IsOutOfMemory kind
-        ⊎ IsLineFault version (TasksExpected set) text.now kind) }
+        ⊎ IsLineFault (TasksExpected version set) text.now kind) }
 {
     let fields = spaced_fields(text, room)?;
     match number_after(fields, "history", 0, MAX_ENTRIES) {
         Some(count) => {
             let entries = Vec::new(alloc);
             Ok(Reached::Expected(Stage::EntriesExpected {
+                version,
                 set,
                 count,
                 entries,
@@ -158,14 +167,14 @@ fn read_task<'a>(
         }
         None => {
             add_task(&mut set, fields)?;
-            Ok(Reached::Expected(Stage::TasksExpected { set }))
+            Ok(Reached::Expected(Stage::TasksExpected { version, set }))
         }
     }
 }
 
 /// Lists the entry of a line.
 fn list_entry<'a>(
-    version: u64,
+    version: u8,
     set: TaskSet,
     count: u64,
     mut entries: Vec<Entry>,
@@ -173,18 +182,19 @@ fn list_entry<'a>(
     room: &mut Vec<&'a [u8]>,
 ) -> Result<Reached, TextKind>
     requires { length entries.items < count }
-    ensures read { IfOk result (λ next. Leads version (EntriesExpected set count entries.items)
+    ensures read { IfOk result (λ next. Leads (EntriesExpected version set count entries.items)
         text.now (progress_after next)) }
     ensures refused { IfErr result (λ kind. IsOutOfMemory kind
-        ⊎ IsLineFault version (EntriesExpected set count entries.items) text.now kind) }
+        ⊎ IsLineFault (EntriesExpected version set count entries.items) text.now kind) }
 {
     let _valid = set.len();
     let fields = spaced_fields(text, room)?;
-    let entry = read_entry(&set, fields)?;
+    let entry = read_entry(version, &set, fields)?;
     if entries.push(entry).is_err() {
         return Err(TextKind::OutOfMemory);
     }
     Ok(Reached::Expected(Stage::EntriesExpected {
+        version,
         set,
         count,
         entries,
@@ -194,23 +204,24 @@ fn list_entry<'a>(
 /// No context yet, after the line that says how many there are.
 fn begin_contexts(
     alloc: Global,
-    version: u64,
+    version: u8,
     set: TaskSet,
     count: u64,
     entries: Vec<Entry>,
     text: &[u8],
 ) -> Result<Reached, TextKind>
     requires { length entries.items ≡ count }
-    ensures read { IfOk result (λ next. Leads version (EntriesExpected set count entries.items)
+    ensures read { IfOk result (λ next. Leads (EntriesExpected version set count entries.items)
         text.now (progress_after next)) }
     ensures refused { IfErr result (λ kind. IsOutOfMemory kind
-        ⊎ IsLineFault version (EntriesExpected set count entries.items) text.now kind) }
+        ⊎ IsLineFault (EntriesExpected version set count entries.items) text.now kind) }
 {
     if !is_numbered(alloc, b"contexts ", set.len() as u64, text)? {
         return Err(TextKind::BadLine);
     }
     let contexts = Vec::new(alloc);
     Ok(Reached::Expected(Stage::ContextsExpected {
+        version,
         set,
         entries,
         contexts,
@@ -219,7 +230,7 @@ fn begin_contexts(
 
 /// Lists the context of a line.
 fn list_context<'a>(
-    version: u64,
+    version: u8,
     set: TaskSet,
     entries: Vec<Entry>,
     mut contexts: Vec<Context>,
@@ -227,10 +238,11 @@ fn list_context<'a>(
     room: &mut Vec<&'a [u8]>,
 ) -> Result<Reached, TextKind>
     requires { length contexts.items < length set.tasks }
-    ensures read { IfOk result (λ next. Leads version
-        (ContextsExpected set entries.items contexts.items) text.now (progress_after next)) }
+    ensures read { IfOk result (λ next. Leads
+        (ContextsExpected version set entries.items contexts.items) text.now
+        (progress_after next)) }
     ensures refused { IfErr result (λ kind. IsOutOfMemory kind
-        ⊎ IsLineFault version (ContextsExpected set entries.items contexts.items) text.now kind) }
+        ⊎ IsLineFault (ContextsExpected version set entries.items contexts.items) text.now kind) }
 {
     let _valid = set.len();
     let context = read_context(&set, contexts.len() as u32, text, room)?;
@@ -238,6 +250,7 @@ fn list_context<'a>(
         return Err(TextKind::OutOfMemory);
     }
     Ok(Reached::Expected(Stage::ContextsExpected {
+        version,
         set,
         entries,
         contexts,
@@ -246,21 +259,22 @@ fn list_context<'a>(
 
 /// The whole schedule, at its last line.
 fn end(
-    version: u64,
+    version: u8,
     set: TaskSet,
     entries: Vec<Entry>,
     contexts: Vec<Context>,
     text: &[u8],
 ) -> Result<Reached, TextKind>
-    requires prefix { IsPrefix (ContextsExpected set entries.items contexts.items) }
+    requires prefix { IsPrefix (ContextsExpected version set entries.items contexts.items) }
     requires one_each { length contexts.items ≡ length set.tasks }
-    ensures read { IfOk result (λ next. Leads version
-        (ContextsExpected set entries.items contexts.items) text.now (progress_after next)) }
-    ensures refused { IfErr result (IsLineFault version
-        (ContextsExpected set entries.items contexts.items) text.now) }
+    ensures read { IfOk result (λ next. Leads
+        (ContextsExpected version set entries.items contexts.items) text.now
+        (progress_after next)) }
+    ensures refused { IfErr result (IsLineFault
+        (ContextsExpected version set entries.items contexts.items) text.now) }
 {
     if is_word(text, "end") {
-        Ok(Reached::End(Schedule::new(set, entries, contexts)))
+        Ok(Reached::End(Schedule::new(version, set, entries, contexts)))
     } else {
         Err(TextKind::BadLine)
     }

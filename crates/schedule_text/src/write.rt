@@ -3,43 +3,54 @@ ghost use Rattle.std.specs.Prelude.{◌≡◌, ◌<◌, ◌++◌, length, codes,
 ghost use Rattle.std.specs.List.{flat_map};
 ghost use Rattle.affinity_mask.specs.Number.{canonical_number};
 ghost use Rattle.text_fields.specs.LineText.{line};
-ghost use Rattle.scheduler_reply.specs.declared.reply.Reply.TheVariants.{Displaced, Freed};
+ghost use Rattle.scheduler_reply.specs.Reply.{came_tasks};
+ghost use Rattle.scheduler_reply.specs.declared.reply.Came.TheVariants as came;
+ghost use Rattle.scheduler_reply.specs.declared.reply.Reply.TheVariants.{Remasked, Off};
 ghost use Rattle.schedule_text.specs.ScheduleText.{
   chain_text,
   set_text,
   somebody_text,
   number_text,
+  came_text,
+  gone_text,
   reply_text,
   entry_line,
   context_line,
   schedule_text,
+  IsVersion,
+  AreTasksOf,
   IsReplyOf,
   IsEntryOf,
+  IsEntryOfVersion,
 };
 
 use affinity_mask::{OutOfMemory, ProcSet};
-use scheduler_reply::{Chain, Entry, Reply};
+use scheduler_reply::{Came, Chain, Entry, Gone, Moved, Reply};
 use std::alloc::Global;
 use task_set::{Context, TaskSet};
-use text_fields::limits::VERSION;
 use text_fields::{
     write_event_text, write_name, write_number, write_processors_line, write_task_lines,
 };
 
-/// The text of a schedule: a task set, the entries of a history, and the contexts of the tasks. The tasks that they
-/// name are of the set. Refused only when out of memory.
+/// The text of a schedule in a version of the format: a task set, the entries of a history, and the contexts of the
+/// tasks. What they are about is of the set, and their events and replies are of the version. Refused only when out of
+/// memory.
 pub fn write_schedule(
     alloc: Global,
+    version: u8,
     set: &TaskSet,
     entries: &[Entry],
     contexts: &[Context],
 ) -> Result<Vec<u8>, OutOfMemory>
+    requires version { IsVersion version }
     requires entries { All (IsEntryOf set.now) entries.now }
+    requires of_version { All (IsEntryOfVersion version) entries.now }
     requires contexts { All (λ c. c.task < length set.now.tasks) contexts.now }
-    ensures { IfOk result (λ text. text.items ≡ schedule_text set.now entries.now contexts.now) }
+    ensures { IfOk result (λ text. text.items
+        ≡ schedule_text version set.now entries.now contexts.now) }
 {
     let mut text = Vec::new(alloc);
-    write_numbered_line(&mut text, b"schedule ", VERSION)?;
+    write_numbered_line(&mut text, b"schedule ", version as u64)?;
     write_processors_line(&mut text, set)?;
     write_task_lines(&mut text, set)?;
     write_numbered_line(&mut text, b"history ", entries.len() as u64)?;
@@ -77,7 +88,7 @@ fn write_entry(text: &mut Vec<u8>, set: &TaskSet, entry: &Entry) -> Result<(), O
 }
 
 /// Appends a reply.
-#[tactic(auto, unfolding(crate::specs::ScheduleText::reply_text))]
+#[tactic(auto, unfolding(crate::specs::ScheduleText::reply_text, crate::specs::ScheduleText::came_text))]
 fn write_reply(text: &mut Vec<u8>, set: &TaskSet, reply: &Reply) -> Result<(), OutOfMemory>
     requires { IsReplyOf set.now reply.now }
     ensures { OnOk result (text.new.items ≡ text.old.items ++ reply_text set.now reply.now) }
@@ -90,15 +101,92 @@ fn write_reply(text: &mut Vec<u8>, set: &TaskSet, reply: &Reply) -> Result<(), O
             entered,
             chain,
             back,
-        } => write_freed(text, set, *entered, chain, back),
+        } => write_gone(text, set, b"freed ", *entered, chain, back),
         Reply::Left => write_word(text, b"left"),
         Reply::Ticked => write_word(text, b"ticked"),
         Reply::AlreadyReady => write_word(text, b"already"),
         Reply::NotReady => write_word(text, b"absent"),
+        Reply::Masked => write_word(text, b"masked"),
+        Reply::Remasked { gone, came } => write_remasked(text, set, gone, came),
+        Reply::AlreadyOff => write_word(text, b"already_off"),
+        Reply::AlreadyOn => write_word(text, b"already_on"),
+        Reply::Off { moved } => write_off(text, set, moved),
+        Reply::On { parts } => {
+            write_gone(text, set, b"on ", parts.entered, &parts.chain, &parts.back)
+        }
     }
 }
 
-/// Appends the reply that a task was placed along a chain.
+/// Appends the reply that the mask of a ready task was set.
+fn write_remasked(
+    text: &mut Vec<u8>,
+    set: &TaskSet,
+    gone: &Option<Gone>,
+    came: &Came,
+) -> Result<(), OutOfMemory>
+    requires { IsReplyOf set.now (Remasked gone.now came.now) }
+    ensures { OnOk result (text.new.items ≡ text.old.items
+        ++ reply_text set.now (Remasked gone.now came.now)) }
+{
+    match gone {
+        Some(gone) => {
+            let word = b"remasked freed ";
+            write_gone(text, set, word, gone.entered, &gone.chain, &gone.back)?;
+            write_came(text, set, b" then ", came)
+        }
+        None => write_came(text, set, b"remasked left then ", came),
+    }
+}
+
+/// Appends the reply that a processor is off line.
+fn write_off(
+    text: &mut Vec<u8>,
+    set: &TaskSet,
+    moved: &Option<Moved>,
+) -> Result<(), OutOfMemory>
+    requires { IsReplyOf set.now (Off moved.now) }
+    ensures { OnOk result (text.new.items ≡ text.old.items
+        ++ reply_text set.now (Off moved.now)) }
+{
+    match moved {
+        Some(moved) => {
+            write_word(text, b"off ")?;
+            write_name(text, set, moved.task)?;
+            write_came(text, set, b" then ", &moved.came)
+        }
+        None => write_word(text, b"off -"),
+    }
+}
+
+/// Appends a word and the result of an arrival.
+fn write_came(
+    text: &mut Vec<u8>,
+    set: &TaskSet,
+    word: &[u8],
+    came: &Came,
+) -> Result<(), OutOfMemory>
+    requires { AreTasksOf set.now (came_tasks came.now) }
+    ensures { OnOk result (text.new.items ≡ text.old.items
+        ++ (word.now ++ came_text set.now came.now)) }
+{
+    write_word(text, word)?;
+    write_result(text, set, came)
+}
+
+/// Appends the result of an arrival.
+#[tactic(auto, unfolding(crate::specs::ScheduleText::came_text))]
+fn write_result(text: &mut Vec<u8>, set: &TaskSet, came: &Came) -> Result<(), OutOfMemory>
+    requires { AreTasksOf set.now (came_tasks came.now) }
+    ensures { OnOk result (text.new.items ≡ text.old.items ++ came_text set.now came.now) }
+{
+    match came {
+        Came::Placed { chain } => write_placed(text, chain),
+        Came::Displaced { chain, out, reach } => write_displaced(text, set, chain, *out, reach),
+        Came::Waits { reach } => write_waits(text, reach),
+    }
+}
+
+/// Appends the result that a task was placed along a chain.
 fn write_placed(text: &mut Vec<u8>, chain: &Chain) -> Result<(), OutOfMemory>
     ensures { OnOk result (text.new.items ≡ text.old.items
         ++ (codes "placed " ++ chain_text chain.now)) }
@@ -107,7 +195,7 @@ fn write_placed(text: &mut Vec<u8>, chain: &Chain) -> Result<(), OutOfMemory>
     write_chain(text, chain)
 }
 
-/// Appends the reply that a task was displaced at the end of a chain, with what the arriving task reaches.
+/// Appends the result that a task was displaced at the end of a chain, with what the arriving task reaches.
 fn write_displaced(
     text: &mut Vec<u8>,
     set: &TaskSet,
@@ -117,7 +205,7 @@ fn write_displaced(
 ) -> Result<(), OutOfMemory>
     requires { out < length set.now.tasks }
     ensures { OnOk result (text.new.items ≡ text.old.items
-        ++ reply_text set.now (Displaced chain.now out reach.now)) }
+        ++ came_text set.now (came.Displaced chain.now out reach.now)) }
 {
     write_word(text, b"displaced ")?;
     write_chain(text, chain)?;
@@ -127,7 +215,7 @@ fn write_displaced(
     write_set(text, reach)
 }
 
-/// Appends the reply that a task waits, with what it reaches.
+/// Appends the result that a task waits, with what it reaches.
 fn write_waits(text: &mut Vec<u8>, reach: &ProcSet) -> Result<(), OutOfMemory>
     ensures { OnOk result (text.new.items ≡ text.old.items
         ++ (codes "waits " ++ set_text reach.now)) }
@@ -136,19 +224,25 @@ fn write_waits(text: &mut Vec<u8>, reach: &ProcSet) -> Result<(), OutOfMemory>
     write_set(text, reach)
 }
 
-/// Appends the reply that a processor was freed: the chain, who came in, and the processors from which it is reached.
-fn write_freed(
+/// Appends a word and who came in at a processor that became idle: along which chain, who, and the processors from which
+/// it is reached.
+fn write_gone(
     text: &mut Vec<u8>,
     set: &TaskSet,
+    word: &[u8],
     entered: Option<u32>,
     chain: &Chain,
     back: &ProcSet,
 ) -> Result<(), OutOfMemory>
     requires { IfSome entered (λ t. t < length set.now.tasks) }
-    ensures { OnOk result (text.new.items ≡ text.old.items
-        ++ reply_text set.now (Freed entered chain.now back.now)) }
+    ensures { OnOk result (text.new.items ≡ text.old.items ++ (word.now
+        ++ gone_text set.now (record {
+          entered = entered;
+          chain = chain.now;
+          back = back.now;
+        }))) }
 {
-    write_word(text, b"freed ")?;
+    write_word(text, word)?;
     write_chain(text, chain)?;
     write_word(text, b" enters ")?;
     write_name_or_dash(text, set, entered)?;

@@ -1,27 +1,18 @@
-use Rattle.std.proofs.lemmas.Result.{err_from_is_err_and}
-use Rattle.schedule_text.proofs.Shapes.{arrival_fault, departure_fault, arrival_read, departure_read}
+use Rattle.std.proofs.Common.{inl, inr, refl, sym, arith, ◌≡◌, ◌≢◌, ℕ, List, length}
+use Rattle.std.proofs.lemmas.List.{length-map}
+use Rattle.std.specs.Borrow.{Bor}
+use Rattle.text_fields.specs.Fields.{texts}
+use Rattle.text_fields.proofs.FieldLists.{texts_three}
+use Rattle.schedule_text.proofs.EventFields.{two_refused, affinity_refused, other_event}
 use Rattle.schedule_text.proofs.entry.read_event.Goals as goal
 
-pub returns-in_err-known_task-clause-refused : goal.returns-in_err-known_task-clause-refused
-returns-in_err-known_task-clause-refused c =
-    let p = err_from_is_err_and c.from_residual.result c.from_residual.ensures.1 in
-    rw (p.1, p.2) (arrival_fault c.args.set.now c.args.word.now c.args.value.now c.in_err-known_task.field-0.0
-    (c.is_word.ensures.0 c.if-is_word.true) c.in_err-known_task.ensures.refused)
+pub returns-in-len2-clause-refused : goal.returns-in-len2-clause-refused
+returns-in-len2-clause-refused c =
+    two_refused c.args.version c.args.set.now c.args.fields.now _ c.valued_event.result c.in-len2.len_at_least
+    c.in-len2.len_below c.valued_event.ensures.refused
 
-pub returns-in_err-known_task-2-clause-refused : goal.returns-in_err-known_task-2-clause-refused
-returns-in_err-known_task-2-clause-refused c =
-    let p = err_from_is_err_and c.from_residual-in_err-known_task-2.result
-    c.from_residual-in_err-known_task-2.ensures.1 in
-    rw (p.1, p.2) (departure_fault c.args.set.now c.args.word.now c.args.value.now
-    c.in_err-known_task-2.field-0.0 (c.is_word-else-is_word.ensures.0 c.if-is_word-2.true)
-    c.in_err-known_task-2.ensures.refused)
+pub returns-then-is_word-clause-refused : goal.returns-then-is_word-clause-refused
+returns-then-is_word-clause-refused c =
+    affinity_refused c.args.version c.args.set.now c.args.fields.now _ c.affinity_of.result c.in-len3.len_at_least
+    c.in-len3.len_below (omega arith) (c.is_word.ensures.0 c.if-is_word.true) c.affinity_of.ensures.refused
 
-pub returns-in_ok-known_task-clause-read : goal.returns-in_ok-known_task-clause-read
-returns-in_ok-known_task-clause-read c =
-    arrival_read c.args.set.now c.args.word.now c.args.value.now c.in_ok-known_task.field-0
-    (c.is_word.ensures.0 c.if-is_word.true) c.in_ok-known_task.ensures.read
-
-pub returns-in_ok-known_task-2-clause-read : goal.returns-in_ok-known_task-2-clause-read
-returns-in_ok-known_task-2-clause-read c =
-    departure_read c.args.set.now c.args.word.now c.args.value.now c.in_ok-known_task-2.field-0
-    (c.is_word-else-is_word.ensures.0 c.if-is_word-2.true) c.in_ok-known_task-2.ensures.read

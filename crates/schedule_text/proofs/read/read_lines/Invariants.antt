@@ -4,7 +4,7 @@ use Rattle.schedule_text.proofs.Prefixes.{IsReadTo}
 use Rattle.schedule_text.proofs.read.read_lines.Given as goal
 
 abbrev pub invariant-loop-text : goal.invariant-loop-text
-invariant-loop-text l = IsReadTo l.fn.version l.fn.bytes l.rest l.line (progress_of l.stage)
+invariant-loop-text l = IsReadTo l.fn.bytes l.rest l.line (progress_of l.stage)
 
 abbrev pub decreases-loop-text : goal.decreases-loop-text
 decreases-loop-text l = length l.rest

@@ -1,47 +1,43 @@
-use Rattle.std.proofs.Common.{IfOk, IfErr, subst, sym, ◌⊎◌, ℕ, List}
-use Rattle.schedule_text.specs.declared.fault.TextKind.{TextKind}
-use Rattle.schedule_text.specs.Reading.{IsOutOfMemory}
-use Rattle.schedule_text.specs.LineFields.{IsReplyFields, IsReplyFault}
-use Rattle.schedule_text.proofs.FieldLists.{texts_six, six_displaced, six_freed}
-use Rattle.text_fields.proofs.FieldLists.{texts_one}
+use Rattle.std.proofs.Common.{refl, sym, ◌∙◌}
+use Rattle.std.specs.Prelude.{codes}
+use Rattle.std.proofs.lemmas.Bool.{true≢false}
+use Rattle.std.proofs.lemmas.Result.{err_from_is_err_and}
+use Rattle.schedule_text.proofs.FieldLists.{headed, more_than_one}
+use Rattle.schedule_text.proofs.ReplyFields.{refused_at, freed_refused, came_refused}
 use Rattle.schedule_text.proofs.reply.read_reply.Goals as goal
 
-pub returns-in-Some-clause-read : goal.returns-in-Some-clause-read
-returns-in-Some-clause-read c =
-    subst (λ (fields : List (List ℕ)). IsReplyFields c.args.set.now fields c.in-Some.reply)
-    (sym (texts_one c.args.fields.now _ c.in-len1.len_at_least c.in-len1.len_below))
-    (c.in-Some.ensures c.args.set.now)
+pub returns-in_err-read_gone-clause-refused : goal.returns-in_err-read_gone-clause-refused
+returns-in_err-read_gone-clause-refused c =
+    let p = err_from_is_err_and c.from_residual.result c.from_residual.ensures.1 in
+    rw (p.1, p.2) (freed_refused c.args.version c.args.set.now c.args.fields.now _ c.in_err-read_gone.field-0.0
+    c.in-len1-up.len_at_least (c.is_word.ensures.0 c.if-is_word.true) c.in_err-read_gone.ensures.refused)
 
-pub returns-then-is_displaced-clause-read : goal.returns-then-is_displaced-clause-read
-returns-then-is_displaced-clause-read c =
-    let same = six_displaced _ _ _ _ _ _ _
-    (texts_six c.args.fields.now _ c.in-len6.len_at_least c.in-len6.len_below)
-    (c.is_displaced.ensures.0 c.if-is_displaced.true) in
-    subst (λ (fields : List (List ℕ)). IfOk c.displaced_reply.result (IsReplyFields c.args.set.now fields)) same
-    c.displaced_reply.ensures.read
+pub returns-in_err-read_came-clause-refused : goal.returns-in_err-read_came-clause-refused
+returns-in_err-read_came-clause-refused c =
+    let p = err_from_is_err_and c.from_residual-in_err-read_came.result c.from_residual-in_err-read_came.ensures.1 in
+    rw (p.1, p.2) (came_refused c.args.version c.args.set.now c.args.fields.now _ c.in_err-read_came.field-0.0
+    c.in-len1-up.len_at_least
+    (more_than_one c.args.fields.now c.is_empty.result c.is_empty.ensures c.if-is_empty.false) (
+      λ is. true≢false (sym (c.is_word.ensures.1 is) ∙ c.if-is_word.false),
+      λ is. true≢false (sym (c.is_word-else-is_word.ensures.1 is) ∙ c.if-is_word-2.false),
+      λ is. true≢false (sym (c.is_word-else-is_word-2.ensures.1 is) ∙ c.if-is_word-3.false),
+      λ is. true≢false (sym (c.is_word-else-is_word-3.ensures.1 is) ∙ c.if-is_word-4.false),
+    ) c.in_err-read_came.ensures.refused)
 
-pub returns-then-is_displaced-clause-refused : goal.returns-then-is_displaced-clause-refused
-returns-then-is_displaced-clause-refused c =
-    let same = six_displaced _ _ _ _ _ _ _
-    (texts_six c.args.fields.now _ c.in-len6.len_at_least c.in-len6.len_below)
-    (c.is_displaced.ensures.0 c.if-is_displaced.true) in
-    subst (λ (fields : List (List ℕ)). IfErr c.displaced_reply.result
-    (λ (kind : TextKind). IsOutOfMemory kind
-    ⊎ IsReplyFault c.args.set.now fields kind)) same c.displaced_reply.ensures.refused
+pub returns-then-is_word-2-clause-refused : goal.returns-then-is_word-2-clause-refused
+returns-then-is_word-2-clause-refused c =
+    refused_at c.args.version c.args.version _ _ c.args.set.now c.on_reply.result refl
+    (headed c.args.fields.now _ (codes "on") c.in-len1-up.len_at_least
+    (c.is_word-else-is_word.ensures.0 c.if-is_word-2.true)) c.on_reply.ensures.refused
 
-pub returns-then-is_freed-clause-read : goal.returns-then-is_freed-clause-read
-returns-then-is_freed-clause-read c =
-    let same = six_freed _ _ _ _ _ _ _
-    (texts_six c.args.fields.now _ c.in-len6.len_at_least c.in-len6.len_below)
-    (c.is_freed.ensures.0 c.if-is_freed.true) in
-    subst (λ (fields : List (List ℕ)). IfOk c.freed_reply.result (IsReplyFields c.args.set.now fields)) same
-    c.freed_reply.ensures.read
+pub returns-then-is_word-3-clause-refused : goal.returns-then-is_word-3-clause-refused
+returns-then-is_word-3-clause-refused c =
+    refused_at c.args.version c.args.version _ _ c.args.set.now c.off_reply.result refl
+    (headed c.args.fields.now _ (codes "off") c.in-len1-up.len_at_least
+    (c.is_word-else-is_word-2.ensures.0 c.if-is_word-3.true)) c.off_reply.ensures.refused
 
-pub returns-then-is_freed-clause-refused : goal.returns-then-is_freed-clause-refused
-returns-then-is_freed-clause-refused c =
-    let same = six_freed _ _ _ _ _ _ _
-    (texts_six c.args.fields.now _ c.in-len6.len_at_least c.in-len6.len_below)
-    (c.is_freed.ensures.0 c.if-is_freed.true) in
-    subst (λ (fields : List (List ℕ)). IfErr c.freed_reply.result
-    (λ (kind : TextKind). IsOutOfMemory kind
-    ⊎ IsReplyFault c.args.set.now fields kind)) same c.freed_reply.ensures.refused
+pub returns-then-is_word-4-clause-refused : goal.returns-then-is_word-4-clause-refused
+returns-then-is_word-4-clause-refused c =
+    refused_at c.args.version c.args.version _ _ c.args.set.now c.remasked_reply.result refl
+    (headed c.args.fields.now _ (codes "remasked") c.in-len1-up.len_at_least
+    (c.is_word-else-is_word-3.ensures.0 c.if-is_word-4.true)) c.remasked_reply.ensures.refused

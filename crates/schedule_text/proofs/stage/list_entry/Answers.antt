@@ -14,6 +14,6 @@ returns-in_err-entry-clause-refused c =
 
 pub returns-clause-read : goal.returns-clause-read
 returns-clause-read c =
-    entry_read c.args.set c.args.count c.args.entries.items c.push.new.self.items c.in_ok-entry.entry
+    entry_read c.args.version c.args.set c.args.count c.args.entries.items c.push.new.self.items c.in_ok-entry.entry
     (texts c.in_ok-fields.fields.now) c.args.text.now c.in_ok-fields.ensures
     c.requires c.in_ok-entry.ensures.read (search rules)

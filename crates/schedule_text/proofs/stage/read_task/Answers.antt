@@ -8,7 +8,7 @@ use Rattle.schedule_text.proofs.stage.read_task.Goals as goal
 
 pub returns-in-Some-clause-read : goal.returns-in-Some-clause-read
 returns-in-Some-clause-read c =
-    history_read c.args.set (texts c.in_ok-fields.fields.now) c.args.text.now c.in-Some.count
+    history_read c.args.version c.args.set (texts c.in_ok-fields.fields.now) c.args.text.now c.in-Some.count
     c.new-entries.result.items c.in_ok-fields.ensures c.in-Some.ensures
     c.new-entries.ensures.items
 
@@ -23,5 +23,5 @@ returns-in_err-add_task-in-None-clause-refused c =
 
 pub returns-in_ok-add_task-in-None-clause-read : goal.returns-in_ok-add_task-in-None-clause-read
 returns-in_ok-add_task-in-None-clause-read c =
-    task_read c.args.set c.add_task.new.set (texts c.in_ok-fields.fields.now) c.args.text.now
+    task_read c.args.version c.args.set c.add_task.new.set (texts c.in_ok-fields.fields.now) c.args.text.now
     c.in_ok-fields.ensures c.in_ok-add_task-in-None.ensures.read

@@ -12,7 +12,7 @@ returns-in_default-clause-refused c =
 pub returns-clause-read : goal.returns-clause-read
 returns-clause-read c = (
   c.in-Some.processors,
-  ap TasksExpected c.in_ok-set.ensures,
+  ap (TasksExpected c.args.version) c.in_ok-set.ensures,
   processors_read (texts c.in_ok-fields.fields.now)
       c.args.text.now c.in-Some.processors c.in_ok-fields.ensures
       c.in-Some.ensures,

@@ -1,9 +1,9 @@
 use Rattle.std.proofs.Common.{inr}
 use Rattle.std.proofs.lemmas.Result.{err_from_is_err_and}
-use Rattle.schedule_text.specs.Fields.{IsChainField, IsSetField}
-use Rattle.schedule_text.specs.LineFields.{displaced_fields}
-use Rattle.schedule_text.proofs.Replies.{displaced_parts, part_fault, displaced_read, displaced_fault}
-use Rattle.schedule_text.proofs.reply.displaced_reply.Goals as goal
+use Rattle.schedule_text.specs.Fields.{IsChainField}
+use Rattle.schedule_text.proofs.Parts.{part_fault}
+use Rattle.schedule_text.proofs.Arrivals.{displaced_parts, displaced_read, displaced_fault}
+use Rattle.schedule_text.proofs.reply.displaced.Goals as goal
 
 pub returns-clause-read : goal.returns-clause-read
 returns-clause-read c =
@@ -21,15 +21,6 @@ returns-in_err-out-clause-refused c =
 pub returns-in_err-chain-clause-refused : goal.returns-in_err-chain-clause-refused
 returns-in_err-chain-clause-refused c =
     let p = err_from_is_err_and c.from_residual.result c.from_residual.ensures.1 in
-    rw (p.1, p.2) (part_fault (IsChainField c.args.chain.now) c.args.set.now
-    (displaced_fields c.args.chain.now c.args.name.now c.args.processors.now) c.in_err-chain.field-0.0
+    rw (p.1, p.2) (part_fault (IsChainField c.args.chain.now) c.in_err-chain.field-0.0
     (λ some. let parts = displaced_parts c.args.chain.now c.args.name.now c.args.processors.now some in
     (parts.links, parts.is_chain)) c.in_err-chain.ensures.refused)
-
-pub returns-in_err-reach-clause-refused : goal.returns-in_err-reach-clause-refused
-returns-in_err-reach-clause-refused c =
-    let p = err_from_is_err_and c.from_residual-in_err-reach.result c.from_residual-in_err-reach.ensures.1 in
-    rw (p.1, p.2) (part_fault (IsSetField c.args.processors.now) c.args.set.now
-    (displaced_fields c.args.chain.now c.args.name.now c.args.processors.now) c.in_err-reach.field-0.0
-    (λ some. let parts = displaced_parts c.args.chain.now c.args.name.now c.args.processors.now some in
-    (parts.X, parts.is_set)) c.in_err-reach.ensures.refused)

@@ -1,0 +1,52 @@
+-- Events by the fields as the code cuts them.
+use Rattle.std.proofs.Common.{◌≡◌, ◌≢◌, ℕ, ◌<◌, ◌≤◌, ◌⊎◌, inl, inr, List, [], ◌∷◌, length, get_or, Bor, Result, Ok, Err, IfErr, refl, sym, ap, ◌∙◌, subst, arith}
+use Rattle.std.specs.Prelude.{codes}
+use Rattle.std.proofs.lemmas.List.{length-map}
+use Rattle.task_set.specs.TaskSet.{SetData}
+use Rattle.task_set.specs.declared.event.Event.{Event}
+use Rattle.text_fields.specs.Fields.{texts}
+use Rattle.text_fields.proofs.FieldLists.{texts_three}
+use Rattle.schedule_text.specs.declared.fault.TextKind.{TextKind}
+use Rattle.schedule_text.specs.declared.fault.TextKind.TheVariants.{BadLine}
+use Rattle.schedule_text.specs.Reading.{IsOutOfMemory}
+use Rattle.schedule_text.specs.LineFields.{IsEventFault}
+use Rattle.schedule_text.proofs.Parts.{fault_alone}
+use Rattle.schedule_text.proofs.Shapes.{event_length}
+
+-- what is refused
+abbrev IsRefused : ℕ → List (List ℕ) → SetData → Result Event TextKind → Type 0
+IsRefused version fields set result = IfErr result (λ kind. IsOutOfMemory kind ⊎ IsEventFault version fields set kind)
+
+texts_two : (fields : List (Bor (List ℕ))) (d : Bor (List ℕ)) → 2 ≤ length fields → length fields < 3
+    → texts fields ≡ (get_or fields 0 d).now ∷ (get_or fields 1 d).now ∷ []
+texts_two [] d some few = absurd (omega arith)
+texts_two (x ∷ []) d some few = absurd (omega arith)
+texts_two (x ∷ y ∷ []) d some few = refl
+texts_two (x ∷ y ∷ z ∷ us) d some few = absurd (omega arith)
+
+pub two_refused : (version : ℕ) (set : SetData) (fields : List (Bor (List ℕ))) (d : Bor (List ℕ))
+    (result : Result Event TextKind) → 2 ≤ length fields → length fields < 3
+    → IfErr result (IsEventFault version ((get_or fields 0 d).now ∷ (get_or fields 1 d).now ∷ []) set)
+    → IsRefused version (texts fields) set result
+two_refused version set fields d result some few refused =
+    subst (λ (all : List (List ℕ)). IsRefused version all set result) (sym (texts_two fields d some few))
+    (fault_alone result (λ kind fault. fault) refused)
+
+pub affinity_refused : (version : ℕ) (set : SetData) (fields : List (Bor (List ℕ))) (d : Bor (List ℕ))
+    (result : Result Event TextKind) → 3 ≤ length fields → length fields < 4 → version ≡ 2
+    → (get_or fields 0 d).now ≡ codes "affinity"
+    → IsRefused 2 (codes "affinity" ∷ (get_or fields 1 d).now ∷ (get_or fields 2 d).now ∷ []) set result
+    → IsRefused version (texts fields) set result
+affinity_refused version set fields d result some few two is refused =
+    subst (λ (all : List (List ℕ)). IsRefused version all set result)
+    (sym (texts_three fields d some few
+    ∙ ap (λ (word : List ℕ). word ∷ (get_or fields 1 d).now ∷ (get_or fields 2 d).now ∷ []) is))
+    (subst (λ (v : ℕ). IsRefused v (codes "affinity" ∷ (get_or fields 1 d).now ∷ (get_or fields 2 d).now ∷ []) set result)
+    (sym two) refused)
+
+-- no event has another number of fields
+pub other_event : (version : ℕ) (set : SetData) (fields : List (Bor (List ℕ))) → length fields ≢ 2 → length fields ≢ 3
+    → IsOutOfMemory BadLine ⊎ IsEventFault version (texts fields) set BadLine
+other_event version set fields two three =
+    let count = length-map fields (λ (field : Bor (List ℕ)). field.now) in
+    inr (inl (refl, event_length version set.processors (texts fields) (λ e. two (sym count ∙ e)) (λ e. three (sym count ∙ e))))

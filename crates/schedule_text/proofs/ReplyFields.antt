@@ -1,0 +1,72 @@
+-- Replies by the fields as the code cuts them.
+use Rattle.std.proofs.Common.{◌≡◌, ◌≢◌, ℕ, ◌-◌, ◌<◌, ◌≤◌, ◌⊎◌, inl, inr, List, [], ◌∷◌, length, take, drop, get_or, None, Bor, Result, Ok, Err, IfErr, refl, sym, ap, ◌∙◌, subst, arith}
+use Rattle.std.specs.Prelude.{codes}
+use Rattle.task_set.specs.TaskSet.{SetData}
+use Rattle.scheduler_reply.specs.declared.reply.Reply.{Reply}
+use Rattle.scheduler_reply.specs.declared.reply.Reply.TheVariants.{Remasked}
+use Rattle.scheduler_reply.specs.Reply.{reply_of_gone, reply_of_came}
+use Rattle.text_fields.specs.Fields.{texts}
+use Rattle.schedule_text.specs.declared.fault.TextKind.{TextKind}
+use Rattle.schedule_text.specs.Reading.{IsOutOfMemory}
+use Rattle.schedule_text.specs.LineFields.{IsCameFields, IsCameFault, IsGoneFields, IsGoneFault, IsReplyFields, IsReplyFault}
+use Rattle.schedule_text.proofs.FieldLists.{texts_rest, texts_rest_two, headed}
+use Rattle.schedule_text.proofs.Parts.{same_refused}
+use Rattle.schedule_text.proofs.Replies.{IsOtherWord, came_to, came_from, freed_to, freed_from, waiting_to, waiting_from}
+
+-- what is refused
+abbrev pub IsRefused : ℕ → List (List ℕ) → SetData → Result Reply TextKind → Type 0
+IsRefused version fields set result = IfErr result (λ kind. IsOutOfMemory kind ⊎ IsReplyFault version fields set kind)
+
+pub refused_at : (version other : ℕ) (fields others : List (List ℕ)) (set : SetData) (result : Result Reply TextKind)
+    → version ≡ other → fields ≡ others → IsRefused version fields set result → IsRefused other others set result
+refused_at version other fields others set result same is refused =
+    subst (λ (fs : List (List ℕ)). IsRefused other fs set result) is
+    (subst (λ (v : ℕ). IsRefused v fields set result) same refused)
+
+-- the rest of the fields
+abbrev rest_of : List (Bor (List ℕ)) → List (List ℕ)
+rest_of fields = texts (take (length fields - 1) (drop 1 fields))
+
+-- after `off` a name and `then`
+pub off_cut : (fields : List (Bor (List ℕ))) (d : Bor (List ℕ)) → 2 ≤ length fields → (get_or fields 1 d).now ≡ codes "then"
+    → codes "off" ∷ (get_or fields 0 d).now ∷ codes "then" ∷ texts (take (length fields - 2) (drop 2 fields))
+    ≡ codes "off" ∷ texts fields
+off_cut fields d some is =
+    ap (λ (more : List (List ℕ)). codes "off" ∷ more) (sym (texts_rest_two fields d some
+    ∙ ap (λ (word : List ℕ). (get_or fields 0 d).now ∷ word ∷ texts (take (length fields - 2) (drop 2 fields))) is))
+
+-- after `remasked left` the word `then`
+pub waiting_refused : (set : SetData) (fields : List (Bor (List ℕ))) (d : Bor (List ℕ)) (kind : TextKind)
+    → 1 ≤ length fields → (get_or fields 0 d).now ≡ codes "then"
+    → IsOutOfMemory kind ⊎ IsCameFault (rest_of fields) set kind
+    → IsOutOfMemory kind ⊎ IsReplyFault 2 (codes "remasked" ∷ codes "left" ∷ texts fields) set kind
+waiting_refused set fields d kind some is refused =
+    subst (λ (rest : List (List ℕ)). IsOutOfMemory kind
+    ⊎ IsReplyFault 2 (codes "remasked" ∷ codes "left" ∷ rest) set kind) (headed fields d (codes "then") some is)
+    (same_refused (IsCameFields (rest_of fields))
+    (IsReplyFields 2 (codes "remasked" ∷ codes "left" ∷ codes "then" ∷ rest_of fields)) set kind
+    (λ tasks arrival f. (Remasked None arrival, waiting_to 2 refl (rest_of fields) tasks arrival f))
+    (waiting_from 2 (rest_of fields)) refused)
+
+-- after `freed` who came in
+pub freed_refused : (version : ℕ) (set : SetData) (fields : List (Bor (List ℕ))) (d : Bor (List ℕ)) (kind : TextKind)
+    → 1 ≤ length fields → (get_or fields 0 d).now ≡ codes "freed"
+    → IsOutOfMemory kind ⊎ IsGoneFault (rest_of fields) set kind
+    → IsOutOfMemory kind ⊎ IsReplyFault version (texts fields) set kind
+freed_refused version set fields d kind some is refused =
+    subst (λ (all : List (List ℕ)). IsOutOfMemory kind ⊎ IsReplyFault version all set kind)
+    (headed fields d (codes "freed") some is)
+    (same_refused (IsGoneFields (rest_of fields)) (IsReplyFields version (codes "freed" ∷ rest_of fields)) set kind
+    (λ tasks gone f. (reply_of_gone gone, freed_to version (rest_of fields) tasks gone f))
+    (freed_from version (rest_of fields)) refused)
+
+-- more fields than one, of which the first is another word
+pub came_refused : (version : ℕ) (set : SetData) (fields : List (Bor (List ℕ))) (d : Bor (List ℕ)) (kind : TextKind)
+    → 1 ≤ length fields → length (texts fields) ≢ 1 → IsOtherWord (get_or fields 0 d).now
+    → IsOutOfMemory kind ⊎ IsCameFault (texts fields) set kind
+    → IsOutOfMemory kind ⊎ IsReplyFault version (texts fields) set kind
+came_refused version set fields d kind some more other refused =
+    same_refused (IsCameFields (texts fields)) (IsReplyFields version (texts fields)) set kind
+    (λ tasks arrival f. (reply_of_came arrival, came_to version (texts fields) tasks arrival f))
+    (came_from version (texts fields) (get_or fields 0 d).now (rest_of fields) (texts_rest fields d some) more other)
+    refused
