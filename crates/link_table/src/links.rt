@@ -226,7 +226,8 @@ impl Links {
     pub fn set_online(&mut self, p: u8, on: bool)
         requires processor { p < self.old.processors }
         requires nobody { task_on self.old p ≡ None }
-        ensures online { self.new ≡ (if on then state_with_online self.old p else state_with_offline self.old p) }
+        ensures online { self.new ≡
+            (if on then state_with_online self.old p else state_with_offline self.old p) }
         ensures valid { IsState self.new }
     {
         self.places.set_online(p, on);
