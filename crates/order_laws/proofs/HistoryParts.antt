@@ -1,6 +1,5 @@
 -- A history in two parts.
-use Rattle.std.proofs.Common.{List, [], ◌∷◌, refl, sym, subst}
-use Rattle.scheduler_reply.specs.declared.reply.Entry.{Entry}
+use Rattle.std.proofs.Common.{[], ◌∷◌, refl, sym, subst}
 use Rattle.link_state.specs.History.{IsLegalFrom, effect_of}
 use Rattle.order_laws.specs.PartLaws.{StateAfterParts, IsLegalInParts, PrefixIsLegal}
 

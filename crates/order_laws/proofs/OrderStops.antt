@@ -1,8 +1,7 @@
 -- The Stop among the orders of a history: it comes at the close, and is the last.
-use Rattle.std.proofs.Common.{◌≡◌, ◌≢◌, ℕ, ◌+◌, true, false, true≢false, List, [], ◌∷◌, ◌++◌, length, Option, None, Some, refl, sym, ap, ◌∙◌, subst, append-nil}
+use Rattle.std.proofs.Common.{◌≡◌, ◌≢◌, ℕ, ◌+◌, true, false, List, [], ◌∷◌, ◌++◌, length, Option, None, Some, refl, sym, ap, ◌∙◌, subst, append-nil}
 use Rattle.std.specs.Prelude.{All}
 use Rattle.std.proofs.lemmas.List.Elements.{All-nil, All-head, All-tail, All-append}
-use mathlib.Core.List.{IsPrefix}
 use Rattle.task_set.specs.declared.order.Order.{Order}
 use Rattle.task_set.specs.declared.order.Order.TheVariants.{Release, Take, Run, Stop}
 use Rattle.task_set.specs.Orders.{IsObeyable, has_stop}
@@ -10,7 +9,7 @@ use Rattle.task_set.proofs.Obeyable.{IsObeyableFrom-front, MayCome-next, nothing
 use Rattle.scheduler_reply.specs.declared.reply.Entry.{Entry}
 use Rattle.link_state.specs.State.{State, task_on}
 use Rattle.link_state.specs.History.{effect_of, state_after}
-use Rattle.link_state.specs.Dispatch.{orders_from, orders_of, closed_orders_of, taken_between}
+use Rattle.link_state.specs.Dispatch.{orders_from, orders_of, taken_between}
 use Rattle.link_state.proofs.Histories.{entry_orders}
 use Rattle.order_laws.specs.SentLaws.{AreSentOf, CloseAddsOrders, NoStopBeforeClose, StopComesAtClose, StopIsLastSent, SentIsObeyable, NextSentMayCome}
 use Rattle.order_laws.proofs.OrderLists.{close_orders, closed_orders_of-split, orders_obeyable-from}
