@@ -70,6 +70,12 @@ fn replayed_text(alloc: Global, bytes: &[u8]) -> Result<Vec<u8>, Status>
 {
     let input = read_input(alloc, bytes)?;
     let made = schedule_of(alloc, input.set(), input.events())?;
-    let text = write_schedule(alloc, input.version(), input.set(), made.core.history(), &made.contexts)?;
+    let text = write_schedule(
+        alloc,
+        input.version(),
+        input.set(),
+        made.core.history(),
+        &made.contexts,
+    )?;
     Ok(text)
 }

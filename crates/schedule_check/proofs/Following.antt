@@ -76,7 +76,7 @@ followed_processors schedule n checker followed =
 pub entry_known : (schedule : ScheduleData) (n : ℕ) (entry : Entry) (checker : CheckerData) → IsSchedule schedule → slice_get schedule.entries n ≡ Some entry → HasFollowed schedule n checker → IsEventFor checker.links entry.event
 entry_known schedule n entry checker ok there followed =
     let at_n = get_or_from_slice_get schedule.entries n entry entry there in
-    let scheduled : IsScheduled schedule.set entry = subst (IsScheduled schedule.set) at_n (ok.each_entry n entry (slice_get_within schedule.entries n entry there)) in
+    let scheduled : IsScheduled schedule.version schedule.set entry = subst (IsScheduled schedule.version schedule.set) at_n (ok.each_entry n entry (slice_get_within schedule.entries n entry there)) in
     rw (followed_processors schedule n checker followed, followed_count schedule n checker followed) scheduled.tasks.event
 
 -- an entry as the loop reads it

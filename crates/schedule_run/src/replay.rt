@@ -25,6 +25,12 @@ pub fn replayed_text<R: Threads + Wait + Clock + Sync, G: Gate + Sync>(
 {
     let input = read_input(alloc, bytes)?;
     let made = schedule_of(rt, alloc, input.set(), input.events(), gate)?;
-    let text = write_schedule(alloc, input.version(), input.set(), made.core.history(), &made.contexts)?;
+    let text = write_schedule(
+        alloc,
+        input.version(),
+        input.set(),
+        made.core.history(),
+        &made.contexts,
+    )?;
     Ok(text)
 }

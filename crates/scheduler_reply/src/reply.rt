@@ -200,7 +200,8 @@ impl Reply {
         match self {
             Reply::Freed { chain, .. } => chain.processors(),
             Reply::Remasked {
-                gone: Some(gone), ..
+                gone: Some(gone),
+                ..
             } => gone.chain.processors(),
             Reply::On { parts } => parts.chain.processors(),
             _ => &[],

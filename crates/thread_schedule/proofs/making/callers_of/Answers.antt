@@ -14,7 +14,7 @@ loop-posted-preserved c =
       most = more.1;
       above = All-more (λ (p : Posted). p.stream < c.with_stream-callers.result) events c.loop-posted.posted-index _ c.loop-posted-test.true
           (All-weaker (λ (p : Posted). p.stream < c.loop-posted.callers) (λ (p : Posted). p.stream < c.with_stream-callers.result) (λ p low. omega (arith, low, more.0)) (take c.loop-posted.posted-index events) i.above)
-          c.with_stream-callers.ensures.above;
+          (subst (λ (p : Posted). p.stream < c.with_stream-callers.result) c.posted-item.is c.with_stream-callers.ensures.above);
     }
 
 pub returns-clause-above : goal.returns-clause-above
