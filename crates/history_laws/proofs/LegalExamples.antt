@@ -1,24 +1,24 @@
 -- Of the small histories: replies that are the scheduler's are legal, and a chain that is not the least, or a set that
 -- is not the reach, is not.
-use Rattle.std.proofs.Common.{◌≡◌, ℕ, zero, suc, ◌<◌, ◌≤◌, false, List, [], ◌∷◌, length, Some, refl, sym, ap, ◌∙◌, inl, inr, ◌⊎◌, IsTrue, arith, eqb-true, subst}
+use Rattle.std.proofs.Common.{◌≡◌, ℕ, zero, suc, ◌<◌, ◌≤◌, false, List, [], ◌∷◌, length, None, Some, refl, sym, ap, ◌∙◌, inl, inr, ◌⊎◌, IsTrue, arith, eqb-true, subst}
 use Rattle.std.proofs.lemmas.Bool.{ltb-true, true≢false, false≢true, cases_order}
 use Rattle.std.proofs.lemmas.Option.{same_Some}
 use Rattle.affinity_mask.specs.ProcSet.{has, all_below, intersection}
 use Rattle.affinity_mask.proofs.Sets.{has-all_below, has-pow}
-use Rattle.task_set.specs.TaskSet.{SetData}
-use Rattle.task_set.specs.declared.event.Event.TheVariants.{Arrive}
+use Rattle.task_set.specs.TaskSet.{SetData, IsMask}
+use Rattle.task_set.specs.declared.event.Event.TheVariants.{Arrive, Offline}
 use Rattle.scheduler_reply.specs.declared.reply.Came.{Came}
 use Rattle.scheduler_reply.specs.declared.reply.Came.TheVariants as came
-use Rattle.scheduler_reply.specs.declared.reply.Reply.TheVariants.{Placed, Waits, AlreadyReady}
+use Rattle.scheduler_reply.specs.declared.reply.Reply.TheVariants.{Placed, Waits, AlreadyReady, Off}
 use Rattle.scheduler_reply.specs.Reply.{reply_of_came}
 use Rattle.scheduler_reply.specs.declared.reply.Entry.{Entry}
-use Rattle.link_state.specs.State.{State, IsIdle, IsWaiting, is_ready, task_on, effective_mask, priority_of, state_after_leaving}
-use Rattle.link_state.specs.Chain.{CanShift, IsPath, IsWalk, IsChainOf, IsReach, IsBackReach, IsBackChain, Reaches, IsLess, IsLeastSuch, EndsIdle, EntersBy}
-use Rattle.link_state.specs.Step.{Comes, ComesPlaced, ComesWaits, ArriveStep, IsMostUrgentInto}
+use Rattle.link_state.specs.State.{State, IsIdle, IsWaiting, is_ready, task_on, effective_mask, priority_of, state_with_mask, state_after_leaving}
+use Rattle.link_state.specs.Chain.{CanShift, IsPath, IsWalk, IsChainOf, IsReach, IsBackReach, IsBackChain, Reaches, IsLess, IsLeastSuch, EndsIdle, EndsOnTask, EntersBy, state_after_shift}
+use Rattle.link_state.specs.Step.{Comes, ComesPlaced, ComesDisplaced, ComesWaits, ArriveStep, IsMostUrgentInto, Fills, OfflineStep}
 use Rattle.link_state.specs.History.{IsLegal, state_at}
 use Rattle.link_state.proofs.Paths.{Reaches-online}
 use Rattle.scheduler_reply.proofs.Replies.{one_came}
-use Rattle.history_laws.proofs.Examples.{first_shift_set, first_shift, waits_with_a_reach_wider_than_its_mask_set, enters_through_a_back_chain_set, enters_through_a_back_chain, task, entry}
+use Rattle.history_laws.proofs.Examples.{first_shift_set, first_shift, waits_with_a_reach_wider_than_its_mask_set, enters_through_a_back_chain_set, enters_through_a_back_chain, remasked_task_comes_back_set, remasked_task_comes_back, task, entry, came_in}
 
 -- ---- which processors the masks 1, 2 and 3 have
 in_one : (p : ℕ) → IsTrue (has 1 p) → p ≡ 0
@@ -31,6 +31,25 @@ in_two p h = eqb-true p 1 (sym (has-pow 1 p) ∙ h)
 in_three : (p : ℕ) → IsTrue (has 3 p) → p < 2
 unfolding all_below
 in_three p h = ltb-true p 2 (sym (has-all_below 2 p) ∙ h)
+
+-- ---- a task reaches processor 0 alone, where it may run there alone, and its occupant as well
+module _ (s : State) (t u : ℕ) (mask : effective_mask s t ≡ 1) (on : task_on s 0 ≡ Some u) (occupant_mask : effective_mask s u ≡ 1) where
+  stays_on_0 : (rest : List ℕ) (q : ℕ) → IsWalk s 0 rest q → q ≡ 0
+  stays_on_0 [] q walk = sym walk
+  stays_on_0 (r ∷ rest) q walk =
+      let occupant : u ≡ walk.0.0 = same_Some u walk.0.0 (sym on ∙ walk.0.1) in
+      let there : r ≡ 0 = in_one r (rw (← occupant, occupant_mask) at walk.0.2) in
+      stays_on_0 rest q (subst (λ (p : ℕ). IsWalk s p rest q) there walk.1)
+
+  reaches_0_alone : IsReach s t 1
+  unfolding has
+  reaches_0_alone q = ((λ h. (0 ∷ [], (rw mask refl, sym (in_one q h)))), (λ r. ends_on_0 r.0 r.1))
+    where
+      ends_on_0 : (chain : List ℕ) → IsChainOf s t chain q → IsTrue (has 1 q)
+      ends_on_0 [] c = absurd c
+      ends_on_0 (p ∷ rest) c =
+          let start : p ≡ 0 = in_one p (rw mask at c.0) in
+          rw (stays_on_0 rest q (subst (λ (r : ℕ). IsWalk s r rest q) start c.1)) refl
 
 -- ---- how a short list is shown to be the least
 one_is_least : (Has : List ℕ → Type 0) (p : ℕ) → Has (p ∷ []) → (Has [] → ⊥) → ((x : ℕ) → Has (x ∷ []) → p ≤ x) → IsLeastSuch Has (p ∷ [])
@@ -174,26 +193,9 @@ mask_x : effective_mask (enter_state 3) 0 ≡ 1
 unfolding intersection all_below
 mask_x = refl
 
-stays_on_0 : (rest : List ℕ) (q : ℕ) → IsWalk (enter_state 3) 0 rest q → q ≡ 0
-stays_on_0 [] q walk = sym walk
-stays_on_0 (r ∷ rest) q walk =
-    let occupant : 0 ≡ walk.0.0 = same_Some 0 walk.0.0 walk.0.1 in
-    let there : r ≡ 0 = in_one r (rw (← occupant, mask_x) at walk.0.2) in
-    stays_on_0 rest q (subst (λ (p : ℕ). IsWalk (enter_state 3) p rest q) there walk.1)
-
-w2_reaches : IsReach (enter_state 3) 3 1
-unfolding has intersection all_below
-w2_reaches q = ((λ h. (0 ∷ [], (refl, sym (in_one q h)))), (λ r. ends_on_0 r.0 r.1))
-  where
-    ends_on_0 : (chain : List ℕ) → IsChainOf (enter_state 3) 3 chain q → IsTrue (has 1 q)
-    ends_on_0 [] c = absurd c
-    ends_on_0 (p ∷ rest) c =
-        let start : p ≡ 0 = in_one p (rw mask_w2 at c.0) in
-        rw (stays_on_0 rest q (subst (λ (r : ℕ). IsWalk (enter_state 3) r rest q) start c.1)) refl
-
 w2_waits : ComesWaits (enter_state 3) 3 1 (enter_state 4)
 w2_waits = record {
-  reached = w2_reaches;
+  reached = reaches_0_alone (enter_state 3) 3 0 mask_w2 refl mask_x;
   more_urgent = λ p h. (0, rw (in_one p h) refl, omega arith);
   waits = refl;
 }
@@ -269,6 +271,127 @@ enters_through_a_back_chain_legal = (
   ),
 )
 
+-- ---- remasked_task_comes_back: there is one processor, and every mask has it alone
+abbrev back_state : ℕ → State
+back_state n = state_at remasked_task_comes_back_set remasked_task_comes_back n
+
+first_is_placed : ComesPlaced (back_state 0) 0 (0 ∷ []) (back_state 1)
+unfolding has intersection all_below
+first_is_placed = record {
+  least = one_is_least (EndsIdle (back_state 0) 0) 0 (0, (refl, refl), (refl, refl)) (λ h. h.1) (λ x h. omega arith);
+  shifted = refl;
+}
+
+mask_first : effective_mask (back_state 1) 0 ≡ 1
+unfolding intersection all_below
+mask_first = refl
+
+mask_second : effective_mask (back_state 1) 1 ≡ 1
+unfolding intersection all_below
+mask_second = refl
+
+second_waits : ComesWaits (back_state 1) 1 1 (back_state 2)
+second_waits = record {
+  reached = reaches_0_alone (back_state 1) 1 0 mask_second refl mask_first;
+  more_urgent = λ p h. (0, rw (in_one p h) refl, omega arith);
+  waits = refl;
+}
+
+-- the first task leaves, and the second one comes in
+abbrev gone_state : State
+gone_state = state_after_leaving (back_state 2) 0
+
+nobody_there : (p u : ℕ) → task_on gone_state p ≡ Some u → ⊥
+nobody_there zero u on = cc
+nobody_there (suc p) u on = cc
+
+leads_back_to_0 : IsBackReach gone_state 0 1
+unfolding has intersection all_below
+leads_back_to_0 q = ((λ h. (0 ∷ [], (refl, sym (in_one q h)))), (λ r. back r.0 r.1))
+  where
+    back : (chain : List ℕ) → IsBackChain gone_state 0 chain q → IsTrue (has 1 q)
+    back [] c = absurd c
+    back (first ∷ []) c = rw (sym c.1) refl
+    back (first ∷ r ∷ rest) c = absurd (nobody_there r c.1.0.0 c.1.0.1)
+
+second_is_most_urgent : IsMostUrgentInto gone_state 1 1
+unfolding has intersection all_below
+second_is_most_urgent = record {
+  waits = record { ready = refl; not_linked = refl };
+  there = (0, refl, refl);
+  most_urgent = λ v p waits h enters. above v waits;
+}
+  where
+    above : (v : ℕ) → IsWaiting gone_state v → 2 ≤ priority_of gone_state v
+    above zero waits = absurd (false≢true waits.ready)
+    above (suc zero) waits = omega arith
+    above (suc (suc v)) waits = absurd (false≢true waits.ready)
+
+abbrev between_state : State
+between_state = state_after_shift gone_state 1 (0 ∷ [])
+
+second_comes_in : Fills gone_state 0 (came_in (Some 1) (0 ∷ []) 1) between_state
+unfolding has intersection all_below
+second_comes_in = record {
+  reached = leads_back_to_0;
+  enters = (second_is_most_urgent, one_is_least (EntersBy gone_state 0 1) 0 (0, (refl, refl), refl) (λ h. h.1) (λ x h. omega arith), refl);
+}
+
+-- the first task comes back with its new mask, and displaces the second one
+abbrev masked_state : State
+masked_state = state_with_mask between_state 0 1
+
+mask_first_again : effective_mask masked_state 0 ≡ 1
+unfolding intersection all_below
+mask_first_again = refl
+
+mask_second_again : effective_mask masked_state 1 ≡ 1
+unfolding intersection all_below
+mask_second_again = refl
+
+first_displaces : ComesDisplaced masked_state 0 (0 ∷ []) 1 1 (back_state 3)
+unfolding has intersection all_below
+first_displaces = record {
+  reached = reaches_0_alone masked_state 0 1 mask_first_again refl mask_second_again;
+  occupied = λ p h. (1, rw (in_one p h) refl);
+  out_there = record { there = (0, refl, refl); least_urgent = λ p u h on. of_two p u (in_one p h) on };
+  out_less_urgent = omega arith;
+  least = one_is_least (EndsOnTask masked_state 0 1) 0 (0, (refl, refl), refl) (λ h. h.1) (λ x h. omega arith);
+  shifted = refl;
+}
+  where
+    of_two : (p u : ℕ) → p ≡ 0 → task_on masked_state p ≡ Some u → priority_of masked_state u ≤ 2
+    of_two p u at_0 on =
+        let same : 1 ≡ u = same_Some 1 u (rw at_0 at on) in
+        subst (λ (v : ℕ). priority_of masked_state v ≤ 2) same (omega arith)
+
+remasked_task_comes_back_legal : IsLegal remasked_task_comes_back_set remasked_task_comes_back
+unfolding has
+remasked_task_comes_back_legal = (
+  (omega arith, arrives (came.Placed (0 ∷ [])) refl first_is_placed),
+  (
+    (omega arith, arrives (came.Waits 1) refl second_waits),
+    (
+      (
+        omega arith,
+        one_is_mask,
+        inr record {
+          gone = Some (came_in (Some 1) (0 ∷ []) 1);
+          came = came.Displaced (0 ∷ []) 1 1;
+          answer = refl;
+          between = between_state;
+          leaves = (0, refl, second_comes_in);
+          comes = first_displaces;
+        },
+      ),
+      tt,
+    ),
+  ),
+)
+  where
+    one_is_mask : IsMask 1 1
+    one_is_mask = record { some = λ e. cc; below = λ p h. (let e = in_one p h in omega arith) }
+
 -- ---- a longer chain to an idle processor is not the scheduler's, though it could be shifted along
 abbrev longer_chain_set : SetData
 longer_chain_set = record { processors = 3; tasks = task 3 7 ∷ task 4 3 ∷ [] }
@@ -299,3 +422,21 @@ narrow_reach =
 narrow_reach_not_legal : IsLegal waits_with_a_reach_wider_than_its_mask_set narrow_reach → ⊥
 unfolding has intersection all_below
 narrow_reach_not_legal legal = false≢true (((waits legal.1.1.1.0.1).reached 1).1 (0 ∷ 1 ∷ [], (refl, ((0, refl, refl), refl))))
+
+-- ---- a processor that has a task does not go off line as an idle one does
+abbrev one_task_set : SetData
+one_task_set = record { processors = 1; tasks = task 1 1 ∷ [] }
+
+abbrev off_with_a_task : List Entry
+off_with_a_task =
+    entry (Arrive 0) (Placed (0 ∷ []))
+    ∷ entry (Offline 0) (Off None)
+    ∷ []
+
+off_with_a_task_not_legal : IsLegal one_task_set off_with_a_task → ⊥
+off_with_a_task_not_legal legal = not_idle legal.1.0.1
+  where
+    not_idle : {new : State} → OfflineStep (state_at one_task_set off_with_a_task 1) 0 (Off None) new → ⊥
+    not_idle (inl again) = let said = again.answer in cc
+    not_idle (inr (inl idle)) = let nobody = idle.idle.1 in cc
+    not_idle (inr (inr occupied)) = let said = occupied.answer in cc
