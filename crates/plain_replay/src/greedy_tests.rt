@@ -32,7 +32,11 @@ pub(crate) fn linked_tasks(alloc: Global, links: &Links) -> Result<Vec<u32>, All
 }
 
 /// The tasks that the greedy program takes of the ready ones.
-pub(crate) fn greedy(rt: &(impl Abort + AllocGlobal), set: &TaskSet, ready: &[u32]) -> Result<Vec<u32>, Fail> {
+pub(crate) fn greedy(
+    rt: &(impl Abort + AllocGlobal),
+    set: &TaskSet,
+    ready: &[u32],
+) -> Result<Vec<u32>, Fail> {
     assert!(rt; all_below(ready, set.len()));
     let best = best_set(rt.alloc(), set, ready)?;
     Ok(best)

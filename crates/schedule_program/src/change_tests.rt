@@ -24,7 +24,11 @@ fn worked_changes_on_three_streams(rt: HostRuntime) -> Result<(), Fail> {
 
 /// Texts with a change that is refused, each with the line and the kind of its fault.
 static REFUSED_CHANGES: [(&str, u64, u8); 8] = [
-    ("apa 2\nprocessors 2\ntask a 1 0\n0 affinity a 2\nend\n", 4, 13),
+    (
+        "apa 2\nprocessors 2\ntask a 1 0\n0 affinity a 2\nend\n",
+        4,
+        13,
+    ),
     (
         "apa 2\nprocessors 2\ntask a 1 0\n0 affinity a 1-0\nend\n",
         4,
@@ -35,9 +39,17 @@ static REFUSED_CHANGES: [(&str, u64, u8); 8] = [
         4,
         6,
     ),
-    ("apa 2\nprocessors 2\ntask a 1 0\n0 affinity q 2\nend\n", 4, 9),
+    (
+        "apa 2\nprocessors 2\ntask a 1 0\n0 affinity q 2\nend\n",
+        4,
+        9,
+    ),
     ("apa 2\nprocessors 2\ntask a 1 1\n0 offline 2\nend\n", 4, 8),
-    ("apa 1\nprocessors 2\ntask a 1 0\n0 affinity a 1\nend\n", 4, 8),
+    (
+        "apa 1\nprocessors 2\ntask a 1 0\n0 affinity a 1\nend\n",
+        4,
+        8,
+    ),
     ("apa 1\nprocessors 2\ntask a 1 0\n0 offline 1\nend\n", 4, 8),
     ("apa 1\nprocessors 2\ntask a 1 0\n0 online 1\nend\n", 4, 8),
 ];

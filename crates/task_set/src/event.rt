@@ -15,10 +15,7 @@ pub enum Event {
     Tick(u32),
 
     /// The affinity mask of the task becomes this one. A ready task leaves and arrives again.
-    Affinity {
-        task: u32,
-        mask: ProcSet,
-    },
+    Affinity { task: u32, mask: ProcSet },
 
     /// The processor goes off line, so that no task may run on it. A task that ran there leaves and arrives again.
     Offline(u8),
