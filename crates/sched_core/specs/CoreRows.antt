@@ -79,8 +79,8 @@ pub record RowsRun (old : List RowData) (units : ℕ) (new : List RowData) : Typ
   pub count : length new ≡ length old
   pub each : (p : ℕ) → p < length old → RowRuns (row_at old p) units (row_at new p)
 
--- each processor of the chain is one of the links, in which a processor may stand twice; the numbers of takes are those
--- of the tasks of the links; and each row can change to its occupant where it does not hold it yet
+-- each processor of the chain is one of the links, and may stand in it twice; the numbers of takes are those of the tasks
+-- of the links; and each row can change to its occupant where it does not hold it yet
 pub record CanFollow (chain : List ℕ) (links : State) (rows : List RowData) (takes : List ℕ) : Type 0 where
   pub state : IsState links
   pub below : All (λ p. p < links.processors) chain

@@ -1,5 +1,5 @@
-use Rattle.std.proofs.Common.{◌++◌, List, refl}
-use Rattle.sched_core.specs.CoreRows.{CanFollow, RowsChange}
+use Rattle.std.proofs.Common.{refl}
+use Rattle.sched_core.specs.CoreRows.{RowsChange}
 use Rattle.scheduler_reply.specs.Reply.{chain_of, filling_chain, coming_chain}
 use Rattle.sched_core.proofs.RowsChanged.{can_follow-first, can_follow-later, rows_change-then}
 use Rattle.sched_core.proofs.order_rows.follow_reply.Goals as goal
