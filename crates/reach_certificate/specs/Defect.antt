@@ -1,6 +1,7 @@
 -- Why a reply does not pass. A reply is looked at in four parts, one after the other. Its kind may stand with the event;
 -- each place of its chain fits; each processor fits the set; the tasks that it names are the right ones. The first part
 -- that fails is the defect, reported with its first place, its least processor, or the right task.
+-- Of a task that leaves and comes back, the parts of its leaving are looked at before those of its return.
 -- A chain need not be the least, nor a set the smallest.
 use Rattle.std.specs.Prelude.{◌≡◌, ◌≢◌, ℕ, ◌+◌, ◌-◌, ◌<◌, ◌≤◌, ◌⊎◌, true, false, List, length, slice_index, IsTrue, Option, Some, None, IsSome, All}
 use Rattle.affinity_mask.specs.ProcSet.{has, all_below, Within}

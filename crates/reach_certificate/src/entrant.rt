@@ -1,4 +1,4 @@
-//! The test of the task that enters after a departure.
+//! The test of the task that enters where a processor has become idle.
 ghost use Rattle.std.specs.Prelude.{◌≡◌, ◌≢◌, ◌<◌, [], MatchOption};
 ghost use Rattle.reach_certificate.specs.Defect.{EntersRightly, EntersWrongly, last_processor};
 
