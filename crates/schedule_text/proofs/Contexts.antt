@@ -1,8 +1,7 @@
 -- Contexts by their fields.
 use Rattle.std.proofs.Common.{◌≡◌, ◌≢◌, ℕ, ◌<◌, ◌≤◌, ◌^◌, inl, List, [], ◌∷◌, length, get_or, Option, Some, None, Contains, Bor, refl, sym, ap, ◌∙◌, subst, arith, lit<}
 use Rattle.std.specs.Prelude.{codes}
-use Rattle.affinity_mask.specs.Number.{canonical_number, number_value}
-use Rattle.text_fields.specs.Number.{IsNumberWithin}
+use Rattle.affinity_mask.specs.Number.{canonical_number}
 use Rattle.task_set.specs.TaskSet.{SetData}
 use Rattle.task_set.specs.declared.context.Context.{Context}
 use Rattle.text_fields.specs.EventText.{name_of}
@@ -13,7 +12,7 @@ use Rattle.schedule_text.specs.Fields.{IsNumberField, IsLastField}
 use Rattle.schedule_text.specs.LineFields.{context_fields, AreContextWords, IsContextFields}
 use Rattle.text_fields.proofs.Words.{head_same, tail_same}
 use Rattle.std.proofs.lemmas.Fmt.{decimal_injective}
-use Rattle.schedule_text.proofs.Fields.{number_once, number_lacks, number_within}
+use Rattle.schedule_text.proofs.Fields.{number_once, number_lacks}
 
 texts_five : (fields : List (Bor (List ℕ))) (d : Bor (List ℕ)) → 5 ≤ length fields → length fields < 6
     → texts fields ≡ (get_or fields 0 d).now ∷ (get_or fields 1 d).now ∷ (get_or fields 2 d).now

@@ -1,5 +1,5 @@
 -- Events by the fields as the code cuts them.
-use Rattle.std.proofs.Common.{◌≡◌, ◌≢◌, ℕ, ◌<◌, ◌≤◌, ◌⊎◌, inl, inr, List, [], ◌∷◌, length, get_or, Bor, Result, Ok, Err, IfErr, refl, sym, ap, ◌∙◌, subst, arith}
+use Rattle.std.proofs.Common.{◌≡◌, ◌≢◌, ℕ, ◌<◌, ◌≤◌, ◌⊎◌, inl, inr, List, [], ◌∷◌, length, get_or, Bor, Result, IfErr, refl, sym, ap, ◌∙◌, subst, arith}
 use Rattle.std.specs.Prelude.{codes}
 use Rattle.std.proofs.lemmas.List.{length-map}
 use Rattle.task_set.specs.TaskSet.{SetData}
@@ -43,10 +43,3 @@ affinity_refused version set fields d result some few two is refused =
     ∙ ap (λ (word : List ℕ). word ∷ (get_or fields 1 d).now ∷ (get_or fields 2 d).now ∷ []) is))
     (subst (λ (v : ℕ). IsRefused v (codes "affinity" ∷ (get_or fields 1 d).now ∷ (get_or fields 2 d).now ∷ []) set result)
     (sym two) refused)
-
--- no event has another number of fields
-pub other_event : (version : ℕ) (set : SetData) (fields : List (Bor (List ℕ))) → length fields ≢ 2 → length fields ≢ 3
-    → IsOutOfMemory BadLine ⊎ IsEventFault version (texts fields) set BadLine
-other_event version set fields two three =
-    let count = length-map fields (λ (field : Bor (List ℕ)). field.now) in
-    inr (inl (refl, event_length version set.processors (texts fields) (λ e. two (sym count ∙ e)) (λ e. three (sym count ∙ e))))

@@ -1,6 +1,5 @@
 -- Two sets of tasks, one after the other: what is said of either is said of both.
-use Rattle.std.proofs.Common.{◌≡◌, ℕ, ◌+◌, ◌<◌, List, [], ◌∷◌, ◌++◌, length, map, get_or, All, Option, Some, None, refl, sym, ap, ◌∙◌, arith, length-append}
-use Rattle.std.specs.Prelude.{codes}
+use Rattle.std.proofs.Common.{◌≡◌, ℕ, ◌+◌, ◌<◌, List, [], ◌++◌, length, get_or, Option, Some, None, sym, ap, ◌∙◌, arith, length-append}
 use Rattle.std.proofs.lemmas.List.{map-append, length-map, get_or_append_left, get_or-append-add}
 use Rattle.std.proofs.lemmas.List.Elements.{All-append}
 use Rattle.task_set.specs.TaskSet.{TaskData, SetData, names}
@@ -8,10 +7,9 @@ use Rattle.scheduler_reply.specs.declared.reply.Came.{Came}
 use Rattle.scheduler_reply.specs.declared.reply.Came.TheVariants as came
 use Rattle.scheduler_reply.specs.declared.reply.Gone.{Gone}
 use Rattle.text_fields.specs.EventText.{name_of}
-use Rattle.schedule_text.specs.ScheduleText.{somebody_text}
 use Rattle.schedule_text.specs.LineForms.{IsField, HasFields}
-use Rattle.schedule_text.specs.LineFields.{IsCameFields, IsGoneFields, came_fields, gone_fields}
-use Rattle.schedule_text.proofs.ReplyParts.{task_named, the_task, somebody_named, the_somebody, no_task_named}
+use Rattle.schedule_text.specs.LineFields.{IsCameFields, IsGoneFields}
+use Rattle.schedule_text.proofs.ReplyParts.{task_named, the_task, no_task_named}
 
 -- the tasks of both sets
 abbrev pub joined : SetData → SetData → SetData

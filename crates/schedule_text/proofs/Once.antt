@@ -21,7 +21,7 @@ use Rattle.scheduler_reply.specs.declared.reply.Moved.{Moved}
 use Rattle.scheduler_reply.specs.Reply.{came_tasks, came_chains, came_sets}
 use Rattle.std.specs.List.{cons_option}
 use Rattle.scheduler_reply.specs.declared.reply.Entry.{Entry}
-use Rattle.text_fields.specs.EventText.{name_of, IsAboutSet, event_fields}
+use Rattle.text_fields.specs.EventText.{IsAboutSet, event_fields}
 use Rattle.schedule_text.specs.ScheduleText.{chain_text, set_text, somebody_text, AreTasksOf, IsReplyOf}
 use Rattle.schedule_text.specs.Schedule.{IsProcessorList, IsOfProcessors, AreOfProcessors, HasProcessors}
 use Rattle.task_set.specs.Event.{HasUnits}

@@ -1,10 +1,9 @@
 -- Parts of a line: what is known of each of two parts is known of both, and so is their fault.
-use Rattle.std.proofs.Common.{◌≡◌, ◌⊎◌, inl, inr, Result, Ok, Err, IfOk, IfErr, refl, sym, ap, ◌∙◌, subst}
+use Rattle.std.proofs.Common.{◌≡◌, ◌⊎◌, inl, inr, Result, Ok, Err, IfOk, IfErr, refl, sym, ap, subst}
 use Rattle.task_set.specs.TaskSet.{SetData}
 use Rattle.schedule_text.specs.declared.fault.TextKind.{TextKind}
-use Rattle.schedule_text.specs.declared.fault.TextKind.TheVariants.{BadLine, UnknownTask, OutOfMemory}
+use Rattle.schedule_text.specs.declared.fault.TextKind.TheVariants.{BadLine, UnknownTask}
 use Rattle.schedule_text.specs.Reading.{IsOutOfMemory}
-use Rattle.schedule_text.specs.LineForms.{HasFields}
 use Rattle.schedule_text.specs.LineFields.{IsPartFault, IsSaid, IsSaidFault, first_reported, both_of}
 
 -- ---- two parts

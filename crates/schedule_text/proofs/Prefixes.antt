@@ -12,7 +12,7 @@ use Rattle.task_set.proofs.Added.{IsTaskSet-push}
 use Rattle.task_set.specs.declared.context.Context.{Context}
 use Rattle.scheduler_reply.specs.declared.reply.Entry.{Entry}
 use Rattle.text_fields.specs.LineText.{line, processors_line, task_line}
-use Rattle.schedule_text.specs.ScheduleText.{IsVersion, entry_line, context_line, header, schedule_text}
+use Rattle.schedule_text.specs.ScheduleText.{entry_line, context_line, header, schedule_text}
 use Rattle.schedule_text.specs.Schedule.{ScheduleData, IsScheduled, IsContextOf, AreInOrder, IsScheduleSet, IsSchedule}
 use Rattle.schedule_text.specs.ScheduleFault.{IsLineFault, IsScheduleRefused}
 use Rattle.schedule_text.specs.Laws.{text_of_schedule}

@@ -1,20 +1,18 @@
 -- The shapes of replies: what a reply says follows from its first word and from its parts.
-use Rattle.std.proofs.Common.{◌≡◌, ◌≢◌, ℕ, ◌<◌, ◌⊎◌, inl, inr, List, [], ◌∷◌, ◌++◌, length, Option, Some, None, refl, sym, ap, ◌∙◌, subst, arith, length-append}
+use Rattle.std.proofs.Common.{◌≡◌, ◌≢◌, ℕ, ◌<◌, List, [], ◌∷◌, ◌++◌, length, Some, None, refl, sym, ap, ◌∙◌, subst, arith}
 use Rattle.std.specs.Prelude.{codes}
-use Rattle.task_set.specs.TaskSet.{SetData, IsTaskSet}
+use Rattle.task_set.specs.TaskSet.{SetData}
 use Rattle.task_set.specs.Refusal.{IsNameOf}
 use Rattle.scheduler_reply.specs.declared.reply.Came.{Came}
 use Rattle.scheduler_reply.specs.declared.reply.Came.TheVariants as came
 use Rattle.scheduler_reply.specs.declared.reply.Gone.{Gone}
-use Rattle.scheduler_reply.specs.declared.reply.Moved.{Moved}
 use Rattle.scheduler_reply.specs.declared.reply.Reply.{Reply}
 use Rattle.scheduler_reply.specs.declared.reply.Reply.TheVariants.{Placed, Displaced, Waits, Freed, Left, Ticked, AlreadyReady, NotReady, Masked, Remasked, AlreadyOff, AlreadyOn, Off, On}
 use Rattle.scheduler_reply.specs.Reply.{reply_of_came, reply_of_gone, came_tasks, came_chains, came_sets}
 use Rattle.text_fields.specs.EventText.{name_of}
-use Rattle.schedule_text.specs.declared.fault.TextKind.{TextKind}
 use Rattle.schedule_text.specs.LineForms.{IsField, HasFields}
-use Rattle.schedule_text.specs.LineFields.{IsSaid, IsSaidFault, IsCameFields, IsGoneFields, IsGoneThen, IsReplyFields, came_fields, gone_fields}
-use Rattle.text_fields.proofs.Words.{head_same, tail_same, clash, other_word}
+use Rattle.schedule_text.specs.LineFields.{IsSaid, IsCameFields, IsGoneFields, IsGoneThen, IsReplyFields, came_fields, gone_fields}
+use Rattle.text_fields.proofs.Words.{head_same, tail_same, clash}
 use Rattle.text_fields.proofs.NamedTasks.{named_task}
 use Rattle.schedule_text.proofs.ReplyParts.{no_task_named, no_processors, task_and, first_task, other_tasks, somebody_and, first_somebody, after_somebody, processors_and, first_processors, other_processors}
 use Rattle.schedule_text.proofs.Names.{IsNamed, alone, alone_fields, alone_named, alone_has, name_of_field}

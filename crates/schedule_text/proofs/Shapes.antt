@@ -1,5 +1,5 @@
 -- The shapes of events: what an event says follows from its fields.
-use Rattle.std.proofs.Common.{◌≡◌, ◌≢◌, ℕ, ◌<◌, ◌≤◌, List, [], ◌∷◌, length, refl, sym, ap, ◌∙◌, subst, arith}
+use Rattle.std.proofs.Common.{◌≡◌, ◌≢◌, ℕ, ◌<◌, List, [], ◌∷◌, length, refl, sym, ap, ◌∙◌, subst, arith}
 use Rattle.std.specs.Prelude.{codes}
 use Rattle.task_set.specs.TaskSet.{SetData, IsMask}
 use Rattle.task_set.specs.Refusal.{IsNameOf}
@@ -9,7 +9,7 @@ use Rattle.text_fields.specs.EventText.{name_of}
 use Rattle.schedule_text.specs.declared.fault.TextKind.{TextKind}
 use Rattle.schedule_text.specs.Fields.{IsNumberField, IsProcessorField, IsMaskField}
 use Rattle.schedule_text.specs.LineFields.{IsSaid, IsNameFault, IsEventFields, IsEventFault, IsNoFirstWord}
-use Rattle.text_fields.proofs.Words.{head_same, tail_same, clash, other_word}
+use Rattle.text_fields.proofs.Words.{head_same, tail_same, other_word}
 use Rattle.text_fields.proofs.NamedTasks.{named_task}
 use Rattle.schedule_text.proofs.Names.{IsNamed, name_fault, alone, alone_named, alone_has, alone_processors}
 

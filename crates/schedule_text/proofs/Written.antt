@@ -88,23 +88,23 @@ gone_written set word entered chain back t0 t1 t2 t3 t4 t5 t6 (Err x) e1 e2 e3 e
 pieces3 : (old a b c d : List ℕ) → old ++ (a ++ b) ++ (c ++ d) ≡ old ++ (a ++ b ++ c ++ d)
 pieces3 old a b c d = simp append_assoc
 
-pub linked_written : {E : Type 0} (set : SetData) (gone : Option Gone) (some : Gone) (arrival : Came) (t0 t1 t2 : List ℕ)
-    (r : Result (Unit {0}) E) → gone ≡ Some some → t1 ≡ t0 ++ (codes "remasked freed " ++ gone_text set some)
+pub linked_written : {E : Type 0} (set : SetData) (given : Option Gone) (some : Gone) (arrival : Came) (t0 t1 t2 : List ℕ)
+    (r : Result (Unit {0}) E) → given ≡ Some some → t1 ≡ t0 ++ (codes "remasked freed " ++ gone_text set some)
     → OnOk r (t2 ≡ t1 ++ (codes " then " ++ came_text set arrival))
-    → OnOk r (t2 ≡ t0 ++ reply_text set (Remasked gone arrival))
+    → OnOk r (t2 ≡ t0 ++ reply_text set (Remasked given arrival))
 unfolding reply_text
-linked_written set gone some arrival t0 t1 t2 (Ok x) is e1 e2 =
+linked_written set given some arrival t0 t1 t2 (Ok x) is e1 e2 =
     rw (is, e2, e1)
     (pieces3 t0 (codes "remasked freed ") (gone_text set some) (codes " then ") (came_text set arrival))
-linked_written set gone some arrival t0 t1 t2 (Err x) is e1 e2 = tt
+linked_written set given some arrival t0 t1 t2 (Err x) is e1 e2 = tt
 
-pub waiting_written : {E : Type 0} (set : SetData) (gone : Option Gone) (arrival : Came) (t0 t1 : List ℕ)
-    (r : Result (Unit {0}) E) → gone ≡ None
+pub waiting_written : {E : Type 0} (set : SetData) (given : Option Gone) (arrival : Came) (t0 t1 : List ℕ)
+    (r : Result (Unit {0}) E) → given ≡ None
     → OnOk r (t1 ≡ t0 ++ (codes "remasked left then " ++ came_text set arrival))
-    → OnOk r (t1 ≡ t0 ++ reply_text set (Remasked gone arrival))
+    → OnOk r (t1 ≡ t0 ++ reply_text set (Remasked given arrival))
 unfolding reply_text
-waiting_written set gone arrival t0 t1 (Ok x) is e1 = rw (is, e1) refl
-waiting_written set gone arrival t0 t1 (Err x) is e1 = tt
+waiting_written set given arrival t0 t1 (Ok x) is e1 = rw (is, e1) refl
+waiting_written set given arrival t0 t1 (Err x) is e1 = tt
 
 pieces4 : (old a b c d : List ℕ) → old ++ a ++ b ++ (c ++ d) ≡ old ++ (a ++ b ++ c ++ d)
 pieces4 old a b c d = simp append_assoc

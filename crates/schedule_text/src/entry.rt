@@ -41,7 +41,10 @@ pub fn read_entry(version: u8, set: &TaskSet, fields: &[&[u8]]) -> Result<Entry,
     let Some((event, reply)) = event_then(rest) else {
         return Err(TextKind::BadLine);
     };
-    match both(read_event(version, set, event), read_reply(version, set, reply)) {
+    match both(
+        read_event(version, set, event),
+        read_reply(version, set, reply),
+    ) {
         Ok((event, reply)) => Ok(Entry {
             caller: stream as u32,
             event,
@@ -94,12 +97,7 @@ fn read_event(version: u8, set: &TaskSet, fields: &[&[u8]]) -> Result<Event, Tex
 
 /// The event of a word and a value: a task arrives or departs, units of time pass, or a processor goes off line or comes
 /// on line.
-fn valued_event(
-    version: u8,
-    set: &TaskSet,
-    word: &[u8],
-    value: &[u8],
-) -> Result<Event, TextKind>
+fn valued_event(version: u8, set: &TaskSet, word: &[u8], value: &[u8]) -> Result<Event, TextKind>
     ensures read { IfOk result
         (IsEventFields version set.now.processors (word.now ∷ value.now ∷ []) set.now) }
     ensures refused { IfErr result (IsEventFault version (word.now ∷ value.now ∷ []) set.now) }

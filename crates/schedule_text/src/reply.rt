@@ -124,12 +124,7 @@ fn is_displaced(word: &[u8], middle: &[u8], last: &[u8]) -> bool
 }
 
 /// The result that a task was displaced.
-fn displaced(
-    set: &TaskSet,
-    chain: &[u8],
-    name: &[u8],
-    processors: &[u8],
-) -> Result<Came, TextKind>
+fn displaced(set: &TaskSet, chain: &[u8], name: &[u8], processors: &[u8]) -> Result<Came, TextKind>
     ensures read { IfOk result (IsCameFields
         (displaced_fields chain.now name.now processors.now) set.now) }
     ensures refused { IfErr result (λ kind. IsOutOfMemory kind
@@ -165,12 +160,7 @@ fn are_gone_words(middle: &[u8], last: &[u8]) -> bool
 }
 
 /// Who came in, by the fields between the words.
-fn gone_of(
-    set: &TaskSet,
-    chain: &[u8],
-    name: &[u8],
-    processors: &[u8],
-) -> Result<Gone, TextKind>
+fn gone_of(set: &TaskSet, chain: &[u8], name: &[u8], processors: &[u8]) -> Result<Gone, TextKind>
     ensures read { IfOk result (IsGoneFields (gone_words chain.now name.now processors.now)
         set.now) }
     ensures refused { IfErr result (λ kind. IsOutOfMemory kind

@@ -1,11 +1,15 @@
 //! The words and the punctuation of a schedule text, spelled out by hand.
-ghost use Rattle.std.specs.Prelude.{◌<◌, length, All, IsTrue};
+ghost use Rattle.std.specs.Prelude.{◌<◌, [], length, All, IsTrue};
+ghost use Rattle.std.specs.List.{cons_option};
+ghost use Rattle.task_set.specs.TaskSet.{IsMask};
+ghost use Rattle.task_set.specs.Event.{IsOfVersion};
+ghost use Rattle.scheduler_reply.specs.Reply.{came_tasks, IsReplyOfVersion};
 ghost use Rattle.text_fields.specs.EventText.{IsAboutSet};
-ghost use Rattle.schedule_text.specs.ScheduleText.{IsReplyOf, IsEntryOf};
+ghost use Rattle.schedule_text.specs.ScheduleText.{AreTasksOf, IsReplyOf, IsEntryOf, IsEntryOfVersion};
 
 use crate::{TextFault, TextKind, read_schedule, write_schedule};
 use affinity_mask::ProcSet;
-use scheduler_reply::{Chain, Entry, Reply};
+use scheduler_reply::{Came, Chain, Entry, Gone, Moved, Reply};
 use std::alloc::Global;
 use std::process::Abort;
 use std::str;
@@ -36,13 +40,77 @@ c units 18446744073709551615 stints 2 moves 1 last 63 trail 6364136223846793647\
 w1 units 10 stints 0 moves 3 last - trail 641\n\
 end\n";
 
-/// Whether the task of an event is of the set.
+/// The events and replies in which masks are set, of tasks whose names are words of the format.
+const OF_MASKS: &str = "schedule 2\nprocessors 4\ntask a 2 0-1\ntask then 3 1-2\ntask left 9 2-3\n\
+history 7\n\
+0 affinity a 0,2-3 masked\n\
+1 affinity then 1 remasked left then placed 1>2\n\
+0 affinity left 2-3 remasked left then displaced 2 out then reach 2-3\n\
+0 affinity a 0 remasked left then waits -\n\
+0 affinity a 1 remasked freed 0 enters - back 0-1 then waits 1\n\
+2 affinity then 0-3 remasked freed 0>1 enters then back 0-1 then placed 3\n\
+0 affinity then 1 remasked freed 0 enters left back 0 then displaced 0 out then reach 0\n\
+contexts 3\n\
+a units 0 stints 0 moves 0 last - trail 0\n\
+then units 0 stints 0 moves 0 last - trail 1\n\
+left units 0 stints 0 moves 0 last - trail 2\n\
+end\n";
+
+/// Those in which processors go off line and come on line.
+const OF_PROCESSORS: &str =
+    "schedule 2\nprocessors 4\ntask a 2 0-1\ntask then 3 1-2\ntask left 9 2-3\n\
+history 8\n\
+0 offline 3 already_off\n\
+0 offline 0 off -\n\
+0 offline 1 off then then placed 2\n\
+0 offline 1 off a then displaced 1 out left reach 1,3\n\
+0 offline 2 off left then waits -\n\
+0 online 3 already_on\n\
+0 online 0 on 0 enters - back 0\n\
+15 online 2 on 2>1 enters then back 1-2\n\
+contexts 3\n\
+a units 0 stints 0 moves 0 last - trail 0\n\
+then units 0 stints 0 moves 0 last - trail 1\n\
+left units 0 stints 0 moves 0 last - trail 2\n\
+end\n";
+
+/// Whether a mask is one on the processors of the set.
+fn is_mask(set: &TaskSet, mask: ProcSet) -> bool
+    ensures { IsTrue result → IsMask set.now.processors mask }
+{
+    let all = ProcSet::first(set.processors());
+    !mask.is_empty() && mask.within(&all)
+}
+
+/// Whether what an event is about is of the set.
 fn is_known_event(set: &TaskSet, event: Event) -> bool
     ensures { IsTrue result → IsAboutSet set.now event }
 {
     match event {
         Event::Arrive(t) | Event::Depart(t) => t < set.len(),
         Event::Tick(_) => true,
+        Event::Affinity { task, mask } => task < set.len() && is_mask(set, mask),
+        Event::Offline(p) | Event::Online(p) => p < set.processors(),
+    }
+}
+
+/// Whether a task is of the set, or nobody.
+fn is_somebody(set: &TaskSet, t: Option<u32>) -> bool
+    ensures { IsTrue result → AreTasksOf set.now (cons_option t []) }
+{
+    match t {
+        Some(t) => t < set.len(),
+        None => true,
+    }
+}
+
+/// Whether the task that the result of an arrival names is of the set.
+fn is_known_came(set: &TaskSet, came: &Came) -> bool
+    ensures { IsTrue result → AreTasksOf set.now (came_tasks came.now) }
+{
+    match came {
+        Came::Displaced { out, .. } => *out < set.len(),
+        _ => true,
     }
 }
 
@@ -52,20 +120,60 @@ fn is_known_reply(set: &TaskSet, reply: &Reply) -> bool
 {
     match reply {
         Reply::Displaced { out, .. } => *out < set.len(),
-        Reply::Freed {
-            entered: Some(t),
-            ..
-        } => *t < set.len(),
+        Reply::Freed { entered, .. } => is_somebody(set, *entered),
+        Reply::Remasked { gone: None, came } => is_known_came(set, came),
+        Reply::Remasked {
+            gone: Some(gone),
+            came,
+        } => is_somebody(set, gone.entered) && is_known_came(set, came),
+        Reply::Off { moved: Some(moved) } => {
+            moved.task < set.len() && is_known_came(set, &moved.came)
+        }
+        Reply::On { parts } => is_somebody(set, parts.entered),
         _ => true,
     }
 }
 
-/// Whether the tasks that entries name are of the set.
+/// Whether a version has an event.
+fn has_event(version: u8, event: Event) -> bool
+    ensures { IsTrue result → IsOfVersion version event }
+{
+    match event {
+        Event::Arrive(_) | Event::Depart(_) | Event::Tick(_) => true,
+        _ => version == 2,
+    }
+}
+
+/// Whether a version has a reply.
+fn has_reply(version: u8, reply: &Reply) -> bool
+    ensures { IsTrue result → IsReplyOfVersion version reply.now }
+{
+    match reply {
+        Reply::Placed { .. } | Reply::Displaced { .. } | Reply::Waits { .. } => true,
+        Reply::Freed { .. } | Reply::Left | Reply::Ticked => true,
+        Reply::AlreadyReady | Reply::NotReady => true,
+        _ => version == 2,
+    }
+}
+
+/// Whether what entries are about is of the set.
 fn are_known(set: &TaskSet, entries: &[Entry]) -> bool
     ensures { IsTrue result → All (IsEntryOf set.now) entries.now }
 {
     for entry in entries {
         if !is_known_event(set, entry.event) || !is_known_reply(set, &entry.reply) {
+            return false;
+        }
+    }
+    true
+}
+
+/// Whether a version has the events and the replies of entries.
+fn are_of_version(version: u8, entries: &[Entry]) -> bool
+    ensures { IsTrue result → All (IsEntryOfVersion version) entries.now }
+{
+    for entry in entries {
+        if !has_event(version, entry.event) || !has_reply(version, &entry.reply) {
             return false;
         }
     }
@@ -104,35 +212,53 @@ fn chain_of(rt: &impl Abort, processors: &[u8]) -> Chain {
     chain
 }
 
-/// A reply that a task was placed.
-fn placed(rt: &impl Abort, processors: &[u8]) -> Reply {
-    Reply::Placed {
+/// The result that a task was placed.
+fn placed(rt: &impl Abort, processors: &[u8]) -> Came {
+    Came::Placed {
         chain: chain_of(rt, processors),
     }
 }
 
-/// A reply that a task was displaced.
-fn displaced(rt: &impl Abort, processors: &[u8], out: u32, reach: &[u8]) -> Reply {
-    Reply::Displaced {
+/// The result that a task was displaced.
+fn displaced(rt: &impl Abort, processors: &[u8], out: u32, reach: &[u8]) -> Came {
+    Came::Displaced {
         chain: chain_of(rt, processors),
         out,
         reach: set_of(rt, reach),
     }
 }
 
-/// A reply that a task waits.
-fn waits(rt: &impl Abort, reach: &[u8]) -> Reply {
-    Reply::Waits {
+/// The result that a task waits.
+fn waits(rt: &impl Abort, reach: &[u8]) -> Came {
+    Came::Waits {
         reach: set_of(rt, reach),
     }
 }
 
-/// A reply that a processor was freed.
-fn freed(rt: &impl Abort, processors: &[u8], entered: Option<u32>, back: &[u8]) -> Reply {
-    Reply::Freed {
+/// Who came in at a processor.
+fn gone(rt: &impl Abort, processors: &[u8], entered: Option<u32>, back: &[u8]) -> Gone {
+    Gone {
         entered,
         chain: chain_of(rt, processors),
         back: set_of(rt, back),
+    }
+}
+
+/// The event that the mask of a task becomes these processors.
+fn affinity(rt: &impl Abort, task: u32, processors: &[u8]) -> Event {
+    let mask = set_of(rt, processors);
+    Event::Affinity { task, mask }
+}
+
+/// The reply that the mask of a ready task was set.
+fn remasked(gone: Option<Gone>, came: Came) -> Reply {
+    Reply::Remasked { gone, came }
+}
+
+/// The reply that a processor is off line, where a task was on it.
+fn off(task: u32, came: Came) -> Reply {
+    Reply::Off {
+        moved: Some(Moved { task, came }),
     }
 }
 
@@ -149,13 +275,16 @@ fn entry(caller: u32, event: Event, reply: Reply) -> Entry {
 fn expect_text(
     rt: &impl Abort,
     alloc: Global,
+    version: u8,
     set: &TaskSet,
     entries: &[Entry],
     contexts: &[Context],
     want: &str,
 ) -> Result<(), Fail> {
-    assert!(rt; are_known(set, entries) && have_tasks(set, contexts));
-    let text = write_schedule(alloc, set, entries, contexts)?;
+    assert!(rt; version == 1 || version == 2);
+    assert!(rt; are_known(set, entries) && are_of_version(version, entries));
+    assert!(rt; have_tasks(set, contexts));
+    let text = write_schedule(alloc, version, set, entries, contexts)?;
     assert_eq!(rt; str::from_utf8(&text), Ok(want));
     Ok(())
 }
@@ -164,16 +293,16 @@ fn expect_text(
 fn smallest_schedule(rt: HostRuntime) -> Result<(), Fail> {
     let mut set = TaskSet::new(rt.alloc(), 1)?;
     set.add("a", 5, ProcSet::one(0))?;
-    let entries = vec![in rt.alloc(); entry(0, Event::Arrive(0), placed(&rt, &[0]))]?;
+    let entries = vec![in rt.alloc(); entry(0, Event::Arrive(0), Reply::from(placed(&rt, &[0])))]?;
     let mut context = Context::fresh(0);
     context.took(0);
-    expect_text(&rt, rt.alloc(), &set, &entries, &[context], SMALLEST)
+    expect_text(&rt, rt.alloc(), 1, &set, &entries, &[context], SMALLEST)
 }
 
 #[test]
 fn no_task_and_no_entry(rt: HostRuntime) -> Result<(), Fail> {
     let set = TaskSet::new(rt.alloc(), 64)?;
-    expect_text(&rt, rt.alloc(), &set, &[], &[], NOTHING)
+    expect_text(&rt, rt.alloc(), 1, &set, &[], &[], NOTHING)
 }
 
 #[test]
@@ -184,17 +313,25 @@ fn each_reply(rt: HostRuntime) -> Result<(), Fail> {
     set.add("c", 9, set_of(&rt, &[2, 3]))?;
     set.add("w1", 4294967295, set_of(&rt, &[0, 2, 3]))?;
     let entries = vec![in rt.alloc();
-        entry(0, Event::Arrive(0), placed(&rt, &[0, 1, 2])),
-        entry(15, Event::Arrive(1), placed(&rt, &[])),
+        entry(0, Event::Arrive(0), Reply::from(placed(&rt, &[0, 1, 2]))),
+        entry(15, Event::Arrive(1), Reply::from(placed(&rt, &[]))),
         entry(
             0,
             Event::Arrive(1),
-            displaced(&rt, &[0, 1, 2], 2, &[0, 1, 2])
+            Reply::from(displaced(&rt, &[0, 1, 2], 2, &[0, 1, 2]))
         ),
-        entry(0, Event::Arrive(3), waits(&rt, &[0, 2, 3])),
-        entry(2, Event::Arrive(2), waits(&rt, &[])),
-        entry(0, Event::Depart(0), freed(&rt, &[0, 1], Some(3), &[0, 1])),
-        entry(0, Event::Depart(0), freed(&rt, &[0], None, &[0])),
+        entry(0, Event::Arrive(3), Reply::from(waits(&rt, &[0, 2, 3]))),
+        entry(2, Event::Arrive(2), Reply::from(waits(&rt, &[]))),
+        entry(
+            0,
+            Event::Depart(0),
+            Reply::from(gone(&rt, &[0, 1], Some(3), &[0, 1]))
+        ),
+        entry(
+            0,
+            Event::Depart(0),
+            Reply::from(gone(&rt, &[0], None, &[0]))
+        ),
         entry(7, Event::Depart(3), Reply::Left),
         entry(0, Event::Tick(1000000), Reply::Ticked),
         entry(0, Event::Arrive(0), Reply::AlreadyReady),
@@ -218,16 +355,104 @@ fn each_reply(rt: HostRuntime) -> Result<(), Fail> {
             trail: 641,
         },
     ];
-    expect_text(&rt, rt.alloc(), &set, &entries, &contexts, EACH_REPLY)
+    expect_text(&rt, rt.alloc(), 1, &set, &entries, &contexts, EACH_REPLY)
+}
+
+/// Three tasks on four processors, two of which have words of the format as names.
+fn three_tasks(rt: &impl Abort, alloc: Global) -> Result<TaskSet, Fail> {
+    let mut set = TaskSet::new(alloc, 4)?;
+    set.add("a", 2, set_of(rt, &[0, 1]))?;
+    set.add("then", 3, set_of(rt, &[1, 2]))?;
+    set.add("left", 9, set_of(rt, &[2, 3]))?;
+    Ok(set)
+}
+
+#[test]
+fn each_reply_of_masks(rt: HostRuntime) -> Result<(), Fail> {
+    let set = three_tasks(&rt, rt.alloc())?;
+    let entries = vec![in rt.alloc();
+        entry(0, affinity(&rt, 0, &[0, 2, 3]), Reply::Masked),
+        entry(
+            1,
+            affinity(&rt, 1, &[1]),
+            remasked(None, placed(&rt, &[1, 2]))
+        ),
+        entry(
+            0,
+            affinity(&rt, 2, &[2, 3]),
+            remasked(None, displaced(&rt, &[2], 1, &[2, 3]))
+        ),
+        entry(0, affinity(&rt, 0, &[0]), remasked(None, waits(&rt, &[]))),
+        entry(
+            0,
+            affinity(&rt, 0, &[1]),
+            remasked(Some(gone(&rt, &[0], None, &[0, 1])), waits(&rt, &[1]))
+        ),
+        entry(
+            2,
+            affinity(&rt, 1, &[0, 1, 2, 3]),
+            remasked(
+                Some(gone(&rt, &[0, 1], Some(1), &[0, 1])),
+                placed(&rt, &[3])
+            )
+        ),
+        entry(
+            0,
+            affinity(&rt, 1, &[1]),
+            remasked(
+                Some(gone(&rt, &[0], Some(2), &[0])),
+                displaced(&rt, &[0], 1, &[0])
+            )
+        ),
+    ]?;
+    let contexts = [Context::fresh(0), Context::fresh(1), Context::fresh(2)];
+    expect_text(&rt, rt.alloc(), 2, &set, &entries, &contexts, OF_MASKS)
+}
+
+#[test]
+fn each_reply_of_processors(rt: HostRuntime) -> Result<(), Fail> {
+    let set = three_tasks(&rt, rt.alloc())?;
+    let entries = vec![in rt.alloc();
+        entry(0, Event::Offline(3), Reply::AlreadyOff),
+        entry(0, Event::Offline(0), Reply::Off { moved: None }),
+        entry(0, Event::Offline(1), off(1, placed(&rt, &[2]))),
+        entry(
+            0,
+            Event::Offline(1),
+            off(0, displaced(&rt, &[1], 2, &[1, 3]))
+        ),
+        entry(0, Event::Offline(2), off(2, waits(&rt, &[]))),
+        entry(0, Event::Online(3), Reply::AlreadyOn),
+        entry(
+            0,
+            Event::Online(0),
+            Reply::On {
+                parts: gone(&rt, &[0], None, &[0])
+            }
+        ),
+        entry(
+            15,
+            Event::Online(2),
+            Reply::On {
+                parts: gone(&rt, &[2, 1], Some(1), &[1, 2])
+            }
+        ),
+    ]?;
+    let contexts = [Context::fresh(0), Context::fresh(1), Context::fresh(2)];
+    expect_text(&rt, rt.alloc(), 2, &set, &entries, &contexts, OF_PROCESSORS)
 }
 
 /// Texts, each with the first line that has a fault, and its kind. Each begins with a prefix of the smallest schedule.
-const FIRST_FAULTS: [(&[u8], u64, TextKind); 30] = [
+const FIRST_FAULTS: [(&[u8], u64, TextKind); 34] = [
     (b"", 1, TextKind::Short),
     (b"schedule 1", 1, TextKind::Short),
+    (b"schedule 0\n", 1, TextKind::BadLine),
+    (b"schedule 3\n", 1, TextKind::BadLine),
     (b"schedule 01\n", 1, TextKind::BadLine),
+    (b"schedule 02\n", 1, TextKind::BadLine),
     (b"schedule 1 \n", 1, TextKind::BadLine),
     (b"schedule 1\n", 2, TextKind::Short),
+    (b"schedule 2\n", 2, TextKind::Short),
     (b"schedule 1\nprocessors 0\n", 2, TextKind::BadLine),
     (b"schedule 1\nprocessors 65\n", 2, TextKind::BadLine),
     (
@@ -369,18 +594,186 @@ c units 18446744073709551615 stints 2 moves 1 last 63 trail 6364136223846793647\
 w1 units 10 stints 0 moves 3 last - trail 641\n\
 end\n";
 
-/// What is read from a text is written as this text.
-fn expect_round_trip(rt: &impl Abort, alloc: Global, text: &str) -> Result<(), Fail> {
+/// Schedules of the second version: masks that are set, and processors that go off line and come on line.
+static LATER: [&str; 5] = [
+    "schedule 2\nprocessors 2\ntask a 1 0-1\ntask b 2 0-1\nhistory 4\n\
+0 arrive a placed 0\n\
+0 arrive b placed 1\n\
+0 affinity a 1 remasked freed 0 enters - back 0-1 then placed 1>0\n\
+0 tick 3 ticked\n\
+contexts 2\n\
+a units 3 stints 2 moves 1 last 1 trail 193\n\
+b units 3 stints 2 moves 1 last 0 trail 6364136223846793197\n\
+end\n",
+    "schedule 2\nprocessors 2\ntask a 1 0\ntask b 2 0\nhistory 5\n\
+0 arrive a placed 0\n\
+0 arrive b waits 0\n\
+0 affinity b 0-1 remasked left then placed 1\n\
+0 depart b freed 1 enters - back 1\n\
+0 affinity b 1 masked\n\
+contexts 2\n\
+a units 0 stints 1 moves 0 last 0 trail 0\n\
+b units 0 stints 1 moves 0 last 1 trail 1\n\
+end\n",
+    "schedule 2\nprocessors 1\ntask a 1 0\ntask b 2 0\nhistory 3\n\
+0 arrive a placed 0\n\
+0 arrive b waits 0\n\
+0 affinity a 0 remasked freed 0 enters b back 0 then displaced 0 out b reach 0\n\
+contexts 2\n\
+a units 0 stints 1 moves 0 last 0 trail 0\n\
+b units 0 stints 0 moves 0 last - trail 1\n\
+end\n",
+    "schedule 2\nprocessors 2\ntask a 1 0-1\ntask b 2 0-1\nhistory 7\n\
+0 arrive a placed 0\n\
+0 arrive b placed 1\n\
+0 offline 0 off a then displaced 1 out b reach 1\n\
+0 offline 0 already_off\n\
+0 offline 1 off a then waits -\n\
+0 online 1 on 1 enters a back 1\n\
+0 online 1 already_on\n\
+contexts 2\n\
+a units 0 stints 3 moves 1 last 1 trail 0\n\
+b units 0 stints 1 moves 0 last 1 trail 1\n\
+end\n",
+    "schedule 2\nprocessors 2\ntask a 1 1\nhistory 5\n\
+0 offline 0 off -\n\
+0 arrive a placed 1\n\
+0 offline 1 off a then waits -\n\
+0 affinity a 0 remasked left then waits -\n\
+0 online 0 on 0 enters a back 0\n\
+contexts 1\n\
+a units 0 stints 2 moves 1 last 0 trail 0\n\
+end\n",
+];
+
+/// What is read from a text is of this version, and is written as this text.
+fn expect_round_trip(rt: &impl Abort, alloc: Global, version: u8, text: &str) -> Result<(), Fail> {
     let schedule = read_schedule(alloc, text.as_bytes()).expect(rt, "a schedule");
+    assert_eq!(rt; schedule.version(), version);
     let (set, entries, contexts) = (schedule.set(), schedule.entries(), schedule.contexts());
-    expect_text(rt, alloc, set, entries, contexts, text)
+    expect_text(rt, alloc, version, set, entries, contexts, text)
 }
 
 #[test]
 fn round_trips(rt: HostRuntime) -> Result<(), Fail> {
-    expect_round_trip(&rt, rt.alloc(), SMALLEST)?;
-    expect_round_trip(&rt, rt.alloc(), NOTHING)?;
-    expect_round_trip(&rt, rt.alloc(), WHOLE)
+    expect_round_trip(&rt, rt.alloc(), 1, SMALLEST)?;
+    expect_round_trip(&rt, rt.alloc(), 1, NOTHING)?;
+    expect_round_trip(&rt, rt.alloc(), 1, WHOLE)?;
+    expect_round_trip(&rt, rt.alloc(), 2, OF_MASKS)?;
+    expect_round_trip(&rt, rt.alloc(), 2, OF_PROCESSORS)
+}
+
+#[test]
+fn round_trips_of_the_second_version(rt: HostRuntime) -> Result<(), Fail> {
+    for text in LATER {
+        expect_round_trip(&rt, rt.alloc(), 2, text)?;
+    }
+    Ok(())
+}
+
+/// Entries that the first version does not have.
+static LATER_FORMS: [&str; 12] = [
+    "0 affinity a 1 placed 0",
+    "0 offline 0 ticked",
+    "0 online 0 ticked",
+    "0 arrive a masked",
+    "0 arrive a already_off",
+    "0 arrive a already_on",
+    "0 arrive a remasked left then placed 0",
+    "0 arrive a remasked freed 0 enters - back 0 then placed 0",
+    "0 arrive a off -",
+    "0 arrive a off a then placed 0",
+    "0 arrive a off b then placed 0",
+    "0 arrive a on 0 enters - back 0",
+];
+
+/// Entries of the second version that have a fault, with its kind. There are two processors, and one task, `a`.
+static FAULTS_OF_ENTRIES: [(&str, TextKind); 33] = [
+    ("0 affinity a 1,0 masked", TextKind::BadLine),
+    ("0 affinity a 0,1 masked", TextKind::BadLine),
+    ("0 affinity a 1-2 masked", TextKind::BadLine),
+    ("0 affinity a 2 masked", TextKind::BadLine),
+    ("0 affinity a - masked", TextKind::BadLine),
+    ("0 affinity a masked", TextKind::BadLine),
+    ("0 affinity a 1", TextKind::BadLine),
+    ("0 affinity b 2 masked", TextKind::BadLine),
+    ("0 affinity b 1 masked", TextKind::UnknownTask),
+    ("0 affinity - 1 masked", TextKind::UnknownTask),
+    ("0 affinity a 1 masked ", TextKind::BadLine),
+    ("0 offline 2 already_off", TextKind::BadLine),
+    ("0 offline 00 already_off", TextKind::BadLine),
+    ("0 online 2 already_on", TextKind::BadLine),
+    ("0 online a already_on", TextKind::BadLine),
+    ("0 offline 0 off", TextKind::BadLine),
+    ("0 offline 0 off a", TextKind::BadLine),
+    ("0 offline 0 off a then", TextKind::BadLine),
+    ("0 offline 0 off a placed 1", TextKind::BadLine),
+    ("0 offline 0 off a then left", TextKind::BadLine),
+    ("0 offline 0 off - then placed 1", TextKind::UnknownTask),
+    ("0 offline 0 off b then placed 1", TextKind::UnknownTask),
+    ("0 offline 0 off b then placed 64", TextKind::BadLine),
+    (
+        "0 offline 0 off a then displaced 1 out b reach 1",
+        TextKind::UnknownTask,
+    ),
+    ("0 affinity a 1 remasked", TextKind::BadLine),
+    ("0 affinity a 1 remasked placed 1", TextKind::BadLine),
+    ("0 affinity a 1 remasked left placed 1", TextKind::BadLine),
+    ("0 affinity a 1 remasked left then", TextKind::BadLine),
+    (
+        "0 affinity a 1 remasked freed 0 enters - back 0 placed 1",
+        TextKind::BadLine,
+    ),
+    (
+        "0 affinity a 1 remasked freed 0 enters b back 0 then placed 1",
+        TextKind::UnknownTask,
+    ),
+    (
+        "0 affinity b 1 remasked freed 0 enters b back 0 then placed 1>",
+        TextKind::BadLine,
+    ),
+    ("0 online 0 on 0 enters b back 0", TextKind::UnknownTask),
+    (
+        "0 online 0 on 0 enters - back 0 then placed 0",
+        TextKind::BadLine,
+    ),
+];
+
+/// A schedule with this header and this entry on two processors is refused at the entry.
+fn expect_refused(
+    rt: &impl Abort,
+    alloc: Global,
+    header: &str,
+    entry: &str,
+    kind: TextKind,
+) -> Result<(), Fail> {
+    let mut text = Vec::from_slice(alloc, header.as_bytes())?;
+    text.extend_from_slice(b"\nprocessors 2\ntask a 1 0-1\nhistory 1\n")?;
+    text.extend_from_slice(entry.as_bytes())?;
+    text.push(b'\n')?;
+    let fault = TextFault { line: 5, kind };
+    assert_eq!(rt;
+        read_schedule(alloc, &text).err(),
+        Some(fault),
+        "at {entry}"
+    );
+    Ok(())
+}
+
+#[test]
+fn later_forms_in_the_first_version(rt: HostRuntime) -> Result<(), Fail> {
+    for entry in LATER_FORMS {
+        expect_refused(&rt, rt.alloc(), "schedule 1", entry, TextKind::BadLine)?;
+    }
+    Ok(())
+}
+
+#[test]
+fn faults_of_entries(rt: HostRuntime) -> Result<(), Fail> {
+    for (entry, kind) in FAULTS_OF_ENTRIES {
+        expect_refused(&rt, rt.alloc(), "schedule 2", entry, kind)?;
+    }
+    Ok(())
 }
 
 #[test]

@@ -139,11 +139,7 @@ fn write_remasked(
 }
 
 /// Appends the reply that a processor is off line.
-fn write_off(
-    text: &mut Vec<u8>,
-    set: &TaskSet,
-    moved: &Option<Moved>,
-) -> Result<(), OutOfMemory>
+fn write_off(text: &mut Vec<u8>, set: &TaskSet, moved: &Option<Moved>) -> Result<(), OutOfMemory>
     requires { IsReplyOf set.now (Off moved.now) }
     ensures { OnOk result (text.new.items ≡ text.old.items
         ++ reply_text set.now (Off moved.now)) }

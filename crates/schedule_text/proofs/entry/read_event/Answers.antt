@@ -1,9 +1,5 @@
-use Rattle.std.proofs.Common.{inl, inr, refl, sym, arith, ◌≡◌, ◌≢◌, ℕ, List, length}
-use Rattle.std.proofs.lemmas.List.{length-map}
-use Rattle.std.specs.Borrow.{Bor}
-use Rattle.text_fields.specs.Fields.{texts}
-use Rattle.text_fields.proofs.FieldLists.{texts_three}
-use Rattle.schedule_text.proofs.EventFields.{two_refused, affinity_refused, other_event}
+use Rattle.std.proofs.Common.{arith}
+use Rattle.schedule_text.proofs.EventFields.{two_refused, affinity_refused}
 use Rattle.schedule_text.proofs.entry.read_event.Goals as goal
 
 pub returns-in-len2-clause-refused : goal.returns-in-len2-clause-refused
@@ -15,4 +11,3 @@ pub returns-then-is_word-clause-refused : goal.returns-then-is_word-clause-refus
 returns-then-is_word-clause-refused c =
     affinity_refused c.args.version c.args.set.now c.args.fields.now _ c.affinity_of.result c.in-len3.len_at_least
     c.in-len3.len_below (omega arith) (c.is_word.ensures.0 c.if-is_word.true) c.affinity_of.ensures.refused
-

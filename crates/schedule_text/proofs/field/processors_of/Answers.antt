@@ -1,4 +1,4 @@
-use Rattle.std.proofs.Common.{rules, sym, ◌∙◌, ◌==◌, List, ℕ}
+use Rattle.std.proofs.Common.{rules, ◌==◌}
 use Rattle.std.proofs.lemmas.Iterator.Splits.{YieldsList-from_slice_split}
 use Rattle.std.proofs.lemmas.Iterator.Consumers.{YieldsList-turn, YieldsList-end}
 use Rattle.schedule_text.proofs.Chains.{list_more, list_none, list_full, list_read}

@@ -1,4 +1,4 @@
-use Rattle.std.proofs.Common.{inr, refl, ap, sym, ◌∙◌, ◌≡◌, List, ℕ, subst}
+use Rattle.std.proofs.Common.{inr, refl, sym, ◌≡◌, List, ℕ, subst}
 use Rattle.text_fields.specs.Fields.{texts}
 use Rattle.schedule_text.specs.Fields.{spaced_fields_of}
 use Rattle.schedule_text.specs.LineFields.{IsContextFields}

@@ -1,5 +1,4 @@
-use Rattle.std.proofs.Common.{ℕ, ◌∷◌, refl}
-use Rattle.std.specs.Prelude.{codes}
+use Rattle.std.proofs.Common.{ℕ, refl}
 use Rattle.task_set.specs.Refusal.{IsNameOf}
 use Rattle.text_fields.specs.Fields.{texts}
 use Rattle.text_fields.proofs.NamedTasks.{named_task}

@@ -1,4 +1,4 @@
-use Rattle.std.proofs.Common.{ap, ◌∙◌, rules}
+use Rattle.std.proofs.Common.{rules}
 use Rattle.std.proofs.lemmas.Result.{err_from_is_err_and}
 use Rattle.text_fields.specs.Fields.{texts}
 use Rattle.schedule_text.proofs.Stages.{entry_read, entry_refused}

@@ -1,8 +1,5 @@
-use Rattle.std.proofs.Common.{ap, sym, ◌∙◌, subst, ◌⊎◌, ℕ, List}
 use Rattle.std.proofs.lemmas.Result.{err_from_is_err_and}
 use Rattle.text_fields.specs.Fields.{texts}
-use Rattle.schedule_text.specs.Reading.{IsOutOfMemory}
-use Rattle.schedule_text.specs.LineFields.{IsTaskFault}
 use Rattle.schedule_text.proofs.Stages.{history_read, task_read, task_refused_line}
 use Rattle.schedule_text.proofs.stage.read_task.Goals as goal
 

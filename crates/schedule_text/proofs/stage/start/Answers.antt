@@ -1,4 +1,4 @@
-use Rattle.std.proofs.Common.{inr, ap, ◌∙◌}
+use Rattle.std.proofs.Common.{inr, ap}
 use Rattle.text_fields.specs.Fields.{texts}
 use Rattle.schedule_text.specs.Prefix.{TasksExpected}
 use Rattle.schedule_text.proofs.Stages.{processors_none, processors_read}
