@@ -1,28 +1,18 @@
 -- Events by the fields as the code cuts them.
-use Rattle.std.proofs.Common.{◌≡◌, ◌≢◌, ℕ, ◌<◌, ◌≤◌, ◌⊎◌, inl, inr, List, [], ◌∷◌, length, get_or, Bor, Result, IfErr, refl, sym, ap, ◌∙◌, subst, arith}
+use Rattle.std.proofs.Common.{◌≡◌, ℕ, ◌<◌, ◌≤◌, ◌⊎◌, List, [], ◌∷◌, length, get_or, Bor, Result, IfErr, sym, ap, ◌∙◌, subst}
 use Rattle.std.specs.Prelude.{codes}
-use Rattle.std.proofs.lemmas.List.{length-map}
 use Rattle.task_set.specs.TaskSet.{SetData}
 use Rattle.task_set.specs.declared.event.Event.{Event}
 use Rattle.text_fields.specs.Fields.{texts}
-use Rattle.text_fields.proofs.FieldLists.{texts_three}
+use Rattle.text_fields.proofs.FieldLists.{texts_two, texts_three}
 use Rattle.schedule_text.specs.declared.fault.TextKind.{TextKind}
-use Rattle.schedule_text.specs.declared.fault.TextKind.TheVariants.{BadLine}
 use Rattle.schedule_text.specs.Reading.{IsOutOfMemory}
 use Rattle.schedule_text.specs.LineFields.{IsEventFault}
 use Rattle.schedule_text.proofs.Parts.{fault_alone}
-use Rattle.schedule_text.proofs.Shapes.{event_length}
 
 -- what is refused
 abbrev IsRefused : ℕ → List (List ℕ) → SetData → Result Event TextKind → Type 0
 IsRefused version fields set result = IfErr result (λ kind. IsOutOfMemory kind ⊎ IsEventFault version fields set kind)
-
-texts_two : (fields : List (Bor (List ℕ))) (d : Bor (List ℕ)) → 2 ≤ length fields → length fields < 3
-    → texts fields ≡ (get_or fields 0 d).now ∷ (get_or fields 1 d).now ∷ []
-texts_two [] d some few = absurd (omega arith)
-texts_two (x ∷ []) d some few = absurd (omega arith)
-texts_two (x ∷ y ∷ []) d some few = refl
-texts_two (x ∷ y ∷ z ∷ us) d some few = absurd (omega arith)
 
 pub two_refused : (version : ℕ) (set : SetData) (fields : List (Bor (List ℕ))) (d : Bor (List ℕ))
     (result : Result Event TextKind) → 2 ≤ length fields → length fields < 3

@@ -5,7 +5,7 @@ use Rattle.std.proofs.lemmas.Bool.{true≢false}
 use Rattle.text_fields.specs.Fields.{texts}
 use Rattle.schedule_text.specs.LineFields.{IsGoneThen}
 use Rattle.text_fields.proofs.Words.{head_same, tail_same}
-use Rattle.text_fields.proofs.FieldLists.{texts_three, texts_four}
+use Rattle.text_fields.proofs.FieldLists.{texts_first_one, texts_three, texts_four}
 
 pub texts_five : (fields : List (Bor (List ℕ))) (d : Bor (List ℕ)) → 5 ≤ length fields → length fields < 6
     → texts fields ≡ (get_or fields 0 d).now ∷ (get_or fields 1 d).now ∷ (get_or fields 2 d).now
@@ -30,19 +30,11 @@ take_whole (suc n) [] le = refl
 take_whole zero (x ∷ xs) le = absurd (omega arith)
 take_whole (suc n) (x ∷ xs) le = ap (λ (rest : List (Bor (List ℕ))). x ∷ rest) (take_whole n xs (omega arith))
 
--- the first field, and the others
-pub texts_rest : (fields : List (Bor (List ℕ))) (d : Bor (List ℕ)) → 1 ≤ length fields
-    → texts fields ≡ (get_or fields 0 d).now ∷ texts (take (length fields - 1) (drop 1 fields))
-texts_rest [] d some = absurd (omega arith)
-texts_rest (x ∷ us) d some =
-    ap (λ (rest : List (Bor (List ℕ))). x.now ∷ texts rest)
-    (sym (take_whole (length (x ∷ us) - 1) us (omega arith)))
-
 -- the first field is this word
 pub headed : (fields : List (Bor (List ℕ))) (d : Bor (List ℕ)) (word : List ℕ) → 1 ≤ length fields
     → (get_or fields 0 d).now ≡ word → word ∷ texts (take (length fields - 1) (drop 1 fields)) ≡ texts fields
 headed fields d word some is =
-    sym (texts_rest fields d some
+    sym (texts_first_one fields d some
     ∙ ap (λ (first : List ℕ). first ∷ texts (take (length fields - 1) (drop 1 fields))) is)
 
 -- there are others

@@ -8,7 +8,8 @@ use Rattle.task_set.specs.TaskSet.{TaskData, SetData, IsTaskSet}
 use Rattle.task_set.specs.declared.context.Context.{Context}
 use Rattle.scheduler_reply.specs.declared.reply.Entry.{Entry}
 use Rattle.text_fields.specs.LineText.{line, task_fields}
-use Rattle.schedule_text.specs.ScheduleText.{IsVersion, header}
+use Rattle.text_fields.specs.Version.{IsVersion}
+use Rattle.schedule_text.specs.ScheduleText.{header}
 use Rattle.schedule_text.specs.Schedule.{IsScheduled, IsContextOf, AreInOrder, IsScheduleSet}
 use Rattle.schedule_text.specs.Prefix.{Progress, HeaderExpected, ProcessorsExpected, TasksExpected, EntriesExpected, ContextsExpected, Ended, text_so_far, IsPrefix}
 use Rattle.schedule_text.specs.Reading.{Leads}

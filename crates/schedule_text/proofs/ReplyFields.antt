@@ -9,7 +9,8 @@ use Rattle.text_fields.specs.Fields.{texts}
 use Rattle.schedule_text.specs.declared.fault.TextKind.{TextKind}
 use Rattle.schedule_text.specs.Reading.{IsOutOfMemory}
 use Rattle.schedule_text.specs.LineFields.{IsCameFields, IsCameFault, IsGoneFields, IsGoneFault, IsReplyFields, IsReplyFault}
-use Rattle.schedule_text.proofs.FieldLists.{texts_rest, texts_rest_two, headed}
+use Rattle.schedule_text.proofs.FieldLists.{texts_rest_two, headed}
+use Rattle.text_fields.proofs.FieldLists.{texts_first_one}
 use Rattle.schedule_text.proofs.Parts.{same_refused}
 use Rattle.schedule_text.proofs.Replies.{IsOtherWord, came_to, came_from, freed_to, freed_from, waiting_to, waiting_from}
 
@@ -68,5 +69,5 @@ pub came_refused : (version : ℕ) (set : SetData) (fields : List (Bor (List ℕ
 came_refused version set fields d kind some more other refused =
     same_refused (IsCameFields (texts fields)) (IsReplyFields version (texts fields)) set kind
     (λ tasks arrival f. (reply_of_came arrival, came_to version (texts fields) tasks arrival f))
-    (came_from version (texts fields) (get_or fields 0 d).now (rest_of fields) (texts_rest fields d some) more other)
+    (came_from version (texts fields) (get_or fields 0 d).now (rest_of fields) (texts_first_one fields d some) more other)
     refused

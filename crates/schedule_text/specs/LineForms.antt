@@ -10,7 +10,8 @@ use Rattle.scheduler_reply.specs.declared.reply.Entry.{Entry}
 use Rattle.scheduler_reply.specs.Reply.{IsReplyOfVersion}
 use Rattle.text_fields.specs.LineText.{line, task_line}
 use Rattle.text_fields.specs.EventText.{event_text, IsAboutSet}
-use Rattle.schedule_text.specs.ScheduleText.{IsVersion, reply_text, entry_line, context_line, header, IsReplyOf}
+use Rattle.text_fields.specs.Version.{IsVersion}
+use Rattle.schedule_text.specs.ScheduleText.{reply_text, entry_line, context_line, header, IsReplyOf}
 use Rattle.schedule_text.specs.Schedule.{IsOfProcessors, HasProcessors, IsScheduled, IsContextOf}
 use Rattle.task_set.specs.Event.{HasUnits, IsOfVersion}
 use Rattle.schedule_text.specs.Prefix.{Progress, HeaderExpected, ProcessorsExpected, TasksExpected, EntriesExpected, ContextsExpected, Ended}

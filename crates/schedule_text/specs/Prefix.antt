@@ -6,7 +6,8 @@ use Rattle.task_set.specs.TaskSet.{SetData}
 use Rattle.task_set.specs.declared.context.Context.{Context}
 use Rattle.scheduler_reply.specs.declared.reply.Entry.{Entry}
 use Rattle.text_fields.specs.LineText.{line, processors_line, task_line}
-use Rattle.schedule_text.specs.ScheduleText.{IsVersion, entry_line, context_line, header, schedule_text}
+use Rattle.text_fields.specs.Version.{IsVersion}
+use Rattle.schedule_text.specs.ScheduleText.{entry_line, context_line, header, schedule_text}
 use Rattle.schedule_text.specs.Schedule.{ScheduleData, IsScheduled, AreInOrder, IsScheduleSet, IsSchedule}
 
 -- what is expected after a prefix of a schedule: the header, which says the version, and in a version the processors,

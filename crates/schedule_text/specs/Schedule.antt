@@ -11,7 +11,8 @@ use Rattle.task_set.specs.Event.{HasUnits}
 use Rattle.scheduler_reply.specs.declared.reply.Reply.{Reply}
 use Rattle.scheduler_reply.specs.declared.reply.Entry.{Entry}
 use Rattle.scheduler_reply.specs.Reply.{chains_of, sets_of}
-use Rattle.schedule_text.specs.ScheduleText.{IsVersion, IsEntryOf, IsEntryOfVersion}
+use Rattle.text_fields.specs.Version.{IsVersion}
+use Rattle.schedule_text.specs.ScheduleText.{IsEntryOf, IsEntryOfVersion}
 use Rattle.schedule_text.specs.declared.schedule.Schedule.TheInside.{Inside}
 
 -- what contracts see of a schedule

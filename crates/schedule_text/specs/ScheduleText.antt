@@ -1,7 +1,7 @@
 -- The schedule text. There is one text for a version of the format, a task set, a history and the contexts of its
 -- tasks: a header, the tasks, a line for each entry with its reply, and a line for each context. It can be written
 -- where what each entry is about is of the set.
-use Rattle.std.specs.Prelude.{ℕ, ◌<◌, ◌≤◌, List, [], ◌∷◌, ◌++◌, codes, length, map, All, Option, None, Some, if◌then◌else◌, ◌==◌}
+use Rattle.std.specs.Prelude.{ℕ, ◌<◌, List, [], ◌∷◌, ◌++◌, codes, length, map, All, Option, None, Some, if◌then◌else◌, ◌==◌}
 use Rattle.std.specs.List.{flat_map, join_with_byte}
 use Rattle.affinity_mask.specs.ProcSet.{empty}
 use Rattle.affinity_mask.specs.Number.{canonical_number}
@@ -18,10 +18,6 @@ use Rattle.scheduler_reply.specs.declared.reply.Entry.{Entry}
 use Rattle.scheduler_reply.specs.Reply.{tasks_named, IsReplyOfVersion}
 use Rattle.text_fields.specs.LineText.{line, processors_line, task_line}
 use Rattle.text_fields.specs.EventText.{name_of, event_text, IsAboutSet}
-
--- a version of the format
-abbrev pub IsVersion : ℕ → Type 0
-IsVersion version = (1 ≤ version) × (version ≤ 2)
 
 -- the processors of a chain in order, joined by '>'; '-' where there is none
 abbrev pub chain_text : List ℕ → List ℕ

@@ -3,6 +3,7 @@ ghost use Rattle.std.specs.Prelude.{◌≡◌, ◌<◌, ◌++◌, length, codes,
 ghost use Rattle.std.specs.List.{flat_map};
 ghost use Rattle.affinity_mask.specs.Number.{canonical_number};
 ghost use Rattle.text_fields.specs.LineText.{line};
+ghost use Rattle.text_fields.specs.Version.{IsVersion};
 ghost use Rattle.scheduler_reply.specs.Reply.{came_tasks};
 ghost use Rattle.scheduler_reply.specs.declared.reply.Came.TheVariants as came;
 ghost use Rattle.scheduler_reply.specs.declared.reply.Reply.TheVariants.{Remasked, Off};
@@ -17,7 +18,6 @@ ghost use Rattle.schedule_text.specs.ScheduleText.{
   entry_line,
   context_line,
   schedule_text,
-  IsVersion,
   AreTasksOf,
   IsReplyOf,
   IsEntryOf,
