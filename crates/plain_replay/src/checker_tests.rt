@@ -31,9 +31,7 @@ fn assert_context(rt: &impl Abort, checker: &Checker, expected: &Context) {
 /// The tasks, of two processors.
 static TASKS: [(&str, u32, &[u8]); 2] = [("a", 1, &[0, 1]), ("b", 2, &[0])];
 
-static EVENTS: [Event; 3] = [Event::Arrive(0), Event::Arrive(1), Event::Tick(5)];
-
-/// The contexts after the events: b moved a on.
+/// The contexts after both tasks arrived and ran 5 units: b moved a on.
 static CONTEXTS: [Context; 2] = [
     Context {
         task: 0,
@@ -57,9 +55,9 @@ static CONTEXTS: [Context; 2] = [
 fn core_after(rt: &(impl Abort + AllocGlobal)) -> Result<Core, Fail> {
     let set = set_of(rt, 2, &TASKS)?;
     let mut core = Core::new(rt.alloc(), &set)?;
-    for event in &EVENTS {
-        apply(rt, &mut core, *event);
-    }
+    apply(rt, &mut core, Event::Arrive(0));
+    apply(rt, &mut core, Event::Arrive(1));
+    apply(rt, &mut core, Event::Tick(5));
     Ok(core)
 }
 
