@@ -412,7 +412,7 @@ fn post_share<R: Wait>(rt: &R, board: &Board, pass: &mut Pass, told: &Mutex<Vec<
         };
         let one = Told {
             caller,
-            event,
+            event: event_of(caller, number),
             receipt,
         };
         if told.lock(rt).push(one).is_err() {

@@ -9,14 +9,14 @@ use task_set::{Context, Event};
 
 /// Applies an event of a task or a processor of the core.
 pub(crate) fn apply(rt: &impl Abort, core: &mut Core, event: Event) {
-    assert!(rt; is_event_for(core.links(), event));
+    assert!(rt; is_event_for(core.links(), &event));
     let applied = core.apply(0, event).is_ok();
     assert!(rt; applied);
 }
 
 /// Asserts that the checker accepts the entry.
 pub(crate) fn accept(rt: &impl Abort, checker: &mut Checker, entry: &Entry) {
-    assert!(rt; is_event_for(checker.links(), entry.event));
+    assert!(rt; is_event_for(checker.links(), &entry.event));
     let accepted = checker.accept(entry).is_ok();
     assert!(rt; accepted, "at {:?}", entry.event);
 }

@@ -85,7 +85,7 @@ impl Reached {
 
 /// Applies the event, and notes the reply.
 fn apply(rt: &impl Abort, core: &mut Core, event: Event, reached: &mut Reached) {
-    assert!(rt; is_event_for(core.links(), event));
+    assert!(rt; is_event_for(core.links(), &event));
     let applied = core.apply(0, event).is_ok();
     assert!(rt; applied);
     if let Some(entry) = core.history().last() {

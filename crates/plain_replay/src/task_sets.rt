@@ -47,14 +47,14 @@ pub fn all_below(tasks: &[u32], n: u32) -> bool
 }
 
 /// Whether the task, the mask and the processor of the event are of these links.
-pub fn is_event_for(links: &Links, event: Event) -> bool
-    ensures { IsTrue result → IsEventFor links.now event }
+pub fn is_event_for(links: &Links, event: &Event) -> bool
+    ensures { IsTrue result → IsEventFor links.now event.now }
 {
     match event {
-        Event::Arrive(t) | Event::Depart(t) => t < links.len(),
+        Event::Arrive(t) | Event::Depart(t) => *t < links.len(),
         Event::Tick(_) => true,
-        Event::Affinity { task, mask } => task < links.len() && is_mask(mask, links.processors()),
-        Event::Offline(p) | Event::Online(p) => p < links.processors(),
+        Event::Affinity { task, mask } => *task < links.len() && is_mask(*mask, links.processors()),
+        Event::Offline(p) | Event::Online(p) => *p < links.processors(),
     }
 }
 
