@@ -11,8 +11,9 @@ use std::sync::Wait;
 use std::thread;
 use std::time::{Clock, Duration};
 
-/// How often in a row a processor yields before it sleeps.
-const YIELDS: u32 = 32;
+/// How often in a row a processor yields before it sleeps. More of them make no run shorter, and where there are many
+/// processors they double the time that these take from the others.
+const YIELDS: u32 = 4;
 
 /// The first nap of a processor without orders, in microseconds. A shorter one costs more, and serves no order earlier
 /// where many come.
