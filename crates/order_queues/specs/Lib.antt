@@ -1,4 +1,3 @@
-pub mod Batches
 pub mod Queue
 pub mod Count
 pub mod Ties
