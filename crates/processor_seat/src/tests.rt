@@ -1,5 +1,5 @@
 //! Orders that go through queues to two processors, one call at a time, and on threads.
-ghost use Rattle.std.specs.Prelude.{◌≡◌, ◌≢◌, ◌<◌, ◌≤◌, [], None, true, false, All, length, IfOk};
+ghost use Rattle.std.specs.Prelude.{◌≡◌, ◌≢◌, ◌<◌, [], None, true, false, All, length, IfOk};
 ghost use Rattle.std.specs.Thread.{IsSync};
 ghost use Rattle.task_set.specs.declared.order.Order.TheVariants.{Stop};
 ghost use Rattle.task_set.specs.Orders.{IsObeyable, MayCome, NamesTaskBelow, held_after, has_stop, task_held};
@@ -214,21 +214,13 @@ fn contexts_of_two(
     contexts(alloc, slots, hands)
 }
 
-/// One task more, on the first processors.
-fn add_task(set: &mut TaskSet, name: &str, priority: u32, processors: u8) -> Result<(), Fail>
-    requires { processors ≤ 64 }
-{
-    set.add(name, priority, ProcSet::first(processors))?;
-    Ok(())
-}
-
 /// A set of two tasks on two processors.
 fn two_tasks(rt: &impl Abort, alloc: Global) -> Result<TaskSet, Fail>
     ensures { IfOk result (λ set. (length set.tasks ≡ 2) × (set.processors ≡ 2)) }
 {
     let mut set = TaskSet::new(alloc, 2)?;
-    add_task(&mut set, "a", 1, 2)?;
-    add_task(&mut set, "b", 2, 1)?;
+    assert!(rt; set.add("a", 1, ProcSet::first(2)) == Ok(0));
+    assert!(rt; set.add("b", 2, ProcSet::first(1)) == Ok(1));
     assert!(rt; set.len() == 2 && set.processors() == 2);
     Ok(set)
 }
@@ -341,19 +333,10 @@ impl Gate for Takes {
 }
 
 /// Sends two stints of the task 0, of which the second is two turns later, and Stop.
-fn send_two_stints<R: Wait>(
-    rt: &R,
-    queue: &Queue,
-    sender: &mut Sender,
-    number: u32,
-    units: u32,
-) -> usize
-    requires queue { sender.old.queue ≡ queue.now }
-    requires tasks { queue.now.tasks ≡ 2 }
+fn send_two_stints<R: Abort + Wait>(rt: &R, queue: &Queue, end: &mut End, number: u32, units: u32)
+    requires queue { end.old ≡ queue.now }
     requires number { number < 2 }
-    requires none_sent { sender.old.sent ≡ [] }
 {
-    let mut eye = sender.eye(queue);
     let orders = [
         Order::Take { task: 0, number },
         Order::Run(units),
@@ -366,7 +349,9 @@ fn send_two_stints<R: Wait>(
         Order::Release(0),
         Order::Stop,
     ];
-    sender.send_all(rt, queue, &mut eye, &orders)
+    for order in orders {
+        end.send(rt, queue, order);
+    }
 }
 
 /// A processor that works to its end.
@@ -435,49 +420,36 @@ fn hand_to_and_fro<R: Abort + Threads + Wait + Clock + Sync, G: Gate + Sync>(
     ensures hand_0 { IfOk result (λ hands. (hands.0.slots ≡ slots.now.id) × (hands.0.holds ≡ None)) }
     ensures hand_1 { IfOk result (λ hands. (hands.1.slots ≡ slots.now.id) × (hands.1.holds ≡ None)) }
 {
-    let (queue_0, mut sender_0, receiver_0) = Queue::new(alloc, 2)?;
-    let (queue_1, mut sender_1, receiver_1) = Queue::new(alloc, 2)?;
-    let one = Processor::new(0, hand_0, receiver_0);
-    let other = Processor::new(1, hand_1, receiver_1);
-    assert!(rt; send_two_stints(rt, &queue_0, &mut sender_0, 0, 3) == 7);
-    assert!(rt; send_two_stints(rt, &queue_1, &mut sender_1, 1, 5) == 7);
+    let Seat {
+        queue: queue_0,
+        end: mut end_0,
+        processor: one,
+    } = Seat::new(alloc, 0, hand_0, slots)?;
+    let Seat {
+        queue: queue_1,
+        end: mut end_1,
+        processor: other,
+    } = Seat::new(alloc, 1, hand_1, slots)?;
+    send_two_stints(rt, &queue_0, &mut end_0, 0, 3);
+    send_two_stints(rt, &queue_1, &mut end_1, 1, 5);
     let (one, other) = both_worked(rt, slots, gate, &queue_0, one, &queue_1, other);
     let (hand_0, _receiver_0) = one.finish();
     let (hand_1, _receiver_1) = other.finish();
     Ok((hand_0, hand_1))
 }
 
-/// The contexts after two processors handed the task 0 to and fro.
-fn after_to_and_fro<R: Abort + Threads + Wait + Clock + Sync, G: Gate + Sync>(
-    rt: &R,
-    alloc: Global,
-    set: &TaskSet,
-    gate: &G,
-) -> Result<Vec<Context>, Fail>
-    requires { (length set.now.tasks ≡ 2) × (set.now.processors ≡ 2) }
-{
-    let (slots, hand_0, hand_1) = two_hands(alloc, set)?;
-    let (hand_0, hand_1) = hand_to_and_fro(rt, alloc, &slots, gate, hand_0, hand_1)?;
-    contexts_of_two(rt, alloc, slots, hand_0, hand_1)
-}
-
-/// Whether the first context is that of a task with four stints and three moves, of 16 units, that was last on 1.
-fn is_after_to_and_fro(contexts: &[Context]) -> bool {
-    match contexts.first() {
-        Some(a) => a.units == 16 && a.stints == 4 && a.moves == 3 && a.last == Some(1),
-        None => false,
-    }
-}
-
 #[test]
 fn task_goes_to_and_fro(rt: HostRuntime) -> Result<(), Fail> {
+    let set = two_tasks(&rt, rt.alloc())?;
+    let (slots, hand_0, hand_1) = two_hands(rt.alloc(), &set)?;
     let gate = Takes {
         count: AtomicU64::new(0),
     };
-    let set = two_tasks(&rt, rt.alloc())?;
-    let contexts = after_to_and_fro(&rt, rt.alloc(), &set, &gate)?;
+    let (hand_0, hand_1) = hand_to_and_fro(&rt, rt.alloc(), &slots, &gate, hand_0, hand_1)?;
+    let contexts = contexts_of_two(&rt, rt.alloc(), slots, hand_0, hand_1)?;
     assert_eq!(rt; contexts.len(), 2);
-    assert!(rt; is_after_to_and_fro(&contexts));
+    let a = &contexts[0];
+    assert_eq!(rt; (a.units, a.stints, a.moves, a.last), (16, 4, 3, Some(1)));
     assert_eq!(rt; gate.count.load(Ordering::SeqCst), 4);
     Ok(())
 }
