@@ -257,14 +257,20 @@ fn all_go_round<R: Threads + Wait + Sync>(
     each_goes_round(rt, slots, hands)
 }
 
+/// One task more.
+fn add_task(alloc: Global, set: &mut TaskSet, t: u32) -> Result<(), Fail> {
+    let name = format!(in alloc; "t{t}")?;
+    set.add(&name, t, ProcSet::first(PROCESSORS))?;
+    Ok(())
+}
+
 /// The set of the round.
 fn round_set(rt: &impl Abort, alloc: Global) -> Result<TaskSet, Fail>
     ensures { IfOk result (λ set. length set.tasks ≡ 64) }
 {
     let mut set = TaskSet::new(alloc, PROCESSORS)?;
     for t in 0..TASKS {
-        let name = format!(in alloc; "t{t}")?;
-        set.add(&name, t, ProcSet::first(PROCESSORS))?;
+        add_task(alloc, &mut set, t)?;
     }
     assert!(rt; set.len() == 64);
     Ok(set)

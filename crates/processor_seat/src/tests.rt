@@ -1,5 +1,5 @@
 //! Orders that go through queues to two processors, one call at a time, and on threads.
-ghost use Rattle.std.specs.Prelude.{◌≡◌, ◌≢◌, ◌<◌, [], None, true, false, All, length, IfOk};
+ghost use Rattle.std.specs.Prelude.{◌≡◌, ◌≢◌, ◌<◌, ◌≤◌, [], None, true, false, All, length, IfOk};
 ghost use Rattle.std.specs.Thread.{IsSync};
 ghost use Rattle.task_set.specs.declared.order.Order.TheVariants.{Stop};
 ghost use Rattle.task_set.specs.Orders.{IsObeyable, MayCome, NamesTaskBelow, held_after, has_stop, task_held};
@@ -214,13 +214,21 @@ fn contexts_of_two(
     contexts(alloc, slots, hands)
 }
 
+/// One task more, on the first processors.
+fn add_task(set: &mut TaskSet, name: &str, priority: u32, processors: u8) -> Result<(), Fail>
+    requires { processors ≤ 64 }
+{
+    set.add(name, priority, ProcSet::first(processors))?;
+    Ok(())
+}
+
 /// A set of two tasks on two processors.
 fn two_tasks(rt: &impl Abort, alloc: Global) -> Result<TaskSet, Fail>
     ensures { IfOk result (λ set. (length set.tasks ≡ 2) × (set.processors ≡ 2)) }
 {
     let mut set = TaskSet::new(alloc, 2)?;
-    assert!(rt; set.add("a", 1, ProcSet::first(2)) == Ok(0));
-    assert!(rt; set.add("b", 2, ProcSet::first(1)) == Ok(1));
+    add_task(&mut set, "a", 1, 2)?;
+    add_task(&mut set, "b", 2, 1)?;
     assert!(rt; set.len() == 2 && set.processors() == 2);
     Ok(set)
 }
@@ -438,18 +446,37 @@ fn hand_to_and_fro<R: Abort + Threads + Wait + Clock + Sync, G: Gate + Sync>(
     Ok((hand_0, hand_1))
 }
 
+/// The contexts after two processors handed the task 0 to and fro.
+fn after_to_and_fro<R: Abort + Threads + Wait + Clock + Sync, G: Gate + Sync>(
+    rt: &R,
+    alloc: Global,
+    set: &TaskSet,
+    gate: &G,
+) -> Result<Vec<Context>, Fail>
+    requires { (length set.now.tasks ≡ 2) × (set.now.processors ≡ 2) }
+{
+    let (slots, hand_0, hand_1) = two_hands(alloc, set)?;
+    let (hand_0, hand_1) = hand_to_and_fro(rt, alloc, &slots, gate, hand_0, hand_1)?;
+    contexts_of_two(rt, alloc, slots, hand_0, hand_1)
+}
+
+/// Whether the first context is that of a task with four stints and three moves, of 16 units, that was last on 1.
+fn is_after_to_and_fro(contexts: &[Context]) -> bool {
+    match contexts.first() {
+        Some(a) => a.units == 16 && a.stints == 4 && a.moves == 3 && a.last == Some(1),
+        None => false,
+    }
+}
+
 #[test]
 fn task_goes_to_and_fro(rt: HostRuntime) -> Result<(), Fail> {
-    let set = two_tasks(&rt, rt.alloc())?;
-    let (slots, hand_0, hand_1) = two_hands(rt.alloc(), &set)?;
     let gate = Takes {
         count: AtomicU64::new(0),
     };
-    let (hand_0, hand_1) = hand_to_and_fro(&rt, rt.alloc(), &slots, &gate, hand_0, hand_1)?;
-    let contexts = contexts_of_two(&rt, rt.alloc(), slots, hand_0, hand_1)?;
+    let set = two_tasks(&rt, rt.alloc())?;
+    let contexts = after_to_and_fro(&rt, rt.alloc(), &set, &gate)?;
     assert_eq!(rt; contexts.len(), 2);
-    let a = &contexts[0];
-    assert_eq!(rt; (a.units, a.stints, a.moves, a.last), (16, 4, 3, Some(1)));
+    assert!(rt; is_after_to_and_fro(&contexts));
     assert_eq!(rt; gate.count.load(Ordering::SeqCst), 4);
     Ok(())
 }
