@@ -1,5 +1,6 @@
 //! More orders than a queue holds, for processors that have no thread: one call at a time, and by a drive.
 ghost use Rattle.std.specs.Prelude.{◌≡◌, ◌∷◌, [], All, None, Some, IfOk, length, map, slice_get};
+ghost use Rattle.task_set.specs.Event.{IsOfSystem};
 ghost use Rattle.order_queues.specs.Ends.{new_receiver, new_sender};
 ghost use Rattle.context_slots.specs.Hands.{new_hand};
 ghost use Rattle.event_history.specs.Boards.{AreEyesOf, AreFor};

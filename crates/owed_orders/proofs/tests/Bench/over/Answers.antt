@@ -11,7 +11,7 @@ invariant_of-result c =
     let same : slots.set ≡ c.args.set.now = c.in_ok-slots.ensures.slots in
     let two : length slots.set.tasks ≡ 2 = ap (λ (s : SetData). length s.tasks) same ∙ c.requires.set.0 in
     record {
-      tasks = (ap (λ (s : SetData). length s.tasks) c.in_ok-board.ensures.board.0 ∙ c.requires.set.0, ap (λ (s : SetData). s.processors) same ∙ c.requires.set.1);
+      tasks = (ap (λ (s : SetData). length s.tasks) c.in_ok-board.ensures.board.0 ∙ c.requires.set.0, ap (λ (s : SetData). s.processors) c.in_ok-board.ensures.board.0 ∙ c.requires.set.1, ap (λ (s : SetData). s.processors) same ∙ c.requires.set.1);
       pass_is = c.in_ok-board.ensures.pass.0;
       eyes = c.in_ok-board.ensures.pass.1;
       lanes = sym (c.in_ok-board.ensures.board.1 ∙ c.deref.ensures.value);
