@@ -94,7 +94,7 @@ static TASKS: [Task; 6] = [
 ];
 
 /// Arrivals, departures and ticks.
-static ROWS: [Row; 35] = [
+static ROWS: [Row; 49] = [
     (Arrive(A), Answer::Came(Placed(&[0])), None),
     (Arrive(B), Answer::Came(Placed(&[1])), None),
     (Arrive(C), Answer::Came(Placed(&[2])), None),
@@ -102,6 +102,7 @@ static ROWS: [Row; 35] = [
 
     // Now a is on 0, b on 1 and c on 2. A departing task leaves a processor here, and an arriving one none.
     (Arrive(D), Left, Some(WrongReply)),
+    (Arrive(D), AlreadyReady, Some(WrongReply)),
     (Arrive(A), Answer::Came(Waits(&[0, 1, 2])), Some(WrongReply)),
     (Tick(1), AlreadyReady, Some(WrongReply)),
 
@@ -157,10 +158,10 @@ static ROWS: [Row; 35] = [
     (Arrive(D), Answer::Came(Waits(&[0, 1, 2])), Some(BadSet(0))),
     (Arrive(E), Answer::Came(Waits(&[0, 1, 2])), Some(BadSet(2))),
 
-    // On the last processor of the chain is c; and c is more urgent than f.
+    // On the last processor of the chain is c, and not b; and c is more urgent than f.
     (
         Arrive(D),
-        Answer::Came(Displaced(&[0, 1, 2], UNKNOWN, &[0, 1, 2])),
+        Answer::Came(Displaced(&[0, 1, 2], B, &[0, 1, 2])),
         Some(WrongTask(C)),
     ),
     (
@@ -168,9 +169,32 @@ static ROWS: [Row; 35] = [
         Answer::Came(Displaced(&[0, 1, 2], C, &[0, 1, 2])),
         Some(WrongTask(C)),
     ),
+
+    // Beside a task that there is not, what fails before it is reported first.
+    (
+        Arrive(A),
+        Answer::Came(Displaced(&[0, 1, 2], UNKNOWN, &[0, 1, 2])),
+        Some(WrongReply),
+    ),
+    (
+        Arrive(D),
+        Answer::Came(Displaced(&[0, 1, 3], UNKNOWN, &[0, 1])),
+        Some(BadChain(2)),
+    ),
+    (
+        Arrive(D),
+        Answer::Came(Displaced(&[0, 1, 2], UNKNOWN, &[0, 1])),
+        Some(BadSet(1)),
+    ),
+    (
+        Arrive(D),
+        Answer::Came(Displaced(&[0, 1, 2], UNKNOWN, &[0, 1, 2])),
+        Some(WrongTask(C)),
+    ),
     (Arrive(F), Answer::Came(Waits(&[0, 1, 2])), None),
     (Depart(F), Freed((&[0], None, &[0])), Some(WrongReply)),
     (Depart(F), Left, None),
+    (Depart(F), Left, Some(WrongReply)),
     (Depart(F), NotReady, None),
     (
         Arrive(D),
@@ -186,6 +210,11 @@ static ROWS: [Row; 35] = [
     ),
     (
         Depart(D),
+        Freed((&[0, 1], None, &[0, 1, 2])),
+        Some(BadChain(1)),
+    ),
+    (
+        Depart(D),
         Freed((&[0, 2], Some(C), &[0, 1, 2])),
         Some(BadChain(1)),
     ),
@@ -198,6 +227,11 @@ static ROWS: [Row; 35] = [
         Depart(D),
         Freed((&[0, 1, 2], Some(C), &[0, 1])),
         Some(BadSet(2)),
+    ),
+    (
+        Depart(D),
+        Freed((&[0, 1, 2], Some(C), &[0, 1, 2, 3])),
+        Some(BadSet(3)),
     ),
 
     // Nobody enters, or a task that does not wait, or c on a processor that its mask does not have.
@@ -216,10 +250,36 @@ static ROWS: [Row; 35] = [
         Freed((&[0, 1], Some(C), &[0, 1, 2])),
         Some(WrongTask(C)),
     ),
+    (
+        Depart(D),
+        Freed((&[0, 2], Some(UNKNOWN), &[1, 2])),
+        Some(BadChain(1)),
+    ),
+    (
+        Depart(D),
+        Freed((&[0, 1, 2], Some(UNKNOWN), &[1, 2])),
+        Some(BadSet(0)),
+    ),
+    (
+        Depart(D),
+        Freed((&[0, 1, 2], Some(UNKNOWN), &[0, 1, 2])),
+        Some(WrongTask(C)),
+    ),
     (Depart(D), Freed((&[0, 1, 2], Some(C), &[0, 1, 2])), None),
 
     // Now a is on 0, b on 1 and c on 2, and nobody waits. A set may be larger than it has to be.
+    (
+        Depart(C),
+        Freed((&[2], Some(E), &[0, 1, 2])),
+        Some(WrongTask(E)),
+    ),
+    (
+        Depart(C),
+        Freed((&[2], Some(UNKNOWN), &[0, 1, 2])),
+        Some(WrongTask(UNKNOWN)),
+    ),
     (Depart(C), Freed((&[2], None, &[0, 1, 2])), None),
+    (Tick(3), Ticked, None),
 ];
 
 /// A task moves for another one, and both run.
