@@ -1,44 +1,50 @@
 -- Orders are sent, processor by processor.
-use Rattle.std.proofs.Common.{◌≡◌, ◌≢◌, ℕ, ◌+◌, ◌<◌, ◌≤◌, List, [], ◌∷◌, ◌++◌, length, set, sum, get_or, slice_get, Some, None, All, sym, refl, ap, ◌∙◌, subst, ⊎_elim, arith, length-append, length-set}
+use Rattle.std.proofs.Common.{◌≡◌, ◌≢◌, ℕ, ◌+◌, ◌<◌, ◌≤◌, List, [], ◌∷◌, ◌++◌, length, set, sum, slice_get, Some, All, take, drop, sym, refl, ap, ◌∙◌, subst, ⊎_elim, arith, append_assoc, append-nil, length-append, length-set, length-take-le, take-append-drop}
+use Rattle.std.proofs.Math.Seq.{drop-append_seam}
+use Rattle.std.proofs.lemmas.List.Elements.{All-drop}
 use mathlib.Core.Logic.{dite}
 use mathlib.Core.List.{IsPrefix}
 use native.Mathlib.Decide.{ℕ_discrete}
 use Rattle.task_set.specs.declared.order.Order.{Order}
 use Rattle.task_set.specs.Orders.{IsObeyable, NamesTaskBelow}
-use Rattle.task_set.proofs.Obeyable.{IsObeyableFrom-front}
-use Rattle.order_queues.specs.Ends.{SenderData, EyeData}
+use Rattle.order_queues.specs.Ends.{SenderData, EyeData, Looks, queue_room}
 use Rattle.sched_core.specs.CoreData.{CoreData, core_orders}
 use Rattle.event_history.specs.Flushing.{EyeFlushed, AllFlushed}
 use Rattle.event_history.specs.Holdings.{SentBegins}
 use Rattle.event_history.proofs.Lists.{at_cases, at_low, same_at, set_same, set_other, sum_snoc}
 
--- the next of the orders
-next_begins : (l orders : List Order) (d : Order) → IsPrefix l orders → length l < length orders → IsPrefix (l ++ get_or orders (length l) d ∷ []) orders
-next_begins [] [] d p low = absurd (omega arith)
-next_begins [] (x ∷ xs) d p low = (xs, refl)
-next_begins (y ∷ ys) [] d p low = absurd (omega arith)
-next_begins (y ∷ ys) (x ∷ xs) d p low =
-    let hx : y ≡ x = cc p.1 in
-    let tx : ys ++ p.0 ≡ xs = cc p.1 in
-    let r = next_begins ys xs d (p.0, tx) (omega arith) in
-    (r.0, λ i. hx i ∷ r.1 i)
+-- what was sent, and then the orders that were not
+whole : (l orders left : List Order) (i : ℕ) → IsPrefix l orders → i ≡ length l → left ≡ drop i orders → l ++ left ≡ orders
+whole l orders left i p at is = ap (λ (x : List Order). l ++ x) (is ∙ (λ j. drop (at j) (sym p.1 j)) ∙ drop-append_seam l p.0) ∙ p.1
 
-next_obeyable : (l orders : List Order) (d : Order) → IsPrefix l orders → length l < length orders → IsObeyable orders → IsObeyable (l ++ get_or orders (length l) d ∷ [])
-next_obeyable l orders d p low obeys =
-    let next = next_begins l orders d p low in
-    IsObeyableFrom-front None (l ++ get_or orders (length l) d ∷ []) next.0 (subst IsObeyable (sym next.1) obeys)
+pub left_obeyable : (l orders left : List Order) (i : ℕ) → IsPrefix l orders → i ≡ length l → left ≡ drop i orders → IsObeyable orders → IsObeyable (l ++ left)
+left_obeyable l orders left i p at is obeys = subst IsObeyable (sym (whole l orders left i p at is)) obeys
 
-pub next_below : (n i : ℕ) (orders : List Order) (d : Order) → i < length orders → All (NamesTaskBelow n) orders → NamesTaskBelow n (get_or orders i d)
-next_below n i orders d low all = all i d low
+pub left_below : (n i : ℕ) (orders left : List Order) → left ≡ drop i orders → All (NamesTaskBelow n) orders → All (NamesTaskBelow n) left
+left_below n i orders left is all = subst (All (NamesTaskBelow n)) (sym is) (All-drop (NamesTaskBelow n) i orders all)
 
-pub obeyable_at : (l orders : List Order) (i : ℕ) (d : Order) → length l ≡ i → IsPrefix l orders → i < length orders → IsObeyable orders → IsObeyable (l ++ get_or orders i d ∷ [])
-obeyable_at l orders i d at p low obeys = subst (λ n. IsObeyable (l ++ get_or orders n d ∷ [])) at (next_obeyable l orders d p (omega arith) obeys)
-
-pub begins_at : (l m orders : List Order) (i : ℕ) (d : Order) → length l ≡ i → IsPrefix l orders → i < length orders → m ≡ l ++ get_or orders i d ∷ [] → IsPrefix m orders × (length m ≡ i + 1)
-begins_at l m orders i d at p low is = (
-  subst (λ (k : List Order). IsPrefix k orders) (sym is) (subst (λ n. IsPrefix (l ++ get_or orders n d ∷ []) orders) at (next_begins l orders d p (omega arith))),
-  omega (arith, ap length is, length-append l (get_or orders i d ∷ [])),
+-- the first of those that were not sent are sent
+pub first_sent : (l m orders left : List Order) (i k : ℕ) → IsPrefix l orders → i ≡ length l → left ≡ drop i orders → m ≡ l ++ take k left → IsPrefix m orders
+first_sent l m orders left i k p at is now = (
+  drop k left,
+  ap (λ (x : List Order). x ++ drop k left) now ∙ append_assoc l (take k left) (drop k left) ∙ ap (λ (x : List Order). l ++ x) (take-append-drop k left) ∙ whole l orders left i p at is,
 )
+
+pub sent_count : (l m left : List Order) (k : ℕ) → m ≡ l ++ take k left → k ≤ length left → length m ≡ length l + k
+sent_count l m left k now few = omega (arith, ap length now, length-append l (take k left), length-take-le k left few)
+
+-- an eye that looked once, when so many orders were sent
+pub flushed_once : (old new : EyeData) (look orders sent owed : ℕ) → Looks old look new → sent + owed ≡ orders → (owed ≢ 0 → look + queue_room ≤ sent) → EyeFlushed old new orders owed
+flushed_once old new look orders sent owed eye total full = record {
+  grown = record { word = eye.word; known = omega (arith, eye.more, eye.known); looks = (look ∷ [], eye.looks) };
+  by_look = λ some. record {
+    sent = sent;
+    total = total;
+    gained = [];
+    looks = eye.looks ∙ (λ i. sym (append-nil old.looks) i ++ sym eye.known i ∷ []);
+    full = omega (arith, full some, eye.known);
+  };
+}
 
 -- one sender sent more
 pub begins_set : (core : CoreData) (l : List SenderData) (p : ℕ) (s : SenderData) → SentBegins core l → IsPrefix s.sent (core_orders core p) → SentBegins core (set l p s)

@@ -1,6 +1,7 @@
 pub mod BoardParts
 pub mod Boards
 pub mod Closing
+pub mod Copying
 pub mod Entering
 pub mod EyesParts
 pub mod Flushing

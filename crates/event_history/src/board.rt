@@ -28,6 +28,8 @@ use std::sync::Wait;
 use std::thread;
 use task_set::{Event, TaskSet};
 
+mod history;
+
 /// One history of events, which callers extend by turns. Each call is made with a pass of this board.
 #[derive(Drop)]
 pub struct Board {

@@ -13,16 +13,18 @@ ghost use Rattle.event_history.specs.Owing.{AllMaySend};
 use crate::eyes::Eyes;
 use crate::fault::Receipt;
 use crate::owed::send_all;
+use link_table::Entry;
 use order_queues::{Queue, Sender};
 use sched_core::{Core, CoreFault};
 use std::marker::Model;
 use std::sync::Wait;
 use task_set::Event;
 
-/// The core, with a sender for each processor.
+/// The core, with a sender for each processor. The core lies on the heap: each turn moves what it gives, and a core is
+/// large.
 #[derive(Drop)]
 pub struct Held {
-    core: Core,
+    core: Box<Core>,
     senders: Vec<Sender>,
 }
 
@@ -40,10 +42,10 @@ impl Model for Held {
 
 impl Held {
     /// A core with senders that sent a beginning of its orders.
-    pub fn of(core: Core, senders: Vec<Sender>) -> Held
-        requires count { length senders.items ≡ core.start.processors }
-        requires begins { SentBegins core senders.items }
-        ensures { (result.core ≡ core) × (result.senders ≡ senders.items) }
+    pub fn of(core: Box<Core>, senders: Vec<Sender>) -> Held
+        requires count { length senders.items ≡ core.value.start.processors }
+        requires begins { SentBegins core.value senders.items }
+        ensures { (result.core ≡ core.value) × (result.senders ≡ senders.items) }
     {
         Held { core, senders }
     }
@@ -54,6 +56,14 @@ impl Held {
         ensures valid { IsCore self.now.core }
     {
         self.core.history().len() as u64
+    }
+
+    /// The history.
+    pub fn history(&self) -> &[Entry]
+        ensures value { result.now ≡ self.now.core.history }
+        ensures valid { IsCore self.now.core }
+    {
+        self.core.history()
     }
 
     /// Whether the core is closed.
@@ -101,7 +111,7 @@ impl Held {
         ensures begins { SentBegins self.core self.senders }
     {
         let Held { core, senders } = self;
-        (core, senders)
+        (Box::into_inner(core), senders)
     }
 }
 

@@ -31,12 +31,11 @@ fn send_owed<R: Wait>(
     ensures eye { EyeFlushed eye.old eye.new (length orders.now) result }
 {
     let first = sender.count() as usize;
-    for i in first..orders.len() {
-        if let Err(_back) = sender.send(rt, queue, eye, orders[i]) {
-            return orders.len() - i;
-        }
+    if first == orders.len() {
+        return 0;
     }
-    0
+    let (_sent, left) = orders.split_at(first);
+    left.len() - sender.send_all(rt, queue, eye, left)
 }
 
 /// Sends what is owed, processor by processor. A processor that is owed nothing costs one comparison. Answers how many

@@ -122,6 +122,21 @@ impl Bench {
         self.receivers.0.next(rt, &self.queues[0])
     }
 
+    /// How many entries there are, as the second pass copies them, and the reply of the last one.
+    fn copied<R: Wait>(&mut self, rt: &R, alloc: Global) -> Option<(usize, Option<Reply>)> {
+        let mut entries = Vec::new(alloc);
+        match self
+            .board
+            .history_from(rt, &mut self.second, 0, &mut entries)
+        {
+            Ok(()) => Some((
+                entries.len(),
+                entries.last().map(|entry| entry.reply.copy()),
+            )),
+            Err(_refused) => None,
+        }
+    }
+
     /// The core, when the passes come back.
     fn close(self, rt: &impl Abort, alloc: Global) -> Result<Core, Fail> {
         let Bench {
@@ -191,6 +206,10 @@ fn board_by_calls(rt: HostRuntime) -> Result<(), Fail> {
     tries(&rt, &mut bench, Event::Arrive(1), 1, placed(&rt, &[0, 1]));
     knows_two(&rt, &mut bench);
     posts(&rt, &mut bench, Event::Arrive(1), 2, Reply::AlreadyReady);
+    assert_eq!(rt;
+        bench.copied(&rt, rt.alloc()),
+        Some((3, Some(Reply::AlreadyReady)))
+    );
     bench.finish(&rt);
     is_closed(&rt, &mut bench);
     assert_eq!(rt; bench.flush(&rt), 0);

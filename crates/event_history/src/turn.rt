@@ -359,6 +359,9 @@ pub fn open(
     let Ok(core) = Core::new(alloc, set) else {
         return Err(senders);
     };
+    let Ok(core) = Box::new(alloc, core) else {
+        return Err(senders);
+    };
     let Ok(mut slots) = Vec::with_capacity(alloc, 1) else {
         return Err(senders);
     };

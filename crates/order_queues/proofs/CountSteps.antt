@@ -1,5 +1,5 @@
 -- Each step of a count keeps its rule.
-use Rattle.std.proofs.Common.{◌≡◌, ℕ, ◌+◌, ◌<◌, ◌≤◌, cond, Bool, true, false, List, [], ◌∷◌, ◌++◌, length, get_or, set, sym, refl, ap, ◌∙◌, subst, ⊎_elim, arith, length-set, get_or-set_same}
+use Rattle.std.proofs.Common.{◌≡◌, ℕ, ◌<◌, ◌≤◌, cond, Bool, true, false, List, [], ◌∷◌, ◌++◌, length, get_or, set, sym, refl, ap, ◌∙◌, subst, ⊎_elim, arith, length-set, get_or-set_same}
 use mathlib.Core.Option.{some, none}
 use lib.ListN.{get_elem?}
 use lib.Seq.{set-get_or}
@@ -18,7 +18,7 @@ writer_if b = cond b 1 0
 no_writer : (n : ℕ) (v : CountView) → writers v ≡ 0 → v.known ≤ n → v.number ≤ n → Knows n v
 no_writer n v not_one known number = ((λ is. let one : writers v ≡ 1 = ap writer_if is in absurd (omega arith)), known, number)
 
-pub store_keeps : (slots id : ℕ) (m : Seated) (n word : ℕ) → m.0 ≡ writer_view n → word ≡ n + 1 → Allows CountRule slots id m 0 (λ _. word) (λ _. Stored (step slots 0 word 0 none) m word)
+pub store_keeps : (slots id : ℕ) (m : Seated) (n word : ℕ) → m.0 ≡ writer_view n → n ≤ word → Allows CountRule slots id m 0 (λ _. word) (λ _. Stored (step slots 0 word 0 none) m word)
 store_keeps slots id m n word is next s k wide at small =
     let w : CountView = writer_view word in
     let near : 0 < length s.words = omega (arith, k.one_word) in

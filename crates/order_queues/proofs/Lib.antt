@@ -1,3 +1,4 @@
+pub mod Batches
 pub mod QueueSteps
 pub mod CountSteps
 pub mod Feeds

@@ -1,16 +1,19 @@
 -- Each step of the queue keeps its rule.
 use Rattle.std.proofs.Common.{◌≡◌, ◌≢◌, ℕ, zero, suc, true, false, true≢false, List, [], ◌∷◌, ◌++◌, length, set, sym, refl, ap, ◌∙◌, subst, ⊎_elim, append_assoc, append-nil, None}
 use Rattle.std.specs.Prelude.{All}
-use Rattle.std.proofs.lemmas.List.Elements.{All-nil, All-cons, All-head, All-tail, All-append}
+use Rattle.std.proofs.lemmas.List.Elements.{All-nil, All-append}
 use mathlib.Core.Option.{some, some-ne-none}
 use lib.ListN.{get_elem?}
 use Rattle.crossbeam_queue.specs.Fifo.{Pushes, Pops, Forks, Merges, Learns}
 use Rattle.crossbeam_queue.proofs.Lists.{at_set, at_snoc}
 use Rattle.task_set.specs.declared.order.Order.{Order}
+use Rattle.order_queues.specs.declared.batch.Batch.{Batch}
 use Rattle.order_queues.specs.declared.lane.EndView.{EndView}
+use Rattle.order_queues.specs.Batches.{Sendable, orders_of, orders_in}
 use Rattle.task_set.specs.Orders.{IsObeyable, NamesTaskBelow, has_stop}
-use Rattle.task_set.proofs.Obeyable.{IsObeyableFrom-front, nothing_after_stop}
+use Rattle.task_set.proofs.Obeyable.{nothing_after_stop}
 use Rattle.order_queues.specs.Queue.{end_view, PushesAll, PopsAll, QueueRule}
+use Rattle.order_queues.proofs.Batches.{All-first, obeyed_first, one_more}
 
 -- what is at j after one more was appended, and was not before, is at the end
 at_end : (l : List EndView) (a b : EndView) (j : ℕ) → get_elem? l j ≢ some b → get_elem? (l ++ a ∷ []) j ≡ some b → j ≡ length l
@@ -26,13 +29,6 @@ Each F views = (pass : ℕ) (v : EndView) → get_elem? views pass ≡ some v �
 each_set : (F : ℕ → EndView → Type 0) (views : List EndView) (pass : ℕ) (w : EndView) → F pass w → ((j : ℕ) (u : EndView) → j ≢ pass → get_elem? views j ≡ some u → F j u) → Each F (set views pass w)
 each_set F views pass w mine others j u e = ⊎_elim (λ (x : (j ≡ pass) × (w ≡ u)). subst (λ (y : ℕ × EndView). F y.0 y.1) (λ i. (sym x.0 i, x.1 i)) mine)
     (λ (x : (j ≢ pass) × (get_elem? views j ≡ some u)). others j u x.0 x.1) (at_set views pass j w u e)
-
-All-first : (P : Order → Type 0) (xs ys : List Order) → All P (xs ++ ys) → All P xs
-All-first P [] ys h = All-nil P
-All-first P (x ∷ xs) ys h = All-cons P x xs (All-head P x (xs ++ ys) h) (All-first P xs ys (All-tail P x (xs ++ ys) h))
-
-obeyed_first : (xs ys : List Order) → IsObeyable (xs ++ ys) → IsObeyable xs
-obeyed_first xs ys h = IsObeyableFrom-front None xs ys h
 
 -- no other pass may push than the one that does
 only_pusher : (pusher : ℕ) (sent sent' : List Order) (n n' pass j : ℕ) (u : EndView) → pass ≡ pusher → j ≢ pass → PushesAll pusher sent n j u → PushesAll pusher sent' n' j u
@@ -57,12 +53,13 @@ new_queue_keeps = record {
   below = All-nil (NamesTaskBelow 0);
 }
 
--- an order enters
-pub push_keeps : (k pass : ℕ) (v : EndView) (x : Order) → v.pushes ≡ true → IsObeyable (v.sent ++ x ∷ []) → NamesTaskBelow v.tasks x → Pushes QueueRule k pass v x (λ w. w ≡ end_view v.pushes v.pops (v.sent ++ x ∷ []) v.received v.tasks)
+-- a batch enters
+pub push_keeps : (k pass : ℕ) (v : EndView) (x : Batch) → v.pushes ≡ true → IsObeyable (v.sent ++ orders_of x) → All (NamesTaskBelow v.tasks) (orders_of x) → Pushes QueueRule k pass v x (λ w. w ≡ end_view v.pushes v.pops (v.sent ++ orders_of x) v.received v.tasks)
 push_keeps k pass v x may obeys below items views _ h at =
-    let w : EndView = end_view v.pushes v.pops (v.sent ++ x ∷ []) v.received v.tasks in
+    let more : List Order = orders_of x in
+    let w : EndView = end_view v.pushes v.pops (v.sent ++ more) v.received v.tasks in
     let mine = h.push pass v at may in
-    let sent = h.sent ++ x ∷ [] in (
+    let sent = h.sent ++ more in (
       w,
       record {
         pusher = h.pusher;
@@ -70,22 +67,23 @@ push_keeps k pass v x may obeys below items views _ h at =
         sent = sent;
         received = h.received;
         tasks = h.tasks;
-        in_order = ap (λ l. l ++ x ∷ []) h.in_order ∙ append_assoc h.received items (x ∷ []);
-        push = each_set (PushesAll h.pusher sent h.tasks) views pass w (λ _. (mine.0, ap (λ l. l ++ x ∷ []) mine.1, mine.2)) (λ j u other e. only_pusher h.pusher h.sent sent h.tasks h.tasks pass j u mine.0 other (h.push j u e));
+        in_order = ap (λ l. l ++ more) h.in_order ∙ append_assoc h.received (orders_in items) more ∙ ap (λ l. h.received ++ l) (sym (one_more items x));
+        push = each_set (PushesAll h.pusher sent h.tasks) views pass w (λ _. (mine.0, ap (λ l. l ++ more) mine.1, mine.2)) (λ j u other e. only_pusher h.pusher h.sent sent h.tasks h.tasks pass j u mine.0 other (h.push j u e));
         pop = each_set (PopsAll h.popper h.received h.tasks) views pass w (h.pop pass v at) (λ j u other e. h.pop j u e);
-        obeyable = subst (λ l. IsObeyable (l ++ x ∷ [])) mine.1 obeys;
-        below = All-append (NamesTaskBelow h.tasks) h.sent (x ∷ []) h.below (All-cons (NamesTaskBelow h.tasks) x [] (subst (λ n. NamesTaskBelow n x) mine.2 below) (All-nil (NamesTaskBelow h.tasks)));
+        obeyable = subst (λ l. IsObeyable (l ++ more)) mine.1 obeys;
+        below = All-append (NamesTaskBelow h.tasks) h.sent more h.below (subst (λ n. All (NamesTaskBelow n) more) mine.2 below);
       },
       refl,
     )
 
--- an order comes out: what was received then is a beginning of what was sent
-pub pop_keeps : (pass : ℕ) (v : EndView) → v.pops ≡ true → Pops QueueRule pass v (λ x w. (w ≡ end_view v.pushes v.pops v.sent (v.received ++ x ∷ []) v.tasks) × IsObeyable w.received × All (NamesTaskBelow v.tasks) w.received)
+-- a batch comes out: what was received then is a beginning of what was sent
+pub pop_keeps : (pass : ℕ) (v : EndView) → v.pops ≡ true → Pops QueueRule pass v (λ x w. (w ≡ end_view v.pushes v.pops v.sent (v.received ++ orders_of x) v.tasks) × Sendable v.tasks w.received)
 pop_keeps pass v may x items views h at =
-    let w : EndView = end_view v.pushes v.pops v.sent (v.received ++ x ∷ []) v.tasks in
+    let more : List Order = orders_of x in
+    let w : EndView = end_view v.pushes v.pops v.sent (v.received ++ more) v.tasks in
     let mine = h.pop pass v at may in
-    let received = h.received ++ x ∷ [] in
-    let cut : h.sent ≡ received ++ items = h.in_order ∙ sym (append_assoc h.received (x ∷ []) items) in (
+    let received = h.received ++ more in
+    let cut : h.sent ≡ received ++ orders_in items = h.in_order ∙ sym (append_assoc h.received more (orders_in items)) in (
       w,
       record {
         pusher = h.pusher;
@@ -95,14 +93,16 @@ pop_keeps pass v may x items views h at =
         tasks = h.tasks;
         in_order = cut;
         push = each_set (PushesAll h.pusher h.sent h.tasks) views pass w (h.push pass v at) (λ j u other e. h.push j u e);
-        pop = each_set (PopsAll h.popper received h.tasks) views pass w (λ _. (mine.0, ap (λ l. l ++ x ∷ []) mine.1, mine.2)) (λ j u other e. only_popper h.popper h.received received h.tasks h.tasks pass j u mine.0 other (h.pop j u e));
+        pop = each_set (PopsAll h.popper received h.tasks) views pass w (λ _. (mine.0, ap (λ l. l ++ more) mine.1, mine.2)) (λ j u other e. only_popper h.popper h.received received h.tasks h.tasks pass j u mine.0 other (h.pop j u e));
         obeyable = h.obeyable;
         below = h.below;
       },
       (
         refl,
-        subst (λ l. IsObeyable (l ++ x ∷ [])) (sym mine.1) (obeyed_first received items (subst IsObeyable cut h.obeyable)),
-        subst (λ n. All (NamesTaskBelow n) (v.received ++ x ∷ [])) (sym mine.2) (subst (λ l. All (NamesTaskBelow h.tasks) (l ++ x ∷ [])) (sym mine.1) (All-first (NamesTaskBelow h.tasks) received items (subst (All (NamesTaskBelow h.tasks)) cut h.below))),
+        (
+          subst (λ l. IsObeyable (l ++ more)) (sym mine.1) (obeyed_first received (orders_in items) (subst IsObeyable cut h.obeyable)),
+          subst (λ n. All (NamesTaskBelow n) (v.received ++ more)) (sym mine.2) (subst (λ l. All (NamesTaskBelow h.tasks) (l ++ more)) (sym mine.1) (All-first (NamesTaskBelow h.tasks) received (orders_in items) (subst (All (NamesTaskBelow h.tasks)) cut h.below))),
+        ),
       ),
     )
 
@@ -155,10 +155,10 @@ one_end_keeps pass v other u a b items views h at two at' =
     }
 
 -- a pass that does both knows the whole list
-pub whole_list_known : (pass : ℕ) (v : EndView) → v.pushes ≡ true → v.pops ≡ true → Learns QueueRule pass v (λ items. (v.sent ≡ v.received ++ items) × IsObeyable v.sent)
+pub whole_list_known : (pass : ℕ) (v : EndView) → v.pushes ≡ true → v.pops ≡ true → Learns QueueRule pass v (λ items. (v.sent ≡ v.received ++ orders_in items) × IsObeyable v.sent)
 whole_list_known pass v a b items views h at =
     let s = h.push pass v at a in
-    (s.1 ∙ h.in_order ∙ ap (λ l. l ++ items) (sym (h.pop pass v at b).1), subst IsObeyable (sym s.1) h.obeyable)
+    (s.1 ∙ h.in_order ∙ ap (λ l. l ++ orders_in items) (sym (h.pop pass v at b).1), subst IsObeyable (sym s.1) h.obeyable)
 
 -- what has Stop is all that was sent
 pub whole_after_stop : (sent received items : List Order) → sent ≡ received ++ items → IsObeyable sent → has_stop received ≡ true → received ≡ sent

@@ -1,6 +1,6 @@
 -- What contracts see of queues and their ends: orders come out as they were sent; each end learns of the other by
 -- looks at a count, and knows what its last look found.
-use Rattle.std.specs.Prelude.{◌≡◌, ℕ, ◌+◌, ◌<◌, ◌≤◌, Option, Result, MatchOption, MatchResult, List, [], ◌∷◌, ◌++◌, length, All}
+use Rattle.std.specs.Prelude.{◌≡◌, ℕ, ◌+◌, ◌<◌, ◌≤◌, take, Option, Result, MatchOption, MatchResult, List, [], ◌∷◌, ◌++◌, length, All}
 use Rattle.atomic_table.specs.Seated.{TableId}
 use Rattle.task_set.specs.declared.order.Order.{Order}
 use Rattle.task_set.specs.Orders.{IsObeyable, NamesTaskBelow}
@@ -62,6 +62,17 @@ pub record Sends (old : SenderData) (old_eye : EyeData) (order : Order) (result 
   pub answer : MatchResult result
       (λ _. (length old.sent < look + queue_room) × (new.sent ≡ old.sent ++ order ∷ []))
       (λ back. (look + queue_room ≤ length old.sent) × (back ≡ order) × (new.sent ≡ old.sent))
+
+-- `send_all`: the eye looks once; the first orders are sent, each where fewer than the room were sent beyond what the eye
+-- found; an order is left only where there was no room for it
+pub record SendsAll (old : SenderData) (old_eye : EyeData) (orders : List Order) (count : ℕ) (new : SenderData) (new_eye : EyeData) : Type 0 where
+  pub look : ℕ
+  pub eye : Looks old_eye look new_eye
+  pub queue : new.queue ≡ old.queue
+  pub sent : new.sent ≡ old.sent ++ take count orders
+  pub few : count ≤ length orders
+  pub room : 0 < count → length new.sent ≤ look + queue_room
+  pub full : count < length orders → look + queue_room ≤ length new.sent
 
 -- `next`: the receiver looks once, and knows what it found, at least what it knew; where more was sent than it
 -- received, it receives one order, and what it received then is obeyable and names tasks below the queue's number;

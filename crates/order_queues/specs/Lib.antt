@@ -1,3 +1,4 @@
+pub mod Batches
 pub mod Queue
 pub mod Count
 pub mod Ties

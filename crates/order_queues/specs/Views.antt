@@ -1,5 +1,7 @@
 -- What contracts see of what lies in a queue and in its ends.
+use Rattle.std.specs.Prelude.{List, take}
 use Rattle.crossbeam_queue.specs.Passes.{view}
+use Rattle.task_set.specs.declared.order.Order.{Order}
 use Rattle.order_queues.specs.declared.parts.QueueParts.{QueueParts}
 use Rattle.order_queues.specs.declared.parts.SenderParts.{SenderParts}
 use Rattle.order_queues.specs.declared.parts.ReceiverParts.{ReceiverParts}
@@ -27,6 +29,10 @@ sender_of s = record {
   sent = (view s.pass).sent;
 }
 
+-- the orders that a receiver gave out: what came out of its queue, without what is left of the last batch
+abbrev pub given : ReceiverParts → List Order
+given r = take r.received (view r.pass).received
+
 -- what is seen of a receiver
 abbrev pub receiver_of : ReceiverParts → ReceiverData
 receiver_of r = record {
@@ -36,7 +42,7 @@ receiver_of r = record {
     received_word = r.writer.seat.table_id;
     tasks = (view r.pass).tasks;
   };
-  received = (view r.pass).received;
+  received = given r;
   known = r.reader.seat.me.0.known;
   looks = r.reader.seat.me.0.looks;
 }

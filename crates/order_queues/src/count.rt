@@ -128,10 +128,10 @@ impl Count {
         self.table.shared.load::<Looks>(&mut reader.seat, 0)
     }
 
-    /// Stores the next number, once.
+    /// Stores a number that is no smaller than the one before, once.
     pub fn raise(&self, writer: &mut CountWriter, number: u64)
         requires of { writer.old.seat.table_id ≡ self.now.table.shared.table_id }
-        requires next { number ≡ writer.old.seat.me.0.number + 1 }
+        requires next { writer.old.seat.me.0.number ≤ number }
         ensures { (writer.new.seat.table_id ≡ writer.old.seat.table_id)
             × (writer.new.seat.me.0.number ≡ number) }
     {

@@ -1,16 +1,18 @@
 //! The queue in which orders lie, under the rule of specs/Queue.antt, and its steps.
-ghost use Rattle.std.specs.Prelude.{◌≡◌, ℕ, ◌++◌, ◌∷◌, [], true, false, All};
-ghost use Rattle.task_set.specs.Orders.{IsObeyable, NamesTaskBelow};
+ghost use Rattle.std.specs.Prelude.{◌≡◌, ℕ, ◌++◌, [], true, false};
+ghost use Rattle.task_set.specs.Orders.{IsObeyable};
+ghost use Rattle.order_queues.specs.Batches.{Sendable, orders_of, orders_in};
 ghost use Rattle.order_queues.specs.Queue.{end_view, QueueRule};
 
+use crate::batch::Batch;
 use crossbeam_queue::RuledArrayQueue;
 use crossbeam_queue::protocol::{Join, Lesson, Outcome, Protocol, Split};
 use std::collections::LinkedList;
 use std::marker::{Brand, PhantomData};
 use task_set::Order;
 
-/// Orders in the order in which they were sent, without the two counts.
-pub type Lane = RuledArrayQueue<Order, EndView, InOrder>;
+/// Batches of orders in the order in which they were sent, without the two counts.
+pub type Lane = RuledArrayQueue<Batch, EndView, InOrder>;
 
 /// What the holder of a pass may do and has done. Clauses alone speak of it: no value of it is ever made.
 pub struct EndView {
@@ -29,7 +31,7 @@ pub struct EndView {
 /// The rule of the queue. It starts with one pass that does both.
 pub struct InOrder;
 
-impl Protocol<Order, EndView> for InOrder {
+impl Protocol<Batch, EndView> for InOrder {
     ghost holds = { QueueRule };
 
     ghost first = { end_view true true [] [] 0 };
@@ -65,22 +67,21 @@ impl Join<EndView> for OneEnd {
 /// What a push tells its caller.
 pub struct Sent;
 
-impl Outcome<Order, EndView> for Sent {
-    ghost then = { λ v x w. w ≡ end_view v.pushes v.pops (v.sent ++ x ∷ []) v.received v.tasks };
+impl Outcome<Batch, EndView> for Sent {
+    ghost then = { λ v x w. w ≡ end_view v.pushes v.pops (v.sent ++ orders_of x) v.received v.tasks };
 }
 
 /// What a pop tells its caller.
 pub struct Received;
 
-impl Outcome<Order, EndView> for Received {
-    ghost then = { λ v x w. (w ≡ end_view v.pushes v.pops v.sent (v.received ++ x ∷ []) v.tasks)
-        × IsObeyable w.received
-        × All (NamesTaskBelow v.tasks) w.received };
+impl Outcome<Batch, EndView> for Received {
+    ghost then = { λ v x w. (w ≡ end_view v.pushes v.pops v.sent (v.received ++ orders_of x) v.tasks)
+        × Sendable v.tasks w.received };
 }
 
 /// What a pass that does both knows of the orders in the queue.
 pub struct WholeList;
 
-impl Lesson<Order, EndView> for WholeList {
-    ghost fact = { λ v items. (v.sent ≡ v.received ++ items) × IsObeyable v.sent };
+impl Lesson<Batch, EndView> for WholeList {
+    ghost fact = { λ v items. (v.sent ≡ v.received ++ orders_in items) × IsObeyable v.sent };
 }

@@ -6,9 +6,11 @@
 //! looks at the second for the sender before an order goes in, so that each refusal has its cause in what one load
 //! found.
 //!
-//! [`lane`] has the rule of the queue, and [`count`] the rule of a word, which serves both words.
+//! Orders go through in batches of up to four. [`lane`] has the rule of the queue, and [`count`] the rule of a word, which
+//! serves both words.
 #![tactic(auto)]
 
+mod batch;
 mod count;
 mod lane;
 mod parts;

@@ -1,8 +1,8 @@
 //! A queue of orders and its ends, as the crates above see them.
-ghost use Rattle.std.specs.Prelude.{◌≡◌, ◌^◌, ◌<◌, ◌≤◌, ◌++◌, ◌∷◌, [], true, IfOk, length};
+ghost use Rattle.std.specs.Prelude.{◌≡◌, ◌+◌, ◌^◌, ◌<◌, ◌≤◌, ◌++◌, ◌∷◌, [], true, All, IfOk, length};
 ghost use mathlib.Core.List.{IsPrefix};
 ghost use Rattle.task_set.specs.Orders.{IsObeyable, NamesTaskBelow, has_stop};
-ghost use Rattle.order_queues.specs.Ends.{new_sender, new_receiver, new_eye, Sends, Receives, KnowsMore, ReceiverKnowsMore};
+ghost use Rattle.order_queues.specs.Ends.{new_sender, new_receiver, new_eye, Sends, SendsAll, Receives, KnowsMore, ReceiverKnowsMore};
 
 use crate::count::CountReader;
 use crate::{parts, steps};
@@ -166,6 +166,28 @@ impl Sender {
         ensures { Sends self.old eye.old order result self.new eye.new }
     {
         self.parts.send(rt, &queue.parts, &mut eye.reader, order)
+    }
+
+    /// Sends the first of these orders, as many as the eye's look leaves room for, and answers how many.
+    ///
+    /// It looks once, and counts the orders as sent once, however many they are: so many orders cost little more than
+    /// one. Where the look finds room, it tries until they have gone in.
+    pub fn send_all<R: Wait>(
+        &mut self,
+        rt: &R,
+        queue: &Queue,
+        eye: &mut Eye,
+        orders: &[Order],
+    ) -> usize
+        requires queue { self.old.queue ≡ queue.now }
+        requires eye { eye.old.received_word ≡ queue.now.received_word }
+        requires few { length self.old.sent + length orders.now < 2 ^ 62 }
+        requires obeyable { IsObeyable (self.old.sent ++ orders.now) }
+        requires below { All (NamesTaskBelow queue.now.tasks) orders.now }
+        ensures { SendsAll self.old eye.old orders.now result self.new eye.new }
+    {
+        self.parts
+            .send_all(rt, &queue.parts, &mut eye.reader, orders)
     }
 }
 

@@ -2,11 +2,13 @@
 ghost use Rattle.std.specs.Prelude.{◌≡◌, ℕ, ◌+◌, ◌^◌, ◌<◌, ◌≤◌, ◌++◌, ◌∷◌, [], true, false, IfOk, IfNone, MatchResult, MatchOption, length, List, All};
 ghost use Rattle.crossbeam_queue.specs.Passes.{view, IsPassOf, ruled_capacity};
 ghost use Rattle.task_set.specs.Orders.{IsObeyable, NamesTaskBelow, has_stop};
-ghost use Rattle.order_queues.specs.Ends.{new_sender, new_receiver, new_eye, Sends, Receives, KnowsMore, ReceiverKnowsMore};
-ghost use Rattle.order_queues.specs.Views.{queue_of, sender_of, receiver_of, eye_of};
+ghost use Rattle.order_queues.specs.Batches.{Sendable, orders_of, left_in};
+ghost use Rattle.order_queues.specs.Ends.{new_sender, new_receiver, new_eye, Sends, SendsAll, Receives, KnowsMore, ReceiverKnowsMore};
+ghost use Rattle.order_queues.specs.Views.{given, queue_of, sender_of, receiver_of, eye_of};
 ghost use Rattle.order_queues.specs.Queue.{end_view};
 ghost use Rattle.order_queues.specs.Ties.{IsSenderOf, IsReceiverOf, IsEyeOf};
 
+use crate::batch::{Batch, Rest};
 use crate::count::{Count, CountReader};
 use crate::lane::{EndView, Lane, OneEnd, Received, Sent, Tasks, TwoEnds, WholeList};
 use crate::parts::{QueueParts, ReceiverParts, SenderParts};
@@ -29,6 +31,7 @@ impl QueueParts {
             IsSenderOf made.0 made.1 × (sender_of made.1 ≡ new_sender (queue_of made.0))) }
         ensures receiver { IfOk result (λ made.
             IsReceiverOf made.0 made.2 × (receiver_of made.2 ≡ new_receiver (queue_of made.0))) }
+        ensures none_out { IfOk result (λ made. (view made.2.pass).received ≡ []) }
     {
         let (lane, mut pass) = Lane::ruled(alloc, QUEUE_ROOM as usize)?;
         let theirs = split_ends::<Brand>(&lane, &mut pass, tasks);
@@ -50,6 +53,7 @@ impl QueueParts {
             pass: theirs,
             writer: received_writer,
             reader,
+            rest: Rest::none(),
             received: 0,
         };
         Ok((queue, sender, receiver))
@@ -70,7 +74,8 @@ impl QueueParts {
             × IsReceiverOf self.now receiver.new }
         ensures sender { sender_of sender.new ≡ sender_of sender.old }
         ensures eye { KnowsMore (eye_of eye.old) (eye_of eye.new)
-            × (length (view receiver.old.pass).received ≤ (eye_of eye.new).known) }
+            × (length (given receiver.old) ≤ (eye_of eye.new).known) }
+        ensures pass { receiver.new.pass ≡ receiver.old.pass }
         ensures receiver { ReceiverKnowsMore (receiver_of receiver.old) (receiver_of receiver.new)
             × (length (view sender.old.pass).sent ≤ (receiver_of receiver.new).known) }
     {
@@ -84,10 +89,9 @@ pub fn settle(queue: QueueParts, sender: SenderParts, receiver: ReceiverParts) -
     requires sender { IsSenderOf queue sender }
     requires receiver { IsReceiverOf queue receiver }
     ensures counts { (result.sent ≡ length (view sender.pass).sent)
-        × (result.received ≡ length (view receiver.pass).received) }
-    ensures begins { (rest : List Order) × ((view receiver.pass).received ++ rest ≡ (view sender.pass).sent) }
-    ensures stopped { has_stop (view receiver.pass).received ≡ true
-        → (view receiver.pass).received ≡ (view sender.pass).sent }
+        × (result.received ≡ length (given receiver)) }
+    ensures begins { (rest : List Order) × (given receiver ++ rest ≡ (view sender.pass).sent) }
+    ensures stopped { has_stop (given receiver) ≡ true → given receiver ≡ (view sender.pass).sent }
 {
     let SenderParts { mut pass, sent, .. } = sender;
     let ReceiverParts {
@@ -104,34 +108,59 @@ impl ReceiverParts {
     /// The next order, where a look at the number sent finds one.
     pub fn next<R: Wait>(&mut self, rt: &R, queue: &QueueParts) -> Option<Order>
         requires of { IsReceiverOf queue.now self.old }
+        requires sendable { Sendable (view self.old.pass).tasks (view self.old.pass).received }
         ensures of { IsReceiverOf queue.now self.new }
+        ensures sendable { Sendable (view self.new.pass).tasks (view self.new.pass).received }
         ensures received { Receives (receiver_of self.old) result (receiver_of self.new) }
     {
         let sent = queue.sent.look(&mut self.reader);
         if sent <= self.received {
             return None;
         }
-        let order = pop_order(rt, &queue.lane, &mut self.pass);
+        let (order, rest) = next_order(rt, &queue.lane, &mut self.pass, self.rest);
+        self.rest = rest;
         self.received += 1;
         queue.received.raise(&mut self.writer, self.received);
         Some(order)
     }
 }
 
-/// Tries until an order comes out. A try can fail though one was sent: it says nothing of the other thread.
-fn pop_order<R: Wait>(rt: &R, lane: &Lane, pass: &mut Pass<Order, EndView>) -> Order
+/// The first order that is left of the last batch, or else of the next one, and what is then left.
+fn next_order<R: Wait>(
+    rt: &R,
+    lane: &Lane,
+    pass: &mut Pass<Batch, EndView>,
+    rest: Rest,
+) -> (Order, Rest)
+    requires pass { IsPassOf lane.now pass.old }
+    requires role { (view pass.old).pops ≡ true }
+    requires sendable { Sendable (view pass.old).tasks (view pass.old).received }
+    ensures pass { IsPassOf lane.now pass.new }
+    ensures same { view pass.new ≡ end_view (view pass.old).pushes (view pass.old).pops (view pass.old).sent
+        (view pass.new).received (view pass.old).tasks }
+    ensures next { (front : List Order) → (view pass.old).received ≡ front ++ left_in rest
+        → (view pass.new).received ≡ (front ++ result.0 ∷ []) ++ left_in result.1 }
+    ensures sendable { Sendable (view pass.old).tasks (view pass.new).received }
+{
+    if let Some(taken) = rest.split() {
+        return taken;
+    }
+    pop_batch(rt, lane, pass).split()
+}
+
+/// Tries until a batch comes out. A try can fail though one was sent: it says nothing of the other thread.
+fn pop_batch<R: Wait>(rt: &R, lane: &Lane, pass: &mut Pass<Batch, EndView>) -> Batch
     requires pass { IsPassOf lane.now pass.old }
     requires role { (view pass.old).pops ≡ true }
     ensures pass { IsPassOf lane.now pass.new }
     ensures received { view pass.new
         ≡ end_view (view pass.old).pushes (view pass.old).pops (view pass.old).sent
-        ((view pass.old).received ++ result ∷ []) (view pass.old).tasks }
-    ensures obeyable { IsObeyable (view pass.new).received
-        × All (NamesTaskBelow (view pass.old).tasks) (view pass.new).received }
+        ((view pass.old).received ++ orders_of result) (view pass.old).tasks }
+    ensures sendable { Sendable (view pass.old).tasks (view pass.new).received }
 {
     for _ in rt.forever() {
-        if let Some(order) = lane.try_pop_as::<Received>(pass) {
-            return order;
+        if let Some(batch) = lane.try_pop_as::<Received>(pass) {
+            return batch;
         }
         thread::yield_now();
     }
@@ -169,39 +198,84 @@ impl SenderParts {
         if self.sent >= QUEUE_ROOM && self.sent - QUEUE_ROOM >= received {
             return Err(order);
         }
-        self.push(rt, queue, order);
+        self.push(rt, queue, &[order]);
         Ok(())
     }
 
-    // The order enters first and is counted after, so that a receiver that looks never waits for one not sent yet.
-    fn push<R: Wait>(&mut self, rt: &R, queue: &QueueParts, order: Order)
+    /// Sends the first of these orders, for as many as a look at the number received finds room, and answers how many.
+    pub fn send_all<R: Wait>(
+        &mut self,
+        rt: &R,
+        queue: &QueueParts,
+        eye: &mut CountReader,
+        orders: &[Order],
+    ) -> usize
+        requires of { IsSenderOf queue.now self.old × IsEyeOf queue.now eye.old }
+        requires few { length (view self.old.pass).sent + length orders.now < 2 ^ 62 }
+        requires obeyable { IsObeyable ((view self.old.pass).sent ++ orders.now) }
+        requires below { All (NamesTaskBelow (view self.old.pass).tasks) orders.now }
+        ensures of { IsSenderOf queue.now self.new × IsEyeOf queue.now eye.new }
+        ensures sent { SendsAll (sender_of self.old) (eye_of eye.old) orders.now result (sender_of self.new) (eye_of eye.new) }
+    {
+        let received = queue.received.look(eye);
+        let room = received
+            .saturating_add(QUEUE_ROOM)
+            .saturating_sub(self.sent);
+        let (first, _later) = orders.split_at(orders.len().min(room as usize));
+        if !first.is_empty() {
+            self.push(rt, queue, first);
+        }
+        first.len()
+    }
+
+    // The orders enter first and are counted after, so that a receiver that looks never waits for one not sent yet.
+    fn push<R: Wait>(&mut self, rt: &R, queue: &QueueParts, orders: &[Order])
         requires of { IsSenderOf queue.now self.old }
-        requires few { length (view self.old.pass).sent < 2 ^ 62 }
-        requires obeyable { IsObeyable ((view self.old.pass).sent ++ order ∷ []) }
-        requires below { NamesTaskBelow (view self.old.pass).tasks order }
+        requires few { length (view self.old.pass).sent + length orders.now ≤ 2 ^ 62 }
+        requires obeyable { IsObeyable ((view self.old.pass).sent ++ orders.now) }
+        requires below { All (NamesTaskBelow (view self.old.pass).tasks) orders.now }
         ensures of { IsSenderOf queue.now self.new }
-        ensures sent { (view self.new.pass).sent ≡ (view self.old.pass).sent ++ order ∷ [] }
+        ensures sent { (view self.new.pass).sent ≡ (view self.old.pass).sent ++ orders.now }
         ensures tasks { (view self.new.pass).tasks ≡ (view self.old.pass).tasks }
     {
-        push_order(rt, &queue.lane, &mut self.pass, order);
-        self.sent += 1;
+        push_orders(rt, &queue.lane, &mut self.pass, orders);
+        self.sent += orders.len() as u64;
         queue.sent.raise(&mut self.writer, self.sent);
     }
 }
 
-/// Tries until the order has entered. A try can fail though there is room: it says nothing of the other thread.
-fn push_order<R: Wait>(rt: &R, lane: &Lane, pass: &mut Pass<Order, EndView>, order: Order)
+/// The orders enter, batch by batch.
+fn push_orders<R: Wait>(rt: &R, lane: &Lane, pass: &mut Pass<Batch, EndView>, orders: &[Order])
     requires pass { IsPassOf lane.now pass.old }
     requires role { (view pass.old).pushes ≡ true }
-    requires obeyable { IsObeyable ((view pass.old).sent ++ order ∷ []) }
-    requires below { NamesTaskBelow (view pass.old).tasks order }
+    requires obeyable { IsObeyable ((view pass.old).sent ++ orders.now) }
+    requires below { All (NamesTaskBelow (view pass.old).tasks) orders.now }
     ensures pass { IsPassOf lane.now pass.new }
     ensures sent { view pass.new
         ≡ end_view (view pass.old).pushes (view pass.old).pops
-        ((view pass.old).sent ++ order ∷ []) (view pass.old).received (view pass.old).tasks }
+        ((view pass.old).sent ++ orders.now) (view pass.old).received (view pass.old).tasks }
+{
+    let mut done = 0;
+    while done < orders.len() {
+        let batch = Batch::of(&orders[done..]);
+        push_batch(rt, lane, pass, batch);
+        done += batch.count();
+    }
+}
+
+/// Tries until the batch has entered. A try can fail though there is room: it says nothing of the other thread.
+fn push_batch<R: Wait>(rt: &R, lane: &Lane, pass: &mut Pass<Batch, EndView>, batch: Batch)
+    requires pass { IsPassOf lane.now pass.old }
+    requires role { (view pass.old).pushes ≡ true }
+    requires obeyable { IsObeyable ((view pass.old).sent ++ orders_of batch) }
+    requires below { All (NamesTaskBelow (view pass.old).tasks) (orders_of batch) }
+    ensures pass { IsPassOf lane.now pass.new }
+    ensures sent { view pass.new
+        ≡ end_view (view pass.old).pushes (view pass.old).pops
+        ((view pass.old).sent ++ orders_of batch) (view pass.old).received (view pass.old).tasks }
 {
     for _ in rt.forever() {
-        if lane.try_push_as::<Sent>(pass, order).is_ok() {
+        if lane.try_push_as::<Sent>(pass, batch).is_ok() {
             return;
         }
         thread::yield_now();
@@ -212,9 +286,9 @@ fn push_order<R: Wait>(rt: &R, lane: &Lane, pass: &mut Pass<Order, EndView>, ord
 /// Makes the one pass of a new queue into the sender's and the receiver's, and the queue one for so many tasks.
 fn split_ends<J: Tasks>(
     lane: &Lane,
-    pass: &mut Pass<Order, EndView>,
+    pass: &mut Pass<Batch, EndView>,
     tasks: u32,
-) -> Pass<Order, EndView>
+) -> Pass<Batch, EndView>
     requires tasks { tasks ≡ J.tasks }
     requires pass { IsPassOf lane.now pass.old × (view pass.old ≡ end_view true true [] [] 0) }
     ensures passes { IsPassOf lane.now pass.new × IsPassOf lane.now result }

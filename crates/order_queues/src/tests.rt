@@ -151,6 +151,30 @@ fn queue_by_calls(rt: HostRuntime) -> Result<(), Fail> {
     Ok(())
 }
 
+#[test]
+fn many_at_once(rt: HostRuntime) -> Result<(), Fail> {
+    let (queue, mut sender, mut receiver) = Queue::new(rt.alloc(), 1)?;
+    let mut eye = sender.eye(&queue);
+    let take = Order::Take { task: 0, number: 0 };
+    let orders = [
+        take,
+        Order::Run(7),
+        Order::Run(8),
+        Order::Run(9),
+        Order::Release(0),
+        Order::Stop,
+    ];
+    assert_eq!(rt; sender.send_all(&rt, &queue, &mut eye, &orders), 6);
+    assert_eq!(rt; receiver.next(&rt, &queue), Some(take));
+    assert_eq!(rt; receiver.next(&rt, &queue), Some(Order::Run(7)));
+    assert_eq!(rt; receiver.next(&rt, &queue), Some(Order::Run(8)));
+    assert_eq!(rt; receiver.next(&rt, &queue), Some(Order::Run(9)));
+    assert_eq!(rt; receiver.next(&rt, &queue), Some(Order::Release(0)));
+    assert_eq!(rt; receiver.next(&rt, &queue), Some(Order::Stop));
+    assert_eq!(rt; receiver.next(&rt, &queue), None);
+    Ok(())
+}
+
 // How many runs of one unit are sent until one is refused, 255 at most.
 fn send_runs<R: Wait + Abort>(rt: &R, queue: &Queue, feed: &mut Feed, eye: &mut Eye) -> u64
     requires queue { feed.old.queue ≡ queue.now }

@@ -1,5 +1,5 @@
 //! The call: from the bytes read to the bytes written.
-ghost use Rattle.std.specs.Prelude.{◌≡◌, ◌≢◌, ℕ, ◌+◌, List, ◌⊎◌};
+ghost use Rattle.std.specs.Prelude.{◌≡◌, ◌≢◌, ℕ, ◌+◌, ◌≤◌, List, ◌⊎◌, length};
 ghost use Rattle.std.specs.Io.KnownBytes.{Appends};
 ghost use Rattle.shift_io.specs.Causes.{Rose};
 ghost use Rattle.shift_io.specs.Stream.{TakesAtMost, TakesExactly, AppendsPrefix};
@@ -22,7 +22,8 @@ use trace_reader::read_input;
 pub fn run<S: Source, K: Sink>(alloc: Global, source: &mut S, sink: &mut K) -> Status
     ensures done { result ≡ Status.Done → (text : List ℕ)
         × ReadsAndReplays (S.left source.old) (S.left source.new) text
-        × Appends (K.bytes sink.old) (K.bytes sink.new) text }
+        × Appends (K.bytes sink.old) (K.bytes sink.new) text
+        × (K.calls sink.new ≤ K.calls sink.old + length text) }
 
     // Each other answer has its cause.
     ensures read_fault { result ≡ Status.ReadFault → Rose (S.faults source.old) (S.faults source.new) }
@@ -34,8 +35,12 @@ pub fn run<S: Source, K: Sink>(alloc: Global, source: &mut S, sink: &mut K) -> S
         → ReadsRefused (S.left source.old) (S.left source.new) line kind }
     ensures write_fault { result ≡ Status.WriteFault → Rose (K.faults sink.old) (K.faults sink.new)
         × ((text : List ℕ) × ReadsAndReplays (S.left source.old) (S.left source.new) text
-        × AppendsPrefix (K.bytes sink.old) (K.bytes sink.new) text) }
+        × AppendsPrefix (K.bytes sink.old) (K.bytes sink.new) text
+        × (K.calls sink.new ≤ K.calls sink.old + length text)) }
     ensures unput { BeforePut result (sink.new ≡ sink.old) }
+
+    // At most two more takes than the most bytes that are read.
+    ensures takes { S.calls source.new ≤ S.calls source.old + byte_limit + 2 }
 
     // Where nothing fails, the bytes alone decide, unless the memory is out.
     ensures complete { (read : List ℕ) → IsToRead (S.left source.old) read → IsAccepted read

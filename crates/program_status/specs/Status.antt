@@ -7,7 +7,7 @@ use Rattle.affinity_mask.specs.Number.{canonical_number}
 use Rattle.schedule_text.specs.declared.fault.TextFault.{TextFault}
 use Rattle.schedule_text.specs.ScheduleFault as text
 use Rattle.program_status.specs.declared.status.Status.{Status}
-use Rattle.program_status.specs.declared.status.Status.TheVariants.{Done, Invalid, Usage, Input, TooLong, ReadFault, WriteFault, OutOfMemory}
+use Rattle.program_status.specs.declared.status.Status.TheVariants.{Done, Invalid, Usage, Input, Version, Crossing, TooLong, ReadFault, WriteFault, OutOfMemory}
 
 -- the exit status of the process after an answer
 abbrev pub exit_status_of : Status → ℕ
@@ -15,6 +15,8 @@ exit_status_of Done = 0
 exit_status_of (Invalid line defect) = 1
 exit_status_of Usage = 2
 exit_status_of (Input line kind) = 3
+exit_status_of Version = 3
+exit_status_of (Crossing one other) = 3
 exit_status_of TooLong = 3
 exit_status_of ReadFault = 4
 exit_status_of WriteFault = 5
@@ -24,8 +26,10 @@ exit_status_of OutOfMemory = 6
 abbrev pub status_text : Status → List ℕ
 status_text Done = []
 status_text (Invalid line defect) = codes "invalid: line " ++ canonical_number line ++ codes ", defect " ++ canonical_number defect
-status_text Usage = codes "usage: run, check, make n p t e, large n p t e"
+status_text Usage = codes "usage: run, check, make n p t e, large n p t e, weak, nested, jobs"
 status_text (Input line kind) = codes "input: line " ++ canonical_number line ++ codes ", kind " ++ canonical_number kind
+status_text Version = codes "input: version 1 wanted"
+status_text (Crossing one other) = codes "input: tasks " ++ (canonical_number one ++ (codes " and " ++ (canonical_number other ++ codes " have crossing masks")))
 status_text TooLong = codes "input: more than 16777216 bytes"
 status_text ReadFault = codes "read fault"
 status_text WriteFault = codes "write fault"
@@ -38,6 +42,8 @@ BeforePut WriteFault P = Unit {0}
 BeforePut (Invalid line defect) P = P
 BeforePut Usage P = P
 BeforePut (Input line kind) P = P
+BeforePut Version P = P
+BeforePut (Crossing one other) P = P
 BeforePut TooLong P = P
 BeforePut ReadFault P = P
 BeforePut OutOfMemory P = P

@@ -20,6 +20,10 @@ pub enum Status {
     Usage,
     /// The input is refused: its first faulty line, from 1, and the number of the fault's kind.
     Input { line: u64, kind: u8 },
+    /// The input has version 2, where version 1 is wanted.
+    Version,
+    /// The masks of these two tasks meet, and neither lies within the other; the tasks count from 0.
+    Crossing { one: u32, other: u32 },
     /// There are more bytes than the program reads.
     TooLong,
     /// The source failed.
@@ -40,8 +44,15 @@ impl fmt::Display for Status {
         match *self {
             Status::Done => Ok(()),
             Status::Invalid { line, defect } => write!(f, "invalid: line {line}, defect {defect}"),
-            Status::Usage => write!(f, "usage: run, check, make n p t e, large n p t e"),
+            Status::Usage => write!(
+                f,
+                "usage: run, check, make n p t e, large n p t e, weak, nested, jobs"
+            ),
             Status::Input { line, kind } => write!(f, "input: line {line}, kind {kind}"),
+            Status::Version => write!(f, "input: version 1 wanted"),
+            Status::Crossing { one, other } => {
+                write!(f, "input: tasks {one} and {other} have crossing masks")
+            }
             Status::TooLong => write!(f, "input: more than 16777216 bytes"),
             Status::ReadFault => write!(f, "read fault"),
             Status::WriteFault => write!(f, "write fault"),

@@ -229,17 +229,18 @@ impl Core {
     }
 }
 
-/// The scheduler's reply to an event, which the links follow.
+/// The scheduler's reply to an event, which the links follow. Each case returns by itself: a reply is long, and what cases
+/// join in is copied.
 fn reply_to(links: &mut Links, event: &Event) -> Reply
     requires { IsEventFor links.old event.now }
     ensures { SchedulerStep links.old event.now result links.new }
 {
     match event {
-        Event::Arrive(t) => arrive(links, *t),
-        Event::Depart(t) => depart(links, *t),
-        Event::Tick(_) => Reply::Ticked,
-        Event::Affinity { task, mask } => affinity(links, *task, *mask),
-        Event::Offline(p) => offline(links, *p),
-        Event::Online(p) => online(links, *p),
+        Event::Arrive(t) => return arrive(links, *t),
+        Event::Depart(t) => return depart(links, *t),
+        Event::Tick(_) => return Reply::Ticked,
+        Event::Affinity { task, mask } => return affinity(links, *task, *mask),
+        Event::Offline(p) => return offline(links, *p),
+        Event::Online(p) => return online(links, *p),
     }
 }

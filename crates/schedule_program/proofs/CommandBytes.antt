@@ -1,7 +1,8 @@
 -- What a command read of a source that reports its bytes, and that words mean one command.
-use Rattle.std.proofs.Common.{◌≡◌, ℕ, ◌+◌, ◌<◌, ◌≤◌, List, [], ◌∷◌, length, get_or, map, String, Option, refl, sym, ap, ◌∙◌, arith}
+use Rattle.std.proofs.Common.{◌≡◌, ℕ, ◌+◌, ◌*◌, ◌<◌, ◌≤◌, ◌==◌, List, [], ◌∷◌, length, get_or, map, String, Option, if◌then◌else◌, refl, sym, ap, ◌∙◌, arith}
 use Rattle.std.specs.Prelude.{codes, string_bytes}
 use Rattle.std.specs.declared.alloc.Global.{Global}
+use Rattle.affinity_mask.specs.Number.{number_value}
 use Rattle.text_fields.specs.Number.{IsNumberWithin}
 use Rattle.shift_io.specs.Stream.{TakesExactly}
 use Rattle.program_status.specs.Reading.{byte_limit}
@@ -10,61 +11,81 @@ use Rattle.generated_run.specs.Sizes.{AreWithin}
 use Rattle.generated_run.specs.declared.sizes.Sizes.{Sizes}
 use Rattle.schedule_program.specs.Command.{IsCommand, IsSized, AreSizes, HasSizes, IsToRead, Reads, ReadsNothing}
 use Rattle.schedule_program.specs.declared.words.Command.{Command}
-use Rattle.schedule_program.specs.declared.words.Command.TheVariants.{Run, Check, Make, Large}
+use Rattle.schedule_program.specs.declared.words.Command.TheVariants.{Run, Check, Weak, Nested, Jobs, Make, Large}
 
 -- what a command read is what it was to read
 pub read_is_expected : (command : Command) (left after : Option (List ℕ)) (read taken : List ℕ) → IsToRead command left read → Reads command left after taken → taken ≡ read
 read_is_expected Run left after read taken to_read reads = read_is_reported left after read taken to_read reads
 read_is_expected Check left after read taken to_read reads = read_is_reported left after read taken to_read reads
+read_is_expected Weak left after read taken to_read reads = read_is_reported left after read taken to_read reads
+read_is_expected Nested left after read taken to_read reads = read_is_reported left after read taken to_read reads
+read_is_expected Jobs left after read taken to_read reads = read_is_reported left after read taken to_read reads
 read_is_expected (Make sizes) left after read taken to_read reads = reads.1 ∙ sym to_read
 read_is_expected (Large sizes) left after read taken to_read reads = reads.1 ∙ sym to_read
 
--- a text is the number of one value
-one_value : (least most one other : ℕ) (text : List ℕ) → IsNumberWithin least most text one → IsNumberWithin least most text other → one ≡ other
-one_value least most one other text first second = sym first.0.1 ∙ second.0.1
+-- a command that reads takes no more than it is to read
+pub never_too_long : (command : Command) (left after : Option (List ℕ)) (read : List ℕ) → IsToRead command left read → (ReadsNothing command → ⊥) → TakesExactly left after (byte_limit + 1) → ⊥
+never_too_long Run left after read to_read reads longer = not_longer left after read to_read longer
+never_too_long Check left after read to_read reads longer = not_longer left after read to_read longer
+never_too_long Weak left after read to_read reads longer = not_longer left after read to_read longer
+never_too_long Nested left after read to_read reads longer = not_longer left after read to_read longer
+never_too_long Jobs left after read to_read reads longer = not_longer left after read to_read longer
+never_too_long (Make sizes) left after read to_read reads longer = reads tt
+never_too_long (Large sizes) left after read to_read reads longer = reads tt
 
--- words say four numbers at most
-pub one_sizes : (number processors tasks events : List ℕ) (one other : Sizes) → AreSizes number processors tasks events one → AreSizes number processors tasks events other → one ≡ other
-one_sizes number processors tasks events one other first second =
-    let numbers = one_value _ _ one.number other.number number first.is_number second.is_number in
-    let counts = one_value _ _ one.processors other.processors processors first.are_processors second.are_processors in
-    let of_tasks = one_value _ _ one.tasks other.tasks tasks first.are_tasks second.are_tasks in
-    let of_events = one_value _ _ one.events other.events events first.are_events second.are_events in
-    λ k. record { number = numbers k; processors = counts k; tasks = of_tasks k; events = of_events k }
+-- ---- words mean one command
+-- a mark by which the first words of the commands differ: its first letter and its length
+mark : List ℕ → ℕ
+mark word = 16 * get_or word 0 0 + length word
 
-same_sizes : (first : List ℕ) (words : List (List ℕ)) (one other : Sizes) → IsSized first words one → IsSized first words other → one ≡ other
-same_sizes first words one other a b =
-    let same = sym a.each_word ∙ b.each_word in
-    let numbers : a.number ≡ b.number = cc in
-    let counts : a.processors ≡ b.processors = cc in
-    let of_tasks : a.tasks ≡ b.tasks = cc in
-    let of_events : a.events ≡ b.events = cc in
-    one_sizes b.number b.processors b.tasks b.events one other (rw (numbers, counts, of_tasks, of_events) at a.sized) b.sized
+-- the values of the four words after the first one, whether or not they are numbers
+sizes_said : List (List ℕ) → Sizes
+sizes_said words = record {
+  number = number_value (get_or words 1 []);
+  processors = number_value (get_or words 2 []);
+  tasks = number_value (get_or words 3 []);
+  events = number_value (get_or words 4 []);
+}
 
-short_is_not_sized : (first word : List ℕ) (words : List (List ℕ)) (sizes : Sizes) → words ≡ word ∷ [] → IsSized first words sizes → ⊥
-short_is_not_sized first word words sizes short sized = let same = sym short ∙ sized.each_word in cc
+-- the command with this mark and these values, whether or not the words mean one
+command_marked : ℕ → List (List ℕ) → Command
+command_marked first words =
+    if first == mark (codes "check") then Check else (
+    if first == mark (codes "weak") then Weak else (
+    if first == mark (codes "nested") then Nested else (
+    if first == mark (codes "jobs") then Jobs else (
+    if first == mark (codes "make") then Make (sizes_said words) else (
+    if first == mark (codes "large") then Large (sizes_said words) else Run)))))
 
-make_is_not_large : (words : List (List ℕ)) (one other : Sizes) → IsSized (codes "make") words one → IsSized (codes "large") words other → ⊥
-make_is_not_large words one other a b = let same = sym a.each_word ∙ b.each_word in let first : codes "make" ≡ codes "large" = cc in cc
+-- the command that words mean, if they mean one
+command_said : List (List ℕ) → Command
+command_said words = command_marked (mark (get_or words 0 [])) words
 
--- the words mean one command
+-- the values of four numbers are the numbers
+sizes_are_said : (number processors tasks events : List ℕ) (sizes : Sizes) → AreSizes number processors tasks events sizes
+    → (first : List ℕ) → sizes_said (first ∷ number ∷ processors ∷ tasks ∷ events ∷ []) ≡ sizes
+unfolding sizes_said
+sizes_are_said number processors tasks events sizes sized first = λ k. record {
+  number = sized.is_number.0.1 k;
+  processors = sized.are_processors.0.1 k;
+  tasks = sized.are_tasks.0.1 k;
+  events = sized.are_events.0.1 k;
+}
+
+-- the words of a command say it
+said_of : (words : List (List ℕ)) (command : Command) → IsCommand words command → command_said words ≡ command
+unfolding command_said command_marked mark
+said_of words Run spoken = ap command_said spoken
+said_of words Check spoken = ap command_said spoken
+said_of words Weak spoken = ap command_said spoken
+said_of words Nested spoken = ap command_said spoken
+said_of words Jobs spoken = ap command_said spoken
+said_of words (Make sizes) spoken = ap command_said spoken.each_word ∙ ap Make (sizes_are_said spoken.number spoken.processors spoken.tasks spoken.events sizes spoken.sized (codes "make"))
+said_of words (Large sizes) spoken = ap command_said spoken.each_word ∙ ap Large (sizes_are_said spoken.number spoken.processors spoken.tasks spoken.events sizes spoken.sized (codes "large"))
+
+-- so they mean one command
 pub one_command : (words : List (List ℕ)) (one other : Command) → IsCommand words one → IsCommand words other → one ≡ other
-one_command words Run Run a b = refl
-one_command words Run Check a b = absurd (let same = sym a ∙ b in let first : codes "run" ≡ codes "check" = cc in cc)
-one_command words Run (Make sizes) a b = absurd (short_is_not_sized _ _ words sizes a b)
-one_command words Run (Large sizes) a b = absurd (short_is_not_sized _ _ words sizes a b)
-one_command words Check Run a b = absurd (let same = sym a ∙ b in let first : codes "check" ≡ codes "run" = cc in cc)
-one_command words Check Check a b = refl
-one_command words Check (Make sizes) a b = absurd (short_is_not_sized _ _ words sizes a b)
-one_command words Check (Large sizes) a b = absurd (short_is_not_sized _ _ words sizes a b)
-one_command words (Make sizes) Run a b = absurd (short_is_not_sized _ _ words sizes b a)
-one_command words (Make sizes) Check a b = absurd (short_is_not_sized _ _ words sizes b a)
-one_command words (Make one) (Make other) a b = ap Make (same_sizes _ words one other a b)
-one_command words (Make one) (Large other) a b = absurd (make_is_not_large words one other a b)
-one_command words (Large sizes) Run a b = absurd (short_is_not_sized _ _ words sizes b a)
-one_command words (Large sizes) Check a b = absurd (short_is_not_sized _ _ words sizes b a)
-one_command words (Large one) (Make other) a b = absurd (make_is_not_large words other one b a)
-one_command words (Large one) (Large other) a b = ap Large (same_sizes _ words one other a b)
+one_command words one other first second = sym (said_of words one first) ∙ said_of words other second
 
 -- and its numbers are within their bounds
 sized_within : (first : List ℕ) (words : List (List ℕ)) (sizes : Sizes) → IsSized first words sizes → AreWithin sizes
@@ -77,6 +98,9 @@ sized_within first words sizes sized = record {
 pub command_within : (words : List (List ℕ)) (command : Command) → IsCommand words command → HasSizes command
 command_within words Run spoken = tt
 command_within words Check spoken = tt
+command_within words Weak spoken = tt
+command_within words Nested spoken = tt
+command_within words Jobs spoken = tt
 command_within words (Make sizes) spoken = sized_within _ words sizes spoken
 command_within words (Large sizes) spoken = sized_within _ words sizes spoken
 
@@ -93,6 +117,9 @@ no_sizes name words number processors tasks events first five none sizes sized =
 pub unsized_words : (words : List (List ℕ)) (first number processors tasks events : List ℕ) → words ≡ first ∷ number ∷ processors ∷ tasks ∷ events ∷ [] → ((sizes : Sizes) → AreSizes number processors tasks events sizes → ⊥) → (command : Command) → IsCommand words command → ⊥
 unsized_words words first number processors tasks events five none Run spoken = let same = sym five ∙ spoken in cc
 unsized_words words first number processors tasks events five none Check spoken = let same = sym five ∙ spoken in cc
+unsized_words words first number processors tasks events five none Weak spoken = let same = sym five ∙ spoken in cc
+unsized_words words first number processors tasks events five none Nested spoken = let same = sym five ∙ spoken in cc
+unsized_words words first number processors tasks events five none Jobs spoken = let same = sym five ∙ spoken in cc
 unsized_words words first number processors tasks events five none (Make sizes) spoken = no_sizes _ words number processors tasks events first five none sizes spoken
 unsized_words words first number processors tasks events five none (Large sizes) spoken = no_sizes _ words number processors tasks events first five none sizes spoken
 
@@ -106,10 +133,3 @@ five_words (v ∷ w ∷ []) a b c d e least most one two three four five = absur
 five_words (v ∷ w ∷ x ∷ []) a b c d e least most one two three four five = absurd (omega arith)
 five_words (v ∷ w ∷ x ∷ y ∷ []) a b c d e least most one two three four five = absurd (omega arith)
 five_words (v ∷ w ∷ x ∷ y ∷ z ∷ u ∷ more) a b c d e least most one two three four five = absurd (omega arith)
-
--- a command that reads takes no more than it is to read
-pub never_too_long : (command : Command) (left after : Option (List ℕ)) (read : List ℕ) → IsToRead command left read → (ReadsNothing command → ⊥) → TakesExactly left after (byte_limit + 1) → ⊥
-never_too_long Run left after read to_read reads longer = not_longer left after read to_read longer
-never_too_long Check left after read to_read reads longer = not_longer left after read to_read longer
-never_too_long (Make sizes) left after read to_read reads longer = reads tt
-never_too_long (Large sizes) left after read to_read reads longer = reads tt

@@ -7,11 +7,14 @@ use Rattle.program_status.specs.declared.status.Status.{Status}
 use Rattle.valid_schedule.specs.Valid.{IsValidText}
 use Rattle.schedule_check.specs.Check.{IsCheckOf, RefusesCheck}
 use Rattle.schedule_run.specs.Run.{IsRunOf}
+use Rattle.weak_run.specs.Weak.{IsWeakOf}
+use Rattle.nested_run.specs.NestedRun.{IsNestedOf, AcceptsNested, RefusesNested}
+use Rattle.job_run.specs.JobsRun.{IsJobsOf, AcceptsJobs, RefusesJobs}
 use Rattle.generated_run.specs.Generating.{IsMakeOf, IsLargeOf}
 use Rattle.generated_run.specs.Sizes.{AreWithin}
 use Rattle.generated_run.specs.declared.sizes.Sizes.{Sizes}
 use Rattle.schedule_program.specs.declared.words.Command.{Command}
-use Rattle.schedule_program.specs.declared.words.Command.TheVariants.{Run, Check, Make, Large}
+use Rattle.schedule_program.specs.declared.words.Command.TheVariants.{Run, Check, Weak, Nested, Jobs, Make, Large}
 
 -- ---- words
 -- a number, and then how many processors, tasks and events there are; leading zeros are no fault
@@ -34,13 +37,19 @@ pub record IsSized (first : List ℕ) (words : List (List ℕ)) (sizes : Sizes) 
 abbrev pub IsCommand : List (List ℕ) → Command → Type 0
 IsCommand words Run = words ≡ codes "run" ∷ []
 IsCommand words Check = words ≡ codes "check" ∷ []
+IsCommand words Weak = words ≡ codes "weak" ∷ []
+IsCommand words Nested = words ≡ codes "nested" ∷ []
+IsCommand words Jobs = words ≡ codes "jobs" ∷ []
 IsCommand words (Make sizes) = IsSized (codes "make") words sizes
 IsCommand words (Large sizes) = IsSized (codes "large") words sizes
 
--- the numbers of a command, where it has some, are those of an input
+-- the numbers of a command, where it has some, are within their bounds
 abbrev pub HasSizes : Command → Type 0
 HasSizes Run = Unit {0}
 HasSizes Check = Unit {0}
+HasSizes Weak = Unit {0}
+HasSizes Nested = Unit {0}
+HasSizes Jobs = Unit {0}
 HasSizes (Make sizes) = AreWithin sizes
 HasSizes (Large sizes) = AreWithin sizes
 
@@ -49,6 +58,9 @@ HasSizes (Large sizes) = AreWithin sizes
 abbrev pub Reads : Command → Option (List ℕ) → Option (List ℕ) → List ℕ → Type 0
 Reads Run old new read = ReadsAll old new read
 Reads Check old new read = ReadsAll old new read
+Reads Weak old new read = ReadsAll old new read
+Reads Nested old new read = ReadsAll old new read
+Reads Jobs old new read = ReadsAll old new read
 Reads (Make sizes) old new read = (new ≡ old) × (read ≡ [])
 Reads (Large sizes) old new read = (new ≡ old) × (read ≡ [])
 
@@ -56,6 +68,9 @@ Reads (Large sizes) old new read = (new ≡ old) × (read ≡ [])
 abbrev pub IsToRead : Command → Option (List ℕ) → List ℕ → Type 0
 IsToRead Run left read = IsReported left read
 IsToRead Check left read = IsReported left read
+IsToRead Weak left read = IsReported left read
+IsToRead Nested left read = IsReported left read
+IsToRead Jobs left read = IsReported left read
 IsToRead (Make sizes) left read = read ≡ []
 IsToRead (Large sizes) left read = read ≡ []
 
@@ -63,6 +78,9 @@ IsToRead (Large sizes) left read = read ≡ []
 abbrev pub ReadsNothing : Command → Type 0
 ReadsNothing Run = ⊥
 ReadsNothing Check = ⊥
+ReadsNothing Weak = ⊥
+ReadsNothing Nested = ⊥
+ReadsNothing Jobs = ⊥
 ReadsNothing (Make sizes) = Unit {0}
 ReadsNothing (Large sizes) = Unit {0}
 
@@ -71,13 +89,19 @@ ReadsNothing (Large sizes) = Unit {0}
 abbrev pub Makes : Command → List ℕ → List ℕ → Type 0
 Makes Run read put = IsRunOf read put
 Makes Check read put = IsCheckOf read put
+Makes Weak read put = IsWeakOf read put
+Makes Nested read put = IsNestedOf read put
+Makes Jobs read put = IsJobsOf read put
 Makes (Make sizes) read put = IsMakeOf sizes put
 Makes (Large sizes) read put = IsLargeOf sizes put
 
--- the bytes that a command accepts: an input text; the text of a valid schedule; none
+-- the bytes that a command accepts: a text of the kind that it reads; or none
 abbrev pub Accepts : Command → List ℕ → Type 0
 Accepts Run bytes = IsAccepted bytes
 Accepts Check bytes = IsValidText bytes
+Accepts Weak bytes = IsAccepted bytes
+Accepts Nested bytes = AcceptsNested bytes
+Accepts Jobs bytes = AcceptsJobs bytes
 Accepts (Make sizes) bytes = bytes ≡ []
 Accepts (Large sizes) bytes = bytes ≡ []
 
@@ -85,6 +109,9 @@ Accepts (Large sizes) bytes = bytes ≡ []
 abbrev pub Refuses : Command → List ℕ → Status → Type 0
 Refuses Run bytes status = IsAnsweredInput (RefusesInput bytes) status
 Refuses Check bytes status = RefusesCheck bytes status
+Refuses Weak bytes status = IsAnsweredInput (RefusesInput bytes) status
+Refuses Nested bytes status = RefusesNested bytes status
+Refuses Jobs bytes status = RefusesJobs bytes status
 Refuses (Make sizes) bytes status = ⊥
 Refuses (Large sizes) bytes status = ⊥
 

@@ -4,6 +4,8 @@
 #[cfg(test)]
 mod change_tests;
 #[cfg(test)]
+mod further_tests;
+#[cfg(test)]
 mod generated_tests;
 #[cfg(test)]
 mod hostile_tests;

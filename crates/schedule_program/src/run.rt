@@ -14,6 +14,8 @@ ghost use Rattle.schedule_program.specs.Command.{IsCommand, HasSizes, Reads, Rea
 
 use crate::words::{Command, command_of};
 use generated_run::{made_text, summary_of};
+use job_run::jobs_text;
+use nested_run::nested_text;
 use processor_seat::Gate;
 use program_status::{MAX_BYTES, Status};
 use schedule_check::checked_text;
@@ -23,12 +25,16 @@ use std::alloc::Global;
 use std::sync::Wait;
 use std::thread::Threads;
 use std::time::Clock;
+use weak_run::weak_text;
 
 /// Does what the words say. `run` reads the source to its end as an input text, replays its events on threads, a worker
-/// for each processor and a thread for each stream that has events, and writes the schedule text into the sink. The gate
-/// is called before and after each post, and before the first try of each take. `check` reads the source as a schedule
-/// text, whoever made it, and where that is a valid schedule, writes how many entries it has. `make` writes the text of
-/// the input of its four numbers, and `large` replays that input as `run` does and writes a summary; neither reads the source.
+/// for each processor and a thread for each stream that has events, and writes the schedule text into the sink. The
+/// gate is called before and after each post, and before the first try of each take. `check` reads the source as a
+/// schedule text, whoever made it, and where that is a valid schedule, writes how many entries it has. `weak` reads an
+/// input text, replays its events by the weak scheduler beside the strong one, and writes what differs. `nested` reads
+/// an input text of version 1 whose masks nest, and writes what counts decide. `jobs` reads a text of periodic tasks,
+/// and writes when each of their jobs ends. `make` writes the text of the input of its four numbers, and `large`
+/// replays that input as `run` does and writes a summary; neither reads the source.
 pub fn run<R: Threads + Wait + Clock + Sync, S: Source, K: Sink, G: Gate + Sync>(
     rt: &R,
     alloc: Global,
@@ -55,6 +61,10 @@ pub fn run<R: Threads + Wait + Clock + Sync, S: Source, K: Sink, G: Gate + Sync>
     ensures within { result ≢ Status.TooLong →
         TakesAtMost (S.left source.old) (S.left source.new) byte_limit }
     ensures input { (line kind : ℕ) → result ≡ Status.Input line kind
+        → ReadsRefused (map string_bytes words.now) (S.left source.old) (S.left source.new) result }
+    ensures version { result ≡ Status.Version
+        → ReadsRefused (map string_bytes words.now) (S.left source.old) (S.left source.new) result }
+    ensures crossing { (one other : ℕ) → result ≡ Status.Crossing one other
         → ReadsRefused (map string_bytes words.now) (S.left source.old) (S.left source.new) result }
     ensures invalid { (line defect : ℕ) → result ≡ Status.Invalid line defect
         → ReadsRefused (map string_bytes words.now) (S.left source.old) (S.left source.new) result }
@@ -119,8 +129,10 @@ fn bytes_for<S: Source>(
     ensures takes { S.calls source.new ≤ S.calls source.old + byte_limit + 2 }
 {
     match command {
-        Command::Run | Command::Check => read_all(alloc, source, MAX_BYTES),
         Command::Make(_) | Command::Large(_) => Ok(Vec::new(alloc)),
+        Command::Run | Command::Check | Command::Weak | Command::Nested | Command::Jobs => {
+            read_all(alloc, source, MAX_BYTES)
+        }
     }
 }
 
@@ -139,6 +151,9 @@ fn text_made<R: Threads + Wait + Clock + Sync, G: Gate + Sync>(
     match command {
         Command::Run => replayed_text(rt, alloc, bytes, gate),
         Command::Check => checked_text(alloc, bytes),
+        Command::Weak => weak_text(alloc, bytes),
+        Command::Nested => nested_text(alloc, bytes),
+        Command::Jobs => jobs_text(alloc, bytes),
         Command::Make(sizes) => {
             let text = made_text(alloc, sizes)?;
             Ok(text)

@@ -264,8 +264,11 @@ fn wrong_schedule(rt: HostRuntime) -> Result<(), Fail> {
     expect_answer(&rt, rt.alloc(), &["check"], WRONG_SCHEDULE, status, "")
 }
 
-static REFUSED_WORDS: [&[&str]; 14] = [
+static REFUSED_WORDS: [&[&str]; 17] = [
     &[],
+    &["weak", "1"],
+    &["nested", "1"],
+    &["jobs", "1"],
     &["run", "x"],
     &["runs"],
     &["make"],

@@ -16,6 +16,14 @@ pub enum Command {
     Run,
     /// The source is a schedule text; it is checked, and the number of its entries is written.
     Check,
+    /// The source is an input text; its events are replayed by the weak scheduler and by the strong one, and what differs
+    /// is written.
+    Weak,
+    /// The source is an input text of version 1 whose masks nest; its events are decided by counts, and the replies are
+    /// written.
+    Nested,
+    /// The source is a text of periodic tasks; their jobs are released and run, and when each job ends is written.
+    Jobs,
     /// The text of the input of these numbers is written. Nothing is read.
     Make(Sizes),
     /// The events of the input of these numbers are replayed, and a summary of the schedule is written. Nothing is
@@ -32,6 +40,9 @@ pub fn command_of(words: &[String]) -> Option<Command>
         [word] => match word.as_str() {
             "run" => Some(Command::Run),
             "check" => Some(Command::Check),
+            "weak" => Some(Command::Weak),
+            "nested" => Some(Command::Nested),
+            "jobs" => Some(Command::Jobs),
             _ => None,
         },
         [word, number, processors, tasks, events] => {

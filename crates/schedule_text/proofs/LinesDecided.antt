@@ -173,8 +173,7 @@ tasks_decided : (version : ℕ) (set : SetData) (text : List ℕ) → IsTaskSet 
 tasks_decided version set text valid = elim (number_after_decided (codes "history") 0 20000 (spaced_fields_of text) (lit< tt)) [
   | inl count ↦ inl (
     EntriesExpected version set count.0 [],
-    history_read version set (spaced_fields_of text) text count.0 []
-        refl count.1 refl,
+    history_read version set (spaced_fields_of text) text count.0 refl count.1,
   )
   | inr no_count ↦ (
       let no_history = history_none (spaced_fields_of text) text refl no_count in

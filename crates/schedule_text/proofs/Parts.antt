@@ -1,5 +1,5 @@
 -- Parts of a line: what is known of each of two parts is known of both, and so is their fault.
-use Rattle.std.proofs.Common.{◌≡◌, ◌⊎◌, inl, inr, Result, Ok, Err, IfOk, IfErr, refl, sym, ap, subst}
+use Rattle.std.proofs.Common.{◌≡◌, ◌⊎◌, inl, inr, Result, Ok, Err, IfOk, IfErr, MatchResult, refl, sym, ap, subst}
 use Rattle.task_set.specs.TaskSet.{SetData}
 use Rattle.schedule_text.specs.declared.fault.TextKind.{TextKind}
 use Rattle.schedule_text.specs.declared.fault.TextKind.TheVariants.{BadLine, UnknownTask}
@@ -86,6 +86,17 @@ module _ {FormA KnownA FormB KnownB Form Known : Type 0}
         by (Err kind) (Ok b) p (inr (inl bad)) q g = inr (first_bad kind bad)
         by (Err kind) (Ok b) p (inr (inr unknown)) q g = inr (first_unknown kind unknown (parts.second_some (other b q)))
         by (Err kind) (Err kind') p f q g = both_faults kind kind' f g
+
+-- the fault of the first part, with what the second one was, and that of the second part where the first one was read
+pub fault_first : {A B : Type 0} (first : Result A TextKind) (second : Result B TextKind) (kind reported : TextKind)
+    → first ≡ Err kind → MatchResult second (λ b. reported ≡ kind) (λ other. reported ≡ first_reported kind other)
+    → Err reported ≡ both_of first second
+fault_first first (Ok b) kind reported is same = rw (is, same) refl
+fault_first first (Err other) kind reported is same = rw (is, same) refl
+
+pub fault_second : {A B : Type 0} (first : Result A TextKind) (second : Result B TextKind) (a : A) (kind : TextKind)
+    → first ≡ Ok a → second ≡ Err kind → Err kind ≡ both_of first second
+fault_second first second a kind is other = rw (is, other) refl
 
 -- both parts are known where both were read
 pub read_of_both : {A B : Type 0} (SaysA : A → Type 0) (SaysB : B → Type 0) (first : Result A TextKind)

@@ -16,13 +16,14 @@ use Rattle.schedule_text.specs.ScheduleText.{entry_line, context_line, header, s
 use Rattle.schedule_text.specs.Schedule.{ScheduleData, IsScheduled, IsContextOf, AreInOrder, IsScheduleSet, IsSchedule}
 use Rattle.schedule_text.specs.ScheduleFault.{IsLineFault, IsScheduleRefused}
 use Rattle.schedule_text.specs.Laws.{text_of_schedule}
-use Rattle.schedule_text.specs.Prefix.{Progress, whole, HeaderExpected, ProcessorsExpected, TasksExpected, EntriesExpected, ContextsExpected, Ended, tasks_text, history_text, contexts_text, text_so_far, lines_so_far, IsPrefix, IsUnended}
+use Rattle.schedule_text.specs.Prefix.{Progress, whole, HeaderExpected, ProcessorsExpected, TasksExpected, EntriesExpected, ContextsExpected, Ended, tasks_text, history_text, contexts_text, text_so_far, lines_so_far, IsPrefix, IsWholePrefix, IsUnended}
 use Rattle.schedule_text.specs.declared.fault.TextKind.{TextKind}
 use Rattle.schedule_text.specs.declared.fault.TextKind.TheVariants.{Short, AfterEnd}
 use Rattle.schedule_text.specs.declared.fault.TextFault.{TextFault}
 use Rattle.schedule_text.specs.declared.stage.Stage.{Stage}
 use Rattle.schedule_text.specs.declared.stage.Stage.TheVariants as stages
-use Rattle.schedule_text.specs.Reading.{progress_of, IsAnswerTo, Leads, LeadsTasks, LeadsEntries, LeadsContexts}
+use Rattle.schedule_text.specs.declared.stage.Reached.TheVariants.{End}
+use Rattle.schedule_text.specs.Reading.{progress_of, progress_after, IsAnswerTo, Leads, LeadsTasks, LeadsEntries, LeadsContexts}
 
 -- ---- more of a list
 
@@ -203,6 +204,29 @@ leads_lines (ContextsExpected version set entries contexts) text next (inl (cont
 leads_lines (ContextsExpected version set entries contexts) text next (inr (last, full, form)) =
     ap lines_so_far last ∙ omega arith
 leads_lines (Ended version set entries contexts) text next step = absurd step
+
+-- no line leads to the start
+never_start : (expected : Progress) (text : List ℕ) → Leads expected text HeaderExpected → ⊥
+never_start HeaderExpected text step = let is = step.1 in cc
+never_start (ProcessorsExpected version) text step = let is = step.1 in cc
+never_start (TasksExpected version set) text (inl step) = let is = step.1 in cc
+never_start (TasksExpected version set) text (inr step) = let is = step.1 in cc
+never_start (EntriesExpected version set count entries) text (inl step) = let is = step.1 in cc
+never_start (EntriesExpected version set count entries) text (inr step) = let is = step.0 in cc
+never_start (ContextsExpected version set entries contexts) text (inl step) = let is = step.1 in cc
+never_start (ContextsExpected version set entries contexts) text (inr step) = let is = step.0 in cc
+never_start (Ended version set entries contexts) text step = step
+
+-- a last line leads to a whole schedule
+pub leads_whole : (expected : Progress) (text : List ℕ) (next : Stage) → IsPrefix expected
+    → Leads expected text (progress_after End next) → IsWholePrefix (progress_after End next)
+leads_whole expected text (stages.ContextsExpected version set entries contexts) prefix step =
+    leads_prefix expected text (Ended version set entries.items contexts.items) prefix step
+leads_whole expected text stages.HeaderExpected prefix step = never_start expected text step
+leads_whole expected text (stages.ProcessorsExpected version) prefix step = never_start expected text step
+leads_whole expected text (stages.TasksExpected version set) prefix step = never_start expected text step
+leads_whole expected text (stages.EntriesExpected version set count entries) prefix step =
+    never_start expected text step
 
 -- ---- what was read
 

@@ -1,7 +1,8 @@
 -- Replies by the fields as the code cuts them.
-use Rattle.std.proofs.Common.{◌≡◌, ◌≢◌, ℕ, ◌-◌, ◌≤◌, ◌⊎◌, List, ◌∷◌, length, take, drop, get_or, None, Bor, Result, IfErr, refl, sym, ap, ◌∙◌, subst}
+use Rattle.std.proofs.Common.{◌≡◌, ◌≢◌, ℕ, ◌-◌, ◌≤◌, ◌⊎◌, List, ◌∷◌, length, take, drop, get_or, None, Bor, Result, Ok, Err, IfOk, IfErr, refl, sym, ap, ◌∙◌, subst}
 use Rattle.std.specs.Prelude.{codes}
 use Rattle.task_set.specs.TaskSet.{SetData}
+use Rattle.scheduler_reply.specs.declared.reply.Came.{Came}
 use Rattle.scheduler_reply.specs.declared.reply.Reply.{Reply}
 use Rattle.scheduler_reply.specs.declared.reply.Reply.TheVariants.{Remasked}
 use Rattle.scheduler_reply.specs.Reply.{reply_of_gone, reply_of_came}
@@ -61,12 +62,22 @@ freed_refused version set fields d kind some is refused =
     (λ tasks gone f. (reply_of_gone gone, freed_to version (rest_of fields) tasks gone f))
     (freed_from version (rest_of fields)) refused)
 
+-- the reply that is what an arrival came to
+pub came_said : (version : ℕ) (set : SetData) (fields : List (Bor (List ℕ))) (result : Result Reply TextKind)
+    → IfOk result (λ reply. (arrival : Came) × (reply ≡ reply_of_came arrival) × IsCameFields (texts fields) set arrival)
+    → IfOk result (IsReplyFields version (texts fields) set)
+came_said version set fields (Ok reply) (arrival, is, f) =
+    subst (IsReplyFields version (texts fields) set) (sym is) (came_to version (texts fields) set arrival f)
+came_said version set fields (Err kind) said = tt
+
 -- more fields than one, of which the first is another word
-pub came_refused : (version : ℕ) (set : SetData) (fields : List (Bor (List ℕ))) (d : Bor (List ℕ)) (kind : TextKind)
-    → 1 ≤ length fields → length (texts fields) ≢ 1 → IsOtherWord (get_or fields 0 d).now
-    → IsOutOfMemory kind ⊎ IsCameFault (texts fields) set kind
-    → IsOutOfMemory kind ⊎ IsReplyFault version (texts fields) set kind
-came_refused version set fields d kind some more other refused =
+pub came_refused : (version : ℕ) (set : SetData) (fields : List (Bor (List ℕ))) (d : Bor (List ℕ))
+    (result : Result Reply TextKind) → 1 ≤ length fields → length (texts fields) ≢ 1
+    → IsOtherWord (get_or fields 0 d).now
+    → IfErr result (λ kind. IsOutOfMemory kind ⊎ IsCameFault (texts fields) set kind)
+    → IsRefused version (texts fields) set result
+came_refused version set fields d (Ok reply) some more other refused = tt
+came_refused version set fields d (Err kind) some more other refused =
     same_refused (IsCameFields (texts fields)) (IsReplyFields version (texts fields)) set kind
     (λ tasks arrival f. (reply_of_came arrival, came_to version (texts fields) tasks arrival f))
     (came_from version (texts fields) (get_or fields 0 d).now (rest_of fields) (texts_first_one fields d some) more other)

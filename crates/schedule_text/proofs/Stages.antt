@@ -63,13 +63,13 @@ history_none fields text cut none count form =
           (word_number_bytes IsNoSpace high_no_space (codes "history") count refl (omega arith));
     })
 
-pub history_read : (version : ℕ) (set : SetData) (fields : List (List ℕ)) (text : List ℕ) (count : ℕ) (entries : List Entry)
-    → fields ≡ spaced_fields_of text → IsNumberAfter (codes "history") 0 20000 fields count → entries ≡ []
-    → LeadsTasks version set text (EntriesExpected version set count entries)
-history_read version set fields text count entries cut f none =
+pub history_read : (version : ℕ) (set : SetData) (fields : List (List ℕ)) (text : List ℕ) (count : ℕ)
+    → fields ≡ spaced_fields_of text → IsNumberAfter (codes "history") 0 20000 fields count
+    → LeadsTasks version set text (EntriesExpected version set count [])
+history_read version set fields text count cut f =
     inr (
       count,
-      ap (λ (start : List Entry). EntriesExpected version set count start) none,
+      refl,
       record
           { few = f.range.1; is_text = number_to_text (codes "history") text count (sym cut ∙ f.each_field) },
     )

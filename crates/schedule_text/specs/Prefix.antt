@@ -86,3 +86,8 @@ IsUnended (TasksExpected version set) = Unit {0}
 IsUnended (EntriesExpected version set count entries) = Unit {0}
 IsUnended (ContextsExpected version set entries contexts) = Unit {0}
 IsUnended (Ended version set entries contexts) = ⊥
+
+-- it is a whole schedule
+abbrev pub IsWholePrefix : Progress → Type 0
+IsWholePrefix (Ended version set entries contexts) = IsPrefix (Ended version set entries contexts)
+IsWholePrefix _ = ⊥

@@ -1,6 +1,6 @@
 -- One step of the reader. Private: the contracts of this crate's own functions. The public one says by
 -- the definitions of the text and of its faults what was read.
-use Rattle.std.specs.Prelude.{◌≡◌, ℕ, ◌<◌, ◌⊎◌, List, [], ◌∷◌, ◌++◌, length, codes, Result, IfOk, IfErr}
+use Rattle.std.specs.Prelude.{◌≡◌, ℕ, ◌<◌, ◌⊎◌, List, [], ◌∷◌, ◌++◌, length, codes, Option, Some, None, Result, IfOk, IfErr}
 use Rattle.task_set.specs.TaskSet.{TaskData, SetData, with_task}
 use Rattle.task_set.specs.Refusal.{CanAdd}
 use Rattle.task_set.specs.declared.context.Context.{Context}
@@ -8,7 +8,7 @@ use Rattle.scheduler_reply.specs.declared.reply.Entry.{Entry}
 use Rattle.schedule_text.specs.Laws.{text_of_schedule}
 use Rattle.schedule_text.specs.Schedule.{ScheduleData, IsSchedule}
 use Rattle.schedule_text.specs.ScheduleFault.{IsScheduleRefused}
-use Rattle.schedule_text.specs.Prefix.{Progress, whole, HeaderExpected, ProcessorsExpected, TasksExpected, EntriesExpected, ContextsExpected, Ended}
+use Rattle.schedule_text.specs.Prefix.{Progress, HeaderExpected, ProcessorsExpected, TasksExpected, EntriesExpected, ContextsExpected, Ended}
 use Rattle.schedule_text.specs.LineForms.{IsHeaderForm, IsProcessorsForm, IsTaskForm, IsHistoryForm, IsEntryText, IsCountForm, IsContextText}
 use Rattle.schedule_text.specs.declared.fault.TextFault.{TextFault}
 use Rattle.schedule_text.specs.declared.fault.TextKind.{TextKind}
@@ -34,10 +34,17 @@ progress_of (stage.EntriesExpected version set count entries) =
 progress_of (stage.ContextsExpected version set entries contexts) =
     ContextsExpected version set entries.items contexts.items
 
--- what is expected after a line
-abbrev pub progress_after : Reached → Progress
-progress_after (reached.Expected next) = progress_of next
-progress_after (reached.End schedule) = whole schedule
+-- what is expected after a line that more follow, and after the last one; the end comes after contexts alone
+abbrev pub progress_after : Reached → Stage → Progress
+progress_after reached.Expected next = progress_of next
+progress_after reached.End (stage.ContextsExpected version set entries contexts) =
+    Ended version set entries.items contexts.items
+progress_after reached.End _ = HeaderExpected
+
+-- what is expected after the line of a task, or after the line that says how many entries there are
+abbrev pub progress_after_task : ℕ → SetData → Option ℕ → Progress
+progress_after_task version set None = TasksExpected version set
+progress_after_task version set (Some count) = EntriesExpected version set count []
 
 -- the header says the version
 abbrev pub LeadsHeader : List ℕ → Progress → Type 0

@@ -1,5 +1,6 @@
 //! The lines of entries.
-ghost use Rattle.std.specs.Prelude.{◌≡◌, ◌⊎◌, ◌∷◌, [], List, ℕ, codes, IfOk, IfErr, MatchOption};
+ghost use Rattle.std.specs.Prelude.{◌≡◌, ◌⊎◌, ◌∷◌, ◌++◌, [], List, ℕ, codes, IfOk, IfErr, OnOk, MatchOption};
+ghost use Rattle.scheduler_reply.specs.declared.reply.Entry.{Entry as EntryData};
 ghost use Rattle.text_fields.specs.Fields.{texts};
 ghost use Rattle.schedule_text.specs.Reading.{IsOutOfMemory};
 ghost use Rattle.schedule_text.specs.LineFields.{
@@ -12,7 +13,7 @@ ghost use Rattle.schedule_text.specs.LineFields.{
 };
 
 use crate::fault::TextKind;
-use crate::field::{both, known_task, mask_of, number_of, processor_of};
+use crate::field::{fault_with, known_task, mask_of, number_of, processor_of};
 use crate::reply::read_reply;
 use scheduler_reply::Entry;
 use task_set::{Event, TaskSet};
@@ -25,9 +26,16 @@ const AFFINITY_FIELDS: usize = 3;
 /// How many fields any other event has.
 const EVENT_FIELDS: usize = 2;
 
-/// The entry of some fields, in a version of the format.
-pub fn read_entry(version: u8, set: &TaskSet, fields: &[&[u8]]) -> Result<Entry, TextKind>
-    ensures read { IfOk result (IsEntryFields version (texts fields.now) set.now) }
+/// Lists the entry of some fields, in a version of the format. It is long, and so it is made where it is listed.
+pub fn add_entry(
+    version: u8,
+    set: &TaskSet,
+    entries: &mut Vec<Entry>,
+    fields: &[&[u8]],
+) -> Result<(), TextKind>
+    ensures read { OnOk result ((entry : EntryData)
+        × (entries.new.items ≡ entries.old.items ++ entry ∷ [])
+        × IsEntryFields version (texts fields.now) set.now entry) }
     ensures refused { IfErr result (λ kind. IsOutOfMemory kind
         ⊎ IsEntryFault version (texts fields.now) set.now kind) }
 {
@@ -41,16 +49,19 @@ pub fn read_entry(version: u8, set: &TaskSet, fields: &[&[u8]]) -> Result<Entry,
     let Some((event, reply)) = event_then(rest) else {
         return Err(TextKind::BadLine);
     };
-    match both(
-        read_event(version, set, event),
-        read_reply(version, set, reply),
-    ) {
-        Ok((event, reply)) => Ok(Entry {
-            caller: stream as u32,
-            event,
-            reply,
-        }),
-        Err(kind) => Err(kind),
+    let event = match read_event(version, set, event) {
+        Ok(event) => event,
+        Err(kind) => return Err(fault_with(kind, read_reply(version, set, reply))),
+    };
+    let reply = read_reply(version, set, reply)?;
+    let entry = Entry {
+        caller: stream as u32,
+        event,
+        reply,
+    };
+    match entries.push(entry) {
+        Ok(()) => Ok(()),
+        Err(_) => Err(TextKind::OutOfMemory),
     }
 }
 

@@ -1,5 +1,5 @@
 //! The fields of a line, and what a field says.
-ghost use Rattle.std.specs.Prelude.{◌≡◌, ◌≢◌, ℕ, codes, ◌⊎◌, ◌↔◌, ◌++◌, ◌∷◌, IsTrue, List, Contains, IfOk, IfErr, MatchOption};
+ghost use Rattle.std.specs.Prelude.{◌≡◌, ◌≢◌, ℕ, codes, ◌⊎◌, ◌↔◌, ◌++◌, ◌∷◌, IsTrue, List, Contains, IfOk, IfErr, MatchOption, MatchResult};
 ghost use Rattle.text_fields.specs.Fields.{texts};
 ghost use Rattle.schedule_text.specs.LineForms.{IsField};
 ghost use Rattle.schedule_text.specs.Reading.{IsOutOfMemory};
@@ -136,10 +136,10 @@ pub fn chain_of(field: &[u8]) -> Result<Chain, TextKind>
     if is_word(field, "-") {
         return Ok(Chain::new());
     }
-    match processors_of(field) {
-        Some(chain) => Ok(chain),
-        None => Err(TextKind::BadLine),
-    }
+    let Some(chain) = processors_of(field) else {
+        return Err(TextKind::BadLine);
+    };
+    Ok(chain)
 }
 
 /// The processors that a field names between its arrows, at most 64.
@@ -215,10 +215,17 @@ pub fn both<A: Drop, B: Drop>(
             Ok(other) => Ok((one, other)),
             Err(kind) => Err(kind),
         },
-        Err(kind) => match second {
-            Ok(_) => Err(kind),
-            Err(other) => Err(first_reported(kind, other)),
-        },
+        Err(kind) => Err(fault_with(kind, second)),
+    }
+}
+
+/// The fault that is reported where the first part has this one.
+pub fn fault_with<B: Drop>(kind: TextKind, second: Result<B, TextKind>) -> TextKind
+    ensures { MatchResult second (λ other. result ≡ kind) (λ other. result ≡ first_reported kind other) }
+{
+    match second {
+        Ok(_) => kind,
+        Err(other) => first_reported(kind, other),
     }
 }
 

@@ -10,6 +10,8 @@
 
 mod entry;
 pub mod fault;
+#[cfg(test)]
+mod fault_tests;
 mod field;
 pub mod laws;
 mod line;

@@ -47,12 +47,11 @@ fn read_lines(alloc: Global, bytes: &[u8]) -> Result<Schedule, TextFault>
             return Err(TextFault { line, kind });
         };
         match stage.after_line(alloc, text, &mut room) {
-            Ok(Reached::Expected(next)) => {
-                stage = next;
+            Ok(Reached::Expected) => {
                 rest = after;
                 line += 1;
             }
-            Ok(Reached::End(schedule)) => return at_end(schedule, after, line + 1),
+            Ok(Reached::End) => return at_end(stage.into_schedule(), after, line + 1),
             Err(kind) => return Err(TextFault { line, kind }),
         }
     }

@@ -1,6 +1,8 @@
 //! The reply of an entry.
-ghost use Rattle.std.specs.Prelude.{◌≡◌, ◌↔◌, IsTrue, ◌⊎◌, ◌∷◌, [], List, ℕ, codes, IfOk, IfErr, MatchOption};
+ghost use Rattle.std.specs.Prelude.{◌≡◌, ◌↔◌, IsTrue, ◌⊎◌, ◌∷◌, [], List, ℕ, codes, IfOk, IfErr, MatchOption, MatchResult};
 ghost use Rattle.task_set.specs.TaskSet.{SetData};
+ghost use Rattle.scheduler_reply.specs.declared.reply.Came.{Came as CameData};
+ghost use Rattle.scheduler_reply.specs.Reply.{reply_of_came};
 ghost use Rattle.text_fields.specs.Fields.{texts};
 ghost use Rattle.schedule_text.specs.Reading.{IsOutOfMemory};
 ghost use Rattle.schedule_text.specs.LineFields.{
@@ -38,43 +40,67 @@ pub fn read_reply(version: u8, set: &TaskSet, fields: &[&[u8]]) -> Result<Reply,
         return Err(TextKind::BadLine);
     };
     if is_word(word, "freed") {
-        Ok(Reply::from(read_gone(set, rest)?))
-    } else if is_word(word, "on") {
-        on_reply(version, set, rest)
-    } else if is_word(word, "off") {
-        off_reply(version, set, rest)
-    } else if is_word(word, "remasked") {
-        remasked_reply(version, set, rest)
-    } else if rest.is_empty() {
-        word_reply(version, word).ok_or(TextKind::BadLine)
-    } else {
-        Ok(Reply::from(read_came(set, fields)?))
+        return Ok(Reply::from(read_gone(set, rest)?));
     }
+    if is_word(word, "on") {
+        return on_reply(version, set, rest);
+    }
+    if is_word(word, "off") {
+        return off_reply(version, set, rest);
+    }
+    if is_word(word, "remasked") {
+        return remasked_reply(version, set, rest);
+    }
+    if rest.is_empty() {
+        return word_reply(version, word);
+    }
+    came_reply(set, fields)
 }
 
 /// The reply of one word.
-fn word_reply(version: u8, word: &[u8]) -> Option<Reply>
-    ensures { MatchOption result (IsSaid (IsReplyFields version (word.now ∷ [])) → ⊥)
-        (λ reply. (tasks : SetData) → IsReplyFields version (word.now ∷ []) tasks reply) }
+fn word_reply(version: u8, word: &[u8]) -> Result<Reply, TextKind>
+    ensures { MatchResult result
+        (λ reply. (tasks : SetData) → IsReplyFields version (word.now ∷ []) tasks reply)
+        (λ kind. (kind ≡ BadLine) × (IsSaid (IsReplyFields version (word.now ∷ [])) → ⊥)) }
 {
     if is_word(word, "left") {
-        Some(Reply::Left)
-    } else if is_word(word, "ticked") {
-        Some(Reply::Ticked)
-    } else if is_word(word, "already") {
-        Some(Reply::AlreadyReady)
-    } else if is_word(word, "absent") {
-        Some(Reply::NotReady)
-    } else if version != LAST_VERSION {
-        None
-    } else if is_word(word, "masked") {
-        Some(Reply::Masked)
-    } else if is_word(word, "already_off") {
-        Some(Reply::AlreadyOff)
-    } else if is_word(word, "already_on") {
-        Some(Reply::AlreadyOn)
-    } else {
-        None
+        return Ok(Reply::Left);
+    }
+    if is_word(word, "ticked") {
+        return Ok(Reply::Ticked);
+    }
+    if is_word(word, "already") {
+        return Ok(Reply::AlreadyReady);
+    }
+    if is_word(word, "absent") {
+        return Ok(Reply::NotReady);
+    }
+    if version != LAST_VERSION {
+        return Err(TextKind::BadLine);
+    }
+    if is_word(word, "masked") {
+        return Ok(Reply::Masked);
+    }
+    if is_word(word, "already_off") {
+        return Ok(Reply::AlreadyOff);
+    }
+    if is_word(word, "already_on") {
+        return Ok(Reply::AlreadyOn);
+    }
+    Err(TextKind::BadLine)
+}
+
+/// The reply that is the result of an arrival alone. Each case returns by itself, since what cases join in is copied.
+fn came_reply(set: &TaskSet, fields: &[&[u8]]) -> Result<Reply, TextKind>
+    ensures read { IfOk result (λ reply. (came : CameData) × (reply ≡ reply_of_came came)
+        × IsCameFields (texts fields.now) set.now came) }
+    ensures refused { IfErr result (λ kind. IsOutOfMemory kind
+        ⊎ IsCameFault (texts fields.now) set.now kind) }
+{
+    match read_came(set, fields)? {
+        Came::Placed { chain } => return Ok(Reply::Placed { chain }),
+        Came::Displaced { chain, out, reach } => return Ok(Reply::Displaced { chain, out, reach }),
+        Came::Waits { reach } => return Ok(Reply::Waits { reach }),
     }
 }
 
@@ -84,17 +110,16 @@ fn read_came(set: &TaskSet, fields: &[&[u8]]) -> Result<Came, TextKind>
     ensures refused { IfErr result (λ kind. IsOutOfMemory kind
         ⊎ IsCameFault (texts fields.now) set.now kind) }
 {
-    match fields {
-        [word, value] => valued_came(word, value),
-        [word, chain, middle, name, last, processors] => {
-            if is_displaced(word, middle, last) {
-                displaced(set, chain, name, processors)
-            } else {
-                Err(TextKind::BadLine)
-            }
-        }
-        _ => Err(TextKind::BadLine),
+    if let [word, value] = fields {
+        return valued_came(word, value);
     }
+    let [word, chain, middle, name, last, processors] = fields else {
+        return Err(TextKind::BadLine);
+    };
+    if !is_displaced(word, middle, last) {
+        return Err(TextKind::BadLine);
+    }
+    displaced(set, chain, name, processors)
 }
 
 /// The result of an arrival that is said by a word and a chain or a set.
@@ -104,15 +129,15 @@ fn valued_came(word: &[u8], value: &[u8]) -> Result<Came, TextKind>
     ensures refused { IfErr result (λ kind. IsOutOfMemory kind ⊎ ((kind ≡ BadLine)
         × (IsSaid (IsCameFields (word.now ∷ value.now ∷ [])) → ⊥))) }
 {
+    if is_word(word, "waits") {
+        let reach = set_of(value)?;
+        return Ok(Came::Waits { reach });
+    }
     if is_word(word, "placed") {
         let chain = chain_of(value)?;
-        Ok(Came::Placed { chain })
-    } else if is_word(word, "waits") {
-        let reach = set_of(value)?;
-        Ok(Came::Waits { reach })
-    } else {
-        Err(TextKind::BadLine)
+        return Ok(Came::Placed { chain });
     }
+    Err(TextKind::BadLine)
 }
 
 /// Whether the words of six fields are those of a result that a task was displaced.

@@ -1,16 +1,21 @@
 //! What was read so far, and what is expected.
-ghost use Rattle.std.specs.Prelude.{◌≡◌, ◌<◌, ◌⊎◌, length, IfOk, IfErr};
+ghost use Rattle.std.specs.Prelude.{◌≡◌, ◌≢◌, ℕ, ◌<◌, ◌⊎◌, List, [], codes, length, IfOk, IfErr, OnOk, MatchResult};
+ghost use Rattle.task_set.specs.TaskSet.{SetData};
+ghost use Rattle.scheduler_reply.specs.declared.reply.Entry.{Entry};
 ghost use Rattle.schedule_text.specs.ScheduleFault.{IsLineFault};
-ghost use Rattle.schedule_text.specs.Prefix.{IsPrefix, HeaderExpected, ProcessorsExpected, TasksExpected, EntriesExpected, ContextsExpected};
-ghost use Rattle.schedule_text.specs.Reading.{progress_of, progress_after, Leads, IsOutOfMemory};
+ghost use Rattle.schedule_text.specs.LineForms.{IsCountForm};
+ghost use Rattle.schedule_text.specs.Prefix.{whole, IsPrefix, IsWholePrefix, HeaderExpected, ProcessorsExpected, TasksExpected, EntriesExpected, ContextsExpected};
+ghost use Rattle.schedule_text.specs.Reading.{progress_of, progress_after, progress_after_task, Leads, IsOutOfMemory};
+ghost use Rattle.schedule_text.specs.declared.fault.TextKind.TheVariants.{BadLine};
 
-use crate::entry::read_entry;
+use crate::entry::add_entry;
 use crate::fault::TextKind;
 use crate::field::{number_after, spaced_fields};
 use crate::line::{add_task, is_numbered, read_context};
 use crate::schedule::{MAX_ENTRIES, Schedule};
 use scheduler_reply::Entry;
 use std::alloc::Global;
+use std::mem;
 use task_set::{Context, TaskSet};
 use text_fields::is_word;
 use text_fields::limits::{FIRST_VERSION, LAST_VERSION, MAX_PROCESSORS};
@@ -49,74 +54,137 @@ pub enum Stage {
     },
 }
 
-/// What a line led to.
-#[derive(Drop)]
+/// What came with a line.
+#[derive(Clone, Copy)]
 pub enum Reached {
     /// More is expected.
-    Expected(Stage),
+    Expected,
 
     /// The end came.
-    End(Schedule),
+    End,
 }
 
 impl Stage {
-    /// What a line leads to. The room is for its fields.
+    /// Goes on by a line. The room is for its fields. A line that lists something is put into the lists where they are, as
+    /// they are long and there are many such lines. After an `Err` the stage is not used again.
     pub fn after_line<'a>(
-        self,
+        &mut self,
         alloc: Global,
         text: &'a [u8],
         room: &mut Vec<&'a [u8]>,
     ) -> Result<Reached, TextKind>
-        requires { IsPrefix (progress_of self) }
-        ensures read { IfOk result (λ next. Leads (progress_of self) text.now
-            (progress_after next)) }
+        requires { IsPrefix (progress_of self.old) }
+        ensures read { IfOk result (λ reached. Leads (progress_of self.old) text.now
+            (progress_after reached self.new)) }
         ensures refused { IfErr result (λ kind. IsOutOfMemory kind
-            ⊎ IsLineFault (progress_of self) text.now kind) }
+            ⊎ IsLineFault (progress_of self.old) text.now kind) }
     {
         match self {
-            Stage::HeaderExpected => read_header(text, room),
-            Stage::ProcessorsExpected { version } => start(alloc, version, text, room),
-            Stage::TasksExpected { version, set } => read_task(alloc, version, set, text, room),
+            Stage::HeaderExpected => {
+                *self = read_header(text, room)?;
+                Ok(Reached::Expected)
+            }
+            Stage::ProcessorsExpected { version } => {
+                *self = start(alloc, *version, text, room)?;
+                Ok(Reached::Expected)
+            }
+            Stage::TasksExpected { set, .. } => {
+                if let Some(count) = read_task(set, text, room)? {
+                    self.begin_entries(alloc, count);
+                }
+                Ok(Reached::Expected)
+            }
             Stage::EntriesExpected {
                 version,
                 set,
                 count,
                 entries,
             } => {
-                if (entries.len() as u64) < count {
-                    list_entry(version, set, count, entries, text, room)
+                if (entries.len() as u64) < *count {
+                    list_entry(*version, set, entries, text, room)?;
                 } else {
-                    begin_contexts(alloc, version, set, count, entries, text)
+                    judge_count(alloc, set, text)?;
+                    self.begin_contexts(alloc);
+                }
+                Ok(Reached::Expected)
+            }
+            Stage::ContextsExpected { set, contexts, .. } => {
+                if contexts.len() < set.len() as usize {
+                    list_context(set, contexts, text, room)?;
+                    Ok(Reached::Expected)
+                } else {
+                    judge_end(text)
                 }
             }
+        }
+    }
+
+    /// The tasks are all listed, and so many entries come.
+    fn begin_entries(&mut self, alloc: Global, count: u64)
+        ensures { (version : ℕ) (set : SetData) → progress_of self.old ≡ TasksExpected version set
+            → progress_of self.new ≡ EntriesExpected version set count [] }
+    {
+        if let Stage::TasksExpected { version, set } = mem::replace(self, Stage::HeaderExpected) {
+            *self = Stage::EntriesExpected {
+                version,
+                set,
+                count,
+                entries: Vec::new(alloc),
+            };
+        }
+    }
+
+    /// The entries are all listed, and the contexts come.
+    fn begin_contexts(&mut self, alloc: Global)
+        ensures { (version : ℕ) (set : SetData) (count : ℕ) (entries : List Entry)
+            → progress_of self.old ≡ EntriesExpected version set count entries
+            → progress_of self.new ≡ ContextsExpected version set entries [] }
+    {
+        if let Stage::EntriesExpected {
+            version,
+            set,
+            entries,
+            ..
+        } = mem::replace(self, Stage::HeaderExpected)
+        {
+            *self = Stage::ContextsExpected {
+                version,
+                set,
+                entries,
+                contexts: Vec::new(alloc),
+            };
+        }
+    }
+
+    /// The whole schedule, where the end came.
+    pub fn into_schedule(self) -> Schedule
+        requires { IsWholePrefix (progress_after Reached.End self) }
+        ensures { progress_after Reached.End self ≡ whole result }
+    {
+        match self {
             Stage::ContextsExpected {
                 version,
                 set,
                 entries,
                 contexts,
-            } => {
-                if contexts.len() < set.len() as usize {
-                    list_context(version, set, entries, contexts, text, room)
-                } else {
-                    end(version, set, entries, contexts, text)
-                }
-            }
+            } => Schedule::new(version, set, entries, contexts),
+            _ => unreachable!(),
         }
     }
 }
 
 /// Reads the header, which says the version.
-fn read_header<'a>(text: &'a [u8], room: &mut Vec<&'a [u8]>) -> Result<Reached, TextKind>
-    ensures read { IfOk result (λ next. Leads HeaderExpected text.now (progress_after next)) }
+fn read_header<'a>(text: &'a [u8], room: &mut Vec<&'a [u8]>) -> Result<Stage, TextKind>
+    ensures read { IfOk result (λ next. Leads HeaderExpected text.now (progress_of next)) }
     ensures refused { IfErr result (λ kind. IsOutOfMemory kind
         ⊎ IsLineFault HeaderExpected text.now kind) }
 {
     let fields = spaced_fields(text, room)?;
     let (first, last) = (FIRST_VERSION as u64, LAST_VERSION as u64);
     match number_after(fields, "schedule", first, last) {
-        Some(version) => Ok(Reached::Expected(Stage::ProcessorsExpected {
+        Some(version) => Ok(Stage::ProcessorsExpected {
             version: version as u8,
-        })),
+        }),
         None => Err(TextKind::BadLine),
     }
 }
@@ -127,9 +195,9 @@ fn start<'a>(
     version: u8,
     text: &'a [u8],
     room: &mut Vec<&'a [u8]>,
-) -> Result<Reached, TextKind>
+) -> Result<Stage, TextKind>
     ensures read { IfOk result (λ next. Leads (ProcessorsExpected version) text.now
-        (progress_after next)) }
+        (progress_of next)) }
     ensures refused { IfErr result (λ kind. IsOutOfMemory kind
         ⊎ IsLineFault (ProcessorsExpected version) text.now kind) }
 {
@@ -138,36 +206,27 @@ fn start<'a>(
         return Err(TextKind::BadLine);
     };
     let set = TaskSet::new(alloc, processors as u8)?;
-    Ok(Reached::Expected(Stage::TasksExpected { version, set }))
+    Ok(Stage::TasksExpected { version, set })
 }
 
-/// Reads a task, or how many entries there are.
+/// Reads a task, which is added, or how many entries there are.
 fn read_task<'a>(
-    alloc: Global,
-    version: u8,
-    mut set: TaskSet,
+    set: &mut TaskSet,
     text: &'a [u8],
     room: &mut Vec<&'a [u8]>,
-) -> Result<Reached, TextKind>
-    ensures read { IfOk result (λ next. Leads (TasksExpected version set) text.now
-        (progress_after next)) }
-    ensures refused { IfErr result (λ kind. IsOutOfMemory kind
-        ⊎ IsLineFault (TasksExpected version set) text.now kind) }
+) -> Result<Option<u64>, TextKind>
+    ensures read { IfOk result (λ count. (version : ℕ)
+        → Leads (TasksExpected version set.old) text.now
+        (progress_after_task version set.new count)) }
+    ensures refused { IfErr result (λ kind. (version : ℕ) → IsOutOfMemory kind
+        ⊎ IsLineFault (TasksExpected version set.old) text.now kind) }
 {
     let fields = spaced_fields(text, room)?;
     match number_after(fields, "history", 0, MAX_ENTRIES) {
-        Some(count) => {
-            let entries = Vec::new(alloc);
-            Ok(Reached::Expected(Stage::EntriesExpected {
-                version,
-                set,
-                count,
-                entries,
-            }))
-        }
+        Some(count) => Ok(Some(count)),
         None => {
-            add_task(&mut set, fields)?;
-            Ok(Reached::Expected(Stage::TasksExpected { version, set }))
+            add_task(set, fields)?;
+            Ok(None)
         }
     }
 }
@@ -175,106 +234,68 @@ fn read_task<'a>(
 /// Lists the entry of a line.
 fn list_entry<'a>(
     version: u8,
-    set: TaskSet,
-    count: u64,
-    mut entries: Vec<Entry>,
+    set: &TaskSet,
+    entries: &mut Vec<Entry>,
     text: &'a [u8],
     room: &mut Vec<&'a [u8]>,
-) -> Result<Reached, TextKind>
-    requires { length entries.items < count }
-    ensures read { IfOk result (λ next. Leads (EntriesExpected version set count entries.items)
-        text.now (progress_after next)) }
-    ensures refused { IfErr result (λ kind. IsOutOfMemory kind
-        ⊎ IsLineFault (EntriesExpected version set count entries.items) text.now kind) }
+) -> Result<(), TextKind>
+    ensures read { OnOk result ((count : ℕ) → length entries.old.items < count
+        → Leads (EntriesExpected version set.now count entries.old.items) text.now
+        (EntriesExpected version set.now count entries.new.items)) }
+    ensures refused { IfErr result (λ kind. (count : ℕ) → length entries.old.items < count
+        → IsOutOfMemory kind
+        ⊎ IsLineFault (EntriesExpected version set.now count entries.old.items) text.now kind) }
 {
     let _valid = set.len();
     let fields = spaced_fields(text, room)?;
-    let entry = read_entry(version, &set, fields)?;
-    if entries.push(entry).is_err() {
-        return Err(TextKind::OutOfMemory);
-    }
-    Ok(Reached::Expected(Stage::EntriesExpected {
-        version,
-        set,
-        count,
-        entries,
-    }))
+    add_entry(version, set, entries, fields)?;
+    Ok(())
 }
 
-/// No context yet, after the line that says how many there are.
-fn begin_contexts(
-    alloc: Global,
-    version: u8,
-    set: TaskSet,
-    count: u64,
-    entries: Vec<Entry>,
-    text: &[u8],
-) -> Result<Reached, TextKind>
-    requires { length entries.items ≡ count }
-    ensures read { IfOk result (λ next. Leads (EntriesExpected version set count entries.items)
-        text.now (progress_after next)) }
+/// Judges the line that says how many contexts there are, after all entries.
+fn judge_count(alloc: Global, set: &TaskSet, text: &[u8]) -> Result<(), TextKind>
+    ensures read { OnOk result (IsCountForm set.now text.now) }
     ensures refused { IfErr result (λ kind. IsOutOfMemory kind
-        ⊎ IsLineFault (EntriesExpected version set count entries.items) text.now kind) }
+        ⊎ ((kind ≡ BadLine) × (IsCountForm set.now text.now → ⊥))) }
 {
     if !is_numbered(alloc, b"contexts ", set.len() as u64, text)? {
         return Err(TextKind::BadLine);
     }
-    let contexts = Vec::new(alloc);
-    Ok(Reached::Expected(Stage::ContextsExpected {
-        version,
-        set,
-        entries,
-        contexts,
-    }))
+    Ok(())
 }
 
 /// Lists the context of a line.
 fn list_context<'a>(
-    version: u8,
-    set: TaskSet,
-    entries: Vec<Entry>,
-    mut contexts: Vec<Context>,
+    set: &TaskSet,
+    contexts: &mut Vec<Context>,
     text: &'a [u8],
     room: &mut Vec<&'a [u8]>,
-) -> Result<Reached, TextKind>
-    requires { length contexts.items < length set.tasks }
-    ensures read { IfOk result (λ next. Leads
-        (ContextsExpected version set entries.items contexts.items) text.now
-        (progress_after next)) }
-    ensures refused { IfErr result (λ kind. IsOutOfMemory kind
-        ⊎ IsLineFault (ContextsExpected version set entries.items contexts.items) text.now kind) }
+) -> Result<(), TextKind>
+    requires { length contexts.old.items < length set.now.tasks }
+    ensures read { OnOk result ((version : ℕ) (entries : List Entry)
+        → Leads (ContextsExpected version set.now entries contexts.old.items) text.now
+        (ContextsExpected version set.now entries contexts.new.items)) }
+    ensures refused { IfErr result (λ kind. (version : ℕ) (entries : List Entry)
+        → IsOutOfMemory kind
+        ⊎ IsLineFault (ContextsExpected version set.now entries contexts.old.items) text.now
+        kind) }
 {
     let _valid = set.len();
-    let context = read_context(&set, contexts.len() as u32, text, room)?;
+    let context = read_context(set, contexts.len() as u32, text, room)?;
     if contexts.push(context).is_err() {
         return Err(TextKind::OutOfMemory);
     }
-    Ok(Reached::Expected(Stage::ContextsExpected {
-        version,
-        set,
-        entries,
-        contexts,
-    }))
+    Ok(())
 }
 
-/// The whole schedule, at its last line.
-fn end(
-    version: u8,
-    set: TaskSet,
-    entries: Vec<Entry>,
-    contexts: Vec<Context>,
-    text: &[u8],
-) -> Result<Reached, TextKind>
-    requires prefix { IsPrefix (ContextsExpected version set entries.items contexts.items) }
-    requires one_each { length contexts.items ≡ length set.tasks }
-    ensures read { IfOk result (λ next. Leads
-        (ContextsExpected version set entries.items contexts.items) text.now
-        (progress_after next)) }
-    ensures refused { IfErr result (IsLineFault
-        (ContextsExpected version set entries.items contexts.items) text.now) }
+/// Judges the last line.
+fn judge_end(text: &[u8]) -> Result<Reached, TextKind>
+    ensures { MatchResult result
+        (λ reached. (reached ≡ Reached.End) × (text.now ≡ codes "end"))
+        (λ kind. (kind ≡ BadLine) × (text.now ≢ codes "end")) }
 {
     if is_word(text, "end") {
-        Ok(Reached::End(Schedule::new(version, set, entries, contexts)))
+        Ok(Reached::End)
     } else {
         Err(TextKind::BadLine)
     }

@@ -16,7 +16,7 @@ use crate::input::{FIRST_VERSION, Input, LAST_VERSION, MAX_EVENTS, MAX_PRIORITY,
 use crate::posted::Posted;
 use affinity_mask::ProcSet;
 use std::alloc::Global;
-use std::str;
+use std::{mem, str};
 use task_set::{TaskFault, TaskSet};
 use text_fields::{is_word, read_number};
 
@@ -50,18 +50,19 @@ pub enum Stage {
 }
 
 impl Stage {
-    /// What is expected after one more line. The room is for its fields.
+    /// Goes on by one more line. The room is for its fields. What a line lists is put into the lists where they are, as there
+    /// are many such lines. After an `Err` the stage is not used again.
     pub fn after_line<'a>(
-        self,
+        &mut self,
         alloc: Global,
         line: &'a [u8],
         room: &mut Vec<&'a [u8]>,
-    ) -> Result<Stage, InputKind>
-        requires { (said : List (List (List ℕ))) × Expects said (progress_of self) }
-        ensures read { IfOk result (λ next. SaysLine (progress_of self) line.now
-            (progress_of next)) }
+    ) -> Result<(), InputKind>
+        requires { (said : List (List (List ℕ))) × Expects said (progress_of self.old) }
+        ensures read { OnOk result (SaysLine (progress_of self.old) line.now
+            (progress_of self.new)) }
         ensures refused { IfErr result (λ kind. IsOutOfMemory kind
-            ⊎ IsLineFault (progress_of self) line.now kind) }
+            ⊎ IsLineFault (progress_of self.old) line.now kind) }
     {
         if !is_plain(line) {
             return Err(InputKind::BadByte);
@@ -71,7 +72,7 @@ impl Stage {
         }
         let fields = fields(line, room)?;
         if is_comment(fields) {
-            Ok(self)
+            Ok(())
         } else {
             self.after(alloc, fields)
         }
@@ -95,23 +96,58 @@ impl Stage {
         }
     }
 
-    /// What is expected after a line that is not skipped, by its fields.
-    fn after(self, alloc: Global, fields: &[&[u8]]) -> Result<Stage, InputKind>
-        requires { (said : List (List (List ℕ))) × Expects said (progress_of self) }
-        ensures read { IfOk result (λ next. Says (progress_of self) (texts fields.now)
-            (progress_of next)) }
+    /// Goes on by a line that is not skipped, by its fields.
+    fn after(&mut self, alloc: Global, fields: &[&[u8]]) -> Result<(), InputKind>
+        requires { (said : List (List (List ℕ))) × Expects said (progress_of self.old) }
+        ensures read { OnOk result (Says (progress_of self.old) (texts fields.now)
+            (progress_of self.new)) }
         ensures refused { IfErr result (λ kind. IsOutOfMemory kind
-            ⊎ IsFieldsFault (progress_of self) (texts fields.now) kind) }
+            ⊎ IsFieldsFault (progress_of self.old) (texts fields.now) kind) }
     {
         match self {
-            Stage::HeaderExpected => read_header(fields),
-            Stage::ProcessorsExpected { version } => start(alloc, version, fields),
+            Stage::HeaderExpected => {
+                *self = read_header(fields)?;
+                Ok(())
+            }
+            Stage::ProcessorsExpected { version } => {
+                *self = start(alloc, *version, fields)?;
+                Ok(())
+            }
             Stage::Listed {
                 version,
                 set,
                 events,
-            } => read_listed(version, set, events, fields),
+            } => {
+                if is_end(fields) {
+                    self.end();
+                    Ok(())
+                } else if is_for_task(events, fields) {
+                    add_task(*version, set, fields)
+                } else {
+                    list_event(*version, set, events, fields)
+                }
+            }
             Stage::Ended { .. } => Err(InputKind::AfterEnd),
+        }
+    }
+
+    /// What is listed is all, and the end came.
+    fn end(&mut self)
+        ensures { (version : ℕ) (set : SetData) (events : List Posted)
+            → progress_of self.old ≡ Listed version set events
+            → progress_of self.new ≡ Ended version set events }
+    {
+        if let Stage::Listed {
+            version,
+            set,
+            events,
+        } = mem::replace(self, Stage::HeaderExpected)
+        {
+            *self = Stage::Ended {
+                version,
+                set,
+                events,
+            };
         }
     }
 }
@@ -177,32 +213,6 @@ fn start(alloc: Global, version: u8, fields: &[&[u8]]) -> Result<Stage, InputKin
     })
 }
 
-/// Reads a task, an event or the end after what was listed.
-fn read_listed(
-    version: u8,
-    set: TaskSet,
-    events: Vec<Posted>,
-    fields: &[&[u8]],
-) -> Result<Stage, InputKind>
-    requires { length events.items ≤ 20000 }
-    ensures read { IfOk result (λ next. Says (Listed version set events.items) (texts fields.now)
-        (progress_of next)) }
-    ensures refused { IfErr result (λ kind. IsOutOfMemory kind
-        ⊎ IsFieldsFault (Listed version set events.items) (texts fields.now) kind) }
-{
-    if is_end(fields) {
-        Ok(Stage::Ended {
-            version,
-            set,
-            events,
-        })
-    } else if is_for_task(&events, fields) {
-        list_task(version, set, events, fields)
-    } else {
-        list_event(version, set, events, fields)
-    }
-}
-
 /// Whether tasks may still be listed, and the line is for one.
 fn is_for_task(events: &[Posted], fields: &[&[u8]]) -> bool
     ensures { MatchBool result
@@ -212,57 +222,32 @@ fn is_for_task(events: &[Posted], fields: &[&[u8]]) -> bool
     events.is_empty() && begins_task(fields)
 }
 
-/// Lists the task of a line.
-fn list_task(
-    version: u8,
-    mut set: TaskSet,
-    events: Vec<Posted>,
-    fields: &[&[u8]],
-) -> Result<Stage, InputKind>
-    requires { IsForTask events.items (texts fields.now) }
-    ensures read { IfOk result (λ next. Says (Listed version set events.items) (texts fields.now)
-        (progress_of next)) }
-    ensures refused { IfErr result (λ kind. IsOutOfMemory kind
-        ⊎ IsFieldsFault (Listed version set events.items) (texts fields.now) kind) }
-{
-    add_task(version, &mut set, fields)?;
-    Ok(Stage::Listed {
-        version,
-        set,
-        events,
-    })
-}
-
 /// Lists the event of a line.
 fn list_event(
     version: u8,
-    set: TaskSet,
-    mut events: Vec<Posted>,
+    set: &TaskSet,
+    events: &mut Vec<Posted>,
     fields: &[&[u8]],
-) -> Result<Stage, InputKind>
-    requires task { IsForTask events.items (texts fields.now) → ⊥ }
+) -> Result<(), InputKind>
+    requires task { IsForTask events.old.items (texts fields.now) → ⊥ }
     requires end { texts fields.now ≢ end_line }
-    requires few { length events.items ≤ 20000 }
-    ensures read { IfOk result (λ next. Says (Listed version set events.items) (texts fields.now)
-        (progress_of next)) }
+    requires few { length events.old.items ≤ 20000 }
+    ensures read { OnOk result (Says (Listed version set.now events.old.items) (texts fields.now)
+        (Listed version set.now events.new.items)) }
     ensures refused { IfErr result (λ kind. IsOutOfMemory kind
-        ⊎ IsFieldsFault (Listed version set events.items) (texts fields.now) kind) }
+        ⊎ IsFieldsFault (Listed version set.now events.old.items) (texts fields.now) kind) }
 {
-    let posted = read_event(version, &set, fields)?;
+    let posted = read_event(version, set, fields)?;
     if events.len() == MAX_EVENTS {
         return Err(InputKind::ManyEvents);
     }
-    if let Some(p) = outside_of(&set, posted.event) {
+    if let Some(p) = outside_of(set, posted.event) {
         return Err(InputKind::OutsideAffinity(p));
     }
     if events.push(posted).is_err() {
         return Err(InputKind::OutOfMemory);
     }
-    Ok(Stage::Listed {
-        version,
-        set,
-        events,
-    })
+    Ok(())
 }
 
 /// Whether the line is `end` alone.

@@ -6,10 +6,10 @@ use Rattle.schedule_text.proofs.FieldLists.{texts_six}
 use Rattle.schedule_text.proofs.Arrivals.{six_words}
 use Rattle.schedule_text.proofs.reply.read_came.Goals as goal
 
-pub returns-then-is_displaced-clause-refused : goal.returns-then-is_displaced-clause-refused
-returns-then-is_displaced-clause-refused c =
+pub returns-clause-refused : goal.returns-clause-refused
+returns-clause-refused c =
     let same = six_words _ _ _ _ _ _ _ (texts_six c.args.fields.now _ c.in-len6.len_at_least c.in-len6.len_below)
-    (c.is_displaced.ensures.0 c.if-is_displaced.true) in
+    (c.is_displaced.ensures.0 c.if-not-is_displaced.false) in
     subst (λ (fields : List (List ℕ)). IfErr c.displaced.result
     (λ (kind : TextKind). IsOutOfMemory kind ⊎ IsCameFault fields c.args.set.now kind)) same
     c.displaced.ensures.refused

@@ -3,7 +3,7 @@ use Rattle.std.specs.Prelude.{codes}
 use Rattle.std.proofs.lemmas.Bool.{true≢false}
 use Rattle.std.proofs.lemmas.Result.{err_from_is_err_and}
 use Rattle.schedule_text.proofs.FieldLists.{headed, more_than_one}
-use Rattle.schedule_text.proofs.ReplyFields.{refused_at, freed_refused, came_refused}
+use Rattle.schedule_text.proofs.ReplyFields.{refused_at, freed_refused, came_said, came_refused}
 use Rattle.schedule_text.proofs.reply.read_reply.Goals as goal
 
 pub returns-in_err-read_gone-clause-refused : goal.returns-in_err-read_gone-clause-refused
@@ -12,32 +12,33 @@ returns-in_err-read_gone-clause-refused c =
     rw (p.1, p.2) (freed_refused c.args.version c.args.set.now c.args.fields.now _ c.in_err-read_gone.field-0.0
     c.in-len1-up.len_at_least (c.is_word.ensures.0 c.if-is_word.true) c.in_err-read_gone.ensures.refused)
 
-pub returns-in_err-read_came-clause-refused : goal.returns-in_err-read_came-clause-refused
-returns-in_err-read_came-clause-refused c =
-    let p = err_from_is_err_and c.from_residual-in_err-read_came.result c.from_residual-in_err-read_came.ensures.1 in
-    rw (p.1, p.2) (came_refused c.args.version c.args.set.now c.args.fields.now _ c.in_err-read_came.field-0.0
-    c.in-len1-up.len_at_least
+pub returns-clause-refused : goal.returns-clause-refused
+returns-clause-refused c =
+    came_refused c.args.version c.args.set.now c.args.fields.now _ c.came_reply.result c.in-len1-up.len_at_least
     (more_than_one c.args.fields.now c.is_empty.result c.is_empty.ensures c.if-is_empty.false) (
       λ is. true≢false (sym (c.is_word.ensures.1 is) ∙ c.if-is_word.false),
-      λ is. true≢false (sym (c.is_word-else-is_word.ensures.1 is) ∙ c.if-is_word-2.false),
-      λ is. true≢false (sym (c.is_word-else-is_word-2.ensures.1 is) ∙ c.if-is_word-3.false),
-      λ is. true≢false (sym (c.is_word-else-is_word-3.ensures.1 is) ∙ c.if-is_word-4.false),
-    ) c.in_err-read_came.ensures.refused)
+      λ is. true≢false (sym (c.is_word-2.ensures.1 is) ∙ c.if-is_word-2.false),
+      λ is. true≢false (sym (c.is_word-3.ensures.1 is) ∙ c.if-is_word-3.false),
+      λ is. true≢false (sym (c.is_word-4.ensures.1 is) ∙ c.if-is_word-4.false),
+    ) c.came_reply.ensures.refused
+
+pub returns-clause-read : goal.returns-clause-read
+returns-clause-read c = came_said c.args.version c.args.set.now c.args.fields.now c.came_reply.result c.came_reply.ensures.read
 
 pub returns-then-is_word-2-clause-refused : goal.returns-then-is_word-2-clause-refused
 returns-then-is_word-2-clause-refused c =
     refused_at c.args.version c.args.version _ _ c.args.set.now c.on_reply.result refl
     (headed c.args.fields.now _ (codes "on") c.in-len1-up.len_at_least
-    (c.is_word-else-is_word.ensures.0 c.if-is_word-2.true)) c.on_reply.ensures.refused
+    (c.is_word-2.ensures.0 c.if-is_word-2.true)) c.on_reply.ensures.refused
 
 pub returns-then-is_word-3-clause-refused : goal.returns-then-is_word-3-clause-refused
 returns-then-is_word-3-clause-refused c =
     refused_at c.args.version c.args.version _ _ c.args.set.now c.off_reply.result refl
     (headed c.args.fields.now _ (codes "off") c.in-len1-up.len_at_least
-    (c.is_word-else-is_word-2.ensures.0 c.if-is_word-3.true)) c.off_reply.ensures.refused
+    (c.is_word-3.ensures.0 c.if-is_word-3.true)) c.off_reply.ensures.refused
 
 pub returns-then-is_word-4-clause-refused : goal.returns-then-is_word-4-clause-refused
 returns-then-is_word-4-clause-refused c =
     refused_at c.args.version c.args.version _ _ c.args.set.now c.remasked_reply.result refl
     (headed c.args.fields.now _ (codes "remasked") c.in-len1-up.len_at_least
-    (c.is_word-else-is_word-3.ensures.0 c.if-is_word-4.true)) c.remasked_reply.ensures.refused
+    (c.is_word-4.ensures.0 c.if-is_word-4.true)) c.remasked_reply.ensures.refused

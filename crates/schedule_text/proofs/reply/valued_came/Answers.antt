@@ -5,8 +5,8 @@ use Rattle.schedule_text.proofs.reply.valued_came.Goals as goal
 
 pub returns-in_err-chain-clause-refused : goal.returns-in_err-chain-clause-refused
 returns-in_err-chain-clause-refused c =
-    let p = err_from_is_err_and c.from_residual.result c.from_residual.ensures.1 in
+    let p = err_from_is_err_and c.from_residual-in_err-chain.result c.from_residual-in_err-chain.ensures.1 in
     rw (p.1, p.2) (elim c.in_err-chain.ensures.refused [
       | inl memory ↦ inl memory
-      | inr bad ↦ inr (bad.0, placed_none c.args.word.now c.args.value.now (c.is_word.ensures.0 c.if-is_word.true) bad.1)
+      | inr bad ↦ inr (bad.0, placed_none c.args.word.now c.args.value.now (c.is_word-2.ensures.0 c.if-is_word-2.true) bad.1)
     ])

@@ -4,21 +4,20 @@ use Rattle.schedule_text.proofs.Stages.{history_read, task_read, task_refused_li
 use Rattle.schedule_text.proofs.stage.read_task.Goals as goal
 
 pub returns-in-Some-clause-read : goal.returns-in-Some-clause-read
-returns-in-Some-clause-read c =
-    history_read c.args.version c.args.set (texts c.in_ok-fields.fields.now) c.args.text.now c.in-Some.count
-    c.new-entries.result.items c.in_ok-fields.ensures c.in-Some.ensures
-    c.new-entries.ensures.items
+returns-in-Some-clause-read c version =
+    history_read version c.args.set.now (texts c.in_ok-fields.fields.now) c.args.text.now c.in-Some.count
+    c.in_ok-fields.ensures c.in-Some.ensures
 
 pub returns-in_err-add_task-in-None-clause-refused :
     goal.returns-in_err-add_task-in-None-clause-refused
 returns-in_err-add_task-in-None-clause-refused c =
     let p = err_from_is_err_and c.from_residual-in_err-add_task-in-None.result
     c.from_residual-in_err-add_task-in-None.ensures.1 in
-    rw (p.1, p.2) (task_refused_line c.args.version c.args.set (texts c.in_ok-fields.fields.now) c.args.text.now
+    rw (p.1, p.2) (λ version. task_refused_line version c.args.set.now (texts c.in_ok-fields.fields.now) c.args.text.now
     c.in_err-add_task-in-None.field-0.0 c.in_ok-fields.ensures
     c.in-None.ensures c.in_err-add_task-in-None.ensures.refused)
 
 pub returns-in_ok-add_task-in-None-clause-read : goal.returns-in_ok-add_task-in-None-clause-read
-returns-in_ok-add_task-in-None-clause-read c =
-    task_read c.args.version c.args.set c.add_task.new.set (texts c.in_ok-fields.fields.now) c.args.text.now
+returns-in_ok-add_task-in-None-clause-read c version =
+    task_read version c.args.set.now c.add_task.new.set (texts c.in_ok-fields.fields.now) c.args.text.now
     c.in_ok-fields.ensures c.in_ok-add_task-in-None.ensures.read

@@ -8,5 +8,5 @@ returns-then-line-gt-MAX_LINE-clause-refused c = inr (c.is_plain.ensures.0 (sear
 
 pub returns-else-is_comment-clause-refused : goal.returns-else-is_comment-clause-refused
 returns-else-is_comment-clause-refused c =
-    after_refused (progress_of c.args.self) c.args.line.now _ c.after.result
+    after_refused (progress_of c.args.self.now) c.args.line.now _ c.after.result
     (search (rules, arith)) (search rules) (search rules) c.after.ensures.refused

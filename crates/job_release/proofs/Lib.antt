@@ -1,0 +1,11 @@
+mod Moments
+mod Readied
+mod RowSteps
+mod RowChanges
+mod WorkSums
+mod NextMoments
+mod DriveSteps
+mod DriveTicks
+mod Fresh
+mod Runs
+mod JobsWritten

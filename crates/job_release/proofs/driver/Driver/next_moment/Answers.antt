@@ -1,0 +1,21 @@
+use Rattle.std.proofs.Common.{◌≡◌, ◌⊎◌, ℕ, ◌+◌, ◌<◌, ◌≤◌, length, refl, sym, ◌∙◌, subst, inl, inr, arith}
+use Rattle.std.proofs.lemmas.Bool.{cases_lt}
+use Rattle.job_release.specs.Driving.{IsNotAfter, IsDueAt, row_at}
+use Rattle.job_release.specs.declared.row.JobRow.{JobRow}
+use Rattle.job_release.proofs.NextMoments.{not_after_earlier, due_earlier, some_row}
+use Rattle.job_release.proofs.driver.Driver.next_moment.Goals as goal
+
+pub loop-t-preserved : goal.loop-t-preserved
+loop-t-preserved c =
+    let kept = c.loop-t.invariant in
+    let one = c.not_after-next.ensures in
+    let d = c.args.self.now in
+    let fits : c.loop-t.t < length d.rows.items = (let end = kept.end in let below = c.loop-t-test.true in omega arith) in
+    let row = some_row d.rows.items c.loop-t.t fits in
+    record {
+      end = kept.end;
+      later = (one row).later;
+      within = (let earlier = (one row).within in let before = kept.within in omega (arith, earlier, before));
+      not_after = not_after_earlier d.core.links d.moment c.loop-t.next c.not_after-next.result d.rows.items c.loop-t.t kept.not_after one;
+      due = due_earlier d.core.links d.moment c.loop-t.next c.not_after-next.result d.horizon d.rows.items c.loop-t.t kept.due one;
+    }

@@ -1,0 +1,10 @@
+use Rattle.std.proofs.Common.{◌≡◌, length}
+use Rattle.job_release.specs.Driving.{Drives, settled, supplied}
+use Rattle.job_release.proofs.driver.Driver.release.Given as goal
+
+abbrev pub invariant-loop-t : goal.invariant-loop-t
+invariant-loop-t l = record {
+  end : l.t-end ≡ length l.fn.self.rows.items;
+  same : l.self.moment ≡ l.fn.self.moment;
+  driving : Drives l.fn.self l.self l.t (supplied l.fn.self.moment) (settled l.fn.self.moment);
+}

@@ -1,0 +1,90 @@
+//! The text of a run of periodic jobs.
+ghost use Rattle.std.specs.Prelude.{◌≡◌, ◌<◌, ◌++◌, IfOk, OnOk, length};
+ghost use Rattle.std.specs.List.{flat_map, range_with_len};
+ghost use Rattle.job_release.specs.JobRun.{IsRunOf};
+ghost use Rattle.job_release.specs.JobsText.{jobs_text, job_line, lines_of_task, response_text};
+
+use crate::run::JobRun;
+use affinity_mask::OutOfMemory;
+use job_text::JobInput;
+use std::alloc::Global;
+use text_fields::write_number;
+
+/// The text of a run of this input. Refused only when out of memory.
+pub fn write_jobs(alloc: Global, input: &JobInput, run: &JobRun) -> Result<Vec<u8>, OutOfMemory>
+    requires { IsRunOf input.now run.now }
+    ensures { IfOk result (λ text. text.items ≡ jobs_text input.now run.now.core.history) }
+{
+    let mut text = Vec::new(alloc);
+    text.extend_from_slice(b"jobs 1\nhorizon ")?;
+    write_number(&mut text, input.horizon() as u64)?;
+    text.push(b'\n')?;
+    write_tasks(&mut text, input, run)?;
+    text.extend_from_slice(b"end\n")?;
+    Ok(text)
+}
+
+/// Appends the jobs of all tasks.
+fn write_tasks(text: &mut Vec<u8>, input: &JobInput, run: &JobRun) -> Result<(), OutOfMemory>
+    requires { IsRunOf input.now run.now }
+    ensures { OnOk result (text.new.items ≡ text.old.items
+        ++ flat_map (lines_of_task input.now run.now.core.history)
+        (range_with_len 0 (length input.now.set.tasks))) }
+{
+    for t in 0..input.set().len() {
+        write_task(text, input, run, t)?;
+    }
+    Ok(())
+}
+
+/// Appends the jobs of a task.
+fn write_task(text: &mut Vec<u8>, input: &JobInput, run: &JobRun, t: u32) -> Result<(), OutOfMemory>
+    requires run { IsRunOf input.now run.now }
+    requires task { t < length input.now.set.tasks }
+    ensures { OnOk result (text.new.items ≡ text.old.items
+        ++ lines_of_task input.now run.now.core.history t) }
+{
+    let job = input.job(t);
+    for k in 0..job.count(input.horizon()) {
+        let finish = run.finish(t, k);
+        write_job(text, input.set().name(t), k, job.release(k), finish)?;
+    }
+    Ok(())
+}
+
+/// Appends a job.
+fn write_job(
+    text: &mut Vec<u8>,
+    name: &str,
+    k: u32,
+    release: u64,
+    finish: Option<u32>,
+) -> Result<(), OutOfMemory>
+    ensures { OnOk result (text.new.items
+        ≡ text.old.items ++ job_line name.now k release finish) }
+{
+    text.extend_from_slice(name.as_bytes())?;
+    text.push(b' ')?;
+    write_number(text, k as u64)?;
+    text.push(b' ')?;
+    write_number(text, release)?;
+    text.push(b' ')?;
+    write_response(text, release, finish)?;
+    text.push(b'\n')?;
+    Ok(())
+}
+
+/// Appends the finish and the response of a job.
+fn write_response(text: &mut Vec<u8>, release: u64, finish: Option<u32>) -> Result<(), OutOfMemory>
+    ensures { OnOk result (text.new.items ≡ text.old.items ++ response_text release finish) }
+{
+    match finish {
+        None => text.extend_from_slice(b"- -")?,
+        Some(finish) => {
+            write_number(text, finish as u64)?;
+            text.push(b' ')?;
+            write_number(text, (finish as u64).saturating_sub(release))?;
+        }
+    }
+    Ok(())
+}

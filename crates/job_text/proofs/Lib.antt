@@ -1,0 +1,6 @@
+pub mod Released
+mod FieldLists
+mod Outcomes
+mod LinesRead
+mod Answered
+mod Listing

@@ -1,0 +1,5 @@
+pub mod JobFault
+pub mod JobInput
+pub mod JobText
+pub mod Jobs
+pub mod Reading

@@ -1,0 +1,242 @@
+//! What was read so far, and what is expected.
+ghost use Rattle.std.specs.Prelude.{◌≡◌, ◌≢◌, ℕ, ◌≤◌, ◌↔◌, ◌⊎◌, ◌<◌, ◌+◌, IsTrue, List, [], ◌∷◌, ◌++◌, length, IfOk, IfErr, OnOk, MatchOption, All};
+ghost use Rattle.job_text.specs.Jobs.{total_jobs};
+ghost use Rattle.job_text.specs.JobInput.{JobInputData, IsJobInput};
+ghost use Rattle.job_text.specs.JobText.{IsWorded, IsTaskOutcome, IsListedOutcome, IsOutcome, IsLineOutcome, Leads, HeaderExpected, ProcessorsExpected, HorizonExpected, Ended, end_line};
+ghost use Rattle.job_text.specs.Reading.{progress_of, line_of, IsValid, IsRefusedBy};
+ghost use Rattle.text_fields.specs.Fields.{texts};
+ghost use Rattle.job_text.specs.declared.input.JobTask.{JobTask};
+
+use crate::fault::JobKind;
+use crate::fields::{fields, is_comment, is_plain};
+use crate::form::TaskForm;
+use crate::input::{JobInput, JobTask, MAX_JOBS, MAX_TIME};
+use affinity_mask::ProcSet;
+use std::alloc::Global;
+use std::str;
+use task_set::{TaskFault, TaskSet};
+use text_fields::limits::{FIRST_VERSION, MAX_PRIORITY, MAX_PROCESSORS};
+use text_fields::{is_word, read_number};
+
+/// The most bytes of a line, without its line feed.
+const MAX_LINE: usize = 4096;
+
+/// What some lines said, and so what is expected after them.
+#[derive(Drop)]
+pub enum Stage {
+    /// The header is expected.
+    HeaderExpected,
+
+    /// The number of processors is expected.
+    ProcessorsExpected,
+
+    /// The horizon is expected.
+    HorizonExpected {
+        processors: u8,
+    },
+
+    /// Tasks, then the end are expected.
+    Listed {
+        horizon: u32,
+        set: TaskSet,
+        jobs: Vec<JobTask>,
+    },
+
+    /// The end came.
+    Ended {
+        horizon: u32,
+        set: TaskSet,
+        jobs: Vec<JobTask>,
+    },
+}
+
+impl Stage {
+    /// What is expected after one more line. The room is for its fields.
+    pub fn after_line<'a>(
+        self,
+        alloc: Global,
+        line: &'a [u8],
+        room: &mut Vec<&'a [u8]>,
+    ) -> Result<Stage, JobKind>
+        requires { IsValid (progress_of self) }
+        ensures read { IfOk result (λ next. IsLineOutcome (progress_of self) line.now
+            (Leads (progress_of next))) }
+        ensures refused { IfErr result (IsRefusedBy (IsLineOutcome (progress_of self) line.now)) }
+    {
+        if !is_plain(line) {
+            return Err(JobKind::BadByte);
+        }
+        if line.len() > MAX_LINE {
+            return Err(JobKind::LongLine);
+        }
+        let fields = fields(line, room)?;
+        if is_comment(fields) {
+            Ok(self)
+        } else {
+            self.after(alloc, fields)
+        }
+    }
+
+    /// The input, if the end came.
+    pub fn into_input(self) -> Option<JobInput>
+        requires { IsValid (progress_of self) }
+        ensures { MatchOption result
+            ((input : JobInputData) → progress_of self ≢ Ended input)
+            (λ input. progress_of self ≡ Ended input) }
+    {
+        match self {
+            Stage::Ended { horizon, set, jobs } => Some(JobInput::new(set, horizon, jobs)),
+            _ => None,
+        }
+    }
+
+    /// What is expected after a line that is not skipped, by its fields.
+    fn after(self, alloc: Global, fields: &[&[u8]]) -> Result<Stage, JobKind>
+        requires { IsValid (progress_of self) }
+        ensures read { IfOk result (λ next. IsOutcome (progress_of self) (texts fields.now)
+            (Leads (progress_of next))) }
+        ensures refused { IfErr result (IsRefusedBy (IsOutcome (progress_of self)
+            (texts fields.now))) }
+    {
+        match self {
+            Stage::HeaderExpected => read_header(fields),
+            Stage::ProcessorsExpected => read_processors(fields),
+            Stage::HorizonExpected { processors } => start(alloc, processors, fields),
+            Stage::Listed { horizon, set, jobs } => read_listed(horizon, set, jobs, fields),
+            Stage::Ended { .. } => Err(JobKind::AfterEnd),
+        }
+    }
+}
+
+/// The number of a line that has this word and a number between these bounds.
+fn read_worded(fields: &[&[u8]], word: &str, least: u64, most: u64) -> Option<u64>
+    ensures { MatchOption result
+        ((n : ℕ) → IsWorded word.now least most n (texts fields.now) → ⊥)
+        (λ n. IsWorded word.now least most n (texts fields.now)) }
+{
+    match fields {
+        [first, number] if is_word(first, word) => read_number(number, least, most),
+        _ => None,
+    }
+}
+
+/// Reads the header.
+fn read_header(fields: &[&[u8]]) -> Result<Stage, JobKind>
+    ensures read { IfOk result (λ next. IsOutcome HeaderExpected (texts fields.now)
+        (Leads (progress_of next))) }
+    ensures refused { IfErr result (IsRefusedBy (IsOutcome HeaderExpected (texts fields.now))) }
+{
+    match read_worded(fields, "jobs", FIRST_VERSION as u64, FIRST_VERSION as u64) {
+        Some(_) => Ok(Stage::ProcessorsExpected),
+        None => Err(JobKind::BadHeader),
+    }
+}
+
+/// Reads how many processors there are.
+fn read_processors(fields: &[&[u8]]) -> Result<Stage, JobKind>
+    ensures read { IfOk result (λ next. IsOutcome ProcessorsExpected (texts fields.now)
+        (Leads (progress_of next))) }
+    ensures refused { IfErr result (IsRefusedBy (IsOutcome ProcessorsExpected
+        (texts fields.now))) }
+{
+    match read_worded(fields, "processors", 1, MAX_PROCESSORS) {
+        Some(processors) => Ok(Stage::HorizonExpected {
+            processors: processors as u8,
+        }),
+        None => Err(JobKind::BadProcessors),
+    }
+}
+
+/// Nothing is listed yet, up to the horizon that a line says.
+fn start(alloc: Global, processors: u8, fields: &[&[u8]]) -> Result<Stage, JobKind>
+    requires { (1 ≤ processors) × (processors ≤ 64) }
+    ensures read { IfOk result (λ next. IsOutcome (HorizonExpected processors) (texts fields.now)
+        (Leads (progress_of next))) }
+    ensures refused { IfErr result (IsRefusedBy (IsOutcome (HorizonExpected processors)
+        (texts fields.now))) }
+{
+    let Some(horizon) = read_worded(fields, "horizon", 1, MAX_TIME) else {
+        return Err(JobKind::BadHorizon);
+    };
+    let set = TaskSet::new(alloc, processors)?;
+    Ok(Stage::Listed {
+        horizon: horizon as u32,
+        set,
+        jobs: Vec::new(alloc),
+    })
+}
+
+/// Reads a task or the end after what was listed.
+fn read_listed(
+    horizon: u32,
+    set: TaskSet,
+    jobs: Vec<JobTask>,
+    fields: &[&[u8]],
+) -> Result<Stage, JobKind>
+    requires { IsJobInput (record { set = set; horizon = horizon; jobs = jobs.items }) }
+    ensures read { IfOk result (λ next. IsListedOutcome
+        (record { set = set; horizon = horizon; jobs = jobs.items }) (texts fields.now)
+        (Leads (progress_of next))) }
+    ensures refused { IfErr result (IsRefusedBy (IsListedOutcome
+        (record { set = set; horizon = horizon; jobs = jobs.items }) (texts fields.now))) }
+{
+    if is_end(fields) {
+        return Ok(Stage::Ended { horizon, set, jobs });
+    }
+    match TaskForm::read(fields) {
+        Some(form) => list_task(horizon, set, jobs, &form),
+        None => Err(JobKind::BadTask),
+    }
+}
+
+/// Whether the line is `end` alone.
+fn is_end(fields: &[&[u8]]) -> bool
+    ensures { IsTrue result ↔ (texts fields.now ≡ end_line) }
+{
+    match fields {
+        [word] => is_word(word, "end"),
+        _ => false,
+    }
+}
+
+/// Lists the task of a line.
+fn list_task(
+    horizon: u32,
+    mut set: TaskSet,
+    mut jobs: Vec<JobTask>,
+    form: &TaskForm,
+) -> Result<Stage, JobKind>
+    requires listed { IsJobInput (record { set = set; horizon = horizon; jobs = jobs.items }) }
+    requires period { 1 ≤ form.now.job.period }
+    ensures read { IfOk result (λ next. IsTaskOutcome
+        (record { set = set; horizon = horizon; jobs = jobs.items }) (line_of form.now)
+        (Leads (progress_of next))) }
+    ensures refused { IfErr result (IsRefusedBy (IsTaskOutcome
+        (record { set = set; horizon = horizon; jobs = jobs.items }) (line_of form.now))) }
+{
+    let mask = ProcSet::read_list(form.list)?;
+    let Ok(name) = str::from_utf8(form.name) else {
+        return Err(JobKind::TaskRefused(TaskFault::BadName));
+    };
+    set.add(name, form.priority, mask)?;
+    if jobs_of_all(horizon, &jobs) + form.job.count(horizon) as u64 > MAX_JOBS {
+        return Err(JobKind::ManyJobs);
+    }
+    if jobs.push(form.job).is_err() {
+        return Err(JobKind::OutOfMemory);
+    }
+    Ok(Stage::Listed { horizon, set, jobs })
+}
+
+/// How many jobs there are below the horizon.
+fn jobs_of_all(horizon: u32, jobs: &[JobTask]) -> u64
+    requires each { All (λ (job : JobTask). 1 ≤ job.period) jobs.now }
+    requires few { total_jobs horizon jobs.now ≤ 4000 }
+    ensures { result ≡ total_jobs horizon jobs.now }
+{
+    let mut count = 0;
+    for job in jobs {
+        count += job.count(horizon) as u64;
+    }
+    count
+}

@@ -1,0 +1,14 @@
+pub mod BestByCounts
+pub mod Changes
+pub mod Covered
+pub mod Hall
+pub mod Held
+pub mod Kept
+pub mod KeptByDepartures
+pub mod NestedSteps
+pub mod Placeables
+pub mod Replayed
+pub mod Scanned
+pub mod Started
+pub mod Tallied
+pub mod Withins

@@ -1,0 +1,92 @@
+-- One more task of a scan.
+use Rattle.std.proofs.Common.{◌≡◌, ℕ, ◌+◌, ◌<◌, Bool, true, false, ◌&&◌, None, List, length, refl, sym, ap, ◌∙◌, inl, inr, arith, add-one, below_more}
+use Rattle.std.proofs.lemmas.Bool.{cases_Bool, cases_order, and_from, and_parts, true≢false}
+use Rattle.affinity_mask.specs.ProcSet.{Within}
+use Rattle.certificate_laws.proofs.Counts.{count_below, count_below-more, count_below-same}
+use Rattle.nested_masks.specs.Laminar.{IsTight, Cross, IsLaminar, IsFirstCrossing, is_within, mask_at}
+use Rattle.nested_masks.specs.NestedData.{NestedData, IsCounted, IsUrgenter, ready_of, linked_of, priority_in, mask_in}
+use Rattle.nested_masks.specs.LaminarStep.{IsLeastUrgentIn, AllUrgenterIn}
+use Rattle.nested_masks.specs.Scans.{IsLeastTightBelow, IsLeastUrgentScan, IsLeastUrgentBelow, CrossesNone, IsFirstCrossed}
+use Rattle.nested_masks.proofs.Withins.{is_within-from, within_from, within_same, within_trans}
+use Rattle.nested_masks.proofs.Changes.{linked_number}
+use Rattle.nested_masks.proofs.Kept.{nodes_nest}
+
+-- a test that is given by a fact counts one more where it holds, and no more where it does not
+pub held_one_more : (tasks : ℕ → Bool) (mask X t count : ℕ) (masks : ℕ → ℕ) → masks t ≡ mask → count ≡ count_below (λ u. tasks u && is_within (masks u) X) t → (tasks t ≡ true) × Within mask X → count + 1 ≡ count_below (λ u. tasks u && is_within (masks u) X) (t + 1)
+held_one_more tasks mask X t count masks is_mask so_far here =
+    let passes : (tasks t && is_within (masks t) X) ≡ true = and_from _ _ here.0 (rw is_mask (is_within-from _ _ here.1)) in
+    rw (add-one, add-one, count_below-more (λ u. tasks u && is_within (masks u) X) t passes, so_far) refl
+
+pub held_no_more : (tasks : ℕ → Bool) (mask X t count : ℕ) (masks : ℕ → ℕ) → masks t ≡ mask → count ≡ count_below (λ u. tasks u && is_within (masks u) X) t → ((tasks t ≡ true) × Within mask X → ⊥) → count ≡ count_below (λ u. tasks u && is_within (masks u) X) (t + 1)
+held_no_more tasks mask X t count masks is_mask so_far not_here = elim (cases_Bool (tasks t && is_within (masks t) X)) [
+  | inl h ↦ let parts = and_parts (tasks t) (is_within (masks t) X) h in absurd (not_here (parts.0, rw (← is_mask) (within_from _ _ parts.1)))
+  | inr h ↦ rw (add-one, count_below-same (λ u. tasks u && is_within (masks u) X) t h, so_far) refl
+]
+
+-- a tight node that does not contain the one found so far is smaller
+pub smaller_found : (n : NestedData) → IsCounted n → (t u mask node d : ℕ) → t < length n.priorities → mask ≡ mask_in n t → node ≡ mask_in n u → Within mask node → IsTight n.masks (linked_of n) (mask_in n u) → IsLeastTightBelow n (mask_in n t) u d → (Within d node → ⊥) → IsLeastTightBelow n (mask_in n t) (u + 1) node
+smaller_found n ok t u mask node d number is_mask is_node contains tight before larger =
+    let contains' : Within (mask_in n t) (mask_in n u) = rw (← is_mask, ← is_node) contains in
+    let nest : Within (mask_in n u) d = elim (nodes_nest n ok t d (mask_in n u) number before.tight.node tight.node before.contains contains') [
+      | inl within ↦ absurd (larger (rw is_node within))
+      | inr within ↦ within
+    ] in
+    rw is_node record {
+      tight = tight;
+      contains = contains';
+      least = below_more _ _ (λ k lt k_tight k_contains. within_trans (mask_in n u) d (mask_in n k) nest (before.least k lt k_tight k_contains)) (λ k_tight k_contains. within_same (mask_in n u));
+    }
+
+-- ---- masks that cross
+pub crosses_back : (masks : List ℕ) (t u : ℕ) → Cross masks t u → Cross masks u t
+crosses_back masks t u cross = record {
+  meet = (cross.meet.0, cross.meet.2, cross.meet.1);
+  not_within = cross.not_around;
+  not_around = cross.not_within;
+}
+
+-- no mask crosses one after it
+pub laminar_from : (masks : List ℕ) → ((t : ℕ) → t < length masks → CrossesNone masks t) → IsLaminar masks
+laminar_from masks none t u lt lu cross = elim (cases_order t u) [
+  | inl e ↦ cross.not_within (rw e (within_same (mask_at masks u)))
+  | inr (inl before) ↦ none t lt u before lu cross
+  | inr (inr after) ↦ none u lu t after lt (crosses_back masks t u cross)
+]
+
+-- of the first task whose mask crosses one after it, the first such one
+pub first_pair : (masks : List ℕ) (one other : ℕ) → ((t : ℕ) → t < one → CrossesNone masks t) → IsFirstCrossed masks one other → IsFirstCrossing masks one other
+first_pair masks one other before found = record {
+  ordered = found.ordered;
+  number = found.number;
+  cross = found.cross;
+  first = λ t u order number cross. elim (cases_order t one) [
+    | inl e ↦ inr (
+      sym e,
+      elim (cases_order u other) [
+        | inl same ↦ omega arith
+        | inr (inl lower) ↦ absurd (found.first u (rw (← e) order) lower (rw e at cross))
+        | inr (inr higher) ↦ omega arith
+      ],
+    )
+    | inr (inl lower) ↦ absurd (before t lower u order number cross)
+    | inr (inr higher) ↦ inl higher
+  ];
+}
+
+-- ---- who is displaced
+pub least_from : (n : NestedData) → IsCounted n → (node d : ℕ) → IsLeastUrgentBelow n node (length n.priorities) d → IsLeastUrgentIn n node d
+least_from n ok node d found = record {
+  linked = found.linked;
+  within = found.within;
+  least_urgent = λ u h within. found.least_urgent u (linked_number n ok u h) h within;
+}
+
+pub none_displaced : (n : NestedData) → IsCounted n → (node t : ℕ) → IsLeastUrgentScan n node (length n.priorities) None → AllUrgenterIn n node t
+none_displaced n ok node t none = λ u h within. absurd (none u (linked_number n ok u h) h within)
+
+pub not_displaced : (n : NestedData) → IsCounted n → (node t d : ℕ) → t < length n.priorities → ready_of n t ≡ false → IsLeastUrgentBelow n node (length n.priorities) d → (IsUrgenter n t d → ⊥) → AllUrgenterIn n node t
+not_displaced n ok node t d number absent found not_urgent = λ u h within. elim (cases_order (priority_in n u) (priority_in n t)) [
+  | inl same ↦ absurd (true≢false (sym (ok.linked_ready u h) ∙ ap (ready_of n) (ok.state.distinct u t (linked_number n ok u h) number same) ∙ absent))
+  | inr (inl urgent) ↦ urgent
+  | inr (inr later) ↦ absurd (not_urgent (let le = found.least_urgent u (linked_number n ok u h) h within in omega arith))
+]

@@ -1,0 +1,9 @@
+pub mod Answers
+pub mod Counting
+pub mod Laminar
+pub mod LaminarStep
+pub mod Laws
+pub mod NestedData
+pub mod NestedText
+pub mod Scans
+pub mod Views

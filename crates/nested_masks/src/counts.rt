@@ -1,0 +1,420 @@
+//! Which tasks are ready and linked, and what nodes hold.
+ghost use Rattle.std.specs.Prelude.{◌≡◌, ◌⊎◌, ℕ, ◌<◌, ◌≤◌, ◌↔◌, ◌+◌, IsTrue, IfOk, IfErr, MatchOption, true, false, length, replicate, slice_index};
+ghost use Rattle.affinity_mask.specs.ProcSet.{Within};
+ghost use Rattle.task_set.specs.TaskSet.{masks, priorities};
+ghost use Rattle.nested_masks.specs.Laminar.{IsTight, IsLaminar, mask_at, tasks_in};
+ghost use Rattle.nested_masks.specs.Counting.{HoldsMoreBelow};
+ghost use Rattle.nested_masks.specs.Answers.{IsCrossingFault};
+ghost use Rattle.nested_masks.specs.declared.fault.NestedFault.{NestedFault};
+
+use crate::crossing::first_crossing;
+use crate::fault::NestedFault;
+use affinity_mask::{OutOfMemory, ProcSet};
+use std::alloc::Global;
+use std::marker::Model;
+use task_set::TaskSet;
+
+/// Columns by the number of the task.
+#[derive(Drop)]
+pub(crate) struct Counts {
+    processors: u8,
+    priorities: Vec<u32>,
+    masks: Vec<ProcSet>,
+    ready: Vec<bool>,
+    linked: Vec<bool>,
+
+    /// How many linked tasks have masks within that of the task.
+    held: Vec<u32>,
+
+    /// How many tasks are linked.
+    linked_count: u32,
+}
+
+impl Model for Counts {
+    ghost use Rattle.nested_masks.specs.NestedData.{NestedData};
+
+    ghost Value = { NestedData };
+
+    ghost use Rattle.nested_masks.specs.Views.{counts_view, IsStored};
+
+    ghost view = { counts_view };
+
+    ghost invariant = { IsStored };
+}
+
+impl Counts {
+    ghost use Rattle.nested_masks.specs.NestedData.{nested_start, IsCounted, ready_of, linked_of, priority_in, mask_in, IsUrgenter, Waits};
+    ghost use Rattle.nested_masks.specs.LaminarStep.{with_waiting, with_linked, with_unlinked, without_task, IsInNoTight, IsLeastTight, IsLeastUrgentIn, AllUrgenterIn, IsFree, IsMostUrgentFree, IsNobodyFree};
+    ghost use Rattle.nested_masks.specs.NestedText.{linked_count};
+    ghost use Rattle.nested_masks.specs.Scans.{IsTightScan, IsTightUnion, IsLeastUrgentScan, IsFreeScan};
+
+    /// Every task of the set is absent.
+    pub(crate) fn new(alloc: Global, set: &TaskSet) -> Result<Counts, NestedFault>
+        ensures start { IfOk result (λ counts. counts ≡ nested_start set.now) }
+        ensures laminar { IfOk result (λ counts. IsLaminar (masks set.now)) }
+        ensures refused { IfErr result (λ fault. (fault ≡ NestedFault.OutOfMemory)
+            ⊎ IsCrossingFault set.now fault) }
+    {
+        let count = set.len();
+        let masks = masks_of(alloc, set)?;
+        if let Some((one, other)) = first_crossing(&masks) {
+            return Err(NestedFault::Crossing { one, other });
+        }
+        let priorities = priorities_of(alloc, set)?;
+        let ready = nobody(alloc, count)?;
+        let linked = nobody(alloc, count)?;
+        let held = zeros(alloc, count)?;
+        Ok(Counts {
+            processors: set.processors(),
+            priorities,
+            masks,
+            ready,
+            linked,
+            held,
+            linked_count: 0,
+        })
+    }
+
+    /// How many tasks there are.
+    pub(crate) fn len(&self) -> u32
+        ensures value { result ≡ length self.now.priorities }
+        ensures bound { result ≤ 1024 }
+        ensures valid { IsCounted self.now }
+    {
+        self.priorities.len() as u32
+    }
+
+    /// Whether a task is ready.
+    pub(crate) fn is_ready(&self, t: u32) -> bool
+        requires { t < length self.now.priorities }
+        ensures { result ≡ ready_of self.now t }
+    {
+        self.ready[t as usize]
+    }
+
+    /// Whether a task is linked.
+    pub(crate) fn is_linked(&self, t: u32) -> bool
+        requires { t < length self.now.priorities }
+        ensures { result ≡ linked_of self.now t }
+    {
+        self.linked[t as usize]
+    }
+
+    /// How many tasks are linked.
+    pub(crate) fn linked_count(&self) -> u32
+        ensures { result ≡ linked_count self.now }
+    {
+        self.linked_count
+    }
+
+    /// The mask of a task.
+    fn mask(&self, t: u32) -> ProcSet
+        requires { t < length self.now.priorities }
+        ensures value { result ≡ mask_in self.now t }
+        ensures valid { IsCounted self.now }
+    {
+        self.masks[t as usize]
+    }
+
+    /// How many linked tasks have masks within a set.
+    pub(crate) fn within(&self, x: ProcSet) -> u32
+        ensures { result ≡ length (tasks_in self.now.masks (linked_of self.now) x) }
+    {
+        let mut count = 0;
+        for t in 0..self.len() {
+            if self.is_held(x, t) {
+                count += 1;
+            }
+        }
+        count
+    }
+
+    /// Whether a task is linked, and its mask lies within a set.
+    fn is_held(&self, x: ProcSet, t: u32) -> bool
+        requires { t < length self.now.priorities }
+        ensures { IsTrue result ↔ ((linked_of self.now t ≡ true) × Within (mask_in self.now t) x) }
+    {
+        self.linked[t as usize] && self.masks[t as usize].within(&x)
+    }
+
+    /// Whether the mask of a task is a tight node.
+    fn is_tight(&self, t: u32) -> bool
+        requires { t < length self.now.priorities }
+        ensures { IsTrue result ↔ IsTight self.now.masks (linked_of self.now) (mask_in self.now t) }
+    {
+        self.held[t as usize] == u32::from(self.masks[t as usize].count())
+    }
+
+    /// The smallest tight node that contains the mask of a task.
+    pub(crate) fn least_tight(&self, t: u32) -> Option<ProcSet>
+        requires { t < length self.now.priorities }
+        ensures { MatchOption result (IsInNoTight self.now (mask_in self.now t))
+            (IsLeastTight self.now (mask_in self.now t)) }
+    {
+        let mut found = None;
+        for u in 0..self.len() {
+            found = self.smaller_tight(t, found, u);
+        }
+        found
+    }
+
+    /// The smaller one of the tight node that was found and of the mask of one task more.
+    fn smaller_tight(&self, t: u32, found: Option<ProcSet>, u: u32) -> Option<ProcSet>
+        requires number { t < length self.now.priorities }
+        requires next { u < length self.now.priorities }
+        requires scanned { IsTightScan self.now (mask_in self.now t) u found }
+        ensures { IsTightScan self.now (mask_in self.now t) (u + 1) result }
+    {
+        let mask = self.mask(t);
+        let node = self.mask(u);
+        if !mask.within(&node) || !self.is_tight(u) {
+            return found;
+        }
+        let Some(smaller) = found else {
+            return Some(node);
+        };
+        if smaller.within(&node) {
+            found
+        } else {
+            Some(node)
+        }
+    }
+
+    /// The least urgent linked task that a node holds, where it is less urgent than t, which is absent.
+    pub(crate) fn displaced(&self, node: ProcSet, t: u32) -> Option<u32>
+        requires number { t < length self.now.priorities }
+        requires absent { ready_of self.now t ≡ false }
+        ensures { MatchOption result (AllUrgenterIn self.now node t)
+            (λ out. (out < length self.now.priorities) × IsLeastUrgentIn self.now node out
+            × IsUrgenter self.now t out) }
+    {
+        let _valid = self.len();
+        let Some(out) = self.least_urgent(node) else {
+            return None;
+        };
+        if self.is_more_urgent(t, out) {
+            Some(out)
+        } else {
+            None
+        }
+    }
+
+    /// The least urgent linked task that a node holds, if it holds one.
+    fn least_urgent(&self, node: ProcSet) -> Option<u32>
+        ensures { IsLeastUrgentScan self.now node (length self.now.priorities) result }
+    {
+        let mut found = None;
+        for u in 0..self.len() {
+            found = self.less_urgent(node, found, u);
+        }
+        found
+    }
+
+    /// The less urgent one of the linked task that was found and of one task more.
+    fn less_urgent(&self, node: ProcSet, found: Option<u32>, u: u32) -> Option<u32>
+        requires next { u < length self.now.priorities }
+        requires scanned { IsLeastUrgentScan self.now node u found }
+        ensures { IsLeastUrgentScan self.now node (u + 1) result }
+    {
+        if !self.is_held(node, u) {
+            return found;
+        }
+        match found {
+            Some(d) if self.is_more_urgent(u, d) => found,
+            _ => Some(u),
+        }
+    }
+
+    /// Whether one task is more urgent than another.
+    fn is_more_urgent(&self, a: u32, b: u32) -> bool
+        requires one { a < length self.now.priorities }
+        requires other { b < length self.now.priorities }
+        ensures { IsTrue result ↔ IsUrgenter self.now a b }
+    {
+        self.priorities[a as usize] < self.priorities[b as usize]
+    }
+
+    /// The most urgent waiting task whose mask lies in no tight node.
+    pub(crate) fn most_urgent_free(&self) -> Option<u32>
+        ensures { MatchOption result (IsNobodyFree self.now)
+            (λ w. (w < length self.now.priorities) × IsMostUrgentFree self.now w) }
+    {
+        let tight = self.tight_processors();
+        let mut found = None;
+        for v in 0..self.len() {
+            found = self.more_urgent_free(tight, found, v);
+        }
+        found
+    }
+
+    /// The processors of the tight nodes.
+    fn tight_processors(&self) -> ProcSet
+        ensures { IsTightUnion self.now (length self.now.priorities) result }
+    {
+        let mut tight = ProcSet::empty();
+        for u in 0..self.len() {
+            tight = self.with_tight(tight, u);
+        }
+        tight
+    }
+
+    /// The processors of the tight nodes that were found, and of the mask of one task more where it is tight.
+    fn with_tight(&self, tight: ProcSet, u: u32) -> ProcSet
+        requires next { u < length self.now.priorities }
+        requires scanned { IsTightUnion self.now u tight }
+        ensures { IsTightUnion self.now (u + 1) result }
+    {
+        if self.is_tight(u) {
+            tight.either_of(&self.mask(u))
+        } else {
+            tight
+        }
+    }
+
+    /// The more urgent one of the free task that was found and of one task more.
+    fn more_urgent_free(&self, tight: ProcSet, found: Option<u32>, v: u32) -> Option<u32>
+        requires next { v < length self.now.priorities }
+        requires tight { IsTightUnion self.now (length self.now.priorities) tight }
+        requires scanned { IsFreeScan self.now v found }
+        ensures { IsFreeScan self.now (v + 1) result }
+    {
+        if !self.is_free(tight, v) {
+            return found;
+        }
+        match found {
+            Some(w) if self.is_more_urgent(w, v) => found,
+            _ => Some(v),
+        }
+    }
+
+    /// Whether a task waits, and its mask lies in no tight node. As masks nest, a mask that lies in none has a processor
+    /// that no tight node has.
+    fn is_free(&self, tight: ProcSet, v: u32) -> bool
+        requires number { v < length self.now.priorities }
+        requires tight { IsTightUnion self.now (length self.now.priorities) tight }
+        ensures { IsTrue result ↔ IsFree self.now v }
+    {
+        self.waits(v) && !self.mask(v).within(&tight)
+    }
+
+    /// Whether a task waits.
+    fn waits(&self, v: u32) -> bool
+        requires { v < length self.now.priorities }
+        ensures { IsTrue result ↔ Waits self.now v }
+    {
+        self.ready[v as usize] && !self.linked[v as usize]
+    }
+
+    /// An absent task becomes ready, and waits.
+    pub(crate) fn make_ready(&mut self, t: u32)
+        requires { t < length self.old.priorities }
+        ensures { self.new ≡ with_waiting self.old t }
+    {
+        self.ready[t as usize] = true;
+    }
+
+    /// A task becomes absent, whether it was linked or waited.
+    pub(crate) fn leave(&mut self, t: u32)
+        requires { t < length self.old.priorities }
+        ensures { self.new ≡ without_task self.old t }
+    {
+        if self.is_linked(t) {
+            self.unlink(t);
+        }
+        self.ready[t as usize] = false;
+    }
+
+    /// A waiting task is linked, whose mask lies in no tight node.
+    pub(crate) fn link(&mut self, t: u32)
+        requires number { t < length self.old.priorities }
+        requires ready { ready_of self.old t ≡ true }
+        requires not_linked { linked_of self.old t ≡ false }
+        requires free { IsInNoTight self.old (mask_in self.old t) }
+        ensures { self.new ≡ with_linked self.old t }
+    {
+        let mask = self.mask(t);
+        hold_one_more(&mut self.held, &self.masks, mask);
+        self.linked[t as usize] = true;
+        self.linked_count += 1;
+    }
+
+    /// A linked task waits then.
+    pub(crate) fn unlink(&mut self, t: u32)
+        requires number { t < length self.old.priorities }
+        requires linked { linked_of self.old t ≡ true }
+        ensures { self.new ≡ with_unlinked self.old t }
+    {
+        let mask = self.mask(t);
+        hold_one_less(&mut self.held, &self.masks, mask);
+        self.linked[t as usize] = false;
+        self.linked_count -= 1;
+    }
+}
+
+/// A task with this mask is linked: the masks that contain it hold one task more.
+fn hold_one_more(held: &mut [u32], masks: &[ProcSet], mask: ProcSet)
+    requires count { length held.old ≡ length masks.now }
+    requires few { (u : ℕ) → u < length held.old → slice_index held.old u ≤ 1024 }
+    ensures { HoldsMoreBelow masks.now mask (length masks.now) held.old held.new }
+{
+    for u in 0..masks.len() {
+        if mask.within(&masks[u]) {
+            held[u] += 1;
+        }
+    }
+}
+
+/// A task with this mask is linked no longer: the masks that contain it hold one task less.
+fn hold_one_less(held: &mut [u32], masks: &[ProcSet], mask: ProcSet)
+    requires count { length held.old ≡ length masks.now }
+    requires some { (u : ℕ) → u < length masks.now → Within mask (mask_at masks.now u)
+        → 0 < slice_index held.old u }
+    ensures { HoldsMoreBelow masks.now mask (length masks.now) held.new held.old }
+{
+    for u in 0..masks.len() {
+        if mask.within(&masks[u]) {
+            held[u] -= 1;
+        }
+    }
+}
+
+/// The masks of the tasks of a set.
+fn masks_of(alloc: Global, set: &TaskSet) -> Result<Vec<ProcSet>, OutOfMemory>
+    ensures { IfOk result (λ column. column.items ≡ masks set.now) }
+{
+    let mut column = Vec::new(alloc);
+    for t in 0..set.len() {
+        column.push(set.mask(t))?;
+    }
+    Ok(column)
+}
+
+/// The priorities of the tasks of a set.
+fn priorities_of(alloc: Global, set: &TaskSet) -> Result<Vec<u32>, OutOfMemory>
+    ensures { IfOk result (λ column. column.items ≡ priorities set.now) }
+{
+    let mut column = Vec::new(alloc);
+    for t in 0..set.len() {
+        column.push(set.priority(t))?;
+    }
+    Ok(column)
+}
+
+/// Nobody of so many tasks.
+fn nobody(alloc: Global, count: u32) -> Result<Vec<bool>, OutOfMemory>
+    ensures { IfOk result (λ column. column.items ≡ replicate count false) }
+{
+    let mut column = Vec::new(alloc);
+    for _k in 0..count {
+        column.push(false)?;
+    }
+    Ok(column)
+}
+
+/// A zero for each of so many tasks.
+fn zeros(alloc: Global, count: u32) -> Result<Vec<u32>, OutOfMemory>
+    ensures { IfOk result (λ column. column.items ≡ replicate count 0) }
+{
+    let column = vec![in alloc; 0; count as usize]?;
+    Ok(column)
+}

@@ -1,0 +1,5 @@
+pub mod Prefixes
+pub mod Links
+pub mod Pictures
+pub mod Entering
+pub mod Boards

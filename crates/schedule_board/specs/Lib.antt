@@ -1,0 +1,5 @@
+pub mod Links
+pub mod Pictures
+pub mod Chronicles
+pub mod Views
+pub mod Boards
