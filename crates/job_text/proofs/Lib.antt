@@ -2,5 +2,6 @@ pub mod Released
 mod FieldLists
 mod Outcomes
 mod LinesRead
-mod Answered
+pub mod Answered
 mod Listing
+pub mod Decided

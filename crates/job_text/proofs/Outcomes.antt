@@ -1,21 +1,19 @@
 -- A line comes to one outcome, which leads from an input to an input; so a text has one answer.
-use Rattle.std.proofs.Common.{◌≡◌, ◌≢◌, ℕ, zero, suc, ◌+◌, ◌<◌, ◌≤◌, ◌⊎◌, true, false, List, [], ◌∷◌, ◌++◌, length, codes, refl, sym, ap, ◌∙◌, subst, inl, inr, arith, length-append}
-use Rattle.std.specs.Prelude.{All}
+use Rattle.std.proofs.Common.{◌≡◌, ℕ, ◌+◌, ◌≤◌, List, [], ◌∷◌, ◌++◌, codes, refl, sym, ap, ◌∙◌, subst, inl, inr, arith, length-append}
 use Rattle.std.proofs.lemmas.Bool.{true≢false}
 use Rattle.std.proofs.lemmas.List.Elements.{All-nil, All-push}
-use Rattle.affinity_mask.specs.ListText.{IsListText}
 use Rattle.affinity_mask.proofs.ListTexts.{list_text-one_set, list_text-one_fault, list_text-no_fault}
 use Rattle.task_set.specs.Name.{IsName}
-use Rattle.task_set.specs.TaskSet.{TaskData, SetData, IsTaskSet, IsMask}
-use Rattle.task_set.specs.Refusal.{new_task, CanAdd, IsRefusal}
+use Rattle.task_set.specs.TaskSet.{TaskData, IsTaskSet, IsMask}
+use Rattle.task_set.specs.Refusal.{new_task, CanAdd}
 use Rattle.task_set.specs.declared.fault.TaskFault.{TaskFault}
 use Rattle.task_set.proofs.Added.{IsTaskSet-push}
 use Rattle.task_set.proofs.Refusals.{CanAdd-IsRefusal, same_refusal}
-use Rattle.text_fields.specs.Number.{IsNumberOf, IsNumberWithin}
-use Rattle.trace_reader.specs.Lines.{fields_of, is_skipped, IsPlain, IsClean}
+use Rattle.text_fields.specs.Number.{IsNumberOf}
+use Rattle.trace_reader.specs.Lines.{fields_of}
 use Rattle.job_text.specs.Jobs.{total_jobs}
 use Rattle.job_text.specs.JobInput.{JobInputData, IsJobInput, IsJobTask}
-use Rattle.job_text.specs.JobText.{IsWorded, IsHeader, IsProcessorsLine, IsHorizonLine, TaskLine, AreTimes, IsTaskForm, end_line, Progress, HeaderExpected, ProcessorsExpected, HorizonExpected, Listed, Ended, Outcome, Leads, Fails, without_tasks, with_jobs, IsCountOutcome, IsAddOutcome, IsTaskOutcome, IsListedOutcome, IsWordedOutcome, IsOutcome, IsLineOutcome, Answer, IsText, Refuses, IsEndAnswer, IsAnswer}
+use Rattle.job_text.specs.JobText.{IsWorded, TaskLine, AreTimes, IsTaskForm, end_line, Progress, HeaderExpected, ProcessorsExpected, HorizonExpected, Listed, Ended, Outcome, Leads, Fails, without_tasks, with_jobs, IsCountOutcome, IsAddOutcome, IsTaskOutcome, IsListedOutcome, IsWordedOutcome, IsOutcome, IsLineOutcome, Answer, Refuses, IsEndAnswer, IsAnswer}
 use Rattle.job_text.specs.Reading.{IsValid}
 use Rattle.job_text.specs.declared.fault.JobKind.{JobKind}
 use Rattle.job_text.specs.declared.fault.JobKind.TheVariants.{BadMask, TaskRefused}

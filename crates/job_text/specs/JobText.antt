@@ -6,7 +6,7 @@ use Rattle.std.specs.Prelude.{◌≡◌, ◌≢◌, ℕ, ◌+◌, ◌<◌, ◌�
 use Rattle.affinity_mask.specs.ListText.{IsListText}
 use Rattle.affinity_mask.specs.ListFault.{IsListFault}
 use Rattle.affinity_mask.specs.declared.mask_fault.MaskFault.{MaskFault}
-use Rattle.task_set.specs.TaskSet.{SetData, with_task}
+use Rattle.task_set.specs.TaskSet.{with_task}
 use Rattle.task_set.specs.Refusal.{new_task, CanAdd, IsRefusal}
 use Rattle.task_set.specs.declared.fault.TaskFault.{TaskFault}
 use Rattle.text_fields.specs.Number.{IsNumberWithin}

@@ -9,6 +9,7 @@ pub mod fault;
 mod fields;
 mod form;
 pub mod input;
+pub mod laws;
 pub mod read;
 mod stage;
 

@@ -1,7 +1,5 @@
-use Rattle.std.proofs.Common.{◌≡◌, ◌≢◌, ℕ, ◌+◌, ◌<◌, ◌≤◌, List, [], ◌∷◌, length, refl, sym, ap, ◌∙◌, subst, inl, inr, arith, rules}
-use Rattle.std.proofs.lemmas.List.{nil_from_length}
-use Rattle.trace_reader.specs.Lines.{lines_of}
-use Rattle.job_text.specs.JobText.{Answer, IsText, Refuses, IsAnswer, IsEndAnswer, Progress}
+use Rattle.std.proofs.Common.{◌≢◌, ℕ, List, [], refl, sym, subst, inl, inr, arith, rules}
+use Rattle.job_text.specs.JobText.{Refuses, IsAnswer}
 use Rattle.job_text.specs.Reading.{progress_of}
 use Rattle.job_text.proofs.LinesRead.{first_of_lines, rest_is_shorter}
 use Rattle.job_text.proofs.Outcomes.{line_valid}

@@ -1,4 +1,4 @@
-use Rattle.std.proofs.Common.{ℕ, ◌+◌, ◌≤◌, length}
+use Rattle.std.proofs.Common.{◌+◌, ◌≤◌, length}
 use Rattle.trace_reader.specs.Lines.{lines_of}
 use Rattle.job_text.specs.JobText.{Answer, IsAnswer, HeaderExpected}
 use Rattle.job_text.specs.Reading.{progress_of, IsValid}

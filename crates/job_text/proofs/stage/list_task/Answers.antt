@@ -2,7 +2,6 @@ use Rattle.std.proofs.Common.{refl, inl, inr, rules, arith}
 use Rattle.std.proofs.lemmas.Result.{err_from_is_err_and}
 use Rattle.text_fields.proofs.Names.{name_is_text}
 use Rattle.task_set.specs.declared.fault.TaskFault.TheVariants.{BadName}
-use Rattle.job_text.specs.JobInput.{JobInputData}
 use Rattle.job_text.specs.Reading.{line_of}
 use Rattle.job_text.proofs.Listing.{task_refused, too_many, task_listed}
 use Rattle.job_text.proofs.stage.list_task.Goals as goal
