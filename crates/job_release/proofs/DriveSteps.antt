@@ -1,5 +1,5 @@
 -- A driver from step to step.
-use Rattle.std.proofs.Common.{◌≡◌, ◌≢◌, ℕ, ◌+◌, ◌*◌, ◌-◌, ◌<◌, ◌≤◌, ◌↔◌, Bool, true, false, List, [], ◌∷◌, ◌++◌, length, get_or, set, sum_by, All, Vec, Some, eq-eqb, refl, sym, ap, ◌∙◌, subst, inl, inr, arith}
+use Rattle.std.proofs.Common.{◌≡◌, ◌≢◌, ℕ, ◌+◌, ◌*◌, ◌<◌, ◌≤◌, Bool, false, List, [], ◌∷◌, ◌++◌, length, get_or, set, All, Vec, Some, eq-eqb, refl, sym, ap, ◌∙◌, subst, inl, inr, arith}
 use Rattle.std.specs.declared.alloc.Global.{Global}
 use Rattle.std.proofs.Math.Seq.{map-set_same}
 use Rattle.std.proofs.lemmas.Bool.{cases_lt, cases_eq, true≢false}
@@ -8,9 +8,9 @@ use Rattle.std.proofs.lemmas.List.{length-set, get_or-set_same, get_or-set_other
 use Rattle.std.proofs.lemmas.List.Elements.{All-push}
 use Rattle.std.proofs.lemmas.List.Sums.{sum_by-set}
 use Rattle.task_set.specs.declared.event.Event.{Event}
-use Rattle.task_set.specs.declared.event.Event.TheVariants.{Arrive, Depart, Tick}
+use Rattle.task_set.specs.declared.event.Event.TheVariants.{Arrive, Depart}
 use Rattle.scheduler_reply.specs.declared.reply.Entry.{Entry}
-use Rattle.link_state.specs.State.{State, task_count, is_ready, is_linked}
+use Rattle.link_state.specs.State.{State, task_count, is_ready}
 use Rattle.link_state.proofs.SameTasks.{same_tasks-step, same_count}
 use Rattle.sched_core.specs.CoreData.{CoreData, IsCore, Applied, entry_of}
 use Rattle.job_text.specs.Jobs.{release_of, job_count, total_jobs}
@@ -24,7 +24,7 @@ use Rattle.job_release.proofs.Moments.{elapsed_push, state_before}
 use Rattle.job_release.proofs.Readied.{ready_arrived, ready_beside_arrived, ready_departed, ready_beside_departed}
 use Rattle.job_release.proofs.RowSteps.{Agree, row_kept}
 use Rattle.job_release.proofs.RowChanges.{row_not_settled, row_settled, row_not_supplied, row_supplied}
-use Rattle.job_release.proofs.WorkSums.{sum_within, total_of_rows, count_within_total, work_most, work_least, bit}
+use Rattle.job_release.proofs.WorkSums.{sum_within, total_of_rows, count_within_total, work_most}
 
 module _ (start : State) (jobs : List JobTask) (horizon moment : ℕ) (core : CoreData) (rows : List JobRow) (n : ℕ) (moved left : Mark)
     (driving : IsDriving start jobs horizon moment core rows n moved left) where

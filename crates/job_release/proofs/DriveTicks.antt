@@ -1,8 +1,7 @@
 -- Time passes: a tick leads from a moment to the next one at which something is to be done.
-use Rattle.std.proofs.Common.{◌≡◌, ◌≢◌, ℕ, zero, suc, ◌+◌, ◌*◌, ◌-◌, ◌<◌, ◌≤◌, ◌⊎◌, Bool, true, false, List, [], ◌∷◌, ◌++◌, length, get_or, sum_by, All, refl, sym, ap, ◌∙◌, subst, inl, inr, arith, if◌then◌else◌}
+use Rattle.std.proofs.Common.{◌≡◌, ℕ, suc, ◌+◌, ◌*◌, ◌-◌, ◌<◌, ◌≤◌, true, List, [], ◌∷◌, length, get_or, All, refl, sym, ap, ◌∙◌, subst, inl, inr, arith}
 use Rattle.std.proofs.lemmas.List.{length-append}
 use Rattle.std.proofs.lemmas.List.Elements.{All-push}
-use Rattle.task_set.specs.declared.event.Event.{Event}
 use Rattle.task_set.specs.declared.event.Event.TheVariants.{Tick}
 use Rattle.scheduler_reply.specs.declared.reply.Entry.{Entry}
 use Rattle.link_state.specs.State.{State, IsState, task_count, is_ready, is_linked}
@@ -12,8 +11,8 @@ use Rattle.sched_core.specs.CoreData.{CoreData, IsCore, Applied, entry_of}
 use Rattle.job_text.specs.Jobs.{release_of}
 use Rattle.job_text.specs.declared.input.JobTask.{JobTask}
 use Rattle.job_release.specs.Driven.{IsJobEvent}
-use Rattle.job_release.specs.Driving.{IsDriving, IsRowAt, grown, settled, supplied, row_at, work_of, jobs_of, done_of, goal_of, IsNextMoment, IsDueAt, RowsRun, RowRuns}
-use Rattle.job_release.specs.Moments.{elapsed, units_of, state_at}
+use Rattle.job_release.specs.Driving.{IsDriving, IsRowAt, grown, supplied, row_at, work_of, jobs_of, done_of, goal_of, IsNextMoment, IsDueAt, RowsRun, RowRuns}
+use Rattle.job_release.specs.Moments.{elapsed, state_at}
 use Rattle.job_release.specs.declared.row.JobRow.{JobRow}
 use Rattle.job_release.proofs.Moments.{elapsed_push, state_from, state_with_tick}
 use Rattle.job_release.proofs.RowSteps.{Agree, row_kept, row_ran}

@@ -1,12 +1,10 @@
 -- Rows before anything has happened.
-use Rattle.std.proofs.Common.{◌≡◌, ◌≢◌, ℕ, zero, suc, ◌+◌, ◌*◌, ◌<◌, ◌≤◌, Bool, false, true, List, [], ◌∷◌, ◌++◌, length, get_or, take, drop, All, sum_by, refl, sym, ap, ◌∙◌, subst, inl, inr, arith, length-append}
+use Rattle.std.proofs.Common.{◌≡◌, ℕ, suc, ◌+◌, ◌<◌, Bool, false, List, [], ◌∷◌, ◌++◌, length, take, drop, refl, sym, ap, ◌∙◌, subst, inl, inr, arith, length-append}
 use Rattle.std.proofs.lemmas.Bool.{cases_lt, true≢false}
 use Rattle.std.proofs.lemmas.Grind.{common_steps}
 use Rattle.std.proofs.lemmas.List.{get_or_append_left, get_or_at}
-use Rattle.scheduler_reply.specs.declared.reply.Entry.{Entry}
 use Rattle.link_state.specs.State.{State, start_of, task_count, is_ready}
 use Rattle.link_state.proofs.Start.{none_ready}
-use Rattle.task_set.specs.TaskSet.{TaskData}
 use Rattle.sched_core.specs.CoreData.{CoreData, IsCore}
 use Rattle.job_text.specs.JobInput.{JobInputData, IsJobInput, IsJobTask, job_at, no_job}
 use Rattle.job_text.specs.declared.input.JobTask.{JobTask}

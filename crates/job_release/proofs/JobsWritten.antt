@@ -1,5 +1,5 @@
 -- The lines of jobs as they are written.
-use Rattle.std.proofs.Common.{◌≡◌, ℕ, zero, suc, ◌+◌, ◌*◌, ◌<◌, ◌≤◌, Bool, true, false, List, [], ◌∷◌, ◌++◌, length, codes, nat_le, Option, Some, None, MatchOption, if◌then◌else◌, refl, sym, ap, ◌∙◌, subst, inl, inr, arith, append_assoc, append-nil, map}
+use Rattle.std.proofs.Common.{◌≡◌, ℕ, zero, suc, ◌+◌, ◌*◌, ◌<◌, ◌≤◌, Bool, true, false, List, [], ◌∷◌, ◌++◌, length, codes, nat_le, Option, Some, None, MatchOption, refl, sym, ap, ◌∙◌, inl, inr, arith, append_assoc, append-nil, map}
 use Rattle.std.specs.List.{flat_map, range_with_len}
 use Rattle.std.proofs.lemmas.Bool.{cases_lt}
 use Rattle.std.proofs.lemmas.Bool.Decides.{nat_tests}
@@ -8,7 +8,7 @@ use Rattle.std.proofs.lemmas.List.FromFn.{map-range_with_len_more}
 use Rattle.affinity_mask.specs.Number.{canonical_number}
 use Rattle.scheduler_reply.specs.declared.reply.Entry.{Entry}
 use Rattle.link_state.specs.State.{State}
-use Rattle.job_release.specs.JobsText.{first_of, first_upto, finish_of, response_text, job_line, lines_of_task, jobs_text}
+use Rattle.job_release.specs.JobsText.{first_upto, finish_of, response_text, job_line, lines_of_task, jobs_text}
 use Rattle.job_text.specs.JobInput.{JobInputData}
 use Rattle.job_release.specs.Moments.{service_of, IsFinish, IsUnfinished}
 

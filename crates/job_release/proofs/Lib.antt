@@ -9,3 +9,5 @@ mod DriveTicks
 mod Fresh
 mod Runs
 mod JobsWritten
+mod Finishes
+pub mod OneRun

@@ -1,6 +1,6 @@
 -- The next moment at which something is to be done, task by task.
-use Rattle.std.proofs.Common.{◌≡◌, ◌⊎◌, ℕ, ◌+◌, ◌<◌, ◌≤◌, List, [], ◌∷◌, length, get_or, refl, sym, ◌∙◌, subst, inl, inr, arith}
-use Rattle.std.proofs.lemmas.Bool.{cases_lt, cases_eq}
+use Rattle.std.proofs.Common.{◌≡◌, ◌⊎◌, ℕ, ◌+◌, ◌<◌, ◌≤◌, List, [], ◌∷◌, length, sym, ◌∙◌, subst, inl, inr, arith}
+use Rattle.std.proofs.lemmas.Bool.{cases_eq}
 use Rattle.link_state.specs.State.{State}
 use Rattle.job_release.specs.Driving.{IsNotAfter, IsDueAt, IsEarlier, row_at}
 use Rattle.job_release.specs.declared.row.JobRow.{JobRow}

@@ -1,11 +1,10 @@
 -- Who is ready after an arrival and after a departure.
-use Rattle.std.proofs.Common.{◌≡◌, ◌≢◌, ℕ, ◌<◌, Bool, true, false, List, length, set, Option, Some, None, refl, sym, ap, ◌∙◌, inl, inr, arith, get_or-set_same, get_or-set_other}
-use Rattle.task_set.specs.declared.event.Event.{Event}
-use Rattle.task_set.specs.declared.event.Event.TheVariants.{Arrive, Depart, Tick}
+use Rattle.std.proofs.Common.{◌≡◌, ◌≢◌, ℕ, ◌<◌, Bool, true, false, List, length, set, Option, Some, None, refl, ap, ◌∙◌, inl, inr, get_or-set_same, get_or-set_other}
+use Rattle.task_set.specs.declared.event.Event.TheVariants.{Arrive, Depart}
 use Rattle.scheduler_reply.specs.declared.reply.Came.{Came}
 use Rattle.scheduler_reply.specs.declared.reply.Came.TheVariants.{Placed, Displaced, Waits}
 use Rattle.scheduler_reply.specs.declared.reply.Reply.{Reply}
-use Rattle.link_state.specs.State.{State, IsState, is_ready, task_count, state_after_leaving}
+use Rattle.link_state.specs.State.{State, IsState, is_ready, state_after_leaving}
 use Rattle.link_state.specs.History.{state_after_came, state_after_entering}
 use Rattle.link_state.specs.Step.{SchedulerStep, ArriveStep, DepartStep}
 use Rattle.link_state.proofs.Steps.{comes_effect, fills_effect}

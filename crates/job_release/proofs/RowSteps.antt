@@ -1,13 +1,13 @@
 -- A row from step to step.
-use Rattle.std.proofs.Common.{◌≡◌, ◌≢◌, ℕ, zero, suc, ◌+◌, ◌*◌, ◌-◌, ◌<◌, ◌≤◌, ◌↔◌, ◌⊎◌, Bool, true, false, List, [], ◌∷◌, ◌++◌, length, get_or, if◌then◌else◌, refl, sym, ap, ◌∙◌, subst, inl, inr, arith}
+use Rattle.std.proofs.Common.{◌≡◌, ℕ, ◌+◌, ◌*◌, ◌-◌, ◌<◌, ◌≤◌, ◌↔◌, Bool, true, false, List, sym, ap, ◌∙◌, subst, inl, inr, arith}
 use Rattle.std.proofs.Math.Nat.{mul-le-mul_right}
-use Rattle.std.proofs.lemmas.Bool.{cases_Bool, cases_lt, cases_eq, true≢false}
+use Rattle.std.proofs.lemmas.Bool.{cases_Bool, cases_lt}
 use Rattle.scheduler_reply.specs.declared.reply.Entry.{Entry}
 use Rattle.link_state.specs.State.{State, is_ready, is_linked}
-use Rattle.job_text.specs.Jobs.{release_of, released_before, released_by}
-use Rattle.job_text.proofs.Released.{released_is, release_more}
+use Rattle.job_text.specs.Jobs.{released_by}
+use Rattle.job_text.proofs.Released.{released_is}
 use Rattle.job_release.specs.Driven.{IsReadyWhileWorkIsLeft, GetsNoMore}
-use Rattle.job_release.specs.Driving.{IsRowAt, IsRow, Mark, done_of, goal_of, HasWork, HasCost, grown, settled, supplied, IsNotAfter, RowRuns}
+use Rattle.job_release.specs.Driving.{IsRowAt, Mark, done_of, goal_of, HasWork, grown, supplied, IsNotAfter, RowRuns}
 use Rattle.job_release.specs.Moments.{state_at, service_of, IsFinish}
 use Rattle.job_release.specs.declared.row.JobRow.{JobRow}
 use Rattle.job_release.proofs.Moments.{same_service, service_while}

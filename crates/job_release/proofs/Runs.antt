@@ -1,21 +1,19 @@
 -- What a driver leaves at the horizon.
-use Rattle.std.proofs.Common.{◌≡◌, ℕ, zero, suc, ◌+◌, ◌*◌, ◌<◌, ◌≤◌, true, List, [], ◌∷◌, ◌++◌, length, get_or, map, take, nat_le, All, refl, sym, ap, ◌∙◌, subst, inl, inr, arith}
+use Rattle.std.proofs.Common.{◌≡◌, ℕ, ◌+◌, ◌*◌, ◌<◌, ◌≤◌, List, [], ◌∷◌, length, get_or, sym, ap, ◌∙◌, subst, inl, inr, arith}
 use Rattle.std.proofs.Math.Nat.{mul-le-mul_right}
-use Rattle.std.proofs.lemmas.Bool.{cases_Bool, cases_lt}
+use Rattle.std.proofs.lemmas.Bool.{cases_lt}
 use Rattle.std.proofs.lemmas.List.{get_or-map, length-map}
-use Rattle.scheduler_reply.specs.declared.reply.Entry.{Entry}
-use Rattle.task_set.specs.TaskSet.{SetData, IsTaskSet}
-use Rattle.link_state.specs.State.{State, start_of, task_count, is_ready}
-use Rattle.link_state.specs.History.{IsLegal, IsLegalFrom, state_after}
+use Rattle.task_set.specs.TaskSet.{IsTaskSet}
+use Rattle.link_state.specs.State.{State, start_of, is_ready}
+use Rattle.link_state.specs.History.{IsLegal, IsLegalFrom}
 use Rattle.certificate_laws.proofs.Kept.{legal_is_best}
-use Rattle.sched_core.specs.CoreData.{CoreData, IsCore}
-use Rattle.job_text.specs.Jobs.{release_of, job_count}
+use Rattle.sched_core.specs.CoreData.{CoreData}
 use Rattle.job_text.specs.JobInput.{JobInputData, job_at, no_job}
 use Rattle.job_text.specs.declared.input.JobTask.{JobTask}
 use Rattle.job_text.proofs.Released.{released_is}
 use Rattle.job_release.specs.Driven.{RunsJobs, RunsTheBest, IsReadyWhileWorkIsLeft, GetsNoMore}
 use Rattle.job_release.specs.Driving.{IsDriving, IsRowAt, Mark, settled, jobs_of, row_at, done_of, goal_of}
-use Rattle.job_release.specs.Moments.{elapsed, state_at, service_of, IsFinish, IsUnfinished}
+use Rattle.job_release.specs.Moments.{service_of, IsFinish}
 use Rattle.job_release.specs.RunView.{RowIsKept}
 use Rattle.job_release.specs.declared.row.JobRow.{JobRow}
 use Rattle.job_release.proofs.Moments.{state_by_entries}

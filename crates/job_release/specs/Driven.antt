@@ -2,7 +2,6 @@
 -- horizon. At each moment below it a task is ready exactly where its released jobs ask for more than the service it got, and it
 -- never gets more; and the linked tasks are the best set of the ready ones.
 use Rattle.std.specs.Prelude.{◌≡◌, ℕ, ◌*◌, ◌<◌, ◌≤◌, ◌↔◌, true, List, length, All}
-use Rattle.task_set.specs.TaskSet.{SetData}
 use Rattle.task_set.specs.declared.event.Event.{Event}
 use Rattle.task_set.specs.declared.event.Event.TheVariants.{Arrive, Depart, Tick}
 use Rattle.scheduler_reply.specs.declared.reply.Entry.{Entry}

@@ -1,6 +1,6 @@
 -- How far a driver of jobs has come: per task, the jobs released and finished so far, and the service it got. Private: the contracts
 -- of this crate's own functions.
-use Rattle.std.specs.Prelude.{◌≡◌, ℕ, ◌+◌, ◌*◌, ◌<◌, ◌≤◌, ◌⊎◌, ◌↔◌, ◌==◌, Bool, true, false, List, [], length, get_or, map, All, sum_by, Option, Vec, if◌then◌else◌}
+use Rattle.std.specs.Prelude.{◌≡◌, ℕ, ◌+◌, ◌*◌, ◌<◌, ◌≤◌, ◌⊎◌, ◌↔◌, ◌==◌, Bool, true, false, List, [], length, get_or, map, All, sum_by, if◌then◌else◌}
 use Rattle.scheduler_reply.specs.declared.reply.Entry.{Entry}
 use Rattle.link_state.specs.State.{State, start_of, task_count, is_ready, is_linked}
 use Rattle.sched_core.specs.CoreData.{CoreData, IsCore}

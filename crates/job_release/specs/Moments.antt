@@ -1,6 +1,6 @@
 -- Moments of a history. Time passes in ticks alone: the moment of an entry is the sum of the units of the ticks before it. What
 -- is said of a moment counts single moments, from 0 on, and knows nothing of where the ticks begin and end.
-use Rattle.std.specs.Prelude.{◌≡◌, ℕ, ◌+◌, ◌*◌, ◌<◌, ◌≤◌, Bool, true, false, List, [], ◌∷◌, ◌++◌, length, nat_le, sum_by, if◌then◌else◌}
+use Rattle.std.specs.Prelude.{ℕ, ◌+◌, ◌*◌, ◌<◌, ◌≤◌, Bool, true, false, List, [], ◌∷◌, ◌++◌, length, nat_le, sum_by, if◌then◌else◌}
 use Rattle.affinity_mask.specs.ProcSet.{passing_below}
 use Rattle.task_set.specs.declared.event.Event.{Event}
 use Rattle.task_set.specs.declared.event.Event.TheVariants.{Arrive, Depart, Tick, Affinity, Offline, Online}

@@ -2,6 +2,7 @@
 #![tactic(auto)]
 
 mod driver;
+pub mod laws;
 mod row;
 mod run;
 mod write;

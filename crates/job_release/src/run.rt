@@ -78,7 +78,8 @@ impl JobRun {
         &self.core
     }
 
-    /// When job k of a task is finished, if it is by the horizon.
+    /// When job k of a task is finished, if it is by the horizon. In a run of an input that is at least the cost after its
+    /// release: [`finish_follows_release`](crate::laws::finish_follows_release).
     pub fn finish(&self, t: u32, k: u32) -> Option<u32>
         requires task { t < length self.now.jobs }
         requires job { k < job_count self.now.horizon (job_at self.now.jobs t) }

@@ -1,5 +1,5 @@
 //! The text of a run of periodic jobs.
-ghost use Rattle.std.specs.Prelude.{◌≡◌, ◌<◌, ◌++◌, IfOk, OnOk, length};
+ghost use Rattle.std.specs.Prelude.{◌≡◌, ◌<◌, ◌≤◌, ◌++◌, IfOk, OnOk, IfSome, length};
 ghost use Rattle.std.specs.List.{flat_map, range_with_len};
 ghost use Rattle.job_release.specs.JobRun.{IsRunOf};
 ghost use Rattle.job_release.specs.JobsText.{jobs_text, job_line, lines_of_task, response_text};
@@ -52,7 +52,7 @@ fn write_task(text: &mut Vec<u8>, input: &JobInput, run: &JobRun, t: u32) -> Res
     Ok(())
 }
 
-/// Appends a job.
+/// Appends a job, which is not finished before its release.
 fn write_job(
     text: &mut Vec<u8>,
     name: &str,
@@ -60,6 +60,7 @@ fn write_job(
     release: u64,
     finish: Option<u32>,
 ) -> Result<(), OutOfMemory>
+    requires { IfSome finish (λ x. release ≤ x) }
     ensures { OnOk result (text.new.items
         ≡ text.old.items ++ job_line name.now k release finish) }
 {
@@ -76,6 +77,7 @@ fn write_job(
 
 /// Appends the finish and the response of a job.
 fn write_response(text: &mut Vec<u8>, release: u64, finish: Option<u32>) -> Result<(), OutOfMemory>
+    requires { IfSome finish (λ x. release ≤ x) }
     ensures { OnOk result (text.new.items ≡ text.old.items ++ response_text release finish) }
 {
     match finish {
@@ -83,7 +85,7 @@ fn write_response(text: &mut Vec<u8>, release: u64, finish: Option<u32>) -> Resu
         Some(finish) => {
             write_number(text, finish as u64)?;
             text.push(b' ')?;
-            write_number(text, (finish as u64).saturating_sub(release))?;
+            write_number(text, finish as u64 - release)?;
         }
     }
     Ok(())

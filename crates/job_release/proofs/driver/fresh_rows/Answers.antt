@@ -1,4 +1,4 @@
-use Rattle.std.proofs.Common.{◌≡◌, ◌+◌, ℕ, List, length, sym, ap, ◌∙◌, subst, arith}
+use Rattle.std.proofs.Common.{◌+◌, ℕ, List, length, sym, ap, ◌∙◌, subst, arith}
 use Rattle.task_set.specs.TaskSet.{SetData}
 use Rattle.job_release.specs.Driving.{AreFresh, IsFresh}
 use Rattle.job_release.specs.declared.row.JobRow.{JobRow}

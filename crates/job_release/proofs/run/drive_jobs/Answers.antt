@@ -1,4 +1,4 @@
-use Rattle.std.proofs.Common.{◌≡◌, ◌≤◌, length, refl, sym, ap, ◌∙◌, arith}
+use Rattle.std.proofs.Common.{refl, ap, ◌∙◌, arith}
 use Rattle.job_release.specs.JobRun.{JobRunData}
 use Rattle.job_release.specs.Driving.{settled}
 use Rattle.job_release.proofs.Runs.{runs_jobs}

@@ -1,7 +1,7 @@
-use Rattle.std.proofs.Common.{◌≡◌, ℕ, length, refl, sym, ap, ◌∙◌}
+use Rattle.std.proofs.Common.{◌≡◌, length, refl, ap, ◌∙◌}
 use Rattle.std.proofs.lemmas.List.{length-map}
-use Rattle.task_set.specs.TaskSet.{SetData, TaskData}
-use Rattle.link_state.specs.State.{State, start_of, task_count}
+use Rattle.task_set.specs.TaskSet.{TaskData}
+use Rattle.link_state.specs.State.{start_of, task_count}
 use Rattle.sched_core.specs.CoreData.{CoreData}
 use Rattle.job_release.proofs.Fresh.{driving_fresh, fresh_jobs}
 use Rattle.job_release.proofs.driver.Driver.new.Goals as goal

@@ -1,7 +1,4 @@
-use Rattle.std.proofs.Common.{◌≡◌, ◌⊎◌, ℕ, ◌+◌, ◌<◌, ◌≤◌, length, refl, sym, ◌∙◌, subst, inl, inr, arith}
-use Rattle.std.proofs.lemmas.Bool.{cases_lt}
-use Rattle.job_release.specs.Driving.{IsNotAfter, IsDueAt, row_at}
-use Rattle.job_release.specs.declared.row.JobRow.{JobRow}
+use Rattle.std.proofs.Common.{◌<◌, length, arith}
 use Rattle.job_release.proofs.NextMoments.{not_after_earlier, due_earlier, some_row}
 use Rattle.job_release.proofs.driver.Driver.next_moment.Goals as goal
 

@@ -1,4 +1,4 @@
-use Rattle.std.proofs.Common.{◌≡◌, ◌+◌, ◌<◌, ◌≤◌, length, arith, rules}
+use Rattle.std.proofs.Common.{arith, rules}
 use Rattle.job_release.specs.Driving.{settled, supplied, jobs_of}
 use Rattle.job_release.proofs.DriveSteps.{not_full, read_row, none_supplied, one_supplied, first_supplied}
 use Rattle.job_release.proofs.driver.Driver.release_row.Goals as goal

@@ -1,4 +1,4 @@
-use Rattle.std.proofs.Common.{◌≡◌, length, arith, rules}
+use Rattle.std.proofs.Common.{rules}
 use Rattle.job_release.specs.Driving.{settled, grown, jobs_of}
 use Rattle.job_release.proofs.DriveSteps.{not_full, read_row, none_settled, one_settled, last_settled}
 use Rattle.job_release.proofs.driver.Driver.settle_row.Goals as goal

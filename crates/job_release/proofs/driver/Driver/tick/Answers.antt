@@ -1,4 +1,4 @@
-use Rattle.std.proofs.Common.{◌≡◌, ◌+◌, ◌<◌, ◌≤◌, List, length, sym, subst, arith}
+use Rattle.std.proofs.Common.{List, length, sym, subst, arith}
 use Rattle.job_release.specs.Driving.{IsDriving, grown, supplied, jobs_of}
 use Rattle.job_release.proofs.DriveSteps.{not_full}
 use Rattle.job_release.specs.declared.row.JobRow.{JobRow}

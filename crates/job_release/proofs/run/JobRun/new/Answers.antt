@@ -1,5 +1,5 @@
-use Rattle.std.proofs.Common.{◌≡◌, ◌<◌, ℕ, length, sym, subst}
-use Rattle.job_release.specs.Driving.{IsRowAt, settled, row_at}
+use Rattle.std.proofs.Common.{ℕ, subst}
+use Rattle.job_release.specs.Driving.{row_at}
 use Rattle.job_release.specs.RunView.{RowIsKept}
 use Rattle.job_release.proofs.Runs.{row_at_end}
 use Rattle.job_release.proofs.run.JobRun.new.Goals as goal
