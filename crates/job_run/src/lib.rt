@@ -9,4 +9,6 @@ mod jobs;
 pub use jobs::jobs_text;
 
 #[cfg(test)]
+mod generated_tests;
+#[cfg(test)]
 mod tests;
