@@ -10,7 +10,7 @@ use Rattle.program_status.specs.Answers.{Answers}
 use Rattle.program_status.specs.Status.{status_of_number}
 use Rattle.program_status.specs.declared.status.Status.{Status}
 use Rattle.program_status.specs.declared.status.Status.TheVariants.{OutOfMemory}
-use Rattle.job_run.specs.JobsRun.{AcceptsJobs, RefusesJobs, RefusesJobText, status_of_jobs_fault}
+use Rattle.job_run.specs.JobsRun.{AcceptsJobs, RefusesJobs, status_of_jobs_fault}
 
 -- a fault that says out of memory
 memory_of_fault : (fault : JobFault) → fault.kind ≡ kind.OutOfMemory → status_of_jobs_fault fault ≡ OutOfMemory

@@ -1,1 +1,2 @@
 pub mod JobsRun
+pub mod Laws

@@ -5,6 +5,7 @@
 #![tactic(auto)]
 
 mod jobs;
+pub mod laws;
 
 pub use jobs::jobs_text;
 
