@@ -7,8 +7,12 @@
 
 mod arrival;
 mod comparing;
+#[cfg(test)]
+mod comparing_tests;
 pub mod comparison;
 mod departure;
+#[cfg(test)]
+mod plain;
 #[cfg(test)]
 mod tests;
 mod weak;
