@@ -1,12 +1,12 @@
 //! The board that the callers share, and the calls that they make with their passes.
-ghost use Rattle.std.specs.Prelude.{◌≡◌, ◌≤◌, length, map, true, IfOk, IfErr, MatchResult};
+ghost use Rattle.std.specs.Prelude.{◌≡◌, ◌≤◌, length, map, true, IfOk, IfErr, OnOk, MatchResult};
 ghost use Rattle.task_set.specs.Event.{IsOfSystem};
 ghost use Rattle.order_queues.specs.Ends.{new_eye, new_sender};
 ghost use Rattle.event_history.specs.Boards.{AreNew, AreAll, AreEyesOf, AreFor, Grown, IsMade};
 ghost use Rattle.event_history.specs.Holdings.{queues_of};
 ghost use Rattle.event_history.specs.Gathering.{AreRows};
 ghost use Rattle.event_history.specs.Meeting.{Counted, Met};
-ghost use Rattle.event_history.specs.Posting.{Posted, Refused, Ended, SawAll, TookTurn, turn_looks};
+ghost use Rattle.event_history.specs.Posting.{Posted, Refused, Ended, SawAll, TookTurn, WasBusy, turn_looks};
 ghost use Rattle.event_history.specs.Flushing.{Flushed};
 ghost use Rattle.event_history.specs.Closing.{IsCoreOf, AreSendersOf};
 
@@ -170,17 +170,18 @@ impl Board {
         unreachable!()
     }
 
-    /// One try to close the core.
-    fn try_finish(&self, pass: &mut Pass) -> bool
+    /// One try to close the core. Where the turn is busy, the word that showed it is the Err.
+    fn try_finish(&self, pass: &mut Pass) -> Result<(), u64>
         requires board { pass.old.board ≡ self.now.id }
         ensures grown { Grown pass.old pass.new }
         ensures mine { pass.new.mine ≡ pass.old.mine }
         ensures eyes { pass.new.eyes ≡ pass.old.eyes }
         ensures made { IsMade self.now }
-        ensures closed { result ≡ true → SawAll self.now.set pass.old pass.new
-            × (pass.new.saw_close ≡ true) }
-        ensures turn { result ≡ true
-            → pass.new.looks ≡ turn_looks pass.old.looks (length pass.new.seen) }
+        ensures busy { IfErr result (WasBusy pass.old pass.new) }
+        ensures closed { OnOk result (SawAll self.now.set pass.old pass.new
+            × (pass.new.saw_close ≡ true)) }
+        ensures turn { OnOk result
+            (pass.new.looks ≡ turn_looks pass.old.looks (length pass.new.seen)) }
     {
         turn::close_once::<Brand>(&self.table.shared, &mut pass.state)
     }
@@ -197,7 +198,7 @@ impl Board {
         ensures closed { pass.new.saw_close ≡ true }
     {
         for _ in rt.forever() {
-            if self.try_finish(pass) {
+            if self.try_finish(pass).is_ok() {
                 return;
             }
             thread::yield_now();
@@ -213,7 +214,8 @@ impl Board {
         ensures grown { Grown pass.old pass.new }
         ensures mine { pass.new.mine ≡ pass.old.mine }
         ensures eyes { AreEyesOf self.now.queues pass.new.eyes }
-        ensures busy { IfErr result (λ _. pass.new.eyes ≡ pass.old.eyes) }
+        ensures busy { IfErr result (λ found. (pass.new.eyes ≡ pass.old.eyes)
+            × WasBusy pass.old pass.new found) }
         ensures made { IsMade self.now }
         ensures flushed { IfOk result (λ owed. SawAll self.now.set pass.old pass.new
             × Flushed self.now.set pass.old pass.new owed) }

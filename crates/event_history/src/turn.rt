@@ -1,5 +1,5 @@
 //! The turn word: its rule, the kinds of step that change it, and the calls that are made of these steps.
-ghost use Rattle.std.specs.Prelude.{◌≡◌, ℕ, ◌+◌, ◌<◌, ◌≤◌, [], length, map, IfOk, IfErr, true};
+ghost use Rattle.std.specs.Prelude.{◌≡◌, ℕ, ◌+◌, ◌<◌, ◌≤◌, [], length, map, IfOk, IfErr, OnOk, true};
 ghost use Rattle.task_set.specs.TaskSet.{IsTaskSet};
 ghost use Rattle.task_set.specs.Event.{IsOfSystem};
 ghost use Rattle.event_history.specs.Turn.{Setting, setting_of, TurnRule, fresh, loads_play, takes_play, posts_play, leaves_play, made_one, newcomer, note, informed, taken_in, spent};
@@ -116,7 +116,7 @@ ghost use Rattle.event_history.specs.Boards.{Grown, AreEyesOf, AreFor};
 ghost use Rattle.event_history.specs.Flushing.{Flushed};
 ghost use Rattle.event_history.specs.Holdings.{SentBegins, NoneSent, queues_of};
 ghost use Rattle.event_history.specs.Meeting.{Counted, Told, Met};
-ghost use Rattle.event_history.specs.Posting.{Posted, Refused, SawAll, turn_looks};
+ghost use Rattle.event_history.specs.Posting.{Posted, Refused, SawAll, WasBusy, turn_looks};
 ghost use Rattle.event_history.specs.PassStates.{IsOfTurn, IsTurnTable, Agrees, data_at};
 ghost use Rattle.link_state.specs.State.{start_of};
 ghost use Rattle.event_history.specs.Gathering.{IsIn, AllIn, AllOf, IsGathering};
@@ -270,8 +270,8 @@ pub fn meet(turn: &Turn, one: &mut PassState, other: &mut PassState)
     tell(turn, other, one);
 }
 
-/// One try at the turn, to close the core.
-pub fn close_once<J: Over>(turn: &Turn, state: &mut PassState) -> bool
+/// One try at the turn, to close the core. Where it is busy, the word that showed it is the Err.
+pub fn close_once<J: Over>(turn: &Turn, state: &mut PassState) -> Result<(), u64>
     requires setting { J.setting ≡ setting_of turn.now.key }
     requires table { IsOfTurn turn.now.table_id state.old }
     requires free { IsFree state.old.seat.me × Agrees state.old }
@@ -280,21 +280,23 @@ pub fn close_once<J: Over>(turn: &Turn, state: &mut PassState) -> bool
     ensures grown { Grown (data_at turn.now.table_id state.old)
         (data_at turn.now.table_id state.new) }
     ensures mine { state.new.seat.me.0.mine ≡ state.old.seat.me.0.mine }
-    ensures closed { result ≡ true
-        → SawAll turn.now.key.set.value (data_at turn.now.table_id state.old)
-        (data_at turn.now.table_id state.new) × (state.new.seat.me.0.saw_close ≡ true) }
-    ensures turn { result ≡ true → state.new.seat.me.0.looks
-        ≡ turn_looks state.old.seat.me.0.looks (length state.new.seat.me.0.seen) }
+    ensures busy { IfErr result (WasBusy (data_at turn.now.table_id state.old)
+        (data_at turn.now.table_id state.new)) }
+    ensures closed { OnOk result (SawAll turn.now.key.set.value (data_at turn.now.table_id state.old)
+        (data_at turn.now.table_id state.new) × (state.new.seat.me.0.saw_close ≡ true)) }
+    ensures turn { OnOk result (state.new.seat.me.0.looks
+        ≡ turn_looks state.old.seat.me.0.looks (length state.new.seat.me.0.seen)) }
 {
-    let Ok(mut held) = begin::<J>(turn, state) else {
-        return false;
+    let mut held = match begin::<J>(turn, state) {
+        Ok(held) => held,
+        Err(found) => return Err(found),
     };
     held.close_now();
     leave(turn, state, held);
-    true
+    Ok(())
 }
 
-/// One try at the turn, to send what is owed.
+/// One try at the turn, to send what is owed. Where it is busy, the word that showed it is the Err.
 pub fn flush_once<J: Over, R: Wait>(
     turn: &Turn,
     rt: &R,
@@ -314,7 +316,8 @@ pub fn flush_once<J: Over, R: Wait>(
     ensures grown { Grown (data_at turn.now.table_id state.old)
         (data_at turn.now.table_id state.new) }
     ensures mine { state.new.seat.me.0.mine ≡ state.old.seat.me.0.mine }
-    ensures busy { IfErr result (λ _. state.new.eyes ≡ state.old.eyes) }
+    ensures busy { IfErr result (λ found. (state.new.eyes ≡ state.old.eyes)
+        × WasBusy (data_at turn.now.table_id state.old) (data_at turn.now.table_id state.new) found) }
     ensures flushed { IfOk result
         (λ owed. SawAll turn.now.key.set.value (data_at turn.now.table_id state.old)
         (data_at turn.now.table_id state.new)
