@@ -1,5 +1,5 @@
 -- The scheduler by counts keeps its invariant, and the node of a reply certifies.
-use Rattle.std.proofs.Common.{◌≡◌, ℕ, ◌<◌, true, false, length, refl, ap, ◌∙◌, arith, get_or-set_same, Some, None}
+use Rattle.std.proofs.Common.{◌≡◌, ℕ, ◌<◌, true, false, length, refl, ap, ◌∙◌, arith, get_or-set_same, Option, Some, None, IfSome, sym}
 use Rattle.task_set.specs.declared.event.Event.{Event}
 use Rattle.task_set.specs.declared.event.Event.TheVariants.{Arrive, Depart, Tick, Affinity, Offline, Online}
 use Rattle.nested_masks.specs.NestedData.{NestedData, IsNested, ready_of, linked_of, mask_in, IsUrgenter}
@@ -12,6 +12,15 @@ use Rattle.nested_masks.proofs.Changes.{counted-waiting, counted-unlinked, count
 use Rattle.nested_masks.proofs.Kept.{kept-entering, kept-staying_out, kept-displacing, displaced, out_number, t_unlinked, node_keeps, free-between}
 use Rattle.nested_masks.proofs.KeptByDepartures.{kept-leaving, kept-unfilled, kept-filled}
 use Rattle.nested_masks.proofs.BestByCounts.{certifies_everywhere}
+
+-- the task of an arrival
+abbrev arriving : Event → ℕ
+arriving (Arrive t) = t
+arriving (Depart t) = 0
+arriving (Tick units) = 0
+arriving (Affinity t mask) = 0
+arriving (Offline p) = 0
+arriving (Online p) = 0
 
 module _ (n : NestedData) (ok : IsNested n) (t : ℕ) (number : t < length n.priorities) where
   ready_then : ready_of (with_waiting n t) t ≡ true
@@ -58,59 +67,88 @@ module _ (n : NestedData) (ok : IsNested n) (t : ℕ) (number : t < length n.pri
     }
 
   -- the node of a reply certifies the task that waits then
-  pub step_certifies : (reply : NestedReply) (new : NestedData) → IsNested new → ArriveStep n t reply new → NodeCertifies new (Arrive t) reply
-  step_certifies answer.Entered new nested step = tt
-  step_certifies (answer.Displaced out node) new nested step =
-      certifies_everywhere new nested node out (rw step.1.after
-      (node_keeps n ok.counted t number step.0 node out step.1.smallest step.1.out_there step.1.out_less_urgent out step.1.out_there.within (omega arith)))
-  step_certifies (answer.Waits node) new nested step =
-      certifies_everywhere new nested node t (rw step.1.after record { tight = step.1.smallest.tight; contains = step.1.smallest.contains; more_urgent = step.1.more_urgent })
-  step_certifies (answer.Freed entered) new nested step = tt
-  step_certifies answer.Left new nested step = tt
-  step_certifies answer.Ticked new nested step = tt
-  step_certifies answer.AlreadyReady new nested step = tt
-  step_certifies answer.NotReady new nested step = tt
+  arrival_certifies : (reply : NestedReply) (new : NestedData) → IsNested new → ArriveStep n t reply new → NodeCertifies new (Arrive t) reply
+  arrival_certifies reply new nested step = record {
+    waits = λ u node arrived is.
+        let this = rw is at step in
+        let same : u ≡ t = sym (ap arriving arrived) in
+        certifies_everywhere new nested node u (rw (same, this.1.after) record { tight = this.1.smallest.tight; contains = this.1.smallest.contains; more_urgent = this.1.more_urgent });
+    displaced = λ out node is.
+        let this = rw is at step in
+        certifies_everywhere new nested node out (rw this.1.after
+        (node_keeps n ok.counted t number this.0 node out this.1.smallest this.1.out_there this.1.out_less_urgent out this.1.out_there.within (omega arith)));
+  }
 
 pub laminar_certifies : (n : NestedData) → IsNested n → (event : Event) (reply : NestedReply) (new : NestedData) → IsNested new → LaminarStep n event reply new → NodeCertifies new event reply
-laminar_certifies n ok (Arrive t) reply new nested step = step_certifies n ok t step.0 reply new nested step.1
-laminar_certifies n ok (Depart t) reply new nested step = tt
-laminar_certifies n ok (Tick units) reply new nested step = tt
-laminar_certifies n ok (Affinity t mask) reply new nested step = tt
-laminar_certifies n ok (Offline p) reply new nested step = tt
-laminar_certifies n ok (Online p) reply new nested step = tt
+laminar_certifies n ok (Arrive t) reply new nested step = arrival_certifies n ok t step.0 reply new nested step.1
+laminar_certifies n ok (Depart t) reply new nested step = record {
+  waits = λ u node arrived is. absurd (let this = rw is at step in this.1);
+  displaced = λ out node is. absurd (let this = rw is at step in this.1);
+}
+laminar_certifies n ok (Tick units) reply new nested step = record {
+  waits = λ u node arrived is. absurd (let ticked = step.0 in cc);
+  displaced = λ out node is. absurd (let ticked = step.0 in cc);
+}
+laminar_certifies n ok (Affinity t mask) reply new nested step = absurd step
+laminar_certifies n ok (Offline p) reply new nested step = absurd step
+laminar_certifies n ok (Online p) reply new nested step = absurd step
 
 column_kept : (n new changed : NestedData) → new ≡ changed → changed.priorities ≡ n.priorities → new.priorities ≡ n.priorities
 column_kept n new changed e same = ap (λ (m : NestedData). m.priorities) e ∙ same
 
-arrival_keeps : (n : NestedData) → IsNested n → (t : ℕ) (reply : NestedReply) (new : NestedData) → ArriveStep n t reply new → (new.priorities ≡ n.priorities) × NamesTasks (length n.priorities) reply
-arrival_keeps n ok t answer.Entered new step = (column_kept n new _ step.1.after refl, tt)
-arrival_keeps n ok t (answer.Displaced out node) new step = (column_kept n new _ step.1.after refl, linked_number n ok.counted out step.1.out_there.linked)
-arrival_keeps n ok t (answer.Waits node) new step = (column_kept n new _ step.1.after refl, tt)
-arrival_keeps n ok t (answer.Freed entered) new step = absurd step
-arrival_keeps n ok t answer.Left new step = absurd step
-arrival_keeps n ok t answer.Ticked new step = absurd step
-arrival_keeps n ok t answer.AlreadyReady new step = (column_kept n new n step.1 refl, tt)
-arrival_keeps n ok t answer.NotReady new step = absurd step
+arrival_keeps : (n : NestedData) (t : ℕ) (reply : NestedReply) (new : NestedData) → ArriveStep n t reply new → new.priorities ≡ n.priorities
+arrival_keeps n t answer.Entered new step = column_kept n new _ step.1.after refl
+arrival_keeps n t (answer.Displaced out node) new step = column_kept n new _ step.1.after refl
+arrival_keeps n t (answer.Waits node) new step = column_kept n new _ step.1.after refl
+arrival_keeps n t (answer.Freed entered) new step = absurd step
+arrival_keeps n t answer.Left new step = absurd step
+arrival_keeps n t answer.Ticked new step = absurd step
+arrival_keeps n t answer.AlreadyReady new step = column_kept n new n step.1 refl
+arrival_keeps n t answer.NotReady new step = absurd step
 
-departure_keeps : (n : NestedData) → IsNested n → (t : ℕ) (reply : NestedReply) (new : NestedData) → t < length n.priorities → DepartStep n t reply new → (new.priorities ≡ n.priorities) × NamesTasks (length n.priorities) reply
-departure_keeps n ok t answer.Entered new number step = absurd step
-departure_keeps n ok t (answer.Displaced out node) new number step = absurd step
-departure_keeps n ok t (answer.Waits node) new number step = absurd step
-departure_keeps n ok t (answer.Freed None) new number step = (column_kept n new _ step.1.1 refl, tt)
-departure_keeps n ok t (answer.Freed (Some w)) new number step =
-    let lt = flag_number _ w step.1.0.free.waits.ready in
-    let count = (counted-without n ok.counted t number).state.ready_count in
-    (column_kept n new _ step.1.1 refl, omega arith)
-departure_keeps n ok t answer.Left new number step = (column_kept n new _ step.1 refl, tt)
-departure_keeps n ok t answer.Ticked new number step = absurd step
-departure_keeps n ok t answer.AlreadyReady new number step = absurd step
-departure_keeps n ok t answer.NotReady new number step = (column_kept n new n step.1 refl, tt)
+departure_keeps : (n : NestedData) (t : ℕ) (reply : NestedReply) (new : NestedData) → DepartStep n t reply new → new.priorities ≡ n.priorities
+departure_keeps n t answer.Entered new step = absurd step
+departure_keeps n t (answer.Displaced out node) new step = absurd step
+departure_keeps n t (answer.Waits node) new step = absurd step
+departure_keeps n t (answer.Freed None) new step = column_kept n new _ step.1.1 refl
+departure_keeps n t (answer.Freed (Some w)) new step = column_kept n new _ step.1.1 refl
+departure_keeps n t answer.Left new step = column_kept n new _ step.1 refl
+departure_keeps n t answer.Ticked new step = absurd step
+departure_keeps n t answer.AlreadyReady new step = absurd step
+departure_keeps n t answer.NotReady new step = column_kept n new n step.1 refl
 
--- a step keeps the tasks, and its reply names tasks of the set
-pub step_keeps : (n : NestedData) → IsNested n → (event : Event) (reply : NestedReply) (new : NestedData) → LaminarStep n event reply new → (new.priorities ≡ n.priorities) × NamesTasks (length n.priorities) reply
-step_keeps n ok (Arrive t) reply new step = arrival_keeps n ok t reply new step.1
-step_keeps n ok (Depart t) reply new step = departure_keeps n ok t reply new step.0 step.1
-step_keeps n ok (Tick units) reply new step = (column_kept n new n step.1 refl, rw step.0 tt)
-step_keeps n ok (Affinity t mask) reply new step = absurd step
-step_keeps n ok (Offline p) reply new step = absurd step
-step_keeps n ok (Online p) reply new step = absurd step
+-- a step keeps the tasks
+pub step_keeps : (n : NestedData) (event : Event) (reply : NestedReply) (new : NestedData) → LaminarStep n event reply new → new.priorities ≡ n.priorities
+step_keeps n (Arrive t) reply new step = arrival_keeps n t reply new step.1
+step_keeps n (Depart t) reply new step = departure_keeps n t reply new step.1
+step_keeps n (Tick units) reply new step = column_kept n new n step.1 refl
+step_keeps n (Affinity t mask) reply new step = absurd step
+step_keeps n (Offline p) reply new step = absurd step
+step_keeps n (Online p) reply new step = absurd step
+
+module _ (n : NestedData) (ok : IsNested n) where
+  -- the task that joins is of the set
+  filled_named : (t : ℕ) → t < length n.priorities → (new : NestedData) (entered : Option ℕ) → DepartStep n t (answer.Freed entered) new → IfSome entered (λ w. w < length n.priorities)
+  filled_named t number new None step = tt
+  filled_named t number new (Some w) step =
+      let lt = flag_number _ w step.1.0.free.waits.ready in
+      let count = (counted-without n ok.counted t number).state.ready_count in
+      omega arith
+
+  -- a reply names tasks of the set
+  pub step_names : (event : Event) (reply : NestedReply) (new : NestedData) → LaminarStep n event reply new → NamesTasks (length n.priorities) reply
+  step_names (Arrive t) reply new step = record {
+    displaced = λ out node is. let this = rw is at step in linked_number n ok.counted out this.1.1.out_there.linked;
+    freed = λ entered is. absurd (let this = rw is at step in this.1);
+  }
+  step_names (Depart t) reply new step = record {
+    displaced = λ out node is. absurd (let this = rw is at step in this.1);
+    freed = λ entered is. filled_named t step.0 new entered (rw is at step.1);
+  }
+  step_names (Tick units) reply new step = record {
+    displaced = λ out node is. absurd (let ticked = step.0 in cc);
+    freed = λ entered is. absurd (let ticked = step.0 in cc);
+  }
+  step_names (Affinity t mask) reply new step = absurd step
+  step_names (Offline p) reply new step = absurd step
+  step_names (Online p) reply new step = absurd step

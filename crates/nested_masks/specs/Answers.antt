@@ -1,5 +1,5 @@
 -- What a scheduler by counts is asked, and what its answers say.
-use Rattle.std.specs.Prelude.{ℕ, ◌<◌}
+use Rattle.std.specs.Prelude.{◌≡◌, ℕ, ◌<◌}
 use Rattle.task_set.specs.TaskSet.{SetData, masks}
 use Rattle.task_set.specs.declared.event.Event.{Event}
 use Rattle.task_set.specs.declared.event.Event.TheVariants.{Arrive, Depart, Tick}
@@ -22,9 +22,8 @@ abbrev pub IsCrossingFault : SetData → NestedFault → Type 0
 IsCrossingFault set (Crossing one other) = IsFirstCrossing (masks set) one other
 IsCrossingFault set OutOfMemory = ⊥
 
--- the node of a reply that the task waits certifies it in every placement of the linked tasks; so does the node of a reply
--- that a task was displaced certify that one
-abbrev pub NodeCertifies : NestedData → Event → NestedReply → Type 0
-NodeCertifies new (Arrive t) (answer.Waits node) = CertifiesEverywhere new node t
-NodeCertifies new (Arrive t) (answer.Displaced out node) = CertifiesEverywhere new node out
-NodeCertifies new event reply = Unit {0}
+-- the node of a reply certifies the task that waits, in every placement of the linked tasks: the one that arrived, or the one
+-- that was displaced
+pub record NodeCertifies (new : NestedData) (event : Event) (reply : NestedReply) : Type 0 where
+  pub waits : (t node : ℕ) → event ≡ Arrive t → reply ≡ answer.Waits node → CertifiesEverywhere new node t
+  pub displaced : (out node : ℕ) → reply ≡ answer.Displaced out node → CertifiesEverywhere new node out

@@ -1,6 +1,6 @@
 -- The text of a run by counts: a header, how many entries there are, a line for each event with how many tasks are linked
 -- after it and the reply, and the end.
-use Rattle.std.specs.Prelude.{◌≡◌, ℕ, ◌<◌, All, List, [], ◌∷◌, ◌++◌, codes, length, map, Option, None, Some}
+use Rattle.std.specs.Prelude.{◌≡◌, ℕ, ◌<◌, All, List, [], ◌∷◌, ◌++◌, codes, length, map, Option, None, Some, IfSome}
 use Rattle.std.specs.List.{flat_map}
 use Rattle.affinity_mask.specs.Number.{canonical_number}
 use Rattle.affinity_mask.specs.ListText.{canonical_list}
@@ -99,7 +99,6 @@ pub record IsWrittenSoFar (set : SetData) (events : List Event) (head : List ℕ
   pub written : text ≡ head ++ flat_map (entry_line set) entries
 
 -- the tasks that a reply names are of the set
-abbrev pub NamesTasks : ℕ → NestedReply → Type 0
-NamesTasks count (Displaced out node) = out < count
-NamesTasks count (Freed (Some t)) = t < count
-NamesTasks count reply = Unit {0}
+pub record NamesTasks (count : ℕ) (reply : NestedReply) : Type 0 where
+  pub displaced : (out node : ℕ) → reply ≡ Displaced out node → out < count
+  pub freed : (entered : Option ℕ) → reply ≡ Freed entered → IfSome entered (λ t. t < count)
