@@ -68,20 +68,15 @@ module _ (n : NestedData) (ok : IsCounted n) where
       ]
 
   -- a mask that lies in no tight node has a processor that no tight node has
-  free_outside : (t tight : ℕ) → t < length n.priorities → IsTightUnion n (length n.priorities) tight → IsInNoTight n (mask_in n t) → Within (mask_in n t) tight → ⊥
+  free_outside : (t tight : ℕ) → t < length n.priorities → IsTightUnion n tight → IsInNoTight n (mask_in n t) → Within (mask_in n t) tight → ⊥
   free_outside t tight number union free within =
       let placed = placed_by_counts n.masks ok.laminar (linked_of n) (λ u h. in_masks n ok u (linked_number n ok u h)) ok.fits in
-      uncovered placed.0 placed.1 (mask_in n t) (t, in_masks n ok t number, refl) free (λ p member.
-      let found = union.inside p (within p member) in
-      (mask_in n found.0, found.2, found.3))
+      uncovered placed.0 placed.1 (mask_in n t) (t, in_masks n ok t number, refl) free (λ p member. union.inside p (within p member))
 
-  outside_free : (X tight : ℕ) → IsTightUnion n (length n.priorities) tight → (Within X tight → ⊥) → IsInNoTight n X
-  outside_free X tight union outside node is_tight within =
-      let is_node = is_tight.node in
-      let count = ok.state.masks_count in
-      outside (within_trans X node tight within (rw is_node.2 at (union.around is_node.0 (omega arith) (rw is_node.2 is_tight))))
+  outside_free : (X tight : ℕ) → IsTightUnion n tight → (Within X tight → ⊥) → IsInNoTight n X
+  outside_free X tight union outside node is_tight within = outside (within_trans X node tight within (union.around node is_tight))
 
   -- a waiting task is free where its mask does not lie among the processors of the tight nodes
-  pub free_by_union : (v tight : ℕ) → v < length n.priorities → IsTightUnion n (length n.priorities) tight → Waits n v → (within : Bool) → IsTrue within ↔ Within (mask_in n v) tight → IsTrue (not within) ↔ IsFree n v
+  pub free_by_union : (v tight : ℕ) → v < length n.priorities → IsTightUnion n tight → Waits n v → (within : Bool) → IsTrue within ↔ Within (mask_in n v) tight → IsTrue (not within) ↔ IsFree n v
   free_by_union v tight number union waits true is = (λ h. absurd (false≢true h), λ free. absurd (free_outside v tight number union free.free (is.0 refl)))
   free_by_union v tight number union waits false is = (λ h. record { waits = waits; free = outside_free (mask_in n v) tight union (λ within. false≢true (is.1 within)) }, λ free. refl)

@@ -1,13 +1,16 @@
 pub mod BestByCounts
 pub mod Changes
 pub mod Covered
+pub mod FullNodes
 pub mod Hall
 pub mod Held
 pub mod Kept
 pub mod KeptByDepartures
 pub mod NestedSteps
+pub mod Passing
 pub mod Placeables
 pub mod Replayed
+pub mod Rows
 pub mod Scanned
 pub mod Started
 pub mod Tallied

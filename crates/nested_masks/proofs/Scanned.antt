@@ -1,15 +1,14 @@
 -- One more task of a scan.
-use Rattle.std.proofs.Common.{◌≡◌, ℕ, ◌+◌, ◌<◌, Bool, true, false, ◌&&◌, None, List, length, refl, sym, ap, ◌∙◌, inl, inr, arith, add-one, below_more}
+use Rattle.std.proofs.Common.{◌≡◌, ℕ, ◌+◌, ◌<◌, Bool, true, false, ◌&&◌, None, List, length, refl, sym, ap, ◌∙◌, inl, inr, arith, add-one}
 use Rattle.std.proofs.lemmas.Bool.{cases_Bool, cases_order, and_from, and_parts, true≢false}
 use Rattle.affinity_mask.specs.ProcSet.{Within}
 use Rattle.certificate_laws.proofs.Counts.{count_below, count_below-more, count_below-same}
-use Rattle.nested_masks.specs.Laminar.{IsTight, Cross, IsLaminar, IsFirstCrossing, is_within, mask_at}
-use Rattle.nested_masks.specs.NestedData.{NestedData, IsCounted, IsUrgenter, ready_of, linked_of, priority_in, mask_in}
+use Rattle.nested_masks.specs.Laminar.{Cross, IsLaminar, IsFirstCrossing, is_within, mask_at}
+use Rattle.nested_masks.specs.NestedData.{NestedData, IsCounted, IsUrgenter, ready_of, priority_in}
 use Rattle.nested_masks.specs.LaminarStep.{IsLeastUrgentIn, AllUrgenterIn}
-use Rattle.nested_masks.specs.Scans.{IsLeastTightBelow, IsLeastUrgentScan, IsLeastUrgentBelow, CrossesNone, IsFirstCrossed}
-use Rattle.nested_masks.proofs.Withins.{is_within-from, within_from, within_same, within_trans}
+use Rattle.nested_masks.specs.Scans.{IsLeastUrgentScan, IsLeastUrgentBelow, CrossesNone, IsFirstCrossed}
+use Rattle.nested_masks.proofs.Withins.{is_within-from, within_from, within_same}
 use Rattle.nested_masks.proofs.Changes.{linked_number}
-use Rattle.nested_masks.proofs.Kept.{nodes_nest}
 
 -- a test that is given by a fact counts one more where it holds, and no more where it does not
 pub held_one_more : (tasks : ℕ → Bool) (mask X t count : ℕ) (masks : ℕ → ℕ) → masks t ≡ mask → count ≡ count_below (λ u. tasks u && is_within (masks u) X) t → (tasks t ≡ true) × Within mask X → count + 1 ≡ count_below (λ u. tasks u && is_within (masks u) X) (t + 1)
@@ -22,20 +21,6 @@ held_no_more tasks mask X t count masks is_mask so_far not_here = elim (cases_Bo
   | inl h ↦ let parts = and_parts (tasks t) (is_within (masks t) X) h in absurd (not_here (parts.0, rw (← is_mask) (within_from _ _ parts.1)))
   | inr h ↦ rw (add-one, count_below-same (λ u. tasks u && is_within (masks u) X) t h, so_far) refl
 ]
-
--- a tight node that does not contain the one found so far is smaller
-pub smaller_found : (n : NestedData) → IsCounted n → (t u mask node d : ℕ) → t < length n.priorities → mask ≡ mask_in n t → node ≡ mask_in n u → Within mask node → IsTight n.masks (linked_of n) (mask_in n u) → IsLeastTightBelow n (mask_in n t) u d → (Within d node → ⊥) → IsLeastTightBelow n (mask_in n t) (u + 1) node
-smaller_found n ok t u mask node d number is_mask is_node contains tight before larger =
-    let contains' : Within (mask_in n t) (mask_in n u) = rw (← is_mask, ← is_node) contains in
-    let nest : Within (mask_in n u) d = elim (nodes_nest n ok t d (mask_in n u) number before.tight.node tight.node before.contains contains') [
-      | inl within ↦ absurd (larger (rw is_node within))
-      | inr within ↦ within
-    ] in
-    rw is_node record {
-      tight = tight;
-      contains = contains';
-      least = below_more _ _ (λ k lt k_tight k_contains. within_trans (mask_in n u) d (mask_in n k) nest (before.least k lt k_tight k_contains)) (λ k_tight k_contains. within_same (mask_in n u));
-    }
 
 -- ---- masks that cross
 pub crosses_back : (masks : List ℕ) (t u : ℕ) → Cross masks t u → Cross masks u t

@@ -5,5 +5,6 @@ pub mod LaminarStep
 pub mod Laws
 pub mod NestedData
 pub mod NestedText
+pub mod Nodes
 pub mod Scans
 pub mod Views

@@ -16,20 +16,10 @@ pub record IsFirstCrossed (masks : List ℕ) (one other : ℕ) : Type 0 where
   pub cross : Cross masks one other
   pub first : (u : ℕ) → one < u → u < other → Cross masks one u → ⊥
 
--- of the masks of the first k tasks, none is a tight node that contains X, or `node` is the smallest one
-pub record IsLeastTightBelow (n : NestedData) (X k node : ℕ) : Type 0 where
-  pub tight : IsTight n.masks (linked_of n) node
-  pub contains : Within X node
-  pub least : (u : ℕ) → u < k → IsTight n.masks (linked_of n) (mask_in n u) → Within X (mask_in n u) → Within node (mask_in n u)
-
-abbrev pub IsTightScan : NestedData → ℕ → ℕ → Option ℕ → Type 0
-IsTightScan n X k None = (u : ℕ) → u < k → IsTight n.masks (linked_of n) (mask_in n u) → Within X (mask_in n u) → ⊥
-IsTightScan n X k (Some node) = IsLeastTightBelow n X k node
-
--- X has the processors of the tight nodes among the masks of the first k tasks, and no others
-pub record IsTightUnion (n : NestedData) (k X : ℕ) : Type 0 where
-  pub inside : (p : ℕ) → IsTrue (has X p) → (u : ℕ) × (u < k) × IsTight n.masks (linked_of n) (mask_in n u) × IsTrue (has (mask_in n u) p)
-  pub around : (u : ℕ) → u < k → IsTight n.masks (linked_of n) (mask_in n u) → Within (mask_in n u) X
+-- X has the processors of the tight nodes, and no others
+pub record IsTightUnion (n : NestedData) (X : ℕ) : Type 0 where
+  pub inside : (p : ℕ) → IsTrue (has X p) → (node : ℕ) × IsTight n.masks (linked_of n) node × IsTrue (has node p)
+  pub around : (node : ℕ) → IsTight n.masks (linked_of n) node → Within node X
 
 -- of the first k tasks, none is linked with a mask within the node, or d is the least urgent one
 pub record IsLeastUrgentBelow (n : NestedData) (node k d : ℕ) : Type 0 where

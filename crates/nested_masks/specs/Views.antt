@@ -1,9 +1,12 @@
 -- What contracts see of the stored columns.
-use Rattle.std.specs.Prelude.{◌≡◌, ℕ, List}
+use Rattle.std.specs.Prelude.{◌≡◌, ℕ, ◌<◌, ◌≤◌, List, Vec, length, get_or}
+use Rattle.std.specs.declared.alloc.Global.{Global}
 use Rattle.nested_masks.specs.NestedData.{NestedData, IsCounted, IsNested, linked_of}
 use Rattle.nested_masks.specs.NestedText.{linked_count}
 use Rattle.nested_masks.specs.Counting.{IsHeldBy}
+use Rattle.nested_masks.specs.Nodes.{NodeData, AreNodes, AreRows}
 use Rattle.nested_masks.specs.declared.counts.Counts.TheInside as counts
+use Rattle.nested_masks.specs.declared.node_counts.NodeCounts.TheInside as nodes
 use Rattle.nested_masks.specs.declared.nested.Nested.TheInside as nested
 
 -- the stored columns
@@ -16,15 +19,31 @@ counts_view a = record {
   linked = a.linked.items;
 }
 
--- no node holds too many linked tasks; how many the mask of each task holds, and how many there are
-pub record IsTallied (n : NestedData) (held : List ℕ) (count : ℕ) : Type 0 where
+-- the stored nodes
+abbrev pub nodes_view : nodes.Inside → NodeData
+nodes_view a = record { nodes = a.nodes.items; node_of = a.node_of.items; held = a.held.items }
+
+-- each node has its row, and each task has the number of a node
+pub record AreHeld (nodes node_of held : List ℕ) (rows : List (Vec ℕ Global)) : Type 0 where
+  pub rowed : AreRows nodes (length nodes) rows
+  pub numbers : (t : ℕ) → t < length node_of → get_or node_of t 0 < length nodes
+  pub count : length held ≡ length nodes
+  pub few : length nodes ≤ 1024
+
+-- the stored rows are right at every moment
+abbrev pub AreStoredNodes : nodes.Inside → Type 0
+AreStoredNodes a = AreHeld a.nodes.items a.node_of.items a.held.items a.around.items
+
+-- no node holds too many linked tasks; how many each node holds, and how many there are
+pub record IsTallied (n : NestedData) (d : NodeData) (count : ℕ) : Type 0 where
   pub counted : IsCounted n
-  pub each_mask : IsHeldBy n.masks (linked_of n) held
-  pub all_masks : count ≡ linked_count n
+  pub nodes : AreNodes n.masks (length n.masks) d.nodes d.node_of
+  pub each_node : IsHeldBy n.masks d.nodes (linked_of n) d.held
+  pub all_tasks : count ≡ linked_count n
 
 -- the stored counts are right at every moment
 abbrev pub IsStored : counts.Inside → Type 0
-IsStored a = IsTallied (counts_view a) a.held.items a.linked_count
+IsStored a = IsTallied (counts_view a) a.nodes a.linked_count
 
 -- what contracts see of a scheduler by counts
 abbrev pub nested_view : nested.Inside → NestedData

@@ -1,14 +1,14 @@
 //! Which tasks are ready and linked, and what nodes hold.
-ghost use Rattle.std.specs.Prelude.{◌≡◌, ◌⊎◌, ℕ, ◌<◌, ◌≤◌, ◌↔◌, ◌+◌, IsTrue, IfOk, IfErr, MatchOption, true, false, length, replicate, slice_index};
+ghost use Rattle.std.specs.Prelude.{◌≡◌, ◌⊎◌, ℕ, ◌<◌, ◌≤◌, ◌↔◌, ◌+◌, IsTrue, IfOk, IfErr, MatchOption, true, false, length, replicate};
 ghost use Rattle.affinity_mask.specs.ProcSet.{Within};
 ghost use Rattle.task_set.specs.TaskSet.{masks, priorities};
-ghost use Rattle.nested_masks.specs.Laminar.{IsTight, IsLaminar, mask_at, tasks_in};
-ghost use Rattle.nested_masks.specs.Counting.{HoldsMoreBelow};
+ghost use Rattle.nested_masks.specs.Laminar.{IsLaminar, tasks_in};
 ghost use Rattle.nested_masks.specs.Answers.{IsCrossingFault};
 ghost use Rattle.nested_masks.specs.declared.fault.NestedFault.{NestedFault};
 
 use crate::crossing::first_crossing;
 use crate::fault::NestedFault;
+use crate::node_counts::NodeCounts;
 use affinity_mask::{OutOfMemory, ProcSet};
 use std::alloc::Global;
 use std::marker::Model;
@@ -23,8 +23,8 @@ pub(crate) struct Counts {
     ready: Vec<bool>,
     linked: Vec<bool>,
 
-    /// How many linked tasks have masks within that of the task.
-    held: Vec<u32>,
+    /// The masks as nodes, and how many linked tasks they hold.
+    nodes: NodeCounts,
 
     /// How many tasks are linked.
     linked_count: u32,
@@ -46,7 +46,7 @@ impl Counts {
     ghost use Rattle.nested_masks.specs.NestedData.{nested_start, IsCounted, ready_of, linked_of, priority_in, mask_in, IsUrgenter, Waits};
     ghost use Rattle.nested_masks.specs.LaminarStep.{with_waiting, with_linked, with_unlinked, without_task, IsInNoTight, IsLeastTight, IsLeastUrgentIn, AllUrgenterIn, IsFree, IsMostUrgentFree, IsNobodyFree};
     ghost use Rattle.nested_masks.specs.NestedText.{linked_count};
-    ghost use Rattle.nested_masks.specs.Scans.{IsTightScan, IsTightUnion, IsLeastUrgentScan, IsFreeScan};
+    ghost use Rattle.nested_masks.specs.Scans.{IsTightUnion, IsLeastUrgentScan, IsFreeScan};
 
     /// Every task of the set is absent.
     pub(crate) fn new(alloc: Global, set: &TaskSet) -> Result<Counts, NestedFault>
@@ -63,14 +63,14 @@ impl Counts {
         let priorities = priorities_of(alloc, set)?;
         let ready = nobody(alloc, count)?;
         let linked = nobody(alloc, count)?;
-        let held = zeros(alloc, count)?;
+        let nodes = NodeCounts::new(alloc, &masks)?;
         Ok(Counts {
             processors: set.processors(),
             priorities,
             masks,
             ready,
             linked,
-            held,
+            nodes,
             linked_count: 0,
         })
     }
@@ -137,47 +137,13 @@ impl Counts {
         self.linked[t as usize] && self.masks[t as usize].within(&x)
     }
 
-    /// Whether the mask of a task is a tight node.
-    fn is_tight(&self, t: u32) -> bool
-        requires { t < length self.now.priorities }
-        ensures { IsTrue result ↔ IsTight self.now.masks (linked_of self.now) (mask_in self.now t) }
-    {
-        self.held[t as usize] == u32::from(self.masks[t as usize].count())
-    }
-
     /// The smallest tight node that contains the mask of a task.
     pub(crate) fn least_tight(&self, t: u32) -> Option<ProcSet>
         requires { t < length self.now.priorities }
         ensures { MatchOption result (IsInNoTight self.now (mask_in self.now t))
             (IsLeastTight self.now (mask_in self.now t)) }
     {
-        let mut found = None;
-        for u in 0..self.len() {
-            found = self.smaller_tight(t, found, u);
-        }
-        found
-    }
-
-    /// The smaller one of the tight node that was found and of the mask of one task more.
-    fn smaller_tight(&self, t: u32, found: Option<ProcSet>, u: u32) -> Option<ProcSet>
-        requires number { t < length self.now.priorities }
-        requires next { u < length self.now.priorities }
-        requires scanned { IsTightScan self.now (mask_in self.now t) u found }
-        ensures { IsTightScan self.now (mask_in self.now t) (u + 1) result }
-    {
-        let mask = self.mask(t);
-        let node = self.mask(u);
-        if !mask.within(&node) || !self.is_tight(u) {
-            return found;
-        }
-        let Some(smaller) = found else {
-            return Some(node);
-        };
-        if smaller.within(&node) {
-            found
-        } else {
-            Some(node)
-        }
+        self.nodes.least_full(t)
     }
 
     /// The least urgent linked task that a node holds, where it is less urgent than t, which is absent.
@@ -249,32 +215,15 @@ impl Counts {
 
     /// The processors of the tight nodes.
     fn tight_processors(&self) -> ProcSet
-        ensures { IsTightUnion self.now (length self.now.priorities) result }
+        ensures { IsTightUnion self.now result }
     {
-        let mut tight = ProcSet::empty();
-        for u in 0..self.len() {
-            tight = self.with_tight(tight, u);
-        }
-        tight
-    }
-
-    /// The processors of the tight nodes that were found, and of the mask of one task more where it is tight.
-    fn with_tight(&self, tight: ProcSet, u: u32) -> ProcSet
-        requires next { u < length self.now.priorities }
-        requires scanned { IsTightUnion self.now u tight }
-        ensures { IsTightUnion self.now (u + 1) result }
-    {
-        if self.is_tight(u) {
-            tight.either_of(&self.mask(u))
-        } else {
-            tight
-        }
+        self.nodes.full_processors()
     }
 
     /// The more urgent one of the free task that was found and of one task more.
     fn more_urgent_free(&self, tight: ProcSet, found: Option<u32>, v: u32) -> Option<u32>
         requires next { v < length self.now.priorities }
-        requires tight { IsTightUnion self.now (length self.now.priorities) tight }
+        requires tight { IsTightUnion self.now tight }
         requires scanned { IsFreeScan self.now v found }
         ensures { IsFreeScan self.now (v + 1) result }
     {
@@ -291,7 +240,7 @@ impl Counts {
     /// that no tight node has.
     fn is_free(&self, tight: ProcSet, v: u32) -> bool
         requires number { v < length self.now.priorities }
-        requires tight { IsTightUnion self.now (length self.now.priorities) tight }
+        requires tight { IsTightUnion self.now tight }
         ensures { IsTrue result ↔ IsFree self.now v }
     {
         self.waits(v) && !self.mask(v).within(&tight)
@@ -332,8 +281,7 @@ impl Counts {
         requires free { IsInNoTight self.old (mask_in self.old t) }
         ensures { self.new ≡ with_linked self.old t }
     {
-        let mask = self.mask(t);
-        hold_one_more(&mut self.held, &self.masks, mask);
+        self.nodes.hold_one_more(t);
         self.linked[t as usize] = true;
         self.linked_count += 1;
     }
@@ -344,37 +292,9 @@ impl Counts {
         requires linked { linked_of self.old t ≡ true }
         ensures { self.new ≡ with_unlinked self.old t }
     {
-        let mask = self.mask(t);
-        hold_one_less(&mut self.held, &self.masks, mask);
+        self.nodes.hold_one_less(t);
         self.linked[t as usize] = false;
         self.linked_count -= 1;
-    }
-}
-
-/// A task with this mask is linked: the masks that contain it hold one task more.
-fn hold_one_more(held: &mut [u32], masks: &[ProcSet], mask: ProcSet)
-    requires count { length held.old ≡ length masks.now }
-    requires few { (u : ℕ) → u < length held.old → slice_index held.old u ≤ 1024 }
-    ensures { HoldsMoreBelow masks.now mask (length masks.now) held.old held.new }
-{
-    for u in 0..masks.len() {
-        if mask.within(&masks[u]) {
-            held[u] += 1;
-        }
-    }
-}
-
-/// A task with this mask is linked no longer: the masks that contain it hold one task less.
-fn hold_one_less(held: &mut [u32], masks: &[ProcSet], mask: ProcSet)
-    requires count { length held.old ≡ length masks.now }
-    requires some { (u : ℕ) → u < length masks.now → Within mask (mask_at masks.now u)
-        → 0 < slice_index held.old u }
-    ensures { HoldsMoreBelow masks.now mask (length masks.now) held.new held.old }
-{
-    for u in 0..masks.len() {
-        if mask.within(&masks[u]) {
-            held[u] -= 1;
-        }
     }
 }
 
@@ -408,13 +328,5 @@ fn nobody(alloc: Global, count: u32) -> Result<Vec<bool>, OutOfMemory>
     for _k in 0..count {
         column.push(false)?;
     }
-    Ok(column)
-}
-
-/// A zero for each of so many tasks.
-fn zeros(alloc: Global, count: u32) -> Result<Vec<u32>, OutOfMemory>
-    ensures { IfOk result (λ column. column.items ≡ replicate count 0) }
-{
-    let column = vec![in alloc; 0; count as usize]?;
     Ok(column)
 }

@@ -10,6 +10,7 @@ mod crossing;
 pub mod fault;
 pub mod laws;
 pub mod nested;
+mod node_counts;
 pub mod replay;
 pub mod reply;
 

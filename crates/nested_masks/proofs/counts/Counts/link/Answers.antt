@@ -1,20 +1,21 @@
 use Rattle.std.proofs.Common.{arith}
-use Rattle.std.proofs.lemmas.List.{with_items_is}
 use Rattle.nested_masks.specs.Views.{counts_view}
+use Rattle.nested_masks.proofs.FullNodes.{in_nodes}
 use Rattle.nested_masks.proofs.Tallied.{tallied_few, count_few, tallied-linked}
 use Rattle.nested_masks.proofs.counts.Counts.link.Goals as goal
 
+pub hold_one_more-requires-clause-number : goal.hold_one_more-requires-clause-number
+hold_one_more-requires-clause-number c = in_nodes (counts_view c.self.inside) c.self.inside.nodes c.self.inside.linked_count c.self.invariant c.args.t (rw (← c.self.view_is) at c.requires.number)
+
 pub hold_one_more-requires-clause-few : goal.hold_one_more-requires-clause-few
-hold_one_more-requires-clause-few c = rw c.deref_mut.ensures.value (tallied_few (counts_view c.self.inside) c.self.inside.held.items c.self.inside.linked_count c.self.invariant)
+hold_one_more-requires-clause-few c = tallied_few (counts_view c.self.inside) c.self.inside.nodes c.self.inside.linked_count c.self.invariant
 
 pub overflow_add-self : goal.overflow_add-self
-overflow_add-self c = let few = count_few (counts_view c.self.inside) c.self.inside.held.items c.self.inside.linked_count c.self.invariant in omega arith
+overflow_add-self c = let few = count_few (counts_view c.self.inside) c.self.inside.nodes c.self.inside.linked_count c.self.invariant in omega arith
 
 pub invariant_of-self : goal.invariant_of-self
 invariant_of-self c =
     let s = c.self.inside in
-    let more = rw (c.deref_mut.ensures.value, c.deref.ensures.value, c.mask-mask.ensures.value, ← c.self.view_is) at c.hold_one_more.ensures in
-    let count = more.count in
-    rw (with_items_is s.held c.hold_one_more.new.held (omega (arith, s.held.ok.0)))
-    (tallied-linked (counts_view s) s.held.items s.linked_count c.self.invariant c.args.t (rw (← c.self.view_is) at c.requires.number)
-    (rw (← c.self.view_is) at c.requires.ready) (rw (← c.self.view_is) at c.requires.not_linked) (rw (← c.self.view_is) at c.requires.free) c.hold_one_more.new.held more)
+    rw c.hold_one_more.ensures.same
+    (tallied-linked (counts_view s) s.nodes s.linked_count c.self.invariant c.args.t (rw (← c.self.view_is) at c.requires.number)
+    (rw (← c.self.view_is) at c.requires.ready) (rw (← c.self.view_is) at c.requires.not_linked) (rw (← c.self.view_is) at c.requires.free) c.hold_one_more.new.self.held c.hold_one_more.ensures.more)

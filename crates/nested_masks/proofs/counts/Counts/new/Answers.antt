@@ -7,8 +7,9 @@ first_crossing-requires c = rw (c.deref.ensures.value, c.in_ok-masks.ensures) (f
 
 pub invariant_of-result : goal.invariant_of-result
 invariant_of-result c =
-    rw (c.processors.ensures.value, c.in_ok-priorities.ensures, c.in_ok-masks.ensures, c.in_ok-ready.ensures, c.in_ok-linked.ensures, c.in_ok-held.ensures, c.len-count.ensures.value)
-    (tallied-start c.args.set.now c.len-count.ensures.valid (rw (c.deref.ensures.value, c.in_ok-masks.ensures) at c.in_default.ensures))
+    rw (c.processors.ensures.value, c.in_ok-priorities.ensures, c.in_ok-masks.ensures, c.in_ok-ready.ensures, c.in_ok-linked.ensures, c.len-count.ensures.value)
+    (tallied-start c.args.set.now c.len-count.ensures.valid (rw (c.deref.ensures.value, c.in_ok-masks.ensures) at c.in_default.ensures) c.in_ok-nodes.nodes
+    (rw (c.deref-2.ensures.value, c.in_ok-masks.ensures) at c.in_ok-nodes.ensures.nodes) c.in_ok-nodes.ensures.empty)
 
 pub returns-clause-laminar : goal.returns-clause-laminar
 returns-clause-laminar c = rw (c.deref.ensures.value, c.in_ok-masks.ensures) at c.in_default.ensures

@@ -1,9 +1,6 @@
-use Rattle.std.proofs.Common.{arith}
-use Rattle.affinity_mask.proofs.Meetings.{no_member}
+use Rattle.nested_masks.specs.Views.{counts_view}
+use Rattle.nested_masks.proofs.FullNodes.{union_tight}
 use Rattle.nested_masks.proofs.counts.Counts.tight_processors.Goals as goal
 
-pub loop-u-init : goal.loop-u-init
-loop-u-init c = record {
-  inside = λ p h. absurd (no_member c.empty-tight.result p c.empty-tight.ensures h);
-  around = λ u lt. absurd (omega arith);
-}
+pub returns : goal.returns
+returns c = rw (← c.self.view_is) (union_tight (counts_view c.self.inside) c.self.inside.nodes c.self.inside.linked_count c.self.invariant c.full_processors.result c.full_processors.ensures)

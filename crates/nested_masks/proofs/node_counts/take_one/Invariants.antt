@@ -1,0 +1,5 @@
+use Rattle.nested_masks.specs.Nodes.{HoldMoreAt}
+use Rattle.nested_masks.proofs.node_counts.take_one.Given as goal
+
+abbrev pub invariant-loop-i : goal.invariant-loop-i
+invariant-loop-i l = HoldMoreAt l.places l.i l.column l.fn.column

@@ -1,0 +1,254 @@
+//! The nodes of a set of tasks, and how many linked tasks they hold.
+ghost use Rattle.std.specs.Prelude.{◌≡◌, ℕ, ◌+◌, ◌<◌, ◌≤◌, ◌↔◌, IsTrue, IfOk, MatchOption, [], length, replicate, slice_index};
+ghost use Rattle.nested_masks.specs.Laminar.{mask_at};
+ghost use Rattle.nested_masks.specs.Nodes.{AreNodes, AreApart, HoldMoreAt, IsNumbered, AreOtherSets, IsSetAt, AreRows, nodes_around};
+
+use affinity_mask::{OutOfMemory, ProcSet};
+use std::alloc::Global;
+use std::marker::Model;
+
+/// A node is the mask of a task, and each one has a number. It holds the linked tasks whose masks lie within it.
+#[derive(Drop)]
+pub(crate) struct NodeCounts {
+    /// By node: its processors.
+    nodes: Vec<ProcSet>,
+
+    /// By task: the number of its node.
+    node_of: Vec<u32>,
+
+    /// By node: the numbers of the nodes that contain it, and its own.
+    around: Vec<Vec<u32>>,
+
+    /// By node: how many tasks it holds.
+    held: Vec<u32>,
+}
+
+impl Model for NodeCounts {
+    ghost use Rattle.nested_masks.specs.Nodes.{NodeData};
+
+    ghost Value = { NodeData };
+
+    ghost use Rattle.nested_masks.specs.Views.{nodes_view, AreStoredNodes};
+
+    ghost view = { nodes_view };
+
+    ghost invariant = { AreStoredNodes };
+}
+
+impl NodeCounts {
+    ghost use Rattle.nested_masks.specs.Nodes.{NodeData, node_at, IsFull, IsFullScan, IsFullUnion, AreChained};
+
+    /// No node holds a task.
+    pub(crate) fn new(alloc: Global, masks: &[ProcSet]) -> Result<NodeCounts, OutOfMemory>
+        requires { length masks.now ≤ 1024 }
+        ensures nodes { IfOk result (λ counts. AreNodes masks.now (length masks.now) counts.nodes counts.node_of) }
+        ensures empty { IfOk result (λ counts. counts.held ≡ replicate (length counts.nodes) 0) }
+    {
+        let mut nodes = Vec::new(alloc);
+        let node_of = number_nodes(alloc, masks, &mut nodes)?;
+        let around = rows_around(alloc, &nodes)?;
+        let held = vec![in alloc; 0; nodes.len()]?;
+        Ok(NodeCounts {
+            nodes,
+            node_of,
+            around,
+            held,
+        })
+    }
+
+    /// A task is linked: the nodes around its mask hold one task more.
+    pub(crate) fn hold_one_more(&mut self, t: u32)
+        requires number { t < length self.old.node_of }
+        requires few { (k : ℕ) → k < length self.old.nodes → slice_index self.old.held k ≤ 1024 }
+        ensures same { self.new ≡ record self.old { held = self.new.held } }
+        ensures more { HoldMoreAt (nodes_around self.old.nodes (node_at self.old t))
+            (length (nodes_around self.old.nodes (node_at self.old t))) self.old.held self.new.held }
+    {
+        let node = self.node_of[t as usize];
+        add_one(&mut self.held, &self.around[node as usize]);
+    }
+
+    /// A task is linked no longer: the nodes around its mask hold one task less.
+    pub(crate) fn hold_one_less(&mut self, t: u32)
+        requires number { t < length self.old.node_of }
+        requires some { (i : ℕ) → i < length (nodes_around self.old.nodes (node_at self.old t))
+            → 0 < slice_index self.old.held (slice_index (nodes_around self.old.nodes (node_at self.old t)) i) }
+        ensures same { self.new ≡ record self.old { held = self.new.held } }
+        ensures less { HoldMoreAt (nodes_around self.old.nodes (node_at self.old t))
+            (length (nodes_around self.old.nodes (node_at self.old t))) self.new.held self.old.held }
+    {
+        let node = self.node_of[t as usize];
+        take_one(&mut self.held, &self.around[node as usize]);
+    }
+
+    /// The smallest full node that contains the mask of a task.
+    pub(crate) fn least_full(&self, t: u32) -> Option<ProcSet>
+        requires number { t < length self.now.node_of }
+        requires chained { AreChained self.now.nodes (nodes_around self.now.nodes (node_at self.now t)) }
+        ensures { IsFullScan self.now (nodes_around self.now.nodes (node_at self.now t))
+            (length (nodes_around self.now.nodes (node_at self.now t))) result }
+    {
+        let around = self.around(t);
+        let mut found = None;
+        for i in 0..around.len() {
+            found = self.smaller_full(around, found, i);
+        }
+        found
+    }
+
+    /// The nodes that contain the mask of a task.
+    fn around(&self, t: u32) -> &[u32]
+        requires { t < length self.now.node_of }
+        ensures { result.now ≡ nodes_around self.now.nodes (node_at self.now t) }
+    {
+        &self.around[self.node_of[t as usize] as usize]
+    }
+
+    /// The smaller one of the full node that was found and of the next one in a row.
+    fn smaller_full(&self, row: &[u32], found: Option<ProcSet>, i: usize) -> Option<ProcSet>
+        requires next { i < length row.now }
+        requires number { slice_index row.now i < length self.now.nodes }
+        requires chained { AreChained self.now.nodes row.now }
+        requires scanned { IsFullScan self.now row.now i found }
+        ensures { IsFullScan self.now row.now (i + 1) result }
+    {
+        let node = self.nodes[row[i] as usize];
+        if !self.is_full(row[i]) {
+            return found;
+        }
+        let Some(smaller) = found else {
+            return Some(node);
+        };
+        if smaller.within(&node) {
+            found
+        } else {
+            Some(node)
+        }
+    }
+
+    /// Whether a node holds as many tasks as it has processors.
+    fn is_full(&self, k: u32) -> bool
+        requires { k < length self.now.nodes }
+        ensures { IsTrue result ↔ IsFull self.now k }
+    {
+        self.held[k as usize] == u32::from(self.nodes[k as usize].count())
+    }
+
+    /// The processors of the full nodes.
+    pub(crate) fn full_processors(&self) -> ProcSet
+        ensures { IsFullUnion self.now (length self.now.nodes) result }
+    {
+        let mut full = ProcSet::empty();
+        for k in 0..self.nodes.len() {
+            full = self.with_full(full, k as u32);
+        }
+        full
+    }
+
+    /// The processors of the full nodes that were found, and of one node more where it is full.
+    fn with_full(&self, full: ProcSet, k: u32) -> ProcSet
+        requires next { k < length self.now.nodes }
+        requires scanned { IsFullUnion self.now k full }
+        ensures { IsFullUnion self.now (k + 1) result }
+    {
+        if self.is_full(k) {
+            full.either_of(&self.nodes[k as usize])
+        } else {
+            full
+        }
+    }
+}
+
+/// Adds one at each of these places.
+fn add_one(column: &mut [u32], places: &[u32])
+    requires there { (i : ℕ) → i < length places.now → slice_index places.now i < length column.old }
+    requires few { (k : ℕ) → k < length column.old → slice_index column.old k ≤ 1024 }
+    requires apart { AreApart places.now }
+    ensures { HoldMoreAt places.now (length places.now) column.old column.new }
+{
+    for i in 0..places.len() {
+        column[places[i] as usize] += 1;
+    }
+}
+
+/// Takes one at each of these places.
+fn take_one(column: &mut [u32], places: &[u32])
+    requires there { (i : ℕ) → i < length places.now → slice_index places.now i < length column.old }
+    requires some { (i : ℕ) → i < length places.now → 0 < slice_index column.old (slice_index places.now i) }
+    requires apart { AreApart places.now }
+    ensures { HoldMoreAt places.now (length places.now) column.new column.old }
+{
+    for i in 0..places.len() {
+        column[places[i] as usize] -= 1;
+    }
+}
+
+/// By task: the number of its mask among the nodes, which are none at first.
+fn number_nodes(
+    alloc: Global,
+    masks: &[ProcSet],
+    nodes: &mut Vec<ProcSet>,
+) -> Result<Vec<u32>, OutOfMemory>
+    requires few { length masks.now ≤ 1024 }
+    requires none { nodes.old.items ≡ [] }
+    ensures { IfOk result (λ node_of. AreNodes masks.now (length masks.now) nodes.new.items node_of.items) }
+{
+    let mut node_of = Vec::new(alloc);
+    for t in 0..masks.len() {
+        let k = number_of(nodes, masks[t])?;
+        node_of.push(k)?;
+    }
+    Ok(node_of)
+}
+
+/// The number of a set among some, to which it is added where it is new.
+fn number_of(nodes: &mut Vec<ProcSet>, mask: ProcSet) -> Result<u32, OutOfMemory>
+    requires { length nodes.old.items < 1024 }
+    ensures { IfOk result (IsNumbered nodes.old.items mask nodes.new.items) }
+{
+    if let Some(k) = place_of(nodes, mask) {
+        return Ok(k);
+    }
+    let k = nodes.len() as u32;
+    nodes.push(mask)?;
+    Ok(k)
+}
+
+/// The first place of a set among some.
+fn place_of(nodes: &[ProcSet], mask: ProcSet) -> Option<u32>
+    requires { length nodes.now ≤ 1024 }
+    ensures { MatchOption result (AreOtherSets nodes.now mask (length nodes.now)) (IsSetAt nodes.now mask) }
+{
+    for k in 0..nodes.len() {
+        if nodes[k] == mask {
+            return Some(k as u32);
+        }
+    }
+    None
+}
+
+/// By node: the nodes that contain it.
+fn rows_around(alloc: Global, nodes: &[ProcSet]) -> Result<Vec<Vec<u32>>, OutOfMemory>
+    requires { length nodes.now ≤ 1024 }
+    ensures { IfOk result (λ rows. AreRows nodes.now (length nodes.now) rows.items) }
+{
+    let mut rows = Vec::new(alloc);
+    for k in 0..nodes.len() {
+        rows.push(row_around(alloc, nodes, nodes[k])?)?;
+    }
+    Ok(rows)
+}
+
+/// The nodes that contain a set.
+fn row_around(alloc: Global, nodes: &[ProcSet], mask: ProcSet) -> Result<Vec<u32>, OutOfMemory>
+    requires { length nodes.now ≤ 1024 }
+    ensures { IfOk result (λ row. row.items ≡ nodes_around nodes.now mask) }
+{
+    let mut row = Vec::new(alloc);
+    for k in 0..nodes.len() {
+        if mask.within(&nodes[k]) {
+            row.push(k as u32)?;
+        }
+    }
+    Ok(row)
+}
