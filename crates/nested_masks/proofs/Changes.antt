@@ -98,6 +98,18 @@ module _ (n : NestedData) (ok : IsCounted n) where
       fits = ok.fits;
     }
 
+    pub counted-absent : linked_of n t ≡ false → IsCounted (record n { ready = set n.ready t false })
+    counted-absent not_linked = record {
+      state = state_kept (set n.ready t false) n.linked (length-set n.ready t false);
+      count = ok.count;
+      laminar = ok.laminar;
+      linked_ready = λ u h. elim (cases_eq u t) [
+        | inl e ↦ absurd (true≢false (sym (rw e at h) ∙ not_linked))
+        | inr ne ↦ get_or-set_other n.ready t u false false ne ∙ ok.linked_ready u h
+      ];
+      fits = ok.fits;
+    }
+
     pub counted-unlinked : IsCounted (with_unlinked n t)
     counted-unlinked = record {
       state = state_kept n.ready (set n.linked t false) refl;

@@ -1,14 +1,14 @@
 -- A node whose processors are all those of tight nodes lies in a tight node: the linked tasks can be placed, and in a
 -- tight node they then have every processor. So the tight nodes within the node fill it with tasks that it holds.
-use Rattle.std.proofs.Common.{◌≡◌, ℕ, ◌<◌, ◌↔◌, Bool, true, false, not, ◌&&◌, nat_eq, length, refl, sym, inl, inr, IsTrue, arith, eq-eqb, ne_eqb}
-use Rattle.std.proofs.lemmas.Bool.{cases_lt, and_parts, and_from, and_right, false≢true}
+use Rattle.std.proofs.Common.{◌≡◌, ℕ, ◌<◌, Bool, true, false, not, ◌&&◌, nat_eq, length, refl, sym, inl, inr, IsTrue, arith, eq-eqb, ne_eqb}
+use Rattle.std.proofs.lemmas.Bool.{cases_lt, and_parts, and_from, and_right}
 use Rattle.std.proofs.Math.Bool.{and-true}
 use Rattle.affinity_mask.specs.ProcSet.{has, members, Within}
 use Rattle.certificate_laws.proofs.Counts.{count_below-one_more, count_below-injection}
 use Rattle.nested_masks.specs.Laminar.{IsTight, IsNode, is_within}
 use Rattle.nested_masks.specs.Counting.{IsPlaced}
-use Rattle.nested_masks.specs.NestedData.{NestedData, IsCounted, Waits, linked_of, mask_in, state_of}
-use Rattle.nested_masks.specs.LaminarStep.{IsInNoTight, IsFree}
+use Rattle.nested_masks.specs.NestedData.{NestedData, IsCounted, linked_of, mask_in, state_of}
+use Rattle.nested_masks.specs.LaminarStep.{IsInNoTight}
 use Rattle.nested_masks.specs.Scans.{IsTightUnion}
 use Rattle.nested_masks.proofs.Withins.{is_within-from, within_from, within_same, within_trans, nests}
 use Rattle.nested_masks.proofs.Held.{held}
@@ -68,15 +68,10 @@ module _ (n : NestedData) (ok : IsCounted n) where
       ]
 
   -- a mask that lies in no tight node has a processor that no tight node has
-  free_outside : (t tight : ℕ) → t < length n.priorities → IsTightUnion n tight → IsInNoTight n (mask_in n t) → Within (mask_in n t) tight → ⊥
+  pub free_outside : (t tight : ℕ) → t < length n.priorities → IsTightUnion n tight → IsInNoTight n (mask_in n t) → Within (mask_in n t) tight → ⊥
   free_outside t tight number union free within =
       let placed = placed_by_counts n.masks ok.laminar (linked_of n) (λ u h. in_masks n ok u (linked_number n ok u h)) ok.fits in
       uncovered placed.0 placed.1 (mask_in n t) (t, in_masks n ok t number, refl) free (λ p member. union.inside p (within p member))
 
-  outside_free : (X tight : ℕ) → IsTightUnion n tight → (Within X tight → ⊥) → IsInNoTight n X
+  pub outside_free : (X tight : ℕ) → IsTightUnion n tight → (Within X tight → ⊥) → IsInNoTight n X
   outside_free X tight union outside node is_tight within = outside (within_trans X node tight within (union.around node is_tight))
-
-  -- a waiting task is free where its mask does not lie among the processors of the tight nodes
-  pub free_by_union : (v tight : ℕ) → v < length n.priorities → IsTightUnion n tight → Waits n v → (within : Bool) → IsTrue within ↔ Within (mask_in n v) tight → IsTrue (not within) ↔ IsFree n v
-  free_by_union v tight number union waits true is = (λ h. absurd (false≢true h), λ free. absurd (free_outside v tight number union free.free (is.0 refl)))
-  free_by_union v tight number union waits false is = (λ h. record { waits = waits; free = outside_free (mask_in n v) tight union (λ within. false≢true (is.1 within)) }, λ free. refl)

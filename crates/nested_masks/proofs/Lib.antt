@@ -1,6 +1,7 @@
 pub mod BestByCounts
 pub mod Changes
 pub mod Covered
+pub mod Frees
 pub mod FullNodes
 pub mod Hall
 pub mod Held

@@ -11,14 +11,14 @@ use Rattle.nested_masks.specs.Counting.{Joins, IsHeldBy}
 use Rattle.nested_masks.specs.Nodes.{NodeData, AreNodes, HoldMoreAt, node_at, nodes_around}
 use Rattle.nested_masks.specs.NestedData.{NestedData, ready_of, linked_of, mask_in, nested_start}
 use Rattle.nested_masks.specs.NestedText.{linked_count}
-use Rattle.nested_masks.specs.LaminarStep.{with_linked, with_unlinked, IsInNoTight}
+use Rattle.nested_masks.specs.LaminarStep.{with_waiting, with_linked, with_unlinked, IsInNoTight}
 use Rattle.nested_masks.specs.Views.{IsTallied}
 use Rattle.nested_masks.proofs.Withins.{within_decided, within_from}
 use Rattle.nested_masks.proofs.Passing.{passes}
 use Rattle.nested_masks.proofs.Rows.{more_around, same_elsewhere}
 use Rattle.nested_masks.proofs.FullNodes.{node_is}
 use Rattle.nested_masks.proofs.Held.{held-more, held-else}
-use Rattle.nested_masks.proofs.Changes.{joins_set, joins_unset, in_linked, in_masks, counted-linked, counted-unlinked}
+use Rattle.nested_masks.proofs.Changes.{joins_set, joins_unset, in_linked, in_masks, counted-linked, counted-unlinked, counted-waiting, counted-absent}
 use Rattle.nested_masks.proofs.Started.{nobody_linked, counted-start}
 
 -- ---- a task joins a set
@@ -108,6 +108,22 @@ module _ (n : NestedData) (d : NodeData) (count : ℕ) (ok : IsTallied n d count
   module _ (t : ℕ) (number : t < length n.priorities) where
     abbrev row_in : List ℕ
     row_in = nodes_around d.nodes (node_at d t)
+
+    pub tallied-waiting : IsTallied (with_waiting n t) d count
+    tallied-waiting = record {
+      counted = counted-waiting n ok.counted t number;
+      nodes = ok.nodes;
+      each_node = ok.each_node;
+      all_tasks = ok.all_tasks;
+    }
+
+    pub tallied-absent : linked_of n t ≡ false → IsTallied (record n { ready = set n.ready t false }) d count
+    tallied-absent not_linked = record {
+      counted = counted-absent n ok.counted t number not_linked;
+      nodes = ok.nodes;
+      each_node = ok.each_node;
+      all_tasks = ok.all_tasks;
+    }
 
     pub tallied-linked : ready_of n t ≡ true → linked_of n t ≡ false → IsInNoTight n (mask_in n t) → (after : List ℕ) → HoldMoreAt row_in (length row_in) d.held after → IsTallied (with_linked n t) (record d { held = after }) (count + 1)
     tallied-linked ready not_linked free after more =

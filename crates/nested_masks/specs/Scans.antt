@@ -3,7 +3,6 @@ use Rattle.std.specs.Prelude.{◌≡◌, ℕ, ◌<◌, ◌≤◌, true, List, le
 use Rattle.affinity_mask.specs.ProcSet.{has, Within}
 use Rattle.nested_masks.specs.Laminar.{IsTight, Cross}
 use Rattle.nested_masks.specs.NestedData.{NestedData, linked_of, priority_in, mask_in}
-use Rattle.nested_masks.specs.LaminarStep.{IsFree}
 
 -- the mask of one crosses that of no task after it
 abbrev pub CrossesNone : List ℕ → ℕ → Type 0
@@ -31,13 +30,3 @@ pub record IsLeastUrgentBelow (n : NestedData) (node k d : ℕ) : Type 0 where
 abbrev pub IsLeastUrgentScan : NestedData → ℕ → ℕ → Option ℕ → Type 0
 IsLeastUrgentScan n node k None = (u : ℕ) → u < k → linked_of n u ≡ true → Within (mask_in n u) node → ⊥
 IsLeastUrgentScan n node k (Some d) = IsLeastUrgentBelow n node k d
-
--- of the first k tasks, none is free, or w is the most urgent one
-pub record IsMostUrgentFreeBelow (n : NestedData) (k w : ℕ) : Type 0 where
-  pub number : w < length n.priorities
-  pub free : IsFree n w
-  pub most_urgent : (v : ℕ) → v < k → IsFree n v → priority_in n w ≤ priority_in n v
-
-abbrev pub IsFreeScan : NestedData → ℕ → Option ℕ → Type 0
-IsFreeScan n k None = (v : ℕ) → v < k → IsFree n v → ⊥
-IsFreeScan n k (Some w) = IsMostUrgentFreeBelow n k w

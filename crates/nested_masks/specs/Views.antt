@@ -1,9 +1,10 @@
 -- What contracts see of the stored columns.
-use Rattle.std.specs.Prelude.{◌≡◌, ℕ, ◌<◌, ◌≤◌, List, Vec, length, get_or}
+use Rattle.std.specs.Prelude.{◌≡◌, ℕ, ◌<◌, ◌≤◌, List, Vec, length, get_or, ◌&&◌, not, if◌then◌else◌}
 use Rattle.std.specs.declared.alloc.Global.{Global}
-use Rattle.nested_masks.specs.NestedData.{NestedData, IsCounted, IsNested, linked_of}
+use Rattle.nested_masks.specs.NestedData.{NestedData, IsCounted, IsNested, ready_of, linked_of, mask_in}
 use Rattle.nested_masks.specs.NestedText.{linked_count}
 use Rattle.nested_masks.specs.Counting.{IsHeldBy}
+use Rattle.affinity_mask.specs.ProcSet.{empty}
 use Rattle.nested_masks.specs.Nodes.{NodeData, AreNodes, AreRows}
 use Rattle.nested_masks.specs.declared.counts.Counts.TheInside as counts
 use Rattle.nested_masks.specs.declared.node_counts.NodeCounts.TheInside as nodes
@@ -13,7 +14,7 @@ use Rattle.nested_masks.specs.declared.nested.Nested.TheInside as nested
 abbrev pub counts_view : counts.Inside → NestedData
 counts_view a = record {
   processors = a.processors;
-  priorities = a.priorities.items;
+  priorities = a.waiting.priorities;
   masks = a.masks.items;
   ready = a.ready.items;
   linked = a.linked.items;
@@ -41,9 +42,23 @@ pub record IsTallied (n : NestedData) (d : NodeData) (count : ℕ) : Type 0 wher
   pub each_node : IsHeldBy n.masks d.nodes (linked_of n) d.held
   pub all_tasks : count ≡ linked_count n
 
--- the stored counts are right at every moment
+-- the processors that a task waits for, which are none where it does not wait
+abbrev pub waiting_mask : NestedData → ℕ → ℕ
+waiting_mask n t = if ready_of n t && not (linked_of n t) then mask_in n t else empty
+
+-- by task: the processors that it waits for
+pub record AreWaiting (n : NestedData) (masks : List ℕ) : Type 0 where
+  pub count : length masks ≡ length n.priorities
+  pub each : (t : ℕ) → get_or masks t empty ≡ waiting_mask n t
+
+-- the counts and the index of the waiting tasks agree with the tasks
+pub record AreIndexed (n : NestedData) (d : NodeData) (count : ℕ) (masks : List ℕ) : Type 0 where
+  pub tallied : IsTallied n d count
+  pub waiting : AreWaiting n masks
+
+-- what is stored is right at every moment
 abbrev pub IsStored : counts.Inside → Type 0
-IsStored a = IsTallied (counts_view a) a.nodes a.linked_count
+IsStored a = AreIndexed (counts_view a) a.nodes a.linked_count a.waiting.masks
 
 -- what contracts see of a scheduler by counts
 abbrev pub nested_view : nested.Inside → NestedData

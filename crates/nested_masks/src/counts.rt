@@ -1,5 +1,5 @@
 //! Which tasks are ready and linked, and what nodes hold.
-ghost use Rattle.std.specs.Prelude.{◌≡◌, ◌⊎◌, ℕ, ◌<◌, ◌≤◌, ◌↔◌, ◌+◌, IsTrue, IfOk, IfErr, MatchOption, true, false, length, replicate};
+ghost use Rattle.std.specs.Prelude.{◌≡◌, ◌⊎◌, ℕ, ◌<◌, ◌≤◌, ◌↔◌, ◌+◌, IsTrue, IfOk, IfErr, MatchOption, true, false, length, replicate, set};
 ghost use Rattle.affinity_mask.specs.ProcSet.{Within};
 ghost use Rattle.task_set.specs.TaskSet.{masks, priorities};
 ghost use Rattle.nested_masks.specs.Laminar.{IsLaminar, tasks_in};
@@ -13,15 +13,18 @@ use affinity_mask::{OutOfMemory, ProcSet};
 use std::alloc::Global;
 use std::marker::Model;
 use task_set::TaskSet;
+use waiting_index::WaitingTasks;
 
 /// Columns by the number of the task.
 #[derive(Drop)]
 pub(crate) struct Counts {
     processors: u8,
-    priorities: Vec<u32>,
     masks: Vec<ProcSet>,
     ready: Vec<bool>,
     linked: Vec<bool>,
+
+    /// The priorities, and the masks of the waiting tasks.
+    waiting: WaitingTasks,
 
     /// The masks as nodes, and how many linked tasks they hold.
     nodes: NodeCounts,
@@ -43,10 +46,10 @@ impl Model for Counts {
 }
 
 impl Counts {
-    ghost use Rattle.nested_masks.specs.NestedData.{nested_start, IsCounted, ready_of, linked_of, priority_in, mask_in, IsUrgenter, Waits};
-    ghost use Rattle.nested_masks.specs.LaminarStep.{with_waiting, with_linked, with_unlinked, without_task, IsInNoTight, IsLeastTight, IsLeastUrgentIn, AllUrgenterIn, IsFree, IsMostUrgentFree, IsNobodyFree};
+    ghost use Rattle.nested_masks.specs.NestedData.{nested_start, IsCounted, ready_of, linked_of, priority_in, mask_in, IsUrgenter};
+    ghost use Rattle.nested_masks.specs.LaminarStep.{with_waiting, with_linked, with_unlinked, without_task, IsInNoTight, IsLeastTight, IsLeastUrgentIn, AllUrgenterIn, IsMostUrgentFree, IsNobodyFree};
     ghost use Rattle.nested_masks.specs.NestedText.{linked_count};
-    ghost use Rattle.nested_masks.specs.Scans.{IsTightUnion, IsLeastUrgentScan, IsFreeScan};
+    ghost use Rattle.nested_masks.specs.Scans.{IsTightUnion, IsLeastUrgentScan};
 
     /// Every task of the set is absent.
     pub(crate) fn new(alloc: Global, set: &TaskSet) -> Result<Counts, NestedFault>
@@ -61,15 +64,16 @@ impl Counts {
             return Err(NestedFault::Crossing { one, other });
         }
         let priorities = priorities_of(alloc, set)?;
+        let waiting = WaitingTasks::new(alloc, priorities)?;
         let ready = nobody(alloc, count)?;
         let linked = nobody(alloc, count)?;
         let nodes = NodeCounts::new(alloc, &masks)?;
         Ok(Counts {
             processors: set.processors(),
-            priorities,
             masks,
             ready,
             linked,
+            waiting,
             nodes,
             linked_count: 0,
         })
@@ -81,7 +85,7 @@ impl Counts {
         ensures bound { result ≤ 1024 }
         ensures valid { IsCounted self.now }
     {
-        self.priorities.len() as u32
+        self.waiting.len()
     }
 
     /// Whether a task is ready.
@@ -197,20 +201,17 @@ impl Counts {
         requires other { b < length self.now.priorities }
         ensures { IsTrue result ↔ IsUrgenter self.now a b }
     {
-        self.priorities[a as usize] < self.priorities[b as usize]
+        self.waiting.priority(a) < self.waiting.priority(b)
     }
 
-    /// The most urgent waiting task whose mask lies in no tight node.
+    /// The most urgent waiting task whose mask lies in no tight node. As masks nest, a mask that lies in none has a
+    /// processor that no tight node has.
     pub(crate) fn most_urgent_free(&self) -> Option<u32>
         ensures { MatchOption result (IsNobodyFree self.now)
             (λ w. (w < length self.now.priorities) × IsMostUrgentFree self.now w) }
     {
-        let tight = self.tight_processors();
-        let mut found = None;
-        for v in 0..self.len() {
-            found = self.more_urgent_free(tight, found, v);
-        }
-        found
+        let others = ProcSet::first(self.processors).minus(&self.tight_processors());
+        self.waiting.first_for(others)
     }
 
     /// The processors of the tight nodes.
@@ -220,45 +221,14 @@ impl Counts {
         self.nodes.full_processors()
     }
 
-    /// The more urgent one of the free task that was found and of one task more.
-    fn more_urgent_free(&self, tight: ProcSet, found: Option<u32>, v: u32) -> Option<u32>
-        requires next { v < length self.now.priorities }
-        requires tight { IsTightUnion self.now tight }
-        requires scanned { IsFreeScan self.now v found }
-        ensures { IsFreeScan self.now (v + 1) result }
-    {
-        if !self.is_free(tight, v) {
-            return found;
-        }
-        match found {
-            Some(w) if self.is_more_urgent(w, v) => found,
-            _ => Some(v),
-        }
-    }
-
-    /// Whether a task waits, and its mask lies in no tight node. As masks nest, a mask that lies in none has a processor
-    /// that no tight node has.
-    fn is_free(&self, tight: ProcSet, v: u32) -> bool
-        requires number { v < length self.now.priorities }
-        requires tight { IsTightUnion self.now tight }
-        ensures { IsTrue result ↔ IsFree self.now v }
-    {
-        self.waits(v) && !self.mask(v).within(&tight)
-    }
-
-    /// Whether a task waits.
-    fn waits(&self, v: u32) -> bool
-        requires { v < length self.now.priorities }
-        ensures { IsTrue result ↔ Waits self.now v }
-    {
-        self.ready[v as usize] && !self.linked[v as usize]
-    }
-
     /// An absent task becomes ready, and waits.
     pub(crate) fn make_ready(&mut self, t: u32)
-        requires { t < length self.old.priorities }
+        requires number { t < length self.old.priorities }
+        requires absent { ready_of self.old t ≡ false }
         ensures { self.new ≡ with_waiting self.old t }
     {
+        let mask = self.mask(t);
+        self.waiting.write(t, mask);
         self.ready[t as usize] = true;
     }
 
@@ -270,6 +240,16 @@ impl Counts {
         if self.is_linked(t) {
             self.unlink(t);
         }
+        self.make_absent(t);
+    }
+
+    /// A task that is not linked becomes absent.
+    fn make_absent(&mut self, t: u32)
+        requires number { t < length self.old.priorities }
+        requires not_linked { linked_of self.old t ≡ false }
+        ensures { self.new ≡ record self.old { ready = set self.old.ready t false } }
+    {
+        self.waiting.write(t, ProcSet::empty());
         self.ready[t as usize] = false;
     }
 
@@ -281,6 +261,7 @@ impl Counts {
         requires free { IsInNoTight self.old (mask_in self.old t) }
         ensures { self.new ≡ with_linked self.old t }
     {
+        self.waiting.write(t, ProcSet::empty());
         self.nodes.hold_one_more(t);
         self.linked[t as usize] = true;
         self.linked_count += 1;
@@ -292,6 +273,8 @@ impl Counts {
         requires linked { linked_of self.old t ≡ true }
         ensures { self.new ≡ with_unlinked self.old t }
     {
+        let mask = self.mask(t);
+        self.waiting.write(t, mask);
         self.nodes.hold_one_less(t);
         self.linked[t as usize] = false;
         self.linked_count -= 1;

@@ -1,5 +1,6 @@
 use Rattle.nested_masks.proofs.Started.{few_masks}
 use Rattle.nested_masks.proofs.Tallied.{tallied-start}
+use Rattle.nested_masks.proofs.Frees.{waiting-start}
 use Rattle.nested_masks.proofs.counts.Counts.new.Goals as goal
 
 pub first_crossing-requires : goal.first_crossing-requires
@@ -7,9 +8,11 @@ first_crossing-requires c = rw (c.deref.ensures.value, c.in_ok-masks.ensures) (f
 
 pub invariant_of-result : goal.invariant_of-result
 invariant_of-result c =
-    rw (c.processors.ensures.value, c.in_ok-priorities.ensures, c.in_ok-masks.ensures, c.in_ok-ready.ensures, c.in_ok-linked.ensures, c.len-count.ensures.value)
-    (tallied-start c.args.set.now c.len-count.ensures.valid (rw (c.deref.ensures.value, c.in_ok-masks.ensures) at c.in_default.ensures) c.in_ok-nodes.nodes
-    (rw (c.deref-2.ensures.value, c.in_ok-masks.ensures) at c.in_ok-nodes.ensures.nodes) c.in_ok-nodes.ensures.empty)
+    rw (c.processors.ensures.value, c.in_ok-waiting.ensures, c.in_ok-priorities.ensures, c.in_ok-masks.ensures, c.in_ok-ready.ensures, c.in_ok-linked.ensures, c.len-count.ensures.value) record {
+      tallied = tallied-start c.args.set.now c.len-count.ensures.valid (rw (c.deref.ensures.value, c.in_ok-masks.ensures) at c.in_default.ensures) c.in_ok-nodes.nodes
+          (rw (c.deref-2.ensures.value, c.in_ok-masks.ensures) at c.in_ok-nodes.ensures.nodes) c.in_ok-nodes.ensures.empty;
+      waiting = waiting-start c.args.set.now;
+    }
 
 pub returns-clause-laminar : goal.returns-clause-laminar
 returns-clause-laminar c = rw (c.deref.ensures.value, c.in_ok-masks.ensures) at c.in_default.ensures
