@@ -26,8 +26,8 @@ first_upto test (suc n) = first_of (first_upto test n) (if test (suc n) then Som
 abbrev pub finish_of : State → List Entry → ℕ → ℕ → ℕ → ℕ → Option ℕ
 finish_of start history t cost horizon k = first_upto (λ x. nat_le ((k + 1) * cost) (service_of start history t x)) horizon
 
--- the finish and the response of a job that was released at this moment; in a history that runs the jobs no finish is before its
--- release (the law finish_follows_release), so that the response is their plain difference
+-- the finish and the response of a job that was released at this moment; in a history that runs the jobs no finish is before
+-- its release (the law finish_follows_release), so the response is their plain difference
 abbrev pub response_text : ℕ → Option ℕ → List ℕ
 response_text release None = codes "- -"
 response_text release (Some finish) = canonical_number finish ++ codes " " ++ canonical_number (finish - release)
