@@ -4,7 +4,7 @@ use Rattle.affinity_mask.specs.ProcSet.{Within}
 use Rattle.nested_masks.specs.Laminar.{IsTight, mask_at, is_within}
 use Rattle.nested_masks.specs.NestedData.{NestedData, linked_of, mask_in}
 use Rattle.nested_masks.specs.LaminarStep.{IsInNoTight, IsLeastTight}
-use Rattle.nested_masks.specs.Nodes.{NodeData, IsFull, IsFullScan, IsFullUnion, AreChained, node_at, nodes_around}
+use Rattle.nested_masks.specs.Nodes.{NodeData, IsFull, IsFullScan, IsFullUnion, AreChained, AreOthersAround, node_at, nodes_around}
 use Rattle.nested_masks.specs.Scans.{IsTightUnion}
 use Rattle.nested_masks.specs.Views.{IsTallied}
 use Rattle.nested_masks.proofs.Withins.{is_within-from, within_from}
@@ -57,6 +57,13 @@ module _ (n : NestedData) (d : NodeData) (count : ℕ) (ok : IsTallied n d count
         let one = in_row i li in
         let other = in_row j lj in
         nodes_nest n ok.counted t _ _ number (ok.nodes.of_tasks _ one.0) (ok.nodes.of_tasks _ other.0) one.1 other.1
+
+    -- the smallest tight node is in the row
+    pub in_row_too : (node : ℕ) → IsLeastTight n (mask_in n t) node → AreOthersAround d.nodes row node (length row) → ⊥
+    in_row_too node least others =
+        let at = tight_full node least.tight in
+        let place = row_of at.0 at.1 (rw at.3 least.contains) in
+        others place.0 place.1 (rw place.2 at.3)
 
     pub least_tight : (found : Option ℕ) → IsFullScan d row (length row) found → MatchOption found (IsInNoTight n (mask_in n t)) (IsLeastTight n (mask_in n t))
     least_tight None none = λ node tight within.

@@ -5,6 +5,7 @@ pub mod Frees
 pub mod FullNodes
 pub mod Hall
 pub mod Held
+pub mod HeldLists
 pub mod Kept
 pub mod KeptByDepartures
 pub mod NestedSteps

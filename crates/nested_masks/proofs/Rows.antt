@@ -1,12 +1,12 @@
 -- Nodes that are numbered one after another, and counts that change at the places of a row.
-use Rattle.std.proofs.Common.{◌≡◌, ℕ, ◌+◌, ◌-◌, ◌<◌, true, List, Vec, [], ◌∷◌, ◌++◌, length, set, get_or, refl, sym, add-one, ap, ◌∙◌, inl, inr, arith, subst, below_more, length-set, get_or-set_same, get_or-set_other}
+use Rattle.std.proofs.Common.{◌≡◌, ◌≢◌, ℕ, ◌+◌, ◌-◌, ◌<◌, true, List, Vec, [], ◌∷◌, ◌++◌, length, set, get_or, refl, sym, add-one, ap, ◌∙◌, inl, inr, arith, subst, below_more, length-set, get_or-set_same, get_or-set_other}
 use Rattle.std.proofs.lemmas.Bool.{cases_lt}
 use Rattle.std.proofs.lemmas.List.{get_or_append_left, get_or_push, get_or_read, length_push}
 use Rattle.std.specs.declared.alloc.Global.{Global}
 use Rattle.affinity_mask.specs.ProcSet.{empty, passing_below, Within}
 use Rattle.affinity_mask.proofs.Lists.{passing_more, passing_same}
 use Rattle.nested_masks.specs.Laminar.{mask_at, is_within}
-use Rattle.nested_masks.specs.Nodes.{NodeData, AreNodes, AreApart, HoldMoreAt, IsNumbered, IsSetAt, AreOtherSets, nodes_around, IsFull, IsLeastFullOf, AreChained}
+use Rattle.nested_masks.specs.Nodes.{NodeData, AreNodes, AreApart, HoldMoreAt, IsNumbered, IsSetAt, AreOtherSets, nodes_around, IsFull, IsLeastFullOf, AreChained, AreOthersAround}
 use Rattle.nested_masks.specs.Views.{AreHeld}
 use Rattle.nested_masks.proofs.Withins.{is_within-from, is_within-not, within_from, within_same, within_trans}
 use Rattle.nested_masks.proofs.Passing.{passes, place_of}
@@ -129,6 +129,13 @@ full_kept d row i node not_full before = record {
   place = (before.place.0, (let lt = before.place.1 in omega arith), before.place.2, before.place.3);
   least = below_more _ _ before.least (λ passed. absurd (not_full passed));
 }
+
+-- the set is not the next node either
+pub others_more : (nodes row : List ℕ) (X i node : ℕ) → node ≡ mask_at nodes (get_or row i 0) → node ≢ X → AreOthersAround nodes row X i → AreOthersAround nodes row X (i + 1)
+others_more nodes row X i node is other before = λ j lt same. elim (cases_lt j i) [
+  | inl lower ↦ before j lower same
+  | inr past ↦ let e : i ≡ j = omega arith in other (is ∙ ap (λ (l : ℕ). mask_at nodes (get_or row l 0)) e ∙ same)
+]
 
 -- ---- the row of a node
 pub row_more : (nodes row : List ℕ) (X k node : ℕ) → node ≡ mask_at nodes k → Within X node → row ≡ passing_below (λ l. is_within X (mask_at nodes l)) k → row ++ k ∷ [] ≡ passing_below (λ l. is_within X (mask_at nodes l)) (k + 1)

@@ -1,12 +1,12 @@
 -- One more task of a scan.
-use Rattle.std.proofs.Common.{◌≡◌, ℕ, ◌+◌, ◌<◌, Bool, true, false, ◌&&◌, None, List, length, refl, sym, ap, ◌∙◌, inl, inr, arith, add-one}
+use Rattle.std.proofs.Common.{◌≡◌, ℕ, ◌+◌, ◌<◌, Bool, true, false, ◌&&◌, List, length, refl, sym, ap, ◌∙◌, inl, inr, arith, add-one}
 use Rattle.std.proofs.lemmas.Bool.{cases_Bool, cases_order, and_from, and_parts, true≢false}
 use Rattle.affinity_mask.specs.ProcSet.{Within}
 use Rattle.certificate_laws.proofs.Counts.{count_below, count_below-more, count_below-same}
 use Rattle.nested_masks.specs.Laminar.{Cross, IsLaminar, IsFirstCrossing, is_within, mask_at}
 use Rattle.nested_masks.specs.NestedData.{NestedData, IsCounted, IsUrgenter, ready_of, priority_in}
 use Rattle.nested_masks.specs.LaminarStep.{IsLeastUrgentIn, AllUrgenterIn}
-use Rattle.nested_masks.specs.Scans.{IsLeastUrgentScan, IsLeastUrgentBelow, CrossesNone, IsFirstCrossed}
+use Rattle.nested_masks.specs.Scans.{IsNobodyHeld, CrossesNone, IsFirstCrossed}
 use Rattle.nested_masks.proofs.Withins.{is_within-from, within_from, within_same}
 use Rattle.nested_masks.proofs.Changes.{linked_number}
 
@@ -59,19 +59,12 @@ first_pair masks one other before found = record {
 }
 
 -- ---- who is displaced
-pub least_from : (n : NestedData) → IsCounted n → (node d : ℕ) → IsLeastUrgentBelow n node (length n.priorities) d → IsLeastUrgentIn n node d
-least_from n ok node d found = record {
-  linked = found.linked;
-  within = found.within;
-  least_urgent = λ u h within. found.least_urgent u (linked_number n ok u h) h within;
-}
+pub none_displaced : (n : NestedData) (node t : ℕ) → IsNobodyHeld n node → AllUrgenterIn n node t
+none_displaced n node t none = λ u h within. absurd (none u h within)
 
-pub none_displaced : (n : NestedData) → IsCounted n → (node t : ℕ) → IsLeastUrgentScan n node (length n.priorities) None → AllUrgenterIn n node t
-none_displaced n ok node t none = λ u h within. absurd (none u (linked_number n ok u h) h within)
-
-pub not_displaced : (n : NestedData) → IsCounted n → (node t d : ℕ) → t < length n.priorities → ready_of n t ≡ false → IsLeastUrgentBelow n node (length n.priorities) d → (IsUrgenter n t d → ⊥) → AllUrgenterIn n node t
+pub not_displaced : (n : NestedData) → IsCounted n → (node t d : ℕ) → t < length n.priorities → ready_of n t ≡ false → IsLeastUrgentIn n node d → (IsUrgenter n t d → ⊥) → AllUrgenterIn n node t
 not_displaced n ok node t d number absent found not_urgent = λ u h within. elim (cases_order (priority_in n u) (priority_in n t)) [
   | inl same ↦ absurd (true≢false (sym (ok.linked_ready u h) ∙ ap (ready_of n) (ok.state.distinct u t (linked_number n ok u h) number same) ∙ absent))
   | inr (inl urgent) ↦ urgent
-  | inr (inr later) ↦ absurd (not_urgent (let le = found.least_urgent u (linked_number n ok u h) h within in omega arith))
+  | inr (inr later) ↦ absurd (not_urgent (let le = found.least_urgent u h within in omega arith))
 ]

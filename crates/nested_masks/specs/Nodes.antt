@@ -28,6 +28,10 @@ pub record IsSetAt (nodes : List ℕ) (X k : ℕ) : Type 0 where
   pub there : k < length nodes
   pub is : mask_at nodes k ≡ X
 
+-- the set is none of the first m nodes of a row
+abbrev pub AreOthersAround : List ℕ → List ℕ → ℕ → ℕ → Type 0
+AreOthersAround nodes row X m = (i : ℕ) → i < m → mask_at nodes (get_or row i 0) ≢ X
+
 -- the set has this number: it stands there, or was new and stands there now
 abbrev pub IsNumbered : List ℕ → ℕ → List ℕ → ℕ → Type 0
 IsNumbered old X new k = ((new ≡ old) × IsSetAt old X k) ⊎ ((new ≡ old ++ X ∷ []) × (k ≡ length old) × AreOtherSets old X (length old))

@@ -5,6 +5,8 @@ use Rattle.nested_masks.specs.NestedData.{NestedData, IsCounted, IsNested, ready
 use Rattle.nested_masks.specs.NestedText.{linked_count}
 use Rattle.nested_masks.specs.Counting.{IsHeldBy}
 use Rattle.affinity_mask.specs.ProcSet.{empty}
+use Rattle.nested_masks.specs.HeldTasks.{AreLists}
+use Rattle.waiting_index.specs.WaitingTasks.{Waiting}
 use Rattle.nested_masks.specs.Nodes.{NodeData, AreNodes, AreRows}
 use Rattle.nested_masks.specs.declared.counts.Counts.TheInside as counts
 use Rattle.nested_masks.specs.declared.node_counts.NodeCounts.TheInside as nodes
@@ -51,14 +53,15 @@ pub record AreWaiting (n : NestedData) (masks : List ℕ) : Type 0 where
   pub count : length masks ≡ length n.priorities
   pub each : (t : ℕ) → get_or masks t empty ≡ waiting_mask n t
 
--- the counts and the index of the waiting tasks agree with the tasks
-pub record AreIndexed (n : NestedData) (d : NodeData) (count : ℕ) (masks : List ℕ) : Type 0 where
+-- the counts, the index of the waiting tasks and the lists of the nodes agree with the tasks
+pub record AreIndexed (n : NestedData) (d : NodeData) (count : ℕ) (masks : List ℕ) (lists : List Waiting) : Type 0 where
   pub tallied : IsTallied n d count
   pub waiting : AreWaiting n masks
+  pub listed : AreLists n d.nodes lists
 
 -- what is stored is right at every moment
 abbrev pub IsStored : counts.Inside → Type 0
-IsStored a = AreIndexed (counts_view a) a.nodes a.linked_count a.waiting.masks
+IsStored a = AreIndexed (counts_view a) a.nodes a.linked_count a.waiting.masks a.held_tasks.items
 
 -- what contracts see of a scheduler by counts
 abbrev pub nested_view : nested.Inside → NestedData

@@ -8,6 +8,7 @@ ghost use Rattle.nested_masks.specs.declared.fault.NestedFault.{NestedFault};
 
 use crate::crossing::first_crossing;
 use crate::fault::NestedFault;
+use crate::held_tasks::{empty_lists, write_at};
 use crate::node_counts::NodeCounts;
 use affinity_mask::{OutOfMemory, ProcSet};
 use std::alloc::Global;
@@ -29,6 +30,9 @@ pub(crate) struct Counts {
     /// The masks as nodes, and how many linked tasks they hold.
     nodes: NodeCounts,
 
+    /// By node: the masks of the linked tasks that it holds, from the least urgent task on.
+    held_tasks: Vec<WaitingTasks>,
+
     /// How many tasks are linked.
     linked_count: u32,
 }
@@ -49,7 +53,7 @@ impl Counts {
     ghost use Rattle.nested_masks.specs.NestedData.{nested_start, IsCounted, ready_of, linked_of, priority_in, mask_in, IsUrgenter};
     ghost use Rattle.nested_masks.specs.LaminarStep.{with_waiting, with_linked, with_unlinked, without_task, IsInNoTight, IsLeastTight, IsLeastUrgentIn, AllUrgenterIn, IsMostUrgentFree, IsNobodyFree};
     ghost use Rattle.nested_masks.specs.NestedText.{linked_count};
-    ghost use Rattle.nested_masks.specs.Scans.{IsTightUnion, IsLeastUrgentScan};
+    ghost use Rattle.nested_masks.specs.Scans.{IsTightUnion, IsNobodyHeld, IsLeastUrgentTask};
 
     /// Every task of the set is absent.
     pub(crate) fn new(alloc: Global, set: &TaskSet) -> Result<Counts, NestedFault>
@@ -63,11 +67,12 @@ impl Counts {
         if let Some((one, other)) = first_crossing(&masks) {
             return Err(NestedFault::Crossing { one, other });
         }
+        let nodes = NodeCounts::new(alloc, &masks)?;
         let priorities = priorities_of(alloc, set)?;
+        let held_tasks = empty_lists(alloc, &priorities, nodes.len())?;
         let waiting = WaitingTasks::new(alloc, priorities)?;
         let ready = nobody(alloc, count)?;
         let linked = nobody(alloc, count)?;
-        let nodes = NodeCounts::new(alloc, &masks)?;
         Ok(Counts {
             processors: set.processors(),
             masks,
@@ -75,6 +80,7 @@ impl Counts {
             linked,
             waiting,
             nodes,
+            held_tasks,
             linked_count: 0,
         })
     }
@@ -150,16 +156,18 @@ impl Counts {
         self.nodes.least_full(t)
     }
 
-    /// The least urgent linked task that a node holds, where it is less urgent than t, which is absent.
+    /// The least urgent linked task that the smallest tight node around t holds, where it is less urgent than t, which
+    /// is absent.
     pub(crate) fn displaced(&self, node: ProcSet, t: u32) -> Option<u32>
         requires number { t < length self.now.priorities }
         requires absent { ready_of self.now t ≡ false }
+        requires smallest { IsLeastTight self.now (mask_in self.now t) node }
         ensures { MatchOption result (AllUrgenterIn self.now node t)
             (λ out. (out < length self.now.priorities) × IsLeastUrgentIn self.now node out
             × IsUrgenter self.now t out) }
     {
         let _valid = self.len();
-        let Some(out) = self.least_urgent(node) else {
+        let Some(out) = self.least_urgent(node, t) else {
             return None;
         };
         if self.is_more_urgent(t, out) {
@@ -169,30 +177,16 @@ impl Counts {
         }
     }
 
-    /// The least urgent linked task that a node holds, if it holds one.
-    fn least_urgent(&self, node: ProcSet) -> Option<u32>
-        ensures { IsLeastUrgentScan self.now node (length self.now.priorities) result }
+    /// The least urgent linked task that the smallest tight node around t holds, if it holds one.
+    fn least_urgent(&self, node: ProcSet, t: u32) -> Option<u32>
+        requires number { t < length self.now.priorities }
+        requires smallest { IsLeastTight self.now (mask_in self.now t) node }
+        ensures { MatchOption result (IsNobodyHeld self.now node) (IsLeastUrgentTask self.now node) }
     {
-        let mut found = None;
-        for u in 0..self.len() {
-            found = self.less_urgent(node, found, u);
-        }
-        found
-    }
-
-    /// The less urgent one of the linked task that was found and of one task more.
-    fn less_urgent(&self, node: ProcSet, found: Option<u32>, u: u32) -> Option<u32>
-        requires next { u < length self.now.priorities }
-        requires scanned { IsLeastUrgentScan self.now node u found }
-        ensures { IsLeastUrgentScan self.now node (u + 1) result }
-    {
-        if !self.is_held(node, u) {
-            return found;
-        }
-        match found {
-            Some(d) if self.is_more_urgent(u, d) => found,
-            _ => Some(u),
-        }
+        let Some(k) = self.nodes.number_around(t, node) else {
+            unreachable!();
+        };
+        self.held_tasks[k as usize].first_for(node)
     }
 
     /// Whether one task is more urgent than another.
@@ -261,7 +255,9 @@ impl Counts {
         requires free { IsInNoTight self.old (mask_in self.old t) }
         ensures { self.new ≡ with_linked self.old t }
     {
+        let mask = self.mask(t);
         self.waiting.write(t, ProcSet::empty());
+        write_at(&mut self.held_tasks, self.nodes.around(t), t, mask);
         self.nodes.hold_one_more(t);
         self.linked[t as usize] = true;
         self.linked_count += 1;
@@ -275,6 +271,12 @@ impl Counts {
     {
         let mask = self.mask(t);
         self.waiting.write(t, mask);
+        write_at(
+            &mut self.held_tasks,
+            self.nodes.around(t),
+            t,
+            ProcSet::empty(),
+        );
         self.nodes.hold_one_less(t);
         self.linked[t as usize] = false;
         self.linked_count -= 1;

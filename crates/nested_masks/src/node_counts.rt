@@ -36,7 +36,7 @@ impl Model for NodeCounts {
 }
 
 impl NodeCounts {
-    ghost use Rattle.nested_masks.specs.Nodes.{NodeData, node_at, IsFull, IsFullScan, IsFullUnion, AreChained};
+    ghost use Rattle.nested_masks.specs.Nodes.{NodeData, node_at, IsFull, IsFullScan, IsFullUnion, AreChained, AreOthersAround};
 
     /// No node holds a task.
     pub(crate) fn new(alloc: Global, masks: &[ProcSet]) -> Result<NodeCounts, OutOfMemory>
@@ -96,8 +96,32 @@ impl NodeCounts {
         found
     }
 
+    /// How many nodes there are.
+    pub(crate) fn len(&self) -> usize
+        ensures { result ≡ length self.now.nodes }
+    {
+        self.nodes.len()
+    }
+
+    /// The number of a node among those that contain the mask of a task.
+    pub(crate) fn number_around(&self, t: u32, node: ProcSet) -> Option<u32>
+        requires { t < length self.now.node_of }
+        ensures { MatchOption result
+            (AreOthersAround self.now.nodes (nodes_around self.now.nodes (node_at self.now t)) node
+            (length (nodes_around self.now.nodes (node_at self.now t))))
+            (IsSetAt self.now.nodes node) }
+    {
+        let around = self.around(t);
+        for i in 0..around.len() {
+            if self.nodes[around[i] as usize] == node {
+                return Some(around[i]);
+            }
+        }
+        None
+    }
+
     /// The nodes that contain the mask of a task.
-    fn around(&self, t: u32) -> &[u32]
+    pub(crate) fn around(&self, t: u32) -> &[u32]
         requires { t < length self.now.node_of }
         ensures { result.now ≡ nodes_around self.now.nodes (node_at self.now t) }
     {

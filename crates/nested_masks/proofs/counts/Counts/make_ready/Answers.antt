@@ -2,6 +2,7 @@ use Rattle.nested_masks.specs.Views.{counts_view}
 use Rattle.nested_masks.proofs.Changes.{absent_unlinked}
 use Rattle.nested_masks.proofs.Tallied.{tallied-waiting}
 use Rattle.nested_masks.proofs.Frees.{waiting-ready}
+use Rattle.nested_masks.proofs.HeldLists.{lists-ready}
 use Rattle.nested_masks.proofs.counts.Counts.make_ready.Goals as goal
 
 pub invariant_of-self : goal.invariant_of-self
@@ -14,4 +15,5 @@ invariant_of-self c =
     rw (c.write.ensures, c.mask-mask.ensures.value, ← c.self.view_is) record {
       tallied = tallied-waiting n s.nodes s.linked_count ok c.args.t number;
       waiting = waiting-ready n ok.counted s.waiting.masks c.self.invariant.waiting c.args.t number (absent_unlinked n ok.counted c.args.t absent);
+      listed = lists-ready n s.nodes.nodes s.held_tasks.items _ c.self.invariant.listed;
     }

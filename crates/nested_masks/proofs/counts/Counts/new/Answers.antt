@@ -1,6 +1,8 @@
-use Rattle.nested_masks.proofs.Started.{few_masks}
+use Rattle.nested_masks.proofs.Started.{few_masks, nobody_linked}
 use Rattle.nested_masks.proofs.Tallied.{tallied-start}
 use Rattle.nested_masks.proofs.Frees.{waiting-start}
+use Rattle.nested_masks.proofs.HeldLists.{lists-start}
+use Rattle.nested_masks.specs.NestedData.{nested_start}
 use Rattle.nested_masks.proofs.counts.Counts.new.Goals as goal
 
 pub first_crossing-requires : goal.first_crossing-requires
@@ -12,6 +14,7 @@ invariant_of-result c =
       tallied = tallied-start c.args.set.now c.len-count.ensures.valid (rw (c.deref.ensures.value, c.in_ok-masks.ensures) at c.in_default.ensures) c.in_ok-nodes.nodes
           (rw (c.deref-2.ensures.value, c.in_ok-masks.ensures) at c.in_ok-nodes.ensures.nodes) c.in_ok-nodes.ensures.empty;
       waiting = waiting-start c.args.set.now;
+      listed = lists-start (nested_start c.args.set.now) c.in_ok-nodes.nodes.nodes c.in_ok-held_tasks.held_tasks.items (nobody_linked c.args.set.now) (rw (c.deref-3.ensures.value, c.in_ok-priorities.ensures, c.len.ensures) at c.in_ok-held_tasks.ensures);
     }
 
 pub returns-clause-laminar : goal.returns-clause-laminar
