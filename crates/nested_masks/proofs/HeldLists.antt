@@ -1,6 +1,6 @@
 -- The lists of the linked tasks that nodes hold are right while tasks are linked and are linked no longer, and find the least
 -- urgent one.
-use Rattle.std.proofs.Common.{◌≡◌, ◌≢◌, ℕ, ◌+◌, ◌<◌, ◌≤◌, Bool, true, false, ◌&&◌, if◌then◌else◌, List, [], ◌∷◌, ◌++◌, length, set, get_or, replicate, take, drop, Option, None, Some, MatchOption, IsTrue, refl, sym, ap, ◌∙◌, inl, inr, arith, subst, below_more, length-set, get_or-set_same, get_or-set_other}
+use Rattle.std.proofs.Common.{◌≡◌, ◌≢◌, ℕ, ◌+◌, ◌<◌, Bool, true, false, ◌&&◌, if◌then◌else◌, List, [], ◌∷◌, ◌++◌, length, set, get_or, replicate, take, drop, Option, None, Some, MatchOption, IsTrue, refl, sym, ap, ◌∙◌, inl, inr, arith, subst, below_more, length-set, get_or-set_same, get_or-set_other}
 use Rattle.std.proofs.lemmas.Bool.{cases_Bool, cases_eq, cases_lt, and_parts, and_right, true≢false}
 use Rattle.std.proofs.lemmas.List.{length-replicate, get_or-replicate, get_or_past, get_or_append_left, get_or_push, get_or_read, length_push}
 use Rattle.std.proofs.Math.Bool.{and-true}
@@ -12,8 +12,7 @@ use Rattle.certificate_laws.proofs.Counts.{search_below}
 use Rattle.waiting_index.specs.WaitingTasks.{Waiting, IsNobodyFor, IsFirstFor}
 use Rattle.nested_masks.specs.Laminar.{mask_at, is_within}
 use Rattle.nested_masks.specs.Nodes.{AreApart, nodes_around}
-use Rattle.nested_masks.specs.NestedData.{NestedData, IsCounted, linked_of, mask_in, priority_in}
-use Rattle.nested_masks.specs.LaminarStep.{IsLeastUrgentIn}
+use Rattle.nested_masks.specs.NestedData.{NestedData, IsCounted, linked_of, mask_in}
 use Rattle.nested_masks.specs.Scans.{IsNobodyHeld, IsLeastUrgentTask}
 use Rattle.nested_masks.specs.HeldTasks.{AreReversed, IsEmptyList, AreEmptyLists, AreWrittenAt, written, held_mask, IsListOf, AreLists}
 use Rattle.nested_masks.proofs.Withins.{is_within-from, is_within-not, within_from, within_decided}

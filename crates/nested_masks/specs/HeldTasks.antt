@@ -1,5 +1,5 @@
--- By node: the linked tasks that it holds, in an index with the least urgent task first. A task that the node holds stands there
--- with its mask, and any other one with no processors. These are words of the contracts of private functions.
+-- By node: the linked tasks that it holds, in an index with the least urgent task first. A task that the node holds stands
+-- there with its mask, and any other one with no processors. These are words of the contracts of private functions.
 use Rattle.std.specs.Prelude.{◌≡◌, ◌≢◌, ℕ, ◌+◌, ◌<◌, ◌&&◌, if◌then◌else◌, List, length, set, get_or, replicate}
 use Rattle.affinity_mask.specs.ProcSet.{empty}
 use Rattle.waiting_index.specs.WaitingTasks.{Waiting}
