@@ -122,7 +122,7 @@ impl Bench {
         self.receivers.0.next(rt, &self.queues[0])
     }
 
-    /// How many entries there are, as the second pass copies them, and the reply of the last one.
+    /// How many entries there are, as the second pass copies them, and the reply of the last one, unless memory is out.
     fn copied<R: Wait>(&mut self, rt: &R, alloc: Global) -> Option<(usize, Option<Reply>)> {
         let mut entries = Vec::new(alloc);
         match self
@@ -206,14 +206,15 @@ fn board_by_calls(rt: HostRuntime) -> Result<(), Fail> {
     tries(&rt, &mut bench, Event::Arrive(1), 1, placed(&rt, &[0, 1]));
     knows_two(&rt, &mut bench);
     posts(&rt, &mut bench, Event::Arrive(1), 2, Reply::AlreadyReady);
-    assert_eq!(rt;
-        bench.copied(&rt, rt.alloc()),
-        Some((3, Some(Reply::AlreadyReady)))
-    );
+    let copied = bench.copied(&rt, rt.alloc());
     bench.finish(&rt);
     is_closed(&rt, &mut bench);
     assert_eq!(rt; bench.flush(&rt), 0);
     assert_eq!(rt; bench.close(&rt, rt.alloc())?.history().len(), 3);
+    let Some(copied) = copied else {
+        return Err(Fail::new("out of memory"));
+    };
+    assert_eq!(rt; copied, (3, Some(Reply::AlreadyReady)));
     Ok(())
 }
 
