@@ -4,7 +4,8 @@
 /// count the calls there, or slow a thread down.
 pub trait Gate {
     /// Point 0 is before a post and point 1 after it, with the stream as `who`. Point 2 is before the first try of each
-    /// `Take` that was received, with the processor as `who`.
+    /// `Take` that was received, with the processor as `who`. Point 3 is before each read that an observer makes beside the
+    /// posts, with the observer's number, counted from 0, as `who`.
     fn at(&self, who: u32, point: u32);
 }
 

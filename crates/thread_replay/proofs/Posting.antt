@@ -1,10 +1,11 @@
 -- Posting a stream, event by event.
-use Rattle.std.proofs.Common.{◌≡◌, ◌≢◌, ℕ, ◌+◌, cond, Bool, true, false, ◌&&◌, inl, inr, List, [], ◌∷◌, ◌++◌, map, sym, refl, ap, ◌∙◌, subst, eq-eqb, ne_eqb, append-nil}
+use Rattle.std.proofs.Common.{◌≡◌, ◌≢◌, ℕ, ◌+◌, cond, Bool, true, false, ◌&&◌, inl, inr, List, [], ◌∷◌, ◌++◌, map, sym, refl, ap, ◌∙◌, subst, arith, eq-eqb, ne_eqb, append-nil, append_assoc}
 use Rattle.task_set.specs.declared.event.Event.{Event}
 use Rattle.trace_reader.specs.declared.posted.Posted.{Posted}
 use Rattle.event_history.specs.Boards.{BoardData, PassData, Grown, AreEyesOf, AreFrom}
 use Rattle.event_history.specs.Merging.{AreEventsAt}
 use Rattle.event_history.proofs.Merging.{posted_events_stay}
+use Rattle.event_history.proofs.Prefixes.{prefix_trans}
 use Rattle.thread_replay.specs.Merge.{events_of_stream}
 use Rattle.thread_replay.specs.Places.{AllFrom}
 use Rattle.thread_replay.specs.Streams.{Adds, IsPassAt, IsStreamedAt, SomeSawClose}
@@ -12,6 +13,17 @@ use Rattle.thread_replay.specs.Streams.{Adds, IsPassAt, IsStreamedAt, SomeSawClo
 -- a pass stays its caller's
 pub pass_stays : (board : BoardData) (n : ℕ) (old new : PassData) → IsPassAt board n old → Grown old new → AreEyesOf board.queues new.eyes → IsPassAt board n new
 pass_stays board n old new own grown eyes = record { of_board = grown.board ∙ own.of_board; caller = grown.caller ∙ own.caller; eyes = eyes }
+
+-- what a pass keeps, it keeps through two calls
+pub grown_further : (old mid new : PassData) → Grown old mid → Grown mid new → Grown old new
+grown_further old mid new first then = record {
+  board = then.board ∙ first.board;
+  caller = then.caller ∙ first.caller;
+  seen = prefix_trans old.seen mid.seen new.seen first.seen then.seen;
+  known = omega (arith, first.known, then.known);
+  close = λ saw. then.close (first.close saw);
+  looks = (first.looks.0 ++ then.looks.0, then.looks.1 ∙ ap (λ (l : List ℕ). l ++ then.looks.0) first.looks.1 ∙ append_assoc old.looks first.looks.0 then.looks.0);
+}
 
 -- nothing was posted
 pub adds_none : (old new : PassData) (events : List Event) → new ≡ old → events ≡ [] → Adds old events new

@@ -1,5 +1,4 @@
--- The workers of a replay, in the order of their processors, and the processors that have no thread. No contract of a
--- public call speaks of them.
+-- The workers of a replay, in the order of their processors, and the processors that have no thread.
 use Rattle.std.specs.Prelude.{ℕ, ◌+◌, Option, None, Some, List, [], ◌∷◌}
 
 -- at each number from n on there is a thread, of which P holds; or there is none, and Q holds of the next processor that

@@ -1,4 +1,4 @@
--- What the threads of a replay begin with, and what they leave. No contract of a public call speaks of it.
+-- What the threads of a replay begin with, and what they leave.
 use Rattle.std.specs.Prelude.{◌≡◌, List, length, All}
 use Rattle.order_queues.specs.Ends.{QueueData}
 use Rattle.context_slots.specs.Hands.{SlotsData}

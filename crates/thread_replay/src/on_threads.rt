@@ -1,6 +1,7 @@
 //! The replay of events on threads: a worker for each processor, and a thread for each stream that has events.
 ghost use Rattle.std.specs.Prelude.{◌≡◌, ◌≤◌, [], All, Bool, true, length, map, vec_capacity, IfOk};
 ghost use Rattle.event_history.specs.Boards.{AreAll, AreEyesOf, AreFor, Grown, IsMade};
+ghost use Rattle.event_history.specs.Closing.{AllTell};
 ghost use Rattle.thread_replay.specs.Driving.{IsDone, seat_of};
 ghost use Rattle.thread_replay.specs.Places.{AllFrom};
 ghost use Rattle.thread_replay.specs.Replayed.{HaveAllStints, IsReplayOf};
@@ -37,14 +38,14 @@ pub struct Replayed {
 /// What the threads leave: the passes in the order of their callers, whether all events were posted, and the processors
 /// in the order of their numbers.
 #[derive(Drop)]
-struct Threaded {
-    passes: Vec<Pass>,
-    whole: bool,
-    processors: Vec<Processor>,
+pub struct Threaded {
+    pub passes: Vec<Pass>,
+    pub whole: bool,
+    pub processors: Vec<Processor>,
 }
 
-/// The pass of the last caller closes the core. What is owed is sent, and the processors that have no thread are stepped.
-fn close_core<R: Wait, G: Gate>(
+/// Closes the core with this pass. What is owed is sent, and the processors that have no thread are stepped.
+pub fn close_core<R: Wait, G: Gate>(
     rt: &R,
     board: &Board,
     queues: &[Queue],
@@ -181,8 +182,8 @@ fn in_threads<R: Threads + Wait + Clock + Sync, G: Gate + Sync>(
     )
 }
 
-/// Flags that are not raised, one for each worker.
-fn flags(alloc: Global, count: usize) -> Result<Vec<AtomicBool>, OutOfMemory>
+/// Flags that are not raised, one for each thread that is to be started.
+pub fn flags(alloc: Global, count: usize) -> Result<Vec<AtomicBool>, OutOfMemory>
     ensures { IfOk result (λ flags. length flags.items ≡ count) }
 {
     let mut flags = Vec::with_capacity(alloc, count)?;
@@ -190,6 +191,41 @@ fn flags(alloc: Global, count: usize) -> Result<Vec<AtomicBool>, OutOfMemory>
         flags.push_reserved(AtomicBool::new(false));
     }
     Ok(flags)
+}
+
+/// Closes the board once all threads are joined, and settles the queues. `hands` is an empty list with room for a hand for
+/// each processor, so no memory is taken. Out of memory comes where an event could not be posted.
+pub fn settle_replay(
+    board: Board,
+    queues: Vec<Queue>,
+    slots: &Slots,
+    events: &[Posted],
+    done: Threaded,
+    hands: Vec<Hand>,
+) -> Result<Replayed, OutOfMemory>
+    requires threaded { AreThreaded board events.now queues.items slots.now done }
+    requires queues { queues.items ≡ board.queues }
+    requires one_set { slots.now.set ≡ board.set }
+    requires events { All (IsForBoard board) events.now }
+    requires room { (hands.items ≡ []) × (length queues.items ≤ vec_capacity hands) }
+    ensures core { IfOk result (λ made. IsReplayOf slots.now.set events.now made.core) }
+    ensures hands { IfOk result (λ made. HaveAllStints slots.now made.core.history made.hands.items) }
+    ensures told { IfOk result (λ made. AllTell made.core.history made.core.closed done.passes.items) }
+{
+    let Threaded {
+        passes,
+        whole,
+        processors,
+    } = done;
+    let (core, senders) = match board.close(passes) {
+        Ok(parts) => parts,
+        Err(_unfinished) => return Err(OutOfMemory),
+    };
+    let hands = end_all(slots, &core, queues, senders, processors, hands);
+    if !whole {
+        return Err(OutOfMemory);
+    }
+    Ok(Replayed { core, hands })
 }
 
 /// Replays events on threads. In a scope it starts a thread for each processor, which obeys the orders that come through
@@ -223,13 +259,5 @@ pub fn replay<R: Threads + Wait + Clock + Sync, G: Gate + Sync>(
     let done = in_threads(
         rt, alloc, &board, &queues, slots, events, &refused, gate, passes, processors,
     )?;
-    let (core, senders) = match board.close(done.passes) {
-        Ok(parts) => parts,
-        Err(_unfinished) => return Err(OutOfMemory),
-    };
-    let hands = end_all(slots, &core, queues, senders, done.processors, hands);
-    if !done.whole {
-        return Err(OutOfMemory);
-    }
-    Ok(Replayed { core, hands })
+    settle_replay(board, queues, slots, events, done, hands)
 }

@@ -82,9 +82,40 @@ fn post_one<R: Wait, G: Gate>(
     Ok(gives_orders(&receipt.reply))
 }
 
-/// Posts an event if it is on the pass's stream, and flushes where enough events gave orders. `owing` is how many did
-/// since the last flush; it is answered as it is then, or None where the event could not be posted.
-fn post_next<R: Wait, G: Gate>(
+/// Posts an event, and flushes where enough events gave orders. `owing` is how many did since the last flush, whoever
+/// posted them; it is answered as it is then, or None where the event could not be posted.
+pub fn post_next<R: Wait, G: Gate>(
+    rt: &R,
+    board: &Board,
+    queues: &[Queue],
+    gate: &G,
+    pass: &mut Pass,
+    event: Event,
+    owing: u32,
+) -> Option<u32>
+    requires board { pass.old.board ≡ board.now.id }
+    requires queues { queues.now ≡ board.now.queues }
+    requires eyes { AreEyesOf board.now.queues pass.old.eyes }
+    requires known { IsOfSystem board.now.set.processors (length board.now.set.tasks) event }
+    requires owing { owing < 32 }
+    ensures grown { Grown pass.old pass.new }
+    ensures eyes { AreEyesOf board.now.queues pass.new.eyes }
+    ensures adds { IfSome result (λ _. Adds pass.old (event ∷ []) pass.new) }
+    ensures owing { IfSome result (λ owing. owing < 32) }
+{
+    match post_one(rt, board, gate, pass, event) {
+        Ok(false) => Some(owing),
+        Ok(true) if owing + 1 < EVENTS_PER_FLUSH => Some(owing + 1),
+        Ok(true) => {
+            flush(rt, board, queues, pass);
+            Some(0)
+        }
+        Err(_fault) => None,
+    }
+}
+
+/// Posts an event if it is on the pass's stream, as [`post_next`] does.
+fn post_if_own<R: Wait, G: Gate>(
     rt: &R,
     board: &Board,
     queues: &[Queue],
@@ -104,15 +135,7 @@ fn post_next<R: Wait, G: Gate>(
     if posted.stream != pass.caller() {
         return Some(owing);
     }
-    match post_one(rt, board, gate, pass, posted.event) {
-        Ok(false) => Some(owing),
-        Ok(true) if owing + 1 < EVENTS_PER_FLUSH => Some(owing + 1),
-        Ok(true) => {
-            flush(rt, board, queues, pass);
-            Some(0)
-        }
-        Err(_fault) => None,
-    }
+    post_next(rt, board, queues, gate, pass, posted.event, owing)
 }
 
 /// Posts the events of the pass's stream in their order, and reports whether all were posted.
@@ -132,7 +155,7 @@ fn post_stream<R: Wait, G: Gate>(
 {
     let mut owing = 0;
     for &posted in events {
-        match post_next(rt, board, queues, gate, &mut pass, posted, owing) {
+        match post_if_own(rt, board, queues, gate, &mut pass, posted, owing) {
             Some(now) => owing = now,
             None => return (pass, false),
         }

@@ -1,7 +1,8 @@
 //! The schedule of an input's events, run on threads.
 //!
 //! [`schedule_of`] makes a queue and a processor for each processor of the set, a board over the set and the slots of the
-//! contexts, replays the events on threads, and closes the slots: the contexts are those that the workers carried.
+//! contexts, replays the events on threads, and closes the slots: the contexts are those that the workers carried. What
+//! comes before the replay, [`beginning_of`], and after it, [`carried_contexts`], is there for other replays too.
 #![tactic(auto)]
 
 mod making;
@@ -9,4 +10,5 @@ mod schedule;
 #[cfg(test)]
 mod tests;
 
-pub use schedule::{Schedule, schedule_of};
+pub use making::{Beginning, beginning_of};
+pub use schedule::{Schedule, carried_contexts, schedule_of};

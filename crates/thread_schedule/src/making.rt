@@ -3,17 +3,66 @@ ghost use Rattle.std.specs.Prelude.{◌≡◌, ◌≤◌, ◌<◌, All, IfOk, le
 ghost use Rattle.task_set.specs.TaskSet.{IsTaskSet};
 ghost use Rattle.context_slots.specs.Hands.{AreNew};
 ghost use Rattle.order_queues.specs.Ends.{new_receiver, new_sender};
-ghost use Rattle.event_history.specs.Boards.{AreFor};
+ghost use Rattle.event_history.specs.Boards.{AreAll, AreFor};
 ghost use Rattle.thread_replay.specs.Seats.{AreIdle};
+ghost use Rattle.thread_replay.specs.Streams.{IsForBoard, IsUnused};
+ghost use Rattle.trace_reader.specs.Input.{IsPostedOf};
 ghost use Rattle.trace_reader.specs.declared.posted.Posted.{Posted};
 
 use affinity_mask::OutOfMemory;
 use context_slots::{Hand, Slots};
+use event_history::{Board, Pass};
 use order_queues::{Queue, Receiver, Sender};
 use processor_seat::Processor;
 use std::alloc::Global;
 use task_set::TaskSet;
 use trace_reader::Posted;
+
+/// A board with its passes, a queue and a processor for each processor of the set, and the slots of the contexts.
+#[derive(Drop)]
+pub struct Beginning {
+    pub board: Board,
+    pub passes: Vec<Pass>,
+    pub queues: Vec<Queue>,
+    pub slots: Slots,
+    pub processors: Vec<Processor>,
+}
+
+/// What a replay of these events begins with: board and slots are over the set, and nothing is done yet. The board has a
+/// caller for each stream.
+pub fn beginning_of(
+    alloc: Global,
+    set: &TaskSet,
+    events: &[Posted],
+) -> Result<Beginning, OutOfMemory>
+    requires events { All (IsPostedOf set.now) events.now }
+    ensures sets { IfOk result (λ made. (made.board.set ≡ set.now) × (made.slots.set ≡ set.now)) }
+    ensures passes { IfOk result (λ made. AreAll made.board made.passes.items) }
+    ensures unused { IfOk result (λ made. All IsUnused made.passes.items) }
+    ensures queues { IfOk result (λ made. made.queues.items ≡ made.board.queues) }
+    ensures idle { IfOk result (λ made. AreIdle made.queues.items made.slots made.processors.items) }
+    ensures events { IfOk result (λ made. All (IsForBoard made.board) events.now) }
+{
+    let Queues {
+        queues,
+        senders,
+        receivers,
+    } = queues_for(alloc, set)?;
+    let callers = callers_of(events);
+    let (board, passes) = match Board::new(alloc, set, senders, &queues, callers) {
+        Ok(made) => made,
+        Err(_unmade) => return Err(OutOfMemory),
+    };
+    let (slots, hands) = Slots::new(alloc, set)?;
+    let processors = processors_of(alloc, &slots, &queues, hands, receivers)?;
+    Ok(Beginning {
+        board,
+        passes,
+        queues,
+        slots,
+        processors,
+    })
+}
 
 /// How many callers a board needs for these events: the greatest stream plus one, and at least one.
 pub fn callers_of(events: &[Posted]) -> u32

@@ -1,13 +1,13 @@
 //! From a set and its events to one history and the contexts that the workers carried.
 ghost use Rattle.std.specs.Prelude.{◌≡◌, All, IfOk};
 ghost use Rattle.link_state.specs.Dispatch.{contexts_of};
-ghost use Rattle.thread_replay.specs.Replayed.{IsReplayOf};
+ghost use Rattle.link_state.specs.History.{IsLegal};
+ghost use Rattle.thread_replay.specs.Replayed.{HaveAllStints, IsReplayOf};
 ghost use Rattle.trace_reader.specs.Input.{IsPostedOf};
 
-use crate::making::{Queues, callers_of, processors_of, queues_for};
+use crate::making::{Beginning, beginning_of};
 use affinity_mask::OutOfMemory;
-use context_slots::Slots;
-use event_history::Board;
+use context_slots::{Hand, Slots};
 use processor_seat::Gate;
 use sched_core::Core;
 use std::alloc::Global;
@@ -15,7 +15,7 @@ use std::sync::Wait;
 use std::thread::Threads;
 use std::time::Clock;
 use task_set::{Context, TaskSet};
-use thread_replay::replay;
+use thread_replay::{Replayed, replay};
 use trace_reader::Posted;
 
 /// A closed core with one history of all events, and the context of each task as its last holder left it, in task order.
@@ -39,26 +39,36 @@ pub fn schedule_of<R: Threads + Wait + Clock + Sync, G: Gate + Sync>(
     ensures core { IfOk result (λ made. IsReplayOf set.now events.now made.core) }
     ensures contexts { IfOk result (λ made. made.contexts.items ≡ contexts_of set.now made.core.history) }
 {
-    let Queues {
+    let Beginning {
+        board,
+        passes,
         queues,
-        senders,
-        receivers,
-    } = queues_for(alloc, set)?;
-    let callers = callers_of(events);
-    let (board, passes) = match Board::new(alloc, set, senders, &queues, callers) {
-        Ok(made) => made,
-        Err(_unmade) => return Err(OutOfMemory),
-    };
-    let (slots, hands) = Slots::new(alloc, set)?;
-    let processors = processors_of(alloc, &slots, &queues, hands, receivers)?;
-    let done = replay(
+        slots,
+        processors,
+    } = beginning_of(alloc, set, events)?;
+    let Replayed { core, hands } = replay(
         rt, alloc, board, passes, queues, &slots, processors, events, gate,
     )?;
-    match slots.close(alloc, done.hands) {
-        Ok(contexts) => Ok(Schedule {
-            core: done.core,
-            contexts,
-        }),
+    let contexts = carried_contexts(alloc, set, slots, &core, hands)?;
+    Ok(Schedule { core, contexts })
+}
+
+/// The contexts as the last holders left them, in task order, where each hand has the stints of its processor's orders.
+pub fn carried_contexts(
+    alloc: Global,
+    set: &TaskSet,
+    slots: Slots,
+    core: &Core,
+    hands: Vec<Hand>,
+) -> Result<Vec<Context>, OutOfMemory>
+    requires set { slots.set ≡ set.now }
+    requires legal { IsLegal set.now core.now.history }
+    requires hands { HaveAllStints slots core.now.history hands.items }
+    ensures { IfOk result (λ contexts. contexts.items ≡ contexts_of set.now core.now.history) }
+{
+    let _tasks = set.len();
+    match slots.close(alloc, hands) {
+        Ok(contexts) => Ok(contexts),
         Err(_unclosed) => Err(OutOfMemory),
     }
 }

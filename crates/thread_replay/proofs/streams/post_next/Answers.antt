@@ -1,11 +1,10 @@
-use Rattle.std.proofs.Common.{◌∙◌, ◌∷◌, []}
-use Rattle.thread_replay.specs.Merge.{events_of_stream}
-use Rattle.thread_replay.proofs.Posting.{adds_here, adds_further}
+use Rattle.std.proofs.Common.{[], ◌∷◌}
+use Rattle.thread_replay.proofs.Posting.{adds_further, grown_further}
 use Rattle.thread_replay.proofs.streams.post_next.Goals as goal
+
+pub returns-in-Ok-true-2-clause-grown : goal.returns-in-Ok-true-2-clause-grown
+returns-in-Ok-true-2-clause-grown g c = grown_further c.args.pass.now c.post_one.new.pass c.flush.new.pass c.post_one.ensures.grown c.flush.ensures.grown
 
 pub returns-in-Ok-true-2-clause-adds : goal.returns-in-Ok-true-2-clause-adds
 returns-in-Ok-true-2-clause-adds g c =
-    let old = c.args.pass.now in
-    let stream = old.caller in
-    adds_further old c.post_one.new.pass c.flush.new.pass (events_of_stream stream (c.args.posted ∷ []))
-    (adds_here old c.post_one.new.pass stream c.args.posted (c.if-posted-caller.false ∙ c.caller.ensures) c.in-Ok-true-2.ensures-1.adds) c.flush.ensures.grown c.flush.ensures.mine
+    adds_further c.args.pass.now c.post_one.new.pass c.flush.new.pass (c.args.event ∷ []) c.in-Ok-true-2.ensures-1.adds c.flush.ensures.grown c.flush.ensures.mine

@@ -6,7 +6,7 @@ use Rattle.processor_seat.specs.Stepping.{ProcessorData}
 use Rattle.thread_replay.specs.Places.{AllFrom}
 use Rattle.thread_replay.specs.Seats.{IsIdleAt}
 use Rattle.thread_replay.proofs.Places.{AllFrom-last, AllFrom-insert}
-use Rattle.thread_schedule.proofs.Beginning.{IsNewHandAt, IsNewReceiverAt, new_hands, new_receivers}
+use Rattle.thread_schedule.proofs.NewParts.{IsNewHandAt, IsNewReceiverAt, new_hands, new_receivers}
 use Rattle.thread_schedule.proofs.making.processors_of.Goals as goal
 
 pub loop-hand-init : goal.loop-hand-init

@@ -2,7 +2,7 @@ use Rattle.std.proofs.Common.{◌≡◌, ◌+◌, ◌≤◌, length}
 use Rattle.std.specs.Vec.{vec_capacity}
 use Rattle.thread_replay.specs.Places.{AllFrom}
 use Rattle.thread_replay.specs.Seats.{IsIdleAt}
-use Rattle.thread_schedule.proofs.Beginning.{IsNewHandAt, IsNewReceiverAt}
+use Rattle.thread_schedule.proofs.NewParts.{IsNewHandAt, IsNewReceiverAt}
 use Rattle.thread_schedule.proofs.making.processors_of.Given as goal
 
 abbrev pub invariant-loop-hand : goal.invariant-loop-hand

@@ -2,7 +2,7 @@ use Rattle.std.proofs.Common.{◌≡◌, ◌+◌, List, [], ◌∷◌, ◌++◌,
 use Rattle.std.proofs.lemmas.List.{map-append}
 use Rattle.order_queues.specs.Ends.{QueueData, SenderData, ReceiverData, new_receiver, new_sender}
 use Rattle.event_history.specs.Boards.{AreFor}
-use Rattle.thread_schedule.proofs.Beginning.{are_for-push}
+use Rattle.thread_schedule.proofs.NewParts.{are_for-push}
 use Rattle.thread_schedule.proofs.making.queues_for.Goals as goal
 
 pub loop-preserved : goal.loop-preserved
