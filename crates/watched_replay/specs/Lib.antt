@@ -1,0 +1,4 @@
+pub mod Joining
+pub mod Passes
+pub mod Sightings
+pub mod Watches
