@@ -4,33 +4,35 @@ use Rattle.affinity_mask.specs.ProcSet.{Within}
 use Rattle.nested_masks.specs.Laminar.{IsTight, mask_at, is_within}
 use Rattle.nested_masks.specs.NestedData.{NestedData, linked_of, mask_in}
 use Rattle.nested_masks.specs.LaminarStep.{IsInNoTight, IsLeastTight}
-use Rattle.nested_masks.specs.Nodes.{NodeData, IsFull, IsFullScan, IsFullUnion, AreChained, AreOthersAround, node_at, nodes_around}
+use Rattle.nested_masks.specs.HeldCounts.{IsFullUnion}
+use Rattle.nested_masks.specs.Nodes.{NodeData, IsFull, IsFullScan, AreChained, AreOthersAround, node_at, nodes_around}
 use Rattle.nested_masks.specs.Scans.{IsTightUnion}
 use Rattle.nested_masks.specs.Views.{IsTallied}
 use Rattle.nested_masks.proofs.Withins.{is_within-from, within_from}
 use Rattle.nested_masks.proofs.Changes.{in_masks}
+use Rattle.nested_masks.proofs.Covered.{node_small}
 use Rattle.nested_masks.proofs.Kept.{nodes_nest}
 use Rattle.nested_masks.proofs.Passing.{passes, place_of}
 
 module _ (n : NestedData) (d : NodeData) (count : ℕ) (ok : IsTallied n d count) where
   -- a full node is tight
-  full_tight : (k : ℕ) → k < length d.nodes → IsFull d k → IsTight n.masks (linked_of n) (mask_at d.nodes k)
+  full_tight : (k : ℕ) → k < length d.nodes → IsFull d.nodes d.held k → IsTight n.masks (linked_of n) (mask_at d.nodes k)
   full_tight k lt full = record {
     node = ok.nodes.of_tasks k lt;
     full = sym (ok.each_node.each k lt) ∙ full;
   }
 
   -- and a tight one has a number, and is full
-  tight_full : (X : ℕ) → IsTight n.masks (linked_of n) X → (k : ℕ) × (k < length d.nodes) × IsFull d k × (mask_at d.nodes k ≡ X)
+  tight_full : (X : ℕ) → IsTight n.masks (linked_of n) X → (k : ℕ) × (k < length d.nodes) × IsFull d.nodes d.held k × (mask_at d.nodes k ≡ X)
   tight_full X tight =
       let at = ok.nodes.each tight.node.0 tight.node.1 in
       let is : mask_at d.nodes (get_or d.node_of tight.node.0 0) ≡ X = at.is ∙ tight.node.2 in
       (get_or d.node_of tight.node.0 0, at.there, ok.each_node.each _ at.there ∙ rw is tight.full, is)
 
-  pub union_tight : (X : ℕ) → IsFullUnion d (length d.nodes) X → IsTightUnion n X
+  pub union_tight : (X : ℕ) → IsFullUnion d.nodes d.held X → IsTightUnion n X
   union_tight X union = record {
     inside = λ p member. let at = union.inside p member in (mask_at d.nodes at.0, full_tight at.0 at.1 at.2, at.3);
-    around = λ node tight. let at = tight_full node tight in rw at.3 at (union.around at.0 at.1 at.2);
+    around = λ node tight p member. let at = tight_full node tight in union.around at.0 p at.1 at.2 (node_small n ok.counted node tight.node p member) (rw at.3 member);
   }
 
   module _ (t : ℕ) (number : t < length n.priorities) where

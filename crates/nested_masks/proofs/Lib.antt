@@ -1,7 +1,9 @@
 pub mod BestByCounts
 pub mod Changes
 pub mod Covered
+pub mod Depths
 pub mod Frees
+pub mod FullByDepth
 pub mod FullNodes
 pub mod Hall
 pub mod Held

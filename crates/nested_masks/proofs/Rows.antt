@@ -99,7 +99,7 @@ module _ (nodes : List ℕ) (X : ℕ) (old new : List ℕ) (more : HoldMoreAt (n
       not_within (within_from X _ (subst (λ (l : ℕ). is_within X (mask_at nodes l) ≡ true) e passed.1)))
 
 -- ---- one node more of a row
-pub full_found : (d : NodeData) (row : List ℕ) (i node : ℕ) → node ≡ mask_at d.nodes (get_or row i 0) → IsFull d (get_or row i 0) → ((j : ℕ) → j < i → IsFull d (get_or row j 0) → ⊥) → IsLeastFullOf d row (i + 1) node
+pub full_found : (d : NodeData) (row : List ℕ) (i node : ℕ) → node ≡ mask_at d.nodes (get_or row i 0) → IsFull d.nodes d.held (get_or row i 0) → ((j : ℕ) → j < i → IsFull d.nodes d.held (get_or row j 0) → ⊥) → IsLeastFullOf d row (i + 1) node
 full_found d row i node is full none = record {
   place = (i, omega arith, full, sym is);
   least = below_more _ _ (λ j lt passed. absurd (none j lt passed)) (λ passed. rw is (within_same _));
@@ -111,7 +111,7 @@ smaller_kept d row i node smaller is within before = record {
   least = below_more _ _ before.least (λ passed. rw (← is) within);
 }
 
-pub smaller_found : (d : NodeData) (row : List ℕ) (i node larger : ℕ) → i < length row → AreChained d.nodes row → node ≡ mask_at d.nodes (get_or row i 0) → IsFull d (get_or row i 0) → (Within larger node → ⊥) → IsLeastFullOf d row i larger → IsLeastFullOf d row (i + 1) node
+pub smaller_found : (d : NodeData) (row : List ℕ) (i node larger : ℕ) → i < length row → AreChained d.nodes row → node ≡ mask_at d.nodes (get_or row i 0) → IsFull d.nodes d.held (get_or row i 0) → (Within larger node → ⊥) → IsLeastFullOf d row i larger → IsLeastFullOf d row (i + 1) node
 smaller_found d row i node larger number chained is full not_within before =
     let at = before.place in
     let lower = at.1 in
@@ -124,7 +124,7 @@ smaller_found d row i node larger number chained is full not_within before =
       least = below_more _ _ (λ j lt passed. within_trans node larger _ nest (before.least j lt passed)) (λ passed. rw is (within_same _));
     }
 
-pub full_kept : (d : NodeData) (row : List ℕ) (i node : ℕ) → (IsFull d (get_or row i 0) → ⊥) → IsLeastFullOf d row i node → IsLeastFullOf d row (i + 1) node
+pub full_kept : (d : NodeData) (row : List ℕ) (i node : ℕ) → (IsFull d.nodes d.held (get_or row i 0) → ⊥) → IsLeastFullOf d row i node → IsLeastFullOf d row (i + 1) node
 full_kept d row i node not_full before = record {
   place = (before.place.0, (let lt = before.place.1 in omega arith), before.place.2, before.place.3);
   least = below_more _ _ before.least (λ passed. absurd (not_full passed));

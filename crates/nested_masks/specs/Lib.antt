@@ -1,5 +1,6 @@
 pub mod Answers
 pub mod Counting
+pub mod HeldCounts
 pub mod HeldTasks
 pub mod Laminar
 pub mod LaminarStep

@@ -1,8 +1,8 @@
 -- The nodes of a set of tasks, each once and with a number, and how many linked tasks they hold: the words of the contracts of
 -- private types. The public ones speak of masks alone.
-use Rattle.std.specs.Prelude.{◌≡◌, ◌≢◌, ℕ, ◌+◌, ◌<◌, ◌≤◌, ◌⊎◌, List, [], ◌∷◌, ◌++◌, length, get_or, Option, None, Some, IsTrue, Vec}
+use Rattle.std.specs.Prelude.{◌≡◌, ◌≢◌, ℕ, ◌+◌, ◌<◌, ◌≤◌, ◌⊎◌, List, [], ◌∷◌, ◌++◌, length, get_or, Option, None, Some, Vec}
 use Rattle.std.specs.declared.alloc.Global.{Global}
-use Rattle.affinity_mask.specs.ProcSet.{has, members, passing_below, Within}
+use Rattle.affinity_mask.specs.ProcSet.{members, passing_below, Within}
 use Rattle.nested_masks.specs.Laminar.{mask_at, is_within}
 
 -- by node: its processors, and how many linked tasks it holds; by task: the number of its node
@@ -60,8 +60,8 @@ pub record HoldMoreAt (places : List ℕ) (n : ℕ) (old new : List ℕ) : Type 
   pub elsewhere : (k : ℕ) → ((i : ℕ) → i < n → get_or places i 0 ≢ k) → get_or new k 0 ≡ get_or old k 0
 
 -- the node holds as many tasks as it has processors
-abbrev pub IsFull : NodeData → ℕ → Type 0
-IsFull d k = get_or d.held k 0 ≡ length (members (mask_at d.nodes k))
+abbrev pub IsFull : List ℕ → List ℕ → ℕ → Type 0
+IsFull nodes held k = get_or held k 0 ≡ length (members (mask_at nodes k))
 
 -- of any two of these nodes one lies within the other
 abbrev pub AreChained : List ℕ → List ℕ → Type 0
@@ -70,15 +70,10 @@ AreChained nodes row = (i j : ℕ) → i < length row → j < length row
 
 -- of the first n nodes of a row, this one is full, and lies within each full one
 pub record IsLeastFullOf (d : NodeData) (row : List ℕ) (n node : ℕ) : Type 0 where
-  pub place : (i : ℕ) × (i < n) × IsFull d (get_or row i 0) × (mask_at d.nodes (get_or row i 0) ≡ node)
-  pub least : (i : ℕ) → i < n → IsFull d (get_or row i 0) → Within node (mask_at d.nodes (get_or row i 0))
+  pub place : (i : ℕ) × (i < n) × IsFull d.nodes d.held (get_or row i 0) × (mask_at d.nodes (get_or row i 0) ≡ node)
+  pub least : (i : ℕ) → i < n → IsFull d.nodes d.held (get_or row i 0) → Within node (mask_at d.nodes (get_or row i 0))
 
 -- of the first n nodes of a row, none is full, or this one is the smallest full one
 abbrev pub IsFullScan : NodeData → List ℕ → ℕ → Option ℕ → Type 0
-IsFullScan d row n None = (i : ℕ) → i < n → IsFull d (get_or row i 0) → ⊥
+IsFullScan d row n None = (i : ℕ) → i < n → IsFull d.nodes d.held (get_or row i 0) → ⊥
 IsFullScan d row n (Some node) = IsLeastFullOf d row n node
-
--- X has the processors of the full ones of the first n nodes, and no others
-pub record IsFullUnion (d : NodeData) (n X : ℕ) : Type 0 where
-  pub inside : (p : ℕ) → IsTrue (has X p) → (k : ℕ) × (k < n) × IsFull d k × IsTrue (has (mask_at d.nodes k) p)
-  pub around : (k : ℕ) → k < n → IsFull d k → Within (mask_at d.nodes k) X

@@ -5,10 +5,12 @@ use Rattle.nested_masks.specs.NestedData.{NestedData, IsCounted, IsNested, ready
 use Rattle.nested_masks.specs.NestedText.{linked_count}
 use Rattle.nested_masks.specs.Counting.{IsHeldBy}
 use Rattle.affinity_mask.specs.ProcSet.{empty}
+use Rattle.nested_masks.specs.HeldCounts.{HeldData, AreApartByDepth, AreFullByDepth}
 use Rattle.nested_masks.specs.HeldTasks.{AreLists}
 use Rattle.waiting_index.specs.WaitingTasks.{Waiting}
 use Rattle.nested_masks.specs.Nodes.{NodeData, AreNodes, AreRows}
 use Rattle.nested_masks.specs.declared.counts.Counts.TheInside as counts
+use Rattle.nested_masks.specs.declared.held_counts.HeldCounts.TheInside as held
 use Rattle.nested_masks.specs.declared.node_counts.NodeCounts.TheInside as nodes
 use Rattle.nested_masks.specs.declared.nested.Nested.TheInside as nested
 
@@ -22,9 +24,25 @@ counts_view a = record {
   linked = a.linked.items;
 }
 
--- the stored nodes
+-- the stored nodes, and how many tasks they hold
+abbrev pub held_view : held.Inside → HeldData
+held_view a = record { nodes = a.nodes.items; held = a.held.items }
+
+-- each node has a depth and a count, nodes of one depth are apart, and the processors of the full nodes are right
+pub record AreCountedByDepth (nodes depths held full : List ℕ) : Type 0 where
+  pub held_count : length held ≡ length nodes
+  pub depths_count : length depths ≡ length nodes
+  pub deep : (k : ℕ) → k < length nodes → get_or depths k 0 < length full
+  pub apart : AreApartByDepth nodes depths
+  pub by_depth : AreFullByDepth nodes depths held full
+
+-- the stored counts are right at every moment
+abbrev pub AreStoredCounts : held.Inside → Type 0
+AreStoredCounts a = AreCountedByDepth a.nodes.items a.depths.items a.held.items a.full.items
+
+-- the stored nodes, with the node of each task
 abbrev pub nodes_view : nodes.Inside → NodeData
-nodes_view a = record { nodes = a.nodes.items; node_of = a.node_of.items; held = a.held.items }
+nodes_view a = record { nodes = a.counts.nodes; node_of = a.node_of.items; held = a.counts.held }
 
 -- each node has its row, and each task has the number of a node
 pub record AreHeld (nodes node_of held : List ℕ) (rows : List (Vec ℕ Global)) : Type 0 where
@@ -35,7 +53,7 @@ pub record AreHeld (nodes node_of held : List ℕ) (rows : List (Vec ℕ Global)
 
 -- the stored rows are right at every moment
 abbrev pub AreStoredNodes : nodes.Inside → Type 0
-AreStoredNodes a = AreHeld a.nodes.items a.node_of.items a.held.items a.around.items
+AreStoredNodes a = AreHeld a.counts.nodes a.node_of.items a.counts.held a.around.items
 
 -- no node holds too many linked tasks; how many each node holds, and how many there are
 pub record IsTallied (n : NestedData) (d : NodeData) (count : ℕ) : Type 0 where

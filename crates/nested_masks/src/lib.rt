@@ -8,6 +8,7 @@
 mod counts;
 mod crossing;
 pub mod fault;
+mod held_counts;
 mod held_tasks;
 pub mod laws;
 pub mod nested;

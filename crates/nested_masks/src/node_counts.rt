@@ -1,8 +1,9 @@
 //! The nodes of a set of tasks, and how many linked tasks they hold.
-ghost use Rattle.std.specs.Prelude.{◌≡◌, ℕ, ◌+◌, ◌<◌, ◌≤◌, ◌↔◌, IsTrue, IfOk, MatchOption, [], length, replicate, slice_index};
-ghost use Rattle.nested_masks.specs.Laminar.{mask_at};
+ghost use Rattle.std.specs.Prelude.{◌≡◌, ℕ, ◌+◌, ◌<◌, ◌≤◌, IfOk, MatchOption, [], length, replicate, slice_index};
+ghost use Rattle.nested_masks.specs.Laminar.{mask_at, IsLaminar};
 ghost use Rattle.nested_masks.specs.Nodes.{AreNodes, AreApart, HoldMoreAt, IsNumbered, AreOtherSets, IsSetAt, AreRows, nodes_around};
 
+use crate::held_counts::HeldCounts;
 use affinity_mask::{OutOfMemory, ProcSet};
 use std::alloc::Global;
 use std::marker::Model;
@@ -10,17 +11,14 @@ use std::marker::Model;
 /// A node is the mask of a task, and each one has a number. It holds the linked tasks whose masks lie within it.
 #[derive(Drop)]
 pub(crate) struct NodeCounts {
-    /// By node: its processors.
-    nodes: Vec<ProcSet>,
+    /// By node: its processors, and how many tasks it holds.
+    counts: HeldCounts,
 
     /// By task: the number of its node.
     node_of: Vec<u32>,
 
     /// By node: the numbers of the nodes that contain it, and its own.
     around: Vec<Vec<u32>>,
-
-    /// By node: how many tasks it holds.
-    held: Vec<u32>,
 }
 
 impl Model for NodeCounts {
@@ -36,23 +34,24 @@ impl Model for NodeCounts {
 }
 
 impl NodeCounts {
-    ghost use Rattle.nested_masks.specs.Nodes.{NodeData, node_at, IsFull, IsFullScan, IsFullUnion, AreChained, AreOthersAround};
+    ghost use Rattle.nested_masks.specs.HeldCounts.{IsFullUnion};
+    ghost use Rattle.nested_masks.specs.Nodes.{NodeData, node_at, IsFullScan, AreChained, AreOthersAround};
 
     /// No node holds a task.
     pub(crate) fn new(alloc: Global, masks: &[ProcSet]) -> Result<NodeCounts, OutOfMemory>
-        requires { length masks.now ≤ 1024 }
+        requires few { length masks.now ≤ 1024 }
+        requires laminar { IsLaminar masks.now }
         ensures nodes { IfOk result (λ counts. AreNodes masks.now (length masks.now) counts.nodes counts.node_of) }
         ensures empty { IfOk result (λ counts. counts.held ≡ replicate (length counts.nodes) 0) }
     {
         let mut nodes = Vec::new(alloc);
         let node_of = number_nodes(alloc, masks, &mut nodes)?;
         let around = rows_around(alloc, &nodes)?;
-        let held = vec![in alloc; 0; nodes.len()]?;
+        let counts = HeldCounts::new(alloc, nodes, &around)?;
         Ok(NodeCounts {
-            nodes,
+            counts,
             node_of,
             around,
-            held,
         })
     }
 
@@ -65,7 +64,7 @@ impl NodeCounts {
             (length (nodes_around self.old.nodes (node_at self.old t))) self.old.held self.new.held }
     {
         let node = self.node_of[t as usize];
-        add_one(&mut self.held, &self.around[node as usize]);
+        add_one(&mut self.counts, &self.around[node as usize]);
     }
 
     /// A task is linked no longer: the nodes around its mask hold one task less.
@@ -78,7 +77,7 @@ impl NodeCounts {
             (length (nodes_around self.old.nodes (node_at self.old t))) self.new.held self.old.held }
     {
         let node = self.node_of[t as usize];
-        take_one(&mut self.held, &self.around[node as usize]);
+        take_one(&mut self.counts, &self.around[node as usize]);
     }
 
     /// The smallest full node that contains the mask of a task.
@@ -100,7 +99,7 @@ impl NodeCounts {
     pub(crate) fn len(&self) -> usize
         ensures { result ≡ length self.now.nodes }
     {
-        self.nodes.len()
+        self.counts.len()
     }
 
     /// The number of a node among those that contain the mask of a task.
@@ -113,7 +112,7 @@ impl NodeCounts {
     {
         let around = self.around(t);
         for i in 0..around.len() {
-            if self.nodes[around[i] as usize] == node {
+            if self.counts.node(around[i]) == node {
                 return Some(around[i]);
             }
         }
@@ -136,8 +135,8 @@ impl NodeCounts {
         requires scanned { IsFullScan self.now row.now i found }
         ensures { IsFullScan self.now row.now (i + 1) result }
     {
-        let node = self.nodes[row[i] as usize];
-        if !self.is_full(row[i]) {
+        let node = self.counts.node(row[i]);
+        if !self.counts.is_full(row[i]) {
             return found;
         }
         let Some(smaller) = found else {
@@ -150,60 +149,41 @@ impl NodeCounts {
         }
     }
 
-    /// Whether a node holds as many tasks as it has processors.
-    fn is_full(&self, k: u32) -> bool
-        requires { k < length self.now.nodes }
-        ensures { IsTrue result ↔ IsFull self.now k }
-    {
-        self.held[k as usize] == u32::from(self.nodes[k as usize].count())
-    }
-
     /// The processors of the full nodes.
     pub(crate) fn full_processors(&self) -> ProcSet
-        ensures { IsFullUnion self.now (length self.now.nodes) result }
+        ensures { IsFullUnion self.now.nodes self.now.held result }
     {
-        let mut full = ProcSet::empty();
-        for k in 0..self.nodes.len() {
-            full = self.with_full(full, k as u32);
-        }
-        full
-    }
-
-    /// The processors of the full nodes that were found, and of one node more where it is full.
-    fn with_full(&self, full: ProcSet, k: u32) -> ProcSet
-        requires next { k < length self.now.nodes }
-        requires scanned { IsFullUnion self.now k full }
-        ensures { IsFullUnion self.now (k + 1) result }
-    {
-        if self.is_full(k) {
-            full.either_of(&self.nodes[k as usize])
-        } else {
-            full
-        }
+        self.counts.full_processors()
     }
 }
 
-/// Adds one at each of these places.
-fn add_one(column: &mut [u32], places: &[u32])
-    requires there { (i : ℕ) → i < length places.now → slice_index places.now i < length column.old }
-    requires few { (k : ℕ) → k < length column.old → slice_index column.old k ≤ 1024 }
+/// These nodes hold one task more.
+fn add_one(counts: &mut HeldCounts, places: &[u32])
+    requires there { (i : ℕ) → i < length places.now → slice_index places.now i < length counts.old.nodes }
+    requires same_count { length counts.old.held ≡ length counts.old.nodes }
+    requires few { (k : ℕ) → k < length counts.old.nodes → slice_index counts.old.held k ≤ 1024 }
     requires apart { AreApart places.now }
-    ensures { HoldMoreAt places.now (length places.now) column.old column.new }
+    ensures same { counts.new.nodes ≡ counts.old.nodes }
+    ensures more { HoldMoreAt places.now (length places.now) counts.old.held counts.new.held }
 {
     for i in 0..places.len() {
-        column[places[i] as usize] += 1;
+        let held = counts.held(places[i]);
+        counts.write(places[i], held + 1);
     }
 }
 
-/// Takes one at each of these places.
-fn take_one(column: &mut [u32], places: &[u32])
-    requires there { (i : ℕ) → i < length places.now → slice_index places.now i < length column.old }
-    requires some { (i : ℕ) → i < length places.now → 0 < slice_index column.old (slice_index places.now i) }
+/// These nodes hold one task less.
+fn take_one(counts: &mut HeldCounts, places: &[u32])
+    requires there { (i : ℕ) → i < length places.now → slice_index places.now i < length counts.old.nodes }
+    requires same_count { length counts.old.held ≡ length counts.old.nodes }
+    requires some { (i : ℕ) → i < length places.now → 0 < slice_index counts.old.held (slice_index places.now i) }
     requires apart { AreApart places.now }
-    ensures { HoldMoreAt places.now (length places.now) column.new column.old }
+    ensures same { counts.new.nodes ≡ counts.old.nodes }
+    ensures less { HoldMoreAt places.now (length places.now) counts.new.held counts.old.held }
 {
     for i in 0..places.len() {
-        column[places[i] as usize] -= 1;
+        let held = counts.held(places[i]);
+        counts.write(places[i], held - 1);
     }
 }
 

@@ -8,6 +8,9 @@ use Rattle.nested_masks.proofs.counts.Counts.new.Goals as goal
 pub first_crossing-requires : goal.first_crossing-requires
 first_crossing-requires c = rw (c.deref.ensures.value, c.in_ok-masks.ensures) (few_masks c.args.set.now c.len-count.ensures.valid)
 
+pub new-requires-clause-laminar : goal.new-requires-clause-laminar
+new-requires-clause-laminar c = rw c.deref-2.ensures.value (rw c.deref.ensures.value at c.in_default.ensures)
+
 pub invariant_of-result : goal.invariant_of-result
 invariant_of-result c =
     rw (c.processors.ensures.value, c.in_ok-waiting.ensures, c.in_ok-priorities.ensures, c.in_ok-masks.ensures, c.in_ok-ready.ensures, c.in_ok-linked.ensures, c.len-count.ensures.value) record {
