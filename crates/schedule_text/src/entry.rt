@@ -13,7 +13,7 @@ ghost use Rattle.schedule_text.specs.LineFields.{
 };
 
 use crate::fault::TextKind;
-use crate::field::{fault_with, known_task, mask_of, number_of, processor_of};
+use crate::field::{fault_after, known_task, mask_of, number_of, processor_of};
 use crate::reply::read_reply;
 use scheduler_reply::Entry;
 use task_set::{Event, TaskSet};
@@ -49,19 +49,21 @@ pub fn add_entry(
     let Some((event, reply)) = event_then(rest) else {
         return Err(TextKind::BadLine);
     };
-    let event = match read_event(version, set, event) {
-        Ok(event) => event,
-        Err(kind) => return Err(fault_with(kind, read_reply(version, set, reply))),
-    };
-    let reply = read_reply(version, set, reply)?;
-    let entry = Entry {
-        caller: stream as u32,
-        event,
-        reply,
-    };
-    match entries.push(entry) {
-        Ok(()) => Ok(()),
-        Err(_) => Err(TextKind::OutOfMemory),
+    let event = read_event(version, set, event);
+    match read_reply(version, set, reply) {
+        Ok(reply) => {
+            let event = event?;
+            let entry = Entry {
+                caller: stream as u32,
+                event,
+                reply,
+            };
+            match entries.push(entry) {
+                Ok(()) => Ok(()),
+                Err(_) => Err(TextKind::OutOfMemory),
+            }
+        }
+        Err(kind) => Err(fault_after(event, kind)),
     }
 }
 

@@ -220,12 +220,22 @@ pub fn both<A: Drop, B: Drop>(
 }
 
 /// The fault that is reported where the first part has this one.
-pub fn fault_with<B: Drop>(kind: TextKind, second: Result<B, TextKind>) -> TextKind
+fn fault_with<B: Drop>(kind: TextKind, second: Result<B, TextKind>) -> TextKind
     ensures { MatchResult second (λ other. result ≡ kind) (λ other. result ≡ first_reported kind other) }
 {
     match second {
         Ok(_) => kind,
         Err(other) => first_reported(kind, other),
+    }
+}
+
+/// The fault that is reported where the second part has this one.
+pub fn fault_after<A: Drop>(first: Result<A, TextKind>, other: TextKind) -> TextKind
+    ensures { MatchResult first (λ one. result ≡ other) (λ kind. result ≡ first_reported kind other) }
+{
+    match first {
+        Ok(_) => other,
+        Err(kind) => first_reported(kind, other),
     }
 }
 

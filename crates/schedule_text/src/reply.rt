@@ -30,7 +30,9 @@ use text_fields::limits::LAST_VERSION;
 /// How many fields say who came in at a processor.
 const GONE_FIELDS: usize = 5;
 
-/// The reply of some fields, in a version of the format.
+/// The reply of some fields, in a version of the format. Like the two calls below it is laid into its one caller, since a
+/// reply is long, and what a call returns is copied.
+#[inline(always)]
 pub fn read_reply(version: u8, set: &TaskSet, fields: &[&[u8]]) -> Result<Reply, TextKind>
     ensures read { IfOk result (IsReplyFields version (texts fields.now) set.now) }
     ensures refused { IfErr result (λ kind. IsOutOfMemory kind
@@ -58,6 +60,7 @@ pub fn read_reply(version: u8, set: &TaskSet, fields: &[&[u8]]) -> Result<Reply,
 }
 
 /// The reply of one word.
+#[inline(always)]
 fn word_reply(version: u8, word: &[u8]) -> Result<Reply, TextKind>
     ensures { MatchResult result
         (λ reply. (tasks : SetData) → IsReplyFields version (word.now ∷ []) tasks reply)
@@ -91,6 +94,7 @@ fn word_reply(version: u8, word: &[u8]) -> Result<Reply, TextKind>
 }
 
 /// The reply that is the result of an arrival alone. Each case returns by itself, since what cases join in is copied.
+#[inline(always)]
 fn came_reply(set: &TaskSet, fields: &[&[u8]]) -> Result<Reply, TextKind>
     ensures read { IfOk result (λ reply. (came : CameData) × (reply ≡ reply_of_came came)
         × IsCameFields (texts fields.now) set.now came) }

@@ -66,7 +66,8 @@ pub enum Reached {
 
 impl Stage {
     /// Goes on by a line. The room is for its fields. A line that lists something is put into the lists where they are, as
-    /// they are long and there are many such lines. After an `Err` the stage is not used again.
+    /// they are long and there are many such lines. The other lines write the stage themselves: what a call returns takes time to
+    /// clear at each line. After an `Err` the stage is not used again.
     pub fn after_line<'a>(
         &mut self,
         alloc: Global,
@@ -81,11 +82,12 @@ impl Stage {
     {
         match self {
             Stage::HeaderExpected => {
-                *self = read_header(text, room)?;
+                read_header(self, text, room)?;
                 Ok(Reached::Expected)
             }
             Stage::ProcessorsExpected { version } => {
-                *self = start(alloc, *version, text, room)?;
+                let version = *version;
+                start(self, alloc, version, text, room)?;
                 Ok(Reached::Expected)
             }
             Stage::TasksExpected { set, .. } => {
@@ -174,30 +176,38 @@ impl Stage {
 }
 
 /// Reads the header, which says the version.
-fn read_header<'a>(text: &'a [u8], room: &mut Vec<&'a [u8]>) -> Result<Stage, TextKind>
-    ensures read { IfOk result (λ next. Leads HeaderExpected text.now (progress_of next)) }
+fn read_header<'a>(
+    stage: &mut Stage,
+    text: &'a [u8],
+    room: &mut Vec<&'a [u8]>,
+) -> Result<(), TextKind>
+    ensures read { OnOk result (Leads HeaderExpected text.now (progress_of stage.new)) }
     ensures refused { IfErr result (λ kind. IsOutOfMemory kind
         ⊎ IsLineFault HeaderExpected text.now kind) }
 {
     let fields = spaced_fields(text, room)?;
     let (first, last) = (FIRST_VERSION as u64, LAST_VERSION as u64);
     match number_after(fields, "schedule", first, last) {
-        Some(version) => Ok(Stage::ProcessorsExpected {
-            version: version as u8,
-        }),
+        Some(version) => {
+            *stage = Stage::ProcessorsExpected {
+                version: version as u8,
+            };
+            Ok(())
+        }
         None => Err(TextKind::BadLine),
     }
 }
 
 /// No task yet, on as many processors as a line says.
 fn start<'a>(
+    stage: &mut Stage,
     alloc: Global,
     version: u8,
     text: &'a [u8],
     room: &mut Vec<&'a [u8]>,
-) -> Result<Stage, TextKind>
-    ensures read { IfOk result (λ next. Leads (ProcessorsExpected version) text.now
-        (progress_of next)) }
+) -> Result<(), TextKind>
+    ensures read { OnOk result (Leads (ProcessorsExpected version) text.now
+        (progress_of stage.new)) }
     ensures refused { IfErr result (λ kind. IsOutOfMemory kind
         ⊎ IsLineFault (ProcessorsExpected version) text.now kind) }
 {
@@ -206,7 +216,8 @@ fn start<'a>(
         return Err(TextKind::BadLine);
     };
     let set = TaskSet::new(alloc, processors as u8)?;
-    Ok(Stage::TasksExpected { version, set })
+    *stage = Stage::TasksExpected { version, set };
+    Ok(())
 }
 
 /// Reads a task, which is added, or how many entries there are.
