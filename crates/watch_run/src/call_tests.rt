@@ -10,7 +10,7 @@ use std::process::Abort;
 use std::sync::Wait;
 use std::test::Fail;
 use task_set::{Event, TaskSet};
-use thread_schedule::{Queues, queues_for};
+use thread_schedule::{Beginning, beginning_of};
 
 /// A set for two processors, with a task that may run on both and a less urgent one that may run on the first alone.
 fn two_tasks(rt: &impl Abort, alloc: Global) -> Result<TaskSet, Fail>
@@ -23,21 +23,18 @@ fn two_tasks(rt: &impl Abort, alloc: Global) -> Result<TaskSet, Fail>
     Ok(set)
 }
 
-/// A board over the set, with one pass that has seen nothing.
+/// A board over the set, with the only pass of it.
 fn board_over(alloc: Global, set: &TaskSet) -> Result<(Board, Pass), OutOfMemory>
     ensures set { IfOk result (λ made. made.0.set ≡ set.now) }
     ensures pass { IfOk result (λ made. made.1.board ≡ made.0.id) }
 {
-    let Queues {
-        queues,
-        senders,
+    let Beginning {
+        board,
+        mut passes,
         ..
-    } = queues_for(alloc, set)?;
-    let Ok((board, mut passes)) = Board::new(alloc, set, senders, &queues, 1) else {
-        return Err(OutOfMemory);
-    };
+    } = beginning_of(alloc, set, &[])?;
     let Some(pass) = passes.pop() else {
-        unreachable!()
+        return Err(OutOfMemory);
     };
     Ok((board, pass))
 }

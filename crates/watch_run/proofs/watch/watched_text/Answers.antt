@@ -1,10 +1,9 @@
-use Rattle.std.proofs.Common.{ℕ, List, ◌++◌, ap, ◌∙◌, map}
+use Rattle.std.proofs.Common.{◌∙◌, map}
 use Rattle.std.proofs.lemmas.List.{length-map}
 use Rattle.std.proofs.lemmas.Result.{err_from_is_err_and}
 use Rattle.program_status.proofs.Answered.{answers_fault, answers_memory}
 use Rattle.schedule_run.proofs.RunIsValid.{run_of_replay}
 use Rattle.watch_run.specs.Shown.{reading_of}
-use Rattle.watch_run.specs.WatchText.{observers_text}
 use Rattle.watch_run.proofs.Readings.{readings_seen}
 use Rattle.watch_run.proofs.watch.watched_text.Goals as goal
 
