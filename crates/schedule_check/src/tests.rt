@@ -341,7 +341,7 @@ fn a_line_for_each_answer_but_done(rt: HostRuntime) -> Result<(), Fail> {
         let _ = report(&error, status);
     }
     let text = error.text.into_inner();
-    let lines = "usage: run, check, make n p t e, large n p t e, weak, nested, jobs\n\
+    let lines = "usage: run, check, make n p t e, large n p t e, weak, nested, jobs, watch k\n\
 invalid: line 12, defect 5\n";
     assert_eq!(rt; text.as_str(), lines);
     Ok(())

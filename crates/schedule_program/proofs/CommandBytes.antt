@@ -9,9 +9,9 @@ use Rattle.program_status.specs.Reading.{byte_limit}
 use Rattle.program_status.proofs.ReadBytes.{read_is_reported, not_longer}
 use Rattle.generated_run.specs.Sizes.{AreWithin}
 use Rattle.generated_run.specs.declared.sizes.Sizes.{Sizes}
-use Rattle.schedule_program.specs.Command.{IsCommand, IsSized, AreSizes, HasSizes, IsToRead, Reads, ReadsNothing}
+use Rattle.schedule_program.specs.Command.{IsCommand, IsSized, IsWatch, AreSizes, IsBounded, IsToRead, Reads, ReadsNothing}
 use Rattle.schedule_program.specs.declared.words.Command.{Command}
-use Rattle.schedule_program.specs.declared.words.Command.TheVariants.{Run, Check, Weak, Nested, Jobs, Make, Large}
+use Rattle.schedule_program.specs.declared.words.Command.TheVariants.{Run, Check, Weak, Nested, Jobs, Watch, Make, Large}
 
 -- what a command read is what it was to read
 pub read_is_expected : (command : Command) (left after : Option (List ℕ)) (read taken : List ℕ) → IsToRead command left read → Reads command left after taken → taken ≡ read
@@ -20,6 +20,7 @@ read_is_expected Check left after read taken to_read reads = read_is_reported le
 read_is_expected Weak left after read taken to_read reads = read_is_reported left after read taken to_read reads
 read_is_expected Nested left after read taken to_read reads = read_is_reported left after read taken to_read reads
 read_is_expected Jobs left after read taken to_read reads = read_is_reported left after read taken to_read reads
+read_is_expected (Watch observers) left after read taken to_read reads = read_is_reported left after read taken to_read reads
 read_is_expected (Make sizes) left after read taken to_read reads = reads.1 ∙ sym to_read
 read_is_expected (Large sizes) left after read taken to_read reads = reads.1 ∙ sym to_read
 
@@ -30,6 +31,7 @@ never_too_long Check left after read to_read reads longer = not_longer left afte
 never_too_long Weak left after read to_read reads longer = not_longer left after read to_read longer
 never_too_long Nested left after read to_read reads longer = not_longer left after read to_read longer
 never_too_long Jobs left after read to_read reads longer = not_longer left after read to_read longer
+never_too_long (Watch observers) left after read to_read reads longer = not_longer left after read to_read longer
 never_too_long (Make sizes) left after read to_read reads longer = reads tt
 never_too_long (Large sizes) left after read to_read reads longer = reads tt
 
@@ -54,8 +56,9 @@ command_marked first words =
     if first == mark (codes "weak") then Weak else (
     if first == mark (codes "nested") then Nested else (
     if first == mark (codes "jobs") then Jobs else (
+    if first == mark (codes "watch") then Watch (number_value (get_or words 1 [])) else (
     if first == mark (codes "make") then Make (sizes_said words) else (
-    if first == mark (codes "large") then Large (sizes_said words) else Run)))))
+    if first == mark (codes "large") then Large (sizes_said words) else Run))))))
 
 -- the command that words mean, if they mean one
 command_said : List (List ℕ) → Command
@@ -80,6 +83,7 @@ said_of words Check spoken = ap command_said spoken
 said_of words Weak spoken = ap command_said spoken
 said_of words Nested spoken = ap command_said spoken
 said_of words Jobs spoken = ap command_said spoken
+said_of words (Watch observers) spoken = ap command_said spoken.each_word ∙ ap Watch spoken.is_number.0.1
 said_of words (Make sizes) spoken = ap command_said spoken.each_word ∙ ap Make (sizes_are_said spoken.number spoken.processors spoken.tasks spoken.events sizes spoken.sized (codes "make"))
 said_of words (Large sizes) spoken = ap command_said spoken.each_word ∙ ap Large (sizes_are_said spoken.number spoken.processors spoken.tasks spoken.events sizes spoken.sized (codes "large"))
 
@@ -95,12 +99,13 @@ sized_within first words sizes sized = record {
   events = sized.sized.are_events.2;
 }
 
-pub command_within : (words : List (List ℕ)) (command : Command) → IsCommand words command → HasSizes command
+pub command_within : (words : List (List ℕ)) (command : Command) → IsCommand words command → IsBounded command
 command_within words Run spoken = tt
 command_within words Check spoken = tt
 command_within words Weak spoken = tt
 command_within words Nested spoken = tt
 command_within words Jobs spoken = tt
+command_within words (Watch observers) spoken = (spoken.is_number.1, spoken.is_number.2)
 command_within words (Make sizes) spoken = sized_within _ words sizes spoken
 command_within words (Large sizes) spoken = sized_within _ words sizes spoken
 
@@ -120,8 +125,30 @@ unsized_words words first number processors tasks events five none Check spoken 
 unsized_words words first number processors tasks events five none Weak spoken = let same = sym five ∙ spoken in cc
 unsized_words words first number processors tasks events five none Nested spoken = let same = sym five ∙ spoken in cc
 unsized_words words first number processors tasks events five none Jobs spoken = let same = sym five ∙ spoken in cc
+unsized_words words first number processors tasks events five none (Watch observers) spoken = let same = sym five ∙ spoken.each_word in cc
 unsized_words words first number processors tasks events five none (Make sizes) spoken = no_sizes _ words number processors tasks events first five none sizes spoken
 unsized_words words first number processors tasks events five none (Large sizes) spoken = no_sizes _ words number processors tasks events first five none sizes spoken
+
+-- two words of which the second says no number of observers mean no command
+pub unwatched_words : (words : List (List ℕ)) (first number : List ℕ) → words ≡ first ∷ number ∷ [] → ((observers : ℕ) → IsNumberWithin 1 8 number observers → ⊥) → (command : Command) → IsCommand words command → ⊥
+unwatched_words words first number two none Run spoken = let same = sym two ∙ spoken in cc
+unwatched_words words first number two none Check spoken = let same = sym two ∙ spoken in cc
+unwatched_words words first number two none Weak spoken = let same = sym two ∙ spoken in cc
+unwatched_words words first number two none Nested spoken = let same = sym two ∙ spoken in cc
+unwatched_words words first number two none Jobs spoken = let same = sym two ∙ spoken in cc
+unwatched_words words first number two none (Watch observers) spoken =
+    let same = sym spoken.each_word ∙ two in
+    let numbers : spoken.number ≡ number = cc in
+    none observers (rw numbers at spoken.is_number)
+unwatched_words words first number two none (Make sizes) spoken = let same = sym two ∙ spoken.each_word in cc
+unwatched_words words first number two none (Large sizes) spoken = let same = sym two ∙ spoken.each_word in cc
+
+-- two words, each by its place
+pub two_words : (words : List (String Global)) (a b : String Global) → 2 ≤ length words → length words < 3 → a ≡ get_or words 0 a → b ≡ get_or words 1 b → map (string_bytes {Z = Global}) words ≡ string_bytes a ∷ string_bytes b ∷ []
+two_words (v ∷ w ∷ []) a b least most one two = rw (one, two) refl
+two_words [] a b least most one two = absurd (omega arith)
+two_words (v ∷ []) a b least most one two = absurd (omega arith)
+two_words (v ∷ w ∷ u ∷ more) a b least most one two = absurd (omega arith)
 
 -- five words, each by its place
 pub five_words : (words : List (String Global)) (a b c d e : String Global) → 5 ≤ length words → length words < 6 → a ≡ get_or words 0 a → b ≡ get_or words 1 b → c ≡ get_or words 2 c → d ≡ get_or words 3 d → e ≡ get_or words 4 e

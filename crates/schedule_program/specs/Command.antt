@@ -1,5 +1,5 @@
 -- The commands: the words that they are, what they read, what they make of it, and what they refuse, each with one answer.
-use Rattle.std.specs.Prelude.{◌≡◌, ℕ, List, [], ◌∷◌, codes, Option}
+use Rattle.std.specs.Prelude.{◌≡◌, ℕ, ◌≤◌, List, [], ◌∷◌, codes, Option}
 use Rattle.text_fields.specs.Number.{IsNumberWithin}
 use Rattle.program_status.specs.Reading.{ReadsAll, IsReported}
 use Rattle.program_status.specs.Refusal.{IsAccepted, IsAnsweredInput, RefusesInput}
@@ -8,13 +8,14 @@ use Rattle.valid_schedule.specs.Valid.{IsValidText}
 use Rattle.schedule_check.specs.Check.{IsCheckOf, RefusesCheck}
 use Rattle.schedule_run.specs.Run.{IsRunOf}
 use Rattle.weak_run.specs.Weak.{IsWeakOf}
+use Rattle.watch_run.specs.Watch.{IsWatchOf}
 use Rattle.nested_run.specs.NestedRun.{IsNestedOf, AcceptsNested, RefusesNested}
 use Rattle.job_run.specs.JobsRun.{IsJobsOf, AcceptsJobs, RefusesJobs}
 use Rattle.generated_run.specs.Generating.{IsMakeOf, IsLargeOf}
 use Rattle.generated_run.specs.Sizes.{AreWithin}
 use Rattle.generated_run.specs.declared.sizes.Sizes.{Sizes}
 use Rattle.schedule_program.specs.declared.words.Command.{Command}
-use Rattle.schedule_program.specs.declared.words.Command.TheVariants.{Run, Check, Weak, Nested, Jobs, Make, Large}
+use Rattle.schedule_program.specs.declared.words.Command.TheVariants.{Run, Check, Weak, Nested, Jobs, Watch, Make, Large}
 
 -- ---- words
 -- a number, and then how many processors, tasks and events there are; leading zeros are no fault
@@ -33,6 +34,12 @@ pub record IsSized (first : List ℕ) (words : List (List ℕ)) (sizes : Sizes) 
   pub each_word : words ≡ first ∷ number ∷ processors ∷ tasks ∷ events ∷ []
   pub sized : AreSizes number processors tasks events sizes
 
+-- the word `watch`, and how many observers there are, from 1 to 8; leading zeros are no fault
+pub record IsWatch (words : List (List ℕ)) (observers : ℕ) : Type 0 where
+  pub number : List ℕ
+  pub each_word : words ≡ codes "watch" ∷ number ∷ []
+  pub is_number : IsNumberWithin 1 8 number observers
+
 -- the words mean the command
 abbrev pub IsCommand : List (List ℕ) → Command → Type 0
 IsCommand words Run = words ≡ codes "run" ∷ []
@@ -40,18 +47,20 @@ IsCommand words Check = words ≡ codes "check" ∷ []
 IsCommand words Weak = words ≡ codes "weak" ∷ []
 IsCommand words Nested = words ≡ codes "nested" ∷ []
 IsCommand words Jobs = words ≡ codes "jobs" ∷ []
+IsCommand words (Watch observers) = IsWatch words observers
 IsCommand words (Make sizes) = IsSized (codes "make") words sizes
 IsCommand words (Large sizes) = IsSized (codes "large") words sizes
 
 -- the numbers of a command, where it has some, are within their bounds
-abbrev pub HasSizes : Command → Type 0
-HasSizes Run = Unit {0}
-HasSizes Check = Unit {0}
-HasSizes Weak = Unit {0}
-HasSizes Nested = Unit {0}
-HasSizes Jobs = Unit {0}
-HasSizes (Make sizes) = AreWithin sizes
-HasSizes (Large sizes) = AreWithin sizes
+abbrev pub IsBounded : Command → Type 0
+IsBounded Run = Unit {0}
+IsBounded Check = Unit {0}
+IsBounded Weak = Unit {0}
+IsBounded Nested = Unit {0}
+IsBounded Jobs = Unit {0}
+IsBounded (Watch observers) = (1 ≤ observers) × (observers ≤ 8)
+IsBounded (Make sizes) = AreWithin sizes
+IsBounded (Large sizes) = AreWithin sizes
 
 -- ---- what is read
 -- what a command reads of a source; `make` and `large` read nothing
@@ -61,6 +70,7 @@ Reads Check old new read = ReadsAll old new read
 Reads Weak old new read = ReadsAll old new read
 Reads Nested old new read = ReadsAll old new read
 Reads Jobs old new read = ReadsAll old new read
+Reads (Watch observers) old new read = ReadsAll old new read
 Reads (Make sizes) old new read = (new ≡ old) × (read ≡ [])
 Reads (Large sizes) old new read = (new ≡ old) × (read ≡ [])
 
@@ -71,6 +81,7 @@ IsToRead Check left read = IsReported left read
 IsToRead Weak left read = IsReported left read
 IsToRead Nested left read = IsReported left read
 IsToRead Jobs left read = IsReported left read
+IsToRead (Watch observers) left read = IsReported left read
 IsToRead (Make sizes) left read = read ≡ []
 IsToRead (Large sizes) left read = read ≡ []
 
@@ -81,6 +92,7 @@ ReadsNothing Check = ⊥
 ReadsNothing Weak = ⊥
 ReadsNothing Nested = ⊥
 ReadsNothing Jobs = ⊥
+ReadsNothing (Watch observers) = ⊥
 ReadsNothing (Make sizes) = Unit {0}
 ReadsNothing (Large sizes) = Unit {0}
 
@@ -92,6 +104,7 @@ Makes Check read put = IsCheckOf read put
 Makes Weak read put = IsWeakOf read put
 Makes Nested read put = IsNestedOf read put
 Makes Jobs read put = IsJobsOf read put
+Makes (Watch observers) read put = IsWatchOf observers read put
 Makes (Make sizes) read put = IsMakeOf sizes put
 Makes (Large sizes) read put = IsLargeOf sizes put
 
@@ -102,6 +115,7 @@ Accepts Check bytes = IsValidText bytes
 Accepts Weak bytes = IsAccepted bytes
 Accepts Nested bytes = AcceptsNested bytes
 Accepts Jobs bytes = AcceptsJobs bytes
+Accepts (Watch observers) bytes = IsAccepted bytes
 Accepts (Make sizes) bytes = bytes ≡ []
 Accepts (Large sizes) bytes = bytes ≡ []
 
@@ -112,6 +126,7 @@ Refuses Check bytes status = RefusesCheck bytes status
 Refuses Weak bytes status = IsAnsweredInput (RefusesInput bytes) status
 Refuses Nested bytes status = RefusesNested bytes status
 Refuses Jobs bytes status = RefusesJobs bytes status
+Refuses (Watch observers) bytes status = IsAnsweredInput (RefusesInput bytes) status
 Refuses (Make sizes) bytes status = ⊥
 Refuses (Large sizes) bytes status = ⊥
 

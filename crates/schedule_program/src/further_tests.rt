@@ -4,7 +4,7 @@ use program_status::Status;
 use std::test::Fail;
 
 /// Words and bytes, with the answer and the text that is written.
-static ANSWERS: [(&[&str], &str, Status, &str); 6] = [
+static ANSWERS: [(&[&str], &str, Status, &str); 8] = [
     (
         &["weak"],
         "apa 1\nprocessors 2\ntask a 1 0-1\ntask b 2 0\n0 arrive a\n0 arrive b\nend\n",
@@ -41,6 +41,20 @@ static ANSWERS: [(&[&str], &str, Status, &str); 6] = [
         &["jobs"],
         "jobs 1\nprocessors 1\nhorizon 0\nend\n",
         Status::Input { line: 3, kind: 14 },
+        "",
+    ),
+    (
+        &["watch", "02"],
+        "apa 1\nprocessors 1\ntask a 5 0\nend\n",
+        Status::Done,
+        "schedule 1\nprocessors 1\ntask a 5 0\nhistory 0\n\
+contexts 1\na units 0 stints 0 moves 0 last - trail 0\nend\nobservers 2\n\
+observer 0 first 0 - last 0 - told 0 -\nobserver 1 first 0 - last 0 - told 0 -\nend\n",
+    ),
+    (
+        &["watch", "8"],
+        "apa 1\nprocessors 2\n0 arrive a\nend\n",
+        Status::Input { line: 3, kind: 9 },
         "",
     ),
 ];

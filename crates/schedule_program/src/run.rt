@@ -10,7 +10,7 @@ ghost use Rattle.program_status.specs.Answers.{Answers};
 ghost use Rattle.program_status.specs.Reading.{byte_limit};
 ghost use Rattle.program_status.specs.Status.{BeforePut};
 ghost use Rattle.schedule_program.specs.declared.words.Command.{Command};
-ghost use Rattle.schedule_program.specs.Command.{IsCommand, HasSizes, Reads, ReadsNothing, IsToRead, Makes, Accepts, Refuses, ReadsAndMakes, ReadsRefused};
+ghost use Rattle.schedule_program.specs.Command.{IsCommand, IsBounded, Reads, ReadsNothing, IsToRead, Makes, Accepts, Refuses, ReadsAndMakes, ReadsRefused};
 
 use crate::words::{Command, command_of};
 use generated_run::{made_text, summary_of};
@@ -25,6 +25,7 @@ use std::alloc::Global;
 use std::sync::Wait;
 use std::thread::Threads;
 use std::time::Clock;
+use watch_run::watched_text;
 use weak_run::weak_text;
 
 /// Does what the words say. `run` reads the source to its end as an input text, replays its events on threads, a worker
@@ -33,8 +34,11 @@ use weak_run::weak_text;
 /// schedule text, whoever made it, and where that is a valid schedule, writes how many entries it has. `weak` reads an
 /// input text, replays its events by the weak scheduler beside the strong one, and writes what differs. `nested` reads
 /// an input text of version 1 whose masks nest, and writes what counts decide. `jobs` reads a text of periodic tasks,
-/// and writes when each of their jobs ends. `make` writes the text of the input of its four numbers, and `large`
-/// replays that input as `run` does and writes a summary; neither reads the source.
+/// and writes when each of their jobs ends. `watch` works as `run` does, but for the posts, which are in the order of
+/// the lines, and beside it so many observers read which processors are occupied, each on a thread of its own. It writes
+/// the schedule text, and then what they read; the gate is also called before each of their reads. `make` writes the text
+/// of the input of its four numbers, and `large` replays that input as `run` does and writes a summary; neither reads the
+/// source.
 pub fn run<R: Threads + Wait + Clock + Sync, S: Source, K: Sink, G: Gate + Sync>(
     rt: &R,
     alloc: Global,
@@ -130,9 +134,12 @@ fn bytes_for<S: Source>(
 {
     match command {
         Command::Make(_) | Command::Large(_) => Ok(Vec::new(alloc)),
-        Command::Run | Command::Check | Command::Weak | Command::Nested | Command::Jobs => {
-            read_all(alloc, source, MAX_BYTES)
-        }
+        Command::Run
+        | Command::Check
+        | Command::Weak
+        | Command::Nested
+        | Command::Jobs
+        | Command::Watch(_) => read_all(alloc, source, MAX_BYTES),
     }
 }
 
@@ -144,7 +151,7 @@ fn text_made<R: Threads + Wait + Clock + Sync, G: Gate + Sync>(
     bytes: &[u8],
     gate: &G,
 ) -> Result<Vec<u8>, Status>
-    requires { HasSizes command }
+    requires { IsBounded command }
     ensures { Answers (Makes command bytes.now) (Accepts command bytes.now)
         (Refuses command bytes.now) result }
 {
@@ -154,6 +161,7 @@ fn text_made<R: Threads + Wait + Clock + Sync, G: Gate + Sync>(
         Command::Weak => weak_text(alloc, bytes),
         Command::Nested => nested_text(alloc, bytes),
         Command::Jobs => jobs_text(alloc, bytes),
+        Command::Watch(observers) => watched_text(rt, alloc, bytes, observers, gate),
         Command::Make(sizes) => {
             let text = made_text(alloc, sizes)?;
             Ok(text)

@@ -264,11 +264,17 @@ fn wrong_schedule(rt: HostRuntime) -> Result<(), Fail> {
     expect_answer(&rt, rt.alloc(), &["check"], WRONG_SCHEDULE, status, "")
 }
 
-static REFUSED_WORDS: [&[&str]; 17] = [
+static REFUSED_WORDS: [&[&str]; 23] = [
     &[],
     &["weak", "1"],
     &["nested", "1"],
     &["jobs", "1"],
+    &["watch"],
+    &["watch", "0"],
+    &["watch", "9"],
+    &["watch", "x"],
+    &["watch", "8", "8"],
+    &["run", "1"],
     &["run", "x"],
     &["runs"],
     &["make"],

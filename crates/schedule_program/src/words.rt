@@ -3,11 +3,13 @@ ghost use Rattle.std.specs.Prelude.{◌≡◌, ℕ, [], ◌∷◌, MatchOption, 
 ghost use Rattle.schedule_program.specs.declared.words.Command.{Command};
 ghost use Rattle.generated_run.specs.declared.sizes.Sizes.{Sizes};
 ghost use Rattle.schedule_program.specs.Command.{IsCommand, AreSizes};
+ghost use Rattle.text_fields.specs.Number.{IsNumberWithin};
 
 use generated_run::Sizes;
 use task_set::MAX_TASKS;
 use text_fields::limits::{MAX_EVENTS, MAX_PROCESSORS};
 use text_fields::read_number;
+use watch_run::MAX_OBSERVERS;
 
 /// What the program can do.
 #[derive(Clone, Copy, Debug, PartialEq, Eq)]
@@ -24,6 +26,9 @@ pub enum Command {
     Nested,
     /// The source is a text of periodic tasks; their jobs are released and run, and when each job ends is written.
     Jobs,
+    /// The source is an input text; its events are replayed while so many observers read, and the schedule text is
+    /// written, and what they read.
+    Watch(u32),
     /// The text of the input of these numbers is written. Nothing is read.
     Make(Sizes),
     /// The events of the input of these numbers are replayed, and a summary of the schedule is written. Nothing is
@@ -45,6 +50,15 @@ pub fn command_of(words: &[String]) -> Option<Command>
             "jobs" => Some(Command::Jobs),
             _ => None,
         },
+        [word, number] => {
+            let Some(observers) = observers_of(number) else {
+                return None;
+            };
+            match word.as_str() {
+                "watch" => Some(Command::Watch(observers)),
+                _ => None,
+            }
+        }
         [word, number, processors, tasks, events] => {
             let Some(sizes) = sizes_of(number, processors, tasks, events) else {
                 return None;
@@ -57,6 +71,16 @@ pub fn command_of(words: &[String]) -> Option<Command>
         }
         _ => None,
     }
+}
+
+/// The number of observers that this word is, if it is a number within its bounds.
+fn observers_of(number: &str) -> Option<u32>
+    ensures { MatchOption result
+        ((observers : ℕ) → IsNumberWithin 1 8 number.now observers → ⊥)
+        (IsNumberWithin 1 8 number.now) }
+{
+    let observers = read_number(number.as_bytes(), 1, MAX_OBSERVERS as u64)?;
+    Some(observers as u32)
 }
 
 /// The numbers that these words are, if each is a number within its bounds.

@@ -1,4 +1,4 @@
 mod Headline
 mod InputNumbers
 mod OneText
-mod RunIsValid
+pub mod RunIsValid

@@ -1,11 +1,18 @@
--- The text of a replay is the text of a valid schedule: its history is legal, and it has the contexts that its history gives.
-use Rattle.std.proofs.Common.{ℕ, ◌<◌, ◌≤◌, List, length, All, sym, subst, arith}
+-- The text of a replay is what a run of its input writes, and the text of a valid schedule: its history is legal, and it has
+-- the contexts that its history gives.
+use Rattle.std.proofs.Common.{◌≡◌, ℕ, ◌<◌, List, All, refl, sym, ap, ◌∙◌, subst, arith}
+use Rattle.link_state.specs.Dispatch.{contexts_of}
+use Rattle.sched_core.specs.CoreData.{CoreData}
+use Rattle.schedule_text.specs.ScheduleText.{schedule_text}
+use Rattle.task_set.specs.TaskSet.{SetData}
+use Rattle.thread_replay.specs.Replayed.{IsReplayOf}
+use Rattle.trace_reader.specs.InputText.{IsInputText}
+use Rattle.schedule_run.proofs.Headline.{headline}
 use Rattle.task_set.specs.declared.context.Context.{Context}
 use Rattle.trace_reader.specs.declared.posted.Posted.{Posted}
 use Rattle.schedule_text.specs.Schedule.{IsSchedule}
 use Rattle.merge_laws.proofs.MergedCounts.{merge_length, merge_posted}
 use Rattle.valid_schedule.specs.Laws.{IsWritableHistory}
-use Rattle.valid_schedule.specs.Valid.{IsValid}
 use Rattle.valid_schedule.proofs.LegalSchedules.{legal_is_valid}
 use Rattle.schedule_run.specs.Run.{Replays, IsRunOf}
 use Rattle.schedule_run.proofs.InputNumbers.{IsOfFormat, input_streams, input_priorities, input_version}
@@ -25,16 +32,26 @@ writable_history read put replayed =
       legal = replayed.legal;
     }
 
-pub is_run_of : (read put : List ℕ) → Replays read put → IsRunOf read put
+is_run_of : (read put : List ℕ) (replayed : Replays read put) → (run : IsRunOf read put) × (run.replayed ≡ replayed)
 is_run_of read put replayed =
-    let made = legal_is_valid replayed.version replayed.set replayed.history (writable_history read put replayed) in
-    record {
-      replayed = replayed;
-      schedule = record { version = replayed.version; set = replayed.set; entries = replayed.history; contexts = replayed.printed };
-      is_text = record {
-        is_schedule = subst (λ (contexts : List Context). IsSchedule (record { version = replayed.version; set = replayed.set; entries = replayed.history; contexts = contexts })) (sym replayed.contexts) made.0;
-        text = replayed.text;
-      };
-      valid = record { passing = made.1.passing; contexts = replayed.contexts };
-      one_stream = λ one other second. one_text read put other replayed one second;
-    }
+    let made = legal_is_valid replayed.version replayed.set replayed.history (writable_history read put replayed) in (
+      record {
+        replayed = replayed;
+        schedule = record { version = replayed.version; set = replayed.set; entries = replayed.history; contexts = replayed.printed };
+        is_text = record {
+          is_schedule = subst (λ (contexts : List Context). IsSchedule (record { version = replayed.version; set = replayed.set; entries = replayed.history; contexts = contexts })) (sym replayed.contexts) made.0;
+          text = replayed.text;
+        };
+        valid = record { passing = made.1.passing; contexts = replayed.contexts };
+        one_stream = λ one other second. one_text read put other replayed one second;
+      },
+      refl,
+    )
+
+-- the schedule text of a replay of an input is that of a run, which is of the same set and of the core's history
+pub run_of_replay : (read put : List ℕ) (version : ℕ) (set : SetData) (events : List Posted) (core : CoreData) (printed : List Context) → IsInputText version read set events → IsReplayOf set events core → printed ≡ contexts_of set core.history → put ≡ schedule_text version set core.history printed
+    → (run : IsRunOf read put) × (run.replayed.set ≡ set) × (run.replayed.history ≡ core.history)
+run_of_replay read put version set events core printed input replayed contexts text =
+    let replays = headline read put version set events core printed input replayed contexts text in
+    let run = is_run_of read put replays.0 in
+    (run.0, ap (λ (r : Replays read put). r.set) run.1 ∙ replays.1, ap (λ (r : Replays read put). r.history) run.1 ∙ replays.2)

@@ -1,17 +1,24 @@
 //! From the bytes of an input to those of its schedule.
+ghost use Rattle.std.specs.Prelude.{◌≡◌, IfOk};
+ghost use Rattle.link_state.specs.Dispatch.{contexts_of};
 ghost use Rattle.program_status.specs.Answers.{Answers};
 ghost use Rattle.program_status.specs.Refusal.{IsAccepted, IsAnsweredInput, RefusesInput};
 ghost use Rattle.schedule_run.specs.Run.{IsRunOf};
+ghost use Rattle.schedule_text.specs.ScheduleText.{schedule_text};
+ghost use Rattle.thread_replay.specs.Replayed.{IsReplayOf};
 
+use affinity_mask::OutOfMemory;
 use processor_seat::Gate;
 use program_status::Status;
+use sched_core::Core;
 use schedule_text::write_schedule;
 use std::alloc::Global;
 use std::sync::Wait;
 use std::thread::Threads;
 use std::time::Clock;
+use task_set::Context;
 use thread_schedule::schedule_of;
-use trace_reader::read_input;
+use trace_reader::{Input, read_input};
 
 /// The schedule text of the input that these bytes are, or the status that says why there is none.
 pub fn replayed_text<R: Threads + Wait + Clock + Sync, G: Gate + Sync>(
@@ -25,12 +32,27 @@ pub fn replayed_text<R: Threads + Wait + Clock + Sync, G: Gate + Sync>(
 {
     let input = read_input(alloc, bytes)?;
     let made = schedule_of(rt, alloc, input.set(), input.events(), gate)?;
-    let text = write_schedule(
+    let text = text_of_replay(alloc, &input, &made.core, &made.contexts)?;
+    Ok(text)
+}
+
+/// The schedule text of a replay of an input, with the contexts that its history gives. Refused only when out of memory.
+pub fn text_of_replay(
+    alloc: Global,
+    input: &Input,
+    core: &Core,
+    contexts: &[Context],
+) -> Result<Vec<u8>, OutOfMemory>
+    requires core { IsReplayOf input.now.set input.now.events core.now }
+    requires contexts { contexts.now ≡ contexts_of input.now.set core.now.history }
+    ensures { IfOk result (λ text. text.items ≡ schedule_text input.now.version
+        input.now.set core.now.history contexts.now) }
+{
+    write_schedule(
         alloc,
         input.version(),
         input.set(),
-        made.core.history(),
-        &made.contexts,
-    )?;
-    Ok(text)
+        core.history(),
+        contexts,
+    )
 }

@@ -1,0 +1,3 @@
+mod Readings
+mod Snapshots
+mod Written

@@ -1,0 +1,39 @@
+//! From the bytes of an input to those of its schedule and its observers.
+ghost use Rattle.std.specs.Prelude.{◌≤◌};
+ghost use Rattle.program_status.specs.Answers.{Answers};
+ghost use Rattle.program_status.specs.Refusal.{IsAccepted, IsAnsweredInput, RefusesInput};
+ghost use Rattle.watch_run.specs.Watch.{IsWatchOf};
+
+use crate::observers::write_observers;
+use processor_seat::Gate;
+use program_status::Status;
+use schedule_run::text_of_replay;
+use std::alloc::Global;
+use std::sync::Wait;
+use std::thread::Threads;
+use std::time::Clock;
+use trace_reader::read_input;
+use watched_replay::watched_schedule_of;
+
+/// The most observers.
+pub const MAX_OBSERVERS: u32 = 8;
+
+/// The schedule text of the input that these bytes are, and a line for each of so many observers; or the status that says
+/// why there is none. The gate is called as in `replayed_text`, and by each observer before each of its reads at point 3.
+pub fn watched_text<R: Threads + Wait + Clock + Sync, G: Gate + Sync>(
+    rt: &R,
+    alloc: Global,
+    bytes: &[u8],
+    observers: u32,
+    gate: &G,
+) -> Result<Vec<u8>, Status>
+    requires { (1 ≤ observers) × (observers ≤ 8) }
+    ensures { Answers (IsWatchOf observers bytes.now) (IsAccepted bytes.now)
+        (IsAnsweredInput (RefusesInput bytes.now)) result }
+{
+    let input = read_input(alloc, bytes)?;
+    let made = watched_schedule_of(rt, alloc, input.set(), input.events(), observers, gate)?;
+    let mut text = text_of_replay(alloc, &input, &made.core, &made.contexts)?;
+    write_observers(&mut text, &made.sightings)?;
+    Ok(text)
+}
