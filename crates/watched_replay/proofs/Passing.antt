@@ -18,6 +18,7 @@ use Rattle.thread_replay.proofs.Places.{AllFrom-weaker}
 use Rattle.thread_replay.proofs.Posting.{of_other, of_stream, pass_stays, streamed_stays}
 use Rattle.watched_replay.specs.Passes.{FirstSaw, FirstSawJust, FirstSawClose, HasGrown, HaveGrown}
 
+-- a pass of which nothing changed
 grown_self : (p : PassData) → Grown p p
 grown_self p = record { board = refl; caller = refl; seen = prefix_refl p.seen; known = omega arith; close = λ saw. saw; looks = ([], sym (append-nil p.looks)) }
 
@@ -30,18 +31,13 @@ pub first_grown : (queues : List QueueData) (ps : List PassData) (p q : PassData
 first_grown queues [] p q any is grown = absurd (omega arith)
 first_grown queues (x ∷ xs) p q any is grown = (subst (λ (o : PassData). HasGrown queues o q) is grown, have_grown_self queues xs)
 
+-- what holds of passes holds of them once they know more
 pub streamed_grown : (board : BoardData) (events : List Posted) (whole : Bool) (n : ℕ) (ps qs : List PassData) → HaveGrown board.queues ps qs → AllFrom (IsStreamedAt board events whole) n ps → AllFrom (IsStreamedAt board events whole) n qs
 streamed_grown board events whole n [] [] grown h = tt
 streamed_grown board events whole n [] (q ∷ qs) grown h = absurd grown
 streamed_grown board events whole n (p ∷ ps) [] grown h = absurd grown
 streamed_grown board events whole n (p ∷ ps) (q ∷ qs) grown h =
     (streamed_stays board events whole n p q h.0 grown.0.grown grown.0.mine (grown.0.eyes h.0.own.eyes), streamed_grown board events whole (n + 1) ps qs grown.1 h.1)
-
-pub passes_grown : (board : BoardData) (n : ℕ) (ps qs : List PassData) → HaveGrown board.queues ps qs → AllFrom (IsPassAt board) n ps → AllFrom (IsPassAt board) n qs
-passes_grown board n [] [] grown h = tt
-passes_grown board n [] (q ∷ qs) grown h = absurd grown
-passes_grown board n (p ∷ ps) [] grown h = absurd grown
-passes_grown board n (p ∷ ps) (q ∷ qs) grown h = (pass_stays board n p q h.0 grown.0.grown (grown.0.eyes h.0.eyes), passes_grown board (n + 1) ps qs grown.1 h.1)
 
 pub count_grown : (queues : List QueueData) (ps qs : List PassData) → HaveGrown queues ps qs → length qs ≡ length ps
 count_grown queues [] [] grown = refl
@@ -78,43 +74,14 @@ saw_none entries (p ∷ ps) none any = subst (λ (l : List Entry). IsPrefix l p.
 pub own_passes : (board : BoardData) (events : List Posted) (whole : Bool) (n : ℕ) (ps : List PassData) → AllFrom (IsStreamedAt board events whole) n ps → AllFrom (IsPassAt board) n ps
 own_passes board events whole n ps streamed = AllFrom-weaker (IsStreamedAt board events whole) (IsPassAt board) (λ k p at. at.own) n ps streamed
 
--- what the first pass has seen, as it is read, and after it was written
-pub saw_read : (entries : List Entry) (ps : List PassData) (p : PassData) → p ≡ get_or ps 0 p → FirstSaw entries ps → IsPrefix entries p.seen
-saw_read entries [] p is saw = absurd saw
-saw_read entries (x ∷ xs) p is saw = subst (λ (o : PassData). IsPrefix entries o.seen) (sym is) saw
-
 pub saw_some : (entries : List Entry) (ps : List PassData) → FirstSaw entries ps → 1 ≤ length ps
 saw_some entries [] saw = absurd saw
 saw_some entries (p ∷ ps) saw = omega arith
-
-pub saw_written : (entries : List Entry) (ps : List PassData) (q : PassData) → 1 ≤ length ps → IsPrefix entries q.seen → FirstSaw entries (set ps 0 q)
-saw_written entries [] q any saw = absurd (omega arith)
-saw_written entries (x ∷ xs) q any saw = saw
-
-pub saw_just_written : (entries : List Entry) (ps : List PassData) (q : PassData) → 1 ≤ length ps → entries ≡ q.seen → FirstSawJust entries (set ps 0 q)
-saw_just_written entries [] q any saw = absurd (omega arith)
-saw_just_written entries (x ∷ xs) q any saw = saw
-
-pub close_written : (ps : List PassData) (q : PassData) → 1 ≤ length ps → q.saw_close ≡ true → FirstSawClose (set ps 0 q)
-close_written [] q any saw = absurd (omega arith)
-close_written (x ∷ xs) q any saw = saw
 
 -- a pass that saw the close is one of them
 pub some_saw : (ps : List PassData) → FirstSawClose ps → SomeSawClose ps
 some_saw [] saw = absurd saw
 some_saw (p ∷ ps) saw = inl saw
-
--- what is new of the history, after what is published of it
-pub goes_on : (entries seen : List Entry) (n : ℕ) → n ≡ length entries → IsPrefix entries seen → entries ++ drop n seen ≡ seen
-goes_on entries seen n is begins =
-    ap (λ (k : ℕ). entries ++ drop k seen) is ∙ ap (λ (l : List Entry). entries ++ drop (length entries) l) (sym begins.1)
-    ∙ ap (λ (l : List Entry). entries ++ l) (drop-append_seam entries begins.0) ∙ begins.1
-
--- and while some pass sees more
-pub saw_set : (entries : List Entry) (ps : List PassData) (i : ℕ) (p q : PassData) → p ≡ get_or ps i p → Grown p q → FirstSaw entries ps → FirstSaw entries (set ps i q)
-saw_set entries [] i p q is grown saw = absurd saw
-saw_set entries (x ∷ xs) zero p q is grown saw = prefix_trans entries p.seen q.seen (subst (λ (o : PassData). IsPrefix entries o.seen) (sym is) saw) grown.seen
-saw_set entries (x ∷ xs) (suc i) p q is grown saw = saw
 
 -- the events of a stream with one event more
 one_more : (n : ℕ) (done : List Posted) (posted : Posted) → events_of_stream n (done ++ posted ∷ []) ≡ events_of_stream n done ++ events_of_stream n (posted ∷ [])
@@ -122,6 +89,7 @@ one_more n done posted =
     ap (map (λ (p : Posted). p.event)) (filter-append (λ (p : Posted). p.stream == n) done (posted ∷ []))
     ∙ map-append (λ (p : Posted). p.event) (filter (λ (p : Posted). p.stream == n) done) (filter (λ (p : Posted). p.stream == n) (posted ∷ []))
 
+-- the pass of the event's stream, and one of another stream
 posted_here : (board : BoardData) (done : List Posted) (posted : Posted) (whole : Bool) (n : ℕ) (p q : PassData) → posted.stream ≡ n → Grown p q → AreEyesOf board.queues q.eyes
     → (whole ≡ true → Adds p (posted.event ∷ []) q) → IsStreamedAt board done true n p → IsStreamedAt board (done ++ posted ∷ []) whole n q
 posted_here board done posted whole n p q is grown eyes adds at = record {

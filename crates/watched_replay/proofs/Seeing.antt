@@ -1,5 +1,5 @@
 -- What observers saw, once it is known that the published entries are the history.
-use Rattle.std.proofs.Common.{◌≡◌, ℕ, ◌≤◌, List, [], ◌∷◌, length, take, get_or, Bool, true, sym, ap, ◌∙◌, subst, arith}
+use Rattle.std.proofs.Common.{◌≡◌, ℕ, ◌≤◌, List, [], ◌∷◌, length, take, get_or, Bool, sym, ap, ◌∙◌, subst, arith}
 use Rattle.std.specs.Prelude.{All}
 use Rattle.std.proofs.Math.Seq.{take-append_seam}
 use mathlib.Core.List.{IsPrefix}
@@ -15,17 +15,6 @@ use Rattle.watched_replay.specs.Passes.{FirstSawJust, FirstSawClose}
 use Rattle.watched_replay.specs.Sightings.{IsSightingOf}
 use Rattle.watched_replay.specs.Watches.{ArePicturesOf, IsToldOf}
 use Rattle.watched_replay.specs.declared.sighting.Sighting.{Sighting}
-
--- two reads stay those of prefixes
-pub pictures_stay : (m : ℕ) (old new : List Entry) (first last : Picture) → IsPrefix old new → ArePicturesOf m old first last → ArePicturesOf m new first last
-pictures_stay m old new first last grows h = record {
-  at_first = h.at_first;
-  at_last = h.at_last;
-  first_of = h.first_of;
-  last_of = h.last_of;
-  later = h.later;
-  within = prefix_trans h.at_last old new h.within grows;
-}
 
 -- a prefix is so many of the entries, and its picture is that of so many
 taken : (entries history : List Entry) → IsPrefix entries history → take (length entries) history ≡ entries

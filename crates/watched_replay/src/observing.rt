@@ -142,7 +142,8 @@ pub fn start_all<'s, E, R: Threads + Wait + Sync, G: Gate + Sync>(
     requires few { length observers.items ≤ 8 }
     requires room { (watchers.items ≡ []) × (length observers.items ≤ vec_capacity watchers) }
     ensures count { length result.items ≡ length observers.items }
-    ensures each { (of : BoardData) → All (λ (o : Observer). board_at o ≡ of) observers.items → All (IsWatcherOf of) result.items }
+    ensures each { (of : BoardData) → All (λ (o : Observer). board_at o ≡ of) observers.items
+        → All (IsWatcherOf of) result.items }
 {
     while let Some(observer) = observers.pop() {
         let who = observers.len();
@@ -180,7 +181,8 @@ pub fn join_all<R: Threads + Wait, G: Gate>(
     requires few { length watchers.items ≤ 8 }
     requires room { (observed.items ≡ []) × (length watchers.items ≤ vec_capacity observed) }
     ensures count { length result.items ≡ length watchers.items }
-    ensures each { (of : BoardData) → All (IsWatcherOf of) watchers.items → All (IsObservedOf of) result.items }
+    ensures each { (of : BoardData) → All (IsWatcherOf of) watchers.items
+        → All (IsObservedOf of) result.items }
 {
     while let Some(watcher) = watchers.pop() {
         let who = observed.len() as u32;

@@ -79,9 +79,12 @@ fn post_event<R: Wait, G: Gate>(
     requires owing { owing < 32 }
     ensures callers { length passes.new.items ≡ length passes.old.items }
     ensures passes { AllFrom (IsPassAt board.now) 0 passes.new.items }
-    ensures posted { (done : List Posted) → AllFrom (IsStreamedAt board.now done true) 0 passes.old.items
-        → AllFrom (IsStreamedAt board.now (done ++ posted ∷ []) (is_some result)) 0 passes.new.items }
-    ensures seen { (entries : List Entry) → FirstSaw entries passes.old.items → FirstSaw entries passes.new.items }
+    ensures posted { (done : List Posted)
+        → AllFrom (IsStreamedAt board.now done true) 0 passes.old.items
+        → AllFrom (IsStreamedAt board.now (done ++ posted ∷ []) (is_some result)) 0
+        passes.new.items }
+    ensures seen { (entries : List Entry) → FirstSaw entries passes.old.items
+        → FirstSaw entries passes.new.items }
     ensures owing { IfSome result (λ owing. owing < 32) }
 {
     let pass = &mut passes[posted.stream as usize];
@@ -107,8 +110,10 @@ fn post_and_publish<R: Wait, K: Wait + Drop, G: Gate>(
     requires owing { owing < 32 }
     requires published { FirstSaw (published publisher.old) passes.old.items }
     ensures callers { length passes.new.items ≡ length passes.old.items }
-    ensures posted { (done : List Posted) → AllFrom (IsStreamedAt board.now done true) 0 passes.old.items
-        → AllFrom (IsStreamedAt board.now (done ++ posted ∷ []) (is_some result)) 0 passes.new.items }
+    ensures posted { (done : List Posted)
+        → AllFrom (IsStreamedAt board.now done true) 0 passes.old.items
+        → AllFrom (IsStreamedAt board.now (done ++ posted ∷ []) (is_some result)) 0
+        passes.new.items }
     ensures board { board_of publisher.new ≡ board_of publisher.old }
     ensures published { FirstSaw (published publisher.new) passes.new.items }
     ensures owing { IfSome result (λ owing. owing < 32) }

@@ -41,7 +41,8 @@ pub fn tell_all<R: Wait, K: Wait + Drop>(
 ) -> Result<Vec<Sighting>, OutOfMemory>
     requires { All (IsObservedOf (board_of publisher.old)) observed.items }
     ensures count { IfOk result (λ sightings. length sightings.items ≡ length observed.items) }
-    ensures each { IfOk result (λ sightings. All (IsToldOf (board_of publisher.old).processors (published publisher.old)) sightings.items) }
+    ensures each { IfOk result (λ sightings. All
+        (IsToldOf (board_of publisher.old).processors (published publisher.old)) sightings.items) }
 {
     let mut sightings = Vec::with_capacity(alloc, observed.len())?;
     for i in 0..observed.len() {

@@ -1,5 +1,5 @@
 //! Two events that observers watch, by calls, and how often the gate is called.
-ghost use Rattle.std.specs.Prelude.{◌≡◌, ◌≤◌, ◌×◌, length};
+ghost use Rattle.std.specs.Prelude.{◌≡◌, ◌≤◌, length};
 
 use crate::{Watched, watched_schedule_of};
 use affinity_mask::{OutOfMemory, ProcSet};

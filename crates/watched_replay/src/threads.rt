@@ -83,7 +83,8 @@ fn run_threads<'s, E, R: Threads + Wait + Clock + Sync, K: Wait + Drop, G: Gate 
     requires few { length observers.items ≤ 8 }
     requires new { published publisher ≡ [] }
     requires observers { All (IsNewObserver (board_of publisher)) observers.items }
-    ensures { IfOk result (AreJoined board.entry.now events.entry.now queues.entry.now slots.entry.now (board_of publisher) (length observers.items)) }
+    ensures { IfOk result (AreJoined board.entry.now events.entry.now queues.entry.now
+        slots.entry.now (board_of publisher) (length observers.items)) }
 {
     let started = Vec::with_capacity(alloc, queues.len())?;
     let left = Vec::with_capacity(alloc, queues.len())?;
@@ -141,19 +142,22 @@ pub fn in_threads<R: Threads + Wait + Clock + Sync, K: Wait + Drop, G: Gate + Sy
     requires few { length observers.items ≤ 8 }
     requires new { published publisher ≡ [] }
     requires observers { All (IsNewObserver (board_of publisher)) observers.items }
-    ensures { IfOk result (AreJoined board.now events.now queues.now slots.now (board_of publisher) (length observers.items)) }
+    ensures { IfOk result (AreJoined board.now events.now queues.now slots.now
+        (board_of publisher) (length observers.items)) }
 {
     thread::scope(
         thread::scope_env(),
         rt,
         move |scope| -> Result<Joined<K>, OutOfMemory>
-            requires { CanRun board.now queues.now slots.now events.now passes.items processors.items
+            requires { CanRun board.now queues.now slots.now events.now
+                passes.items processors.items
                 × (length refused.now ≡ length queues.now)
                 × (length unwatched.now ≡ length observers.items)
                 × (length observers.items ≤ 8)
                 × (published publisher ≡ [])
                 × All (IsNewObserver (board_of publisher)) observers.items }
-            ensures { IfOk result (AreJoined board.entry.now events.entry.now queues.entry.now slots.entry.now (board_of publisher) (length observers.items)) }
+            ensures { IfOk result (AreJoined board.entry.now events.entry.now queues.entry.now
+                slots.entry.now (board_of publisher) (length observers.items)) }
         {
             run_threads(
                 scope, rt, alloc, board, queues, slots, events, refused, unwatched, gate, passes,

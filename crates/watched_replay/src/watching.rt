@@ -71,9 +71,12 @@ fn watched_replay<R: Threads + Wait + Clock + Sync, K: Wait + Drop, G: Gate + Sy
     requires processors { (board_of publisher).processors ≡ slots.now.set.processors }
     requires observers { All (IsNewObserver (board_of publisher)) observers.items }
     ensures core { IfOk result (λ done. IsReplayOf slots.now.set events.now done.replayed.core) }
-    ensures hands { IfOk result (λ done. HaveAllStints slots.now done.replayed.core.history done.replayed.hands.items) }
-    ensures each_observer { IfOk result (λ done. length done.sightings.items ≡ length observers.items) }
-    ensures sightings { IfOk result (λ done. All (IsSightingOf slots.now.set done.replayed.core.history) done.sightings.items) }
+    ensures hands { IfOk result (λ done.
+        HaveAllStints slots.now done.replayed.core.history done.replayed.hands.items) }
+    ensures each_observer { IfOk result (λ done.
+        length done.sightings.items ≡ length observers.items) }
+    ensures sightings { IfOk result (λ done.
+        All (IsSightingOf slots.now.set done.replayed.core.history) done.sightings.items) }
 {
     board_is_made(&board);
     let refused = flags(alloc, queues.len())?;
@@ -115,9 +118,11 @@ pub fn watched_schedule_of<R: Threads + Wait + Clock + Sync, G: Gate + Sync>(
     requires events { All (IsPostedOf set.now) events.now }
     requires observers { (1 ≤ observers) × (observers ≤ 8) }
     ensures core { IfOk result (λ made. IsReplayOf set.now events.now made.core) }
-    ensures contexts { IfOk result (λ made. made.contexts.items ≡ contexts_of set.now made.core.history) }
+    ensures contexts { IfOk result (λ made.
+        made.contexts.items ≡ contexts_of set.now made.core.history) }
     ensures each_observer { IfOk result (λ made. length made.sightings.items ≡ observers) }
-    ensures sightings { IfOk result (λ made. All (IsSightingOf set.now made.core.history) made.sightings.items) }
+    ensures sightings { IfOk result (λ made.
+        All (IsSightingOf set.now made.core.history) made.sightings.items) }
 {
     let Beginning {
         board,

@@ -1,4 +1,4 @@
-use Rattle.std.proofs.Common.{arith, ◌≡◌, ◌+◌, Some, [], ◌∷◌, length, length-append, sym, ap, subst, All}
+use Rattle.std.proofs.Common.{arith, Some, [], ◌∷◌, length, length-append, sym, ap, subst, All}
 use Rattle.std.proofs.lemmas.List.Elements.{All-nil, All-pop, All-push}
 use Rattle.watched_replay.specs.Watches.{IsObservedOf, IsWatcherOf}
 use Rattle.watched_replay.proofs.observing.join_all.Goals as goal

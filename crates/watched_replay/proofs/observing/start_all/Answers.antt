@@ -1,4 +1,4 @@
-use Rattle.std.proofs.Common.{arith, ◌≡◌, ◌+◌, Some, [], ◌∷◌, length, length-append, sym, ap, subst, All}
+use Rattle.std.proofs.Common.{arith, ◌≡◌, Some, [], ◌∷◌, length, length-append, sym, ap, subst, All}
 use Rattle.std.proofs.lemmas.List.Elements.{All-nil, All-pop, All-push}
 use Rattle.schedule_board.specs.declared.board.Observer.{Observer}
 use Rattle.schedule_board.specs.Boards.{BoardData, board_at}
