@@ -1,7 +1,7 @@
 -- The contexts that the workers carried are those that the history gives.
-use Rattle.std.proofs.Common.{◌≡◌, ℕ, ◌+◌, None, List, [], ◌∷◌, ◌++◌, length, map, refl, sym, ap, ◌∙◌, subst}
+use Rattle.std.proofs.Common.{◌≡◌, ℕ, ◌+◌, List, [], ◌∷◌, ◌++◌, length, map, refl, ap, ◌∙◌}
 use Rattle.std.specs.List.{flat_map, range_with_len}
-use Rattle.task_set.specs.TaskSet.{SetData, IsTaskSet}
+use Rattle.task_set.specs.TaskSet.{IsTaskSet}
 use Rattle.task_set.specs.Orders.{Stint, stints_in}
 use Rattle.task_set.specs.Context.{carried_context}
 use Rattle.task_set.specs.declared.context.Context.{Context}

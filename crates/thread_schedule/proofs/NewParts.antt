@@ -1,10 +1,10 @@
 -- Queues, hands and receivers at their places.
-use Rattle.std.proofs.Common.{◌≡◌, ℕ, zero, suc, ◌+◌, ◌<◌, None, Some, List, [], ◌∷◌, ◌++◌, length, map, slice_get, refl, sym, ap, ◌∙◌, subst, arith}
+use Rattle.std.proofs.Common.{◌≡◌, ℕ, suc, ◌+◌, Some, List, [], ◌∷◌, ◌++◌, length, map, slice_get, refl, sym, ap, subst, arith}
 use Rattle.atomic_table.specs.Seated.{TableId}
 use Rattle.task_set.specs.TaskSet.{SetData}
 use Rattle.order_queues.specs.Ends.{QueueData, ReceiverData, new_receiver}
 use Rattle.context_slots.specs.Hands.{SlotsData, HandData, new_hand, AreNewFrom}
-use Rattle.event_history.specs.Boards.{AreFor, BoardData, PassData, new_pass, AreNewFrom as PassesNewFrom}
+use Rattle.event_history.specs.Boards.{AreFor, PassData, AreNewFrom as PassesNewFrom}
 use Rattle.thread_replay.specs.Places.{AllFrom}
 use Rattle.order_queues.specs.Ends.{EyeData}
 use Rattle.thread_replay.specs.Streams.{IsUnused}

@@ -1,6 +1,6 @@
-use Rattle.std.proofs.Common.{◌≡◌, ◌+◌, List, [], ◌∷◌, ◌++◌, length, length-append, map, arith, sym, ap, ◌∙◌, subst}
+use Rattle.std.proofs.Common.{List, [], ◌∷◌, ◌++◌, length, length-append, map, arith, sym, ap, ◌∙◌, subst}
 use Rattle.std.proofs.lemmas.List.{map-append}
-use Rattle.order_queues.specs.Ends.{QueueData, SenderData, ReceiverData, new_receiver, new_sender}
+use Rattle.order_queues.specs.Ends.{QueueData, new_receiver, new_sender}
 use Rattle.event_history.specs.Boards.{AreFor}
 use Rattle.thread_schedule.proofs.NewParts.{are_for-push}
 use Rattle.thread_schedule.proofs.making.queues_for.Goals as goal
