@@ -38,7 +38,7 @@ impl ProcSet {
     }
 }
 
-/// What stands before the first comma, and what stands behind it where there is one.
+/// What stands before the first comma, and what stands after it where there is one.
 fn first_piece(text: &[u8]) -> (&[u8], Option<&[u8]>)
     ensures cut { MatchOption result.1 (pieces text.now ≡ result.0.now ∷ []) (λ others. pieces text.now ≡ result.0.now ∷ pieces others.now) }
     ensures shorter { IfSome result.1 (λ others. length text.now ≡ length result.0.now + 1 + length others.now) }
@@ -84,7 +84,7 @@ fn ends_of(piece: &[u8]) -> Option<(&[u8], &[u8])>
     (is_number(low) && is_number(high)).then_some((low, high))
 }
 
-/// What stands before the first byte of this value, and what stands behind it.
+/// What stands before the first byte of this value, and what stands after it.
 fn cut_at(text: &[u8], byte: u8) -> Option<(&[u8], &[u8])>
     ensures { MatchOption result (Contains text.now byte → ⊥) (λ parts. (text.now ≡ parts.0.now ++ byte ∷ parts.1.now) × (Contains parts.0.now byte → ⊥)) }
 {

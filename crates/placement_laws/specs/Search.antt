@@ -22,7 +22,7 @@ pub record IsFull (s : State) (t visited set : ℕ) : Type 0 where
   pub mask : Within (effective_mask s t) set
   pub occupied : (p : ℕ) → IsTrue (has set p) → IsTrue (has visited p) ⊎ ((u : ℕ) × (task_on s p ≡ Some u) × Within (effective_mask s u) set)
 
--- what a search from t finds: a way, which stands from its end to its front, or a set from which none leads out
+-- what a search from t finds: a way, which stands from its end to its start, or a set from which none leads out
 abbrev pub IsSearched : State → ℕ → ℕ → Found → Type 0
 IsSearched s t visited (Way back) = IsWay s t visited (reverse back)
 IsSearched s t visited (Full set) = IsFull s t visited set

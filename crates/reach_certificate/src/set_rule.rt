@@ -11,7 +11,7 @@ use link_table::Links;
 /// What a set has to be.
 #[derive(Clone, Copy)]
 pub enum SetRule {
-    /// A set behind which this task waits: it has the task's mask, and on each of its processors is a more urgent task
+    /// A set that keeps this task waiting: it has the task's mask, and on each of its processors is a more urgent task
     /// that may run only within it.
     HeldAgainst(u32),
 

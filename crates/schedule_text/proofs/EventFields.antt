@@ -6,21 +6,18 @@ use Rattle.task_set.specs.declared.event.Event.{Event}
 use Rattle.text_fields.specs.Fields.{texts}
 use Rattle.text_fields.proofs.FieldLists.{texts_two, texts_three}
 use Rattle.schedule_text.specs.declared.fault.TextKind.{TextKind}
-use Rattle.schedule_text.specs.Reading.{IsOutOfMemory}
 use Rattle.schedule_text.specs.LineFields.{IsEventFault}
-use Rattle.schedule_text.proofs.Parts.{fault_alone}
 
 -- what is refused
 abbrev IsRefused : ℕ → List (List ℕ) → SetData → Result Event TextKind → Type 0
-IsRefused version fields set result = IfErr result (λ kind. IsOutOfMemory kind ⊎ IsEventFault version fields set kind)
+IsRefused version fields set result = IfErr result (IsEventFault version fields set)
 
 pub two_refused : (version : ℕ) (set : SetData) (fields : List (Bor (List ℕ))) (d : Bor (List ℕ))
     (result : Result Event TextKind) → 2 ≤ length fields → length fields < 3
     → IfErr result (IsEventFault version ((get_or fields 0 d).now ∷ (get_or fields 1 d).now ∷ []) set)
     → IsRefused version (texts fields) set result
 two_refused version set fields d result some few refused =
-    subst (λ (all : List (List ℕ)). IsRefused version all set result) (sym (texts_two fields d some few))
-    (fault_alone result (λ kind fault. fault) refused)
+    subst (λ (all : List (List ℕ)). IsRefused version all set result) (sym (texts_two fields d some few)) refused
 
 pub affinity_refused : (version : ℕ) (set : SetData) (fields : List (Bor (List ℕ))) (d : Bor (List ℕ))
     (result : Result Event TextKind) → 3 ≤ length fields → length fields < 4 → version ≡ 2

@@ -3,7 +3,6 @@ use Rattle.std.proofs.Common.{◌≡◌, ◌⊎◌, inl, inr, Result, Ok, Err, I
 use Rattle.task_set.specs.TaskSet.{SetData}
 use Rattle.schedule_text.specs.declared.fault.TextKind.{TextKind}
 use Rattle.schedule_text.specs.declared.fault.TextKind.TheVariants.{BadLine, UnknownTask}
-use Rattle.schedule_text.specs.Reading.{IsOutOfMemory}
 use Rattle.schedule_text.specs.LineFields.{IsPartFault, IsSaid, IsSaidFault, first_reported, both_of}
 
 -- ---- two parts
@@ -49,42 +48,33 @@ module _ {FormA KnownA FormB KnownB Form Known : Type 0}
       inr (fault.0, second_fault fault.0 unknown.1 fault.1)
 
   -- two faults, of which one is reported
-  both_faults : (kind other : TextKind) → IsOutOfMemory kind ⊎ IsPartFault FormA KnownA kind
-      → IsOutOfMemory other ⊎ IsPartFault FormB KnownB other
-      → IsOutOfMemory (first_reported kind other) ⊎ IsPartFault Form Known (first_reported kind other)
-  both_faults kind other (inl memory) second =
-      inl (ap (λ (first : TextKind). first_reported first other) memory)
-  both_faults kind other (inr (inl bad)) second =
-      inr (first_bad (first_reported kind other) (ap (λ (first : TextKind). first_reported first other) bad.0, bad.1))
-  both_faults kind other (inr (inr unknown)) second =
-      subst (λ (reported : TextKind). IsOutOfMemory reported ⊎ IsPartFault Form Known reported)
-      (sym (ap (λ (first : TextKind). first_reported first other) unknown.0)) (by second)
-    where
-      by : IsOutOfMemory other ⊎ IsPartFault FormB KnownB other → IsOutOfMemory other ⊎ IsPartFault Form Known other
-      by (inl memory) = inl memory
-      by (inr fault) = inr (second_fault other unknown.1 fault)
+  both_faults : (kind other : TextKind) → IsPartFault FormA KnownA kind → IsPartFault FormB KnownB other
+      → IsPartFault Form Known (first_reported kind other)
+  both_faults kind other (inl bad) second =
+      first_bad (first_reported kind other) (ap (λ (first : TextKind). first_reported first other) bad.0, bad.1)
+  both_faults kind other (inr unknown) second =
+      subst (λ (reported : TextKind). IsPartFault Form Known reported)
+      (sym (ap (λ (first : TextKind). first_reported first other) unknown.0)) (second_fault other unknown.1 second)
 
   -- what a reader answers of both parts that was answered of each of them
   module _ {A B : Type 0} (SaysA : A → Type 0) (SaysB : B → Type 0) (first : Result A TextKind) (second : Result B TextKind)
       (one : (a : A) → SaysA a → KnownA) (other : (b : B) → SaysB b → KnownB)
-      (read : IfOk first SaysA) (refused : IfErr first (λ kind. IsOutOfMemory kind ⊎ IsPartFault FormA KnownA kind))
-      (read' : IfOk second SaysB) (refused' : IfErr second (λ kind. IsOutOfMemory kind ⊎ IsPartFault FormB KnownB kind)) where
+      (read : IfOk first SaysA) (refused : IfErr first (IsPartFault FormA KnownA))
+      (read' : IfOk second SaysB) (refused' : IfErr second (IsPartFault FormB KnownB)) where
     pub fault_of_both : (kind : TextKind) → Err kind ≡ both_of first second
-        → IsOutOfMemory kind ⊎ IsPartFault Form Known kind
+        → IsPartFault Form Known kind
     fault_of_both kind is =
-        subst (λ (r : Result (A × B) TextKind). IfErr r (λ k. IsOutOfMemory k ⊎ IsPartFault Form Known k)) (sym is)
+        subst (λ (r : Result (A × B) TextKind). IfErr r (IsPartFault Form Known)) (sym is)
         (by first second read refused read' refused')
       where
         by : (first : Result A TextKind) (second : Result B TextKind) → IfOk first SaysA
-            → IfErr first (λ kind. IsOutOfMemory kind ⊎ IsPartFault FormA KnownA kind) → IfOk second SaysB
-            → IfErr second (λ kind. IsOutOfMemory kind ⊎ IsPartFault FormB KnownB kind)
-            → IfErr (both_of first second) (λ k. IsOutOfMemory k ⊎ IsPartFault Form Known k)
+            → IfErr first (IsPartFault FormA KnownA) → IfOk second SaysB
+            → IfErr second (IsPartFault FormB KnownB)
+            → IfErr (both_of first second) (IsPartFault Form Known)
         by (Ok a) (Ok b) p f q g = tt
-        by (Ok a) (Err kind) p f q (inl memory) = inl memory
-        by (Ok a) (Err kind) p f q (inr fault) = inr (second_fault kind (parts.first_some (one a p)) fault)
-        by (Err kind) (Ok b) p (inl memory) q g = inl memory
-        by (Err kind) (Ok b) p (inr (inl bad)) q g = inr (first_bad kind bad)
-        by (Err kind) (Ok b) p (inr (inr unknown)) q g = inr (first_unknown kind unknown (parts.second_some (other b q)))
+        by (Ok a) (Err kind) p f q fault = second_fault kind (parts.first_some (one a p)) fault
+        by (Err kind) (Ok b) p (inl bad) q g = first_bad kind bad
+        by (Err kind) (Ok b) p (inr unknown) q g = first_unknown kind unknown (parts.second_some (other b q))
         by (Err kind) (Err kind') p f q g = both_faults kind kind' f g
 
 -- the fault of the first part, with what the second one was, and that of the second part where the first one was read
@@ -127,13 +117,6 @@ same_fault SaysX SaysY set kind to from (inr unknown) = inr (
   λ known. unknown.2 (from set known.0 known.1),
 )
 
-pub same_refused : {X Y : Type 0} (SaysX : SetData → X → Type 0) (SaysY : SetData → Y → Type 0) (set : SetData)
-    (kind : TextKind) → ((tasks : SetData) (x : X) → SaysX tasks x → (y : Y) × SaysY tasks y)
-    → ((tasks : SetData) (y : Y) → SaysY tasks y → (x : X) × SaysX tasks x)
-    → IsOutOfMemory kind ⊎ IsSaidFault SaysX set kind → IsOutOfMemory kind ⊎ IsSaidFault SaysY set kind
-same_refused SaysX SaysY set kind to from (inl memory) = inl memory
-same_refused SaysX SaysY set kind to from (inr fault) = inr (same_fault SaysX SaysY set kind to from fault)
-
 -- what the fields say of the set, or their fault
 abbrev pub IsDecided : {X : Type 0} → (SetData → X → Type 0) → SetData → Type 0
 IsDecided {X} Says set = ((x : X) × Says set x) ⊎ ((kind : TextKind) × IsSaidFault Says set kind)
@@ -150,13 +133,11 @@ none_said Says set none = inr (BadLine, inl (refl, none))
 
 -- a part that says nothing, where what is said has it
 pub part_fault : {A Form Known : Type 0} (Says : A → Type 0) (kind : TextKind)
-    → (Form → (x : A) × Says x) → IsOutOfMemory kind ⊎ ((kind ≡ BadLine) × ((x : A) → Says x → ⊥))
-    → IsOutOfMemory kind ⊎ IsPartFault Form Known kind
-part_fault Says kind found (inl memory) = inl memory
-part_fault Says kind found (inr bad) = inr (inl (bad.0, λ some. bad.1 (found some).0 (found some).1))
+    → (Form → (x : A) × Says x) → (kind ≡ BadLine) × ((x : A) → Says x → ⊥) → IsPartFault Form Known kind
+part_fault Says kind found bad = inl (bad.0, λ some. bad.1 (found some).0 (found some).1)
 
 -- a fault of one of two known ways is a fault
 pub fault_alone : {A : Type 0} {Fault Other : TextKind → Type 0} (r : Result A TextKind)
-    → ((kind : TextKind) → Fault kind → Other kind) → IfErr r Fault → IfErr r (λ kind. IsOutOfMemory kind ⊎ Other kind)
+    → ((kind : TextKind) → Fault kind → Other kind) → IfErr r Fault → IfErr r Other
 fault_alone (Ok x) weaker refused = tt
-fault_alone (Err kind) weaker refused = inr (weaker kind refused)
+fault_alone (Err kind) weaker refused = weaker kind refused

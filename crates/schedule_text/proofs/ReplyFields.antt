@@ -8,16 +8,15 @@ use Rattle.scheduler_reply.specs.declared.reply.Reply.TheVariants.{Remasked}
 use Rattle.scheduler_reply.specs.Reply.{reply_of_gone, reply_of_came}
 use Rattle.text_fields.specs.Fields.{texts}
 use Rattle.schedule_text.specs.declared.fault.TextKind.{TextKind}
-use Rattle.schedule_text.specs.Reading.{IsOutOfMemory}
 use Rattle.schedule_text.specs.LineFields.{IsCameFields, IsCameFault, IsGoneFields, IsGoneFault, IsReplyFields, IsReplyFault}
 use Rattle.schedule_text.proofs.FieldLists.{texts_rest_two, headed}
 use Rattle.text_fields.proofs.FieldLists.{texts_first_one}
-use Rattle.schedule_text.proofs.Parts.{same_refused}
+use Rattle.schedule_text.proofs.Parts.{same_fault}
 use Rattle.schedule_text.proofs.Replies.{IsOtherWord, came_to, came_from, freed_to, freed_from, waiting_to, waiting_from}
 
 -- what is refused
 abbrev pub IsRefused : ℕ → List (List ℕ) → SetData → Result Reply TextKind → Type 0
-IsRefused version fields set result = IfErr result (λ kind. IsOutOfMemory kind ⊎ IsReplyFault version fields set kind)
+IsRefused version fields set result = IfErr result (IsReplyFault version fields set)
 
 pub refused_at : (version other : ℕ) (fields others : List (List ℕ)) (set : SetData) (result : Result Reply TextKind)
     → version ≡ other → fields ≡ others → IsRefused version fields set result → IsRefused other others set result
@@ -40,12 +39,11 @@ off_cut fields d some is =
 -- after `remasked left` the word `then`
 pub waiting_refused : (set : SetData) (fields : List (Bor (List ℕ))) (d : Bor (List ℕ)) (kind : TextKind)
     → 1 ≤ length fields → (get_or fields 0 d).now ≡ codes "then"
-    → IsOutOfMemory kind ⊎ IsCameFault (rest_of fields) set kind
-    → IsOutOfMemory kind ⊎ IsReplyFault 2 (codes "remasked" ∷ codes "left" ∷ texts fields) set kind
+    → IsCameFault (rest_of fields) set kind
+    → IsReplyFault 2 (codes "remasked" ∷ codes "left" ∷ texts fields) set kind
 waiting_refused set fields d kind some is refused =
-    subst (λ (rest : List (List ℕ)). IsOutOfMemory kind
-    ⊎ IsReplyFault 2 (codes "remasked" ∷ codes "left" ∷ rest) set kind) (headed fields d (codes "then") some is)
-    (same_refused (IsCameFields (rest_of fields))
+    subst (λ (rest : List (List ℕ)). IsReplyFault 2 (codes "remasked" ∷ codes "left" ∷ rest) set kind) (headed fields d (codes "then") some is)
+    (same_fault (IsCameFields (rest_of fields))
     (IsReplyFields 2 (codes "remasked" ∷ codes "left" ∷ codes "then" ∷ rest_of fields)) set kind
     (λ tasks arrival f. (Remasked None arrival, waiting_to 2 refl (rest_of fields) tasks arrival f))
     (waiting_from 2 (rest_of fields)) refused)
@@ -53,12 +51,12 @@ waiting_refused set fields d kind some is refused =
 -- after `freed` who came in
 pub freed_refused : (version : ℕ) (set : SetData) (fields : List (Bor (List ℕ))) (d : Bor (List ℕ)) (kind : TextKind)
     → 1 ≤ length fields → (get_or fields 0 d).now ≡ codes "freed"
-    → IsOutOfMemory kind ⊎ IsGoneFault (rest_of fields) set kind
-    → IsOutOfMemory kind ⊎ IsReplyFault version (texts fields) set kind
+    → IsGoneFault (rest_of fields) set kind
+    → IsReplyFault version (texts fields) set kind
 freed_refused version set fields d kind some is refused =
-    subst (λ (all : List (List ℕ)). IsOutOfMemory kind ⊎ IsReplyFault version all set kind)
+    subst (λ (all : List (List ℕ)). IsReplyFault version all set kind)
     (headed fields d (codes "freed") some is)
-    (same_refused (IsGoneFields (rest_of fields)) (IsReplyFields version (codes "freed" ∷ rest_of fields)) set kind
+    (same_fault (IsGoneFields (rest_of fields)) (IsReplyFields version (codes "freed" ∷ rest_of fields)) set kind
     (λ tasks gone f. (reply_of_gone gone, freed_to version (rest_of fields) tasks gone f))
     (freed_from version (rest_of fields)) refused)
 
@@ -74,11 +72,11 @@ came_said version set fields (Err kind) said = tt
 pub came_refused : (version : ℕ) (set : SetData) (fields : List (Bor (List ℕ))) (d : Bor (List ℕ))
     (result : Result Reply TextKind) → 1 ≤ length fields → length (texts fields) ≢ 1
     → IsOtherWord (get_or fields 0 d).now
-    → IfErr result (λ kind. IsOutOfMemory kind ⊎ IsCameFault (texts fields) set kind)
+    → IfErr result (IsCameFault (texts fields) set)
     → IsRefused version (texts fields) set result
 came_refused version set fields d (Ok reply) some more other refused = tt
 came_refused version set fields d (Err kind) some more other refused =
-    same_refused (IsCameFields (texts fields)) (IsReplyFields version (texts fields)) set kind
+    same_fault (IsCameFields (texts fields)) (IsReplyFields version (texts fields)) set kind
     (λ tasks arrival f. (reply_of_came arrival, came_to version (texts fields) tasks arrival f))
     (came_from version (texts fields) (get_or fields 0 d).now (rest_of fields) (texts_first_one fields d some) more other)
     refused

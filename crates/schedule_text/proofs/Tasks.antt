@@ -42,10 +42,9 @@ task_list fields word name number list added four f =
     }
 
 pub list_fault : (set : SetData) (fields : List (List ℕ)) (word name number list : List ℕ) (kind : TextKind)
-    → fields ≡ word ∷ name ∷ number ∷ list ∷ [] → IsOutOfMemory kind
-    ⊎ ((kind ≡ BadLine) × ((X : ℕ) → IsListField list X → ⊥)) → IsOutOfMemory kind ⊎ IsTaskFault set fields kind
-list_fault set fields word name number list kind four (inl none) = inl none
-list_fault set fields word name number list kind four (inr bad) =
+    → fields ≡ word ∷ name ∷ number ∷ list ∷ [] → (kind ≡ BadLine) × ((X : ℕ) → IsListField list X → ⊥)
+    → IsOutOfMemory kind ⊎ IsTaskFault set fields kind
+list_fault set fields word name number list kind four bad =
     inr (inl (bad.0, λ added f. bad.1 added.mask (task_list fields word name number list added four f)))
 
 -- a task that is not added

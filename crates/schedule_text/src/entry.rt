@@ -92,8 +92,7 @@ fn event_then<'f, 'a>(fields: &'f [&'a [u8]]) -> Option<(&'f [&'a [u8]], &'f [&'
 fn read_event(version: u8, set: &TaskSet, fields: &[&[u8]]) -> Result<Event, TextKind>
     ensures read { IfOk result
         (IsEventFields version set.now.processors (texts fields.now) set.now) }
-    ensures refused { IfErr result (λ kind. IsOutOfMemory kind
-        ⊎ IsEventFault version (texts fields.now) set.now kind) }
+    ensures refused { IfErr result (λ kind. IsEventFault version (texts fields.now) set.now kind) }
 {
     if let [word, value] = fields {
         return valued_event(version, set, word, value);
@@ -154,7 +153,7 @@ fn processor_event(set: &TaskSet, word: &[u8], value: &[u8]) -> Result<Event, Te
 fn affinity_of(set: &TaskSet, name: &[u8], list: &[u8]) -> Result<Event, TextKind>
     ensures read { IfOk result (IsEventFields 2 set.now.processors
         (codes "affinity" ∷ name.now ∷ list.now ∷ []) set.now) }
-    ensures refused { IfErr result (λ kind. IsOutOfMemory kind ⊎ IsEventFault 2
+    ensures refused { IfErr result (λ kind. IsEventFault 2
         (codes "affinity" ∷ name.now ∷ list.now ∷ []) set.now kind) }
 {
     let mask = mask_of(set, list)?;

@@ -2,7 +2,6 @@
 ghost use Rattle.std.specs.Prelude.{◌≡◌, ◌≢◌, ℕ, codes, ◌⊎◌, ◌↔◌, ◌++◌, ◌∷◌, IsTrue, List, Contains, IfOk, IfErr, MatchOption, MatchResult};
 ghost use Rattle.text_fields.specs.Fields.{texts};
 ghost use Rattle.schedule_text.specs.LineForms.{IsField};
-ghost use Rattle.schedule_text.specs.Reading.{IsOutOfMemory};
 ghost use Rattle.schedule_text.specs.Fields.{spaced_fields_of, links_of, IsNumberField, IsProcessorField, IsListField, IsMaskField, IsSetField, IsChainField, AreProcessorFields, IsNumberAfter, IsSomebodyField, HasLeadingZero};
 ghost use Rattle.schedule_text.specs.LineFields.{IsNameFault, both_of, first_reported};
 ghost use Rattle.task_set.specs.Refusal.{IsNameOf};
@@ -85,8 +84,7 @@ fn has_leading_zero(field: &[u8]) -> bool
 /// The processors of a canonical list, which has one at least.
 pub fn list_of(field: &[u8]) -> Result<ProcSet, TextKind>
     ensures read { IfOk result (IsListField field.now) }
-    ensures refused { IfErr result (λ kind. IsOutOfMemory kind
-        ⊎ ((kind ≡ BadLine) × ((X : ℕ) → IsListField field.now X → ⊥))) }
+    ensures refused { IfErr result (λ kind. ((kind ≡ BadLine) × ((X : ℕ) → IsListField field.now X → ⊥))) }
 {
     let Ok(set) = ProcSet::read_list(field) else {
         return Err(TextKind::BadLine);
@@ -102,7 +100,7 @@ pub fn list_of(field: &[u8]) -> Result<ProcSet, TextKind>
 /// The mask of a canonical list, which has one processor at least, and those of the set alone.
 pub fn mask_of(set: &TaskSet, field: &[u8]) -> Result<ProcSet, TextKind>
     ensures read { IfOk result (IsMaskField set.now.processors field.now) }
-    ensures refused { IfErr result (λ kind. IsOutOfMemory kind ⊎ ((kind ≡ BadLine)
+    ensures refused { IfErr result (λ kind. ((kind ≡ BadLine)
         × ((mask : ℕ) → IsMaskField set.now.processors field.now mask → ⊥))) }
 {
     let all = ProcSet::first(set.processors());
@@ -117,8 +115,7 @@ pub fn mask_of(set: &TaskSet, field: &[u8]) -> Result<ProcSet, TextKind>
 /// The processors of a canonical list, or none for '-'.
 pub fn set_of(field: &[u8]) -> Result<ProcSet, TextKind>
     ensures read { IfOk result (IsSetField field.now) }
-    ensures refused { IfErr result (λ kind. IsOutOfMemory kind
-        ⊎ ((kind ≡ BadLine) × ((X : ℕ) → IsSetField field.now X → ⊥))) }
+    ensures refused { IfErr result (λ kind. ((kind ≡ BadLine) × ((X : ℕ) → IsSetField field.now X → ⊥))) }
 {
     if is_word(field, "-") {
         Ok(ProcSet::empty())
@@ -130,8 +127,7 @@ pub fn set_of(field: &[u8]) -> Result<ProcSet, TextKind>
 /// The processors joined by '>', or none for '-'.
 pub fn chain_of(field: &[u8]) -> Result<Chain, TextKind>
     ensures read { IfOk result (IsChainField field.now) }
-    ensures refused { IfErr result (λ kind. IsOutOfMemory kind
-        ⊎ ((kind ≡ BadLine) × ((chain : List ℕ) → IsChainField field.now chain → ⊥))) }
+    ensures refused { IfErr result (λ kind. ((kind ≡ BadLine) × ((chain : List ℕ) → IsChainField field.now chain → ⊥))) }
 {
     if is_word(field, "-") {
         return Ok(Chain::new());

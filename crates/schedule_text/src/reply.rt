@@ -4,7 +4,6 @@ ghost use Rattle.task_set.specs.TaskSet.{SetData};
 ghost use Rattle.scheduler_reply.specs.declared.reply.Came.{Came as CameData};
 ghost use Rattle.scheduler_reply.specs.Reply.{reply_of_came};
 ghost use Rattle.text_fields.specs.Fields.{texts};
-ghost use Rattle.schedule_text.specs.Reading.{IsOutOfMemory};
 ghost use Rattle.schedule_text.specs.LineFields.{
   displaced_fields,
   gone_words,
@@ -35,8 +34,7 @@ const GONE_FIELDS: usize = 5;
 #[inline(always)]
 pub fn read_reply(version: u8, set: &TaskSet, fields: &[&[u8]]) -> Result<Reply, TextKind>
     ensures read { IfOk result (IsReplyFields version (texts fields.now) set.now) }
-    ensures refused { IfErr result (λ kind. IsOutOfMemory kind
-        ⊎ IsReplyFault version (texts fields.now) set.now kind) }
+    ensures refused { IfErr result (λ kind. IsReplyFault version (texts fields.now) set.now kind) }
 {
     let [word, rest @ ..] = fields else {
         return Err(TextKind::BadLine);
@@ -98,8 +96,7 @@ fn word_reply(version: u8, word: &[u8]) -> Result<Reply, TextKind>
 fn came_reply(set: &TaskSet, fields: &[&[u8]]) -> Result<Reply, TextKind>
     ensures read { IfOk result (λ reply. (came : CameData) × (reply ≡ reply_of_came came)
         × IsCameFields (texts fields.now) set.now came) }
-    ensures refused { IfErr result (λ kind. IsOutOfMemory kind
-        ⊎ IsCameFault (texts fields.now) set.now kind) }
+    ensures refused { IfErr result (λ kind. IsCameFault (texts fields.now) set.now kind) }
 {
     match read_came(set, fields)? {
         Came::Placed { chain } => return Ok(Reply::Placed { chain }),
@@ -111,8 +108,7 @@ fn came_reply(set: &TaskSet, fields: &[&[u8]]) -> Result<Reply, TextKind>
 /// The result of an arrival.
 fn read_came(set: &TaskSet, fields: &[&[u8]]) -> Result<Came, TextKind>
     ensures read { IfOk result (IsCameFields (texts fields.now) set.now) }
-    ensures refused { IfErr result (λ kind. IsOutOfMemory kind
-        ⊎ IsCameFault (texts fields.now) set.now kind) }
+    ensures refused { IfErr result (λ kind. IsCameFault (texts fields.now) set.now kind) }
 {
     if let [word, value] = fields {
         return valued_came(word, value);
@@ -130,7 +126,7 @@ fn read_came(set: &TaskSet, fields: &[&[u8]]) -> Result<Came, TextKind>
 fn valued_came(word: &[u8], value: &[u8]) -> Result<Came, TextKind>
     ensures read { IfOk result (λ came. (tasks : SetData)
         → IsCameFields (word.now ∷ value.now ∷ []) tasks came) }
-    ensures refused { IfErr result (λ kind. IsOutOfMemory kind ⊎ ((kind ≡ BadLine)
+    ensures refused { IfErr result (λ kind. ((kind ≡ BadLine)
         × (IsSaid (IsCameFields (word.now ∷ value.now ∷ [])) → ⊥))) }
 {
     if is_word(word, "waits") {
@@ -156,8 +152,7 @@ fn is_displaced(word: &[u8], middle: &[u8], last: &[u8]) -> bool
 fn displaced(set: &TaskSet, chain: &[u8], name: &[u8], processors: &[u8]) -> Result<Came, TextKind>
     ensures read { IfOk result (IsCameFields
         (displaced_fields chain.now name.now processors.now) set.now) }
-    ensures refused { IfErr result (λ kind. IsOutOfMemory kind
-        ⊎ IsCameFault (displaced_fields chain.now name.now processors.now) set.now kind) }
+    ensures refused { IfErr result (λ kind. IsCameFault (displaced_fields chain.now name.now processors.now) set.now kind) }
 {
     let chain = chain_of(chain)?;
     let reach = set_of(processors)?;
@@ -168,8 +163,7 @@ fn displaced(set: &TaskSet, chain: &[u8], name: &[u8], processors: &[u8]) -> Res
 /// Who came in at a processor that became idle.
 fn read_gone(set: &TaskSet, fields: &[&[u8]]) -> Result<Gone, TextKind>
     ensures read { IfOk result (IsGoneFields (texts fields.now) set.now) }
-    ensures refused { IfErr result (λ kind. IsOutOfMemory kind
-        ⊎ IsGoneFault (texts fields.now) set.now kind) }
+    ensures refused { IfErr result (λ kind. IsGoneFault (texts fields.now) set.now kind) }
 {
     let [chain, middle, name, last, processors] = fields else {
         return Err(TextKind::BadLine);
@@ -192,8 +186,7 @@ fn are_gone_words(middle: &[u8], last: &[u8]) -> bool
 fn gone_of(set: &TaskSet, chain: &[u8], name: &[u8], processors: &[u8]) -> Result<Gone, TextKind>
     ensures read { IfOk result (IsGoneFields (gone_words chain.now name.now processors.now)
         set.now) }
-    ensures refused { IfErr result (λ kind. IsOutOfMemory kind
-        ⊎ IsGoneFault (gone_words chain.now name.now processors.now) set.now kind) }
+    ensures refused { IfErr result (λ kind. IsGoneFault (gone_words chain.now name.now processors.now) set.now kind) }
 {
     let chain = chain_of(chain)?;
     let back = set_of(processors)?;
@@ -208,8 +201,7 @@ fn gone_of(set: &TaskSet, chain: &[u8], name: &[u8], processors: &[u8]) -> Resul
 /// The reply that a processor is on line, by the fields after its word.
 fn on_reply(version: u8, set: &TaskSet, rest: &[&[u8]]) -> Result<Reply, TextKind>
     ensures read { IfOk result (IsReplyFields version (codes "on" ∷ texts rest.now) set.now) }
-    ensures refused { IfErr result (λ kind. IsOutOfMemory kind
-        ⊎ IsReplyFault version (codes "on" ∷ texts rest.now) set.now kind) }
+    ensures refused { IfErr result (λ kind. IsReplyFault version (codes "on" ∷ texts rest.now) set.now kind) }
 {
     if version != LAST_VERSION {
         return Err(TextKind::BadLine);
@@ -221,8 +213,7 @@ fn on_reply(version: u8, set: &TaskSet, rest: &[&[u8]]) -> Result<Reply, TextKin
 /// The reply that a processor is off line, by the fields after its word.
 fn off_reply(version: u8, set: &TaskSet, rest: &[&[u8]]) -> Result<Reply, TextKind>
     ensures read { IfOk result (IsReplyFields version (codes "off" ∷ texts rest.now) set.now) }
-    ensures refused { IfErr result (λ kind. IsOutOfMemory kind
-        ⊎ IsReplyFault version (codes "off" ∷ texts rest.now) set.now kind) }
+    ensures refused { IfErr result (λ kind. IsReplyFault version (codes "off" ∷ texts rest.now) set.now kind) }
 {
     if version != LAST_VERSION {
         return Err(TextKind::BadLine);
@@ -250,7 +241,7 @@ fn off_reply(version: u8, set: &TaskSet, rest: &[&[u8]]) -> Result<Reply, TextKi
 fn moved_reply(set: &TaskSet, name: &[u8], arrival: &[&[u8]]) -> Result<Reply, TextKind>
     ensures read { IfOk result (IsReplyFields 2
         (codes "off" ∷ name.now ∷ codes "then" ∷ texts arrival.now) set.now) }
-    ensures refused { IfErr result (λ kind. IsOutOfMemory kind ⊎ IsReplyFault 2
+    ensures refused { IfErr result (λ kind. IsReplyFault 2
         (codes "off" ∷ name.now ∷ codes "then" ∷ texts arrival.now) set.now kind) }
 {
     let _valid = set.len();
@@ -265,8 +256,7 @@ fn moved_reply(set: &TaskSet, name: &[u8], arrival: &[&[u8]]) -> Result<Reply, T
 /// The reply that the mask of a ready task was set, by the fields after its word.
 fn remasked_reply(version: u8, set: &TaskSet, rest: &[&[u8]]) -> Result<Reply, TextKind>
     ensures read { IfOk result (IsReplyFields version (codes "remasked" ∷ texts rest.now) set.now) }
-    ensures refused { IfErr result (λ kind. IsOutOfMemory kind
-        ⊎ IsReplyFault version (codes "remasked" ∷ texts rest.now) set.now kind) }
+    ensures refused { IfErr result (λ kind. IsReplyFault version (codes "remasked" ∷ texts rest.now) set.now kind) }
 {
     let [word, rest @ ..] = rest else {
         return Err(TextKind::BadLine);
@@ -286,7 +276,7 @@ fn remasked_reply(version: u8, set: &TaskSet, rest: &[&[u8]]) -> Result<Reply, T
 fn waiting_remasked(set: &TaskSet, rest: &[&[u8]]) -> Result<Reply, TextKind>
     ensures read { IfOk result (IsReplyFields 2
         (codes "remasked" ∷ codes "left" ∷ texts rest.now) set.now) }
-    ensures refused { IfErr result (λ kind. IsOutOfMemory kind ⊎ IsReplyFault 2
+    ensures refused { IfErr result (λ kind. IsReplyFault 2
         (codes "remasked" ∷ codes "left" ∷ texts rest.now) set.now kind) }
 {
     let [then, arrival @ ..] = rest else {
@@ -304,7 +294,7 @@ fn waiting_remasked(set: &TaskSet, rest: &[&[u8]]) -> Result<Reply, TextKind>
 fn linked_remasked(set: &TaskSet, rest: &[&[u8]]) -> Result<Reply, TextKind>
     ensures read { IfOk result (IsReplyFields 2
         (codes "remasked" ∷ codes "freed" ∷ texts rest.now) set.now) }
-    ensures refused { IfErr result (λ kind. IsOutOfMemory kind ⊎ IsReplyFault 2
+    ensures refused { IfErr result (λ kind. IsReplyFault 2
         (codes "remasked" ∷ codes "freed" ∷ texts rest.now) set.now kind) }
 {
     let _valid = set.len();

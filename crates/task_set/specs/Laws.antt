@@ -7,7 +7,7 @@ use Rattle.task_set.specs.declared.order.Order.TheVariants.{Stop}
 use Rattle.task_set.specs.Orders.{IsObeyable, MayCome, task_held, has_stop, Stint, stint_orders, stints_in, stints_from, stint_under_way}
 use Rattle.task_set.specs.Context.{context_after_stint, stints_of_task, carried_context}
 
--- each front of an obeyable list is obeyable
+-- each prefix of an obeyable list is obeyable
 abbrev pub PrefixIsObeyable : Type 0
 PrefixIsObeyable = (front rest : List Order) → IsObeyable (front ++ rest) → IsObeyable front
 

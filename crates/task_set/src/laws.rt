@@ -3,7 +3,7 @@
 
 ghost use Rattle.task_set.specs.Laws.{PrefixIsObeyable, OneMoreIsObeyable, NextMayCome, StopEndsOrders, StintsOfMoreOrders, StintsReadBack, StintsOfTaskAscend, LatestStintCarried, OtherTasksCarried, CarriedIsOfItsTask};
 
-/// Each front of an obeyable list is obeyable.
+/// Each prefix of an obeyable list is obeyable.
 pub fn prefix_of_obeyable()
     ensures { PrefixIsObeyable }
 {}

@@ -1,5 +1,5 @@
 //! What a replay on threads begins with.
-ghost use Rattle.std.specs.Prelude.{◌≡◌, ◌≤◌, ◌<◌, All, IfOk, length, map};
+ghost use Rattle.std.specs.Prelude.{◌≡◌, ◌≤◌, ◌<◌, ℕ, All, IfOk, length, map};
 ghost use Rattle.task_set.specs.TaskSet.{IsTaskSet};
 ghost use Rattle.context_slots.specs.Hands.{AreNew};
 ghost use Rattle.order_queues.specs.Ends.{new_receiver, new_sender};
@@ -69,6 +69,8 @@ pub fn callers_of(events: &[Posted]) -> u32
     requires { All (λ (posted : Posted). posted.stream < 16) events.now }
     ensures bounds { (1 ≤ result) × (result ≤ 16) }
     ensures above { All (λ (posted : Posted). posted.stream < result) events.now }
+    ensures least { (n : ℕ) → 1 ≤ n → All (λ (posted : Posted). posted.stream < n) events.now
+        → result ≤ n }
 {
     let mut callers = 1;
     for posted in events {
@@ -83,6 +85,7 @@ fn with_stream(callers: u32, stream: u32) -> u32
     requires most { callers ≤ 16 }
     ensures more { (callers ≤ result) × (result ≤ 16) }
     ensures above { stream < result }
+    ensures least { (n : ℕ) → callers ≤ n → stream < n → result ≤ n }
 {
     if stream < callers {
         callers

@@ -1,8 +1,7 @@
-use Rattle.std.proofs.Common.{refl, sym, subst, ◌≡◌, ◌⊎◌, ℕ, List, Result, Ok, Err, MatchResult}
+use Rattle.std.proofs.Common.{refl, sym, subst, inr, ◌≡◌, ℕ, List, Result, Ok, Err, MatchResult}
 use Rattle.std.proofs.lemmas.Result.{err_from_is_err_and}
 use Rattle.text_fields.specs.Fields.{texts}
 use Rattle.schedule_text.specs.declared.fault.TextKind.{TextKind}
-use Rattle.schedule_text.specs.Reading.{IsOutOfMemory}
 use Rattle.schedule_text.specs.LineFields.{IsEventFields, IsReplyFields, IsEntryFault, first_reported, both_of}
 use Rattle.text_fields.proofs.FieldLists.{texts_first_one}
 use Rattle.schedule_text.proofs.Parts.{fault_of_both}
@@ -28,8 +27,7 @@ returns-in_err-event-in-Ok-clause-refused c =
     let reply = texts c.in-Some-event_then.reply.now in
     let cut = texts_first_one c.args.fields.now _ c.in-len1-up.len_at_least in
     let p = err_from_is_err_and c.from_residual.result c.from_residual.ensures.1 in
-    rw (p.1, p.2) (subst (λ (fields : List (List ℕ)). IsOutOfMemory c.in_err-event-in-Ok.field-0.0
-    ⊎ IsEntryFault c.args.version fields set c.in_err-event-in-Ok.field-0.0)
+    rw (p.1, p.2) (inr (subst (λ (fields : List (List ℕ)). IsEntryFault c.args.version fields set c.in_err-event-in-Ok.field-0.0)
     (sym (entry_cut _ _ _ event reply cut c.in-Some-event_then.ensures))
     (fault_of_both
     (entry_parts c.args.version set _ event reply c.in-Some.stream c.len-valid.ensures.valid c.in-Some.ensures
@@ -39,7 +37,7 @@ returns-in_err-event-in-Ok-clause-refused c =
     c.read_event-event.ensures.refused c.read_reply.ensures.read c.read_reply.ensures.refused
     c.in_err-event-in-Ok.field-0.0
     (fault_alone_first c.read_event-event.result c.read_reply.result c.in_err-event-in-Ok.field-0.0 c.in-Ok.reply
-    c.in_err-event-in-Ok.was c.in-Ok.is)))
+    c.in_err-event-in-Ok.was c.in-Ok.is))))
 
 pub returns-in-Err-clause-refused : goal.returns-in-Err-clause-refused
 returns-in-Err-clause-refused c =
@@ -47,8 +45,7 @@ returns-in-Err-clause-refused c =
     let event = texts c.in-Some-event_then.event.now in
     let reply = texts c.in-Some-event_then.reply.now in
     let cut = texts_first_one c.args.fields.now _ c.in-len1-up.len_at_least in
-    subst (λ (fields : List (List ℕ)). IsOutOfMemory c.fault_after.result
-    ⊎ IsEntryFault c.args.version fields set c.fault_after.result)
+    inr (subst (λ (fields : List (List ℕ)). IsEntryFault c.args.version fields set c.fault_after.result)
     (sym (entry_cut _ _ _ event reply cut c.in-Some-event_then.ensures))
     (fault_of_both
     (entry_parts c.args.version set _ event reply c.in-Some.stream c.len-valid.ensures.valid c.in-Some.ensures
@@ -57,4 +54,4 @@ returns-in-Err-clause-refused c =
     c.read_event-event.result c.read_reply.result (λ e f. (e, f)) (λ r f. (r, f)) c.read_event-event.ensures.read
     c.read_event-event.ensures.refused c.read_reply.ensures.read c.read_reply.ensures.refused c.fault_after.result
     (fault_after_first c.read_event-event.result c.read_reply.result c.in-Err.kind c.fault_after.result c.in-Err.is
-    c.fault_after.ensures))
+    c.fault_after.ensures)))

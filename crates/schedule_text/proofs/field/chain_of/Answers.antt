@@ -1,4 +1,4 @@
-use Rattle.std.proofs.Common.{rules, refl, inr, ◌≢◌}
+use Rattle.std.proofs.Common.{rules, refl, ◌≢◌}
 use Rattle.std.specs.Prelude.{codes}
 use Rattle.schedule_text.specs.Fields.{links_of}
 use Rattle.schedule_text.proofs.Chains.{chain_read, chain_none}
@@ -11,4 +11,4 @@ returns-clause-read c =
 pub returns-in_default-clause-refused : goal.returns-in_default-clause-refused
 returns-in_default-clause-refused c =
     let no_dash : c.args.field.now ≢ codes "-" = search rules in
-    inr (refl, chain_none c.args.field.now (links_of c.args.field.now) no_dash refl c.in_default.ensures)
+    (refl, chain_none c.args.field.now (links_of c.args.field.now) no_dash refl c.in_default.ensures)

@@ -1,11 +1,11 @@
-use Rattle.std.proofs.Common.{refl, inr, sym, ◌∙◌}
+use Rattle.std.proofs.Common.{refl, sym, ◌∙◌}
 use Rattle.std.proofs.lemmas.Bool.{true≢false}
 use Rattle.schedule_text.proofs.Fields.{list_refused, list_differs, list_read}
 use Rattle.schedule_text.proofs.field.list_of.Goals as goal
 
 pub returns-in_default-clause-refused : goal.returns-in_default-clause-refused
 returns-in_default-clause-refused c =
-    inr (refl, list_refused c.args.field.now c.in_default.field-0 c.in_default.ensures.refused)
+    (refl, list_refused c.args.field.now c.in_default.field-0 c.in_default.ensures.refused)
 
 pub returns-then-is_list-clause-read : goal.returns-then-is_list-clause-read
 returns-then-is_list-clause-read c =
@@ -14,7 +14,7 @@ returns-then-is_list-clause-read c =
 
 pub returns-else-is_list-clause-refused : goal.returns-else-is_list-clause-refused
 returns-else-is_list-clause-refused c =
-    inr (
+    (
       refl,
       list_differs c.args.field.now c.in-Ok.set c.in-Ok.ensures.read
           (λ same. true≢false (sym (c.is_list.ensures.1 (sym same)) ∙ c.if-is_list.false)),

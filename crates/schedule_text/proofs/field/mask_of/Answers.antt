@@ -1,4 +1,4 @@
-use Rattle.std.proofs.Common.{refl, inl, inr, sym, ◌∙◌}
+use Rattle.std.proofs.Common.{refl, sym, ◌∙◌}
 use Rattle.std.proofs.lemmas.Bool.{true≢false}
 use Rattle.std.proofs.lemmas.Result.{err_from_is_err_and}
 use Rattle.schedule_text.proofs.Fields.{mask_within, mask_none, mask_differs}
@@ -7,17 +7,12 @@ use Rattle.schedule_text.proofs.field.mask_of.Goals as goal
 pub returns-in_err-mask-clause-refused : goal.returns-in_err-mask-clause-refused
 returns-in_err-mask-clause-refused c =
     let p = err_from_is_err_and c.from_residual.result c.from_residual.ensures.1 in
-    rw (p.1, p.2) (elim c.in_err-mask.ensures.refused [
-      | inl memory ↦ inl memory
-      | inr bad ↦ inr (
-        bad.0,
-        mask_none c.args.set.now.processors c.args.field.now c.processors.ensures.valid.processors.1 bad.1,
-      )
-    ])
+    rw (p.1, p.2) (c.in_err-mask.ensures.refused.0, mask_none c.args.set.now.processors c.args.field.now
+    c.processors.ensures.valid.processors.1 c.in_err-mask.ensures.refused.1)
 
 pub returns-else-within-clause-refused : goal.returns-else-within-clause-refused
 returns-else-within-clause-refused c =
-    inr (
+    (
       refl,
       mask_differs c.args.set.now.processors c.args.field.now c.in_ok-mask.mask c.processors.ensures.valid.processors.1
           c.in_ok-mask.ensures.read

@@ -1,4 +1,3 @@
-use Rattle.std.proofs.Common.{inr}
 use Rattle.std.proofs.lemmas.Result.{err_from_is_err_and}
 use Rattle.schedule_text.specs.Fields.{IsChainField}
 use Rattle.schedule_text.proofs.Parts.{part_fault}
@@ -14,9 +13,9 @@ returns-clause-read c =
 pub returns-in_err-out-clause-refused : goal.returns-in_err-out-clause-refused
 returns-in_err-out-clause-refused c =
     let p = err_from_is_err_and c.from_residual-in_err-out.result c.from_residual-in_err-out.ensures.1 in
-    rw (p.1, p.2) (inr (displaced_fault c.args.set.now c.args.chain.now c.args.name.now c.args.processors.now
+    rw (p.1, p.2) (displaced_fault c.args.set.now c.args.chain.now c.args.name.now c.args.processors.now
     c.in_ok-chain.chain c.in_ok-reach.reach c.in_err-out.field-0.0 c.in_ok-chain.ensures.read
-    c.in_ok-reach.ensures.read c.in_err-out.ensures.refused))
+    c.in_ok-reach.ensures.read c.in_err-out.ensures.refused)
 
 pub returns-in_err-chain-clause-refused : goal.returns-in_err-chain-clause-refused
 returns-in_err-chain-clause-refused c =

@@ -1,4 +1,3 @@
-use Rattle.std.proofs.Common.{inr}
 use Rattle.std.proofs.lemmas.Result.{err_from_is_err_and}
 use Rattle.schedule_text.specs.Fields.{IsChainField, IsSetField}
 use Rattle.schedule_text.proofs.Parts.{part_fault}
@@ -8,9 +7,9 @@ use Rattle.schedule_text.proofs.reply.gone_of.Goals as goal
 pub returns-in_err-entered-clause-refused : goal.returns-in_err-entered-clause-refused
 returns-in_err-entered-clause-refused c =
     let p = err_from_is_err_and c.from_residual-in_err-entered.result c.from_residual-in_err-entered.ensures.1 in
-    rw (p.1, p.2) (inr (gone_fault c.args.set.now c.args.chain.now c.args.name.now c.args.processors.now
+    rw (p.1, p.2) (gone_fault c.args.set.now c.args.chain.now c.args.name.now c.args.processors.now
     c.in_ok-chain.chain c.in_ok-back.back c.in_err-entered.field-0.0 c.in_ok-chain.ensures.read
-    c.in_ok-back.ensures.read c.in_err-entered.ensures.refused))
+    c.in_ok-back.ensures.read c.in_err-entered.ensures.refused)
 
 pub returns-in_err-chain-clause-refused : goal.returns-in_err-chain-clause-refused
 returns-in_err-chain-clause-refused c =

@@ -1,7 +1,6 @@
-use Rattle.std.proofs.Common.{◌∷◌, ◌⊎◌, ℕ, List, inl, inr, refl, sym, subst}
+use Rattle.std.proofs.Common.{◌∷◌, ℕ, List, inl, refl, sym, subst}
 use Rattle.std.specs.Prelude.{codes}
 use Rattle.text_fields.specs.Fields.{texts}
-use Rattle.schedule_text.specs.Reading.{IsOutOfMemory}
 use Rattle.schedule_text.specs.LineFields.{IsGoneFields, IsCameFields, IsReplyFault}
 use Rattle.schedule_text.proofs.Names.{set_fields}
 use Rattle.schedule_text.proofs.Parts.{read_of_both, fault_of_both}
@@ -9,7 +8,7 @@ use Rattle.schedule_text.proofs.Replies.{linked_parts, linked_read, linked_other
 use Rattle.schedule_text.proofs.reply.linked_remasked.Goals as goal
 
 pub returns-in_default-clause-refused : goal.returns-in_default-clause-refused
-returns-in_default-clause-refused c = inr (inl (refl, linked_other 2 (texts c.args.rest.now) c.in_default.ensures))
+returns-in_default-clause-refused c = inl (refl, linked_other 2 (texts c.args.rest.now) c.in_default.ensures)
 
 pub returns-in-Ok-clause-read : goal.returns-in-Ok-clause-read
 returns-in-Ok-clause-read c =
@@ -26,8 +25,7 @@ returns-in-Err-clause-refused c =
     let part = texts c.in-Some.gone.now in
     let after = texts c.in-Some.arrival.now in
     let cut = c.in-Some.ensures in
-    subst (λ (rest : List (List ℕ)). IsOutOfMemory c.in-Err.kind
-    ⊎ IsReplyFault 2 (codes "remasked" ∷ codes "freed" ∷ rest) set c.in-Err.kind) (sym cut.each_field)
+    subst (λ (rest : List (List ℕ)). IsReplyFault 2 (codes "remasked" ∷ codes "freed" ∷ rest) set c.in-Err.kind) (sym cut.each_field)
     (fault_of_both (linked_parts 2 set part after refl cut.five (set_fields set c.len-valid.ensures.valid))
     (IsGoneFields part set) (IsCameFields after set) c.read_gone.result c.read_came.result (λ gone f. (gone, f))
     (λ arrival f. (arrival, f)) c.read_gone.ensures.read c.read_gone.ensures.refused c.read_came.ensures.read

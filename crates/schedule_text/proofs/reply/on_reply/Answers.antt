@@ -4,7 +4,7 @@ use Rattle.std.proofs.lemmas.Result.{err_from_is_err_and}
 use Rattle.scheduler_reply.specs.declared.reply.Reply.TheVariants.{On}
 use Rattle.text_fields.specs.Fields.{texts}
 use Rattle.schedule_text.specs.LineFields.{IsGoneFields, IsReplyFields}
-use Rattle.schedule_text.proofs.Parts.{same_refused}
+use Rattle.schedule_text.proofs.Parts.{same_fault}
 use Rattle.schedule_text.proofs.Replies.{on_to, on_from}
 use Rattle.schedule_text.proofs.reply.on_reply.Goals as goal
 
@@ -13,6 +13,6 @@ returns-in_err-parts-clause-refused c =
     let p = err_from_is_err_and c.from_residual.result c.from_residual.ensures.1 in
     let two : c.args.version ≡ 2 = omega arith in
     let rest = texts c.args.rest.now in
-    rw (p.1, p.2) (same_refused (IsGoneFields rest) (IsReplyFields c.args.version (codes "on" ∷ rest)) c.args.set.now
+    rw (p.1, p.2) (same_fault (IsGoneFields rest) (IsReplyFields c.args.version (codes "on" ∷ rest)) c.args.set.now
     c.in_err-parts.field-0.0 (λ tasks gone f. (On gone, on_to c.args.version two rest tasks gone f))
     (on_from c.args.version rest) c.in_err-parts.ensures.refused)

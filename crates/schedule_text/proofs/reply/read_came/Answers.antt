@@ -1,6 +1,4 @@
-use Rattle.std.proofs.Common.{IfErr, subst, ◌⊎◌, ℕ, List}
-use Rattle.schedule_text.specs.declared.fault.TextKind.{TextKind}
-use Rattle.schedule_text.specs.Reading.{IsOutOfMemory}
+use Rattle.std.proofs.Common.{IfErr, subst, ℕ, List}
 use Rattle.schedule_text.specs.LineFields.{IsCameFault}
 use Rattle.schedule_text.proofs.FieldLists.{texts_six}
 use Rattle.schedule_text.proofs.Arrivals.{six_words}
@@ -11,5 +9,5 @@ returns-clause-refused c =
     let same = six_words _ _ _ _ _ _ _ (texts_six c.args.fields.now _ c.in-len6.len_at_least c.in-len6.len_below)
     (c.is_displaced.ensures.0 c.if-not-is_displaced.false) in
     subst (λ (fields : List (List ℕ)). IfErr c.displaced.result
-    (λ (kind : TextKind). IsOutOfMemory kind ⊎ IsCameFault fields c.args.set.now kind)) same
+    (IsCameFault fields c.args.set.now)) same
     c.displaced.ensures.refused

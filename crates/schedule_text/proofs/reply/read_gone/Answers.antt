@@ -1,6 +1,4 @@
-use Rattle.std.proofs.Common.{IfErr, subst, ◌⊎◌, ℕ, List}
-use Rattle.schedule_text.specs.declared.fault.TextKind.{TextKind}
-use Rattle.schedule_text.specs.Reading.{IsOutOfMemory}
+use Rattle.std.proofs.Common.{IfErr, subst, ℕ, List}
 use Rattle.schedule_text.specs.LineFields.{IsGoneFault}
 use Rattle.schedule_text.proofs.FieldLists.{texts_five}
 use Rattle.schedule_text.proofs.Arrivals.{five_words}
@@ -11,4 +9,4 @@ returns-then-are_gone_words-clause-refused c =
     let same = five_words _ _ _ _ _ _ (texts_five c.args.fields.now _ c.in-len5.len_at_least c.in-len5.len_below)
     (c.are_gone_words.ensures.0 c.if-are_gone_words.true) in
     subst (λ (fields : List (List ℕ)). IfErr c.gone_of.result
-    (λ (kind : TextKind). IsOutOfMemory kind ⊎ IsGoneFault fields c.args.set.now kind)) same c.gone_of.ensures.refused
+    (IsGoneFault fields c.args.set.now)) same c.gone_of.ensures.refused

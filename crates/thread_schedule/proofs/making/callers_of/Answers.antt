@@ -1,5 +1,5 @@
-use Rattle.std.proofs.Common.{◌≡◌, ◌<◌, take, length, arith, All, ap, ◌∙◌, subst, List}
-use Rattle.std.proofs.lemmas.List.Elements.{All-more, All-weaker}
+use Rattle.std.proofs.Common.{◌≡◌, ◌<◌, take, length, arith, All, ap, ◌∙◌, subst, sym, List}
+use Rattle.std.proofs.lemmas.List.Elements.{All-more, All-weaker, All-get_or}
 use Rattle.std.proofs.Math.Seq.{take-length}
 use Rattle.trace_reader.specs.declared.posted.Posted.{Posted}
 use Rattle.thread_schedule.proofs.making.callers_of.Goals as goal
@@ -15,6 +15,9 @@ loop-posted-preserved c =
       above = All-more (λ (p : Posted). p.stream < c.with_stream-callers.result) events c.loop-posted.posted-index _ c.loop-posted-test.true
           (All-weaker (λ (p : Posted). p.stream < c.loop-posted.callers) (λ (p : Posted). p.stream < c.with_stream-callers.result) (λ p low. omega (arith, low, more.0)) (take c.loop-posted.posted-index events) i.above)
           (subst (λ (p : Posted). p.stream < c.with_stream-callers.result) c.posted-item.is c.with_stream-callers.ensures.above);
+      fewest = λ n some all. c.with_stream-callers.ensures.least n (i.fewest n some all)
+          (subst (λ (p : Posted). p.stream < n) (sym c.posted-item.is)
+          (All-get_or (λ (p : Posted). p.stream < n) events c.loop-posted.posted-index _ c.loop-posted-test.true all));
     }
 
 pub returns-clause-above : goal.returns-clause-above
@@ -22,3 +25,6 @@ returns-clause-above c =
     let events : List Posted = c.args.events.now in
     let at_end : c.loop-posted.posted-index ≡ length events = omega arith in
     subst (All (λ (p : Posted). p.stream < c.loop-posted.callers)) (ap (λ n. take n events) at_end ∙ take-length events) c.loop-posted.invariant.above
+
+pub returns-clause-least : goal.returns-clause-least
+returns-clause-least c = c.loop-posted.invariant.fewest
