@@ -16,6 +16,3 @@ mod proc_set;
 pub use mask_fault::MaskFault;
 pub use out_of_memory::OutOfMemory;
 pub use proc_set::ProcSet;
-
-#[cfg(test)]
-mod tests;

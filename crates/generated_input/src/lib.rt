@@ -8,8 +8,6 @@ mod generator;
 mod laws;
 mod make;
 mod tasks;
-#[cfg(test)]
-mod tests;
 
 pub use laws::generated_input_is_one;
 pub use make::make_input;

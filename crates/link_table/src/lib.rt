@@ -8,12 +8,8 @@
 //! The definitions of the subject, states, chains and steps among them, stand in `link_state`.
 #![tactic(auto)]
 
-#[cfg(test)]
-mod index_tests;
 pub mod links;
 mod places;
-#[cfg(test)]
-mod tests;
 mod urgency;
 
 pub use links::Links;

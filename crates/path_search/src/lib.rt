@@ -17,10 +17,6 @@ mod forward;
 mod least_path;
 mod level_search;
 mod levels;
-#[cfg(test)]
-mod plain;
-#[cfg(test)]
-mod tests;
 
 pub use backward::{back_chain, back_set};
 pub use forward::{chain_to, chain_to_idle, reach};

@@ -9,8 +9,6 @@ mod admission;
 mod certified;
 pub mod laws;
 mod search;
-#[cfg(test)]
-mod tests;
 
 pub use admission::best_set;
 pub use certified::all_certified;

@@ -5,7 +5,5 @@
 #![tactic(auto)]
 
 mod replay;
-#[cfg(test)]
-mod tests;
 
 pub use replay::run;

@@ -22,8 +22,6 @@ pub mod laws;
 mod occupants;
 mod parts;
 mod set_rule;
-#[cfg(test)]
-mod tests;
 
 pub use certificate::is_certificate;
 pub use checker::Checker;

@@ -9,8 +9,6 @@ mod fault;
 mod order_row;
 mod order_rows;
 mod scheduler;
-#[cfg(test)]
-mod tests;
 
 pub use fault::CoreFault;
 pub use scheduler::{Core, MAX_ENTRIES};

@@ -10,8 +10,6 @@
 
 mod entry;
 pub mod fault;
-#[cfg(test)]
-mod fault_tests;
 mod field;
 pub mod laws;
 mod line;
@@ -19,8 +17,6 @@ pub mod read;
 mod reply;
 pub mod schedule;
 mod stage;
-#[cfg(test)]
-mod tests;
 pub mod write;
 
 pub use fault::{TextFault, TextKind};

@@ -8,8 +8,6 @@
 
 pub mod chain;
 pub mod reply;
-#[cfg(test)]
-mod tests;
 
 pub use chain::Chain;
 pub use reply::{Came, Entry, Gone, Moved, Reply};

@@ -17,8 +17,6 @@ mod sound_source;
 mod source;
 mod std_sink;
 mod std_source;
-#[cfg(test)]
-mod tests;
 mod whole;
 
 pub use calls::Calls;

@@ -13,8 +13,6 @@ pub mod laws;
 mod name;
 mod order;
 mod set;
-#[cfg(test)]
-mod tests;
 
 pub use context::Context;
 pub use event::Event;

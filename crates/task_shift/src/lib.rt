@@ -11,8 +11,6 @@ mod arrival;
 mod departure;
 mod mask_change;
 mod processor_change;
-#[cfg(test)]
-mod tests;
 
 pub use arrival::arrive;
 pub use departure::depart;

@@ -13,8 +13,6 @@ pub mod limits;
 pub mod line;
 pub mod name;
 pub mod number;
-#[cfg(test)]
-mod tests;
 pub mod word;
 
 pub use event::write_event_text;

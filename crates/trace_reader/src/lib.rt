@@ -14,8 +14,6 @@ pub mod laws;
 pub mod posted;
 pub mod read;
 mod stage;
-#[cfg(test)]
-mod tests;
 pub mod write;
 
 pub use fault::{InputFault, InputKind};

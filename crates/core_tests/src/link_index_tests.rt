@@ -1,0 +1,295 @@
+//! The index against plain scans, on generated states.
+ghost use Rattle.std.specs.Prelude.{◌<◌, ◌≤◌, ℕ, IfSome};
+ghost use Rattle.link_state.specs.State.{task_count};
+
+use crate::link_table_tests::{arrive, is_chain, is_simple};
+use affinity_mask::ProcSet;
+use link_table::{Chain, Links};
+use std::process::Abort;
+use std::test::Fail;
+use task_set::TaskSet;
+
+/// A linear congruential generator.
+#[derive(Drop)]
+struct Numbers {
+    state: u64,
+}
+
+impl Numbers {
+    /// A number below `n`.
+    fn below(&mut self, n: u32) -> u32
+        requires { 0 < n }
+        ensures { result < n }
+    {
+        self.state = self
+            .state
+            .wrapping_mul(6364136223846793005)
+            .wrapping_add(1442695040888963407);
+        ((self.state >> 33) % u64::from(n)) as u32
+    }
+
+    /// A set of the processors below `m`, of about every second one.
+    fn some_of(&mut self, m: u8) -> ProcSet
+        requires { m ≤ 64 }
+    {
+        let mut set = ProcSet::empty();
+        for p in 0..m {
+            if self.below(2) == 0 {
+                set = set.with(p);
+            }
+        }
+        set
+    }
+}
+
+/// The processor of a task, by a scan.
+fn scan_of(links: &Links, t: u32) -> Option<u8> {
+    for p in 0..links.processors() {
+        if links.on(p) == Some(t) {
+            return Some(p);
+        }
+    }
+    None
+}
+
+/// The occupied processors, by a scan.
+fn scan_linked(links: &Links) -> ProcSet {
+    let mut found = ProcSet::empty();
+    for p in 0..links.processors() {
+        if links.on(p).is_some() {
+            found = found.with(p);
+        }
+    }
+    found
+}
+
+/// The occupied processors whose occupant may run on q, by a scan.
+fn scan_feeders(rt: &impl Abort, links: &Links, q: u8) -> ProcSet {
+    let mut found = ProcSet::empty();
+    for p in 0..links.processors() {
+        if let Some(u) = links.on(p) {
+            assert!(rt; q < 64 && u < links.len());
+            if links.effective(u).has(q) {
+                found = found.with(p);
+            }
+        }
+    }
+    found
+}
+
+/// The most urgent waiting task that can enter at a processor of a set, by a scan.
+fn scan_most_urgent(rt: &impl Abort, links: &Links, set: ProcSet) -> Option<u32> {
+    let mut found = None;
+    for t in 0..links.len() {
+        if links.is_waiting(t) && links.effective(t).meets(&set) {
+            found = Some(match found {
+                Some(u) => earlier(rt, links, u, t),
+                None => t,
+            });
+        }
+    }
+    found
+}
+
+/// The more urgent one of two tasks.
+fn earlier(rt: &impl Abort, links: &Links, a: u32, b: u32) -> u32 {
+    assert!(rt; a < links.len() && b < links.len());
+    if links.priority(a) < links.priority(b) {
+        a
+    } else {
+        b
+    }
+}
+
+/// Compares the answers with those of the scans.
+fn compare(rt: &impl Abort, links: &Links, set: ProcSet) {
+    for t in 0..links.len() {
+        assert_eq!(rt; links.of(t), scan_of(links, t), "the processor of {t}");
+    }
+    let linked = scan_linked(links);
+    assert!(rt; links.linked() == linked, "linked");
+    assert!(rt; links.idle() == links.online().minus(&linked), "idle");
+    for q in 0..links.processors() {
+        assert!(rt;
+            links.feeders(q) == scan_feeders(rt, links, q),
+            "the feeders of {q}"
+        );
+    }
+    assert_eq!(rt; links.most_urgent_in(set), scan_most_urgent(rt, links, set));
+}
+
+/// A simple chain of a task, of one processor at least if its mask has one: each next one is taken at random.
+fn some_chain(rt: &impl Abort, numbers: &mut Numbers, links: &Links, t: u32) -> Chain {
+    let mut chain = Chain::new();
+    let mut unused = links.online();
+    let mut guest = Some(t);
+    for _turn in 0..5 {
+        let Some(u) = guest else {
+            return chain;
+        };
+        assert!(rt; u < links.len() && chain.len() < 64);
+        let open = links.effective(u).both(&unused);
+        let Some(p) = open.both(&numbers.some_of(64)).least().or(open.least()) else {
+            return chain;
+        };
+        assert!(rt; p < links.processors() && p < 64);
+        chain.push(p);
+        unused = unused.without(p);
+        guest = links.on(p);
+    }
+    chain
+}
+
+/// Shifts a waiting task along a chain that is taken at random.
+fn shift_some(rt: &impl Abort, numbers: &mut Numbers, links: &mut Links, t: u32) {
+    let chain = some_chain(rt, numbers, links, t);
+    assert!(rt; t < links.len() && links.is_waiting(t));
+    assert!(rt; is_chain(links, t, &chain) && is_simple(&chain));
+    let _out = links.shift(t, &chain);
+}
+
+/// A linked task departs from its processor, or goes on waiting.
+fn leave_or_wait(rt: &impl Abort, numbers: &mut Numbers, links: &mut Links, t: u32) {
+    assert!(rt; t < links.len());
+    let Some(p) = links.of(t) else {
+        return;
+    };
+    if numbers.below(2) == 0 {
+        assert_eq!(rt; links.leave(t), p, "{t} leaves");
+    } else {
+        assert!(rt; p < links.processors());
+        assert_eq!(rt; links.unlink(p), t, "{t} is unlinked");
+    }
+}
+
+/// An absent task gets a mask that is taken at random, or becomes ready.
+fn mask_or_ready(rt: &impl Abort, numbers: &mut Numbers, links: &mut Links, t: u32) {
+    let processors = links.processors();
+    assert!(rt; 0 < processors && processors <= 64);
+    assert!(rt; t < links.len() && !links.is_ready(t));
+    let mask = numbers.some_of(processors);
+    if mask.is_empty() || numbers.below(2) == 0 {
+        links.make_ready(t);
+        return;
+    }
+    assert!(rt; mask.within(&ProcSet::first(processors)));
+    links.set_mask(t, mask);
+    assert!(rt; links.mask(t) == mask, "the mask of {t}");
+}
+
+/// A processor to which nobody is linked goes off line, or comes on line. Answers the processors on line then.
+fn turn(rt: &impl Abort, numbers: &mut Numbers, links: &mut Links, online: ProcSet) -> ProcSet {
+    let processors = links.processors();
+    assert!(rt; 0 < processors);
+    let p = numbers.below(u32::from(processors)) as u8;
+    assert!(rt; p < processors && p < 64);
+    if links.on(p).is_some() {
+        return online;
+    }
+    let on = !online.has(p);
+    links.set_online(p, on);
+    if on {
+        online.with(p)
+    } else {
+        online.without(p)
+    }
+}
+
+/// An absent task gets another mask, or becomes ready; a waiting one is shifted, or becomes absent; a linked one leaves
+/// its processor.
+fn step(rt: &impl Abort, numbers: &mut Numbers, links: &mut Links, t: u32) {
+    assert!(rt; t < links.len());
+    if !links.is_ready(t) {
+        mask_or_ready(rt, numbers, links, t);
+    } else if !links.is_waiting(t) {
+        leave_or_wait(rt, numbers, links, t);
+    } else if numbers.below(4) == 0 {
+        links.make_absent(t);
+    } else if !links.effective(t).is_empty() {
+        shift_some(rt, numbers, links, t);
+    }
+}
+
+/// A set of so many tasks, each with a priority of its own and a mask that is taken at random.
+fn some_set(
+    rt: &(impl Abort + AllocGlobal),
+    numbers: &mut Numbers,
+    processors: u8,
+    tasks: u32,
+) -> Result<TaskSet, Fail> {
+    assert!(rt; 1 <= processors && processors <= 64);
+    let mut set = TaskSet::new(rt.alloc(), processors)?;
+    for t in 0..tasks {
+        let name = format!(in rt.alloc(); "t{t}")?;
+        let own = numbers.below(u32::from(processors)) as u8;
+        let mask = numbers.some_of(processors).with(own);
+        set.add(&name, t.wrapping_mul(37) % 1009, mask)?;
+    }
+    Ok(set)
+}
+
+/// Compares after each of so many steps.
+fn run(
+    rt: &(impl Abort + AllocGlobal),
+    processors: u8,
+    tasks: u32,
+    steps: u32,
+) -> Result<(), Fail> {
+    assert!(rt; 0 < tasks && processors <= 64);
+    let mut numbers = Numbers { state: 1 };
+    let set = some_set(rt, &mut numbers, processors, tasks)?;
+    let mut links = Links::new(rt.alloc(), &set)?;
+    let mut online = ProcSet::first(processors);
+    for _step in 0..steps {
+        let t = numbers.below(tasks);
+        step(rt, &mut numbers, &mut links, t);
+        online = turn(rt, &mut numbers, &mut links, online);
+        assert!(rt; links.online() == online, "on line");
+        compare(rt, &links, numbers.some_of(processors));
+    }
+    Ok(())
+}
+
+#[test]
+fn answers_are_those_of_scans(rt: HostRuntime) -> Result<(), Fail> {
+    run(&rt, 6, 10, 600)?;
+    run(&rt, 64, 200, 300)
+}
+
+#[test]
+fn two_wait_for_two_processors(rt: HostRuntime) -> Result<(), Fail> {
+    let mut set = TaskSet::new(rt.alloc(), 2)?;
+    set.add("x", 1, ProcSet::one(0))?;
+    set.add("y", 2, ProcSet::first(2))?;
+    set.add("w1", 3, ProcSet::one(1))?;
+    set.add("w2", 5, ProcSet::one(0))?;
+    let mut links = Links::new(rt.alloc(), &set)?;
+    arrive(&rt, &mut links, 0, &[0]);
+    arrive(&rt, &mut links, 1, &[1]);
+    for t in 2..4 {
+        assert!(rt; t < links.len() && !links.is_ready(t));
+        links.make_ready(t);
+    }
+    assert_eq!(rt; links.most_urgent_in(ProcSet::one(1)), Some(2));
+    assert_eq!(rt; links.most_urgent_in(ProcSet::first(2)), Some(2));
+    assert_eq!(rt; links.most_urgent_in(ProcSet::one(0)), Some(3));
+    assert_eq!(rt; links.most_urgent_in(ProcSet::empty()), None);
+    assert!(rt; links.feeders(0) == ProcSet::first(2));
+    assert!(rt; links.feeders(1) == ProcSet::one(1));
+    Ok(())
+}
+
+#[test]
+fn a_task_waits_for_no_processor(rt: HostRuntime) -> Result<(), Fail> {
+    let mut set = TaskSet::new(rt.alloc(), 2)?;
+    set.add("w", 1, ProcSet::one(1))?;
+    let mut links = Links::new(rt.alloc(), &set)?;
+    links.make_ready(0);
+    links.set_online(1, false);
+    assert!(rt; links.effective(0).is_empty() && links.is_waiting(0));
+    assert!(rt; links.idle() == ProcSet::one(0));
+    assert_eq!(rt; links.most_urgent_in(ProcSet::first(2)), None);
+    links.set_online(1, true);
+    assert_eq!(rt; links.most_urgent_in(ProcSet::first(2)), Some(0));
+    Ok(())
+}

@@ -1,0 +1,199 @@
+//! The searches in their plainest form, in which each level asks every processor, and what they and the calls say of
+//! generated states.
+ghost use Rattle.std.specs.Prelude.{◌<◌};
+
+use crate::path_search_tests::link;
+use affinity_mask::ProcSet;
+use link_table::{Chain, Links};
+use path_search::{back_chain, back_set, chain_to, chain_to_idle, reach};
+use std::alloc::Global;
+use std::process::Abort;
+use std::test::Fail;
+use task_set::TaskSet;
+
+/// How a path reads the shifts.
+#[derive(Clone, Copy)]
+enum Direction {
+    /// As tasks move: a step leads to where the occupant of a processor can be shifted.
+    Onward,
+
+    /// Against it: a step leads to where an occupant can be shifted from.
+    Back,
+}
+
+/// The processors whose occupant can be shifted into the set.
+fn shifts_into(links: &Links, set: &ProcSet) -> ProcSet {
+    let mut found = ProcSet::empty();
+    for p in 0..links.processors() {
+        if let Some(u) = links.on(p)
+            && u < links.len()
+            && links.effective(u).meets(set)
+        {
+            found = found.with(p);
+        }
+    }
+    found
+}
+
+/// The processors to which an occupant of the set can be shifted.
+fn shifts_from(links: &Links, set: &ProcSet) -> ProcSet {
+    let mut found = ProcSet::empty();
+    for p in 0..links.processors() {
+        if let Some(u) = links.on(p)
+            && u < links.len()
+            && set.has(p)
+        {
+            found = found.either_of(&links.effective(u));
+        }
+    }
+    found
+}
+
+/// The processors to which one step leads from a set.
+fn after(links: &Links, direction: Direction, set: &ProcSet) -> ProcSet {
+    match direction {
+        Direction::Onward => shifts_from(links, set),
+        Direction::Back => shifts_into(links, set),
+    }
+}
+
+/// The processors from which one step leads into a set.
+fn before(links: &Links, direction: Direction, set: &ProcSet) -> ProcSet {
+    match direction {
+        Direction::Onward => shifts_into(links, set),
+        Direction::Back => shifts_from(links, set),
+    }
+}
+
+/// The ends of all paths from a set.
+fn plain_ends(links: &Links, direction: Direction, start: ProcSet) -> ProcSet {
+    let mut found = start;
+    for _step in 0..links.processors() {
+        found = found.either_of(&after(links, direction, &found));
+    }
+    found
+}
+
+/// The least path of at most `most` processors from one set into another, found from the target back.
+fn plain_path(
+    links: &Links,
+    direction: Direction,
+    start: ProcSet,
+    target: ProcSet,
+    most: u8,
+) -> Option<Chain> {
+    if most == 0 {
+        return None;
+    }
+    if let Some(p) = start.both(&target).least() {
+        let mut chain = Chain::new();
+        chain.push(p);
+        return Some(chain);
+    }
+    let earlier = before(links, direction, &target);
+    let mut chain = plain_path(links, direction, start, earlier, most - 1)?;
+    if chain.is_empty() || chain.len() == 64 {
+        return None;
+    }
+    let last = ProcSet::one(chain.at(chain.len() - 1));
+    let next = after(links, direction, &last).both(&target).least()?;
+    chain.push(next);
+    Some(chain)
+}
+
+/// The number that follows in a linear congruential generator.
+fn advanced(seed: u64) -> u64 {
+    seed.wrapping_mul(6364136223846793005)
+        .wrapping_add(1442695040888963407)
+}
+
+/// A number below `bound`, from the high bits of a generated one.
+fn drawn(seed: u64, bound: u64) -> u64
+    requires { 0 < bound }
+    ensures { result < bound }
+{
+    (seed >> 33) % bound
+}
+
+/// A mask that has each processor once in `spread` times, and one at least.
+fn mask_from(rt: &impl Abort, seed: &mut u64, processors: u8, spread: u64) -> ProcSet {
+    assert!(rt; 0 < processors && processors <= 64 && 0 < spread);
+    *seed = advanced(*seed);
+    let mut mask = ProcSet::one(drawn(*seed, processors as u64) as u8);
+    for p in 0..processors {
+        *seed = advanced(*seed);
+        if drawn(*seed, spread) == 0 {
+            mask = mask.with(p);
+        }
+    }
+    mask
+}
+
+/// A state in which most tasks were offered a processor, and are linked to it where it is in their mask and idle.
+fn generated(
+    rt: &impl Abort,
+    alloc: Global,
+    seed: &mut u64,
+    processors: u8,
+    tasks: u32,
+) -> Result<Links, Fail> {
+    assert!(rt; 0 < processors && processors <= 64);
+    let mut set = TaskSet::new(alloc, processors)?;
+    for t in 0..tasks {
+        let name = format!(in alloc; "t{t}")?;
+        set.add(name.as_str(), t, mask_from(rt, seed, processors, 4))?;
+    }
+    let mut links = Links::new(alloc, &set)?;
+    for t in 0..tasks {
+        *seed = advanced(*seed);
+        let p = drawn(*seed, processors as u64) as u8;
+        assert!(rt; t < links.len() && p < 64);
+        if links.effective(t).both(&links.idle()).has(p) {
+            link(rt, &mut links, t, p);
+        }
+    }
+    Ok(links)
+}
+
+/// The calls at a task and a processor say what the plain searches say.
+fn compare(rt: &impl Abort, links: &Links, t: u32, p: u8) {
+    assert!(rt; t < links.len() && p < links.processors() && p < 64);
+    let m = links.processors();
+    let (mask, here) = (links.effective(t), ProcSet::one(p));
+    let (onward, back) = (Direction::Onward, Direction::Back);
+    assert_eq!(rt; reach(links, t), plain_ends(links, onward, mask));
+    assert_eq!(rt; back_set(links, p), plain_ends(links, back, here));
+    let least = plain_path(links, onward, mask, here, m);
+    assert_eq!(rt; chain_to(links, t, p), least);
+    let least = plain_path(links, onward, mask, links.idle(), m);
+    assert_eq!(rt; chain_to_idle(links, t), least);
+    let least = plain_path(links, back, here, mask, m);
+    assert_eq!(rt; back_chain(links, t, p), least);
+}
+
+/// Compares at each task and processor of a state.
+fn compare_all(rt: &impl Abort, links: &Links) {
+    for t in 0..links.len() {
+        for p in 0..links.processors() {
+            compare(rt, links, t, p);
+        }
+    }
+}
+
+#[test]
+fn as_the_plain_searches_of_few_processors(rt: HostRuntime) -> Result<(), Fail> {
+    let mut seed = 1;
+    for _round in 0..60 {
+        let links = generated(&rt, rt.alloc(), &mut seed, 7, 12)?;
+        compare_all(&rt, &links);
+    }
+    Ok(())
+}
+
+#[test]
+fn as_the_plain_searches_of_all_processors(rt: HostRuntime) -> Result<(), Fail> {
+    let mut seed = 2;
+    let links = generated(&rt, rt.alloc(), &mut seed, 64, 80)?;
+    compare_all(&rt, &links);
+    Ok(())
+}

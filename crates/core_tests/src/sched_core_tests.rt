@@ -1,0 +1,368 @@
+//! What no clause says: that calls succeed with ample memory, and what they answer on a table followed by hand.
+use affinity_mask::ProcSet;
+use link_table::{Chain, Entry, Reply};
+use sched_core::{Core, CoreFault, MAX_ENTRIES};
+use std::alloc::Global;
+use std::process::Abort;
+use std::test::Fail;
+use task_set::{Event, Order, TaskSet};
+
+/// A core over two processors, with a task that may run on both and a less urgent one that may run on the first alone.
+fn core_of_two(alloc: Global) -> Result<Core, Fail> {
+    let mut set = TaskSet::new(alloc, 2)?;
+    set.add("a", 1, ProcSet::first(2))?;
+    set.add("b", 2, ProcSet::first(1))?;
+    let core = Core::new(alloc, &set)?;
+    Ok(core)
+}
+
+/// Applies an event of a task or a processor of the core.
+fn apply(rt: &impl Abort, core: &mut Core, caller: u32, event: Event) -> Result<u64, CoreFault> {
+    let count = core.links().len();
+    let processors = core.links().processors();
+    match event {
+        Event::Arrive(t) | Event::Depart(t) => assert!(rt; t < count),
+        Event::Tick(_) => {}
+        Event::Affinity { task, mask } => {
+            assert!(rt; task < count && !mask.is_empty());
+            assert!(rt; mask.within(&ProcSet::first(processors)));
+        }
+        Event::Offline(p) | Event::Online(p) => assert!(rt; p < processors),
+    }
+    core.apply(caller, event)
+}
+
+/// The orders to a processor of the core.
+fn orders<'a>(rt: &impl Abort, core: &'a Core, p: u8) -> &'a [Order] {
+    assert!(rt; p < core.links().processors());
+    core.orders(p)
+}
+
+/// The list of these processors.
+fn chain_of(rt: &impl Abort, processors: &[u8]) -> Chain {
+    let mut chain = Chain::new();
+    for &p in processors {
+        assert!(rt; p < 64 && chain.len() < 64);
+        chain.push(p);
+    }
+    chain
+}
+
+/// The first task comes, the second one takes its processor, and both run.
+const EVENTS: [(u32, Event); 3] = [
+    (0, Event::Arrive(0)),
+    (3, Event::Arrive(1)),
+    (0, Event::Tick(5)),
+];
+
+/// Applies these events to a new core.
+fn apply_events(rt: &impl Abort, core: &mut Core) {
+    for (place, (caller, event)) in EVENTS.iter().enumerate() {
+        assert_eq!(rt; apply(rt, core, *caller, *event), Ok(place as u64));
+    }
+}
+
+/// The orders to the first processor after these events, while the core is open.
+fn open_orders() -> [Order; 4] {
+    [
+        Order::Take { task: 0, number: 0 },
+        Order::Release(0),
+        Order::Take { task: 1, number: 0 },
+        Order::Run(5),
+    ]
+}
+
+/// The orders to both processors once the core is closed, which takes no event then.
+fn closed_orders(rt: &impl Abort, core: &mut Core) {
+    assert!(rt; core.is_closed());
+    let [a, b, c, d] = open_orders();
+    assert_eq!(rt;
+        orders(rt, core, 0),
+        [a, b, c, d, Order::Release(1), Order::Stop].as_slice()
+    );
+    let again = Order::Take { task: 0, number: 1 };
+    assert_eq!(rt;
+        orders(rt, core, 1),
+        [again, Order::Run(5), Order::Release(0), Order::Stop].as_slice()
+    );
+    assert_eq!(rt; apply(rt, core, 0, Event::Tick(1)), Err(CoreFault::Closed));
+}
+
+/// The entries of these events.
+fn entries_of_events(rt: &impl Abort) -> [Entry; 3] {
+    [
+        Entry {
+            caller: 0,
+            event: Event::Arrive(0),
+            reply: Reply::Placed {
+                chain: chain_of(rt, &[0]),
+            },
+        },
+        Entry {
+            caller: 3,
+            event: Event::Arrive(1),
+            reply: Reply::Placed {
+                chain: chain_of(rt, &[0, 1]),
+            },
+        },
+        Entry {
+            caller: 0,
+            event: Event::Tick(5),
+            reply: Reply::Ticked,
+        },
+    ]
+}
+
+#[test]
+fn core_by_calls(rt: HostRuntime) -> Result<(), Fail> {
+    let mut core = core_of_two(rt.alloc())?;
+    core.reserve()?;
+    apply_events(&rt, &mut core);
+    assert_eq!(rt; orders(&rt, &core, 0), open_orders().as_slice());
+    core.close_now();
+    closed_orders(&rt, &mut core);
+    core.close_now();
+    assert_eq!(rt; orders(&rt, &core, 1).len(), 4);
+    assert_eq!(rt; core.history(), entries_of_events(&rt).as_slice());
+    Ok(())
+}
+
+/// The first task comes, runs, leaves, and does not run.
+fn event_at(place: u64) -> Event {
+    match place % 4 {
+        0 => Event::Arrive(0),
+        2 => Event::Depart(0),
+        _ => Event::Tick(1),
+    }
+}
+
+#[test]
+fn history_fills_up(rt: HostRuntime) -> Result<(), Fail> {
+    let mut core = core_of_two(rt.alloc())?;
+    for place in 0..MAX_ENTRIES as u64 {
+        assert_eq!(rt; apply(&rt, &mut core, 0, event_at(place)), Ok(place));
+    }
+    assert_eq!(rt;
+        apply(&rt, &mut core, 0, Event::Tick(1)),
+        Err(CoreFault::Full)
+    );
+    core.close_now();
+    assert_eq!(rt;
+        apply(&rt, &mut core, 0, Event::Tick(1)),
+        Err(CoreFault::Closed)
+    );
+    // A take, a run and a release for each four events, and the stop.
+    let last = Order::Take {
+        task: 0,
+        number: 4999,
+    };
+    assert_eq!(rt; orders(&rt, &core, 0).len(), 15_001);
+    assert_eq!(rt; orders(&rt, &core, 0).get(14_997), Some(&last));
+    assert_eq!(rt; orders(&rt, &core, 1), [Order::Stop].as_slice());
+    Ok(())
+}
+
+/// An event, with the mask that it sets written as a list.
+enum Happens {
+    Arrive(u32),
+    Tick(u32),
+    Affinity { task: u32, mask: &'static [u8] },
+    Offline(u8),
+    Online(u8),
+}
+
+/// Events from the start on, and the orders that they give once the core is closed.
+struct Row {
+    processors: u8,
+
+    /// Of each task its name and its mask; the priorities are 1, 2 and so on.
+    tasks: &'static [(&'static str, &'static [u8])],
+    events: &'static [Happens],
+
+    /// The orders to each processor.
+    orders: &'static [&'static [Order]],
+}
+
+static ROWS: [Row; 4] = [
+    // The first task leaves its processor at the change of its mask, and comes back to the other one, whose task is
+    // shifted to where the first one was.
+    Row {
+        processors: 2,
+        tasks: &[("a", &[0, 1]), ("b", &[0, 1])],
+        events: &[
+            Happens::Arrive(0),
+            Happens::Arrive(1),
+            Happens::Affinity {
+                task: 0,
+                mask: &[1],
+            },
+            Happens::Tick(3),
+        ],
+        orders: &[
+            &[
+                Order::Take { task: 0, number: 0 },
+                Order::Release(0),
+                Order::Take { task: 1, number: 1 },
+                Order::Run(3),
+                Order::Release(1),
+                Order::Stop,
+            ],
+            &[
+                Order::Take { task: 1, number: 0 },
+                Order::Release(1),
+                Order::Take { task: 0, number: 1 },
+                Order::Run(3),
+                Order::Release(0),
+                Order::Stop,
+            ],
+        ],
+    },
+    // The first task leaves its processor, the second one fills it, and the first one comes back and displaces it: no
+    // order comes of that.
+    Row {
+        processors: 1,
+        tasks: &[("a", &[0]), ("b", &[0])],
+        events: &[
+            Happens::Arrive(0),
+            Happens::Arrive(1),
+            Happens::Affinity {
+                task: 0,
+                mask: &[0],
+            },
+        ],
+        orders: &[&[
+            Order::Take { task: 0, number: 0 },
+            Order::Release(0),
+            Order::Stop,
+        ]],
+    },
+    // Both processors go off line, and one of them comes back.
+    Row {
+        processors: 2,
+        tasks: &[("a", &[0, 1]), ("b", &[0, 1])],
+        events: &[
+            Happens::Arrive(0),
+            Happens::Arrive(1),
+            Happens::Offline(0),
+            Happens::Offline(0),
+            Happens::Offline(1),
+            Happens::Online(1),
+            Happens::Online(1),
+        ],
+        orders: &[
+            &[
+                Order::Take { task: 0, number: 0 },
+                Order::Release(0),
+                Order::Stop,
+            ],
+            &[
+                Order::Take { task: 1, number: 0 },
+                Order::Release(1),
+                Order::Take { task: 0, number: 1 },
+                Order::Release(0),
+                Order::Take { task: 0, number: 2 },
+                Order::Release(0),
+                Order::Stop,
+            ],
+        ],
+    },
+    // The task waits while all of its mask is off line, and comes in where its new mask comes on line.
+    Row {
+        processors: 2,
+        tasks: &[("a", &[1])],
+        events: &[
+            Happens::Offline(0),
+            Happens::Arrive(0),
+            Happens::Offline(1),
+            Happens::Affinity {
+                task: 0,
+                mask: &[0],
+            },
+            Happens::Online(0),
+        ],
+        orders: &[
+            &[
+                Order::Take { task: 0, number: 1 },
+                Order::Release(0),
+                Order::Stop,
+            ],
+            &[
+                Order::Take { task: 0, number: 0 },
+                Order::Release(0),
+                Order::Stop,
+            ],
+        ],
+    },
+];
+
+/// The set of these processors.
+fn set_of(rt: &impl Abort, processors: &[u8]) -> ProcSet {
+    let mut set = ProcSet::empty();
+    for &p in processors {
+        assert!(rt; p < 64);
+        set = set.with(p);
+    }
+    set
+}
+
+fn event_of(rt: &impl Abort, happens: &Happens) -> Event {
+    match happens {
+        Happens::Arrive(t) => Event::Arrive(*t),
+        Happens::Tick(units) => Event::Tick(*units),
+        Happens::Affinity { task, mask } => Event::Affinity {
+            task: *task,
+            mask: set_of(rt, mask),
+        },
+        Happens::Offline(p) => Event::Offline(*p),
+        Happens::Online(p) => Event::Online(*p),
+    }
+}
+
+/// A core over the processors and the tasks of a row.
+fn core_of(rt: &impl Abort, alloc: Global, row: &Row) -> Result<Core, Fail> {
+    assert!(rt; 1 <= row.processors && row.processors <= 64);
+    let mut set = TaskSet::new(alloc, row.processors)?;
+    let mut priority = 0;
+    for (name, mask) in row.tasks {
+        assert!(rt; priority < 1024);
+        priority += 1;
+        set.add(name, priority, set_of(rt, mask))?;
+    }
+    let core = Core::new(alloc, &set)?;
+    Ok(core)
+}
+
+#[test]
+fn orders_by_hand(rt: HostRuntime) -> Result<(), Fail> {
+    for (i, row) in ROWS.iter().enumerate() {
+        let mut core = core_of(&rt, rt.alloc(), row)?;
+        for (j, happens) in row.events.iter().enumerate() {
+            let place = apply(&rt, &mut core, 0, event_of(&rt, happens));
+            assert_eq!(rt; place, Ok(j as u64), "row {i}");
+        }
+        core.close_now();
+        for (p, expected) in row.orders.iter().enumerate() {
+            assert!(rt; p < 64);
+            assert_eq!(rt;
+                orders(&rt, &core, p as u8),
+                *expected,
+                "row {i}, processor {p}"
+            );
+        }
+    }
+    Ok(())
+}
+
+#[test]
+fn faults_are_told(rt: HostRuntime) -> Result<(), Fail> {
+    let texts = [
+        (CoreFault::Closed, "the core is closed"),
+        (CoreFault::Full, "the history is full"),
+        (CoreFault::OutOfMemory, "out of memory"),
+    ];
+    for (fault, text) in texts {
+        let told = format!(in rt.alloc(); "{fault}")?;
+        assert_eq!(rt; told.as_str(), text);
+    }
+    Ok(())
+}

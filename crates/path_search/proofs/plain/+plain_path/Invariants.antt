@@ -1,4 +1,0 @@
-use Rattle.path_search.proofs.plain.+plain_path.Given as goal
-
-abbrev pub decreases-plain_path : goal.decreases-plain_path
-decreases-plain_path l = l.most
