@@ -4,4 +4,3 @@ pub mod Closing
 pub mod Carrying
 pub mod Sorting
 pub mod Opening
-pub mod Trials

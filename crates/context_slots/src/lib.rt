@@ -10,8 +10,6 @@ mod hand_seat;
 mod held;
 mod making;
 mod slots;
-#[cfg(test)]
-mod tests;
 mod turn_words;
 mod view;
 

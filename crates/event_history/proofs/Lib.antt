@@ -1,4 +1,3 @@
-pub mod Crews
 pub mod Flushes
 pub mod Gathers
 pub mod Joins

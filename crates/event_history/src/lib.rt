@@ -17,8 +17,6 @@ pub mod laws;
 mod owed;
 mod pass;
 mod pass_state;
-#[cfg(test)]
-mod tests;
 mod turn;
 mod view;
 

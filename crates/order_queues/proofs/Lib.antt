@@ -1,4 +1,3 @@
 pub mod Batches
 pub mod QueueSteps
 pub mod CountSteps
-pub mod Feeds

@@ -16,7 +16,5 @@ mod lane;
 mod parts;
 mod queue;
 mod steps;
-#[cfg(test)]
-mod tests;
 
 pub use queue::{Eye, QUEUE_ROOM, Queue, Receiver, Sender, Settled, settle};

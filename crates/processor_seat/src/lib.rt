@@ -11,8 +11,6 @@
 mod answer;
 mod gate;
 mod processor;
-#[cfg(test)]
-mod tests;
 mod waiting;
 mod working_hand;
 

@@ -15,8 +15,6 @@ mod occupants;
 mod picture;
 mod rule;
 mod shown;
-#[cfg(test)]
-mod tests;
 mod view;
 
 pub use board::{Observer, Publisher, make_board};

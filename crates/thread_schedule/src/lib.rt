@@ -7,8 +7,6 @@
 
 mod making;
 mod schedule;
-#[cfg(test)]
-mod tests;
 
 pub use making::{Beginning, beginning_of};
 pub use schedule::{Schedule, carried_contexts, schedule_of};

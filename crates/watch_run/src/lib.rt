@@ -5,13 +5,7 @@
 //! processors are occupied, and writes the schedule, as schedule_run does, and a line for each observer.
 #![tactic(auto)]
 
-#[cfg(test)]
-mod call_tests;
 mod observers;
-#[cfg(test)]
-mod plain;
-#[cfg(test)]
-mod tests;
 mod watch;
 
 pub use watch::{MAX_OBSERVERS, watched_text};

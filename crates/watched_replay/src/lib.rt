@@ -9,8 +9,6 @@ mod observing;
 mod posting;
 mod sighting;
 mod telling;
-#[cfg(test)]
-mod tests;
 mod threads;
 mod watching;
 

@@ -7,14 +7,8 @@
 
 mod arrival;
 mod comparing;
-#[cfg(test)]
-mod comparing_tests;
 pub mod comparison;
 mod departure;
-#[cfg(test)]
-mod plain;
-#[cfg(test)]
-mod tests;
 mod weak;
 
 pub use comparing::compare;

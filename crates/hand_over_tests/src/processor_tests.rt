@@ -1,0 +1,482 @@
+//! Orders that go through queues to two processors, one call at a time, and on threads.
+ghost use Rattle.std.specs.Prelude.{◌≡◌, ◌≢◌, ◌<◌, ◌≤◌, [], None, true, false, All, length, IfOk};
+ghost use Rattle.std.specs.Thread.{IsSync};
+ghost use Rattle.task_set.specs.declared.order.Order.TheVariants.{Stop};
+ghost use Rattle.task_set.specs.Orders.{IsObeyable, MayCome, NamesTaskBelow, held_after, has_stop, task_held};
+ghost use Rattle.order_queues.specs.Ends.{QueueData};
+ghost use Rattle.context_slots.specs.Hands.{AreAll, new_hand};
+ghost use Rattle.processor_seat.specs.Stepping.{ProcessorData, IsInStep, IsSameSeat};
+
+use affinity_mask::{OutOfMemory, ProcSet};
+use context_slots::{Hand, Slots};
+use order_queues::{Eye, Queue, Sender};
+use processor_seat::{Gate, OpenGate, Processor, Step};
+use std::alloc::Global;
+use std::marker::Model;
+use std::process::Abort;
+use std::sync::Wait;
+use std::sync::atomic::{AtomicU64, Ordering};
+use std::test::Fail;
+use std::thread;
+use std::thread::Threads;
+use std::time::Clock;
+use task_set::{Context, Order, TaskSet};
+
+/// The sending end of a queue for two tasks, which ends the test where an order may not come.
+#[derive(Drop)]
+struct End {
+    sender: Sender,
+    eye: Eye,
+    held: Option<u32>,
+    stopped: bool,
+}
+
+impl Model for End {
+    ghost Value = { QueueData };
+
+    ghost view = { λ e. e.sender.queue };
+
+    ghost invariant = { λ e. (e.eye.received_word ≡ e.sender.queue.received_word)
+        × (e.sender.queue.tasks ≡ 2)
+        × IsObeyable e.sender.sent
+        × (task_held e.sender.sent ≡ e.held)
+        × (e.stopped ≡ false → All (λ order. order ≢ Stop) e.sender.sent) };
+}
+
+impl End {
+    fn new(sender: Sender, eye: Eye) -> End
+        requires eye { eye.received_word ≡ sender.queue.received_word }
+        requires two_tasks { sender.queue.tasks ≡ 2 }
+        requires nothing_sent { sender.sent ≡ [] }
+        ensures queue { result ≡ sender.queue }
+    {
+        End {
+            sender,
+            eye,
+            held: None,
+            stopped: false,
+        }
+    }
+
+    /// Sends an order, for which there is room.
+    fn send<R: Abort + Wait>(&mut self, rt: &R, queue: &Queue, order: Order)
+        requires queue { self.old ≡ queue.now }
+        ensures queue { self.new ≡ queue.now }
+    {
+        assert!(rt; !self.stopped);
+        assert!(rt; may_come(self.held, order));
+        assert!(rt; self.sender.count() < 100);
+        match self.sender.send(rt, queue, &mut self.eye, order) {
+            Ok(()) => {
+                self.held = holder_after(self.held, order);
+                self.stopped = is_stop(order);
+            }
+            Err(_back) => panic!(rt; "no room"),
+        }
+    }
+}
+
+fn may_come(held: Option<u32>, order: Order) -> bool
+    ensures { result ≡ true → MayCome held order × NamesTaskBelow 2 order }
+{
+    match (held, order) {
+        (None, Order::Take { task, .. }) => task < 2,
+        (None, Order::Stop) => true,
+        (Some(of), Order::Release(task)) => of == task && task < 2,
+        (Some(_), Order::Run(_)) => true,
+        _ => false,
+    }
+}
+
+fn holder_after(held: Option<u32>, order: Order) -> Option<u32>
+    ensures { result ≡ held_after held order }
+{
+    match order {
+        Order::Take { task, .. } => Some(task),
+        Order::Release(_) => None,
+        _ => held,
+    }
+}
+
+fn is_stop(order: Order) -> bool
+    ensures { result ≡ false → order ≢ Stop }
+{
+    matches!(order, Order::Stop)
+}
+
+/// A processor with its queue and the sending end.
+#[derive(Drop)]
+struct Seat {
+    queue: Queue,
+    end: End,
+    processor: Processor,
+}
+
+impl Model for Seat {
+    ghost Value = { ProcessorData };
+
+    ghost view = { λ s. s.processor };
+
+    ghost invariant = { λ s. (s.end ≡ s.queue)
+        × (s.processor.receiver.queue ≡ s.queue)
+        × (s.queue.tasks ≡ 2)
+        × IsInStep s.processor };
+}
+
+/// What happens at a processor: an order is sent to it, or it makes a step that answers this.
+#[derive(Clone, Copy)]
+enum Act {
+    Sends(Order),
+    Steps(Step),
+}
+
+impl Seat {
+    /// A processor that received nothing.
+    fn new(alloc: Global, number: u8, hand: Hand, slots: &Slots) -> Result<Seat, OutOfMemory>
+        requires hand { hand ≡ new_hand slots.now.id number }
+        ensures slots { IfOk result (λ seat. seat.hand.slots ≡ slots.now.id) }
+    {
+        let (queue, mut sender, receiver) = Queue::new(alloc, 2)?;
+        let eye = sender.eye(&queue);
+        Ok(Seat {
+            queue,
+            end: End::new(sender, eye),
+            processor: Processor::new(number, hand, receiver),
+        })
+    }
+
+    fn step<R: Abort + Wait>(&mut self, rt: &R, slots: &Slots, answer: Step)
+        requires slots { self.old.hand.slots ≡ slots.now.id }
+        requires tasks { length slots.now.set.tasks ≡ 2 }
+        ensures slots { self.new.hand.slots ≡ slots.now.id }
+    {
+        let found = self.processor.step(rt, &self.queue, slots, &OpenGate);
+        assert_eq!(rt; found, answer);
+    }
+
+    fn act<R: Abort + Wait>(&mut self, rt: &R, slots: &Slots, act: Act)
+        requires slots { self.old.hand.slots ≡ slots.now.id }
+        requires tasks { length slots.now.set.tasks ≡ 2 }
+        ensures slots { self.new.hand.slots ≡ slots.now.id }
+    {
+        match act {
+            Act::Sends(order) => self.end.send(rt, &self.queue, order),
+            Act::Steps(answer) => self.step(rt, slots, answer),
+        }
+    }
+
+    /// The hand of the processor, which has stopped, or stops by one step.
+    fn into_hand<R: Abort + Wait>(self, rt: &R, slots: &Slots) -> Hand
+        requires slots { self.hand.slots ≡ slots.now.id }
+        requires tasks { length slots.now.set.tasks ≡ 2 }
+        ensures { (result.slots ≡ slots.now.id) × (result.holds ≡ None) }
+    {
+        let Seat {
+            queue,
+            end: _,
+            mut processor,
+        } = self;
+        match processor.step(rt, &queue, slots, &OpenGate) {
+            Step::Stopped => {}
+            _ => panic!(rt; "it did not stop"),
+        }
+        let (hand, _receiver) = processor.finish();
+        hand
+    }
+}
+
+/// The contexts in the end.
+fn contexts(alloc: Global, slots: Slots, hands: Vec<Hand>) -> Result<Vec<Context>, Fail>
+    requires { AreAll slots hands.items }
+{
+    match slots.close(alloc, hands) {
+        Ok(contexts) => Ok(contexts),
+        Err(_unclosed) => Err(Fail::new("out of memory")),
+    }
+}
+
+/// The contexts in the end, of two hands that hold nothing.
+fn contexts_of_two(
+    rt: &impl Abort,
+    alloc: Global,
+    slots: Slots,
+    hand_0: Hand,
+    hand_1: Hand,
+) -> Result<Vec<Context>, Fail>
+    requires processors { slots.set.processors ≡ 2 }
+    requires hand_0 { (hand_0.slots ≡ slots.id) × (hand_0.holds ≡ None) }
+    requires hand_1 { (hand_1.slots ≡ slots.id) × (hand_1.holds ≡ None) }
+{
+    assert!(rt; hand_0.number() == 0 && hand_1.number() == 1);
+    let mut hands = Vec::new(alloc);
+    hands.push(hand_0)?;
+    hands.push(hand_1)?;
+    contexts(alloc, slots, hands)
+}
+
+/// One task more, on the first processors.
+fn add_task(set: &mut TaskSet, name: &str, priority: u32, processors: u8) -> Result<(), Fail>
+    requires { processors ≤ 64 }
+{
+    set.add(name, priority, ProcSet::first(processors))?;
+    Ok(())
+}
+
+/// A set of two tasks on two processors.
+fn two_tasks(rt: &impl Abort, alloc: Global) -> Result<TaskSet, Fail>
+    ensures { IfOk result (λ set. (length set.tasks ≡ 2) × (set.processors ≡ 2)) }
+{
+    let mut set = TaskSet::new(alloc, 2)?;
+    add_task(&mut set, "a", 1, 2)?;
+    add_task(&mut set, "b", 2, 1)?;
+    assert!(rt; set.len() == 2 && set.processors() == 2);
+    Ok(set)
+}
+
+/// Slots for two processors, with their hands.
+fn two_hands(alloc: Global, set: &TaskSet) -> Result<(Slots, Hand, Hand), OutOfMemory>
+    requires { set.now.processors ≡ 2 }
+    ensures slots { IfOk result (λ made. made.0.set ≡ set.now) }
+    ensures hands { IfOk result (λ made. (made.1 ≡ new_hand made.0.id 0) × (made.2 ≡ new_hand made.0.id 1)) }
+{
+    let (slots, mut hands) = Slots::new(alloc, set)?;
+    let hand_1 = hands.pop().unwrap();
+    let hand_0 = hands.pop().unwrap();
+    Ok((slots, hand_0, hand_1))
+}
+
+/// What happens at two processors, one act after the other, each at the processor of this number.
+fn act_all<R: Abort + Wait>(
+    rt: &R,
+    alloc: Global,
+    slots: &Slots,
+    hand_0: Hand,
+    hand_1: Hand,
+    acts: &[(u8, Act)],
+) -> Result<(Hand, Hand), OutOfMemory>
+    requires hand_0 { hand_0 ≡ new_hand slots.now.id 0 }
+    requires hand_1 { hand_1 ≡ new_hand slots.now.id 1 }
+    requires tasks { length slots.now.set.tasks ≡ 2 }
+    ensures hand_0 { IfOk result (λ hands. (hands.0.slots ≡ slots.now.id) × (hands.0.holds ≡ None)) }
+    ensures hand_1 { IfOk result (λ hands. (hands.1.slots ≡ slots.now.id) × (hands.1.holds ≡ None)) }
+{
+    let mut first = Seat::new(alloc, 0, hand_0, slots)?;
+    let mut second = Seat::new(alloc, 1, hand_1, slots)?;
+    for &(number, act) in acts {
+        if number == 0 {
+            first.act(rt, slots, act);
+        } else {
+            second.act(rt, slots, act);
+        }
+    }
+    Ok((first.into_hand(rt, slots), second.into_hand(rt, slots)))
+}
+
+/// Two processors hand the task 0 over. The second one's take is not at its turn before the first one has the task, nor
+/// while it has it.
+fn hand_over() -> [(u8, Act); 18] {
+    let first = Order::Take { task: 0, number: 0 };
+    let second = Order::Take { task: 0, number: 1 };
+    let release = Order::Release(0);
+    [
+        (0, Act::Steps(Step::Empty)),
+        (0, Act::Sends(first)),
+        (1, Act::Sends(second)),
+        (1, Act::Steps(Step::NotTurn { task: 0, found: 0 })),
+        (0, Act::Steps(Step::Did(first))),
+        (1, Act::Steps(Step::NotTurn { task: 0, found: 1 })),
+        (0, Act::Sends(Order::Run(4))),
+        (0, Act::Sends(release)),
+        (0, Act::Sends(Order::Stop)),
+        (0, Act::Steps(Step::Did(Order::Run(4)))),
+        (0, Act::Steps(Step::Did(release))),
+        (1, Act::Steps(Step::Did(second))),
+        (0, Act::Steps(Step::Stopped)),
+        (0, Act::Steps(Step::Stopped)),
+        (1, Act::Sends(release)),
+        (1, Act::Sends(Order::Stop)),
+        (1, Act::Steps(Step::Did(release))),
+        (1, Act::Steps(Step::Stopped)),
+    ]
+}
+
+#[test]
+fn processors_by_calls(rt: HostRuntime) -> Result<(), Fail> {
+    let set = two_tasks(&rt, rt.alloc())?;
+    let (slots, hand_0, hand_1) = two_hands(rt.alloc(), &set)?;
+    let (hand_0, hand_1) = act_all(&rt, rt.alloc(), &slots, hand_0, hand_1, &hand_over())?;
+    let contexts = contexts_of_two(&rt, rt.alloc(), slots, hand_0, hand_1)?;
+    let a = Context {
+        task: 0,
+        units: 4,
+        stints: 2,
+        moves: 1,
+        last: Some(1),
+        trail: 256,
+    };
+    let b = Context {
+        task: 1,
+        units: 0,
+        stints: 0,
+        moves: 0,
+        last: None,
+        trail: 1,
+    };
+    assert_eq!(rt; contexts.as_slice(), [a, b].as_slice());
+    Ok(())
+}
+
+/// It counts the calls before the first try of a take.
+#[derive(Drop)]
+struct Takes {
+    count: AtomicU64,
+}
+
+impl Gate for Takes {
+    fn at(&self, _who: u32, point: u32) {
+        if point == 2 {
+            self.count.fetch_add(1, Ordering::SeqCst);
+        }
+    }
+}
+
+/// Sends two stints of the task 0, of which the second is two turns later, and Stop.
+fn send_two_stints<R: Abort + Wait>(rt: &R, queue: &Queue, end: &mut End, number: u32, units: u32)
+    requires queue { end.old ≡ queue.now }
+    requires number { number < 2 }
+{
+    let orders = [
+        Order::Take { task: 0, number },
+        Order::Run(units),
+        Order::Release(0),
+        Order::Take {
+            task: 0,
+            number: number + 2,
+        },
+        Order::Run(units),
+        Order::Release(0),
+        Order::Stop,
+    ];
+    for order in orders {
+        end.send(rt, queue, order);
+    }
+}
+
+/// A processor that works to its end.
+fn worked<R: Wait + Clock, G: Gate>(
+    rt: &R,
+    mut processor: Processor,
+    queue: &Queue,
+    slots: &Slots,
+    gate: &G,
+) -> Processor
+    requires slots { processor.hand.slots ≡ slots.now.id }
+    requires queue { processor.receiver.queue ≡ queue.now }
+    requires tasks { queue.now.tasks ≡ length slots.now.set.tasks }
+    requires in_step { IsInStep processor }
+    ensures in_step { IsInStep result }
+    ensures stopped { has_stop result.receiver.received ≡ true }
+    ensures seat { IsSameSeat processor result }
+{
+    processor.work(rt, queue, slots, gate);
+    processor
+}
+
+/// Works two processors to their ends, each in a thread of its own.
+fn both_worked<R: Threads + Wait + Clock + Sync, G: Gate + Sync>(
+    rt: &R,
+    slots: &Slots,
+    gate: &G,
+    first: &Queue,
+    one: Processor,
+    second: &Queue,
+    other: Processor,
+) -> (Processor, Processor)
+    requires one { (one.hand.slots ≡ slots.now.id) × (one.receiver.queue ≡ first.now) × IsInStep one }
+    requires other { (other.hand.slots ≡ slots.now.id) × (other.receiver.queue ≡ second.now) × IsInStep other }
+    requires tasks { (first.now.tasks ≡ 2) × (second.now.tasks ≡ 2) × (length slots.now.set.tasks ≡ 2) }
+    ensures one { IsInStep result.0 × (has_stop result.0.receiver.received ≡ true) × IsSameSeat one result.0 }
+    ensures other { IsInStep result.1 × (has_stop result.1.receiver.received ≡ true) × IsSameSeat other result.1 }
+{
+    thread::join(
+        rt,
+        move || -> Processor
+            requires { IsSync R.row × IsSync G.row × (one.hand.slots ≡ slots.now.id) × (one.receiver.queue ≡ first.now)
+                × (first.now.tasks ≡ length slots.now.set.tasks) × IsInStep one }
+            ensures { IsInStep result × (has_stop result.receiver.received ≡ true) × IsSameSeat one result }
+        { worked(rt, one, first, slots, gate) },
+        move || -> Processor
+            requires { IsSync R.row × IsSync G.row × (other.hand.slots ≡ slots.now.id) × (other.receiver.queue ≡ second.now)
+                × (second.now.tasks ≡ length slots.now.set.tasks) × IsInStep other }
+            ensures { IsInStep result × (has_stop result.receiver.received ≡ true) × IsSameSeat other result }
+        { worked(rt, other, second, slots, gate) },
+    )
+}
+
+/// Two processors hand the task 0 to and fro, each in a thread of its own.
+fn hand_to_and_fro<R: Abort + Threads + Wait + Clock + Sync, G: Gate + Sync>(
+    rt: &R,
+    alloc: Global,
+    slots: &Slots,
+    gate: &G,
+    hand_0: Hand,
+    hand_1: Hand,
+) -> Result<(Hand, Hand), OutOfMemory>
+    requires hand_0 { hand_0 ≡ new_hand slots.now.id 0 }
+    requires hand_1 { hand_1 ≡ new_hand slots.now.id 1 }
+    requires tasks { length slots.now.set.tasks ≡ 2 }
+    ensures hand_0 { IfOk result (λ hands. (hands.0.slots ≡ slots.now.id) × (hands.0.holds ≡ None)) }
+    ensures hand_1 { IfOk result (λ hands. (hands.1.slots ≡ slots.now.id) × (hands.1.holds ≡ None)) }
+{
+    let Seat {
+        queue: queue_0,
+        end: mut end_0,
+        processor: one,
+    } = Seat::new(alloc, 0, hand_0, slots)?;
+    let Seat {
+        queue: queue_1,
+        end: mut end_1,
+        processor: other,
+    } = Seat::new(alloc, 1, hand_1, slots)?;
+    send_two_stints(rt, &queue_0, &mut end_0, 0, 3);
+    send_two_stints(rt, &queue_1, &mut end_1, 1, 5);
+    let (one, other) = both_worked(rt, slots, gate, &queue_0, one, &queue_1, other);
+    let (hand_0, _receiver_0) = one.finish();
+    let (hand_1, _receiver_1) = other.finish();
+    Ok((hand_0, hand_1))
+}
+
+/// The contexts after two processors handed the task 0 to and fro.
+fn after_to_and_fro<R: Abort + Threads + Wait + Clock + Sync, G: Gate + Sync>(
+    rt: &R,
+    alloc: Global,
+    set: &TaskSet,
+    gate: &G,
+) -> Result<Vec<Context>, Fail>
+    requires { (length set.now.tasks ≡ 2) × (set.now.processors ≡ 2) }
+{
+    let (slots, hand_0, hand_1) = two_hands(alloc, set)?;
+    let (hand_0, hand_1) = hand_to_and_fro(rt, alloc, &slots, gate, hand_0, hand_1)?;
+    contexts_of_two(rt, alloc, slots, hand_0, hand_1)
+}
+
+/// Whether the first context is that of a task with four stints and three moves, of 16 units, that was last on 1.
+fn is_after_to_and_fro(contexts: &[Context]) -> bool {
+    match contexts.first() {
+        Some(a) => a.units == 16 && a.stints == 4 && a.moves == 3 && a.last == Some(1),
+        None => false,
+    }
+}
+
+#[test]
+fn task_goes_to_and_fro(rt: HostRuntime) -> Result<(), Fail> {
+    let gate = Takes {
+        count: AtomicU64::new(0),
+    };
+    let set = two_tasks(&rt, rt.alloc())?;
+    let contexts = after_to_and_fro(&rt, rt.alloc(), &set, &gate)?;
+    assert_eq!(rt; contexts.len(), 2);
+    assert!(rt; is_after_to_and_fro(&contexts));
+    assert_eq!(rt; gate.count.load(Ordering::SeqCst), 4);
+    Ok(())
+}

@@ -1,0 +1,293 @@
+//! Calls with answers worked out by hand from what a queue is.
+ghost use Rattle.std.specs.Prelude.{◌≡◌, ◌≢◌, true, false, [], length, All};
+ghost use Rattle.task_set.specs.declared.order.Order.TheVariants.{Stop};
+ghost use Rattle.task_set.specs.Orders.{IsObeyable, MayCome, NamesTaskBelow, held_after, task_held};
+ghost use Rattle.order_queues.specs.Ends.{SenderData};
+
+use order_queues::{Eye, QUEUE_ROOM, Queue, Receiver, Sender, settle};
+use std::marker::Model;
+use std::process::Abort;
+use std::sync::Wait;
+use std::test::Fail;
+use std::thread;
+use std::thread::Threads;
+use task_set::Order;
+
+/// The orders that one thread sends to the other, `Stop` included.
+const RELAYED: u32 = 100_000;
+
+/// A sender to a queue for one task, which ends the test where an order may not come.
+#[derive(Drop)]
+struct Feed {
+    sender: Sender,
+    held: Option<u32>,
+    stopped: bool,
+}
+
+impl Model for Feed {
+    ghost Value = { SenderData };
+
+    ghost view = { λ f. f.sender };
+
+    ghost invariant = { λ f. (f.sender.queue.tasks ≡ 1)
+        × IsObeyable f.sender.sent
+        × (task_held f.sender.sent ≡ f.held)
+        × (f.stopped ≡ false → All (λ order. order ≢ Stop) f.sender.sent) };
+}
+
+impl Feed {
+    fn new(sender: Sender) -> Feed
+        requires one_task { sender.queue.tasks ≡ 1 }
+        requires nothing_sent { sender.sent ≡ [] }
+        ensures queue { result.queue ≡ sender.queue }
+    {
+        Feed {
+            sender,
+            held: None,
+            stopped: false,
+        }
+    }
+
+    fn send<R: Wait + Abort>(
+        &mut self,
+        rt: &R,
+        queue: &Queue,
+        eye: &mut Eye,
+        order: Order,
+    ) -> Result<(), Order>
+        requires queue { self.old.queue ≡ queue.now }
+        requires eye { eye.old.received_word ≡ queue.now.received_word }
+        ensures queue { self.new.queue ≡ queue.now }
+        ensures eye { eye.new.received_word ≡ queue.now.received_word }
+    {
+        assert!(rt; !self.stopped);
+        assert!(rt; may_come(self.held, order));
+        assert!(rt; self.sender.count() < u64::from(RELAYED));
+        match self.sender.send(rt, queue, eye, order) {
+            Ok(()) => {
+                self.held = holder_after(self.held, order);
+                self.stopped = is_stop(order);
+                Ok(())
+            }
+            Err(back) => Err(back),
+        }
+    }
+
+    // Tries until a look of the eye finds room.
+    fn send_late<R: Wait + Abort>(&mut self, rt: &R, queue: &Queue, eye: &mut Eye, order: Order)
+        requires queue { self.old.queue ≡ queue.now }
+        requires eye { eye.old.received_word ≡ queue.now.received_word }
+        ensures queue { self.new.queue ≡ queue.now }
+        ensures eye { eye.new.received_word ≡ queue.now.received_word }
+    {
+        for _ in rt.forever() {
+            if let Ok(()) = self.send(rt, queue, eye, order) {
+                return;
+            }
+            thread::yield_now();
+        }
+        unreachable!()
+    }
+}
+
+fn may_come(held: Option<u32>, order: Order) -> bool
+    ensures { result ≡ true → MayCome held order × NamesTaskBelow 1 order }
+{
+    match (held, order) {
+        (None, Order::Take { task, .. }) => task == 0,
+        (None, Order::Stop) => true,
+        (Some(of), Order::Release(task)) => of == task && task == 0,
+        (Some(_), Order::Run(_)) => true,
+        _ => false,
+    }
+}
+
+fn holder_after(held: Option<u32>, order: Order) -> Option<u32>
+    ensures { result ≡ held_after held order }
+{
+    match order {
+        Order::Take { task, .. } => Some(task),
+        Order::Release(_) => None,
+        _ => held,
+    }
+}
+
+fn is_stop(order: Order) -> bool
+    ensures { result ≡ false → order ≢ Stop }
+{
+    matches!(order, Order::Stop)
+}
+
+#[test]
+fn queue_by_calls(rt: HostRuntime) -> Result<(), Fail> {
+    let (queue, mut sender, mut receiver) = Queue::new(rt.alloc(), 1)?;
+    let mut eye = sender.eye(&queue);
+    let mut feed = Feed::new(sender);
+    let take = Order::Take { task: 0, number: 0 };
+    assert_eq!(rt; QUEUE_ROOM, 256);
+    assert_eq!(rt; receiver.next(&rt, &queue), None);
+    assert_eq!(rt; feed.send(&rt, &queue, &mut eye, take), Ok(()));
+    assert_eq!(rt; send_runs(&rt, &queue, &mut feed, &mut eye), 255);
+    assert_eq!(rt;
+        feed.send(&rt, &queue, &mut eye, Order::Run(1)),
+        Err(Order::Run(1))
+    );
+    queue.meet(&mut feed.sender, &mut eye, &mut receiver);
+    assert_eq!(rt;
+        feed.send(&rt, &queue, &mut eye, Order::Run(1)),
+        Err(Order::Run(1))
+    );
+    assert_eq!(rt; receiver.next(&rt, &queue), Some(take));
+    assert_eq!(rt; receive_runs(&rt, &queue, &mut receiver), 255);
+    queue.meet(&mut feed.sender, &mut eye, &mut receiver);
+    assert_eq!(rt; receiver.next(&rt, &queue), None);
+    assert_eq!(rt; feed.send(&rt, &queue, &mut eye, Order::Release(0)), Ok(()));
+    assert_eq!(rt; feed.send(&rt, &queue, &mut eye, Order::Stop), Ok(()));
+    assert_eq!(rt; receiver.next(&rt, &queue), Some(Order::Release(0)));
+    assert_eq!(rt; receiver.next(&rt, &queue), Some(Order::Stop));
+    let settled = settle(queue, feed.sender, receiver);
+    assert_eq!(rt; settled.sent, 258);
+    assert_eq!(rt; settled.received, 258);
+    Ok(())
+}
+
+#[test]
+fn many_at_once(rt: HostRuntime) -> Result<(), Fail> {
+    let (queue, mut sender, mut receiver) = Queue::new(rt.alloc(), 1)?;
+    let mut eye = sender.eye(&queue);
+    let take = Order::Take { task: 0, number: 0 };
+    let orders = [
+        take,
+        Order::Run(7),
+        Order::Run(8),
+        Order::Run(9),
+        Order::Release(0),
+        Order::Stop,
+    ];
+    assert_eq!(rt; sender.send_all(&rt, &queue, &mut eye, &orders), 6);
+    assert_eq!(rt; receiver.next(&rt, &queue), Some(take));
+    assert_eq!(rt; receiver.next(&rt, &queue), Some(Order::Run(7)));
+    assert_eq!(rt; receiver.next(&rt, &queue), Some(Order::Run(8)));
+    assert_eq!(rt; receiver.next(&rt, &queue), Some(Order::Run(9)));
+    assert_eq!(rt; receiver.next(&rt, &queue), Some(Order::Release(0)));
+    assert_eq!(rt; receiver.next(&rt, &queue), Some(Order::Stop));
+    assert_eq!(rt; receiver.next(&rt, &queue), None);
+    Ok(())
+}
+
+// How many runs of one unit are sent until one is refused, 255 at most.
+fn send_runs<R: Wait + Abort>(rt: &R, queue: &Queue, feed: &mut Feed, eye: &mut Eye) -> u64
+    requires queue { feed.old.queue ≡ queue.now }
+    requires eye { eye.old.received_word ≡ queue.now.received_word }
+    ensures queue { feed.new.queue ≡ queue.now }
+    ensures eye { eye.new.received_word ≡ queue.now.received_word }
+{
+    for count in 0..255 {
+        if let Err(_) = feed.send(rt, queue, eye, Order::Run(1)) {
+            return count;
+        }
+    }
+    255
+}
+
+// How many runs of one unit are received until something else is, 255 at most.
+fn receive_runs<R: Wait>(rt: &R, queue: &Queue, receiver: &mut Receiver) -> u64
+    requires queue { receiver.old.queue ≡ queue.now }
+    ensures queue { receiver.new.queue ≡ queue.now }
+{
+    for count in 0..255 {
+        if receiver.next(rt, queue) != Some(Order::Run(1)) {
+            return count;
+        }
+    }
+    255
+}
+
+#[test]
+fn two_threads_relay(rt: HostRuntime) -> Result<(), Fail> {
+    let (queue, sender, receiver) = Queue::new(rt.alloc(), 1)?;
+    let list = Vec::with_capacity(rt.alloc(), RELAYED as usize)?;
+    let feed = Feed::new(sender);
+    let (sender, (receiver, list)) = relay(&rt, &queue, feed, receiver, list);
+    let settled = settle(queue, sender, receiver);
+    assert_eq!(rt; settled.sent, 100_000);
+    assert_eq!(rt; settled.received, 100_000);
+    assert_eq!(rt; list.len(), 100_000);
+    for (i, order) in list.iter().enumerate() {
+        assert_eq!(rt; *order, order_at(i as u32), "order {i}");
+    }
+    Ok(())
+}
+
+/// The order at a place: stints of three orders, each with one run, whose units change from stint to stint, and `Stop`.
+fn order_at(place: u32) -> Order {
+    if place == RELAYED - 1 {
+        return Order::Stop;
+    }
+    let number = place / 3;
+    match place % 3 {
+        0 => Order::Take { task: 0, number },
+        1 => Order::Run(number % 7 + 1),
+        _ => Order::Release(0),
+    }
+}
+
+fn relay<R: Threads + Wait + Abort + Sync>(
+    rt: &R,
+    queue: &Queue,
+    feed: Feed,
+    receiver: Receiver,
+    list: Vec<Order>,
+) -> (Sender, (Receiver, Vec<Order>))
+    requires sender { feed.queue ≡ queue.now }
+    requires receiver { receiver.queue ≡ queue.now }
+    ensures sender { result.0.queue ≡ queue.now }
+    ensures receiver { result.1.0.queue ≡ queue.now }
+{
+    thread::join(
+        rt,
+        move ||
+            requires { feed.queue ≡ queue.now }
+            ensures { result.queue ≡ queue.entry.now }
+        { send_all(rt, queue, feed) },
+        move ||
+            requires { receiver.queue ≡ queue.now }
+            ensures { result.0.queue ≡ queue.entry.now }
+        { receive_all(rt, queue, receiver, list) },
+    )
+}
+
+fn send_all<R: Wait + Abort>(rt: &R, queue: &Queue, mut feed: Feed) -> Sender
+    requires sender { feed.queue ≡ queue.now }
+    ensures sender { result.queue ≡ queue.now }
+{
+    let mut eye = feed.sender.eye(queue);
+    for place in 0..RELAYED {
+        feed.send_late(rt, queue, &mut eye, order_at(place));
+    }
+    feed.sender
+}
+
+// Receives until Stop.
+fn receive_all<R: Wait + Abort>(
+    rt: &R,
+    queue: &Queue,
+    mut receiver: Receiver,
+    mut list: Vec<Order>,
+) -> (Receiver, Vec<Order>)
+    requires receiver { receiver.queue ≡ queue.now }
+    ensures receiver { result.0.queue ≡ queue.now }
+{
+    for _ in rt.forever() {
+        match receiver.next(rt, queue) {
+            Some(order) => {
+                assert!(rt; list.push(order).is_ok());
+                if is_stop(order) {
+                    break;
+                }
+            }
+            None => thread::yield_now(),
+        }
+    }
+    (receiver, list)
+}

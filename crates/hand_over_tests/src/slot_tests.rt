@@ -1,0 +1,309 @@
+//! A hand-over by calls, and hand-overs between threads.
+ghost use Rattle.std.specs.Prelude.{◌≡◌, ℕ, ◌+◌, ◌<◌, ◌≤◌, None, All, IfOk, IfSome, OnOk, length, slice_index_or};
+ghost use Rattle.std.specs.Thread.{IsSync};
+ghost use Rattle.context_slots.specs.Hands.{HandData, AreFreeFrom, AreAll};
+
+use affinity_mask::{OutOfMemory, ProcSet};
+use context_slots::{Hand, Slots};
+use std::alloc::{AllocError, Global};
+use std::process::Abort;
+use std::sync::Wait;
+use std::test::Fail;
+use std::thread;
+use std::thread::Threads;
+use task_set::{Context, TaskSet};
+
+/// Slots for a set, and all their hands, which are free.
+fn new_slots(alloc: Global, set: &TaskSet) -> Result<(Slots, Vec<Hand>), OutOfMemory>
+    ensures slots { IfOk result (λ made. made.0.set ≡ set.now) }
+    ensures hands { IfOk result (λ made. AreAll made.0 made.1.items) }
+{
+    Slots::new(alloc, set)
+}
+
+/// The last of these free hands.
+fn pop_hand(slots: &Slots, hands: &mut Vec<Hand>) -> Option<Hand>
+    requires { AreFreeFrom slots.now.id 0 hands.old.items }
+    ensures rest { AreFreeFrom slots.now.id 0 hands.new.items }
+    ensures hand { IfSome result (λ hand. (hand.slots ≡ slots.now.id) × (hand.holds ≡ None)
+        × (hand.number ≡ length hands.new.items)
+        × (length hands.old.items ≡ length hands.new.items + 1)) }
+{
+    hands.pop()
+}
+
+/// Puts a free hand back, after those with lower numbers.
+fn push_hand(slots: &Slots, hands: &mut Vec<Hand>, hand: Hand) -> Result<(), OutOfMemory>
+    requires hands { AreFreeFrom slots.now.id 0 hands.old.items }
+    requires hand { (hand.slots ≡ slots.now.id) × (hand.holds ≡ None)
+        × (hand.number ≡ length hands.old.items) }
+    ensures hands { OnOk result (AreFreeFrom slots.now.id 0 hands.new.items) }
+    ensures length { OnOk result (length hands.new.items ≡ length hands.old.items + 1) }
+{
+    hands.push(hand)?;
+    Ok(())
+}
+
+/// What the hand finds at the task 0, which it does not get for the stint of this number.
+fn found(slots: &Slots, hand: &mut Hand, number: u32) -> Result<u64, Fail>
+    requires hand { (hand.old.slots ≡ slots.now.id) × (hand.old.holds ≡ None) }
+    requires tasks { 0 < length slots.now.set.tasks }
+    ensures { OnOk result ((hand.new.slots ≡ slots.now.id) × (hand.new.holds ≡ None)
+        × (hand.new.number ≡ hand.old.number)) }
+{
+    match slots.take(hand, 0, number) {
+        Ok(_held) => Err(Fail::new("taken out of turn")),
+        Err(no) => Ok(no.found),
+    }
+}
+
+/// The hand takes the task 0 at its turn, runs it and releases it.
+fn take_and_run(slots: &Slots, hand: &mut Hand, number: u32, units: u32) -> Result<(), Fail>
+    requires hand { (hand.old.slots ≡ slots.now.id) × (hand.old.holds ≡ None) }
+    requires tasks { 0 < length slots.now.set.tasks }
+    ensures { OnOk result ((hand.new.slots ≡ slots.now.id) × (hand.new.holds ≡ None)
+        × (hand.new.number ≡ hand.old.number)) }
+{
+    let mut held = slots.take(hand, 0, number)?;
+    slots.run(hand, &mut held, units);
+    slots.release(hand, held);
+    Ok(())
+}
+
+/// The first hand has the task 0 for its first stint: what the second one finds meanwhile, by a take and by a look.
+fn first_stint(slots: &Slots, first: &mut Hand, second: &mut Hand) -> Result<(u64, u64), Fail>
+    requires first { (first.old.slots ≡ slots.now.id) × (first.old.holds ≡ None) }
+    requires second { (second.old.slots ≡ slots.now.id) × (second.old.holds ≡ None) }
+    requires tasks { 0 < length slots.now.set.tasks }
+    ensures first { OnOk result ((first.new.slots ≡ slots.now.id) × (first.new.holds ≡ None)
+        × (first.new.number ≡ first.old.number)) }
+    ensures second { OnOk result ((second.new.slots ≡ slots.now.id) × (second.new.holds ≡ None)
+        × (second.new.number ≡ second.old.number)) }
+{
+    let mut held = slots.take(first, 0, 0)?;
+    let out = found(slots, second, 0)?;
+    let turn = slots.turn(second, 0);
+    slots.run(first, &mut held, 5);
+    slots.release(first, held);
+    Ok((out, turn))
+}
+
+/// Two processors pass task 0 from one to the other: what the second one finds, one look after the other.
+fn pass_by_calls(slots: &Slots, first: &mut Hand, second: &mut Hand) -> Result<[u64; 3], Fail>
+    requires first { (first.old.slots ≡ slots.now.id) × (first.old.holds ≡ None) }
+    requires second { (second.old.slots ≡ slots.now.id) × (second.old.holds ≡ None) }
+    requires tasks { 0 < length slots.now.set.tasks }
+    ensures first { OnOk result ((first.new.slots ≡ slots.now.id) × (first.new.holds ≡ None)
+        × (first.new.number ≡ first.old.number)) }
+    ensures second { OnOk result ((second.new.slots ≡ slots.now.id) × (second.new.holds ≡ None)
+        × (second.new.number ≡ second.old.number)) }
+{
+    let (out, turn) = first_stint(slots, first, second)?;
+    let next = found(slots, second, 0)?;
+    take_and_run(slots, second, 1, 2)?;
+    Ok([out, turn, next])
+}
+
+/// The contexts in the end.
+fn contexts(alloc: Global, slots: Slots, hands: Vec<Hand>) -> Result<Vec<Context>, Fail>
+    requires { AreAll slots hands.items }
+{
+    match slots.close(alloc, hands) {
+        Ok(contexts) => Ok(contexts),
+        Err(_unclosed) => Err(Fail::new("out of memory")),
+    }
+}
+
+/// What two hands find as they pass task 0 on, and the contexts in the end.
+fn passed(
+    rt: &impl Abort,
+    alloc: Global,
+    slots: Slots,
+    mut hands: Vec<Hand>,
+) -> Result<([u64; 3], Vec<Context>), Fail>
+    requires hands { AreAll slots hands.items }
+    requires tasks { length slots.set.tasks ≡ 2 }
+{
+    let Some(mut second) = pop_hand(&slots, &mut hands) else {
+        return Err(Fail::new("no hand"));
+    };
+    let Some(mut first) = pop_hand(&slots, &mut hands) else {
+        return Err(Fail::new("one hand"));
+    };
+    assert_eq!(rt; (first.number(), second.number()), (0, 1));
+    let found = pass_by_calls(&slots, &mut first, &mut second)?;
+    push_hand(&slots, &mut hands, first)?;
+    push_hand(&slots, &mut hands, second)?;
+    Ok((found, contexts(alloc, slots, hands)?))
+}
+
+#[test]
+fn hand_over_by_calls(rt: HostRuntime) -> Result<(), Fail> {
+    let mut set = TaskSet::new(rt.alloc(), 2)?;
+    set.add("a", 1, ProcSet::first(2))?;
+    set.add("b", 2, ProcSet::one(0))?;
+    assert!(rt; set.len() == 2);
+    let (slots, hands) = new_slots(rt.alloc(), &set)?;
+    let (found, contexts) = passed(&rt, rt.alloc(), slots, hands)?;
+    assert_eq!(rt; found, [1, 1, 2]);
+    let a = Context {
+        task: 0,
+        units: 7,
+        stints: 2,
+        moves: 1,
+        last: Some(1),
+        trail: 7381743522923083969,
+    };
+    let b = Context {
+        task: 1,
+        units: 0,
+        stints: 0,
+        moves: 0,
+        last: None,
+        trail: 1,
+    };
+    assert_eq!(rt; contexts.as_slice(), [a, b].as_slice());
+    Ok(())
+}
+
+/// How many tasks go round, on how many processors, and how many stints all of them make.
+const TASKS: u32 = 64;
+
+const PROCESSORS: u8 = 8;
+
+const STINTS: u32 = 10_000;
+
+/// A stint of the round: its task, its number, its processor, and the units that it runs.
+fn stint_of_round(i: u32) -> (u32, u32, u8, u32)
+    ensures { (result.0 < 64) × (result.2 < 64) }
+{
+    let task = i % TASKS;
+    let number = i / TASKS;
+    (
+        task,
+        number,
+        ((task + number) % PROCESSORS as u32) as u8,
+        i % 50,
+    )
+}
+
+/// Waits for the turn of a stint and makes it.
+fn make_stint<R: Wait>(rt: &R, slots: &Slots, hand: &mut Hand, task: u32, number: u32, units: u32)
+    requires hand { (hand.old.slots ≡ slots.now.id) × (hand.old.holds ≡ None) }
+    requires task { task < length slots.now.set.tasks }
+    ensures { (hand.new.slots ≡ slots.now.id) × (hand.new.holds ≡ None)
+        × (hand.new.number ≡ hand.old.number) }
+{
+    for _ in rt.forever() {
+        match slots.take(hand, task, number) {
+            Ok(mut held) => {
+                slots.run(hand, &mut held, units);
+                slots.release(hand, held);
+                break;
+            }
+            Err(no) => slots.wait(rt, task, no.found),
+        }
+    }
+}
+
+/// Makes the stints of one processor, in the order of the round.
+fn go_round<R: Wait>(rt: &R, slots: &Slots, mut hand: Hand) -> Hand
+    requires hand { (hand.slots ≡ slots.now.id) × (hand.holds ≡ None) }
+    requires tasks { 64 ≤ length slots.now.set.tasks }
+    ensures { (result.slots ≡ slots.now.id) × (result.holds ≡ None)
+        × (result.number ≡ hand.number) }
+{
+    for i in 0..STINTS {
+        let (task, number, processor, units) = stint_of_round(i);
+        if processor == hand.number() {
+            make_stint(rt, slots, &mut hand, task, number, units);
+        }
+    }
+    hand
+}
+/// Each hand goes round in a thread of its own, and comes back at its place.
+fn each_goes_round<R: Threads + Wait + Sync>(
+    rt: &R,
+    slots: &Slots,
+    hands: Vec<Hand>,
+) -> Result<Vec<Hand>, AllocError>
+    requires hands { All (λ hand. (hand.slots ≡ slots.now.id) × (hand.holds ≡ None)) hands.items }
+    requires tasks { 64 ≤ length slots.now.set.tasks }
+    ensures length { IfOk result (λ back. length back.items ≡ length hands.items) }
+    ensures each { IfOk result (λ back. (i : ℕ) (d : HandData) → i < length hands.items
+        → ((slice_index_or back.items i d).slots ≡ slots.now.id)
+        × ((slice_index_or back.items i d).holds ≡ None)
+        × ((slice_index_or back.items i d).number ≡ (slice_index_or hands.items i d).number)) }
+{
+    let round = move |hand: Hand| -> Hand
+        requires { IsSync R.row × (hand.slots ≡ slots.now.id) × (hand.holds ≡ None)
+            × (64 ≤ length slots.now.set.tasks) }
+        ensures { (result.slots ≡ slots.entry.now.id) × (result.holds ≡ None)
+            × (result.number ≡ hand.number) }
+    { go_round(rt, slots, hand) };
+    thread::map_vec(rt, hands, &round)
+}
+
+/// All hands go round, each in a thread of its own.
+fn all_go_round<R: Threads + Wait + Sync>(
+    rt: &R,
+    slots: &Slots,
+    hands: Vec<Hand>,
+) -> Result<Vec<Hand>, AllocError>
+    requires hands { AreAll slots.now hands.items }
+    requires tasks { 64 ≤ length slots.now.set.tasks }
+    ensures { IfOk result (λ back. AreAll slots.now back.items) }
+{
+    each_goes_round(rt, slots, hands)
+}
+
+/// One task more.
+fn add_task(alloc: Global, set: &mut TaskSet, t: u32) -> Result<(), Fail> {
+    let name = format!(in alloc; "t{t}")?;
+    set.add(&name, t, ProcSet::first(PROCESSORS))?;
+    Ok(())
+}
+
+/// The set of the round.
+fn round_set(rt: &impl Abort, alloc: Global) -> Result<TaskSet, Fail>
+    ensures { IfOk result (λ set. length set.tasks ≡ 64) }
+{
+    let mut set = TaskSet::new(alloc, PROCESSORS)?;
+    for t in 0..TASKS {
+        add_task(alloc, &mut set, t)?;
+    }
+    assert!(rt; set.len() == 64);
+    Ok(set)
+}
+
+/// A context of each task that did nothing.
+fn fresh_contexts(alloc: Global) -> Result<Vec<Context>, AllocError> {
+    let mut contexts = Vec::with_capacity(alloc, TASKS as usize)?;
+    for t in 0..TASKS {
+        contexts.push(Context::fresh(t))?;
+    }
+    Ok(contexts)
+}
+
+/// The contexts after the round, made by one processor after the other.
+fn after_round(contexts: &mut Vec<Context>) {
+    for i in 0..STINTS {
+        let (task, _number, processor, units) = stint_of_round(i);
+        if let Some(context) = contexts.get_mut(task as usize) {
+            context.took(processor);
+            context.ran(processor, units);
+        }
+    }
+}
+
+#[test]
+fn eight_threads_pass_contexts_round(rt: HostRuntime) -> Result<(), Fail> {
+    let set = round_set(&rt, rt.alloc())?;
+    let (slots, hands) = new_slots(rt.alloc(), &set)?;
+    let hands = all_go_round(&rt, &slots, hands)?;
+    let contexts = contexts(rt.alloc(), slots, hands)?;
+    let mut expected = fresh_contexts(rt.alloc())?;
+    after_round(&mut expected);
+    assert_eq!(rt; contexts.as_slice(), expected.as_slice());
+    Ok(())
+}

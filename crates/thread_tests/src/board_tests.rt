@@ -1,0 +1,534 @@
+//! What no clause says: that calls succeed with ample memory, what they answer on runs followed by hand, and that they
+//! may be made from several threads at once.
+ghost use Rattle.std.specs.Prelude.{◌≡◌, ◌∷◌, [], IfOk, length, map};
+ghost use Rattle.task_set.specs.Event.{IsOfSystem};
+ghost use Rattle.link_state.specs.State.{task_count};
+ghost use Rattle.order_queues.specs.Ends.{new_sender};
+ghost use Rattle.event_history.specs.Boards.{AreAll, Grown};
+
+use affinity_mask::{OutOfMemory, ProcSet};
+use event_history::{Board, EndFault, Pass, PostFault, Receipt};
+use link_table::{Chain, Entry, Reply};
+use order_queues::{Queue, Receiver, Sender};
+use sched_core::Core;
+use std::alloc::Global;
+use std::process::Abort;
+use std::sync::{Mutex, Wait};
+use std::test::Fail;
+use std::thread;
+use std::thread::Threads;
+use task_set::{Event, Order, TaskSet};
+
+/// A board of two callers with their passes, its queues and their receivers.
+struct Bench {
+    board: Board,
+    first: Pass,
+    second: Pass,
+    queues: Vec<Queue>,
+    receivers: (Receiver, Receiver),
+    ghost tasks: { (length board.set.tasks ≡ 2) × (board.set.processors ≡ 2) },
+    ghost passes: { AreAll board (first ∷ second ∷ []) },
+    ghost lanes: { queues.items ≡ board.queues },
+    ghost ends: { queues.items ≡ receivers.0.queue ∷ receivers.1.queue ∷ [] },
+}
+
+/// A set for two processors, with a task that may run on both and a less urgent one that may run on the first alone.
+fn two_tasks(rt: &impl Abort, alloc: Global) -> Result<TaskSet, Fail>
+    ensures { IfOk result (λ set. (length set.tasks ≡ 2) × (set.processors ≡ 2)) }
+{
+    let mut set = TaskSet::new(alloc, 2)?;
+    set.add("a", 1, ProcSet::first(2))?;
+    set.add("b", 2, ProcSet::first(1))?;
+    assert!(rt; set.len() == 2 && set.processors() == 2);
+    Ok(set)
+}
+
+/// Two queues for two tasks, and their ends.
+fn two_queues(alloc: Global) -> Result<(Vec<Queue>, Vec<Sender>, (Receiver, Receiver)), OutOfMemory>
+    ensures senders { IfOk result (λ made. made.1.items ≡ map new_sender made.0.items) }
+    ensures ends { IfOk result
+        (λ made. made.0.items ≡ made.2.0.queue ∷ made.2.1.queue ∷ []) }
+    ensures tasks { IfOk result
+        (λ made. (made.2.0.queue.tasks ≡ 2) × (made.2.1.queue.tasks ≡ 2)) }
+{
+    let (first, first_sender, first_receiver) = Queue::new(alloc, 2)?;
+    let (second, second_sender, second_receiver) = Queue::new(alloc, 2)?;
+    let mut queues = Vec::with_capacity(alloc, 2)?;
+    queues.push_reserved(first);
+    queues.push_reserved(second);
+    let mut senders = Vec::with_capacity(alloc, 2)?;
+    senders.push_reserved(first_sender);
+    senders.push_reserved(second_sender);
+    Ok((queues, senders, (first_receiver, second_receiver)))
+}
+
+impl Bench {
+    /// A board over two processors.
+    fn new(rt: &impl Abort, alloc: Global) -> Result<Bench, Fail> {
+        let set = two_tasks(rt, alloc)?;
+        let (queues, senders, receivers) = two_queues(alloc)?;
+        let Ok((board, mut passes)) = Board::new(alloc, &set, senders, queues.as_slice(), 2) else {
+            return Err(OutOfMemory.into());
+        };
+        let (Some(second), Some(first)) = (passes.pop(), passes.pop()) else {
+            unreachable!()
+        };
+        Ok(Bench {
+            board,
+            first,
+            second,
+            queues,
+            receivers,
+        })
+    }
+
+    /// Posts an event with the first pass.
+    fn post<R: Wait>(&mut self, rt: &R, event: Event) -> Result<Receipt, EndFault>
+        requires { IsOfSystem 2 2 event }
+    {
+        self.board.post(rt, &mut self.first, event)
+    }
+
+    /// One try to post an event with the second pass.
+    fn try_post(&mut self, event: Event) -> Result<Receipt, PostFault>
+        requires { IsOfSystem 2 2 event }
+    {
+        self.board.try_post(&mut self.second, event)
+    }
+
+    /// The count that the second pass finds.
+    fn count(&mut self) -> u64 {
+        self.board.count(&mut self.second)
+    }
+
+    /// Both passes meet.
+    fn meet(&mut self) {
+        self.board.meet(&mut self.first, &mut self.second);
+    }
+
+    /// Closes the core with the first pass.
+    fn finish<R: Wait>(&mut self, rt: &R) {
+        self.board.finish(rt, &mut self.first);
+    }
+
+    /// Sends what is owed with the first pass.
+    fn flush<R: Wait>(&mut self, rt: &R) -> u64 {
+        self.board
+            .flush(rt, &mut self.first, self.queues.as_slice())
+    }
+
+    /// The next order of the first processor.
+    fn next<R: Wait>(&mut self, rt: &R) -> Option<Order> {
+        self.receivers.0.next(rt, &self.queues[0])
+    }
+
+    /// How many entries there are, as the second pass copies them, and the reply of the last one, unless memory is out.
+    fn copied<R: Wait>(&mut self, rt: &R, alloc: Global) -> Option<(usize, Option<Reply>)> {
+        let mut entries = Vec::new(alloc);
+        match self
+            .board
+            .history_from(rt, &mut self.second, 0, &mut entries)
+        {
+            Ok(()) => Some((
+                entries.len(),
+                entries.last().map(|entry| entry.reply.copy()),
+            )),
+            Err(_refused) => None,
+        }
+    }
+
+    /// The core, when the passes come back.
+    fn close(self, rt: &impl Abort, alloc: Global) -> Result<Core, Fail> {
+        let Bench {
+            board,
+            first,
+            second,
+            queues: _,
+            receivers: _,
+        } = self;
+        let mut passes = Vec::with_capacity(alloc, 2)?;
+        passes.push_reserved(first);
+        passes.push_reserved(second);
+        let Ok((core, senders)) = board.close(passes) else {
+            return Err(OutOfMemory.into());
+        };
+        assert_eq!(rt; senders.len(), 2);
+        Ok(core)
+    }
+}
+
+/// A reply that places the task along these processors.
+fn placed(rt: &impl Abort, processors: &[u8]) -> Reply {
+    let mut chain = Chain::new();
+    for &p in processors {
+        assert!(rt; p < 64 && chain.len() < 64);
+        chain.push(p);
+    }
+    Reply::Placed { chain }
+}
+
+/// The first pass posts an event, which gets this place and this reply.
+fn posts<R: Wait + Abort>(rt: &R, bench: &mut Bench, event: Event, place: u64, reply: Reply)
+    requires { IsOfSystem 2 2 event }
+{
+    let posted = bench.post(rt, event);
+    assert_eq!(rt; posted, Ok(Receipt { place, reply }));
+}
+
+/// The second pass posts an event by one try, which gets this place and this reply.
+fn tries<R: Wait + Abort>(rt: &R, bench: &mut Bench, event: Event, place: u64, reply: Reply)
+    requires { IsOfSystem 2 2 event }
+{
+    let posted = bench.try_post(event);
+    assert_eq!(rt; posted, Ok(Receipt { place, reply }));
+}
+
+/// There are two entries, and both passes know of them once they met.
+fn knows_two<R: Wait + Abort>(rt: &R, bench: &mut Bench) {
+    assert_eq!(rt; bench.count(), 2);
+    bench.meet();
+    assert!(rt; bench.first.known() == 2 && bench.second.known() == 2 && !bench.first.saw_close());
+}
+
+/// No pass posts any more, and the second one has seen the close.
+fn is_closed<R: Wait + Abort>(rt: &R, bench: &mut Bench) {
+    assert_eq!(rt; bench.post(rt, Event::Tick(1)), Err(EndFault::Closed));
+    assert_eq!(rt; bench.try_post(Event::Tick(1)), Err(PostFault::Closed));
+    assert!(rt;
+        bench.second.saw_close() && bench.second.known() == 3 && bench.second.caller() == 1
+    );
+}
+
+#[test]
+fn board_by_calls(rt: HostRuntime) -> Result<(), Fail> {
+    let mut bench = Bench::new(&rt, rt.alloc())?;
+    posts(&rt, &mut bench, Event::Arrive(0), 0, placed(&rt, &[0]));
+    tries(&rt, &mut bench, Event::Arrive(1), 1, placed(&rt, &[0, 1]));
+    knows_two(&rt, &mut bench);
+    posts(&rt, &mut bench, Event::Arrive(1), 2, Reply::AlreadyReady);
+    let copied = bench.copied(&rt, rt.alloc());
+    bench.finish(&rt);
+    is_closed(&rt, &mut bench);
+    assert_eq!(rt; bench.flush(&rt), 0);
+    assert_eq!(rt; bench.close(&rt, rt.alloc())?.history().len(), 3);
+    let Some(copied) = copied else {
+        return Err(Fail::new("out of memory"));
+    };
+    assert_eq!(rt; copied, (3, Some(Reply::AlreadyReady)));
+    Ok(())
+}
+
+/// How many orders come out of the first queue, of at most 1,000.
+fn received<R: Wait>(rt: &R, bench: &mut Bench) -> u32 {
+    let mut count = 0u32;
+    for _ in 0..1000 {
+        if bench.next(rt).is_some() {
+            count = count.saturating_add(1);
+        }
+    }
+    count
+}
+
+/// The first task arrives, and 300 ticks are posted.
+fn ticks<R: Wait + Abort>(rt: &R, bench: &mut Bench) {
+    assert!(rt; bench.post(rt, Event::Arrive(0)).is_ok());
+    for _ in 0..300 {
+        assert!(rt; bench.post(rt, Event::Tick(1)).is_ok());
+    }
+}
+
+// Processor 0 gets a Take and 300 Runs, and at the close a Release and a Stop, and processor 1 a Stop. A queue has room
+// for 256 orders: of 301 there are 45 left, and after the close 2 more.
+#[test]
+fn owed_orders_wait_for_room(rt: HostRuntime) -> Result<(), Fail> {
+    let mut bench = Bench::new(&rt, rt.alloc())?;
+    ticks(&rt, &mut bench);
+    assert_eq!(rt; bench.flush(&rt), 45);
+    bench.finish(&rt);
+    assert_eq!(rt; bench.flush(&rt), 47);
+    assert_eq!(rt; received(&rt, &mut bench), 256);
+    assert_eq!(rt; bench.flush(&rt), 0);
+    assert_eq!(rt; received(&rt, &mut bench), 47);
+    assert_eq!(rt; bench.close(&rt, rt.alloc())?.history().len(), 301);
+    Ok(())
+}
+
+/// Posts one event with a pass, and hands the pass back.
+fn post_with<R: Wait>(
+    rt: &R,
+    board: &Board,
+    mut pass: Pass,
+    event: Event,
+) -> (Pass, Option<Receipt>)
+    requires board { pass.board ≡ board.now.id }
+    requires of_task { IsOfSystem board.now.set.processors (length board.now.set.tasks) event }
+    ensures { Grown pass result.0 × (result.0.eyes ≡ pass.eyes) }
+{
+    match board.post(rt, &mut pass, event) {
+        Ok(receipt) => (pass, Some(receipt)),
+        Err(_fault) => (pass, None),
+    }
+}
+
+/// Whether an entry of this event stands at the receipt's place with its reply.
+fn stands(history: &[Entry], event: Event, receipt: &Option<Receipt>) -> bool {
+    let Some(receipt) = receipt else {
+        return false;
+    };
+    match history.get(receipt.place as usize) {
+        Some(entry) => entry.event == event && entry.reply == receipt.reply,
+        None => false,
+    }
+}
+
+/// Two passes of a board post at once, each on a thread of its own.
+fn both_post<R: Threads + Wait + Sync>(
+    rt: &R,
+    board: &Board,
+    first: Pass,
+    one: Event,
+    second: Pass,
+    other: Event,
+) -> ((Pass, Option<Receipt>), (Pass, Option<Receipt>))
+    requires board { (first.board ≡ board.now.id) × (second.board ≡ board.now.id) }
+    requires one { IsOfSystem board.now.set.processors (length board.now.set.tasks) one }
+    requires other { IsOfSystem board.now.set.processors (length board.now.set.tasks) other }
+    ensures first { Grown first result.0.0 × (result.0.0.eyes ≡ first.eyes) }
+    ensures second { Grown second result.1.0 × (result.1.0.eyes ≡ second.eyes) }
+{
+    thread::join(
+        rt,
+        || post_with(rt, board, first, one),
+        || post_with(rt, board, second, other),
+    )
+}
+
+/// Both passes post at once.
+fn post_at_once<R: Threads + Wait + Sync>(
+    rt: &R,
+    bench: Bench,
+    one: Event,
+    other: Event,
+) -> (Bench, Option<Receipt>, Option<Receipt>)
+    requires { IsOfSystem 2 2 one × IsOfSystem 2 2 other }
+{
+    let Bench {
+        board,
+        first,
+        second,
+        queues,
+        receivers,
+    } = bench;
+    let ((first, of_first), (second, of_second)) = both_post(rt, &board, first, one, second, other);
+    let bench = Bench {
+        board,
+        first,
+        second,
+        queues,
+        receivers,
+    };
+    (bench, of_first, of_second)
+}
+
+#[test]
+fn two_threads_post(rt: HostRuntime) -> Result<(), Fail> {
+    let bench = Bench::new(&rt, rt.alloc())?;
+    let (one, other) = (Event::Arrive(0), Event::Arrive(1));
+    let (mut bench, of_first, of_second) = post_at_once(&rt, bench, one, other);
+    bench.meet();
+    assert!(rt; bench.first.known() == 2 && bench.second.known() == 2);
+    assert_eq!(rt; bench.count(), 2);
+    let core = bench.close(&rt, rt.alloc())?;
+    assert_eq!(rt; core.history().len(), 2);
+    assert!(rt; stands(core.history(), one, &of_first));
+    assert!(rt; stands(core.history(), other, &of_second));
+    Ok(())
+}
+
+/// The core, to which the arrival of the first task was applied.
+fn arrived(mut core: Core) -> Core
+    requires { task_count core.links ≡ 2 }
+{
+    let _place = core.apply(0, Event::Arrive(0));
+    core
+}
+
+/// Two cores, each moved to a thread and back; on the way the first task arrives.
+fn arrived_elsewhere<R: Threads + Wait + Sync>(rt: &R, one: Core, other: Core) -> (Core, Core)
+    requires one { task_count one.links ≡ 2 }
+    requires other { task_count other.links ≡ 2 }
+{
+    thread::join(rt, || arrived(one), || arrived(other))
+}
+
+/// The second task arrives, and the core is closed. The orders are those of a core that stayed where it was.
+fn goes_on(rt: &impl Abort, core: &mut Core) -> Result<(), Fail> {
+    assert!(rt; core.links().len() == 2);
+    assert!(rt; core.apply(1, Event::Arrive(1)) == Ok(1));
+    core.close_now();
+    assert!(rt; core.links().processors() == 2);
+    let first = Order::Take { task: 0, number: 0 };
+    let second = Order::Take { task: 1, number: 0 };
+    let expected = [
+        first,
+        Order::Release(0),
+        second,
+        Order::Release(1),
+        Order::Stop,
+    ];
+    assert_eq!(rt; core.orders(0), expected.as_slice());
+    assert_eq!(rt; core.orders(1).len(), 3);
+    Ok(())
+}
+
+/// A core that was moved to another thread and back goes on as one that stayed.
+#[test]
+fn cores_move_between_threads(rt: HostRuntime) -> Result<(), Fail> {
+    let set = two_tasks(&rt, rt.alloc())?;
+    let (one, other) = (Core::new(rt.alloc(), &set)?, Core::new(rt.alloc(), &set)?);
+    assert!(rt; one.links().len() == 2 && other.links().len() == 2);
+    let (mut one, mut other) = arrived_elsewhere(&rt, one, other);
+    goes_on(&rt, &mut one)?;
+    goes_on(&rt, &mut other)
+}
+
+/// How many threads post at once, and how many events each: together as many as a history may have.
+const THREADS: u32 = 8;
+
+const EACH: u32 = 2500;
+
+/// A receipt, with the caller that got it and its event.
+#[derive(Drop)]
+struct Told {
+    caller: u32,
+    event: Event,
+    receipt: Receipt,
+}
+
+/// The event that a caller posts at this number: it arrives and departs with a task of its own, and every tick has
+/// another length.
+fn event_of(caller: u32, number: u32) -> Event
+    ensures { IsOfSystem 1 8 result }
+{
+    let task = caller % THREADS;
+    match number % 4 {
+        0 => Event::Arrive(task),
+        2 => Event::Depart(task),
+        _ => Event::Tick(1 + task * EACH + number % EACH),
+    }
+}
+
+/// Posts a caller's events, as long as nothing is refused, and writes the receipts down.
+fn post_share<R: Wait>(rt: &R, board: &Board, pass: &mut Pass, told: &Mutex<Vec<Told>>)
+    requires board { pass.old.board ≡ board.now.id }
+    requires tasks { (length board.now.set.tasks ≡ 8) × (board.now.set.processors ≡ 1) }
+    ensures { Grown pass.old pass.new × (pass.new.eyes ≡ pass.old.eyes) }
+{
+    let caller = pass.caller();
+    for number in 0..EACH {
+        let event = event_of(caller, number);
+        let Ok(receipt) = board.post(rt, pass, event) else {
+            return;
+        };
+        let one = Told {
+            caller,
+            event: event_of(caller, number),
+            receipt,
+        };
+        if told.lock(rt).push(one).is_err() {
+            return;
+        }
+    }
+}
+
+/// Each caller posts its events, on a thread of its own.
+fn post_shares<R: Threads + Wait + Sync>(
+    rt: &R,
+    board: &Board,
+    passes: &mut Vec<Pass>,
+    told: &Mutex<Vec<Told>>,
+)
+    requires passes { AreAll board.now passes.old.items }
+    requires tasks { (length board.now.set.tasks ≡ 8) × (board.now.set.processors ≡ 1) }
+    ensures { AreAll board.now passes.new.items }
+{
+    thread::for_each_mut(
+        rt,
+        passes.as_mut_slice(),
+        THREADS as usize,
+        &|_, pass: &mut Pass|
+            requires { (pass.old.board ≡ board.now.id) × (length board.now.set.tasks ≡ 8)
+                × (board.now.set.processors ≡ 1) }
+            ensures { Grown pass.old pass.new × (pass.new.eyes ≡ pass.old.eyes) }
+        { post_share(rt, board, pass, told) },
+    );
+}
+
+/// Whether the receipts stand in the history, each at a place of its own, and those of each caller in their order.
+fn all_stand(history: &[Entry], told: &[Told]) -> bool {
+    let mut next = [0u64; 16];
+    for one in told {
+        let place = one.receipt.place;
+        let (Some(least), Some(entry)) = (
+            next.get_mut(one.caller as usize),
+            history.get(place as usize),
+        ) else {
+            return false;
+        };
+        if place < *least || entry.caller != one.caller || entry.event != one.event {
+            return false;
+        }
+        if entry.reply != one.receipt.reply {
+            return false;
+        }
+        *least = place.saturating_add(1);
+    }
+    true
+}
+
+/// A set of eight tasks on one processor.
+fn eight_tasks(rt: &impl Abort, alloc: Global) -> Result<TaskSet, Fail>
+    ensures { IfOk result (λ set. (length set.tasks ≡ 8) × (set.processors ≡ 1)) }
+{
+    let mut set = TaskSet::new(alloc, 1)?;
+    let mut priority = 0u32;
+    for name in ["a", "b", "c", "d", "e", "f", "g", "h"] {
+        priority = priority.saturating_add(1);
+        set.add(name, priority, ProcSet::first(1))?;
+    }
+    assert!(rt; set.len() == THREADS && set.processors() == 1);
+    Ok(set)
+}
+
+/// A board of eight callers over that set, with their passes.
+fn eight_callers(rt: &impl Abort, alloc: Global) -> Result<(Board, Vec<Pass>), Fail>
+    ensures passes { IfOk result (λ made. AreAll made.0 made.1.items) }
+    ensures tasks { IfOk result
+        (λ made. (length made.0.set.tasks ≡ 8) × (made.0.set.processors ≡ 1)) }
+{
+    let set = eight_tasks(rt, alloc)?;
+    let (queue, sender, _receiver) = Queue::new(alloc, THREADS)?;
+    let mut queues = Vec::with_capacity(alloc, 1)?;
+    queues.push_reserved(queue);
+    let mut senders = Vec::with_capacity(alloc, 1)?;
+    senders.push_reserved(sender);
+    match Board::new(alloc, &set, senders, queues.as_slice(), THREADS) {
+        Ok(made) => Ok(made),
+        Err(_unmade) => Err(Fail::new("out of memory")),
+    }
+}
+
+#[test]
+fn eight_threads_post(rt: HostRuntime) -> Result<(), Fail> {
+    let (board, mut passes) = eight_callers(&rt, rt.alloc())?;
+    let told = Mutex::new(Vec::new(rt.alloc()));
+    post_shares(&rt, &board, &mut passes, &told);
+    let Ok((core, _senders)) = board.close(passes) else {
+        assert!(rt; false);
+        unreachable!()
+    };
+    let told = told.into_inner();
+    assert!(rt; told.len() == 20_000 && core.history().len() == 20_000);
+    assert!(rt; all_stand(core.history(), told.as_slice()));
+    Ok(())
+}

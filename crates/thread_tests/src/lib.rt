@@ -1,0 +1,9 @@
+//! Tests by the public calls of event_history, thread_replay and thread_schedule. It has nothing else.
+#![tactic(auto)]
+
+#[cfg(test)]
+mod board_tests;
+#[cfg(test)]
+mod owed_orders;
+#[cfg(test)]
+mod schedule_tests;

@@ -1,0 +1,393 @@
+//! More orders than a queue holds, for processors that have no thread: one call at a time, and by a drive.
+ghost use Rattle.std.specs.Prelude.{◌≡◌, ◌∷◌, [], All, None, Some, IfOk, length, map, slice_get};
+ghost use Rattle.task_set.specs.Event.{IsOfSystem};
+ghost use Rattle.order_queues.specs.Ends.{new_receiver, new_sender};
+ghost use Rattle.context_slots.specs.Hands.{new_hand};
+ghost use Rattle.event_history.specs.Boards.{AreEyesOf, AreFor};
+ghost use Rattle.thread_replay.specs.Driving.{IsDone};
+ghost use Rattle.thread_replay.specs.Seats.{IsSeated};
+ghost use Rattle.thread_tests.specs.Fitting.{are_for-prop};
+
+use affinity_mask::{OutOfMemory, ProcSet};
+use context_slots::{Hand, Slots};
+use event_history::{Board, Pass};
+use order_queues::{Queue, Receiver, Sender};
+use processor_seat::{OpenGate, Processor, Step};
+use std::alloc::Global;
+use std::process::Abort;
+use std::sync::Wait;
+use std::test::Fail;
+use task_set::{Context, Event, TaskSet};
+use thread_replay::drive;
+
+/// A board of one caller over two processors that have no threads.
+struct Bench {
+    board: Board,
+    pass: Pass,
+    queues: Vec<Queue>,
+    slots: Slots,
+    first: Processor,
+    second: Processor,
+    ghost tasks: { (length board.set.tasks ≡ 2) × (board.set.processors ≡ 2)
+        × (slots.set.processors ≡ 2) },
+    ghost pass_is: { pass.board ≡ board.id },
+    ghost eyes: { AreEyesOf board.queues pass.eyes },
+    ghost lanes: { queues.items ≡ board.queues },
+    ghost made_for: { AreFor slots.set queues.items } by { are_for-prop slots.set queues.items },
+    ghost seated: { IsSeated queues.items slots first × IsSeated queues.items slots second },
+}
+
+/// Adds a task to the set.
+fn add(rt: &impl Abort, set: &mut TaskSet, name: &str, priority: u32, mask: ProcSet) {
+    let added = set.add(name, priority, mask).is_ok();
+    assert!(rt; added);
+}
+
+/// A task that may run on both processors, and a less urgent one that may run on the first alone.
+fn two_tasks(rt: &impl Abort, alloc: Global) -> Result<TaskSet, Fail>
+    ensures { IfOk result (λ set. (length set.tasks ≡ 2) × (set.processors ≡ 2)) }
+{
+    let mut set = TaskSet::new(alloc, 2)?;
+    add(rt, &mut set, "a", 1, ProcSet::first(2));
+    add(rt, &mut set, "b", 2, ProcSet::one(0));
+    assert!(rt; set.len() == 2);
+    assert!(rt; set.processors() == 2);
+    Ok(set)
+}
+
+/// A list of two things.
+fn list_of_two<T: Drop>(alloc: Global, first: T, second: T) -> Result<Vec<T>, OutOfMemory>
+    ensures { IfOk result (λ two. two.items ≡ first ∷ second ∷ []) }
+{
+    let mut two = Vec::with_capacity(alloc, 2)?;
+    two.push_reserved(first);
+    two.push_reserved(second);
+    Ok(two)
+}
+
+/// Two queues for two tasks, and their ends.
+fn two_queues(alloc: Global) -> Result<(Vec<Queue>, Vec<Sender>, (Receiver, Receiver)), OutOfMemory>
+    ensures senders { IfOk result (λ made. made.1.items ≡ map new_sender made.0.items) }
+    ensures ends { IfOk result
+        (λ made. made.0.items ≡ made.2.0.queue ∷ made.2.1.queue ∷ []) }
+    ensures new { IfOk result (λ made. (made.2.0 ≡ new_receiver made.2.0.queue)
+        × (made.2.1 ≡ new_receiver made.2.1.queue)) }
+    ensures tasks { IfOk result
+        (λ made. (made.2.0.queue.tasks ≡ 2) × (made.2.1.queue.tasks ≡ 2)) }
+{
+    let (first, first_sender, first_receiver) = Queue::new(alloc, 2)?;
+    let (second, second_sender, second_receiver) = Queue::new(alloc, 2)?;
+    let queues = list_of_two(alloc, first, second)?;
+    let senders = list_of_two(alloc, first_sender, second_sender)?;
+    Ok((queues, senders, (first_receiver, second_receiver)))
+}
+
+/// Slots for two processors, with their hands.
+fn two_hands(alloc: Global, set: &TaskSet) -> Result<(Slots, Hand, Hand), OutOfMemory>
+    requires { set.now.processors ≡ 2 }
+    ensures slots { IfOk result (λ made. made.0.set ≡ set.now) }
+    ensures hands { IfOk result (λ made. (made.1 ≡ new_hand made.0.id 0)
+        × (made.2 ≡ new_hand made.0.id 1)) }
+{
+    let (slots, mut hands) = Slots::new(alloc, set)?;
+    let hand_1 = hands.pop().unwrap();
+    let hand_0 = hands.pop().unwrap();
+    Ok((slots, hand_0, hand_1))
+}
+
+/// A processor that did nothing yet, with the receiving end of the queue at its number.
+fn seated(queues: &[Queue], slots: &Slots, number: u8, hand: Hand, receiver: Receiver) -> Processor
+    requires hand { hand ≡ new_hand slots.now.id number }
+    requires receiver { receiver ≡ new_receiver receiver.queue }
+    requires queue { slice_get queues.now number ≡ Some receiver.queue }
+    ensures { IsSeated queues.now slots.now result }
+{
+    Processor::new(number, hand, receiver)
+}
+
+/// Slots and two processors that did nothing yet, with the receiving ends of the two queues.
+fn two_seats(
+    alloc: Global,
+    set: &TaskSet,
+    queues: &[Queue],
+    receivers: (Receiver, Receiver),
+) -> Result<(Slots, Processor, Processor), OutOfMemory>
+    requires processors { set.now.processors ≡ 2 }
+    requires ends { queues.now ≡ receivers.0.queue ∷ receivers.1.queue ∷ [] }
+    requires new { (receivers.0 ≡ new_receiver receivers.0.queue)
+        × (receivers.1 ≡ new_receiver receivers.1.queue) }
+    ensures slots { IfOk result (λ made. made.0.set ≡ set.now) }
+    ensures first { IfOk result (λ made. IsSeated queues.now made.0 made.1) }
+    ensures second { IfOk result (λ made. IsSeated queues.now made.0 made.2) }
+{
+    let (slots, hand_0, hand_1) = two_hands(alloc, set)?;
+    let first = seated(queues, &slots, 0, hand_0, receivers.0);
+    let second = seated(queues, &slots, 1, hand_1, receivers.1);
+    Ok((slots, first, second))
+}
+
+/// A board of one caller, with its pass.
+fn board_of(
+    alloc: Global,
+    set: &TaskSet,
+    senders: Vec<Sender>,
+    queues: &[Queue],
+) -> Result<(Board, Pass), Fail>
+    requires senders { senders.items ≡ map new_sender queues.now }
+    requires one_each { length queues.now ≡ set.now.processors }
+    requires tasks { AreFor set.now queues.now }
+    ensures board { IfOk result (λ made. (made.0.set ≡ set.now) × (made.0.queues ≡ queues.now)) }
+    ensures pass { IfOk result (λ made. (made.1.board ≡ made.0.id)
+        × AreEyesOf made.0.queues made.1.eyes) }
+{
+    let Ok((board, mut passes)) = Board::new(alloc, set, senders, queues, 1) else {
+        return Err(Fail::new("out of memory"));
+    };
+    let pass = passes.pop().unwrap();
+    Ok((board, pass))
+}
+
+/// The queue of a processor.
+fn queue_of<'a>(queues: &'a [Queue], slots: &Slots, processor: &Processor) -> &'a Queue
+    requires seated { IsSeated queues.now slots.now processor.now }
+    requires made_for { AreFor slots.now.set queues.now }
+    ensures queue { result.now ≡ processor.now.receiver.queue }
+    ensures made_for { result.now.tasks ≡ length slots.now.set.tasks }
+{
+    &queues[processor.number() as usize]
+}
+
+/// One step of a processor.
+fn step_of<R: Wait>(rt: &R, queues: &[Queue], slots: &Slots, processor: &mut Processor) -> Step
+    requires seated { IsSeated queues.now slots.now processor.old }
+    requires made_for { AreFor slots.now.set queues.now }
+    ensures { IsSeated queues.now slots.now processor.new }
+{
+    let queue = queue_of(queues, slots, processor);
+    processor.step(rt, queue, slots, &OpenGate)
+}
+
+/// The hand of a processor that has stopped.
+fn hand_of<R: Abort + Wait>(
+    rt: &R,
+    queues: &[Queue],
+    slots: &Slots,
+    mut processor: Processor,
+) -> Hand
+    requires seated { IsSeated queues.now slots.now processor }
+    requires made_for { AreFor slots.now.set queues.now }
+    ensures { (result.slots ≡ slots.now.id) × (result.holds ≡ None) }
+{
+    let queue = queue_of(queues, slots, &processor);
+    match processor.step(rt, queue, slots, &OpenGate) {
+        Step::Stopped => {}
+        _ => panic!(rt; "it did not stop"),
+    }
+    let (hand, _receiver) = processor.finish();
+    hand
+}
+
+/// The contexts in the end, of two hands that hold nothing.
+fn contexts_of_two(
+    rt: &impl Abort,
+    alloc: Global,
+    slots: Slots,
+    first: Hand,
+    second: Hand,
+) -> Result<Vec<Context>, Fail>
+    requires processors { slots.set.processors ≡ 2 }
+    requires first { (first.slots ≡ slots.id) × (first.holds ≡ None) }
+    requires second { (second.slots ≡ slots.id) × (second.holds ≡ None) }
+{
+    assert!(rt; first.number() == 0 && second.number() == 1);
+    let mut hands = Vec::new(alloc);
+    hands.push(first)?;
+    hands.push(second)?;
+    match slots.close(alloc, hands) {
+        Ok(contexts) => Ok(contexts),
+        Err(_unclosed) => Err(Fail::new("out of memory")),
+    }
+}
+
+/// The last two of a list of processors, in their order.
+fn last_two(
+    queues: &[Queue],
+    slots: &Slots,
+    mut processors: Vec<Processor>,
+) -> Result<(Processor, Processor), Fail>
+    requires { All (IsDone queues.now slots.now) processors.items }
+    ensures first { IfOk result (λ two. IsSeated queues.now slots.now two.0) }
+    ensures second { IfOk result (λ two. IsSeated queues.now slots.now two.1) }
+{
+    let (Some(second), Some(first)) = (processors.pop(), processors.pop()) else {
+        return Err(Fail::new("no two processors"));
+    };
+    Ok((first, second))
+}
+
+impl Bench {
+    fn new(rt: &impl Abort, alloc: Global) -> Result<Bench, Fail> {
+        let set = two_tasks(rt, alloc)?;
+        let (queues, senders, receivers) = two_queues(alloc)?;
+        Bench::over(alloc, &set, queues, senders, receivers)
+    }
+
+    /// A bench with these queues and their ends.
+    fn over(
+        alloc: Global,
+        set: &TaskSet,
+        queues: Vec<Queue>,
+        senders: Vec<Sender>,
+        receivers: (Receiver, Receiver),
+    ) -> Result<Bench, Fail>
+        requires set { (length set.now.tasks ≡ 2) × (set.now.processors ≡ 2) }
+        requires senders { senders.items ≡ map new_sender queues.items }
+        requires ends { queues.items ≡ receivers.0.queue ∷ receivers.1.queue ∷ [] }
+        requires new { (receivers.0 ≡ new_receiver receivers.0.queue)
+            × (receivers.1 ≡ new_receiver receivers.1.queue) }
+        requires tasks { (receivers.0.queue.tasks ≡ 2) × (receivers.1.queue.tasks ≡ 2) }
+    {
+        let (board, pass) = board_of(alloc, set, senders, &queues)?;
+        let (slots, first, second) = two_seats(alloc, set, &queues, receivers)?;
+        Ok(Bench {
+            board,
+            pass,
+            queues,
+            slots,
+            first,
+            second,
+        })
+    }
+
+    fn post<R: Wait + Abort>(&mut self, rt: &R, event: Event)
+        requires { IsOfSystem 2 2 event }
+    {
+        let posted = self.board.post(rt, &mut self.pass, event).is_ok();
+        assert!(rt; posted);
+    }
+
+    fn finish<R: Wait>(&mut self, rt: &R) {
+        self.board.finish(rt, &mut self.pass);
+    }
+
+    fn flush<R: Wait>(&mut self, rt: &R) -> u64 {
+        self.board.flush(rt, &mut self.pass, &self.queues)
+    }
+
+    fn step_first<R: Wait>(&mut self, rt: &R) -> Step {
+        step_of(rt, &self.queues, &self.slots, &mut self.first)
+    }
+
+    fn step_second<R: Wait>(&mut self, rt: &R) -> Step {
+        step_of(rt, &self.queues, &self.slots, &mut self.second)
+    }
+
+    /// The same after a drive of both processors.
+    fn driven<R: Wait + Abort>(self, rt: &R, alloc: Global) -> Result<Bench, Fail> {
+        let Bench {
+            board,
+            mut pass,
+            queues,
+            slots,
+            first,
+            second,
+        } = self;
+        assert!(rt; pass.saw_close());
+        let mut two = list_of_two(alloc, first, second)?;
+        drive(rt, &board, &mut pass, &queues, &slots, &mut two, &OpenGate);
+        let (first, second) = last_two(&queues, &slots, two)?;
+        Ok(Bench {
+            board,
+            pass,
+            queues,
+            slots,
+            first,
+            second,
+        })
+    }
+
+    /// The contexts in the end, where both processors have stopped.
+    fn contexts<R: Wait + Abort>(self, rt: &R, alloc: Global) -> Result<Vec<Context>, Fail> {
+        let Bench {
+            board: _,
+            pass: _,
+            queues,
+            slots,
+            first,
+            second,
+        } = self;
+        let first = hand_of(rt, &queues, &slots, first);
+        let second = hand_of(rt, &queues, &slots, second);
+        contexts_of_two(rt, alloc, slots, first, second)
+    }
+}
+
+/// How many orders the first processor obeys one after the other, of at most 1,000, and what the next step answers.
+fn obeyed<R: Wait>(rt: &R, bench: &mut Bench) -> (u32, Step) {
+    let mut count = 0u32;
+    for _ in 0..1000 {
+        match bench.step_first(rt) {
+            Step::Did(_order) => count = count.saturating_add(1),
+            other => return (count, other),
+        }
+    }
+    (count, Step::Empty)
+}
+
+/// The first processor gets 301 orders, of which its queue has room for 256, and two more at the close; the second one
+/// gets a `Stop`.
+fn fill<R: Wait + Abort>(rt: &R, bench: &mut Bench) {
+    bench.post(rt, Event::Arrive(0));
+    for _ in 0..300 {
+        bench.post(rt, Event::Tick(1));
+    }
+    assert_eq!(rt; bench.flush(rt), 45);
+    bench.finish(rt);
+    assert_eq!(rt; bench.flush(rt), 47);
+}
+
+/// One task ran for 300 units, and the other one not at all.
+fn are_expected(contexts: &[Context]) -> bool {
+    let b = Context {
+        task: 1,
+        units: 0,
+        stints: 0,
+        moves: 0,
+        last: None,
+        trail: 1,
+    };
+    match contexts {
+        [a, other] => {
+            a.task == 0
+                && a.units == 300
+                && a.stints == 1
+                && a.moves == 0
+                && a.last == Some(0)
+                && *other == b
+        }
+        _ => false,
+    }
+}
+
+#[test]
+fn orders_owed_beyond_the_queue(rt: HostRuntime) -> Result<(), Fail> {
+    let mut bench = Bench::new(&rt, rt.alloc())?;
+    fill(&rt, &mut bench);
+    assert_eq!(rt; obeyed(&rt, &mut bench), (256, Step::Empty));
+    assert_eq!(rt; bench.flush(&rt), 0);
+    assert_eq!(rt; obeyed(&rt, &mut bench), (46, Step::Stopped));
+    assert_eq!(rt; bench.step_second(&rt), Step::Stopped);
+    let contexts = bench.contexts(&rt, rt.alloc())?;
+    assert!(rt; are_expected(&contexts));
+    Ok(())
+}
+
+#[test]
+fn orders_owed_are_driven(rt: HostRuntime) -> Result<(), Fail> {
+    let mut bench = Bench::new(&rt, rt.alloc())?;
+    fill(&rt, &mut bench);
+    let bench = bench.driven(&rt, rt.alloc())?;
+    let contexts = bench.contexts(&rt, rt.alloc())?;
+    assert!(rt; are_expected(&contexts));
+    Ok(())
+}

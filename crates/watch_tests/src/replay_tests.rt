@@ -1,0 +1,127 @@
+//! Two events that observers watch, by calls, and how often the gate is called.
+ghost use Rattle.std.specs.Prelude.{◌≡◌, ◌≤◌, length};
+
+use affinity_mask::{OutOfMemory, ProcSet};
+use processor_seat::{Gate, OpenGate};
+use std::alloc::Global;
+use std::process::Abort;
+use std::sync::Wait;
+use std::sync::atomic::AtomicU64;
+use std::sync::atomic::Ordering::SeqCst;
+use std::test::Fail;
+use std::thread::Threads;
+use std::time::Clock;
+use task_set::{Context, Event, TaskSet};
+use trace_reader::Posted;
+use watched_replay::{Watched, watched_schedule_of};
+
+/// Two tasks arrive, each on a stream of its own: the second one may run where the first one is, which moves aside.
+fn watch_two<R: Threads + Wait + Clock + Sync, G: Gate + Sync>(
+    rt: &R,
+    alloc: Global,
+    set: &TaskSet,
+    observers: u32,
+    gate: &G,
+) -> Result<Watched, OutOfMemory>
+    requires tasks { length set.now.tasks ≡ 2 }
+    requires observers { (1 ≤ observers) × (observers ≤ 8) }
+{
+    let events = [
+        Posted {
+            stream: 0,
+            event: Event::Arrive(0),
+        },
+        Posted {
+            stream: 1,
+            event: Event::Arrive(1),
+        },
+    ];
+    watched_schedule_of(rt, alloc, set, &events, observers, gate)
+}
+
+/// The first task may run on both processors, the second one on the first of them.
+fn two_tasks(alloc: Global) -> Result<TaskSet, Fail> {
+    let mut set = TaskSet::new(alloc, 2)?;
+    set.add("a", 1, ProcSet::first(2))?;
+    set.add("b", 2, ProcSet::one(0))?;
+    Ok(set)
+}
+
+/// The contexts of the two tasks after their arrivals.
+static CONTEXTS: [Context; 2] = [
+    Context {
+        task: 0,
+        units: 0,
+        stints: 2,
+        moves: 1,
+        last: Some(1),
+        trail: 0,
+    },
+    Context {
+        task: 1,
+        units: 0,
+        stints: 1,
+        moves: 0,
+        last: Some(0),
+        trail: 1,
+    },
+];
+
+#[test]
+fn watched_by_calls(rt: HostRuntime) -> Result<(), Fail> {
+    let set = two_tasks(rt.alloc())?;
+    assert!(rt; set.len() == 2);
+    let made = watch_two(&rt, rt.alloc(), &set, 1, &OpenGate)?;
+    assert_eq!(rt; made.core.history().len(), 2);
+    assert!(rt; made.core.is_closed());
+    assert_eq!(rt; made.contexts.as_slice(), CONTEXTS.as_slice());
+    assert_eq!(rt; made.sightings.len(), 1);
+    let seen = made.sightings[0];
+    assert_eq!(rt; seen.told.count(), 2);
+    assert_eq!(rt; seen.told.on(0), Some(1));
+    assert_eq!(rt; seen.told.on(1), Some(0));
+    assert_eq!(rt; seen.told.linked().count(), 2);
+    assert!(rt; seen.first.count() <= seen.last.count() && seen.last.count() <= 2);
+    Ok(())
+}
+
+/// It counts the calls before and after the posts, and before the reads of two observers.
+#[derive(Drop)]
+struct CountingGate {
+    before: AtomicU64,
+    after: AtomicU64,
+    first_reads: AtomicU64,
+    second_reads: AtomicU64,
+}
+
+impl Gate for CountingGate {
+    fn at(&self, who: u32, point: u32) {
+        let count = match (who, point) {
+            (_, 0) => &self.before,
+            (_, 1) => &self.after,
+            (0, 3) => &self.first_reads,
+            (1, 3) => &self.second_reads,
+            _ => return,
+        };
+        count.fetch_add(1, SeqCst);
+    }
+}
+
+#[test]
+fn gate_is_called_at_each_read(rt: HostRuntime) -> Result<(), Fail> {
+    let gate = CountingGate {
+        before: AtomicU64::new(0),
+        after: AtomicU64::new(0),
+        first_reads: AtomicU64::new(0),
+        second_reads: AtomicU64::new(0),
+    };
+    let set = two_tasks(rt.alloc())?;
+    assert!(rt; set.len() == 2);
+    let made = watch_two(&rt, rt.alloc(), &set, 2, &gate)?;
+    assert_eq!(rt; made.sightings.len(), 2);
+    assert_eq!(rt; gate.before.load(SeqCst), 2);
+    assert_eq!(rt; gate.after.load(SeqCst), 2);
+    assert_eq!(rt; gate.first_reads.load(SeqCst), 100);
+    assert_eq!(rt; gate.second_reads.load(SeqCst), 100);
+    Ok(())
+}

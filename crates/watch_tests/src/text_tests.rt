@@ -1,0 +1,184 @@
+//! Whole texts of runs with observers, and what no clause says: that observers read beside the posts.
+ghost use Rattle.std.specs.Prelude.{◌<◌, ◌≤◌};
+
+use crate::plain::expect_read;
+use generated_input::make_input;
+use processor_seat::{Gate, OpenGate};
+use std::alloc::{AllocError, Global};
+use std::process::Abort;
+use std::sync::Wait;
+use std::sync::atomic::{AtomicBool, AtomicU64, Ordering};
+use std::test::Fail;
+use std::thread::Threads;
+use std::time::Clock;
+use std::{str, thread};
+use trace_reader::write_input;
+use watch_run::watched_text;
+
+/// Two tasks: the second one may run where the first one is, and the first one moves aside.
+static TWO_TASKS: &str =
+    "apa 1\nprocessors 2\ntask a 1 0-1\ntask b 2 0\n0 arrive a\n0 arrive b\nend\n";
+
+static SCHEDULE_OF_TWO_TASKS: &str = "schedule 1\nprocessors 2\ntask a 1 0-1\ntask b 2 0\n\
+history 2\n0 arrive a placed 0\n0 arrive b placed 0>1\n\
+contexts 2\na units 0 stints 2 moves 1 last 1 trail 0\n\
+b units 0 stints 1 moves 0 last 0 trail 1\nend\n";
+
+/// What an observer of the two entries may have read first and last: after none, after one, and after both.
+static READ_OF_TWO: [&str; 6] = [
+    "first 0 - last 0 -",
+    "first 0 - last 1 0",
+    "first 0 - last 2 0-1",
+    "first 1 0 last 1 0",
+    "first 1 0 last 2 0-1",
+    "first 2 0-1 last 2 0-1",
+];
+
+/// Whether a line is that of an observer of the two entries.
+fn is_line_of_two(alloc: Global, line: &str, number: usize) -> Result<bool, AllocError> {
+    for read in &READ_OF_TWO {
+        let expected = format!(in alloc; "observer {number} {read} told 2 0-1")?;
+        if line == expected.as_str() {
+            return Ok(true);
+        }
+    }
+    Ok(false)
+}
+
+/// The text is the schedule of the two tasks, the lines of two observers, and the end.
+fn expect_two(rt: &impl Abort, alloc: Global, text: &str) -> Result<(), Fail> {
+    let rest = text.strip_prefix(SCHEDULE_OF_TWO_TASKS).unwrap_or("");
+    let mut lines = rest.lines();
+    assert_eq!(rt; lines.next(), Some("observers 2"), "at {text:?}");
+    for number in 0usize..2 {
+        let line = lines.next().unwrap_or("");
+        assert!(rt; is_line_of_two(alloc, line, number)?, "at {line:?}");
+    }
+    assert_eq!(rt; lines.next(), Some("end"));
+    assert_eq!(rt; lines.next(), None);
+    assert!(rt; rest.ends_with("\nend\n"));
+    Ok(())
+}
+
+/// The text that is made of this input, with so many observers and this gate.
+fn watched<R: Threads + Wait + Clock + Sync + Abort, G: Gate + Sync>(
+    rt: &R,
+    alloc: Global,
+    input: &str,
+    observers: u32,
+    gate: &G,
+) -> Result<Vec<u8>, Fail>
+    requires { (1 ≤ observers) × (observers ≤ 8) }
+{
+    match watched_text(rt, alloc, input.as_bytes(), observers, gate) {
+        Ok(text) => Ok(text),
+        Err(status) => {
+            assert!(rt; false, "{status}");
+            Ok(Vec::new(alloc))
+        }
+    }
+}
+
+#[test]
+fn two_observers(rt: HostRuntime) -> Result<(), Fail> {
+    let text = watched(&rt, rt.alloc(), TWO_TASKS, 2, &OpenGate)?;
+    expect_two(&rt, rt.alloc(), str::from_utf8(&text).unwrap_or(""))
+}
+
+/// How often a gate looks before it lets a thread go on all the same.
+const MOST_LOOKS: u32 = 20_000_000;
+
+/// Waits until the count is so great, and reports whether it became so.
+fn wait_for(count: &AtomicU64, least: u64) -> bool {
+    for _ in 0..MOST_LOOKS {
+        if count.load(Ordering::SeqCst) >= least {
+            return true;
+        }
+        thread::yield_now();
+    }
+    false
+}
+
+/// It holds stream 0 after its first post until observer 0 is before its third read, and observer 0 before its second read
+/// until stream 0 has posted once. So neither can end before the other begins.
+#[derive(Drop)]
+struct ObserverGate {
+    posts: AtomicU64,
+    reads: AtomicU64,
+    late: AtomicBool,
+}
+
+impl ObserverGate {
+    fn hold(&self, count: &AtomicU64, least: u64) {
+        if !wait_for(count, least) {
+            self.late.store(true, Ordering::SeqCst);
+        }
+    }
+}
+
+impl Gate for ObserverGate {
+    fn at(&self, who: u32, point: u32) {
+        if who == 0 && point == 1 {
+            let before = self.posts.fetch_add(1, Ordering::SeqCst);
+            if before == 0 {
+                self.hold(&self.reads, 3);
+            }
+        } else if who == 0 && point == 3 {
+            let before = self.reads.fetch_add(1, Ordering::SeqCst);
+            if before == 1 {
+                self.hold(&self.posts, 1);
+            }
+        }
+    }
+}
+
+#[test]
+fn observers_read_beside_posts(rt: HostRuntime) -> Result<(), Fail> {
+    let gate = ObserverGate {
+        posts: AtomicU64::new(0),
+        reads: AtomicU64::new(0),
+        late: AtomicBool::new(false),
+    };
+    let text = watched(&rt, rt.alloc(), TWO_TASKS, 2, &gate)?;
+    assert!(rt; !gate.late.load(Ordering::SeqCst));
+    assert_eq!(rt; gate.posts.load(Ordering::SeqCst), 2);
+    assert_eq!(rt; gate.reads.load(Ordering::SeqCst), 100);
+    expect_two(&rt, rt.alloc(), str::from_utf8(&text).unwrap_or(""))
+}
+
+/// Appends a line of a generated input, and an event's with this stream in the place of stream 0; reports whether it is one.
+fn write_on_stream(text: &mut String, line: &str, stream: u32) -> Result<bool, AllocError> {
+    match line.strip_prefix("0 ") {
+        Some(event) => {
+            writeln!(text, "{stream} {event}")?;
+            Ok(true)
+        }
+        None => {
+            writeln!(text, "{line}")?;
+            Ok(false)
+        }
+    }
+}
+
+/// A generated input of 60 events on sixteen streams in turn, for 6 processors and 10 tasks.
+fn on_sixteen_streams(alloc: Global, number: u64) -> Result<String, Fail> {
+    let input = make_input(alloc, number, 6, 10, 60)?;
+    let made = write_input(alloc, &input)?;
+    let mut spread = String::new(alloc);
+    let mut i = 0u32;
+    for line in str::from_utf8(&made).unwrap_or("").lines() {
+        let is_event = write_on_stream(&mut spread, line, i % 16)?;
+        i = i.wrapping_add(is_event as u32);
+    }
+    Ok(spread)
+}
+
+#[test]
+fn eight_observers_beside_sixteen_streams(rt: HostRuntime) -> Result<(), Fail> {
+    let input = on_sixteen_streams(rt.alloc(), 7)?;
+    for _ in 0..100 {
+        let text = watched(&rt, rt.alloc(), &input, 8, &OpenGate)?;
+        expect_read(&rt, rt.alloc(), str::from_utf8(&text).unwrap_or(""), 60, 8)?;
+    }
+    Ok(())
+}
