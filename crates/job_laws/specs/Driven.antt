@@ -11,7 +11,7 @@ use Rattle.link_state.specs.Placement.{IsBest}
 use Rattle.job_text.specs.Jobs.{released_by}
 use Rattle.job_text.specs.JobInput.{JobInputData, job_at}
 use Rattle.job_text.specs.declared.input.JobTask.{JobTask}
-use Rattle.job_release.specs.Moments.{elapsed, state_at, service_of}
+use Rattle.job_laws.specs.Moments.{elapsed, state_at, service_of}
 
 -- an arrival, a departure or a tick
 abbrev pub IsJobEvent : Event → Type 0

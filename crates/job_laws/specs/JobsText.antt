@@ -10,7 +10,7 @@ use Rattle.text_fields.specs.EventText.{name_of}
 use Rattle.text_fields.specs.LineText.{line}
 use Rattle.job_text.specs.Jobs.{release_of, job_count}
 use Rattle.job_text.specs.JobInput.{JobInputData, job_at}
-use Rattle.job_release.specs.Moments.{service_of}
+use Rattle.job_laws.specs.Moments.{service_of}
 
 -- the first of two that there is
 abbrev pub first_of : Option ℕ → Option ℕ → Option ℕ

@@ -10,7 +10,7 @@ use Rattle.scheduler_reply.specs.declared.reply.Entry.{Entry}
 use Rattle.link_state.specs.State.{State, is_linked}
 use Rattle.link_state.specs.History.{state_after, state_after_reply, effect_of}
 use Rattle.certificate_laws.proofs.Counts.{count_below-agree, count_below-more, count_below-same, count_below-zero}
-use Rattle.job_release.specs.Moments.{is_tick, units_of, elapsed, change_by, changes_by, state_at, service_of}
+use Rattle.job_laws.specs.Moments.{is_tick, units_of, elapsed, change_by, changes_by, state_at, service_of}
 
 abbrev units : Entry → ℕ
 units entry = units_of entry.event

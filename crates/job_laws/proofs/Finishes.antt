@@ -11,10 +11,10 @@ use Rattle.job_text.specs.Jobs.{release_of, released_by}
 use Rattle.job_text.specs.JobInput.{JobInputData, IsJobInput, job_at, no_job}
 use Rattle.job_text.specs.declared.input.JobTask.{JobTask}
 use Rattle.job_text.proofs.Released.{at_most, release_more}
-use Rattle.job_release.specs.Driven.{RunsJobs}
-use Rattle.job_release.specs.Laws.{FinishFollowsRelease}
-use Rattle.job_release.specs.Moments.{state_at, service_of, IsFinish, IsUnfinished}
-use Rattle.job_release.proofs.Moments.{no_service}
+use Rattle.job_laws.specs.Driven.{RunsJobs}
+use Rattle.job_laws.specs.Laws.{FinishFollowsRelease}
+use Rattle.job_laws.specs.Moments.{state_at, service_of, IsFinish, IsUnfinished}
+use Rattle.job_laws.proofs.Moments.{no_service}
 
 not_before : (a b : ℕ) → b ≤ a → nat_lt a b ≡ false
 not_before a b from = grind (arith, nat_tests)

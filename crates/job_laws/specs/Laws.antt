@@ -4,9 +4,9 @@ use Rattle.scheduler_reply.specs.declared.reply.Entry.{Entry}
 use Rattle.link_state.specs.State.{start_of}
 use Rattle.job_text.specs.Jobs.{release_of}
 use Rattle.job_text.specs.JobInput.{JobInputData, IsJobInput, job_at}
-use Rattle.job_release.specs.Driven.{RunsJobs}
-use Rattle.job_release.specs.JobsText.{jobs_text}
-use Rattle.job_release.specs.Moments.{service_of, IsFinish}
+use Rattle.job_laws.specs.Driven.{RunsJobs}
+use Rattle.job_laws.specs.JobsText.{jobs_text}
+use Rattle.job_laws.specs.Moments.{service_of, IsFinish}
 
 -- a job that is finished was released at least its cost before
 abbrev pub FinishFollowsRelease : Type 0

@@ -1,32 +1,32 @@
 -- The best set of each moment follows from what is ready, and what is ready from the service so far. So the service is a function of
 -- the input, and so is the text.
-use Rattle.std.proofs.Common.{◌≡◌, ℕ, zero, suc, ◌+◌, ◌*◌, ◌<◌, ◌≤◌, Bool, true, false, List, [], ◌∷◌, length, take, nat_le, Option, All, IsTrue, refl, sym, ap, ◌∙◌, subst, inl, inr, arith}
+use Rattle.std.proofs.Common.{◌≡◌, ℕ, zero, suc, ◌+◌, ◌*◌, ◌<◌, ◌≤◌, Bool, true, false, List, [], ◌∷◌, length, take, nat_le, Option, All, refl, sym, ap, ◌∙◌, subst, inl, inr, arith}
 use Rattle.std.specs.List.{flat_map, range_with_len}
 use Rattle.std.proofs.lemmas.Bool.{cases_Bool, cases_lt}
 use Rattle.std.proofs.lemmas.List.{length-map}
 use Rattle.std.proofs.lemmas.List.Elements.{All-head, All-tail, All-take}
-use Rattle.affinity_mask.specs.ProcSet.{has}
 use Rattle.task_set.specs.Event.{IsOfVersion}
 use Rattle.task_set.specs.TaskSet.{TaskData}
 use Rattle.task_set.specs.declared.event.Event.{Event}
 use Rattle.task_set.specs.declared.event.Event.TheVariants.{Arrive, Depart, Tick, Affinity, Offline, Online}
 use Rattle.scheduler_reply.specs.declared.reply.Entry.{Entry}
-use Rattle.link_state.specs.State.{State, IsState, HasSameTasks, HasSameMasks, start_of, task_count, effective_mask, priority_of, is_ready, is_linked}
+use Rattle.link_state.specs.State.{State, IsState, HasSameTasks, HasSameMasks, start_of, task_count, is_ready, is_linked}
 use Rattle.link_state.specs.History.{state_after, effect_of}
-use Rattle.link_state.specs.Placement.{TaskTest, IsBest, IsBetter, IsPlaceable}
+use Rattle.link_state.specs.Placement.{TaskTest, IsBest}
 use Rattle.link_state.proofs.BestOnce.{best_is_unique}
 use Rattle.link_state.proofs.Histories.{IsState-state_at}
 use Rattle.link_state.proofs.SameTasks.{same_tasks-history, same_count, reply_keeps_masks}
 use Rattle.link_state.proofs.Unique.{ready_number}
 use Rattle.certificate_laws.proofs.Counts.{count_below-more, count_below-same}
+use Rattle.certificate_laws.proofs.SameBest.{IsBest-same}
 use Rattle.job_text.specs.Jobs.{release_of, job_count}
 use Rattle.job_text.specs.JobInput.{JobInputData, IsJobInput, job_at}
 use Rattle.text_fields.specs.EventText.{name_of}
-use Rattle.job_release.specs.Driven.{RunsJobs, IsJobEvent}
-use Rattle.job_release.specs.JobsText.{first_upto, job_line, line_of_job, lines_of_task, jobs_text}
-use Rattle.job_release.specs.Laws.{InputHasOneService, InputHasOneText}
-use Rattle.job_release.specs.Moments.{changes_by, state_at, service_of}
-use Rattle.job_release.proofs.Moments.{no_service, state_by_entries}
+use Rattle.job_laws.specs.Driven.{RunsJobs, RunsTheBest, IsJobEvent}
+use Rattle.job_laws.specs.JobsText.{first_upto, job_line, line_of_job, lines_of_task, jobs_text}
+use Rattle.job_laws.specs.Laws.{InputHasOneService, InputHasOneText}
+use Rattle.job_laws.specs.Moments.{changes_by, state_at, service_of}
+use Rattle.job_laws.proofs.Moments.{no_service, state_by_entries}
 
 -- ---- what stays in a run
 of_first_version : (event : Event) → IsJobEvent event → IsOfVersion 1 event
@@ -43,49 +43,6 @@ same_masks s (first ∷ rest) events =
     let here = reply_keeps_masks s first.event first.reply (of_first_version first.event (All-head (λ (entry : Entry). IsJobEvent entry.event) first rest events)) in
     let later = same_masks (effect_of s first) rest (All-tail (λ (entry : Entry). IsJobEvent entry.event) first rest events) in
     record { masks = later.masks ∙ here.masks; online = later.online ∙ here.online }
-
--- ---- what is best
--- what is best in one state is best in another one with the same tasks and masks
-module _ (old new : State) (tasks : HasSameTasks old new) (masks : HasSameMasks old new) where
-  same_mask : (t : ℕ) → effective_mask new t ≡ effective_mask old t
-  same_mask t = rw (masks.masks, masks.online) refl
-
-  same_priority : (t : ℕ) → priority_of new t ≡ priority_of old t
-  same_priority t = rw tasks.priorities refl
-
-  placeable_before : (set : TaskTest) → IsPlaceable new set → IsPlaceable old set
-  placeable_before set (place, is) = (
-    place,
-    record {
-      allowed = λ t member. (let P : ℕ → Type 0 = λ mask. IsTrue (has mask (place t)) in subst P (same_mask t) (is.allowed t member));
-      apart = is.apart;
-    },
-  )
-
-  placeable_after : (set : TaskTest) → IsPlaceable old set → IsPlaceable new set
-  placeable_after set (place, is) = (
-    place,
-    record {
-      allowed = λ t member. (let P : ℕ → Type 0 = λ mask. IsTrue (has mask (place t)) in subst P (sym (same_mask t)) (is.allowed t member));
-      apart = is.apart;
-    },
-  )
-
-  better_after : (one other : TaskTest) → IsBetter old one other → IsBetter new one other
-  better_after one other better = record {
-    task = better.task;
-    in_first = better.in_first;
-    not_in_second = better.not_in_second;
-    most_urgent = λ u differ. (let urgent = better.most_urgent u differ in omega (arith, same_priority better.task, same_priority u));
-  }
-
-  best_before : (ready same best : TaskTest) → ((t : ℕ) → ready t ≡ same t) → IsBest new ready best → IsBest old same best
-  best_before ready same best agree is = record {
-    subset = λ t member. sym (agree t) ∙ is.subset t member;
-    placeable = placeable_before best is.placeable;
-    none_better = λ other subset placeable better.
-        is.none_better other (λ t member. agree t ∙ subset t member) (placeable_after other placeable) (better_after other best better);
-  }
 
 same_answer : (a b : Bool) → (a ≡ true → b ≡ true) → (b ≡ true → a ≡ true) → a ≡ b
 same_answer true true to from = refl
@@ -106,6 +63,12 @@ module _ (input : JobInputData) (valid : IsJobInput input) where
     masks_at =
         let prefix = state_by_entries start history x 0 in
         subst (HasSameMasks start) (sym prefix.2) (same_masks start (take prefix.0 history) (All-take (λ (entry : Entry). IsJobEvent entry.event) prefix.0 history runs.events))
+
+    -- what is best at the moment is best at the start
+    best_at_start : (ready : TaskTest) → ((t : ℕ) → is_ready (state_at start history x) t ≡ ready t) → RunsTheBest (state_at start history x) → IsBest start ready (is_linked (state_at start history x))
+    best_at_start ready agree best =
+        let now = state_at start history x in
+        IsBest-same start now tasks_at masks_at (is_ready now) ready (is_linked now) (is_linked now) agree (λ t. refl) best
 
     -- only a task of the input is ready
     none_beyond : (t : ℕ) → length input.jobs ≤ t → is_ready (state_at start history x) t ≡ false
@@ -140,8 +103,7 @@ module _ (input : JobInputData) (valid : IsJobInput input) where
     one_linked x below agree t =
         let ready = is_ready (state_at start other x) in
         best_is_unique start ready (is_linked (state_at start one x)) (is_linked (state_at start other x)) numbers
-        (best_before start (state_at start one x) (tasks_at one runs x) (masks_at one runs x) (is_ready (state_at start one x)) ready (is_linked (state_at start one x)) agree (runs.best x below))
-        (best_before start (state_at start other x) (tasks_at other also x) (masks_at other also x) ready ready (is_linked (state_at start other x)) (λ u. refl) (also.best x below)) t
+        (best_at_start one runs x ready agree (runs.best x below)) (best_at_start other also x ready (λ u. refl) (also.best x below)) t
       where
         numbers : (u : ℕ) → is_ready (state_at start other x) u ≡ true → u < task_count start
         numbers u is = elim (cases_lt u (length input.jobs)) [

@@ -8,9 +8,9 @@ use Rattle.std.proofs.lemmas.List.FromFn.{map-range_with_len_more}
 use Rattle.affinity_mask.specs.Number.{canonical_number}
 use Rattle.scheduler_reply.specs.declared.reply.Entry.{Entry}
 use Rattle.link_state.specs.State.{State}
-use Rattle.job_release.specs.JobsText.{first_upto, finish_of, response_text, job_line, lines_of_task, jobs_text}
+use Rattle.job_laws.specs.JobsText.{first_upto, finish_of, response_text, job_line, lines_of_task, jobs_text}
 use Rattle.job_text.specs.JobInput.{JobInputData}
-use Rattle.job_release.specs.Moments.{service_of, IsFinish, IsUnfinished}
+use Rattle.job_laws.specs.Moments.{service_of, IsFinish, IsUnfinished}
 
 -- ---- the finish of a job
 nothing_upto : (test : ℕ → Bool) (n : ℕ) → ((x : ℕ) → x ≤ n → test x ≡ false) → first_upto test n ≡ None
