@@ -9,7 +9,7 @@ use Rattle.link_state.proofs.Masks.{effective_mask_online}
 use Rattle.link_state.proofs.Leaving.{task_on-stays}
 use Rattle.link_state.proofs.Linked.{is_linked-from_on, task_on-linked, place_in, not_linked-from_on, not_on}
 use Rattle.link_state.proofs.Readiness.{IsWaiting-state_with_ready}
-use Rattle.weak_apa.specs.Stable.{IsWeaklyStable, IsStableBeside, IsToBePlaced, IsKeptOut}
+use Rattle.weak_step.specs.Stable.{IsWeaklyStable, IsStableBeside, IsToBePlaced, IsKeptOut}
 
 -- who waits is another task than one that is absent
 waiting_is_other : (s : State) (t w : ℕ) → is_ready s t ≡ false → IsWaiting s w → w ≢ t

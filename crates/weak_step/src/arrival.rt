@@ -2,8 +2,8 @@
 ghost use Rattle.std.specs.Prelude.{◌≡◌, ℕ, ◌<◌, ◌^◌, List, IfSome, MatchOption, true, false};
 ghost use Rattle.link_state.specs.State.{IsState, IsWaiting, task_count, is_ready, effective_mask, priority_of};
 ghost use Rattle.affinity_mask.specs.ProcSet.{has};
-ghost use Rattle.weak_apa.specs.Stable.{IsWeaklyStable, IsToBePlaced};
-ghost use Rattle.weak_apa.specs.Step.{WeaklyComes, IsPlacedInTurns, IsTurn, GoesOn};
+ghost use Rattle.weak_step.specs.Stable.{IsWeaklyStable, IsToBePlaced};
+ghost use Rattle.weak_step.specs.Step.{WeaklyComes, IsPlacedInTurns, IsTurn, GoesOn};
 
 use link_table::{Chain, Links};
 

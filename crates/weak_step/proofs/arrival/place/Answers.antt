@@ -1,5 +1,5 @@
 use Rattle.std.proofs.Common.{[], ◌∷◌}
-use Rattle.weak_apa.proofs.arrival.place.Goals as goal
+use Rattle.weak_step.proofs.arrival.place.Goals as goal
 
 pub loop-out-preserved : goal.loop-out-preserved
 loop-out-preserved c = record {

@@ -7,8 +7,8 @@ use Rattle.link_state.specs.State.{State, IsState, IsWaiting, IsIdle, task_on, t
 use Rattle.link_state.specs.Step.{IsOccupied, IsNobodyOn, IsLeastUrgentOn, IsMostUrgentInto}
 use Rattle.link_state.proofs.Linked.{linked_number, not_on}
 use Rattle.link_state.proofs.Masks.{effective_mask_online}
-use Rattle.weak_apa.specs.Stable.{IsKeptOut}
-use Rattle.weak_apa.specs.Step.{IsMostUrgentAt}
+use Rattle.weak_step.specs.Stable.{IsKeptOut}
+use Rattle.weak_step.specs.Step.{IsMostUrgentAt}
 
 module _ (s : State) (x : ℕ) where
   -- where no processor of the effective mask is idle, each is occupied

@@ -1,6 +1,6 @@
 use Rattle.task_set.specs.declared.event.Event.TheVariants.{Arrive, Affinity, Offline, Online}
-use Rattle.weak_apa.proofs.Followed.{weak_step_follows}
-use Rattle.weak_apa.proofs.weak.apply_to.Goals as goal
+use Rattle.weak_step.proofs.Followed.{weak_step_follows}
+use Rattle.weak_step.proofs.weak.apply_to.Goals as goal
 
 pub returns-in-Arrive-clause-follows : goal.returns-in-Arrive-clause-follows
 returns-in-Arrive-clause-follows c =

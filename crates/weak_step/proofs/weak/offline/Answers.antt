@@ -1,8 +1,8 @@
 use Rattle.std.proofs.Common.{sym}
 use Rattle.link_state.specs.State.{state_after_leaving}
 use Rattle.link_state.proofs.Linked.{linked_number}
-use Rattle.weak_apa.proofs.Leaving.{beside_from_stable, stable_left, stable_offline}
-use Rattle.weak_apa.proofs.weak.offline.Goals as goal
+use Rattle.weak_step.proofs.Leaving.{beside_from_stable, stable_left, stable_offline}
+use Rattle.weak_step.proofs.weak.offline.Goals as goal
 
 pub returns-in_default-clause-stable : goal.returns-in_default-clause-stable
 returns-in_default-clause-stable c =

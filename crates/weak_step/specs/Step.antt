@@ -11,7 +11,7 @@ use Rattle.task_set.specs.declared.event.Event.TheVariants.{Arrive, Depart, Tick
 use Rattle.link_state.specs.State.{State, task_on, task_count, is_ready, priority_of, effective_mask, IsIdle, IsWaiting, IsMoreUrgent, state_with_ready, state_with_absent, state_with_mask, state_with_online, state_with_offline, state_after_leaving}
 use Rattle.link_state.specs.Chain.{CanEnterAt, Shifted}
 use Rattle.link_state.specs.Step.{IsOccupied, IsLeastUrgentOn}
-use Rattle.weak_apa.specs.Stable.{IsKeptOut}
+use Rattle.weak_step.specs.Stable.{IsKeptOut}
 
 -- x goes on p, and whoever was there waits then: a shift along the chain of this one processor
 abbrev pub GoesOn : State → ℕ → ℕ → State → Type 0

@@ -16,7 +16,7 @@ use Rattle.link_state.specs.Step.{Comes, Fills, LeaveStep, SchedulerStep}
 use Rattle.link_state.specs.History.{state_after_came, state_after_gone, state_after_entering}
 use Rattle.link_state.proofs.Readiness.{ready_already}
 use Rattle.link_state.proofs.Steps.{comes_effect, fills_effect}
-use Rattle.weak_apa.specs.Step.{WeakStep, WeaklyComes, WeaklyFills, WeaklyLeaves, IsPlacedInTurns, without_links, Follows}
+use Rattle.weak_step.specs.Step.{WeakStep, WeaklyComes, WeaklyFills, WeaklyLeaves, IsPlacedInTurns, without_links, Follows}
 
 -- ---- what changes nothing, and what is undone
 absent_already : (s : State) (t : ℕ) → is_ready s t ≡ false → state_with_absent s t ≡ s

@@ -3,8 +3,8 @@ ghost use Rattle.std.specs.Prelude.{◌≡◌, ◌<◌, IfOk};
 ghost use Rattle.task_set.specs.TaskSet.{IsMask};
 ghost use Rattle.link_state.specs.State.{IsState, start_of, task_count};
 ghost use Rattle.link_state.specs.Step.{IsEventFor};
-ghost use Rattle.weak_apa.specs.Stable.{IsWeaklyStable};
-ghost use Rattle.weak_apa.specs.Step.{WeakStep, Follows, WeaklyArrives, WeaklyDeparts, WeaklyMasks, WeaklyGoesOff, WeaklyComesOn};
+ghost use Rattle.weak_step.specs.Stable.{IsWeaklyStable};
+ghost use Rattle.weak_step.specs.Step.{WeakStep, Follows, WeaklyArrives, WeaklyDeparts, WeaklyMasks, WeaklyGoesOff, WeaklyComesOn};
 
 use crate::arrival::come;
 use crate::departure::{fill, withdraw};
@@ -27,7 +27,7 @@ impl Model for Weak {
 
     ghost view = { λ weak. weak.links };
 
-    ghost use Rattle.weak_apa.specs.Stable.{IsWeaklyStable};
+    ghost use Rattle.weak_step.specs.Stable.{IsWeaklyStable};
 
     ghost invariant = { λ weak. IsWeaklyStable weak.links };
 }

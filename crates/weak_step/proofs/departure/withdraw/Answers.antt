@@ -1,6 +1,6 @@
 use Rattle.std.proofs.Common.{inr}
-use Rattle.weak_apa.proofs.Leaving.{stable_left}
-use Rattle.weak_apa.proofs.departure.withdraw.Goals as goal
+use Rattle.weak_step.proofs.Leaving.{stable_left}
+use Rattle.weak_step.proofs.departure.withdraw.Goals as goal
 
 pub fill-requires-clause-stable : goal.fill-requires-clause-stable
 fill-requires-clause-stable c =

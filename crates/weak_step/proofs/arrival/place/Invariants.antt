@@ -1,8 +1,8 @@
 use Rattle.std.proofs.Common.{ℕ, ◌-◌, ◌^◌, List}
 use Rattle.link_state.specs.State.{State, IsState, priority_of}
-use Rattle.weak_apa.specs.Stable.{IsToBePlaced}
-use Rattle.weak_apa.specs.Step.{IsPlacedInTurns}
-use Rattle.weak_apa.proofs.arrival.place.Given as goal
+use Rattle.weak_step.specs.Stable.{IsToBePlaced}
+use Rattle.weak_step.specs.Step.{IsPlacedInTurns}
+use Rattle.weak_step.proofs.arrival.place.Given as goal
 
 -- whoever is to be placed next, the turns of it complete those of the first
 abbrev pub invariant-loop-out : goal.invariant-loop-out

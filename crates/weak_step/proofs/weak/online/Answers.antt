@@ -1,6 +1,6 @@
 use Rattle.std.proofs.Common.{sym, ◌∙◌}
-use Rattle.weak_apa.proofs.Leaving.{nobody_offline, stable_online}
-use Rattle.weak_apa.proofs.weak.online.Goals as goal
+use Rattle.weak_step.proofs.Leaving.{nobody_offline, stable_online}
+use Rattle.weak_step.proofs.weak.online.Goals as goal
 
 pub set_online-requires-clause-nobody : goal.set_online-requires-clause-nobody
 set_online-requires-clause-nobody c = nobody_offline c.args.links.now c.is_online.ensures.valid c.args.p (sym c.is_online.ensures.value ∙ c.if-is_online.false)

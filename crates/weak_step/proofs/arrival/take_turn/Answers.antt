@@ -3,9 +3,9 @@ use Rattle.std.proofs.lemmas.Bool.{and_parts}
 use Rattle.affinity_mask.specs.ProcSet.{has}
 use Rattle.link_state.specs.State.{effective_mask, task_on}
 use Rattle.link_state.proofs.Linked.{linked_number}
-use Rattle.weak_apa.proofs.Looking.{own_occupied, kept_out_by_none, kept_out_by_least}
-use Rattle.weak_apa.proofs.Placing.{stable_on_idle, stable_displacing, stable_waiting}
-use Rattle.weak_apa.proofs.arrival.take_turn.Goals as goal
+use Rattle.weak_step.proofs.Looking.{own_occupied, kept_out_by_none, kept_out_by_least}
+use Rattle.weak_step.proofs.Placing.{stable_on_idle, stable_displacing, stable_waiting}
+use Rattle.weak_step.proofs.arrival.take_turn.Goals as goal
 
 pub returns-in-Some-clause-next : goal.returns-in-Some-clause-next
 returns-in-Some-clause-next c =

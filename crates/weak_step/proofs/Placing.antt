@@ -11,8 +11,8 @@ use Rattle.link_state.proofs.Masks.{effective_mask_below}
 use Rattle.link_state.proofs.Shifts.{occupant-first, occupant-later, task_on-state_after_shift}
 use Rattle.link_state.proofs.Unique.{ready_number}
 use Rattle.certificate_laws.proofs.KeptByShifts.{waited}
-use Rattle.weak_apa.specs.Stable.{IsWeaklyStable, IsStableBut, IsStableBeside, IsKeptOut, IsToBePlaced}
-use Rattle.weak_apa.specs.Step.{IsMostUrgentAt}
+use Rattle.weak_step.specs.Stable.{IsWeaklyStable, IsStableBut, IsStableBeside, IsKeptOut, IsToBePlaced}
+use Rattle.weak_step.specs.Step.{IsMostUrgentAt}
 
 pub one_is_simple : (p : ℕ) → IsSimple (p ∷ [])
 one_is_simple p i j d lt fits = absurd (omega arith)

@@ -1,8 +1,8 @@
 //! A task leaves the weak scheduler.
 ghost use Rattle.std.specs.Prelude.{◌≡◌, ◌<◌, true, false};
 ghost use Rattle.link_state.specs.State.{IsState, HasSameTasks, task_count, is_ready, task_on};
-ghost use Rattle.weak_apa.specs.Stable.{IsWeaklyStable, IsStableBeside};
-ghost use Rattle.weak_apa.specs.Step.{WeaklyLeaves, WeaklyFills};
+ghost use Rattle.weak_step.specs.Stable.{IsWeaklyStable, IsStableBeside};
+ghost use Rattle.weak_step.specs.Step.{WeaklyLeaves, WeaklyFills};
 
 use crate::arrival::go_on;
 use affinity_mask::ProcSet;

@@ -1,6 +1,6 @@
-use Rattle.weak_apa.proofs.Looking.{most_urgent_at}
-use Rattle.weak_apa.proofs.Placing.{stable_filled}
-use Rattle.weak_apa.proofs.departure.fill.Goals as goal
+use Rattle.weak_step.proofs.Looking.{most_urgent_at}
+use Rattle.weak_step.proofs.Placing.{stable_filled}
+use Rattle.weak_step.proofs.departure.fill.Goals as goal
 
 pub returns-in-Some-clause-stable : goal.returns-in-Some-clause-stable
 returns-in-Some-clause-stable c =
