@@ -4,7 +4,6 @@ pub mod Meetings
 pub mod Unions
 pub mod Runs
 mod Words
-mod Examples
 pub mod Numbers
 pub mod Items
 pub mod ListTexts

@@ -1,0 +1,2 @@
+mod MaskExamples
+mod TaskExamples

@@ -13,5 +13,6 @@ pub mod KeptByShifts
 pub mod KeptStates
 pub mod Passed
 pub mod Ranked
+pub mod SameBest
 pub mod StepsPass
 pub mod Touched

@@ -10,7 +10,7 @@ use Rattle.job_text.specs.JobInput.{JobInputData, IsJobInput, IsJobTask, job_at,
 use Rattle.job_text.specs.declared.input.JobTask.{JobTask}
 use Rattle.job_release.specs.Driving.{AreFresh, IsFresh, IsRowAt, IsDriving, jobs_of, row_at, settled}
 use Rattle.job_release.specs.declared.row.JobRow.{JobRow}
-use Rattle.job_release.proofs.Moments.{no_service}
+use Rattle.job_laws.proofs.Moments.{no_service}
 
 -- ---- the list of rows
 pub fresh_none : (jobs : List JobTask) (rows : List JobRow) → rows ≡ [] → AreFresh jobs 0 rows

@@ -1,5 +1,3 @@
-mod Moments
-mod Readied
 mod RowSteps
 mod RowChanges
 mod WorkSums
@@ -8,6 +6,3 @@ mod DriveSteps
 mod DriveTicks
 mod Fresh
 mod Runs
-mod JobsWritten
-mod Finishes
-pub mod OneRun

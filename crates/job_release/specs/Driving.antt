@@ -7,8 +7,8 @@ use Rattle.sched_core.specs.CoreData.{CoreData, IsCore}
 use Rattle.job_text.specs.Jobs.{release_of, total_jobs}
 use Rattle.job_text.specs.JobInput.{JobInputData, IsJobTask, job_at}
 use Rattle.job_text.specs.declared.input.JobTask.{JobTask}
-use Rattle.job_release.specs.Driven.{IsJobEvent, IsReadyWhileWorkIsLeft, GetsNoMore}
-use Rattle.job_release.specs.Moments.{elapsed, service_of, IsFinish}
+use Rattle.job_laws.specs.Driven.{IsJobEvent, IsReadyWhileWorkIsLeft, GetsNoMore}
+use Rattle.job_laws.specs.Moments.{elapsed, service_of, IsFinish}
 use Rattle.job_release.specs.declared.driver.Driver.{Driver}
 use Rattle.job_release.specs.declared.row.JobRow.{JobRow}
 

@@ -1,7 +1,3 @@
-pub mod Driven
 pub mod Driving
 pub mod JobRun
-pub mod JobsText
-pub mod Laws
-pub mod Moments
 pub mod RunView

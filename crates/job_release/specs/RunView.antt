@@ -4,7 +4,7 @@ use Rattle.sched_core.specs.CoreData.{CoreData, IsCore}
 use Rattle.job_text.specs.Jobs.{job_count}
 use Rattle.job_release.specs.Driving.{IsRow, done_of, jobs_of, row_at}
 use Rattle.job_release.specs.JobRun.{JobRunData}
-use Rattle.job_release.specs.Moments.{IsFinish, IsUnfinished}
+use Rattle.job_laws.specs.Moments.{IsFinish, IsUnfinished}
 use Rattle.job_release.specs.declared.row.JobRow.{JobRow}
 use Rattle.job_release.specs.declared.run.JobRun.TheInside.{Inside}
 

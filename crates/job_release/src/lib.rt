@@ -2,7 +2,6 @@
 #![tactic(auto)]
 
 mod driver;
-pub mod laws;
 mod row;
 mod run;
 mod write;

@@ -3,9 +3,9 @@ use Rattle.std.proofs.Common.{sym, ap, ◌∙◌, subst}
 use Rattle.job_text.specs.JobInput.{JobInputData}
 use Rattle.job_text.proofs.Answered.{text_has_one_input}
 use Rattle.job_text.proofs.Decided.{text_is_of_valid_input}
-use Rattle.job_release.specs.Driven.{RunsJobs}
-use Rattle.job_release.specs.JobsText.{jobs_text}
-use Rattle.job_release.proofs.OneRun.{input_has_one_text}
+use Rattle.job_laws.specs.Driven.{RunsJobs}
+use Rattle.job_laws.specs.JobsText.{jobs_text}
+use Rattle.job_laws.proofs.OneRun.{input_has_one_text}
 use Rattle.job_run.specs.Laws.{BytesHaveOneText}
 
 pub bytes_have_one_text : BytesHaveOneText

@@ -6,8 +6,8 @@ use Rattle.job_text.specs.JobInput.{JobInputData}
 use Rattle.job_text.specs.JobText.{IsJobText, IsJobRefused}
 use Rattle.job_text.specs.declared.fault.JobFault.{JobFault}
 use Rattle.job_text.specs.declared.fault.JobKind.{JobKind}
-use Rattle.job_release.specs.Driven.{RunsJobs}
-use Rattle.job_release.specs.JobsText.{jobs_text}
+use Rattle.job_laws.specs.Driven.{RunsJobs}
+use Rattle.job_laws.specs.JobsText.{jobs_text}
 use Rattle.program_status.specs.Refusal.{IsAnsweredInput}
 use Rattle.program_status.specs.Status.{status_of_number}
 use Rattle.program_status.specs.declared.status.Status.{Status}

@@ -9,7 +9,7 @@ use Rattle.link_state.specs.Placement.{TaskTest, IsSubset, IsPlaceable, IsBetter
 use Rattle.link_state.specs.Certificate.{IsCertificate}
 use Rattle.link_state.proofs.Linked.{place_in, task_on-linked}
 use Rattle.link_state.proofs.BestOnce.{best_is_unique}
-use Rattle.placement_laws.proofs.Greedy.{IsBest-same}
+use Rattle.certificate_laws.proofs.SameBest.{IsBest-same}
 use Rattle.nested_masks.specs.Laminar.{is_within}
 use Rattle.nested_masks.specs.Counting.{Joins, IsPlaced}
 use Rattle.nested_masks.specs.NestedData.{NestedData, IsNested, KeepsOut, ready_of, linked_of, mask_in, priority_in, state_of, IsBestByCounts, IsPlacedIn, CertifiesEverywhere, IsTheOnlyBest}

@@ -5,5 +5,7 @@
 #![tactic(auto)]
 
 mod run;
+#[cfg(test)]
+mod tests;
 
 pub use run::nested_text;

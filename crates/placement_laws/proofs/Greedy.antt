@@ -7,10 +7,9 @@ use Rattle.std.proofs.lemmas.Bool.{cases_Bool, cases_eq, true≢false, or_cases,
 use Rattle.std.proofs.lemmas.List.{length-map}
 use Rattle.std.proofs.lemmas.List.Folds.{list_any-append, list_any_at}
 use Rattle.std.proofs.lemmas.List.Quantifiers.{all_pairs_push}
-use Rattle.affinity_mask.specs.ProcSet.{has}
 use Rattle.task_set.specs.TaskSet.{TaskData, SetData}
-use Rattle.link_state.specs.State.{State, IsState, HasSameTasks, HasSameMasks, task_count, priority_of, effective_mask, is_ready, is_linked, is_task, start_of, IsMoreUrgent}
-use Rattle.link_state.specs.Placement.{TaskTest, IsSubset, IsBest}
+use Rattle.link_state.specs.State.{State, IsState, HasSameTasks, HasSameMasks, task_count, priority_of, is_ready, is_linked, is_task, start_of, IsMoreUrgent}
+use Rattle.link_state.specs.Placement.{IsSubset, IsBest}
 use Rattle.link_state.proofs.Linked.{place_in, task_on-linked}
 use Rattle.link_state.proofs.SameTasks.{same_count}
 use Rattle.placement_laws.specs.Admission.{is_among, IsMostUrgentAbsent, Admitted}
@@ -18,42 +17,10 @@ use Rattle.certificate_laws.specs.Certified.{HasCertificates}
 use Rattle.placement_laws.proofs.Admissions.{same_answer}
 use Rattle.certificate_laws.proofs.Best.{linked_is_best}
 use Rattle.certificate_laws.proofs.Counts.{count_below, count_below-one_more}
+use Rattle.certificate_laws.proofs.SameBest.{priority_of-same, IsBest-same}
 use Rattle.link_state.proofs.Start.{none_ready}
 use Rattle.certificate_laws.proofs.Kept.{HasCertificates-start}
 use Rattle.placement_laws.proofs.MostUrgent.{among_place}
-
--- ---- states with the same tasks have the same best sets
-priority_of-same : (old new : State) → HasSameTasks old new → (t : ℕ) → priority_of new t ≡ priority_of old t
-priority_of-same old new same t = rw same.priorities refl
-
-module _ (old new : State) (same : HasSameTasks old new) (same_masks : HasSameMasks old new) where
-  pub effective_mask-same : (t : ℕ) → effective_mask new t ≡ effective_mask old t
-  effective_mask-same t = rw (same_masks.masks, same_masks.online) refl
-
-  pub IsBest-same : (R R' best best' : TaskTest) → ((t : ℕ) → R t ≡ R' t) → ((t : ℕ) → best t ≡ best' t) → IsBest new R best → IsBest old R' best'
-  IsBest-same R R' best best' same_R same_best is_best = record {
-    subset = λ t h. sym (same_R t) ∙ is_best.subset t (same_best t ∙ h);
-    placeable = (
-      is_best.placeable.0,
-      record {
-        allowed = λ t h. ap (λ (X : ℕ). has X (is_best.placeable.0 t)) (sym (effective_mask-same t)) ∙ is_best.placeable.1.allowed t (same_best t ∙ h);
-        apart = λ t u h k. is_best.placeable.1.apart t u (same_best t ∙ h) (same_best u ∙ k);
-      },
-    );
-    none_better = λ other subset placeable better. is_best.none_better other (λ t h. same_R t ∙ subset t h) (
-      placeable.0,
-      record {
-        allowed = λ t h. ap (λ (X : ℕ). has X (placeable.0 t)) (effective_mask-same t) ∙ placeable.1.allowed t h;
-        apart = placeable.1.apart;
-      },
-    )
-        record {
-          task = better.task;
-          in_first = better.in_first;
-          not_in_second = same_best better.task ∙ better.not_in_second;
-          most_urgent = λ u differ. rw (priority_of-same old new same better.task, priority_of-same old new same u) (better.most_urgent u (λ e. differ (e ∙ sym (same_best u))));
-        };
-  }
 
 -- the listed tasks are admitted up to some priority, and the list `best` has the linked ones
 pub record IsGreedy (set : SetData) (listed : List ℕ) (s : State) (best : List ℕ) : Type 0 where

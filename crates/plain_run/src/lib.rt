@@ -5,5 +5,7 @@
 #![tactic(auto)]
 
 mod replay;
+#[cfg(test)]
+mod tests;
 
 pub use replay::run;

@@ -6,5 +6,7 @@
 #![tactic(auto)]
 
 mod check;
+#[cfg(test)]
+mod tests;
 
 pub use check::checked_text;

@@ -1,7 +1,6 @@
 mod Entries
 mod Priorities
 mod Lists
-mod Examples
 mod Outside
 pub mod Added
 pub mod Refusals

@@ -1,9 +1,4 @@
-mod Alike
 mod ComparedSoFar
 mod Counted
-mod Followed
-mod Leaving
-mod Looking
 mod NoBetter
-mod Placing
 mod Written

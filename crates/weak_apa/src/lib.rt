@@ -1,16 +1,18 @@
 //! The weak scheduler, beside the strong one.
 //!
-//! [`Weak`] schedules as stock schedulers with affinity masks do: a task looks at the processors of its own mask alone,
-//! whom it displaces is placed in turn, and no running task moves aside to let another one in. [`compare`] gives both
-//! schedulers the events of an input, and writes after each event what the two have linked.
+//! [`Weak`], of weak_step, schedules as stock schedulers with affinity masks do. [`compare`] gives both schedulers the events
+//! of an input, and writes after each event what the two have linked.
 #![tactic(auto)]
 
-mod arrival;
 mod comparing;
+#[cfg(test)]
+mod comparing_tests;
 pub mod comparison;
-mod departure;
-mod weak;
+#[cfg(test)]
+mod plain;
+#[cfg(test)]
+mod tests;
 
 pub use comparing::compare;
 pub use comparison::Comparison;
-pub use weak::Weak;
+pub use weak_step::Weak;

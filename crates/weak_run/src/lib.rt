@@ -4,6 +4,8 @@
 //! the two have linked.
 #![tactic(auto)]
 
+#[cfg(test)]
+mod tests;
 mod text;
 
 pub use text::weak_text;

@@ -1,0 +1,5 @@
+pub mod Moments
+pub mod Readied
+pub mod JobsWritten
+pub mod Finishes
+pub mod OneRun

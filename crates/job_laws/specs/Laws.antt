@@ -1,0 +1,30 @@
+-- Laws of the histories that run the jobs of an input. They rest on nothing but the definitions that they name.
+use Rattle.std.specs.Prelude.{◌≡◌, ℕ, ◌+◌, ◌<◌, ◌≤◌, List, length}
+use Rattle.scheduler_reply.specs.declared.reply.Entry.{Entry}
+use Rattle.link_state.specs.State.{start_of}
+use Rattle.job_text.specs.Jobs.{release_of}
+use Rattle.job_text.specs.JobInput.{JobInputData, IsJobInput, job_at}
+use Rattle.job_laws.specs.Driven.{RunsJobs}
+use Rattle.job_laws.specs.JobsText.{jobs_text}
+use Rattle.job_laws.specs.Moments.{service_of, IsFinish}
+
+-- a job that is finished was released at least its cost before
+abbrev pub FinishFollowsRelease : Type 0
+FinishFollowsRelease =
+    (input : JobInputData) (history : List Entry) (t k x : ℕ)
+    → IsJobInput input → RunsJobs input history → t < length input.jobs
+    → IsFinish (start_of input.set) history t (job_at input.jobs t).cost input.horizon k x
+    → release_of (job_at input.jobs t) k + (job_at input.jobs t).cost ≤ x
+
+-- histories that run the jobs of an input give each task the same service before each moment up to the horizon
+abbrev pub InputHasOneService : Type 0
+InputHasOneService =
+    (input : JobInputData) (one other : List Entry) (t x : ℕ)
+    → IsJobInput input → RunsJobs input one → RunsJobs input other → t < length input.jobs → x ≤ input.horizon
+    → service_of (start_of input.set) one t x ≡ service_of (start_of input.set) other t x
+
+-- and they have one text
+abbrev pub InputHasOneText : Type 0
+InputHasOneText =
+    (input : JobInputData) (one other : List Entry)
+    → IsJobInput input → RunsJobs input one → RunsJobs input other → jobs_text input one ≡ jobs_text input other

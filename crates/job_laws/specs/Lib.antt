@@ -1,0 +1,4 @@
+pub mod Driven
+pub mod JobsText
+pub mod Laws
+pub mod Moments

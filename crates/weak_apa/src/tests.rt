@@ -1,0 +1,97 @@
+//! What no clause says: that the calls succeed where memory is ample, one cascade worked by hand, and that generated events
+//! leave what a plain search over all processors finds.
+use crate::Weak;
+use crate::plain::{PROCESSORS, Plain, TASKS, drawn_event, drawn_mask};
+use affinity_mask::ProcSet;
+use link_table::Links;
+use std::alloc::Global;
+use std::process::Abort;
+use std::test::Fail;
+use task_set::{Event, TaskSet};
+
+/// The set of these processors.
+fn set_of(rt: &impl Abort, processors: &[u8]) -> ProcSet {
+    let mut set = ProcSet::empty();
+    for &p in processors {
+        assert!(rt; p < 64);
+        set = set.with(p);
+    }
+    set
+}
+
+/// Applies an event of a task or a processor of the scheduler.
+fn apply(rt: &impl Abort, weak: &mut Weak, event: Event) {
+    let links = weak.links();
+    let machine = ProcSet::first(links.processors());
+    let known = match event {
+        Event::Arrive(t) | Event::Depart(t) => t < links.len(),
+        Event::Tick(_) => true,
+        Event::Affinity { task, mask } => {
+            task < links.len() && !mask.is_empty() && mask.within(&machine)
+        }
+        Event::Offline(p) | Event::Online(p) => p < links.processors(),
+    };
+    assert!(rt; known);
+    weak.apply(event);
+}
+
+#[test]
+fn cascade_by_calls(rt: HostRuntime) -> Result<(), Fail> {
+    let mut set = TaskSet::new(rt.alloc(), 3)?;
+    set.add("a", 5, set_of(&rt, &[0, 1]))?;
+    set.add("b", 6, set_of(&rt, &[1, 2]))?;
+    set.add("c", 1, set_of(&rt, &[0]))?;
+    let mut weak = Weak::new(rt.alloc(), &set)?;
+    for t in 0u32..3 {
+        apply(&rt, &mut weak, Event::Arrive(t));
+    }
+
+    // c displaces a from 0, and a displaces b from 1, which goes on 2.
+    let links = weak.links();
+    assert!(rt; links.processors() == 3);
+    assert_eq!(rt;
+        [links.on(0), links.on(1), links.on(2)],
+        [Some(2), Some(0), Some(1)]
+    );
+    Ok(())
+}
+
+fn assert_same(rt: &impl Abort, links: &Links, plain: &Plain, event: &Event) {
+    assert!(rt; links.processors() == PROCESSORS);
+    for p in 0..PROCESSORS {
+        assert_eq!(rt; links.on(p), plain.on[p as usize], "on {p} after {event:?}");
+    }
+}
+
+/// Applies an event to both, and compares who is where then.
+fn follow(rt: &impl Abort, weak: &mut Weak, plain: &mut Plain, event: Event) {
+    apply(rt, weak, event);
+    plain.apply(event);
+    assert_same(rt, weak.links(), plain, &event);
+}
+
+/// Seven tasks on four processors, and events from one seed.
+fn run_seed(rt: &impl Abort, alloc: Global, seed: &mut u64) -> Result<(), Fail> {
+    let mut set = TaskSet::new(alloc, PROCESSORS)?;
+    let mut plain = Plain::new();
+    for t in 0..TASKS {
+        let name = format!(in alloc; "t{t}")?;
+        let mask = drawn_mask(seed);
+        plain.set_mask(t, mask);
+        set.add(&name, t, mask)?;
+    }
+    let mut weak = Weak::new(alloc, &set)?;
+    for _step in 0..200 {
+        follow(rt, &mut weak, &mut plain, drawn_event(seed));
+    }
+    Ok(())
+}
+
+#[test]
+fn generated_events_match_a_plain_search(rt: HostRuntime) -> Result<(), Fail> {
+    let mut seed = 17u64;
+    for _run in 0..10 {
+        run_seed(&rt, rt.alloc(), &mut seed)?;
+    }
+    Ok(())
+}

@@ -1,0 +1,5 @@
+pub mod Alike
+pub mod Followed
+mod Leaving
+mod Looking
+mod Placing
