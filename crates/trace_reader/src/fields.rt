@@ -21,7 +21,14 @@ pub fn first_line(bytes: &[u8]) -> (&[u8], &[u8])
 pub fn is_plain(line: &[u8]) -> bool
     ensures { IsTrue result ↔ All IsPlain line.now }
 {
-    line.iter().all(|byte| matches!(*byte, b'\t' | b' '..=b'~'))
+    is_printed(line) || line.iter().all(|byte| matches!(*byte, b'\t' | b' '..=b'~'))
+}
+
+/// Whether each byte of a line is a space or is printed, so that a line without tabs costs one comparison a byte.
+fn is_printed(line: &[u8]) -> bool
+    ensures { IsTrue result ↔ All (λ byte. 32 ≤ byte × byte ≤ 126) line.now }
+{
+    line.iter().all(|byte| matches!(*byte, b' '..=b'~'))
 }
 
 /// The fields of a line, in this room.
