@@ -2,6 +2,7 @@ mod FieldLists
 mod Refused
 mod EventsRead
 mod ReadLines
+mod PlainLines
 pub mod Expected
 mod Paths
 mod Forms

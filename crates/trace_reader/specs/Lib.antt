@@ -5,5 +5,6 @@ pub mod InputText
 pub mod Laws
 pub mod LineForms
 pub mod Lines
+pub mod PlainText
 pub mod Progress
 pub mod Reading

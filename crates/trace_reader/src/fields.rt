@@ -1,6 +1,7 @@
 //! Lines, and the fields of a line.
 ghost use Rattle.std.specs.Prelude.{◌≡◌, ◌≢◌, ℕ, ◌<◌, ◌≤◌, ◌↔◌, ◌⊎◌, IsTrue, All, List, [], ◌∷◌, ◌++◌, length, IfOk, map, MatchOption, not};
 ghost use Rattle.trace_reader.specs.Lines.{lines_of, fields_of, is_blank, is_skipped, IsPlain};
+ghost use Rattle.trace_reader.specs.PlainText.{MayStand};
 ghost use Rattle.trace_reader.specs.Reading.{IsFirstLine};
 ghost use Rattle.text_fields.specs.Fields.{texts};
 
@@ -17,11 +18,31 @@ pub fn first_line(bytes: &[u8]) -> (&[u8], &[u8])
     }
 }
 
-/// Whether each byte of a line is plain.
-pub fn is_plain(line: &[u8]) -> bool
+/// Whether each byte of a line is plain. Where that is known, no byte is read.
+pub fn is_plain(line: &[u8], known: bool) -> bool
+    requires { IsTrue known → All IsPlain line.now }
     ensures { IsTrue result ↔ All IsPlain line.now }
 {
-    line.iter().all(|byte| matches!(*byte, b'\t' | b' '..=b'~'))
+    known || line.iter().all(|byte| is_plain_byte(*byte))
+}
+
+/// Whether a text has plain bytes and line feeds alone, so that each of its lines is plain. No byte ends the loop, so it
+/// can take many bytes at a time, which costs much less than a test of each line.
+pub fn has_plain_lines(text: &[u8]) -> bool
+    ensures { IsTrue result → All MayStand text.now }
+{
+    let mut plain = true;
+    for byte in text {
+        plain &= *byte == b'\n' || is_plain_byte(*byte);
+    }
+    plain
+}
+
+/// Whether a byte may stand in a line.
+fn is_plain_byte(byte: u8) -> bool
+    ensures { IsTrue result ↔ IsPlain byte }
+{
+    matches!(byte, b'\t' | b' '..=b'~')
 }
 
 /// The fields of a line, in this room.

@@ -8,7 +8,7 @@ ghost use Rattle.trace_reader.specs.InputFault.{IsInputRefused};
 ghost use Rattle.trace_reader.specs.Reading.{IsOutOfMemory, IsAnswerTo};
 
 use crate::fault::{InputFault, InputKind};
-use crate::fields::first_line;
+use crate::fields::{first_line, has_plain_lines};
 use crate::input::Input;
 use crate::stage::Stage;
 use std::alloc::Global;
@@ -39,11 +39,12 @@ fn read_lines(alloc: Global, bytes: &[u8]) -> Result<Input, InputFault>
 {
     let mut room = Vec::new(alloc);
     let mut stage = Stage::HeaderExpected;
+    let all_plain = has_plain_lines(bytes);
     let mut rest = bytes;
     let mut line = 1;
     while !rest.is_empty() {
         let (text, after) = first_line(rest);
-        match stage.after_line(alloc, text, &mut room) {
+        match stage.after_line(alloc, text, all_plain, &mut room) {
             Ok(()) => {}
             Err(kind) => return Err(InputFault { line, kind }),
         }

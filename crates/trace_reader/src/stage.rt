@@ -1,9 +1,10 @@
 //! What was read so far, and what is expected.
-ghost use Rattle.std.specs.Prelude.{◌≡◌, ◌≢◌, ℕ, ◌≤◌, ◌↔◌, ◌⊎◌, IsTrue, List, [], length, IfOk, IfErr, OnOk, MatchOption, MatchBool};
+ghost use Rattle.std.specs.Prelude.{◌≡◌, ◌≢◌, ℕ, ◌≤◌, ◌↔◌, ◌⊎◌, IsTrue, List, [], length, All, IfOk, IfErr, OnOk, MatchOption, MatchBool};
 ghost use Rattle.task_set.specs.TaskSet.{SetData};
 ghost use Rattle.trace_reader.specs.declared.posted.Posted.{Posted};
 ghost use Rattle.trace_reader.specs.InputText.{IsHeader, IsProcessorsLine, end_line};
 ghost use Rattle.trace_reader.specs.InputFault.{IsFieldsFault, IsLineFault};
+ghost use Rattle.trace_reader.specs.Lines.{IsPlain};
 ghost use Rattle.trace_reader.specs.LineForms.{BeginsTask, IsForTask};
 ghost use Rattle.trace_reader.specs.Progress.{Expects, HeaderExpected, ProcessorsExpected, Listed, Ended};
 ghost use Rattle.trace_reader.specs.Reading.{progress_of, Says, SaysLine, SaysTask, IsOutOfMemory};
@@ -50,21 +51,23 @@ pub enum Stage {
 }
 
 impl Stage {
-    /// Goes on by one more line. The room is for its fields. What a line lists is put into the lists where they are, as there
-    /// are many such lines. After an `Err` the stage is not used again.
+    /// Goes on by one more line, of which it may be known that it is plain. The room is for its fields. What a line lists
+    /// is put into the lists where they are, as there are many such lines. After an `Err` the stage is not used again.
     pub fn after_line<'a>(
         &mut self,
         alloc: Global,
         line: &'a [u8],
+        known_plain: bool,
         room: &mut Vec<&'a [u8]>,
     ) -> Result<(), InputKind>
-        requires { (said : List (List (List ℕ))) × Expects said (progress_of self.old) }
+        requires plain { IsTrue known_plain → All IsPlain line.now }
+        requires expected { (said : List (List (List ℕ))) × Expects said (progress_of self.old) }
         ensures read { OnOk result (SaysLine (progress_of self.old) line.now
             (progress_of self.new)) }
         ensures refused { IfErr result (λ kind. IsOutOfMemory kind
             ⊎ IsLineFault (progress_of self.old) line.now kind) }
     {
-        if !is_plain(line) {
+        if !is_plain(line, known_plain) {
             return Err(InputKind::BadByte);
         }
         if line.len() > MAX_LINE {
@@ -194,7 +197,8 @@ fn read_processors(fields: &[&[u8]]) -> Option<u8>
     }
 }
 
-/// Nothing is listed yet, on as many processors as a line says.
+/// Nothing is listed yet, on as many processors as a line says. Room is made for all events that there may be, so that
+/// none is moved later.
 fn start(alloc: Global, version: u8, fields: &[&[u8]]) -> Result<Stage, InputKind>
     ensures read { IfOk result (λ next. Says (ProcessorsExpected version) (texts fields.now)
         (progress_of next)) }
@@ -205,7 +209,9 @@ fn start(alloc: Global, version: u8, fields: &[&[u8]]) -> Result<Stage, InputKin
         return Err(InputKind::BadProcessors);
     };
     let set = TaskSet::new(alloc, processors)?;
-    let events = Vec::new(alloc);
+    let Ok(events) = Vec::with_capacity(alloc, MAX_EVENTS) else {
+        return Err(InputKind::OutOfMemory);
+    };
     Ok(Stage::Listed {
         version,
         set,
