@@ -22,8 +22,9 @@ use task_shift::{affinity, arrive, depart, offline, online};
 /// A history has at most so many entries.
 pub const MAX_ENTRIES: usize = 20_000;
 
-/// Room is made for so many entries at a time, so that most events take no memory.
-const ENTRIES_AT_ONCE: usize = 64;
+/// Room is made for so many entries at a time, so that most events take no memory. The room of a row is then so large that
+/// the allocator moves a row that grows by its pages, and does not copy it.
+const ENTRIES_AT_ONCE: usize = 8_192;
 
 /// The history of the events applied so far, the links after it, and the orders that it gives each processor.
 #[derive(Drop)]
@@ -103,7 +104,7 @@ impl Core {
     /// for its orders, besides the room for the orders of the close.
     fn make_room(&mut self, entries: usize) -> Result<(), OutOfMemory>
         requires none { self.old.spare ≡ 0 }
-        requires few { entries ≤ 64 }
+        requires few { entries ≤ 8192 }
         ensures kept { OnlyMadeRoom self.old self.new }
         ensures refused { OnErr result (self.new ≡ self.old) }
         ensures valid { IsCore self.new }
