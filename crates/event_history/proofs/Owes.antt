@@ -12,6 +12,7 @@ use Rattle.sched_core.specs.CoreData.{CoreData, IsCore, core_orders, entry_of, m
 use Rattle.sched_core.specs.declared.fault.CoreFault.{CoreFault}
 use Rattle.task_set.specs.declared.event.Event.{Event}
 use Rattle.event_history.specs.declared.fault.Receipt.{Receipt}
+use Rattle.event_history.specs.declared.fault.Unread.{Unread}
 use Rattle.event_history.specs.Entering.{Entered, IsNoEntry}
 use Rattle.order_laws.proofs.OrderCounts.{orders_count}
 use Rattle.order_laws.proofs.OrderLists.{orders_obeyable}
@@ -20,6 +21,7 @@ use Rattle.order_laws.proofs.OrderPrefixes.{orders_only_grow}
 use Rattle.event_history.specs.Boards.{AreFor}
 use Rattle.event_history.specs.Holdings.{CoreGrows, SentBegins, NoneSent, queues_of}
 use Rattle.event_history.specs.Owing.{MaySend, AllMaySend}
+use Rattle.event_history.specs.Unread.{EnteredUnread}
 use Rattle.event_history.proofs.Keeps.{legal_over}
 
 tasks_at : (set : SetData) (l : List QueueData) (p : ℕ) (q : QueueData) → AreFor set l → slice_get l p ≡ Some q → q.tasks ≡ length set.tasks
@@ -64,6 +66,10 @@ grows_entry old new e start history was now = (
 pub grows_by_answer : (old new : CoreData) (caller : ℕ) (event : Event) (r : Result Receipt CoreFault) → IfOk r (Entered old caller event new) → IfErr r (IsNoEntry old new) → CoreGrows old new
 grows_by_answer old new caller event (Ok x) e none = grows_entry old new (entry_of caller event x.reply) e.start e.history e.was_open e.is_open
 grows_by_answer old new caller event (Err f) none e = grows_same old new e.0.start e.0.history e.0.closed
+
+pub grows_by_unread : (old new : CoreData) (caller : ℕ) (event : Event) (r : Result Unread CoreFault) → IfOk r (EnteredUnread old caller event new) → IfErr r (IsNoEntry old new) → CoreGrows old new
+grows_by_unread old new caller event (Ok x) e none = grows_entry old new (entry_of caller event e.reply) e.entered.start e.entered.history e.entered.was_open e.entered.is_open
+grows_by_unread old new caller event (Err f) none e = grows_same old new e.0.start e.0.history e.0.closed
 
 trans : (xs ys zs : List Order) → IsPrefix xs ys → IsPrefix ys zs → IsPrefix xs zs
 trans xs ys zs p q = (p.0 ++ q.0, sym (append_assoc xs p.0 q.0) ∙ ap (λ (l : List Order). l ++ q.0) p.1 ∙ q.1)

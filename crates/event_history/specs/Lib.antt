@@ -17,4 +17,5 @@ pub mod PassStates
 pub mod Places
 pub mod Posting
 pub mod Turn
+pub mod Unread
 pub mod Waiting

@@ -29,6 +29,7 @@ use std::thread;
 use task_set::{Event, TaskSet};
 
 mod history;
+mod unread;
 
 /// One history of events, which callers extend by turns. Each call is made with a pass of this board.
 #[derive(Drop)]

@@ -14,6 +14,16 @@ pub struct Receipt {
     pub reply: Reply,
 }
 
+/// Where an entry stands whose reply nobody reads.
+#[derive(Clone, Copy, Debug, PartialEq, Eq)]
+pub struct Unread {
+    /// The number of entries before it.
+    pub place: u64,
+
+    /// Whether its reply may come with orders to a processor.
+    pub gives_orders: bool,
+}
+
 /// Why a try to post ended without an entry.
 #[derive(Clone, Copy, Debug, PartialEq, Eq)]
 pub enum PostFault {

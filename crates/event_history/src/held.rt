@@ -9,9 +9,11 @@ ghost use Rattle.event_history.specs.Entering.{Entered, IsNoEntry};
 ghost use Rattle.event_history.specs.Flushing.{EyesFlushed};
 ghost use Rattle.event_history.specs.Holdings.{SentBegins, queues_of};
 ghost use Rattle.event_history.specs.Owing.{AllMaySend};
+ghost use Rattle.event_history.specs.Unread.{EnteredUnread};
 
+use crate::entering::enter_unread;
 use crate::eyes::Eyes;
-use crate::fault::Receipt;
+use crate::fault::{Receipt, Unread};
 use crate::owed::send_all;
 use link_table::Entry;
 use order_queues::{Queue, Sender};
@@ -81,6 +83,16 @@ impl Held {
         ensures refused { IfErr result (IsNoEntry self.old.core self.new.core) }
     {
         enter(&mut self.core, caller, event)
+    }
+
+    /// One entry more in the core, whose reply nobody reads.
+    pub fn enter_unread(&mut self, caller: u32, event: Event) -> Result<Unread, CoreFault>
+        requires { IsEventFor self.old.core.start event }
+        ensures senders { self.new.senders ≡ self.old.senders }
+        ensures entered { IfOk result (EnteredUnread self.old.core caller event self.new.core) }
+        ensures refused { IfErr result (IsNoEntry self.old.core self.new.core) }
+    {
+        enter_unread(&mut self.core, caller, event)
     }
 
     /// Closes the core.

@@ -10,6 +10,7 @@
 #![tactic(auto)]
 
 mod board;
+mod entering;
 mod eyes;
 mod fault;
 mod held;
@@ -21,5 +22,5 @@ mod turn;
 mod view;
 
 pub use board::Board;
-pub use fault::{EndFault, PostFault, Receipt, Unfinished, Unmade};
+pub use fault::{EndFault, PostFault, Receipt, Unfinished, Unmade, Unread};
 pub use pass::Pass;

@@ -103,8 +103,9 @@ fn close_by_last<R: Wait, G: Gate>(
     }
 }
 
-/// Starts all threads, closes the core once the streams are joined, and joins the workers. All memory of the joins is
-/// taken before the first start, since a worker that was started waits for its `Stop`.
+/// Starts all threads, closes the core once the streams are joined, and joins the workers. The streams are started first:
+/// they post while the workers are started, and none of them waits for a worker. All memory of the joins is taken before
+/// the first start, since a worker that was started waits for its `Stop`.
 fn run_threads<'s, E, R: Threads + Wait + Clock + Sync, G: Gate + Sync>(
     scope: &Scope<'s, E>,
     rt: &'s R,
@@ -127,10 +128,10 @@ fn run_threads<'s, E, R: Threads + Wait + Clock + Sync, G: Gate + Sync>(
     let posting = Vec::with_capacity(alloc, passes.len())?;
     let posted = Vec::with_capacity(alloc, passes.len())?;
     let stopped = Vec::with_capacity(alloc, queues.len())?;
+    let posting = streams::start_all(scope, rt, board, queues, events, gate, passes, posting);
     let (started, mut left) = workers::start_all(
         scope, rt, queues, slots, gate, refused, processors, started, left,
     );
-    let posting = streams::start_all(scope, rt, board, queues, events, gate, passes, posting);
     let (mut passes, whole) = streams::join_all(rt, board, events, posting, posted);
     close_by_last(
         rt,

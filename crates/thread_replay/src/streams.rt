@@ -11,7 +11,6 @@ ghost use Rattle.thread_replay.specs.Streams.{Adds, IsForBoard, IsPassAt, IsStre
 
 use crate::flushing::flush;
 use event_history::{Board, EndFault, Pass};
-use link_table::Reply;
 use order_queues::Queue;
 use processor_seat::Gate;
 use std::sync::Wait;
@@ -39,29 +38,6 @@ impl<'a> Promise<(Pass, bool)> for StreamOf<'a> {
 /// A stream with its thread, or, where it has none, what was posted by the caller.
 pub type Stream<'a> = Result<PromisedHandle<(Pass, bool), StreamOf<'a>>, (Pass, bool)>;
 
-/// Whether a reply may come with orders to a processor.
-fn gives_orders(reply: &Reply) -> bool {
-    match reply {
-        Reply::Placed { chain: _ }
-        | Reply::Displaced {
-            chain: _,
-            out: _,
-            reach: _,
-        } => true,
-        Reply::Freed {
-            entered: _,
-            chain: _,
-            back: _,
-        }
-        | Reply::Ticked => true,
-        Reply::Remasked { gone: _, came: _ } | Reply::Off { moved: _ } | Reply::On { parts: _ } => {
-            true
-        }
-        Reply::Waits { reach: _ } | Reply::Left | Reply::AlreadyReady | Reply::NotReady => false,
-        Reply::Masked | Reply::AlreadyOff | Reply::AlreadyOn => false,
-    }
-}
-
 /// Posts an event between the gate's two points, and reports whether its reply may come with orders.
 fn post_one<R: Wait, G: Gate>(
     rt: &R,
@@ -77,9 +53,9 @@ fn post_one<R: Wait, G: Gate>(
     ensures adds { IfOk result (λ _. Adds pass.old (event ∷ []) pass.new) }
 {
     gate.at(pass.caller(), 0);
-    let receipt = board.post(rt, pass, event)?;
+    let unread = board.post_unread(rt, pass, event)?;
     gate.at(pass.caller(), 1);
-    Ok(gives_orders(&receipt.reply))
+    Ok(unread.gives_orders)
 }
 
 /// Posts an event, and flushes where enough events gave orders. `owing` is how many did since the last flush, whoever

@@ -1,0 +1,40 @@
+-- Entries whose reply nobody reads: what their callers are told of them.
+use Rattle.std.specs.Prelude.{◌≡◌, ℕ, Bool, true, false}
+use Rattle.task_set.specs.TaskSet.{SetData}
+use Rattle.task_set.specs.declared.event.Event.{Event}
+use Rattle.scheduler_reply.specs.declared.reply.Reply.{Reply}
+use Rattle.scheduler_reply.specs.declared.reply.Reply.TheVariants.{Placed, Displaced, Waits, Freed, Left, Ticked, AlreadyReady, NotReady, Masked, Remasked, AlreadyOff, AlreadyOn, Off, On}
+use Rattle.sched_core.specs.CoreData.{CoreData}
+use Rattle.event_history.specs.declared.fault.Unread.{Unread}
+use Rattle.event_history.specs.Boards.{PassData}
+use Rattle.event_history.specs.Entering.{Entered}
+use Rattle.event_history.specs.Posting.{Posted}
+
+-- whether a reply may come with orders: somebody may have run, come to a processor or left one
+abbrev pub may_give_orders : Reply → Bool
+may_give_orders (Placed _) = true
+may_give_orders (Displaced _ _ _) = true
+may_give_orders (Waits _) = false
+may_give_orders (Freed _ _ _) = true
+may_give_orders Left = false
+may_give_orders Ticked = true
+may_give_orders AlreadyReady = false
+may_give_orders NotReady = false
+may_give_orders Masked = false
+may_give_orders (Remasked _ _) = true
+may_give_orders AlreadyOff = false
+may_give_orders AlreadyOn = false
+may_give_orders (Off _) = true
+may_give_orders (On _) = true
+
+-- the core has one entry more, with some reply
+pub record EnteredUnread (old : CoreData) (caller : ℕ) (event : Event) (new : CoreData) (unread : Unread) : Type 0 where
+  pub reply : Reply
+  pub entered : Entered old caller event new record { place = unread.place; reply = reply }
+  pub orders : unread.gives_orders ≡ may_give_orders reply
+
+-- the entry was posted, with some reply
+pub record PostedUnread (set : SetData) (old : PassData) (event : Event) (unread : Unread) (new : PassData) : Type 0 where
+  pub reply : Reply
+  pub posted : Posted set old event record { place = unread.place; reply = reply } new
+  pub orders : unread.gives_orders ≡ may_give_orders reply
