@@ -3,6 +3,7 @@ use Rattle.std.proofs.Common.{◌≡◌, ℕ, ◌⊎◌, List, refl, inl, inr}
 use Rattle.program_status.specs.Refusal.{IsAnsweredInput, RefusesInput}
 use Rattle.program_status.specs.declared.status.Status.{Status}
 use Rattle.program_status.specs.declared.status.Status.TheVariants.{Input, OutOfMemory}
+use Rattle.plain_run.specs.Run.{IsRunAnswer}
 
 pub refused_at : (bytes : List ℕ) (status : Status) (line kind : ℕ) → IsAnsweredInput (RefusesInput bytes) status ⊎ (status ≡ OutOfMemory) → status ≡ Input line kind → RefusesInput bytes line kind
 refused_at bytes status line kind (inr memory) same = absurd (cc)
@@ -15,3 +16,9 @@ refused_at bytes status line kind (inl why) same =
 -- and it is the one that is expected
 pub answer_of : (bytes : List ℕ) (line kind : ℕ) → RefusesInput bytes line kind → IsAnsweredInput (RefusesInput bytes) (Input line kind)
 answer_of bytes line kind why = record { number = line; kind = kind; answer = refl; cause = why }
+
+-- what refuses an input is an answer of a run
+pub refused_answer : {Cause : ℕ → ℕ → Type 0} (status : Status) → IsAnsweredInput Cause status ⊎ (status ≡ OutOfMemory)
+    → IsRunAnswer status
+refused_answer status (inl why) = rw why.answer tt
+refused_answer status (inr same) = rw same tt

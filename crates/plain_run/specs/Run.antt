@@ -1,6 +1,8 @@
 -- A run: the bytes read are the text of one input, and the bytes written are the schedule text of the one
 -- legal history of its events, in the order of their lines.
 use Rattle.std.specs.Prelude.{◌≡◌, ℕ, ◌≤◌, List, length, Option}
+use Rattle.program_status.specs.declared.status.Status.{Status}
+use Rattle.program_status.specs.declared.status.Status.TheVariants.{Done, Input, TooLong, ReadFault, WriteFault, OutOfMemory}
 use Rattle.shift_io.specs.Stream.{TakesAll}
 use Rattle.task_set.specs.TaskSet.{SetData}
 use Rattle.task_set.specs.declared.context.Context.{Context}
@@ -41,3 +43,13 @@ pub record ReadsRefused (old new : Option (List ℕ)) (line kind : ℕ) : Type 0
 -- what is to be read: the source reports what it has left, which is no more than is read
 abbrev pub IsToRead : Option (List ℕ) → List ℕ → Type 0
 IsToRead left read = IsReported left read
+
+-- what a run answers: it reads no words and judges no schedule, so the other statuses are not its own
+abbrev pub IsRunAnswer : Status → Type 0
+IsRunAnswer Done = Unit {0}
+IsRunAnswer (Input line kind) = Unit {0}
+IsRunAnswer TooLong = Unit {0}
+IsRunAnswer ReadFault = Unit {0}
+IsRunAnswer WriteFault = Unit {0}
+IsRunAnswer OutOfMemory = Unit {0}
+IsRunAnswer _ = ⊥

@@ -8,7 +8,7 @@ ghost use Rattle.program_status.specs.Answers.{Answers};
 ghost use Rattle.program_status.specs.Reading.{byte_limit};
 ghost use Rattle.program_status.specs.Refusal.{IsAccepted, IsAnsweredInput, RefusesInput};
 ghost use Rattle.program_status.specs.Status.{BeforePut};
-ghost use Rattle.plain_run.specs.Run.{Replays, ReadsAndReplays, ReadsRefused, IsToRead};
+ghost use Rattle.plain_run.specs.Run.{Replays, ReadsAndReplays, ReadsRefused, IsRunAnswer, IsToRead};
 
 use event_replay::schedule_of;
 use program_status::{MAX_BYTES, Status};
@@ -25,7 +25,8 @@ pub fn run<S: Source, K: Sink>(alloc: Global, source: &mut S, sink: &mut K) -> S
         × Appends (K.bytes sink.old) (K.bytes sink.new) text
         × (K.calls sink.new ≤ K.calls sink.old + length text) }
 
-    // Each other answer has its cause.
+    // Each other answer has its cause, and there is no further one.
+    ensures answers { IsRunAnswer result }
     ensures read_fault { result ≡ Status.ReadFault → Rose (S.faults source.old) (S.faults source.new) }
     ensures too_long { result ≡ Status.TooLong →
         TakesExactly (S.left source.old) (S.left source.new) (byte_limit + 1) }

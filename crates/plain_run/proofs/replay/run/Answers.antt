@@ -1,7 +1,7 @@
 use Rattle.std.proofs.Common.{◌≡◌, inr}
 use Rattle.program_status.specs.declared.status.Status.TheVariants.{Input}
 use Rattle.program_status.proofs.ReadBytes.{all_is_reported}
-use Rattle.plain_run.proofs.Refusals.{answer_of, refused_at}
+use Rattle.plain_run.proofs.Refusals.{answer_of, refused_at, refused_answer}
 use Rattle.plain_run.proofs.replay.run.Goals as goal
 
 pub returns-in-Err-clause-input : goal.returns-in-Err-clause-input
@@ -31,3 +31,6 @@ pub returns-clause-refuses : goal.returns-clause-refuses
 returns-clause-refuses g c = λ read line kind to_read why calm.
     let same = all_is_reported _ _ read _ to_read c.in-Ok.ensures.ok.1 in
     absurd (c.in-Ok-replayed_text.ensures.refuses (Input line kind) (rw (c.deref.ensures.value, same) (answer_of read line kind why)))
+
+pub returns-in-Err-clause-answers : goal.returns-in-Err-clause-answers
+returns-in-Err-clause-answers g c = refused_answer _ c.in-Err.ensures.refused

@@ -13,9 +13,8 @@ returns-then-is_list-clause-read c =
     (sym (c.is_list.ensures.0 c.if-is_list.true))
 
 pub returns-else-is_list-clause-refused : goal.returns-else-is_list-clause-refused
-returns-else-is_list-clause-refused c =
-    (
-      refl,
-      list_differs c.args.field.now c.in-Ok.set c.in-Ok.ensures.read
-          (λ same. true≢false (sym (c.is_list.ensures.1 (sym same)) ∙ c.if-is_list.false)),
-    )
+returns-else-is_list-clause-refused c = (
+  refl,
+  list_differs c.args.field.now c.in-Ok.set c.in-Ok.ensures.read
+      (λ same. true≢false (sym (c.is_list.ensures.1 (sym same)) ∙ c.if-is_list.false)),
+)
