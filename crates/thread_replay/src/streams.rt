@@ -18,9 +18,10 @@ use std::thread::{Promise, PromisedHandle, Scope, Threads};
 use task_set::Event;
 use trace_reader::Posted;
 
-/// A stream flushes after so many events that gave orders, and at its end. A flush takes the turn; fewer of them leave
-/// it to the other streams, and the orders still come in runs that a queue holds.
-const EVENTS_PER_FLUSH: u32 = 32;
+/// A stream flushes after so many events that gave orders, and at its end. A flush takes the turn and looks at a word that
+/// each processor writes. Fewer flushes leave the turn to the other streams, and the orders of so many events mostly fit
+/// into a queue.
+const EVENTS_PER_FLUSH: u32 = 128;
 
 /// What a stream's thread gives back: the pass of this caller, which posted all events of its stream, where the flag
 /// beside it says so.
@@ -73,11 +74,11 @@ pub fn post_next<R: Wait, G: Gate>(
     requires queues { queues.now ≡ board.now.queues }
     requires eyes { AreEyesOf board.now.queues pass.old.eyes }
     requires known { IsOfSystem board.now.set.processors (length board.now.set.tasks) event }
-    requires owing { owing < 32 }
+    requires owing { owing < 128 }
     ensures grown { Grown pass.old pass.new }
     ensures eyes { AreEyesOf board.now.queues pass.new.eyes }
     ensures adds { IfSome result (λ _. Adds pass.old (event ∷ []) pass.new) }
-    ensures owing { IfSome result (λ owing. owing < 32) }
+    ensures owing { IfSome result (λ owing. owing < 128) }
 {
     match post_one(rt, board, gate, pass, event) {
         Ok(false) => Some(owing),
@@ -103,10 +104,10 @@ fn post_if_own<R: Wait, G: Gate>(
     requires pass { IsPassAt board.now pass.old.caller pass.old }
     requires queues { queues.now ≡ board.now.queues }
     requires known { IsOfSystem board.now.set.processors (length board.now.set.tasks) posted.event }
-    requires owing { owing < 32 }
+    requires owing { owing < 128 }
     ensures pass { IsPassAt board.now pass.old.caller pass.new }
     ensures adds { IfSome result (λ _. Adds pass.old (events_of_stream pass.old.caller (posted ∷ [])) pass.new) }
-    ensures owing { IfSome result (λ owing. owing < 32) }
+    ensures owing { IfSome result (λ owing. owing < 128) }
 {
     if posted.stream != pass.caller() {
         return Some(owing);

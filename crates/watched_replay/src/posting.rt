@@ -76,7 +76,7 @@ fn post_event<R: Wait, G: Gate>(
     requires passes { AllFrom (IsPassAt board.now) 0 passes.old.items }
     requires queues { queues.now ≡ board.now.queues }
     requires known { IsForBoard board.now posted }
-    requires owing { owing < 32 }
+    requires owing { owing < 128 }
     ensures callers { length passes.new.items ≡ length passes.old.items }
     ensures passes { AllFrom (IsPassAt board.now) 0 passes.new.items }
     ensures posted { (done : List Posted)
@@ -85,7 +85,7 @@ fn post_event<R: Wait, G: Gate>(
         passes.new.items }
     ensures seen { (entries : List Entry) → FirstSaw entries passes.old.items
         → FirstSaw entries passes.new.items }
-    ensures owing { IfSome result (λ owing. owing < 32) }
+    ensures owing { IfSome result (λ owing. owing < 128) }
 {
     let pass = &mut passes[posted.stream as usize];
     post_next(rt, board, queues, gate, pass, posted.event, owing)
@@ -107,7 +107,7 @@ fn post_and_publish<R: Wait, K: Wait + Drop, G: Gate>(
     requires passes { AllFrom (IsPassAt board.now) 0 passes.old.items }
     requires queues { queues.now ≡ board.now.queues }
     requires known { IsForBoard board.now posted }
-    requires owing { owing < 32 }
+    requires owing { owing < 128 }
     requires published { FirstSaw (published publisher.old) passes.old.items }
     ensures callers { length passes.new.items ≡ length passes.old.items }
     ensures posted { (done : List Posted)
@@ -116,7 +116,7 @@ fn post_and_publish<R: Wait, K: Wait + Drop, G: Gate>(
         passes.new.items }
     ensures board { board_of publisher.new ≡ board_of publisher.old }
     ensures published { FirstSaw (published publisher.new) passes.new.items }
-    ensures owing { IfSome result (λ owing. owing < 32) }
+    ensures owing { IfSome result (λ owing. owing < 128) }
 {
     let owing = post_event(rt, board, queues, gate, passes, posted, owing)?;
     match publish_new(rt, alloc, board, passes, publisher) {

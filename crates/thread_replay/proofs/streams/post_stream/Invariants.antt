@@ -8,5 +8,5 @@ abbrev pub invariant-loop-posted : goal.invariant-loop-posted
 invariant-loop-posted g l = record {
   own : IsPassAt l.board l.initial.pass.caller l.pass;
   events : AreEventsAt l.pass.seen l.pass.mine (events_of_stream l.initial.pass.caller (take l.posted-index l.events));
-  owing : l.owing < 32;
+  owing : l.owing < 128;
 }

@@ -11,5 +11,5 @@ invariant-loop-posted g l = record {
   streamed : AllFrom (IsStreamedAt l.board (take l.posted-index l.events) true) 0 l.passes.items;
   board : board_of l.publisher ≡ board_of l.initial.publisher;
   published : FirstSaw (published l.publisher) l.passes.items;
-  owing : l.owing < 32;
+  owing : l.owing < 128;
 }
