@@ -6,6 +6,8 @@ use Rattle.task_set.specs.declared.event.Event.{Event}
 use Rattle.scheduler_reply.specs.declared.reply.Entry.{Entry}
 use Rattle.link_state.specs.History.{IsLegal}
 use Rattle.sched_core.specs.CoreData.{entry_of, max_entries}
+use Rattle.sched_core.specs.declared.fault.CoreFault.{CoreFault}
+use Rattle.sched_core.specs.declared.fault.CoreFault.TheVariants as core
 use Rattle.event_history.specs.declared.fault.Receipt.{Receipt}
 use Rattle.event_history.specs.declared.fault.PostFault.{PostFault}
 use Rattle.event_history.specs.declared.fault.PostFault.TheVariants.{Busy, Closed, Full, OutOfMemory}
@@ -52,6 +54,12 @@ pub record WasBusy (old new : PassData) (found : ℕ) : Type 0 where
   pub mine : new.mine ≡ old.mine
   pub close : new.saw_close ≡ old.saw_close
   pub looks : BusyLooks old.looks new.looks found
+
+-- why a core refused the event of a post
+abbrev pub post_fault : CoreFault → PostFault
+post_fault core.Closed = Closed
+post_fault core.Full = Full
+post_fault core.OutOfMemory = OutOfMemory
 
 -- why a post was refused: somebody else had the turn, or the turn that it had found the core closed, or open and full, or
 -- open with room and without memory

@@ -3,29 +3,23 @@ use Rattle.std.specs.Prelude.{◌≡◌, ℕ, Bool, true, false}
 use Rattle.task_set.specs.TaskSet.{SetData}
 use Rattle.task_set.specs.declared.event.Event.{Event}
 use Rattle.scheduler_reply.specs.declared.reply.Reply.{Reply}
-use Rattle.scheduler_reply.specs.declared.reply.Reply.TheVariants.{Placed, Displaced, Waits, Freed, Left, Ticked, AlreadyReady, NotReady, Masked, Remasked, AlreadyOff, AlreadyOn, Off, On}
+use Rattle.scheduler_reply.specs.declared.reply.Reply.TheVariants.{Waits, Left, AlreadyReady, NotReady, Masked, AlreadyOff, AlreadyOn}
 use Rattle.sched_core.specs.CoreData.{CoreData}
 use Rattle.event_history.specs.declared.fault.Unread.{Unread}
 use Rattle.event_history.specs.Boards.{PassData}
 use Rattle.event_history.specs.Entering.{Entered}
 use Rattle.event_history.specs.Posting.{Posted}
 
--- whether a reply may come with orders: somebody may have run, come to a processor or left one
+-- whether a reply may come with orders: it does not say that nobody ran, came to a processor or left one
 abbrev pub may_give_orders : Reply → Bool
-may_give_orders (Placed _) = true
-may_give_orders (Displaced _ _ _) = true
 may_give_orders (Waits _) = false
-may_give_orders (Freed _ _ _) = true
 may_give_orders Left = false
-may_give_orders Ticked = true
 may_give_orders AlreadyReady = false
 may_give_orders NotReady = false
 may_give_orders Masked = false
-may_give_orders (Remasked _ _) = true
 may_give_orders AlreadyOff = false
 may_give_orders AlreadyOn = false
-may_give_orders (Off _) = true
-may_give_orders (On _) = true
+may_give_orders _ = true
 
 -- the core has one entry more, with some reply
 pub record EnteredUnread (old : CoreData) (caller : ℕ) (event : Event) (new : CoreData) (unread : Unread) : Type 0 where

@@ -14,23 +14,9 @@ fn gives_orders(reply: &Reply) -> bool
     ensures { result ≡ may_give_orders reply.now }
 {
     match reply {
-        Reply::Placed { chain: _ }
-        | Reply::Displaced {
-            chain: _,
-            out: _,
-            reach: _,
-        } => true,
-        Reply::Freed {
-            entered: _,
-            chain: _,
-            back: _,
-        }
-        | Reply::Ticked => true,
-        Reply::Remasked { gone: _, came: _ } | Reply::Off { moved: _ } | Reply::On { parts: _ } => {
-            true
-        }
         Reply::Waits { reach: _ } | Reply::Left | Reply::AlreadyReady | Reply::NotReady => false,
         Reply::Masked | Reply::AlreadyOff | Reply::AlreadyOn => false,
+        _ => true,
     }
 }
 

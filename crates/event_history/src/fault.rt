@@ -1,8 +1,11 @@
 //! What a post answers, and why making, posting to or closing a board is refused.
+ghost use Rattle.std.specs.Prelude.{◌≡◌};
+
 use crate::board::Board;
 use crate::pass::Pass;
 use link_table::Reply;
 use order_queues::Sender;
+use sched_core::CoreFault;
 
 /// Where an entry stands in the history, and the reply to its event.
 #[derive(Debug, Drop, PartialEq)]
@@ -38,6 +41,20 @@ pub enum PostFault {
 
     /// There was no memory for one more entry. The history is as it was.
     OutOfMemory,
+}
+
+impl From<CoreFault> for PostFault {
+    ghost use Rattle.event_history.specs.Posting.{post_fault};
+
+    ghost from_gives = { λ fault made. made ≡ post_fault fault };
+
+    fn from(fault: CoreFault) -> PostFault {
+        match fault {
+            CoreFault::Closed => PostFault::Closed,
+            CoreFault::Full => PostFault::Full,
+            CoreFault::OutOfMemory => PostFault::OutOfMemory,
+        }
+    }
 }
 
 /// Why a post ended without an entry.

@@ -12,7 +12,7 @@ use crate::pass_state::{PassSeat, PassState};
 use crate::view::PassView;
 use atomic_table::{Join, Play, Shared, Split, Table, TableRule};
 use order_queues::{Queue, Sender};
-use sched_core::{Core, CoreFault};
+use sched_core::Core;
 use std::alloc::Global;
 use std::marker::{Brand, PhantomData};
 use std::snapshot::Snapshot;
@@ -211,11 +211,7 @@ pub fn post_once<J: Over>(
         }
         Err(fault) => {
             leave(turn, state, held);
-            Err(match fault {
-                CoreFault::Closed => PostFault::Closed,
-                CoreFault::Full => PostFault::Full,
-                CoreFault::OutOfMemory => PostFault::OutOfMemory,
-            })
+            Err(PostFault::from(fault))
         }
     }
 }

@@ -12,7 +12,6 @@ use crate::fault::{EndFault, PostFault, Unread};
 use crate::pass::Pass;
 use crate::pass_state::PassState;
 use crate::turn::{Over, Turn, begin, leave, record_entry};
-use sched_core::CoreFault;
 use std::marker::Brand;
 use std::sync::Wait;
 use std::thread;
@@ -99,11 +98,7 @@ fn unread_once<J: Over>(
         }
         Err(fault) => {
             leave(turn, state, held);
-            Err(match fault {
-                CoreFault::Closed => PostFault::Closed,
-                CoreFault::Full => PostFault::Full,
-                CoreFault::OutOfMemory => PostFault::OutOfMemory,
-            })
+            Err(PostFault::from(fault))
         }
     }
 }
