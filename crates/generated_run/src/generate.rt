@@ -11,7 +11,6 @@ use processor_seat::Gate;
 use std::alloc::Global;
 use std::sync::Wait;
 use std::thread::Threads;
-use std::time::Clock;
 use thread_schedule::schedule_of;
 use trace_reader::{Input, write_input};
 
@@ -26,7 +25,7 @@ pub fn made_text(alloc: Global, sizes: Sizes) -> Result<Vec<u8>, OutOfMemory>
 }
 
 /// The summary of a replay of the input of these numbers, on threads. Refused only where memory is out.
-pub fn summary_of<R: Threads + Wait + Clock + Sync, G: Gate + Sync>(
+pub fn summary_of<R: Threads + Wait + Sync, G: Gate + Sync>(
     rt: &R,
     alloc: Global,
     sizes: Sizes,

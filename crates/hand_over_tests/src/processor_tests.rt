@@ -19,7 +19,6 @@ use std::sync::atomic::{AtomicU64, Ordering};
 use std::test::Fail;
 use std::thread;
 use std::thread::Threads;
-use std::time::Clock;
 use task_set::{Context, Order, TaskSet};
 
 /// The sending end of a queue for two tasks, which ends the test where an order may not come.
@@ -363,7 +362,7 @@ fn send_two_stints<R: Abort + Wait>(rt: &R, queue: &Queue, end: &mut End, number
 }
 
 /// A processor that works to its end.
-fn worked<R: Wait + Clock, G: Gate>(
+fn worked<R: Wait, G: Gate>(
     rt: &R,
     mut processor: Processor,
     queue: &Queue,
@@ -383,7 +382,7 @@ fn worked<R: Wait + Clock, G: Gate>(
 }
 
 /// Works two processors to their ends, each in a thread of its own.
-fn both_worked<R: Threads + Wait + Clock + Sync, G: Gate + Sync>(
+fn both_worked<R: Threads + Wait + Sync, G: Gate + Sync>(
     rt: &R,
     slots: &Slots,
     gate: &G,
@@ -414,7 +413,7 @@ fn both_worked<R: Threads + Wait + Clock + Sync, G: Gate + Sync>(
 }
 
 /// Two processors hand the task 0 to and fro, each in a thread of its own.
-fn hand_to_and_fro<R: Abort + Threads + Wait + Clock + Sync, G: Gate + Sync>(
+fn hand_to_and_fro<R: Abort + Threads + Wait + Sync, G: Gate + Sync>(
     rt: &R,
     alloc: Global,
     slots: &Slots,
@@ -447,7 +446,7 @@ fn hand_to_and_fro<R: Abort + Threads + Wait + Clock + Sync, G: Gate + Sync>(
 }
 
 /// The contexts after two processors handed the task 0 to and fro.
-fn after_to_and_fro<R: Abort + Threads + Wait + Clock + Sync, G: Gate + Sync>(
+fn after_to_and_fro<R: Abort + Threads + Wait + Sync, G: Gate + Sync>(
     rt: &R,
     alloc: Global,
     set: &TaskSet,

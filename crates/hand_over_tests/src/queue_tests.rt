@@ -11,10 +11,14 @@ use std::sync::Wait;
 use std::test::Fail;
 use std::thread;
 use std::thread::Threads;
+use std::time::{Clock, Duration, Instant};
 use task_set::Order;
 
 /// The orders that one thread sends to the other, `Stop` included.
 const RELAYED: u32 = 100_000;
+
+/// How long a receiver sleeps whom nobody wakes, in seconds. One that is woken is back long before.
+const LONGEST_SLEEP: u64 = 60;
 
 /// A sender to a queue for one task, which ends the test where an order may not come.
 #[derive(Drop)]
@@ -290,4 +294,71 @@ fn receive_all<R: Wait + Abort>(
         }
     }
     (receiver, list)
+}
+
+#[test]
+fn receiver_is_woken(rt: HostRuntime) -> Result<(), Fail> {
+    let (queue, sender, receiver) = Queue::new(rt.alloc(), 1)?;
+    let feed = Feed::new(sender);
+    let began = Instant::now(&rt)?;
+    let (sender, (receiver, order)) = stop_sleeper(&rt, &queue, feed, receiver);
+    assert_eq!(rt; order, Some(Order::Stop));
+    assert!(rt; began.elapsed(&rt)? < Duration::from_secs(LONGEST_SLEEP / 2));
+    let settled = settle(queue, sender, receiver);
+    assert_eq!(rt; settled.received, 1);
+    Ok(())
+}
+
+// One thread sleeps until it is woken, and then receives; the other sends `Stop` a while after, and wakes it.
+fn stop_sleeper<R: Threads + Wait + Clock + Abort + Sync>(
+    rt: &R,
+    queue: &Queue,
+    feed: Feed,
+    receiver: Receiver,
+) -> (Sender, (Receiver, Option<Order>))
+    requires sender { feed.queue ≡ queue.now }
+    requires receiver { receiver.queue ≡ queue.now }
+    ensures sender { result.0.queue ≡ queue.now }
+    ensures receiver { result.1.0.queue ≡ queue.now }
+{
+    thread::join(
+        rt,
+        move ||
+            requires { feed.queue ≡ queue.now }
+            ensures { result.queue ≡ queue.entry.now }
+        { send_stop(rt, queue, feed) },
+        move ||
+            requires { receiver.queue ≡ queue.now }
+            ensures { result.0.queue ≡ queue.entry.now }
+        { receive_woken(rt, queue, receiver) },
+    )
+}
+
+fn send_stop<R: Wait + Clock + Abort>(rt: &R, queue: &Queue, mut feed: Feed) -> Sender
+    requires sender { feed.queue ≡ queue.now }
+    ensures sender { result.queue ≡ queue.now }
+{
+    let mut eye = feed.sender.eye(queue);
+    thread::sleep(rt, Duration::from_millis(50));
+    feed.send_late(rt, queue, &mut eye, Order::Stop);
+    queue.wake();
+    feed.sender
+}
+
+fn receive_woken<R: Wait>(
+    rt: &R,
+    queue: &Queue,
+    mut receiver: Receiver,
+) -> (Receiver, Option<Order>)
+    requires receiver { receiver.queue ≡ queue.now }
+    ensures receiver { result.0.queue ≡ queue.now }
+{
+    for _ in 0..100 {
+        let order = receiver.next(rt, queue);
+        if order.is_some() {
+            return (receiver, order);
+        }
+        receiver.wait(rt, queue, Duration::from_secs(LONGEST_SLEEP));
+    }
+    (receiver, None)
 }

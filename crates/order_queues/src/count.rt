@@ -5,6 +5,8 @@ ghost use Rattle.order_queues.specs.Count.{CountRule, writer_view, reader_view, 
 use atomic_table::{Join, Play, Seat, Split, Table, TableRule};
 use std::alloc::{AllocError, Global};
 use std::collections::LinkedList;
+use std::sync::Wait;
+use std::time::Duration;
 
 /// What a seat at the word knows. Clauses alone speak of it: no value of it is ever made.
 pub struct CountView {
@@ -153,5 +155,17 @@ impl Count {
     {
         let note = self.table.shared.split_seat::<Note>(&mut writer.seat);
         self.table.shared.join_seat::<Note>(&mut reader.seat, note);
+    }
+
+    /// Parks the calling thread while the word has the low 32 bits of this number, for no longer than `longest`, or until
+    /// `wake`. It may also return for no reason.
+    pub fn wait<R: Wait>(&self, rt: &R, number: u64, longest: Duration) {
+        let low = (number & 0xffff_ffff) as u32;
+        self.table.shared.park_timeout(rt, 0, low, longest);
+    }
+
+    /// Wakes those who are parked by `wait`.
+    pub fn wake(&self) {
+        self.table.shared.wake_all(0);
     }
 }

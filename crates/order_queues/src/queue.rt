@@ -10,6 +10,7 @@ use affinity_mask::OutOfMemory;
 use std::alloc::Global;
 use std::marker::Model;
 use std::sync::Wait;
+use std::time::Duration;
 use task_set::Order;
 
 /// Orders on their way to one processor, at most [`QUEUE_ROOM`] at once.
@@ -127,6 +128,12 @@ impl Queue {
         self.parts
             .meet(&mut sender.parts, &mut eye.reader, &mut receiver.parts);
     }
+
+    /// Wakes the receiver, if it is parked by [`Receiver::wait`]. It costs much more than an order does, so it is for a
+    /// sender that sends no more.
+    pub fn wake(&self) {
+        self.parts.sent.wake();
+    }
 }
 
 impl Sender {
@@ -200,6 +207,15 @@ impl Receiver {
         ensures { Receives self.old result self.new }
     {
         self.parts.next(rt, &queue.parts)
+    }
+
+    /// Parks the calling thread while no more orders were sent than were received, for no longer than `longest`, or until
+    /// [`Queue::wake`].
+    ///
+    /// It may also return at once, or for no reason, so the caller looks again, by `next`. It changes nothing. An order that
+    /// is sent meanwhile does not end it.
+    pub fn wait<R: Wait>(&self, rt: &R, queue: &Queue, longest: Duration) {
+        queue.parts.sent.wait(rt, self.parts.received, longest);
     }
 }
 

@@ -13,7 +13,6 @@ use context_slots::{Hand, Slots};
 use order_queues::{Queue, Receiver};
 use std::marker::Model;
 use std::sync::Wait;
-use std::time::Clock;
 use task_set::Order;
 
 /// A processor: a hand, the receiving end of a queue, and the order that it could not obey yet, if there is one. Contracts
@@ -141,7 +140,7 @@ impl Processor {
 
     /// Steps until `Stop` is received, so that it obeyed all other orders that it received. It waits for orders, and for
     /// the turns of its takes, for as long as it has to.
-    pub fn work<R: Wait + Clock, G: Gate>(&mut self, rt: &R, queue: &Queue, slots: &Slots, gate: &G)
+    pub fn work<R: Wait, G: Gate>(&mut self, rt: &R, queue: &Queue, slots: &Slots, gate: &G)
         requires slots { self.old.hand.slots ≡ slots.now.id }
         requires queue { self.old.receiver.queue ≡ queue.now }
         requires tasks { queue.now.tasks ≡ length slots.now.set.tasks }
@@ -155,7 +154,7 @@ impl Processor {
         for _ in rt.forever() {
             match self.step(rt, queue, slots, gate) {
                 Step::Did(_order) => patience.renew(),
-                Step::Empty => patience.wait_for_order(rt),
+                Step::Empty => patience.wait_for_order(rt, queue, &self.receiver),
                 Step::NotTurn { task, found } => patience.wait_for_turn(rt, slots, task, found),
                 Step::Stopped => return,
             }

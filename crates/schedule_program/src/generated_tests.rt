@@ -11,7 +11,6 @@ use std::str;
 use std::sync::Wait;
 use std::test::Fail;
 use std::thread::Threads;
-use std::time::Clock;
 use trace_reader::write_input;
 
 /// Appends a line of a generated input, and an event's with this stream in the place of stream 0; reports whether it is one.
@@ -42,7 +41,7 @@ fn on_streams(alloc: Global, text: &str, streams: u32) -> Result<String, Fail>
 }
 
 /// What `make` and `large` write for these numbers; neither reads the input, which is no text.
-fn put_for<R: Threads + Wait + Clock + Sync + Abort>(
+fn put_for<R: Threads + Wait + Sync + Abort>(
     rt: &R,
     alloc: Global,
     command: &str,
@@ -56,7 +55,7 @@ fn put_for<R: Threads + Wait + Clock + Sync + Abort>(
 }
 
 /// `make` and `large` write these texts for these numbers.
-fn expect_made<R: Threads + Wait + Clock + Sync + Abort>(
+fn expect_made<R: Threads + Wait + Sync + Abort>(
     rt: &R,
     alloc: Global,
     sizes: [&str; 4],
@@ -144,7 +143,7 @@ fn summary_text(alloc: Global, sizes: [&str; 4], numbers: &str) -> Result<String
 }
 
 /// `large` writes this summary for these numbers.
-fn expect_summary<R: Threads + Wait + Clock + Sync + Abort>(
+fn expect_summary<R: Threads + Wait + Sync + Abort>(
     rt: &R,
     alloc: Global,
     sizes: [&str; 4],
@@ -174,7 +173,7 @@ fn generated_text(alloc: Global, number: u64, streams: u32) -> Result<String, Fa
 }
 
 /// Runs the input of a number, on so many streams, and checks what it writes.
-fn run_on_streams<R: Threads + Wait + Clock + Sync + Abort>(
+fn run_on_streams<R: Threads + Wait + Sync + Abort>(
     rt: &R,
     alloc: Global,
     number: u64,
@@ -187,7 +186,7 @@ fn run_on_streams<R: Threads + Wait + Clock + Sync + Abort>(
 }
 
 /// Runs the inputs of 67 numbers on so many streams.
-fn run_numbers<R: Threads + Wait + Clock + Sync + Abort>(
+fn run_numbers<R: Threads + Wait + Sync + Abort>(
     rt: &R,
     alloc: Global,
     streams: u32,

@@ -10,7 +10,6 @@ use std::process::Abort;
 use std::sync::Wait;
 use std::test::Fail;
 use std::thread::Threads;
-use std::time::Clock;
 
 /// The first bytes of a text, so many of them.
 fn prefix_of(text: &str, length: usize) -> &[u8] {
@@ -34,7 +33,7 @@ static REFUSED_PREFIXES: [(usize, usize, u64, u8); 11] = [
 ];
 
 /// The prefix of the smallest input with this length is answered so.
-fn expect_prefix<R: Threads + Wait + Clock + Sync + Abort>(
+fn expect_prefix<R: Threads + Wait + Sync + Abort>(
     rt: &R,
     alloc: Global,
     length: usize,
@@ -46,7 +45,7 @@ fn expect_prefix<R: Threads + Wait + Clock + Sync + Abort>(
 }
 
 /// Each prefix of the smallest input, from one length up to another, is refused with this line and kind.
-fn expect_refused_prefixes<R: Threads + Wait + Clock + Sync + Abort>(
+fn expect_refused_prefixes<R: Threads + Wait + Sync + Abort>(
     rt: &R,
     alloc: Global,
     first: usize,
@@ -78,7 +77,7 @@ fn whole_input(rt: HostRuntime) -> Result<(), Fail> {
 }
 
 /// `check` refuses the prefix of the smallest schedule with this length: this line has no line feed.
-fn expect_short<R: Threads + Wait + Clock + Sync + Abort>(
+fn expect_short<R: Threads + Wait + Sync + Abort>(
     rt: &R,
     alloc: Global,
     length: usize,
@@ -103,7 +102,7 @@ fn prefixes_of_the_smallest_schedule(rt: HostRuntime) -> Result<(), Fail> {
 }
 
 /// `run` over this source and this sink, where the call of this number fails, has this status and writes these bytes.
-fn expect_at_fault<R: Threads + Wait + Clock + Sync + Abort>(
+fn expect_at_fault<R: Threads + Wait + Sync + Abort>(
     rt: &R,
     alloc: Global,
     source: MemSource,
@@ -119,7 +118,7 @@ fn expect_at_fault<R: Threads + Wait + Clock + Sync + Abort>(
 }
 
 /// `run` of the smallest input, eight bytes a read, answers so where the read of this number fails.
-fn expect_at_failing_read<R: Threads + Wait + Clock + Sync + Abort>(
+fn expect_at_failing_read<R: Threads + Wait + Sync + Abort>(
     rt: &R,
     alloc: Global,
     call: u64,
@@ -150,7 +149,7 @@ fn failing_reads_that_never_come(rt: HostRuntime) -> Result<(), Fail> {
 
 /// `run` of the smallest input, ten bytes a write, answers so where the write of this number fails, and the sink has so
 /// many bytes of the smallest schedule.
-fn expect_at_failing_write<R: Threads + Wait + Clock + Sync + Abort>(
+fn expect_at_failing_write<R: Threads + Wait + Sync + Abort>(
     rt: &R,
     alloc: Global,
     call: u64,
@@ -201,7 +200,7 @@ fn with_line(alloc: Global, text: &str, old: &str, new: &[u8]) -> Result<Vec<u8>
 }
 
 /// `run` of the smallest input with another line in the place of this one answers so.
-fn expect_with_line<R: Threads + Wait + Clock + Sync + Abort>(
+fn expect_with_line<R: Threads + Wait + Sync + Abort>(
     rt: &R,
     alloc: Global,
     old: &str,
@@ -290,7 +289,7 @@ static WRONG_LINES: [(&str, &[u8], Status); 7] = [
 ];
 
 /// `check` of the smallest schedule with another line in the place of this one has this status.
-fn expect_wrong<R: Threads + Wait + Clock + Sync + Abort>(
+fn expect_wrong<R: Threads + Wait + Sync + Abort>(
     rt: &R,
     alloc: Global,
     old: &str,

@@ -24,7 +24,6 @@ use shift_io::{ReadAllFault, Sink, Source, put_all, read_all};
 use std::alloc::Global;
 use std::sync::Wait;
 use std::thread::Threads;
-use std::time::Clock;
 use watch_run::watched_text;
 use weak_run::weak_text;
 
@@ -39,7 +38,7 @@ use weak_run::weak_text;
 /// the schedule text, and then what they read; the gate is also called before each of their reads. `make` writes the text
 /// of the input of its four numbers, and `large` replays that input as `run` does and writes a summary; neither reads the
 /// source.
-pub fn run<R: Threads + Wait + Clock + Sync, S: Source, K: Sink, G: Gate + Sync>(
+pub fn run<R: Threads + Wait + Sync, S: Source, K: Sink, G: Gate + Sync>(
     rt: &R,
     alloc: Global,
     words: &[String],
@@ -144,7 +143,7 @@ fn bytes_for<S: Source>(
 }
 
 /// The text that a command makes of these bytes, or the status that says why there is none.
-fn text_made<R: Threads + Wait + Clock + Sync, G: Gate + Sync>(
+fn text_made<R: Threads + Wait + Sync, G: Gate + Sync>(
     rt: &R,
     alloc: Global,
     command: Command,

@@ -11,7 +11,6 @@ use std::str;
 use std::sync::Wait;
 use std::test::Fail;
 use std::thread::Threads;
-use std::time::Clock;
 use worked_histories::{History, all_histories, texts_of};
 
 pub(crate) static SMALLEST_INPUT: &str = "apa 1\nprocessors 1\ntask a 5 0\n0 arrive a\nend\n";
@@ -54,7 +53,7 @@ fn owned(alloc: Global, words: &[&str]) -> Result<Vec<String>, AllocError> {
     Ok(owned)
 }
 
-fn run_words<R: Threads + Wait + Clock + Sync, S: Source, K: Sink, G: Gate + Sync>(
+fn run_words<R: Threads + Wait + Sync, S: Source, K: Sink, G: Gate + Sync>(
     rt: &R,
     alloc: Global,
     words: &[&str],
@@ -67,7 +66,7 @@ fn run_words<R: Threads + Wait + Clock + Sync, S: Source, K: Sink, G: Gate + Syn
 }
 
 /// The status of a call over this source and this sink, with this gate, and the text that it wrote.
-pub(crate) fn replay_with<R: Threads + Wait + Clock + Sync, G: Gate + Sync>(
+pub(crate) fn replay_with<R: Threads + Wait + Sync, G: Gate + Sync>(
     rt: &R,
     alloc: Global,
     words: &[&str],
@@ -80,7 +79,7 @@ pub(crate) fn replay_with<R: Threads + Wait + Clock + Sync, G: Gate + Sync>(
 }
 
 /// The status of a call over memory, and the text that it wrote.
-pub(crate) fn replay<R: Threads + Wait + Clock + Sync>(
+pub(crate) fn replay<R: Threads + Wait + Sync>(
     rt: &R,
     alloc: Global,
     words: &[&str],
@@ -92,7 +91,7 @@ pub(crate) fn replay<R: Threads + Wait + Clock + Sync>(
 }
 
 /// A call over memory has this status, and writes this text.
-pub(crate) fn expect_answer<R: Threads + Wait + Clock + Sync + Abort>(
+pub(crate) fn expect_answer<R: Threads + Wait + Sync + Abort>(
     rt: &R,
     alloc: Global,
     words: &[&str],
@@ -107,7 +106,7 @@ pub(crate) fn expect_answer<R: Threads + Wait + Clock + Sync + Abort>(
 }
 
 /// `run` writes this schedule for this input.
-pub(crate) fn expect_schedule<R: Threads + Wait + Clock + Sync + Abort>(
+pub(crate) fn expect_schedule<R: Threads + Wait + Sync + Abort>(
     rt: &R,
     alloc: Global,
     input: &str,
@@ -124,7 +123,7 @@ pub(crate) fn expect_schedule<R: Threads + Wait + Clock + Sync + Abort>(
 }
 
 /// A schedule text is valid, with so many entries.
-pub(crate) fn expect_valid<R: Threads + Wait + Clock + Sync + Abort>(
+pub(crate) fn expect_valid<R: Threads + Wait + Sync + Abort>(
     rt: &R,
     alloc: Global,
     schedule: &[u8],
@@ -135,7 +134,7 @@ pub(crate) fn expect_valid<R: Threads + Wait + Clock + Sync + Abort>(
 }
 
 /// `run` refuses an input with this line and kind, and writes nothing.
-pub(crate) fn expect_refused<R: Threads + Wait + Clock + Sync + Abort>(
+pub(crate) fn expect_refused<R: Threads + Wait + Sync + Abort>(
     rt: &R,
     alloc: Global,
     input: &str,
@@ -164,7 +163,7 @@ fn smallest_history_over_std_streams(rt: HostRuntime) -> Result<(), Fail> {
 }
 
 /// A history has the schedule that was worked out for it, which is valid.
-pub(crate) fn expect_history<R: Threads + Wait + Clock + Sync + Abort>(
+pub(crate) fn expect_history<R: Threads + Wait + Sync + Abort>(
     rt: &R,
     alloc: Global,
     history: &History,

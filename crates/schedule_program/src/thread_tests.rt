@@ -8,7 +8,6 @@ use std::sync::Wait;
 use std::sync::atomic::{AtomicBool, AtomicU64, Ordering};
 use std::test::Fail;
 use std::thread::Threads;
-use std::time::Clock;
 use std::{str, thread};
 use worked_histories::{History, all_histories};
 
@@ -88,7 +87,7 @@ impl Gate for WorkerGate {
 }
 
 /// `run` writes this schedule for this input, with this gate.
-fn expect_with_gate<R: Threads + Wait + Clock + Sync + Abort, G: Gate + Sync>(
+fn expect_with_gate<R: Threads + Wait + Sync + Abort, G: Gate + Sync>(
     rt: &R,
     alloc: Global,
     input: &str,
@@ -192,7 +191,7 @@ fn expect_in_order(
 }
 
 /// `run` writes a valid schedule with so many entries for an input, those of each stream in their order.
-pub(crate) fn expect_run_on_streams<R: Threads + Wait + Clock + Sync + Abort>(
+pub(crate) fn expect_run_on_streams<R: Threads + Wait + Sync + Abort>(
     rt: &R,
     alloc: Global,
     input: &str,
@@ -225,7 +224,7 @@ fn on_three_streams(alloc: Global, history: &History) -> Result<String, Fail> {
 }
 
 /// `run` of a history on three streams writes a valid schedule.
-pub(crate) fn expect_on_three_streams<R: Threads + Wait + Clock + Sync + Abort>(
+pub(crate) fn expect_on_three_streams<R: Threads + Wait + Sync + Abort>(
     rt: &R,
     alloc: Global,
     history: &History,
@@ -260,7 +259,7 @@ impl Gate for SlowGate {
 }
 
 /// What `run` writes for an input of 29 events with a slow gate, which is called before and after each post.
-fn put_slowly<R: Threads + Wait + Clock + Sync + Abort>(
+fn put_slowly<R: Threads + Wait + Sync + Abort>(
     rt: &R,
     alloc: Global,
     input: &str,
@@ -277,7 +276,7 @@ fn put_slowly<R: Threads + Wait + Clock + Sync + Abort>(
 }
 
 /// `run` of 29 events on three streams with a slow gate writes a valid schedule, with each stream in its order.
-fn expect_slow<R: Threads + Wait + Clock + Sync + Abort>(
+fn expect_slow<R: Threads + Wait + Sync + Abort>(
     rt: &R,
     alloc: Global,
     input: &str,

@@ -15,13 +15,12 @@ use schedule_text::write_schedule;
 use std::alloc::Global;
 use std::sync::Wait;
 use std::thread::Threads;
-use std::time::Clock;
 use task_set::Context;
 use thread_schedule::schedule_of;
 use trace_reader::{Input, read_input};
 
 /// The schedule text of the input that these bytes are, or the status that says why there is none.
-pub fn replayed_text<R: Threads + Wait + Clock + Sync, G: Gate + Sync>(
+pub fn replayed_text<R: Threads + Wait + Sync, G: Gate + Sync>(
     rt: &R,
     alloc: Global,
     bytes: &[u8],

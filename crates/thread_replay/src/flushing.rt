@@ -23,7 +23,7 @@ pub fn flush<R: Wait>(rt: &R, board: &Board, queues: &[Queue], pass: &mut Pass) 
     owed == 0
 }
 
-/// Sends what is owed until nothing is.
+/// Sends what is owed until nothing is, and wakes those to whom it was sent, who may sleep for long.
 pub fn flush_all<R: Wait>(rt: &R, board: &Board, queues: &[Queue], pass: &mut Pass)
     requires board { pass.old.board ≡ board.now.id }
     requires queues { queues.now ≡ board.now.queues }
@@ -33,9 +33,18 @@ pub fn flush_all<R: Wait>(rt: &R, board: &Board, queues: &[Queue], pass: &mut Pa
     ensures eyes { AreEyesOf board.now.queues pass.new.eyes }
 {
     for _ in rt.forever() {
-        if flush(rt, board, queues, pass) {
+        let done = flush(rt, board, queues, pass);
+        wake_all(queues);
+        if done {
             return;
         }
     }
     unreachable!()
+}
+
+/// Wakes the processors that sleep because they had no orders.
+fn wake_all(queues: &[Queue]) {
+    for queue in queues {
+        queue.wake();
+    }
 }

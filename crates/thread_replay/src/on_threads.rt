@@ -25,7 +25,6 @@ use std::sync::Wait;
 use std::sync::atomic::AtomicBool;
 use std::thread;
 use std::thread::{Scope, Threads};
-use std::time::Clock;
 use trace_reader::Posted;
 
 /// The core of a replay, closed, and the hands of the processors, in the order of their numbers.
@@ -106,7 +105,7 @@ fn close_by_last<R: Wait, G: Gate>(
 /// Starts all threads, closes the core once the streams are joined, and joins the workers. The streams are started first:
 /// they post while the workers are started, and none of them waits for a worker. All memory of the joins is taken before
 /// the first start, since a worker that was started waits for its `Stop`.
-fn run_threads<'s, E, R: Threads + Wait + Clock + Sync, G: Gate + Sync>(
+fn run_threads<'s, E, R: Threads + Wait + Sync, G: Gate + Sync>(
     scope: &Scope<'s, E>,
     rt: &'s R,
     alloc: Global,
@@ -153,7 +152,7 @@ fn run_threads<'s, E, R: Threads + Wait + Clock + Sync, G: Gate + Sync>(
 }
 
 /// Runs the threads in a scope of their own.
-fn in_threads<R: Threads + Wait + Clock + Sync, G: Gate + Sync>(
+fn in_threads<R: Threads + Wait + Sync, G: Gate + Sync>(
     rt: &R,
     alloc: Global,
     board: &Board,
@@ -234,7 +233,7 @@ pub fn settle_replay(
 /// threads are joined, and the board and the queues are settled. What a refused start would have done the caller does.
 /// A queue, a receiver and a hand are those of the processor's number. Out of memory comes where memory is refused, and
 /// where an event could not be posted; all that was handed in by value is dropped then.
-pub fn replay<R: Threads + Wait + Clock + Sync, G: Gate + Sync>(
+pub fn replay<R: Threads + Wait + Sync, G: Gate + Sync>(
     rt: &R,
     alloc: Global,
     board: Board,

@@ -15,7 +15,6 @@ use std::sync::Wait;
 use std::sync::atomic::AtomicBool;
 use std::sync::atomic::Ordering::SeqCst;
 use std::thread::{Promise, PromisedHandle, Scope, Threads};
-use std::time::Clock;
 
 /// What a worker's thread gives back: the processor of this number, of these queues and slots, in step.
 #[derive(Clone, Copy)]
@@ -46,7 +45,7 @@ pub fn queue_of<'a>(queues: &'a [Queue], slots: &Slots, processor: &Processor) -
 }
 
 /// Works a processor until it has received `Stop`.
-fn work<R: Wait + Clock, G: Gate>(
+fn work<R: Wait, G: Gate>(
     rt: &R,
     queues: &[Queue],
     slots: &Slots,
@@ -63,7 +62,7 @@ fn work<R: Wait + Clock, G: Gate>(
 }
 
 /// Works a processor until it has received `Stop`, unless the flag is raised, which only a refused start does.
-fn work_unless<R: Wait + Clock, G: Gate>(
+fn work_unless<R: Wait, G: Gate>(
     rt: &R,
     queues: &[Queue],
     slots: &Slots,
@@ -83,7 +82,7 @@ fn work_unless<R: Wait + Clock, G: Gate>(
 
 /// Starts a worker. Where no thread can be started, the flag is raised, so that the closure that comes back gives the
 /// processor at once.
-fn start<'s, E, R: Threads + Wait + Clock + Sync, G: Gate + Sync>(
+fn start<'s, E, R: Threads + Wait + Sync, G: Gate + Sync>(
     scope: &Scope<'s, E>,
     rt: &'s R,
     queues: &'s [Queue],
@@ -147,7 +146,7 @@ fn put_first<'s>(
 
 /// Starts a worker for each processor, from the last on, and gives them in the order of their processors, and those
 /// processors for which no thread could be started, in their order.
-pub fn start_all<'s, E, R: Threads + Wait + Clock + Sync, G: Gate + Sync>(
+pub fn start_all<'s, E, R: Threads + Wait + Sync, G: Gate + Sync>(
     scope: &Scope<'s, E>,
     rt: &'s R,
     queues: &'s [Queue],
@@ -177,7 +176,7 @@ pub fn start_all<'s, E, R: Threads + Wait + Clock + Sync, G: Gate + Sync>(
 }
 
 /// Joins a worker's thread, and works its processor to the end, which a worker that was not refused has done.
-fn join<'s, R: Threads + Wait + Clock, G: Gate>(
+fn join<'s, R: Threads + Wait, G: Gate>(
     rt: &R,
     queues: &[Queue],
     slots: &Slots,
@@ -194,7 +193,7 @@ fn join<'s, R: Threads + Wait + Clock, G: Gate>(
 
 /// The processor of the last worker, which is joined; or the last of those that are left, where it has no thread. None
 /// where there is no worker.
-fn end_last<'s, R: Threads + Wait + Clock, G: Gate>(
+fn end_last<'s, R: Threads + Wait, G: Gate>(
     rt: &R,
     queues: &[Queue],
     slots: &Slots,
@@ -227,7 +226,7 @@ fn end_last<'s, R: Threads + Wait + Clock, G: Gate>(
 }
 
 /// Joins all workers, from the last on, and gives all processors in their order, those that were left among them.
-pub fn join_all<'s, R: Threads + Wait + Clock, G: Gate>(
+pub fn join_all<'s, R: Threads + Wait, G: Gate>(
     rt: &R,
     queues: &[Queue],
     slots: &Slots,

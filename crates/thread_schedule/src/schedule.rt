@@ -13,7 +13,6 @@ use sched_core::Core;
 use std::alloc::Global;
 use std::sync::Wait;
 use std::thread::Threads;
-use std::time::Clock;
 use task_set::{Context, TaskSet};
 use thread_replay::{Replayed, replay};
 use trace_reader::Posted;
@@ -28,7 +27,7 @@ pub struct Schedule {
 /// The schedule of these events, run on threads: a worker for each processor, and a thread for each stream that has
 /// events. The gate is called around each post and before each take. Out of memory comes where memory is refused, and
 /// where an event could not be posted.
-pub fn schedule_of<R: Threads + Wait + Clock + Sync, G: Gate + Sync>(
+pub fn schedule_of<R: Threads + Wait + Sync, G: Gate + Sync>(
     rt: &R,
     alloc: Global,
     set: &TaskSet,

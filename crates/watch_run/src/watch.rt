@@ -11,7 +11,6 @@ use schedule_run::text_of_replay;
 use std::alloc::Global;
 use std::sync::Wait;
 use std::thread::Threads;
-use std::time::Clock;
 use trace_reader::read_input;
 use watched_replay::watched_schedule_of;
 
@@ -20,7 +19,7 @@ pub const MAX_OBSERVERS: u32 = 8;
 
 /// The schedule text of the input that these bytes are, and a line for each of so many observers; or the status that says
 /// why there is none. The gate is called as in `replayed_text`, and by each observer before each of its reads at point 3.
-pub fn watched_text<R: Threads + Wait + Clock + Sync, G: Gate + Sync>(
+pub fn watched_text<R: Threads + Wait + Sync, G: Gate + Sync>(
     rt: &R,
     alloc: Global,
     bytes: &[u8],

@@ -10,13 +10,12 @@ use std::sync::atomic::AtomicU64;
 use std::sync::atomic::Ordering::SeqCst;
 use std::test::Fail;
 use std::thread::Threads;
-use std::time::Clock;
 use task_set::{Context, Event, TaskSet};
 use trace_reader::Posted;
 use watched_replay::{Watched, watched_schedule_of};
 
 /// Two tasks arrive, each on a stream of its own: the second one may run where the first one is, which moves aside.
-fn watch_two<R: Threads + Wait + Clock + Sync, G: Gate + Sync>(
+fn watch_two<R: Threads + Wait + Sync, G: Gate + Sync>(
     rt: &R,
     alloc: Global,
     set: &TaskSet,

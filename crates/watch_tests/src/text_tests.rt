@@ -10,7 +10,6 @@ use std::sync::Wait;
 use std::sync::atomic::{AtomicBool, AtomicU64, Ordering};
 use std::test::Fail;
 use std::thread::Threads;
-use std::time::Clock;
 use std::{str, thread};
 use trace_reader::write_input;
 use watch_run::watched_text;
@@ -61,7 +60,7 @@ fn expect_two(rt: &impl Abort, alloc: Global, text: &str) -> Result<(), Fail> {
 }
 
 /// The text that is made of this input, with so many observers and this gate.
-fn watched<R: Threads + Wait + Clock + Sync + Abort, G: Gate + Sync>(
+fn watched<R: Threads + Wait + Sync + Abort, G: Gate + Sync>(
     rt: &R,
     alloc: Global,
     input: &str,

@@ -24,7 +24,6 @@ use std::sync::Wait;
 use std::sync::atomic::AtomicBool;
 use std::thread;
 use std::thread::{Scope, Threads};
-use std::time::Clock;
 use thread_replay::{Threaded, close_core, workers};
 use trace_reader::Posted;
 
@@ -61,7 +60,7 @@ fn close_by_first<R: Wait, G: Gate>(
 
 /// Starts the workers and the observers, posts the events, closes the core and joins all threads. All memory of the joins
 /// is taken before the first start, since a worker that was started waits for its `Stop`.
-fn run_threads<'s, E, R: Threads + Wait + Clock + Sync, K: Wait + Drop, G: Gate + Sync>(
+fn run_threads<'s, E, R: Threads + Wait + Sync, K: Wait + Drop, G: Gate + Sync>(
     scope: &Scope<'s, E>,
     rt: &'s R,
     alloc: Global,
@@ -121,7 +120,7 @@ fn run_threads<'s, E, R: Threads + Wait + Clock + Sync, K: Wait + Drop, G: Gate 
 }
 
 /// Runs the threads in a scope of their own.
-pub fn in_threads<R: Threads + Wait + Clock + Sync, K: Wait + Drop, G: Gate + Sync>(
+pub fn in_threads<R: Threads + Wait + Sync, K: Wait + Drop, G: Gate + Sync>(
     rt: &R,
     alloc: Global,
     board: &Board,

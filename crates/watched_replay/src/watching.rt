@@ -24,7 +24,6 @@ use schedule_board::{Observer, Publisher, make_board};
 use std::alloc::Global;
 use std::sync::Wait;
 use std::thread::Threads;
-use std::time::Clock;
 use task_set::{Context, TaskSet};
 use thread_replay::{Replayed, flags, settle_replay};
 use thread_schedule::{Beginning, beginning_of, carried_contexts};
@@ -47,7 +46,7 @@ struct WatchedReplay {
 }
 
 /// Replays events on threads, with these observers beside it.
-fn watched_replay<R: Threads + Wait + Clock + Sync, K: Wait + Drop, G: Gate + Sync>(
+fn watched_replay<R: Threads + Wait + Sync, K: Wait + Drop, G: Gate + Sync>(
     rt: &R,
     alloc: Global,
     board: Board,
@@ -107,7 +106,7 @@ fn watched_replay<R: Threads + Wait + Clock + Sync, K: Wait + Drop, G: Gate + Sy
 /// called around each post, before each take, and at point 3 before each of the observers' 100 reads beside the posts. What
 /// a refused start would have done the caller does. Out of memory comes where memory is refused, where an event could not
 /// be posted, and where an observer saw more than the history has.
-pub fn watched_schedule_of<R: Threads + Wait + Clock + Sync, G: Gate + Sync>(
+pub fn watched_schedule_of<R: Threads + Wait + Sync, G: Gate + Sync>(
     rt: &R,
     alloc: Global,
     set: &TaskSet,
