@@ -100,22 +100,15 @@ arrival_keeps : (n : NestedData) (t : ℕ) (reply : NestedReply) (new : NestedDa
 arrival_keeps n t answer.Entered new step = column_kept n new _ step.1.after refl
 arrival_keeps n t (answer.Displaced out node) new step = column_kept n new _ step.1.after refl
 arrival_keeps n t (answer.Waits node) new step = column_kept n new _ step.1.after refl
-arrival_keeps n t (answer.Freed entered) new step = absurd step
-arrival_keeps n t answer.Left new step = absurd step
-arrival_keeps n t answer.Ticked new step = absurd step
 arrival_keeps n t answer.AlreadyReady new step = column_kept n new n step.1 refl
-arrival_keeps n t answer.NotReady new step = absurd step
+arrival_keeps n t _ new step = absurd step
 
 departure_keeps : (n : NestedData) (t : ℕ) (reply : NestedReply) (new : NestedData) → DepartStep n t reply new → new.priorities ≡ n.priorities
-departure_keeps n t answer.Entered new step = absurd step
-departure_keeps n t (answer.Displaced out node) new step = absurd step
-departure_keeps n t (answer.Waits node) new step = absurd step
+departure_keeps n t answer.NotReady new step = column_kept n new n step.1 refl
+departure_keeps n t answer.Left new step = column_kept n new _ step.1 refl
 departure_keeps n t (answer.Freed None) new step = column_kept n new _ step.1.1 refl
 departure_keeps n t (answer.Freed (Some w)) new step = column_kept n new _ step.1.1 refl
-departure_keeps n t answer.Left new step = column_kept n new _ step.1 refl
-departure_keeps n t answer.Ticked new step = absurd step
-departure_keeps n t answer.AlreadyReady new step = absurd step
-departure_keeps n t answer.NotReady new step = column_kept n new n step.1 refl
+departure_keeps n t _ new step = absurd step
 
 -- a step keeps the tasks
 pub step_keeps : (n : NestedData) (event : Event) (reply : NestedReply) (new : NestedData) → LaminarStep n event reply new → new.priorities ≡ n.priorities

@@ -71,10 +71,7 @@ ArriveStep n t answer.AlreadyReady new = (ready_of n t ≡ true) × (new ≡ n)
 ArriveStep n t answer.Entered new = (ready_of n t ≡ false) × Enters n t new
 ArriveStep n t (answer.Displaced out node) new = (ready_of n t ≡ false) × Displaces n t out node new
 ArriveStep n t (answer.Waits node) new = (ready_of n t ≡ false) × StaysOut n t node new
-ArriveStep n t (answer.Freed entered) new = ⊥
-ArriveStep n t answer.Left new = ⊥
-ArriveStep n t answer.Ticked new = ⊥
-ArriveStep n t answer.NotReady new = ⊥
+ArriveStep n t _ new = ⊥
 
 -- w waits, and no tight node contains its mask
 pub record IsFree (n : NestedData) (w : ℕ) : Type 0 where
@@ -100,11 +97,7 @@ abbrev pub DepartStep : NestedData → ℕ → NestedReply → NestedData → Ty
 DepartStep n t answer.NotReady new = (ready_of n t ≡ false) × (new ≡ n)
 DepartStep n t answer.Left new = Waits n t × (new ≡ without_task n t)
 DepartStep n t (answer.Freed entered) new = (linked_of n t ≡ true) × FillStep (without_task n t) entered new
-DepartStep n t answer.AlreadyReady new = ⊥
-DepartStep n t answer.Entered new = ⊥
-DepartStep n t (answer.Displaced out node) new = ⊥
-DepartStep n t (answer.Waits node) new = ⊥
-DepartStep n t answer.Ticked new = ⊥
+DepartStep n t _ new = ⊥
 
 -- the step of the scheduler by counts; masks do not change, and processors stay on line
 abbrev pub LaminarStep : NestedData → Event → NestedReply → NestedData → Type 0

@@ -1,5 +1,6 @@
 -- The reply to a change of a mask, or of the processors on line, passes or has a defect.
-use Rattle.std.proofs.Common.{◌≡◌, ℕ, ◌<◌, true, false, [], ◌∷◌, Option, Some, None, refl, sym, ap, ◌∙◌, subst, inl, inr, ◌⊎◌}
+use Rattle.std.proofs.Common.{◌≡◌, ℕ, ◌<◌, true, false, Option, Some, None, refl, sym, ap, ◌∙◌, subst, inl, inr, ◌⊎◌}
+use Rattle.std.specs.Prelude.{All}
 use Rattle.std.proofs.lemmas.Bool.{cases_Bool, cases_eq, true≢false}
 use Rattle.std.proofs.lemmas.List.Elements.{All-head, All-tail}
 use Rattle.std.proofs.lemmas.Option.{same_Some}
@@ -12,7 +13,7 @@ use Rattle.scheduler_reply.specs.declared.reply.Gone.{Gone}
 use Rattle.scheduler_reply.specs.declared.reply.Moved.{Moved}
 use Rattle.scheduler_reply.specs.declared.reply.Reply.{Reply}
 use Rattle.scheduler_reply.specs.declared.reply.Reply.TheVariants.{Masked, Remasked, AlreadyOff, AlreadyOn, Off, On}
-use Rattle.scheduler_reply.specs.Reply.{reply_of_came}
+use Rattle.scheduler_reply.specs.Reply.{reply_of_came, came_sets, sets_of}
 use Rattle.link_state.specs.State.{State, IsState, is_ready, is_linked, task_count, task_on, state_with_mask, state_with_online, state_with_offline, state_after_leaving}
 use Rattle.link_state.specs.History.{state_after_left}
 use Rattle.link_state.proofs.Changes.{IsState-state_with_online}
@@ -35,26 +36,22 @@ use Rattle.reach_certificate.proofs.PartJudgements.{came_judged, gone_judged}
 abbrev IsSmall : ℕ → Type 0
 IsSmall X = Within X (all_below processor_count)
 
+same_sets : (c : Came) → came_sets c ≡ sets_of (reply_of_came c)
+same_sets (came.Placed chain) = refl
+same_sets _ = refl
+
+came_small : (c : Came) → All IsSmall (came_sets c) → IsOfProcessors (reply_of_came c)
+came_small c small = subst (All IsSmall) (same_sets c) small
+
 moved_small : (moved : Moved) → IsOfProcessors (Off (Some moved)) → IsOfProcessors (reply_of_came moved.came)
 moved_small moved small = came_small moved.came small
-  where
-    came_small : (c : Came) → IsOfProcessors (Off (Some record { task = moved.task; came = c })) → IsOfProcessors (reply_of_came c)
-    came_small (came.Placed chain) small = small
-    came_small (came.Displaced chain out reach) small = small
-    came_small (came.Waits reach) small = small
 
 returned_small : (gone : Option Gone) (c : Came) → IsOfProcessors (Remasked gone c) → IsOfProcessors (reply_of_came c)
-returned_small None (came.Placed chain) small = small
-returned_small None (came.Displaced chain out reach) small = small
-returned_small None (came.Waits reach) small = small
-returned_small (Some gone) (came.Placed chain) small = All-tail IsSmall gone.back [] small
-returned_small (Some gone) (came.Displaced chain out reach) small = All-tail IsSmall gone.back (reach ∷ []) small
-returned_small (Some gone) (came.Waits reach) small = All-tail IsSmall gone.back (reach ∷ []) small
+returned_small None c small = came_small c small
+returned_small (Some gone) c small = came_small c (All-tail IsSmall gone.back (came_sets c) small)
 
 left_small : (gone : Gone) (c : Came) → IsOfProcessors (Remasked (Some gone) c) → IsSmall gone.back
-left_small gone (came.Placed chain) small = All-head IsSmall gone.back [] small
-left_small gone (came.Displaced chain out reach) small = All-head IsSmall gone.back (reach ∷ []) small
-left_small gone (came.Waits reach) small = All-head IsSmall gone.back (reach ∷ []) small
+left_small gone c small = All-head IsSmall gone.back (came_sets c) small
 
 -- ---- what a reply says
 masked_decided : (reply : Reply) → Decided (reply ≡ Masked)

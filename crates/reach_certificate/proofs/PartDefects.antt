@@ -7,7 +7,7 @@ use Rattle.scheduler_reply.specs.declared.reply.Gone.{Gone}
 use Rattle.link_state.specs.State.{State, IsState, is_ready, priority_of}
 use Rattle.link_state.specs.Step.{IsNobodyInto, IsMostUrgentInto}
 use Rattle.link_state.proofs.Unique.{ready_number}
-use Rattle.reach_certificate.specs.Defect.{AllFit, IsFirstMisfit, PlacedFits, DisplacedFits, FreedFits, ReachFits, BackFits, AgainstFits, IsNoLessUrgent, processor_count, OverFits, HasBadOver, EntersRightly, EntersWrongly, DisplacesRightly, DisplacesWrongly, CameIsRight, IsCameDefect, GoneIsRight, IsGoneDefect}
+use Rattle.reach_certificate.specs.Defect.{AllFit, IsFirstMisfit, PlacedFits, DisplacedFits, FreedFits, ReachFits, BackFits, AgainstFits, IsNoLessUrgent, processor_count, OverFits, HasBadOver, EntersRightly, EntersWrongly, DisplacesRightly, DisplacesWrongly, DisplacedIsRight, CameIsRight, IsDisplacedDefect, IsCameDefect, GoneIsRight, IsGoneDefect}
 use Rattle.reach_certificate.specs.declared.defect.Defect.{Defect}
 use Rattle.reach_certificate.specs.declared.defect.Defect.TheVariants.{WrongReply, BadChain, BadSet, WrongTask}
 use Rattle.reach_certificate.proofs.ChainPlaces.{all_fit_no_misfit, misfit_unique}
@@ -65,15 +65,19 @@ module _ (s : State) (t : ℕ) where
         | inr no_less ↦ let e = ap (priority_of s) same in let less = right.1 in omega arith
       ]
 
+  displaced_right_or_not : (chain : List ℕ) (out reach : ℕ) (defect : Defect) → DisplacedIsRight s t chain out reach → IsDisplacedDefect s t chain out reach defect → ⊥
+  displaced_right_or_not chain out reach (BadChain i) right bad = all_fit_no_misfit (DisplacedFits s t chain) (length chain) i right.places bad
+  displaced_right_or_not chain out reach (BadSet q) right bad = over_fits_or_not chain reach q right.set bad.1
+  displaced_right_or_not chain out reach (WrongTask x) right bad = displaces_rightly_or_not chain out x right.tasks bad.2
+  displaced_right_or_not chain out reach _ right bad = bad
+
   pub came_right_or_not : (came : Came) (defect : Defect) → CameIsRight s t came → IsCameDefect s t came defect → ⊥
   came_right_or_not (Placed chain) (BadChain i) right bad = all_fit_no_misfit (PlacedFits s t chain) (length chain) i right bad
-  came_right_or_not (Displaced chain out reach) (BadChain i) right bad = all_fit_no_misfit (DisplacedFits s t chain) (length chain) i right.places bad
-  came_right_or_not (Displaced chain out reach) (BadSet q) right bad = over_fits_or_not chain reach q right.set bad.1
-  came_right_or_not (Displaced chain out reach) (WrongTask x) right bad = displaces_rightly_or_not chain out x right.tasks bad.2
+  came_right_or_not (Displaced chain out reach) defect right bad = displaced_right_or_not chain out reach defect right bad
   came_right_or_not (Waits reach) (BadSet q) right bad = all_fit_no_misfit (AgainstFits s t reach) processor_count q right bad
   came_right_or_not _ _ right bad = bad
 
-  displaced_defect_unique : (chain : List ℕ) (out reach : ℕ) (one other : Defect) → IsCameDefect s t (Displaced chain out reach) one → IsCameDefect s t (Displaced chain out reach) other → one ≡ other
+  displaced_defect_unique : (chain : List ℕ) (out reach : ℕ) (one other : Defect) → IsDisplacedDefect s t chain out reach one → IsDisplacedDefect s t chain out reach other → one ≡ other
   displaced_defect_unique chain out reach (BadChain i) (BadChain j) one other = ap (λ (n : ℕ). BadChain n) (misfit_unique (DisplacedFits s t chain) (length chain) i j one other)
   displaced_defect_unique chain out reach (BadChain i) (BadSet r) one other = absurd (all_fit_no_misfit (DisplacedFits s t chain) (length chain) i other.0 one)
   displaced_defect_unique chain out reach (BadChain i) (WrongTask y) one other = absurd (all_fit_no_misfit (DisplacedFits s t chain) (length chain) i other.0 one)
@@ -88,12 +92,9 @@ module _ (s : State) (t : ℕ) where
 
   pub came_defect_unique : (came : Came) (one other : Defect) → IsCameDefect s t came one → IsCameDefect s t came other → one ≡ other
   came_defect_unique (Placed chain) (BadChain i) (BadChain j) one other = ap (λ (n : ℕ). BadChain n) (misfit_unique (PlacedFits s t chain) (length chain) i j one other)
-  came_defect_unique (Placed chain) (BadChain i) _ one other = absurd other
-  came_defect_unique (Placed chain) _ d one other = absurd one
   came_defect_unique (Displaced chain out reach) d e one other = displaced_defect_unique chain out reach d e one other
   came_defect_unique (Waits reach) (BadSet q) (BadSet r) one other = ap (λ (n : ℕ). BadSet n) (misfit_unique (AgainstFits s t reach) processor_count q r one other)
-  came_defect_unique (Waits reach) (BadSet q) _ one other = absurd other
-  came_defect_unique (Waits reach) _ d one other = absurd one
+  came_defect_unique _ _ _ one other = absurd assumption
 
 -- ---- who came in
 module _ (s : State) (distinct : IsDistinct s) (p : ℕ) (gone : Gone) where

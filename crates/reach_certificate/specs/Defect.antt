@@ -183,12 +183,17 @@ CameIsRight s t (came.Placed chain) = AllFit (PlacedFits s t chain) (length chai
 CameIsRight s t (came.Displaced chain out reach) = DisplacedIsRight s t chain out reach
 CameIsRight s t (came.Waits reach) = AllFit (AgainstFits s t reach) processor_count
 
--- the first part of it that fails
+-- the first of the chain, the set and the displaced task that fails
+abbrev pub IsDisplacedDefect : State → ℕ → List ℕ → ℕ → ℕ → Defect → Type 0
+IsDisplacedDefect s t chain out reach (BadChain i) = IsFirstMisfit (DisplacedFits s t chain) (length chain) i
+IsDisplacedDefect s t chain out reach (BadSet q) = AllFit (DisplacedFits s t chain) (length chain) × HasBadOver s t chain reach q
+IsDisplacedDefect s t chain out reach (WrongTask x) = AllFit (DisplacedFits s t chain) (length chain) × OverFits s t chain reach × DisplacesWrongly s t chain out x
+IsDisplacedDefect s t chain out reach _ = ⊥
+
+-- the first part of what t came to that fails
 abbrev pub IsCameDefect : State → ℕ → Came → Defect → Type 0
 IsCameDefect s t (came.Placed chain) (BadChain i) = IsFirstMisfit (PlacedFits s t chain) (length chain) i
-IsCameDefect s t (came.Displaced chain out reach) (BadChain i) = IsFirstMisfit (DisplacedFits s t chain) (length chain) i
-IsCameDefect s t (came.Displaced chain out reach) (BadSet q) = AllFit (DisplacedFits s t chain) (length chain) × HasBadOver s t chain reach q
-IsCameDefect s t (came.Displaced chain out reach) (WrongTask x) = AllFit (DisplacedFits s t chain) (length chain) × OverFits s t chain reach × DisplacesWrongly s t chain out x
+IsCameDefect s t (came.Displaced chain out reach) defect = IsDisplacedDefect s t chain out reach defect
 IsCameDefect s t (came.Waits reach) (BadSet q) = IsFirstMisfit (AgainstFits s t reach) processor_count q
 IsCameDefect s t _ _ = ⊥
 
