@@ -7,11 +7,11 @@ use Rattle.scheduler_reply.specs.declared.reply.Came.{Came}
 use Rattle.scheduler_reply.specs.declared.reply.Came.TheVariants as came
 use Rattle.scheduler_reply.specs.declared.reply.Gone.{Gone}
 use Rattle.text_fields.specs.EventText.{name_of}
-use Rattle.schedule_text.specs.ScheduleText.{chain_text, set_text}
+use Rattle.schedule_text.specs.ScheduleText.{chain_text, set_text, came_fields}
 use Rattle.schedule_text.specs.Schedule.{AreOfProcessors}
 use Rattle.schedule_text.specs.declared.fault.TextKind.{TextKind}
 use Rattle.schedule_text.specs.Fields.{IsSetField, IsChainField, IsSomebodyField}
-use Rattle.schedule_text.specs.LineFields.{IsSaid, IsNameFault, IsCameFields, IsCameFault, IsGoneFields, IsGoneFault, displaced_fields, gone_words, came_fields}
+use Rattle.schedule_text.specs.LineFields.{IsSaid, IsNameFault, IsCameFields, IsCameFault, IsGoneFields, IsGoneFault, displaced_fields, gone_words}
 use Rattle.text_fields.proofs.Words.{head_same, tail_same, other_word}
 use Rattle.text_fields.proofs.NamedTasks.{named_task}
 use Rattle.schedule_text.proofs.ReplyParts.{no_task_named, task_named, the_task, somebody_named, the_somebody, chain_alone, set_alone, chain_and_set, the_chain, the_set}

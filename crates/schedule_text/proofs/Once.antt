@@ -22,7 +22,7 @@ use Rattle.scheduler_reply.specs.Reply.{came_tasks, came_chains, came_sets}
 use Rattle.std.specs.List.{cons_option}
 use Rattle.scheduler_reply.specs.declared.reply.Entry.{Entry}
 use Rattle.text_fields.specs.EventText.{IsAboutSet, event_fields}
-use Rattle.schedule_text.specs.ScheduleText.{chain_text, set_text, somebody_text, AreTasksOf, IsReplyOf}
+use Rattle.schedule_text.specs.ScheduleText.{chain_text, set_text, somebody_text, AreTasksOf, IsReplyOf, came_fields, gone_fields, reply_fields}
 use Rattle.schedule_text.specs.Schedule.{IsProcessorList, IsOfProcessors, AreOfProcessors, HasProcessors}
 use Rattle.task_set.specs.Event.{HasUnits}
 use Rattle.schedule_text.specs.ScheduleFault.{IsLineFault}
@@ -32,7 +32,7 @@ use Rattle.schedule_text.specs.declared.fault.TextKind.{TextKind}
 use Rattle.schedule_text.specs.declared.fault.TextKind.TheVariants.{BadLine, TaskRefused, UnknownTask}
 use Rattle.schedule_text.specs.Reading.{Leads, LeadsTasks, LeadsEntries}
 use Rattle.schedule_text.specs.Fields.{spaced_fields_of}
-use Rattle.schedule_text.specs.LineFields.{IsTaskFields, IsEntryFields, came_fields, gone_fields, reply_fields}
+use Rattle.schedule_text.specs.LineFields.{IsTaskFields, IsEntryFields}
 use Rattle.text_fields.proofs.Words.{head_same, tail_same, clash, other_word}
 use Rattle.schedule_text.proofs.Names.{name_of_no_dash, set_fields}
 use Rattle.text_fields.proofs.NamedTasks.{same_task, same_parts}

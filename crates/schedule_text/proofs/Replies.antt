@@ -10,8 +10,9 @@ use Rattle.scheduler_reply.specs.declared.reply.Reply.{Reply}
 use Rattle.scheduler_reply.specs.declared.reply.Reply.TheVariants.{Placed, Displaced, Waits, Freed, Left, Ticked, AlreadyReady, NotReady, Masked, Remasked, AlreadyOff, AlreadyOn, Off, On}
 use Rattle.scheduler_reply.specs.Reply.{reply_of_came, reply_of_gone, came_tasks, came_chains, came_sets}
 use Rattle.text_fields.specs.EventText.{name_of}
+use Rattle.schedule_text.specs.ScheduleText.{came_fields, gone_fields}
 use Rattle.schedule_text.specs.LineForms.{IsField, HasFields}
-use Rattle.schedule_text.specs.LineFields.{IsSaid, IsCameFields, IsGoneFields, IsGoneThen, IsReplyFields, came_fields, gone_fields}
+use Rattle.schedule_text.specs.LineFields.{IsSaid, IsCameFields, IsGoneFields, IsGoneThen, IsReplyFields}
 use Rattle.text_fields.proofs.Words.{head_same, tail_same, clash}
 use Rattle.text_fields.proofs.NamedTasks.{named_task}
 use Rattle.schedule_text.proofs.ReplyParts.{no_task_named, no_processors, task_and, first_task, other_tasks, somebody_and, first_somebody, after_somebody, processors_and, first_processors, other_processors}

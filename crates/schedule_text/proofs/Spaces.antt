@@ -27,11 +27,10 @@ use Rattle.scheduler_reply.specs.declared.reply.Gone.{Gone}
 use Rattle.scheduler_reply.specs.Reply.{came_tasks, came_chains, came_sets}
 use Rattle.std.specs.List.{cons_option}
 use Rattle.text_fields.specs.EventText.{name_of, IsAboutSet, event_fields}
-use Rattle.schedule_text.specs.ScheduleText.{chain_text, set_text, somebody_text, number_text, AreTasksOf, IsReplyOf}
+use Rattle.schedule_text.specs.ScheduleText.{chain_text, set_text, somebody_text, number_text, AreTasksOf, IsReplyOf, came_fields, gone_fields, reply_fields, context_fields}
 use Rattle.schedule_text.specs.Schedule.{IsProcessorList, IsOfProcessors, AreOfProcessors, HasProcessors, IsContextOf}
 use Rattle.task_set.specs.Event.{HasUnits}
 use Rattle.schedule_text.specs.LineForms.{IsField, HasFields}
-use Rattle.schedule_text.specs.LineFields.{came_fields, gone_fields, reply_fields, context_fields}
 use Rattle.text_fields.specs.LineText.{task_fields}
 use Rattle.text_fields.proofs.Names.{name_bytes}
 use Rattle.text_fields.proofs.Words.{and_left, and_right}
