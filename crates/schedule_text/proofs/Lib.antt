@@ -7,6 +7,7 @@ pub mod ReplyParts
 mod Parts
 mod Joined
 mod Arrivals
+mod FirstWords
 mod Replies
 mod ReplyFields
 mod EventFields
