@@ -12,6 +12,7 @@ use Rattle.task_set.specs.declared.event.Event.TheVariants.{Arrive, Depart, Tick
 use Rattle.scheduler_reply.specs.declared.reply.Reply.{Reply}
 use Rattle.scheduler_reply.specs.declared.reply.Reply.TheVariants.{Left}
 use Rattle.scheduler_reply.specs.declared.reply.Entry.{Entry}
+use Rattle.scheduler_reply.specs.Reply.{IsReplyOfVersion}
 use Rattle.text_fields.specs.LineText.{line, task_line, task_fields}
 use Rattle.text_fields.specs.EventText.{name_of, event_text, IsAboutSet, event_fields}
 use Rattle.schedule_text.specs.ScheduleText.{number_text, reply_fields, context_fields, spaced, reply_text, entry_line, context_line, IsReplyOf}
@@ -141,18 +142,18 @@ entry_to_text version set text entry f =
     }
 
 -- the fields on a stream
-stream_fields : (text : List ℕ) (stream : ℕ) (tasks others : SetData) (e : Event) (r : Reply) → stream < 16
+stream_fields : (version : ℕ) (text : List ℕ) (stream : ℕ) (tasks others : SetData) (e : Event) (r : Reply) → stream < 16
     → tasks.processors ≤ 64 → HasFields tasks → HasFields others → IsAboutSet tasks e → HasUnits e → IsReplyOf others r
-    → HasProcessors r → text ≡ spaced (canonical_number stream
+    → IsReplyOfVersion version r → HasProcessors r → text ≡ spaced (canonical_number stream
     ∷ (event_fields tasks e ++ reply_fields others r))
     → spaced_fields_of text ≡ canonical_number stream ∷ (event_fields tasks e ++ reply_fields others r)
-stream_fields text stream tasks others e r small few names names' about units about' processors is =
+stream_fields version text stream tasks others e r small few names names' about units about' of processors is =
     fields_back text (canonical_number stream) (event_fields tasks e ++ reply_fields others r) is
     (All-cons (λ (piece : List ℕ). All IsNoSpace piece) (canonical_number stream)
     (event_fields tasks e ++ reply_fields others r) (number_bytes IsNoSpace high_no_space stream (omega arith))
     (All-append (λ (piece : List ℕ). All IsNoSpace piece) (event_fields tasks e) (reply_fields others r)
     (event_bytes IsNoSpace high_no_space tasks e few (fields_no_space tasks names) about units)
-    (reply_bytes IsNoSpace high_no_space others r (fields_no_space others names') about' processors)))
+    (reply_bytes IsNoSpace high_no_space version others r (fields_no_space others names') about' of processors)))
 
 pub entry_to_fields : (version : ℕ) (set : SetData) (text : List ℕ) (entry : Entry) → IsTaskSet set
     → IsEntryText version set text entry → IsEntryFields version (spaced_fields_of text) set entry
@@ -160,8 +161,9 @@ entry_to_fields version set text entry valid f =
     let s = f.scheduled in
     record {
       scheduled = s;
-      each_field = stream_fields text entry.caller set set entry.event entry.reply s.caller valid.processors.1
-          (set_fields set valid) (set_fields set valid) s.tasks.event s.units s.tasks.reply s.processors
+      each_field = stream_fields version text entry.caller set set entry.event entry.reply s.caller valid.processors.1
+          (set_fields set valid) (set_fields set valid) s.tasks.event s.units s.tasks.reply s.of_version.reply
+          s.processors
           (line_same text (spaced (entry_fields set entry)) (f.is_text ∙ entry_spaced set entry));
     }
 
@@ -193,8 +195,8 @@ form_to_fields version m text few f =
         r.names,
         record { about = r.about; of_version = r.of_version; processors = r.processors; each_field = refl },
       );
-      each_field = stream_fields text f.stream e.tasks r.tasks e.event r.reply f.caller
-          (let on = e.processors in omega arith) e.names r.names e.about e.units r.about r.processors
+      each_field = stream_fields version text f.stream e.tasks r.tasks e.event r.reply f.caller
+          (let on = e.processors in omega arith) e.names r.names e.about e.units r.about r.of_version r.processors
           (f.is_text ∙ on_stream (canonical_number f.stream) f.event f.reply e.tasks r.tasks e.event r.reply
           e.is_text r.is_text);
     }

@@ -60,7 +60,7 @@ Follows P version word [] = Unit {0}
 Follows P version word (reply ∷ more) =
     (IsReplyOfVersion version reply → word ≡ word_of reply → P) × Follows P version word more
 
-some_same : {A : Type 0} {a b : A} → Some a ≡ Some b → a ≡ b
+pub some_same : {A : Type 0} {a b : A} → Some a ≡ Some b → a ≡ b
 some_same e = cc
 
 none_some : {A : Type 0} {a : A} → None ≡ Some a → ⊥

@@ -4,10 +4,10 @@ mod Chains
 mod Names
 mod Shapes
 pub mod ReplyParts
+mod FirstWords
 mod Parts
 mod Joined
 mod Arrivals
-mod FirstWords
 mod Replies
 mod ReplyFields
 mod EventFields

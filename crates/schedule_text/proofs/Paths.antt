@@ -163,8 +163,8 @@ entries_path version set count before (entry ∷ entries) valid few each =
         (reply_fields set entry.reply)
         (event_bytes IsNoFeed high_no_feed set entry.event valid.processors.1 (names_no_feed set valid) s.tasks.event
         s.units)
-        (reply_bytes IsNoFeed high_no_feed set entry.reply (names_no_feed set valid) s.tasks.reply
-        s.processors))
+        (reply_bytes IsNoFeed high_no_feed version set entry.reply (names_no_feed set valid) s.tasks.reply
+        s.of_version.reply s.processors))
 
 to_entries : (version : ℕ) (set : SetData) (count : ℕ) (entries : List Entry) → IsPrefix (EntriesExpected version set count entries)
     → IsPath HeaderExpected (EntriesExpected version set count entries)

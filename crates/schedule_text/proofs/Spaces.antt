@@ -20,14 +20,15 @@ use Rattle.task_set.specs.declared.context.Context.{Context}
 use Rattle.task_set.specs.declared.event.Event.{Event}
 use Rattle.task_set.specs.declared.event.Event.TheVariants.{Arrive, Depart, Tick, Affinity, Offline, Online}
 use Rattle.scheduler_reply.specs.declared.reply.Reply.{Reply}
-use Rattle.scheduler_reply.specs.declared.reply.Reply.TheVariants.{Placed, Displaced, Waits, Freed, Remasked, Off, On}
+use Rattle.scheduler_reply.specs.declared.reply.Reply.TheVariants.{Left}
 use Rattle.scheduler_reply.specs.declared.reply.Came.{Came}
 use Rattle.scheduler_reply.specs.declared.reply.Came.TheVariants as came
 use Rattle.scheduler_reply.specs.declared.reply.Gone.{Gone}
-use Rattle.scheduler_reply.specs.Reply.{came_tasks, came_chains, came_sets}
-use Rattle.std.specs.List.{cons_option}
+use Rattle.scheduler_reply.specs.declared.reply.Moved.{Moved}
+use Rattle.scheduler_reply.specs.Reply.{IsReplyOfVersion}
 use Rattle.text_fields.specs.EventText.{name_of, IsAboutSet, event_fields}
-use Rattle.schedule_text.specs.ScheduleText.{chain_text, set_text, somebody_text, number_text, AreTasksOf, IsReplyOf, came_fields, gone_fields, reply_fields, context_fields}
+use Rattle.schedule_text.specs.ScheduleText.{chain_text, set_text, somebody_text, number_text, reply_fields, context_fields, IsReplyOf}
+use Rattle.schedule_text.specs.LineFields.{IsCameFields, IsGoneFields}
 use Rattle.schedule_text.specs.Schedule.{IsProcessorList, IsOfProcessors, AreOfProcessors, HasProcessors, IsContextOf}
 use Rattle.task_set.specs.Event.{HasUnits}
 use Rattle.schedule_text.specs.LineForms.{IsField, HasFields}
@@ -36,7 +37,8 @@ use Rattle.text_fields.proofs.Names.{name_bytes}
 use Rattle.text_fields.proofs.Words.{and_left, and_right}
 use Rattle.text_fields.proofs.NamedTasks.{name_at, no_task}
 use Rattle.schedule_text.proofs.Fields.{set_list, mask_processors}
-use Rattle.schedule_text.proofs.ReplyParts.{the_task, the_somebody, the_chain, the_set, first_task, other_tasks, first_somebody, after_somebody, first_processors, other_processors}
+use Rattle.schedule_text.proofs.ReplyParts.{the_task, the_somebody, the_chain, the_set}
+use Rattle.schedule_text.proofs.FirstWords.{first_of, opening, Opening, freed_first, on_first, off_first, remasked_first, other_first, IsMovedFields, IsReturnFields, IsTold, IsToldBy, told}
 
 -- the digits are such bytes
 digits_from : (text : List ℕ) → AllDigits 10 text → All (λ (b : ℕ). 44 ≤ b) text
@@ -65,6 +67,11 @@ EachByte P fields = All (λ (field : List ℕ). All P field) fields
 -- and of each name of a set
 abbrev pub EachName : (ℕ → Type 0) → SetData → Type 0
 EachName P set = All (λ (task : TaskData). All P task.name) set.tasks
+
+-- the first word of a reply has such bytes
+first_high : (set : SetData) (reply : Reply) → is_high (first_of (reply_fields set reply)) ≡ true
+first_high set Left = refl
+first_high set _ = refl
 
 -- the fields of a context from one of its words on
 abbrev from_trail : Context → List (List ℕ)
@@ -194,72 +201,81 @@ module _ (P : ℕ → Type 0) (high : (b : ℕ) → 44 ≤ b → P b) where
   somebody_bytes set None names about = dash_bytes
   somebody_bytes set (Some t) names about = called_bytes set t names about
 
-  came_bytes : (set : SetData) (arrival : Came) → EachName P set → AreTasksOf set (came_tasks arrival)
-      → AreOfProcessors (came_chains arrival) (came_sets arrival) → EachByte P (came_fields set arrival)
-  came_bytes set (came.Placed chain) names about has =
-      worded (codes "placed") (chain_text chain ∷ []) refl
-      (more (chain_text chain) [] (chain_bytes chain (the_chain chain [] has)) none)
-  came_bytes set (came.Displaced chain out reach) names about has =
-      worded (codes "displaced")
+  came_bytes : (fields : List (List ℕ)) (set : SetData) (arrival : Came) → EachName P set → IsCameFields fields set arrival
+      → EachByte P fields
+  came_bytes fields set (came.Placed chain) names f =
+      rw f.each_field (worded (codes "placed") (chain_text chain ∷ []) refl
+      (more (chain_text chain) [] (chain_bytes chain (the_chain chain [] f.processors)) none))
+  came_bytes fields set (came.Displaced chain out reach) names f =
+      rw f.each_field (worded (codes "displaced")
       (chain_text chain ∷ codes "out" ∷ name_of set out ∷ codes "reach" ∷ set_text reach ∷ []) refl
       (more (chain_text chain) (codes "out" ∷ name_of set out ∷ codes "reach" ∷ set_text reach ∷ [])
-      (chain_bytes chain (the_chain chain (reach ∷ []) has))
+      (chain_bytes chain (the_chain chain (reach ∷ []) f.processors))
       (worded (codes "out") (name_of set out ∷ codes "reach" ∷ set_text reach ∷ []) refl
-      (more (name_of set out) (codes "reach" ∷ set_text reach ∷ []) (called_bytes set out names (the_task set out about))
+      (more (name_of set out) (codes "reach" ∷ set_text reach ∷ []) (called_bytes set out names (the_task set out f.about))
       (worded (codes "reach") (set_text reach ∷ []) refl
-      (more (set_text reach) [] (set_bytes reach (the_set (chain ∷ []) reach has)) none)))))
-  came_bytes set (came.Waits reach) names about has =
-      worded (codes "waits") (set_text reach ∷ []) refl
-      (more (set_text reach) [] (set_bytes reach (the_set [] reach has)) none)
+      (more (set_text reach) [] (set_bytes reach (the_set (chain ∷ []) reach f.processors)) none))))))
+  came_bytes fields set (came.Waits reach) names f =
+      rw f.each_field (worded (codes "waits") (set_text reach ∷ []) refl
+      (more (set_text reach) [] (set_bytes reach (the_set [] reach f.processors)) none))
 
-  gone_bytes : (set : SetData) (gone : Gone) → EachName P set → AreTasksOf set (cons_option gone.entered [])
-      → AreOfProcessors (gone.chain ∷ []) (gone.back ∷ []) → EachByte P (gone_fields set gone)
-  gone_bytes set gone names about has =
+  gone_bytes : (fields : List (List ℕ)) (set : SetData) (gone : Gone) → EachName P set → IsGoneFields fields set gone
+      → EachByte P fields
+  gone_bytes fields set gone names f =
       let entered = somebody_text set gone.entered in
       let back = set_text gone.back in
-      more (chain_text gone.chain) (codes "enters" ∷ entered ∷ codes "back" ∷ back ∷ [])
-      (chain_bytes gone.chain (the_chain gone.chain (gone.back ∷ []) has))
+      rw f.each_field (more (chain_text gone.chain) (codes "enters" ∷ entered ∷ codes "back" ∷ back ∷ [])
+      (chain_bytes gone.chain (the_chain gone.chain (gone.back ∷ []) f.processors))
       (worded (codes "enters") (entered ∷ codes "back" ∷ back ∷ []) refl
       (more entered (codes "back" ∷ back ∷ [])
-      (somebody_bytes set gone.entered names (the_somebody set gone.entered about))
+      (somebody_bytes set gone.entered names (the_somebody set gone.entered f.about))
       (worded (codes "back") (back ∷ []) refl
-      (more back [] (set_bytes gone.back (the_set (gone.chain ∷ []) gone.back has)) none))))
+      (more back [] (set_bytes gone.back (the_set (gone.chain ∷ []) gone.back f.processors)) none)))))
 
-  pub reply_bytes : (set : SetData) (reply : Reply) → EachName P set → IsReplyOf set reply → HasProcessors reply
-      → EachByte P (reply_fields set reply)
-  reply_bytes set (Placed chain) names about has = came_bytes set (came.Placed chain) names about has
-  reply_bytes set (Displaced chain out reach) names about has =
-      came_bytes set (came.Displaced chain out reach) names about has
-  reply_bytes set (Waits reach) names about has = came_bytes set (came.Waits reach) names about has
-  reply_bytes set (Freed entered chain back) names about has =
-      let gone : Gone = record { entered = entered; chain = chain; back = back } in
-      worded (codes "freed") (gone_fields set gone) refl (gone_bytes set gone names about has)
-  reply_bytes set (Remasked None arrival) names about has =
-      worded (codes "remasked") (codes "left" ∷ codes "then" ∷ came_fields set arrival) refl
-      (worded (codes "left") (codes "then" ∷ came_fields set arrival) refl
-      (worded (codes "then") (came_fields set arrival) refl (came_bytes set arrival names about has)))
-  reply_bytes set (Remasked (Some gone) arrival) names about has =
-      let after = codes "then" ∷ came_fields set arrival in
-      worded (codes "remasked") (codes "freed" ∷ (gone_fields set gone ++ after)) refl
-      (worded (codes "freed") (gone_fields set gone ++ after) refl
-      (All-append (λ (t : List ℕ). All P t) (gone_fields set gone) after
-      (gone_bytes set gone names (first_somebody set gone.entered (came_tasks arrival) about)
-      (first_processors gone.chain gone.back (came_chains arrival) (came_sets arrival) has))
-      (worded (codes "then") (came_fields set arrival) refl
-      (came_bytes set arrival names (after_somebody set gone.entered (came_tasks arrival) about)
-      (other_processors gone.chain gone.back (came_chains arrival) (came_sets arrival) has)))))
-  reply_bytes set (Off None) names about has =
-      worded (codes "off") (codes "-" ∷ []) refl (more (codes "-") [] dash_bytes none)
-  reply_bytes set (Off (Some moved)) names about has =
-      let after = codes "then" ∷ came_fields set moved.came in
-      worded (codes "off") (name_of set moved.task ∷ after) refl
-      (more (name_of set moved.task) after
-      (called_bytes set moved.task names (first_task set moved.task (came_tasks moved.came) about))
-      (worded (codes "then") (came_fields set moved.came) refl
-      (came_bytes set moved.came names (other_tasks set moved.task (came_tasks moved.came) about) has)))
-  reply_bytes set (On parts) names about has =
-      worded (codes "on") (gone_fields set parts) refl (gone_bytes set parts names about has)
-  reply_bytes set _ names about has = worded _ [] refl none
+  -- the word `then`, and the result of an arrival
+  then_bytes : (after : List (List ℕ)) (set : SetData) (arrival : Came) → EachName P set → IsCameFields after set arrival
+      → EachByte P (codes "then" ∷ after)
+  then_bytes after set arrival names f = worded (codes "then") after refl (came_bytes after set arrival names f)
+
+  moved_bytes : (rest : List (List ℕ)) (set : SetData) (moved : Option Moved) → EachName P set
+      → IsMovedFields rest set moved → EachByte P rest
+  moved_bytes rest set None names is = rw is (more (codes "-") [] dash_bytes none)
+  moved_bytes rest set (Some moved) names (after, within, is, f) =
+      rw is (more (name_of set moved.task) (codes "then" ∷ after) (called_bytes set moved.task names within)
+      (then_bytes after set moved.came names f))
+
+  return_bytes : (rest : List (List ℕ)) (set : SetData) (gone : Option Gone) (arrival : Came) → EachName P set
+      → IsReturnFields rest set gone arrival → EachByte P rest
+  return_bytes rest set None arrival names (after, is, f) =
+      rw is (worded (codes "left") (codes "then" ∷ after) refl (then_bytes after set arrival names f))
+  return_bytes rest set (Some gone) arrival names (part, after, is, g, f) =
+      rw is (worded (codes "freed") (part ++ codes "then" ∷ after) refl
+      (All-append (λ (t : List ℕ). All P t) part (codes "then" ∷ after) (gone_bytes part set gone names g)
+      (then_bytes after set arrival names f)))
+
+  told_bytes : (first : Opening) (version : ℕ) (word : List ℕ) (rest : List (List ℕ)) (set : SetData) (reply : Reply)
+      → All P word → EachName P set → IsTold first version word rest set reply → EachByte P (word ∷ rest)
+  told_bytes freed_first version word rest set reply here names t =
+      more word rest here (gone_bytes rest set t.0 names t.2)
+  told_bytes on_first version word rest set reply here names t =
+      more word rest here (gone_bytes rest set t.0 names t.3)
+  told_bytes off_first version word rest set reply here names t =
+      more word rest here (moved_bytes rest set t.0 names t.3)
+  told_bytes remasked_first version word rest set reply here names t =
+      more word rest here (return_bytes rest set t.0 t.1 names t.4)
+  told_bytes other_first version word [] set reply here names t = more word [] here none
+  told_bytes other_first version word (next ∷ rest) set reply here names t =
+      came_bytes (word ∷ next ∷ rest) set t.0 names t.2
+
+  pub reply_bytes : (version : ℕ) (set : SetData) (reply : Reply) → EachName P set → IsReplyOf set reply
+      → IsReplyOfVersion version reply → HasProcessors reply → EachByte P (reply_fields set reply)
+  reply_bytes version set reply names about of has =
+      by (reply_fields set reply) (first_high set reply) (told version set reply about of has)
+    where
+      by : (fields : List (List ℕ)) → is_high (first_of fields) ≡ true → IsToldBy version fields set reply
+          → EachByte P fields
+      by [] e t = absurd t
+      by (word ∷ rest) e t = told_bytes (opening word) version word rest set reply (word_bytes word e) names t
 
   last_bytes : (last : Option ℕ) → IfSome last (λ p. p < 64) → All P (number_text last)
   last_bytes None below = dash_bytes
