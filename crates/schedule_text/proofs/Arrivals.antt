@@ -57,7 +57,7 @@ two_cases word value tasks (came.Waits reach) f =
       head_same f.each_field,
       (reach, record { processors = the_set [] reach f.processors; is_text = second f.each_field }),
     )
-two_cases word value tasks (came.Displaced chain out reach) f = absurd (omega (arith, ap length f.each_field))
+two_cases word value tasks _ f = absurd (omega (arith, ap length f.each_field))
 
 pub placed_none : (word value : List ℕ) → word ≡ codes "placed"
     → ((chain : List ℕ) → IsChainField value chain → ⊥) → IsSaid (IsCameFields (word ∷ value ∷ [])) → ⊥
@@ -109,8 +109,7 @@ displaced set chain name processors (came.Displaced links out reach) f =
       parts chain processors links reach f.processors (second f.each_field) (second fifth),
       (out, the_task set out f.about, second third),
     )
-displaced set chain name processors (came.Placed links) f = absurd (omega (arith, ap length f.each_field))
-displaced set chain name processors (came.Waits reach) f = absurd (omega (arith, ap length f.each_field))
+displaced set chain name processors _ f = absurd (omega (arith, ap length f.each_field))
 
 pub displaced_written : (set : SetData) (chain name processors links : List ℕ) (out reach : ℕ)
     → IsChainField chain links → out < length set.tasks → name ≡ name_of set out → IsSetField processors reach
@@ -163,14 +162,12 @@ six_none fields a b c d e f six no_out (tasks, arrival, names, g) = by arrival (
           head_same (tail_same (tail_same same)),
           head_same (tail_same (tail_same (tail_same (tail_same same)))),
         )
-    by (came.Placed chain) same = omega (arith, ap length same)
-    by (came.Waits reach) same = omega (arith, ap length same)
+    by _ same = omega (arith, ap length same)
 
 -- a result of an arrival has two fields or six
 pub came_length : (fields : List (List ℕ)) → length fields ≢ 2 → length fields ≢ 6 → IsSaid (IsCameFields fields) → ⊥
-came_length fields two six (tasks, came.Placed chain, names, f) = two (ap length f.each_field)
-came_length fields two six (tasks, came.Waits reach, names, f) = two (ap length f.each_field)
 came_length fields two six (tasks, came.Displaced chain out reach, names, f) = six (ap length f.each_field)
+came_length fields two six (tasks, _, names, f) = two (ap length f.each_field)
 
 -- ---- who came in
 

@@ -7,9 +7,10 @@ use Rattle.task_set.specs.Refusal.{IsNameOf}
 use Rattle.task_set.specs.declared.event.Event.{Event}
 use Rattle.task_set.specs.declared.event.Event.TheVariants.{Arrive, Depart, Tick, Affinity, Offline, Online}
 use Rattle.scheduler_reply.specs.declared.reply.Came.TheVariants as came
-use Rattle.scheduler_reply.specs.declared.reply.Reply.TheVariants.{Left, Ticked, AlreadyReady, NotReady, Masked, Remasked, AlreadyOff, AlreadyOn, Off, On}
+use Rattle.scheduler_reply.specs.declared.reply.Reply.TheVariants.{Remasked, Off, On}
+use Rattle.scheduler_reply.specs.declared.reply.Reply.{Reply}
 use Rattle.scheduler_reply.specs.declared.reply.Entry.{Entry}
-use Rattle.scheduler_reply.specs.Reply.{reply_of_came, reply_of_gone}
+use Rattle.scheduler_reply.specs.Reply.{reply_of_came, reply_of_gone, IsReplyOfVersion}
 use Rattle.schedule_text.specs.declared.fault.TextKind.{TextKind}
 use Rattle.schedule_text.specs.declared.fault.TextKind.TheVariants.{BadLine, UnknownTask}
 use Rattle.schedule_text.specs.LineForms.{IsField, HasFields}
@@ -24,9 +25,9 @@ use Rattle.schedule_text.proofs.Names.{IsNamed, set_fields, named_fault}
 use Rattle.schedule_text.proofs.Parts.{IsDecided, parts_decided, same_decided, none_said}
 use Rattle.schedule_text.proofs.Shapes.{tick_none, first_none, no_processor, no_event, tick_read, offline_read, online_read, three_none, mask_of_some, affinity_read, event_length, arrival_read, departure_read, arrival_fault, departure_fault, affinity_fault}
 use Rattle.schedule_text.proofs.Arrivals.{placed_read, waits_read, placed_none, waits_none, two_none, displaced_read, displaced_parts, displaced_fault, six_words, six_none, came_length, gone_read, gone_parts, gone_fault, five_words, five_none, gone_length}
-use Rattle.schedule_text.proofs.Replies.{came_to, came_from, freed_to, freed_from, on_to, on_from, on_none, unmoved_read, off_none, off_other, moved_parts, moved_written, waiting_to, waiting_from, waiting_other, linked_parts, linked_to, linked_other, remasked_none, remasked_other, word_cases, word_read}
+use Rattle.schedule_text.proofs.Replies.{came_to, came_from, freed_to, freed_from, on_to, on_from, on_none, unmoved_read, off_none, off_other, moved_parts, moved_written, waiting_to, waiting_from, waiting_other, linked_parts, linked_to, linked_other, remasked_none, remasked_other, word_told, word_read}
 use Rattle.schedule_text.proofs.FieldLists.{short_gone}
-use Rattle.schedule_text.proofs.Bridges.{reply_some}
+use Rattle.schedule_text.proofs.FirstWords.{word_replies, reply_named, none_some, some_same, version_decided, said}
 use Rattle.schedule_text.proofs.Entries.{some_stream, some_event_then, entry_of_parts, entry_parts}
 
 -- ---- names
@@ -365,43 +366,21 @@ module _ (version : ℕ) (set : SetData) (fields : HasFields set) where
       ]
 
   word_decided : (word : List ℕ) → IsReplyDecided (word ∷ [])
-  word_decided word = elim (bytes_decided word (codes "left")) [
-    | inl is ↦ inl (Left, (word_read version word set).0 is)
-    | inr a ↦ elim (bytes_decided word (codes "ticked")) [
-      | inl is ↦ inl (Ticked, (word_read version word set).1 is)
-      | inr b ↦ elim (bytes_decided word (codes "already")) [
-        | inl is ↦ inl (AlreadyReady, (word_read version word set).2 is)
-        | inr c ↦ elim (bytes_decided word (codes "absent")) [
-          | inl is ↦ inl (NotReady, (word_read version word set).3 is)
-          | inr d ↦ elim (cases_eq version 2) [
-            | inr other ↦ no_reply (word ∷ [])
-                (word_cases version word a b c d (λ two is. other two) (λ two is. other two) (λ two is. other two))
-            | inl two ↦ later_decided word two a b c d
-          ]
-        ]
-      ]
-    ]
-  ]
+  word_decided word = by (reply_named word word_replies) refl
     where
-      later_decided : (word : List ℕ) → version ≡ 2 → word ≢ codes "left" → word ≢ codes "ticked"
-          → word ≢ codes "already" → word ≢ codes "absent" → IsReplyDecided (word ∷ [])
-      later_decided word two a b c d = elim (bytes_decided word (codes "masked")) [
-        | inl is ↦ inl (Masked, (word_read version word set).4 two is)
-        | inr e ↦ elim (bytes_decided word (codes "already_off")) [
-          | inl is ↦ inl (AlreadyOff, (word_read version word set).5 two is)
-          | inr f ↦ elim (bytes_decided word (codes "already_on")) [
-            | inl is ↦ inl (AlreadyOn, (word_read version word set).6 two is)
-            | inr g ↦ no_reply (word ∷ []) (word_cases version word a b c d (λ two is. e is) (λ two is. f is) (λ two is. g is))
-          ]
-        ]
+      by : (found : Option Reply) → reply_named word word_replies ≡ found → IsReplyDecided (word ∷ [])
+      by None none =
+          no_reply (word ∷ []) (λ some. none_some (sym none ∙ (word_told version word some.0 some.1 some.3).0))
+      by (Some reply) is = elim (version_decided version reply) [
+        | inl of ↦ inl (reply, word_read version word set reply is of)
+        | inr other ↦ no_reply (word ∷ [])
+            (λ some. let told = word_told version word some.0 some.1 some.3 in
+            other (subst (IsReplyOfVersion version) (some_same (sym told.0 ∙ is)) told.1))
       ]
 
   -- a reply has a field
   no_fields : IsSaid (IsReplyFields version []) → ⊥
-  no_fields (tasks, reply, names, f) = let some = reply_some tasks reply in none (f.each_field ∙ some.2)
-    where
-      none : {a : List ℕ} {xs : List (List ℕ)} → [] ≡ a ∷ xs → ⊥
-      none e = cc
+  no_fields (tasks, reply, names, f) = said version [] tasks reply f
 
   reply_decided : (line : List (List ℕ)) → IsReplyDecided line
   reply_decided [] = no_reply [] no_fields

@@ -1,7 +1,7 @@
 -- What a reply says, by its first word.
-use Rattle.std.proofs.Common.{◌≡◌, ◌≢◌, ℕ, ◌<◌, Bool, true, false, ◌&&◌, nat_eq, if◌then◌else◌, List, [], ◌∷◌, ◌++◌, length, Option, Some, None, inl, inr, refl, sym, ap, subst, eqb-true}
+use Rattle.std.proofs.Common.{◌≡◌, ◌≢◌, ℕ, ◌<◌, Bool, true, false, ◌&&◌, nat_eq, if◌then◌else◌, List, [], ◌∷◌, ◌++◌, ◌⊎◌, length, Option, Some, None, inl, inr, refl, sym, ap, subst, eqb-true}
 use Rattle.std.specs.Prelude.{codes}
-use Rattle.std.proofs.lemmas.Bool.{cases_Bool, true≢false}
+use Rattle.std.proofs.lemmas.Bool.{cases_Bool, cases_eq, true≢false}
 use Rattle.task_set.specs.TaskSet.{SetData}
 use Rattle.scheduler_reply.specs.declared.reply.Came.{Came}
 use Rattle.scheduler_reply.specs.declared.reply.Came.TheVariants as came
@@ -37,13 +37,13 @@ word_differs a b differs = elim (cases_Bool (are_same a b)) [
 -- ---- replies of one word
 
 -- the first of some fields
-abbrev pub first_of : List (List ℕ) → List ℕ
-first_of [] = []
-first_of (word ∷ rest) = word
+abbrev pub first_field : List (List ℕ) → List ℕ
+first_field [] = []
+first_field (word ∷ rest) = word
 
 -- the first word of a reply that names no task
 abbrev pub word_of : Reply → List ℕ
-word_of reply = first_of (reply_fields (record { processors = 0; tasks = [] }) reply)
+word_of reply = first_field (reply_fields (record { processors = 0; tasks = [] }) reply)
 
 -- the replies of one word
 abbrev pub word_replies : List Reply
@@ -54,29 +54,36 @@ abbrev pub reply_named : List ℕ → List Reply → Option Reply
 reply_named word [] = None
 reply_named word (reply ∷ more) = if are_same word (word_of reply) then Some reply else reply_named word more
 
--- for each of some replies, what follows where a word of a version is its word
-abbrev pub Follows : Type 0 → ℕ → List ℕ → List Reply → Type 0
+-- for each of some replies, what follows where it is of a version and has this word
+abbrev pub Follows : (Reply → Type 0) → ℕ → List ℕ → List Reply → Type 0
 Follows P version word [] = Unit {0}
 Follows P version word (reply ∷ more) =
-    (IsReplyOfVersion version reply → word ≡ word_of reply → P) × Follows P version word more
+    (IsReplyOfVersion version reply → word ≡ word_of reply → P reply) × Follows P version word more
 
 pub some_same : {A : Type 0} {a b : A} → Some a ≡ Some b → a ≡ b
 some_same e = cc
 
-none_some : {A : Type 0} {a : A} → None ≡ Some a → ⊥
+pub none_some : {A : Type 0} {a : A} → None ≡ Some a → ⊥
 none_some e = cc
 
-pub follow : {P : Type 0} (version : ℕ) (word : List ℕ) (reply : Reply) (replies : List Reply)
-    → reply_named word replies ≡ Some reply → IsReplyOfVersion version reply → Follows P version word replies → P
-follow version word reply [] is v f = absurd (none_some is)
-follow {P = P} version word reply (first ∷ more) is v f =
-    by (are_same word (word_of first)) refl is (λ later. follow version word reply more later v f.1)
+pub follow : (P : Reply → Type 0) (version : ℕ) (word : List ℕ) (reply : Reply) (replies : List Reply)
+    → reply_named word replies ≡ Some reply → IsReplyOfVersion version reply → Follows P version word replies → P reply
+follow P version word reply [] is of each = absurd (none_some is)
+follow P version word reply (first ∷ more) is of each =
+    by (are_same word (word_of first)) refl is (λ later. follow P version word reply more later of each.1)
   where
     by : (same : Bool) → are_same word (word_of first) ≡ same
         → (if same then Some first else reply_named word more) ≡ Some reply
-        → (reply_named word more ≡ Some reply → P) → P
-    by true e is later = f.0 (subst (IsReplyOfVersion version) (sym (some_same is)) v) (same_word word (word_of first) e)
+        → (reply_named word more ≡ Some reply → P reply) → P reply
+    by true e is later =
+        subst P (some_same is)
+        (each.0 (subst (IsReplyOfVersion version) (sym (some_same is)) of) (same_word word (word_of first) e))
     by false e is later = later is
+
+pub version_decided : (version : ℕ) (reply : Reply) → IsReplyOfVersion version reply
+    ⊎ (IsReplyOfVersion version reply → ⊥)
+version_decided version Left = inl tt
+version_decided version _ = first_of (search (cases_eq version 2), search (inl, tt))
 
 -- ---- how a reply begins
 

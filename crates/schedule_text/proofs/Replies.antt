@@ -12,6 +12,7 @@ use Rattle.scheduler_reply.specs.declared.reply.Reply.TheVariants.{Placed, Displ
 use Rattle.scheduler_reply.specs.Reply.{reply_of_came, reply_of_gone, came_tasks, came_chains, came_sets, IsReplyOfVersion}
 use Rattle.text_fields.specs.EventText.{name_of}
 use Rattle.schedule_text.specs.ScheduleText.{came_fields, gone_fields}
+use Rattle.schedule_text.specs.ScheduleText.{AreTasksOf}
 use Rattle.schedule_text.specs.LineForms.{IsField, HasFields}
 use Rattle.schedule_text.specs.LineFields.{IsSaid, IsCameFields, IsGoneFields, IsGoneThen, IsReplyFields}
 use Rattle.text_fields.proofs.Words.{head_same, tail_same, clash}
@@ -342,45 +343,36 @@ linked_read version set fields part after gone arrival two cut g f =
 -- ---- words
 
 -- a reply of one word has no parts
-word_told : (first : Opening) (version : ℕ) (word : List ℕ) (tasks : SetData) (reply : Reply)
-    → IsTold first version word [] tasks reply
+pub word_told : (version : ℕ) (word : List ℕ) (tasks : SetData) (reply : Reply)
+    → IsReplyFields version (word ∷ []) tasks reply
     → (reply_named word word_replies ≡ Some reply) × IsReplyOfVersion version reply
-word_told freed_first version word tasks reply (gone, is, g) = absurd (omega (arith, ap length g.each_field))
-word_told on_first version word tasks reply (gone, two, is, g) = absurd (omega (arith, ap length g.each_field))
-word_told off_first version word tasks reply (None, two, is, e) = absurd (omega (arith, ap length e))
-word_told off_first version word tasks reply (Some moved, two, is, m) = absurd (omega (arith, ap length m.2))
-word_told remasked_first version word tasks reply (None, arrival, two, is, m) = absurd (omega (arith, ap length m.1))
-word_told remasked_first version word tasks reply (Some gone, arrival, two, is, m) =
-    absurd (omega (arith, ap length m.2))
-word_told other_first version word tasks reply t = t
-
--- it has one of these words, and the last three in the second version alone
-pub word_cases : {P : Type 0} (version : ℕ) (word : List ℕ)
-    → (word ≡ codes "left" → P) → (word ≡ codes "ticked" → P) → (word ≡ codes "already" → P) → (word ≡ codes "absent" → P)
-    → (version ≡ 2 → word ≡ codes "masked" → P) → (version ≡ 2 → word ≡ codes "already_off" → P)
-    → (version ≡ 2 → word ≡ codes "already_on" → P) → IsSaid (IsReplyFields version (word ∷ [])) → P
-word_cases version word a b c d e f g (tasks, reply, names, is) =
-    let told = word_told (opening word) version word tasks reply (said version (word ∷ []) tasks reply is) in
-    follow version word reply word_replies told.0 told.1 (λ v. a, (λ v. b, (λ v. c, (λ v. d, (e, (f, (g, tt)))))))
+word_told version word tasks reply f = by (opening word) (said version (word ∷ []) tasks reply f)
+  where
+    by : (first : Opening) → IsTold first version word [] tasks reply
+        → (reply_named word word_replies ≡ Some reply) × IsReplyOfVersion version reply
+    by freed_first (gone, is, g) = absurd (omega (arith, ap length g.each_field))
+    by on_first (gone, two, is, g) = absurd (omega (arith, ap length g.each_field))
+    by off_first (None, two, is, e) = absurd (omega (arith, ap length e))
+    by off_first (Some moved, two, is, m) = absurd (omega (arith, ap length m.2))
+    by remasked_first (None, arrival, two, is, m) = absurd (omega (arith, ap length m.1))
+    by remasked_first (Some gone, arrival, two, is, m) = absurd (omega (arith, ap length m.2))
+    by other_first t = t
 
 word_alone : {a b : List ℕ} → a ≡ b → a ∷ [] ≡ b ∷ []
 word_alone e = cc
 
--- each of these words is a reply
-pub word_read : (version : ℕ) (word : List ℕ) (tasks : SetData)
-    → (word ≡ codes "left" → IsReplyFields version (word ∷ []) tasks Left)
-    × (word ≡ codes "ticked" → IsReplyFields version (word ∷ []) tasks Ticked)
-    × (word ≡ codes "already" → IsReplyFields version (word ∷ []) tasks AlreadyReady)
-    × (word ≡ codes "absent" → IsReplyFields version (word ∷ []) tasks NotReady)
-    × (version ≡ 2 → word ≡ codes "masked" → IsReplyFields version (word ∷ []) tasks Masked)
-    × (version ≡ 2 → word ≡ codes "already_off" → IsReplyFields version (word ∷ []) tasks AlreadyOff)
-    × (version ≡ 2 → word ≡ codes "already_on" → IsReplyFields version (word ∷ []) tasks AlreadyOn)
-word_read version word tasks = (
-  λ e. record { about = no_task_named tasks; of_version = tt; processors = no_processors; each_field = word_alone e },
-  λ e. record { about = no_task_named tasks; of_version = tt; processors = no_processors; each_field = word_alone e },
-  λ e. record { about = no_task_named tasks; of_version = tt; processors = no_processors; each_field = word_alone e },
-  λ e. record { about = no_task_named tasks; of_version = tt; processors = no_processors; each_field = word_alone e },
-  λ two e. record { about = no_task_named tasks; of_version = two; processors = no_processors; each_field = word_alone e },
-  λ two e. record { about = no_task_named tasks; of_version = two; processors = no_processors; each_field = word_alone e },
-  λ two e. record { about = no_task_named tasks; of_version = two; processors = no_processors; each_field = word_alone e },
-)
+-- the word of a reply is that reply
+pub word_read : (version : ℕ) (word : List ℕ) (tasks : SetData) (reply : Reply)
+    → reply_named word word_replies ≡ Some reply → IsReplyOfVersion version reply
+    → IsReplyFields version (word ∷ []) tasks reply
+word_read version word tasks reply is of = follow (IsReplyFields version (word ∷ []) tasks) version word reply word_replies is of (
+  λ v e. record { about = none; of_version = v; processors = no_processors; each_field = word_alone e }, (
+  λ v e. record { about = none; of_version = v; processors = no_processors; each_field = word_alone e }, (
+  λ v e. record { about = none; of_version = v; processors = no_processors; each_field = word_alone e }, (
+  λ v e. record { about = none; of_version = v; processors = no_processors; each_field = word_alone e }, (
+  λ v e. record { about = none; of_version = v; processors = no_processors; each_field = word_alone e }, (
+  λ v e. record { about = none; of_version = v; processors = no_processors; each_field = word_alone e }, (
+  λ v e. record { about = none; of_version = v; processors = no_processors; each_field = word_alone e }, tt)))))))
+  where
+    none : AreTasksOf tasks []
+    none = no_task_named tasks

@@ -38,7 +38,7 @@ use Rattle.text_fields.proofs.Words.{and_left, and_right}
 use Rattle.text_fields.proofs.NamedTasks.{name_at, no_task}
 use Rattle.schedule_text.proofs.Fields.{set_list, mask_processors}
 use Rattle.schedule_text.proofs.ReplyParts.{the_task, the_somebody, the_chain, the_set}
-use Rattle.schedule_text.proofs.FirstWords.{first_of, opening, Opening, freed_first, on_first, off_first, remasked_first, other_first, IsMovedFields, IsReturnFields, IsTold, IsToldBy, told}
+use Rattle.schedule_text.proofs.FirstWords.{first_field, opening, Opening, freed_first, on_first, off_first, remasked_first, other_first, IsMovedFields, IsReturnFields, IsTold, IsToldBy, told}
 
 -- the digits are such bytes
 digits_from : (text : List ℕ) → AllDigits 10 text → All (λ (b : ℕ). 44 ≤ b) text
@@ -69,7 +69,7 @@ abbrev pub EachName : (ℕ → Type 0) → SetData → Type 0
 EachName P set = All (λ (task : TaskData). All P task.name) set.tasks
 
 -- the first word of a reply has such bytes
-first_high : (set : SetData) (reply : Reply) → is_high (first_of (reply_fields set reply)) ≡ true
+first_high : (set : SetData) (reply : Reply) → is_high (first_field (reply_fields set reply)) ≡ true
 first_high set Left = refl
 first_high set _ = refl
 
@@ -272,7 +272,7 @@ module _ (P : ℕ → Type 0) (high : (b : ℕ) → 44 ≤ b → P b) where
   reply_bytes version set reply names about of has =
       by (reply_fields set reply) (first_high set reply) (told version set reply about of has)
     where
-      by : (fields : List (List ℕ)) → is_high (first_of fields) ≡ true → IsToldBy version fields set reply
+      by : (fields : List (List ℕ)) → is_high (first_field fields) ≡ true → IsToldBy version fields set reply
           → EachByte P fields
       by [] e t = absurd t
       by (word ∷ rest) e t = told_bytes (opening word) version word rest set reply (word_bytes word e) names t
