@@ -21,8 +21,8 @@ use Rattle.scheduler_reply.specs.declared.reply.Moved.{Moved}
 use Rattle.scheduler_reply.specs.Reply.{reply_of_came, reply_of_gone}
 use Rattle.scheduler_reply.specs.declared.reply.Entry.{Entry}
 use Rattle.text_fields.specs.EventText.{IsAboutSet, event_fields}
-use Rattle.schedule_text.specs.ScheduleText.{chain_text, set_text, somebody_text, AreTasksOf, IsReplyOf, came_fields, gone_fields, reply_fields}
-use Rattle.schedule_text.specs.Schedule.{IsProcessorList, IsOfProcessors, AreOfProcessors, HasProcessors}
+use Rattle.schedule_text.specs.ScheduleText.{chain_text, set_text, somebody_text, reply_fields}
+use Rattle.schedule_text.specs.Schedule.{IsProcessorList, IsOfProcessors}
 use Rattle.task_set.specs.Event.{HasUnits}
 use Rattle.schedule_text.specs.ScheduleFault.{IsLineFault}
 use Rattle.schedule_text.specs.Prefix.{Progress, HeaderExpected, ProcessorsExpected, TasksExpected, EntriesExpected, ContextsExpected, Ended, IsPrefix}
@@ -32,7 +32,7 @@ use Rattle.schedule_text.specs.declared.fault.TextKind.TheVariants.{BadLine, Tas
 use Rattle.schedule_text.specs.Reading.{Leads, LeadsTasks, LeadsEntries}
 use Rattle.schedule_text.specs.Fields.{spaced_fields_of}
 use Rattle.schedule_text.specs.LineFields.{IsTaskFields, IsCameFields, IsGoneFields, IsReplyFields, IsEntryFields}
-use Rattle.text_fields.proofs.Words.{head_same, tail_same, clash, other_word}
+use Rattle.text_fields.proofs.Words.{head_same, tail_same, clash}
 use Rattle.schedule_text.proofs.Names.{name_of_no_dash, set_fields}
 use Rattle.text_fields.proofs.NamedTasks.{same_task, same_parts}
 use Rattle.schedule_text.proofs.Fields.{list_once, set_once, mask_processors}

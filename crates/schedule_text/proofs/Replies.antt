@@ -8,16 +8,16 @@ use Rattle.scheduler_reply.specs.declared.reply.Came.TheVariants as came
 use Rattle.scheduler_reply.specs.declared.reply.Gone.{Gone}
 use Rattle.scheduler_reply.specs.declared.reply.Moved.{Moved}
 use Rattle.scheduler_reply.specs.declared.reply.Reply.{Reply}
-use Rattle.scheduler_reply.specs.declared.reply.Reply.TheVariants.{Placed, Displaced, Waits, Freed, Left, Ticked, AlreadyReady, NotReady, Masked, Remasked, AlreadyOff, AlreadyOn, Off, On}
+use Rattle.scheduler_reply.specs.declared.reply.Reply.TheVariants.{Remasked, Off, On}
 use Rattle.scheduler_reply.specs.Reply.{reply_of_came, reply_of_gone, came_tasks, came_chains, came_sets, IsReplyOfVersion}
 use Rattle.text_fields.specs.EventText.{name_of}
-use Rattle.schedule_text.specs.ScheduleText.{came_fields, gone_fields}
+use Rattle.schedule_text.specs.ScheduleText.{gone_fields}
 use Rattle.schedule_text.specs.ScheduleText.{AreTasksOf}
 use Rattle.schedule_text.specs.LineForms.{IsField, HasFields}
 use Rattle.schedule_text.specs.LineFields.{IsSaid, IsCameFields, IsGoneFields, IsGoneThen, IsReplyFields}
 use Rattle.text_fields.proofs.Words.{head_same, tail_same, clash}
 use Rattle.text_fields.proofs.NamedTasks.{named_task}
-use Rattle.schedule_text.proofs.ReplyParts.{no_task_named, no_processors, task_and, first_task, other_tasks, somebody_and, first_somebody, after_somebody, processors_and, first_processors, other_processors}
+use Rattle.schedule_text.proofs.ReplyParts.{no_task_named, no_processors, task_and, somebody_and, processors_and}
 use Rattle.schedule_text.proofs.Names.{IsNamed, alone, alone_fields, alone_named, alone_has, name_of_field}
 use Rattle.schedule_text.proofs.FirstWords.{IsOtherWord, other_opening, opening, Opening, freed_first, on_first, off_first, remasked_first, other_first, IsMovedFields, IsReturnFields, IsTold, IsToldBy, said, reply_named, word_replies, follow}
 use Rattle.schedule_text.proofs.Joined.{joined, joined_fields, first_name, first_within, first_gone, second_came, later_came}
@@ -366,13 +366,27 @@ pub word_read : (version : ℕ) (word : List ℕ) (tasks : SetData) (reply : Rep
     → reply_named word word_replies ≡ Some reply → IsReplyOfVersion version reply
     → IsReplyFields version (word ∷ []) tasks reply
 word_read version word tasks reply is of = follow (IsReplyFields version (word ∷ []) tasks) version word reply word_replies is of (
-  λ v e. record { about = none; of_version = v; processors = no_processors; each_field = word_alone e }, (
-  λ v e. record { about = none; of_version = v; processors = no_processors; each_field = word_alone e }, (
-  λ v e. record { about = none; of_version = v; processors = no_processors; each_field = word_alone e }, (
-  λ v e. record { about = none; of_version = v; processors = no_processors; each_field = word_alone e }, (
-  λ v e. record { about = none; of_version = v; processors = no_processors; each_field = word_alone e }, (
-  λ v e. record { about = none; of_version = v; processors = no_processors; each_field = word_alone e }, (
-  λ v e. record { about = none; of_version = v; processors = no_processors; each_field = word_alone e }, tt)))))))
+  λ v e. record { about = none; of_version = v; processors = no_processors; each_field = word_alone e },
+  (
+    λ v e. record { about = none; of_version = v; processors = no_processors; each_field = word_alone e },
+    (
+      λ v e. record { about = none; of_version = v; processors = no_processors; each_field = word_alone e },
+      (
+        λ v e. record { about = none; of_version = v; processors = no_processors; each_field = word_alone e },
+        (
+          λ v e. record { about = none; of_version = v; processors = no_processors; each_field = word_alone e },
+          (
+            λ v e. record { about = none; of_version = v; processors = no_processors; each_field = word_alone e },
+            (
+              λ v e. record { about = none; of_version = v; processors = no_processors; each_field = word_alone e },
+              tt,
+            ),
+          ),
+        ),
+      ),
+    ),
+  ),
+)
   where
     none : AreTasksOf tasks []
     none = no_task_named tasks
