@@ -10,7 +10,6 @@ use Rattle.task_set.specs.declared.context.Context.{Context}
 use Rattle.task_set.specs.declared.event.Event.{Event}
 use Rattle.task_set.specs.declared.event.Event.TheVariants.{Arrive, Depart, Tick, Affinity, Offline, Online}
 use Rattle.scheduler_reply.specs.declared.reply.Reply.{Reply}
-use Rattle.scheduler_reply.specs.declared.reply.Reply.TheVariants.{Left}
 use Rattle.scheduler_reply.specs.declared.reply.Entry.{Entry}
 use Rattle.scheduler_reply.specs.Reply.{IsReplyOfVersion}
 use Rattle.text_fields.specs.LineText.{line, task_line, task_fields}
@@ -24,7 +23,7 @@ use Rattle.schedule_text.specs.LineFields.{entry_fields, IsTaskFields, IsContext
 use Rattle.schedule_text.proofs.FieldLists.{spaced_apart}
 use Rattle.schedule_text.proofs.Fields.{split_joined, joined_split}
 use Rattle.schedule_text.proofs.Names.{set_fields}
-use Rattle.schedule_text.proofs.Spaces.{EachByte, IsNoSpace, high_no_space, none_from_no_space, field_no_space, fields_no_space, number_bytes, task_bytes, event_bytes, reply_bytes, context_bytes}
+use Rattle.schedule_text.proofs.Spaces.{EachByte, IsNoSpace, high_no_space, none_from_no_space, field_no_space, fields_no_space, number_bytes, task_bytes, event_bytes, reply_some, reply_bytes, context_bytes}
 
 pub fields_back : (text first : List ℕ) (more : List (List ℕ)) → text ≡ spaced (first ∷ more)
     → EachByte IsNoSpace (first ∷ more) → spaced_fields_of text ≡ first ∷ more
@@ -64,16 +63,11 @@ event_spaced set (Online p) = refl
 three_spaced : (s a b c : List ℕ) → a ++ s ++ b ++ s ++ c ≡ a ++ (s ++ (b ++ (s ++ c)))
 three_spaced s a b c = simp append_assoc
 
--- an event and a reply have fields
+-- an event has fields
 event_some : (set : SetData) (event : Event) → (first : List ℕ) × (more : List (List ℕ))
     × (event_fields set event ≡ first ∷ more)
 event_some set (Arrive t) = (_, _, refl)
 event_some set _ = (_, _, refl)
-
-pub reply_some : (set : SetData) (reply : Reply) → (first : List ℕ) × (more : List (List ℕ))
-    × (reply_fields set reply ≡ first ∷ more)
-reply_some set Left = (_, _, refl)
-reply_some set _ = (_, _, refl)
 
 -- a number, and two parts that have fields
 parts_spaced : (number : List ℕ) (xs ys : List (List ℕ)) (first : List ℕ) (more : List (List ℕ))

@@ -1,5 +1,5 @@
 -- What a reply says, by its first word.
-use Rattle.std.proofs.Common.{◌≡◌, ◌≢◌, ℕ, ◌<◌, Bool, true, false, nat_eq, if◌then◌else◌, List, [], ◌∷◌, ◌++◌, ◌⊎◌, length, Option, Some, None, inl, inr, refl, sym, subst, eqb-true}
+use Rattle.std.proofs.Common.{◌≡◌, ◌≢◌, ℕ, ◌<◌, Bool, true, false, nat_eq, if◌then◌else◌, List, [], ◌∷◌, ◌++◌, ◌⊎◌, length, Option, Some, None, inl, inr, refl, sym, ap, ◌∙◌, subst, arith, eqb-true}
 use Rattle.std.specs.Prelude.{codes}
 use Rattle.std.proofs.lemmas.Bool.{cases_Bool, cases_eq, true≢false}
 use Rattle.task_set.specs.TaskSet.{SetData}
@@ -15,7 +15,7 @@ use Rattle.text_fields.proofs.Words.{are_same, and_left, and_right}
 use Rattle.schedule_text.specs.ScheduleText.{came_fields, gone_fields, left_fields, moved_fields, reply_fields, IsReplyOf}
 use Rattle.schedule_text.specs.Schedule.{HasProcessors}
 use Rattle.schedule_text.specs.LineFields.{IsCameFields, IsGoneFields, IsReplyFields}
-use Rattle.schedule_text.proofs.ReplyParts.{first_task, other_tasks, first_somebody, after_somebody, first_processors, other_processors}
+use Rattle.schedule_text.proofs.ReplyParts.{no_task_named, no_processors, first_task, other_tasks, first_somebody, after_somebody, first_processors, other_processors}
 
 -- ---- words that are tested
 
@@ -54,11 +54,10 @@ abbrev pub reply_named : List ℕ → List Reply → Option Reply
 reply_named word [] = None
 reply_named word (reply ∷ more) = if are_same word (word_of reply) then Some reply else reply_named word more
 
--- for each of some replies, what follows where it is of a version and has this word
-abbrev pub Follows : (Reply → Type 0) → ℕ → List ℕ → List Reply → Type 0
-Follows P version word [] = Unit {0}
-Follows P version word (reply ∷ more) =
-    (IsReplyOfVersion version reply → word ≡ word_of reply → P reply) × Follows P version word more
+-- each of some replies is so
+abbrev pub Each : (Reply → Type 0) → List Reply → Type 0
+Each P [] = Unit {0}
+Each P (reply ∷ more) = P reply × Each P more
 
 pub some_same : {A : Type 0} {a b : A} → Some a ≡ Some b → a ≡ b
 some_same e = cc
@@ -66,19 +65,39 @@ some_same e = cc
 pub none_some : {A : Type 0} {a : A} → None ≡ Some a → ⊥
 none_some e = cc
 
-pub follow : (P : Reply → Type 0) (version : ℕ) (word : List ℕ) (reply : Reply) (replies : List Reply)
-    → reply_named word replies ≡ Some reply → IsReplyOfVersion version reply → Follows P version word replies → P reply
-follow P version word reply [] is of each = absurd (none_some is)
-follow P version word reply (first ∷ more) is of each =
-    by (are_same word (word_of first)) refl is (λ later. follow P version word reply more later of each.1)
+named_word : (P : Reply → Type 0) (word : List ℕ) (reply : Reply) (replies : List Reply)
+    → reply_named word replies ≡ Some reply → Each P replies → (word ≡ word_of reply) × P reply
+named_word P word reply [] is each = absurd (none_some is)
+named_word P word reply (first ∷ more) is each =
+    by (are_same word (word_of first)) refl is (λ later. named_word P word reply more later each.1)
   where
     by : (same : Bool) → are_same word (word_of first) ≡ same
         → (if same then Some first else reply_named word more) ≡ Some reply
-        → (reply_named word more ≡ Some reply → P reply) → P reply
+        → (reply_named word more ≡ Some reply → (word ≡ word_of reply) × P reply) → (word ≡ word_of reply) × P reply
     by true e is later =
-        subst P (some_same is)
-        (each.0 (subst (IsReplyOfVersion version) (sym (some_same is)) of) (same_word word (word_of first) e))
+        subst (λ (r : Reply). (word ≡ word_of r) × P r) (some_same is) (same_word word (word_of first) e, each.0)
     by false e is later = later is
+
+-- it names no task, has no processors, and one field
+abbrev IsAlone : SetData → Reply → Type 0
+IsAlone tasks reply =
+    IsReplyOf tasks reply × HasProcessors reply × (word_of reply ∷ [] ≡ reply_fields tasks reply)
+
+are_alone : (tasks : SetData) → Each (IsAlone tasks) word_replies
+are_alone tasks = assumption (no_task_named tasks, no_processors, refl)
+
+-- the word of a reply is that reply
+pub word_read : (version : ℕ) (word : List ℕ) (tasks : SetData) (reply : Reply)
+    → reply_named word word_replies ≡ Some reply → IsReplyOfVersion version reply
+    → IsReplyFields version (word ∷ []) tasks reply
+word_read version word tasks reply is of =
+    let alone = named_word (IsAlone tasks) word reply word_replies is (are_alone tasks) in
+    record {
+      about = alone.1.0;
+      of_version = of;
+      processors = alone.1.1;
+      each_field = ap (λ (first : List ℕ). first ∷ []) alone.0 ∙ alone.1.2;
+    }
 
 pub version_decided : (version : ℕ) (reply : Reply) → IsReplyOfVersion version reply
     ⊎ (IsReplyOfVersion version reply → ⊥)
@@ -104,7 +123,7 @@ opening word =
     else if are_same word (codes "remasked") then remasked_first
     else other_first
 
--- the word is none that stands before parts
+-- the word is none of them
 abbrev pub IsOtherWord : List ℕ → Type 0
 IsOtherWord word =
     (word ≢ codes "freed") × (word ≢ codes "on") × (word ≢ codes "off") × (word ≢ codes "remasked")
@@ -217,3 +236,19 @@ pub said : (version : ℕ) (fields : List (List ℕ)) (set : SetData) (reply : R
 said version fields set reply f =
     subst (λ (fields : List (List ℕ)). IsToldBy version fields set reply) (sym f.each_field)
     (told version set reply f.about f.of_version f.processors)
+
+-- a reply of one word has no parts
+pub word_told : (version : ℕ) (word : List ℕ) (tasks : SetData) (reply : Reply)
+    → IsReplyFields version (word ∷ []) tasks reply
+    → (reply_named word word_replies ≡ Some reply) × IsReplyOfVersion version reply
+word_told version word tasks reply f = by (opening word) (said version (word ∷ []) tasks reply f)
+  where
+    by : (first : Opening) → IsTold first version word [] tasks reply
+        → (reply_named word word_replies ≡ Some reply) × IsReplyOfVersion version reply
+    by freed_first (gone, is, g) = absurd (omega (arith, ap length g.each_field))
+    by on_first (gone, two, is, g) = absurd (omega (arith, ap length g.each_field))
+    by off_first (None, two, is, e) = absurd (omega (arith, ap length e))
+    by off_first (Some moved, two, is, m) = absurd (omega (arith, ap length m.2))
+    by remasked_first (None, arrival, two, is, m) = absurd (omega (arith, ap length m.1))
+    by remasked_first (Some gone, arrival, two, is, m) = absurd (omega (arith, ap length m.2))
+    by other_first t = t

@@ -9,17 +9,16 @@ use Rattle.scheduler_reply.specs.declared.reply.Gone.{Gone}
 use Rattle.scheduler_reply.specs.declared.reply.Moved.{Moved}
 use Rattle.scheduler_reply.specs.declared.reply.Reply.{Reply}
 use Rattle.scheduler_reply.specs.declared.reply.Reply.TheVariants.{Remasked, Off, On}
-use Rattle.scheduler_reply.specs.Reply.{reply_of_came, reply_of_gone, came_tasks, came_chains, came_sets, IsReplyOfVersion}
+use Rattle.scheduler_reply.specs.Reply.{reply_of_came, reply_of_gone, came_tasks, came_chains, came_sets}
 use Rattle.text_fields.specs.EventText.{name_of}
 use Rattle.schedule_text.specs.ScheduleText.{gone_fields}
-use Rattle.schedule_text.specs.ScheduleText.{AreTasksOf}
 use Rattle.schedule_text.specs.LineForms.{IsField, HasFields}
 use Rattle.schedule_text.specs.LineFields.{IsSaid, IsCameFields, IsGoneFields, IsGoneThen, IsReplyFields}
 use Rattle.text_fields.proofs.Words.{head_same, tail_same, clash}
 use Rattle.text_fields.proofs.NamedTasks.{named_task}
 use Rattle.schedule_text.proofs.ReplyParts.{no_task_named, no_processors, task_and, somebody_and, processors_and}
 use Rattle.schedule_text.proofs.Names.{IsNamed, alone, alone_fields, alone_named, alone_has, name_of_field}
-use Rattle.schedule_text.proofs.FirstWords.{IsOtherWord, other_opening, opening, Opening, freed_first, on_first, off_first, remasked_first, other_first, IsMovedFields, IsReturnFields, IsTold, IsToldBy, said, reply_named, word_replies, follow}
+use Rattle.schedule_text.proofs.FirstWords.{IsOtherWord, other_opening, Opening, other_first, IsMovedFields, IsReturnFields, IsTold, IsToldBy, said}
 use Rattle.schedule_text.proofs.Joined.{joined, joined_fields, first_name, first_within, first_gone, second_came, later_came}
 use Rattle.schedule_text.proofs.Parts.{IsOfParts}
 
@@ -101,10 +100,13 @@ moved_same : {a b c b' c' : List ℕ} {xs ys : List (List ℕ)} → b ≡ b' →
 moved_same one two three = cc
 
 -- the task that was on it came elsewhere
+abbrev pub moved_reply : ℕ → Came → Reply
+moved_reply t arrival = Off (Some (record { task = t; came = arrival }))
+
 pub moved_written : (version : ℕ) → version ≡ 2 → (name : List ℕ) (rest : List (List ℕ)) (tasks : SetData) (t : ℕ) (arrival : Came)
     → t < length tasks.tasks → name ≡ name_of tasks t → IsCameFields rest tasks arrival
     → IsReplyFields version (codes "off" ∷ name ∷ codes "then" ∷ rest) tasks
-    (Off (Some (record { task = t; came = arrival })))
+    (moved_reply t arrival)
 moved_written version two name rest tasks t arrival within named f =
     record {
       about = task_and tasks t (came_tasks arrival) within f.about;
@@ -158,7 +160,7 @@ pub moved_parts : (version : ℕ) (set : SetData) (name : List ℕ) (after : Lis
 moved_parts version set name after two fields = record {
   form = λ field said. let one = alone 1 name in (
     joined one said.0,
-    Off (Some (record { task = 0; came = later_came (length one.tasks) said.1 })),
+    moved_reply 0 (later_came (length one.tasks) said.1),
     joined_fields one said.0 (alone_fields 1 name field) said.2,
     moved_written version two name after (joined one said.0) 0 (later_came (length one.tasks) said.1)
         (first_within one said.0 0 (alone_has 1 name))
@@ -181,7 +183,7 @@ moved_parts version set name after two fields = record {
 pub moved_read : (version : ℕ) (set : SetData) (name : List ℕ) (after : List (List ℕ)) (t : ℕ) (arrival : Came)
     → version ≡ 2 → IsNameOf set t name → IsCameFields after set arrival
     → IsReplyFields version (codes "off" ∷ name ∷ codes "then" ∷ after) set
-    (Off (Some (record { task = t; came = arrival })))
+    (moved_reply t arrival)
 moved_read version set name after t arrival two called f =
     let named = named_task set t name called in
     moved_written version two name after set t arrival named.0 named.1 f
@@ -339,54 +341,3 @@ linked_read version set fields part after gone arrival two cut g f =
     subst (λ (rest : List (List ℕ)). IsReplyFields version (codes "remasked" ∷ codes "freed" ∷ rest) set
     (Remasked (Some gone) arrival)) (sym cut.each_field)
     (linked_to version two part after set gone arrival g f)
-
--- ---- words
-
--- a reply of one word has no parts
-pub word_told : (version : ℕ) (word : List ℕ) (tasks : SetData) (reply : Reply)
-    → IsReplyFields version (word ∷ []) tasks reply
-    → (reply_named word word_replies ≡ Some reply) × IsReplyOfVersion version reply
-word_told version word tasks reply f = by (opening word) (said version (word ∷ []) tasks reply f)
-  where
-    by : (first : Opening) → IsTold first version word [] tasks reply
-        → (reply_named word word_replies ≡ Some reply) × IsReplyOfVersion version reply
-    by freed_first (gone, is, g) = absurd (omega (arith, ap length g.each_field))
-    by on_first (gone, two, is, g) = absurd (omega (arith, ap length g.each_field))
-    by off_first (None, two, is, e) = absurd (omega (arith, ap length e))
-    by off_first (Some moved, two, is, m) = absurd (omega (arith, ap length m.2))
-    by remasked_first (None, arrival, two, is, m) = absurd (omega (arith, ap length m.1))
-    by remasked_first (Some gone, arrival, two, is, m) = absurd (omega (arith, ap length m.2))
-    by other_first t = t
-
-word_alone : {a b : List ℕ} → a ≡ b → a ∷ [] ≡ b ∷ []
-word_alone e = cc
-
--- the word of a reply is that reply
-pub word_read : (version : ℕ) (word : List ℕ) (tasks : SetData) (reply : Reply)
-    → reply_named word word_replies ≡ Some reply → IsReplyOfVersion version reply
-    → IsReplyFields version (word ∷ []) tasks reply
-word_read version word tasks reply is of = follow (IsReplyFields version (word ∷ []) tasks) version word reply word_replies is of (
-  λ v e. record { about = none; of_version = v; processors = no_processors; each_field = word_alone e },
-  (
-    λ v e. record { about = none; of_version = v; processors = no_processors; each_field = word_alone e },
-    (
-      λ v e. record { about = none; of_version = v; processors = no_processors; each_field = word_alone e },
-      (
-        λ v e. record { about = none; of_version = v; processors = no_processors; each_field = word_alone e },
-        (
-          λ v e. record { about = none; of_version = v; processors = no_processors; each_field = word_alone e },
-          (
-            λ v e. record { about = none; of_version = v; processors = no_processors; each_field = word_alone e },
-            (
-              λ v e. record { about = none; of_version = v; processors = no_processors; each_field = word_alone e },
-              tt,
-            ),
-          ),
-        ),
-      ),
-    ),
-  ),
-)
-  where
-    none : AreTasksOf tasks []
-    none = no_task_named tasks

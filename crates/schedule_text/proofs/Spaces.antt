@@ -38,7 +38,7 @@ use Rattle.text_fields.proofs.Words.{and_left, and_right}
 use Rattle.text_fields.proofs.NamedTasks.{name_at, no_task}
 use Rattle.schedule_text.proofs.Fields.{set_list, mask_processors}
 use Rattle.schedule_text.proofs.ReplyParts.{the_task, the_somebody, the_chain, the_set}
-use Rattle.schedule_text.proofs.FirstWords.{first_field, opening, Opening, freed_first, on_first, off_first, remasked_first, other_first, IsMovedFields, IsReturnFields, IsTold, IsToldBy, told}
+use Rattle.schedule_text.proofs.FirstWords.{opening, Opening, freed_first, on_first, off_first, remasked_first, other_first, IsMovedFields, IsReturnFields, IsTold, IsToldBy, told}
 
 -- the digits are such bytes
 digits_from : (text : List ℕ) → AllDigits 10 text → All (λ (b : ℕ). 44 ≤ b) text
@@ -72,10 +72,11 @@ record Each (P : ℕ → Type 0) (fields : List (List ℕ)) : Type 0 where
 abbrev pub EachName : (ℕ → Type 0) → SetData → Type 0
 EachName P set = All (λ (task : TaskData). All P task.name) set.tasks
 
--- the first word of a reply has such bytes
-first_high : (set : SetData) (reply : Reply) → is_high (first_field (reply_fields set reply)) ≡ true
-first_high set Left = refl
-first_high set _ = refl
+-- a reply has fields, and the first one has such bytes
+pub reply_some : (set : SetData) (reply : Reply) → (first : List ℕ) × (more : List (List ℕ))
+    × (reply_fields set reply ≡ first ∷ more) × (is_high first ≡ true)
+reply_some set Left = (_, _, refl, refl)
+reply_some set _ = (_, _, refl, refl)
 
 module _ (P : ℕ → Type 0) (high : (b : ℕ) → 44 ≤ b → P b) where
   raised : (text : List ℕ) → All (λ (b : ℕ). 44 ≤ b) text → All P text
@@ -245,12 +246,11 @@ module _ (P : ℕ → Type 0) (high : (b : ℕ) → 44 ≤ b → P b) where
   pub reply_bytes : (version : ℕ) (set : SetData) (reply : Reply) → EachName P set → IsReplyOf set reply
       → IsReplyOfVersion version reply → HasProcessors reply → EachByte P (reply_fields set reply)
   reply_bytes version set reply names about of has =
-      (by (reply_fields set reply) (first_high set reply) (told version set reply about of has)).all
-    where
-      by : (fields : List (List ℕ)) → is_high (first_field fields) ≡ true → IsToldBy version fields set reply
-          → Each P fields
-      by [] e t = absurd t
-      by (word ∷ rest) e t = told_bytes (opening word) version word rest set reply (word_bytes word e) names t
+      let some = reply_some set reply in
+      let all = told_bytes (opening some.0) version some.0 some.1 set reply (word_bytes some.0 some.3) names
+      (subst (λ (fields : List (List ℕ)). IsToldBy version fields set reply) some.2
+      (told version set reply about of has)) in
+      rw some.2 all.all
 
   last_bytes : (last : Option ℕ) → IfSome last (λ p. p < 64) → All P (number_text last)
   last_bytes None below = dash_bytes
