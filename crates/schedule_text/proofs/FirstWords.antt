@@ -1,4 +1,4 @@
--- What a reply says, by its first word.
+-- What a reply says, by its first word. Here is the one walk over the replies: the lemmas about their texts follow from it.
 use Rattle.std.proofs.Common.{◌≡◌, ◌≢◌, ℕ, ◌<◌, Bool, true, false, nat_eq, if◌then◌else◌, List, [], ◌∷◌, ◌++◌, ◌⊎◌, length, Option, Some, None, inl, inr, refl, sym, ap, ◌∙◌, subst, arith, eqb-true}
 use Rattle.std.specs.Prelude.{codes}
 use Rattle.std.proofs.lemmas.Bool.{cases_Bool, cases_eq, true≢false}
@@ -19,6 +19,7 @@ use Rattle.schedule_text.proofs.ReplyParts.{no_task_named, no_processors, first_
 
 -- ---- words that are tested
 
+-- words that pass it are one
 same_word : (a b : List ℕ) → are_same a b ≡ true → a ≡ b
 same_word [] [] e = refl
 same_word [] (y ∷ ys) e = absurd (true≢false (sym e))
@@ -28,6 +29,7 @@ same_word (x ∷ xs) (y ∷ ys) e =
     let rest = same_word xs ys (and_right (nat_eq x y) (are_same xs ys) e) in
     cc
 
+-- words that differ fail the test
 word_differs : (a b : List ℕ) → a ≢ b → are_same a b ≡ false
 word_differs a b differs = elim (cases_Bool (are_same a b)) [
   | inl same ↦ absurd (differs (same_word a b same))
@@ -65,6 +67,7 @@ some_same e = cc
 pub none_some : {A : Type 0} {a : A} → None ≡ Some a → ⊥
 none_some e = cc
 
+-- the reply of a word has this word, and is what each of them is
 named_word : (P : Reply → Type 0) (word : List ℕ) (reply : Reply) (replies : List Reply)
     → reply_named word replies ≡ Some reply → Each P replies → (word ≡ word_of reply) × P reply
 named_word P word reply [] is each = absurd (none_some is)
@@ -78,7 +81,7 @@ named_word P word reply (first ∷ more) is each =
         subst (λ (r : Reply). (word ≡ word_of r) × P r) (some_same is) (same_word word (word_of first) e, each.0)
     by false e is later = later is
 
--- it names no task, has no processors, and one field
+-- it names no task and no processor, and has one field
 abbrev IsAlone : SetData → Reply → Type 0
 IsAlone tasks reply =
     IsReplyOf tasks reply × HasProcessors reply × (word_of reply ∷ [] ≡ reply_fields tasks reply)
@@ -99,6 +102,7 @@ word_read version word tasks reply is of =
       each_field = ap (λ (first : List ℕ). first ∷ []) alone.0 ∙ alone.1.2;
     }
 
+-- a version has a reply or not
 pub version_decided : (version : ℕ) (reply : Reply) → IsReplyOfVersion version reply
     ⊎ (IsReplyOfVersion version reply → ⊥)
 version_decided version Left = inl tt
@@ -175,6 +179,7 @@ abbrev pub IsToldBy : ℕ → List (List ℕ) → SetData → Reply → Type 0
 IsToldBy version [] set reply = ⊥
 IsToldBy version (word ∷ rest) set reply = IsTold (opening word) version word rest set reply
 
+-- the fields after `off`
 moved_told : (set : SetData) (moved : Option Moved) → IsReplyOf set (Off moved) → HasProcessors (Off moved)
     → IsMovedFields (moved_fields set moved) set moved
 moved_told set None about has = refl
@@ -189,6 +194,7 @@ moved_told set (Some moved) about has = (
   },
 )
 
+-- the fields after `remasked`
 return_told : (set : SetData) (gone : Option Gone) (arrival : Came) → IsReplyOf set (Remasked gone arrival)
     → HasProcessors (Remasked gone arrival)
     → IsReturnFields (left_fields set gone ++ codes "then" ∷ came_fields set arrival) set gone arrival
@@ -210,7 +216,7 @@ return_told set (Some gone) arrival about has = (
   },
 )
 
--- what each reply says: the one walk over the replies
+-- what each reply says
 pub told : (version : ℕ) (set : SetData) (reply : Reply) → IsReplyOf set reply → IsReplyOfVersion version reply
     → HasProcessors reply → IsToldBy version (reply_fields set reply) set reply
 told version set (Placed chain) about of has =
@@ -231,6 +237,7 @@ told version set (On gone) about of has =
     (gone, of, refl, record { about = about; processors = has; each_field = refl })
 told version set _ about of has = (refl, of)
 
+-- and what the fields of one say
 pub said : (version : ℕ) (fields : List (List ℕ)) (set : SetData) (reply : Reply)
     → IsReplyFields version fields set reply → IsToldBy version fields set reply
 said version fields set reply f =
