@@ -57,9 +57,9 @@ reply_named word [] = None
 reply_named word (reply ∷ more) = if are_same word (word_of reply) then Some reply else reply_named word more
 
 -- each of some replies is so
-abbrev pub Each : (Reply → Type 0) → List Reply → Type 0
-Each P [] = Unit {0}
-Each P (reply ∷ more) = P reply × Each P more
+abbrev pub EachReply : (Reply → Type 0) → List Reply → Type 0
+EachReply P [] = Unit {0}
+EachReply P (reply ∷ more) = P reply × EachReply P more
 
 pub some_same : {A : Type 0} {a b : A} → Some a ≡ Some b → a ≡ b
 some_same e = cc
@@ -69,7 +69,7 @@ none_some e = cc
 
 -- the reply of a word has this word, and is what each of them is
 named_word : (P : Reply → Type 0) (word : List ℕ) (reply : Reply) (replies : List Reply)
-    → reply_named word replies ≡ Some reply → Each P replies → (word ≡ word_of reply) × P reply
+    → reply_named word replies ≡ Some reply → EachReply P replies → (word ≡ word_of reply) × P reply
 named_word P word reply [] is each = absurd (none_some is)
 named_word P word reply (first ∷ more) is each =
     by (are_same word (word_of first)) refl is (λ later. named_word P word reply more later each.1)
@@ -86,7 +86,7 @@ abbrev IsAlone : SetData → Reply → Type 0
 IsAlone tasks reply =
     IsReplyOf tasks reply × HasProcessors reply × (word_of reply ∷ [] ≡ reply_fields tasks reply)
 
-are_alone : (tasks : SetData) → Each (IsAlone tasks) word_replies
+are_alone : (tasks : SetData) → EachReply (IsAlone tasks) word_replies
 are_alone tasks = assumption (no_task_named tasks, no_processors, refl)
 
 -- the word of a reply is that reply

@@ -64,13 +64,13 @@ name_high name named =
 abbrev pub EachByte : (ℕ → Type 0) → List (List ℕ) → Type 0
 EachByte P fields = All (λ (field : List ℕ). All P field) fields
 
--- the same, in a form that shows the fields
-record Each (P : ℕ → Type 0) (fields : List (List ℕ)) : Type 0 where
-  all : EachByte P fields
-
 -- and of each name of a set
 abbrev pub EachName : (ℕ → Type 0) → SetData → Type 0
 EachName P set = All (λ (task : TaskData). All P task.name) set.tasks
+
+-- it holds of each byte of these fields, said so that the fields are seen in the type
+record HasBytes (P : ℕ → Type 0) (fields : List (List ℕ)) : Type 0 where
+  all : EachByte P fields
 
 -- a reply has fields, and the first one has such bytes
 pub reply_some : (set : SetData) (reply : Reply) → (first : List ℕ) × (more : List (List ℕ))
@@ -139,19 +139,19 @@ module _ (P : ℕ → Type 0) (high : (b : ℕ) → 44 ≤ b → P b) where
 
   -- ---- the fields of a line
 
-  none : Each P []
+  none : HasBytes P []
   none = record { all = All-nil (λ (t : List ℕ). All P t) }
 
-  more : {field : List ℕ} {fields : List (List ℕ)} → All P field → Each P fields → Each P (field ∷ fields)
+  more : {field : List ℕ} {fields : List (List ℕ)} → All P field → HasBytes P fields → HasBytes P (field ∷ fields)
   more {field = field} {fields = fields} here rest =
       record { all = All-cons (λ (t : List ℕ). All P t) field fields here rest.all }
 
   -- a word, and then other fields
-  worded : (word : List ℕ) {fields : List (List ℕ)} → is_high word ≡ true → Each P fields → Each P (word ∷ fields)
+  worded : (word : List ℕ) {fields : List (List ℕ)} → is_high word ≡ true → HasBytes P fields → HasBytes P (word ∷ fields)
   worded word e rest = more (word_bytes word e) rest
 
   -- a number after a word
-  numbered : (word : List ℕ) (n : ℕ) → is_high word ≡ true → n < 2 ^ 64 → Each P (word ∷ canonical_number n ∷ [])
+  numbered : (word : List ℕ) (n : ℕ) → is_high word ≡ true → n < 2 ^ 64 → HasBytes P (word ∷ canonical_number n ∷ [])
   numbered word n e small = worded word e (more (number_bytes n small) none)
 
   pub word_number_bytes : (word : List ℕ) (n : ℕ) → is_high word ≡ true → n < 2 ^ 64
@@ -161,7 +161,7 @@ module _ (P : ℕ → Type 0) (high : (b : ℕ) → 44 ≤ b → P b) where
   pub task_bytes : (added : TaskData) → All P added.name → added.priority < 2 ^ 32 → added.mask ≢ empty
       → IsOfProcessors added.mask → EachByte P (task_fields added)
   task_bytes added name priority some processors =
-      let each : Each P (task_fields added) =
+      let each : HasBytes P (task_fields added) =
       worded (codes "task") refl (more name (more (number_bytes added.priority (omega arith))
       (more (mask_bytes added.mask some processors) none))) in each.all
 
@@ -169,7 +169,7 @@ module _ (P : ℕ → Type 0) (high : (b : ℕ) → 44 ≤ b → P b) where
   called_bytes set t names within = subst (λ (t : List ℕ). All P t) (sym (name_at set t within)) (names t no_task within)
 
   event_each : (set : SetData) (event : Event) → set.processors ≤ 64 → EachName P set → IsAboutSet set event
-      → HasUnits event → Each P (event_fields set event)
+      → HasUnits event → HasBytes P (event_fields set event)
   event_each set (Arrive t) few names about units =
       worded (codes "arrive") refl (more (called_bytes set t names about) none)
   event_each set (Depart t) few names about units =
@@ -192,7 +192,7 @@ module _ (P : ℕ → Type 0) (high : (b : ℕ) → 44 ≤ b → P b) where
   somebody_bytes set (Some t) names about = called_bytes set t names about
 
   came_bytes : (fields : List (List ℕ)) (set : SetData) (arrival : Came) → EachName P set → IsCameFields fields set arrival
-      → Each P fields
+      → HasBytes P fields
   came_bytes fields set (came.Placed chain) names f =
       rw f.each_field (worded (codes "placed") refl (more (chain_bytes chain (the_chain chain [] f.processors)) none))
   came_bytes fields set (came.Displaced chain out reach) names f =
@@ -204,7 +204,7 @@ module _ (P : ℕ → Type 0) (high : (b : ℕ) → 44 ≤ b → P b) where
       rw f.each_field (worded (codes "waits") refl (more (set_bytes reach (the_set [] reach f.processors)) none))
 
   gone_bytes : (fields : List (List ℕ)) (set : SetData) (gone : Gone) → EachName P set → IsGoneFields fields set gone
-      → Each P fields
+      → HasBytes P fields
   gone_bytes fields set gone names f =
       rw f.each_field (more (chain_bytes gone.chain (the_chain gone.chain (gone.back ∷ []) f.processors))
       (worded (codes "enters") refl (more (somebody_bytes set gone.entered names (the_somebody set gone.entered f.about))
@@ -213,17 +213,17 @@ module _ (P : ℕ → Type 0) (high : (b : ℕ) → 44 ≤ b → P b) where
 
   -- the word `then`, and the result of an arrival
   then_bytes : (after : List (List ℕ)) (set : SetData) (arrival : Came) → EachName P set → IsCameFields after set arrival
-      → Each P (codes "then" ∷ after)
+      → HasBytes P (codes "then" ∷ after)
   then_bytes after set arrival names f = worded (codes "then") refl (came_bytes after set arrival names f)
 
   moved_bytes : (rest : List (List ℕ)) (set : SetData) (moved : Option Moved) → EachName P set
-      → IsMovedFields rest set moved → Each P rest
+      → IsMovedFields rest set moved → HasBytes P rest
   moved_bytes rest set None names is = rw is (more dash_bytes none)
   moved_bytes rest set (Some moved) names (after, within, is, f) =
       rw is (more (called_bytes set moved.task names within) (then_bytes after set moved.came names f))
 
   return_bytes : (rest : List (List ℕ)) (set : SetData) (gone : Option Gone) (arrival : Came) → EachName P set
-      → IsReturnFields rest set gone arrival → Each P rest
+      → IsReturnFields rest set gone arrival → HasBytes P rest
   return_bytes rest set None arrival names (after, is, f) =
       rw is (worded (codes "left") refl (then_bytes after set arrival names f))
   return_bytes rest set (Some gone) arrival names (part, after, is, g, f) =
@@ -233,7 +233,7 @@ module _ (P : ℕ → Type 0) (high : (b : ℕ) → 44 ≤ b → P b) where
       }))
 
   told_bytes : (first : Opening) (version : ℕ) (word : List ℕ) (rest : List (List ℕ)) (set : SetData) (reply : Reply)
-      → All P word → EachName P set → IsTold first version word rest set reply → Each P (word ∷ rest)
+      → All P word → EachName P set → IsTold first version word rest set reply → HasBytes P (word ∷ rest)
   told_bytes freed_first version word rest set reply here names t = more here (gone_bytes rest set t.0 names t.2)
   told_bytes on_first version word rest set reply here names t = more here (gone_bytes rest set t.0 names t.3)
   told_bytes off_first version word rest set reply here names t = more here (moved_bytes rest set t.0 names t.3)
@@ -259,7 +259,8 @@ module _ (P : ℕ → Type 0) (high : (b : ℕ) → 44 ≤ b → P b) where
   pub context_bytes : (set : SetData) (t : ℕ) (context : Context) → EachName P set → t < length set.tasks
       → IsContextOf t context → EachByte P (context_fields set context)
   context_bytes set t context names within of =
-      let each : Each P (context_fields set context) = more (called_bytes set context.task names (let same = of.task in omega arith))
+      let each : HasBytes P (context_fields set context) =
+      more (called_bytes set context.task names (let same = of.task in omega arith))
       (worded (codes "units") refl (more (number_bytes context.units of.units)
       (worded (codes "stints") refl (more (number_bytes context.stints of.stints)
       (worded (codes "moves") refl (more (number_bytes context.moves of.moves)
