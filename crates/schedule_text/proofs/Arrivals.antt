@@ -1,5 +1,5 @@
 -- The result of an arrival, and who came in at a processor: what their fields say, and their faults.
-use Rattle.std.proofs.Common.{◌≡◌, ◌≢◌, ℕ, ◌<◌, ◌⊎◌, inl, inr, List, [], ◌∷◌, length, Option, Some, None, refl, sym, ap, ◌∙◌, arith}
+use Rattle.std.proofs.Common.{◌≡◌, ◌≢◌, ℕ, ◌<◌, ◌⊎◌, inl, inr, List, [], ◌∷◌, length, Option, Some, None, refl, sym, ap, ◌∙◌, subst, arith}
 use Rattle.std.specs.Prelude.{codes}
 use Rattle.task_set.specs.TaskSet.{SetData}
 use Rattle.task_set.specs.Refusal.{IsNameOf}
@@ -11,7 +11,7 @@ use Rattle.schedule_text.specs.ScheduleText.{chain_text, set_text}
 use Rattle.schedule_text.specs.Schedule.{AreOfProcessors}
 use Rattle.schedule_text.specs.declared.fault.TextKind.{TextKind}
 use Rattle.schedule_text.specs.Fields.{IsSetField, IsChainField, IsSomebodyField}
-use Rattle.schedule_text.specs.LineFields.{IsSaid, IsNameFault, IsCameFields, IsCameFault, IsGoneFields, IsGoneFault, displaced_fields, gone_words, came_fields}
+use Rattle.schedule_text.specs.LineFields.{IsSaid, IsNameFault, IsCameFields, IsCameFault, IsGoneFields, IsGoneFault, displaced_fields, gone_words}
 use Rattle.text_fields.proofs.Words.{head_same, tail_same, other_word}
 use Rattle.text_fields.proofs.NamedTasks.{named_task}
 use Rattle.schedule_text.proofs.ReplyParts.{no_task_named, task_named, the_task, somebody_named, the_somebody, chain_alone, set_alone, chain_and_set, the_chain, the_set}
@@ -57,7 +57,7 @@ two_cases word value tasks (came.Waits reach) f =
       head_same f.each_field,
       (reach, record { processors = the_set [] reach f.processors; is_text = second f.each_field }),
     )
-two_cases word value tasks (came.Displaced chain out reach) f = absurd (omega (arith, ap length f.each_field))
+two_cases word value tasks _ f = absurd (omega (arith, ap length f.each_field))
 
 pub placed_none : (word value : List ℕ) → word ≡ codes "placed"
     → ((chain : List ℕ) → IsChainField value chain → ⊥) → IsSaid (IsCameFields (word ∷ value ∷ [])) → ⊥
@@ -99,18 +99,18 @@ parts chain processors links X within is are =
       is_set = record { processors = the_set (links ∷ []) X within; is_text = are };
     }
 
--- what the fields of a displaced task say
-displaced : (set : SetData) (chain name processors : List ℕ) (arrival : Came)
-    → IsCameFields (displaced_fields chain name processors) set arrival
-    → AreParts chain processors × IsNamed set name
-displaced set chain name processors (came.Displaced links out reach) f =
-    let third = tail_same (tail_same f.each_field) in
+-- what six fields say
+six_said : (set : SetData) (a b c d e f : List ℕ) (arrival : Came)
+    → IsCameFields (a ∷ b ∷ c ∷ d ∷ e ∷ f ∷ []) set arrival
+    → ((a ≡ codes "displaced") × (c ≡ codes "out") × (e ≡ codes "reach")) × AreParts b f × IsNamed set d
+six_said set a b c d e f (came.Displaced links out reach) g =
+    let third = tail_same (tail_same g.each_field) in
     let fifth = tail_same (tail_same third) in (
-      parts chain processors links reach f.processors (second f.each_field) (second fifth),
-      (out, the_task set out f.about, second third),
+      (head_same g.each_field, head_same third, head_same fifth),
+      parts b f links reach g.processors (second g.each_field) (second fifth),
+      (out, the_task set out g.about, second third),
     )
-displaced set chain name processors (came.Placed links) f = absurd (omega (arith, ap length f.each_field))
-displaced set chain name processors (came.Waits reach) f = absurd (omega (arith, ap length f.each_field))
+six_said set a b c d e f _ g = absurd (omega (arith, ap length g.each_field))
 
 pub displaced_written : (set : SetData) (chain name processors links : List ℕ) (out reach : ℕ)
     → IsChainField chain links → out < length set.tasks → name ≡ name_of set out → IsSetField processors reach
@@ -131,7 +131,7 @@ displaced_read set chain name processors links out reach f called s =
 
 pub displaced_parts : (chain name processors : List ℕ) → IsSaid (IsCameFields (displaced_fields chain name processors))
     → AreParts chain processors
-displaced_parts chain name processors (tasks, arrival, names, f) = (displaced tasks chain name processors arrival f).0
+displaced_parts chain name processors (tasks, arrival, names, f) = (six_said tasks _ chain _ name _ processors arrival f).1
 
 -- a name that is not known, where the other fields are right
 pub displaced_fault : (set : SetData) (chain name processors links : List ℕ) (reach : ℕ) (kind : TextKind)
@@ -139,7 +139,7 @@ pub displaced_fault : (set : SetData) (chain name processors links : List ℕ) (
     → IsCameFault (displaced_fields chain name processors) set kind
 displaced_fault set chain name processors links reach kind f s fault =
     name_fault (IsCameFields (displaced_fields chain name processors)) set name kind 1 (came.Displaced links 0 reach)
-    (λ tasks arrival g. (displaced tasks chain name processors arrival g).1)
+    (λ tasks arrival g. (six_said tasks _ chain _ name _ processors arrival g).2)
     (displaced_written (alone 1 name) chain name processors links 0 reach f (alone_has 1 name) (alone_named 1 name) s)
     fault
 
@@ -154,23 +154,14 @@ six_words fields a b c d e f six words = sym (six ∙ by words.0 words.1 words.2
 -- six fields with other words are no result of an arrival
 pub six_none : (fields : List (List ℕ)) (a b c d e f : List ℕ) → fields ≡ a ∷ b ∷ c ∷ d ∷ e ∷ f ∷ []
     → (((a ≡ codes "displaced") × (c ≡ codes "out") × (e ≡ codes "reach")) → ⊥) → IsSaid (IsCameFields fields) → ⊥
-six_none fields a b c d e f six no_out (tasks, arrival, names, g) = by arrival (sym six ∙ g.each_field)
-  where
-    by : (arrival : Came) → a ∷ b ∷ c ∷ d ∷ e ∷ f ∷ [] ≡ came_fields tasks arrival → ⊥
-    by (came.Displaced chain out reach) same =
-        no_out (
-          head_same same,
-          head_same (tail_same (tail_same same)),
-          head_same (tail_same (tail_same (tail_same (tail_same same)))),
-        )
-    by (came.Placed chain) same = omega (arith, ap length same)
-    by (came.Waits reach) same = omega (arith, ap length same)
+six_none fields a b c d e f six no_out (tasks, arrival, names, g) =
+    no_out (six_said tasks a b c d e f arrival
+    (subst (λ (fields : List (List ℕ)). IsCameFields fields tasks arrival) six g)).0
 
 -- a result of an arrival has two fields or six
 pub came_length : (fields : List (List ℕ)) → length fields ≢ 2 → length fields ≢ 6 → IsSaid (IsCameFields fields) → ⊥
-came_length fields two six (tasks, came.Placed chain, names, f) = two (ap length f.each_field)
-came_length fields two six (tasks, came.Waits reach, names, f) = two (ap length f.each_field)
 came_length fields two six (tasks, came.Displaced chain out reach, names, f) = six (ap length f.each_field)
+came_length fields two six (tasks, _, names, f) = two (ap length f.each_field)
 
 -- ---- who came in
 

@@ -1,7 +1,6 @@
 -- The text of a line and its fields: each gives the other.
-use Rattle.std.proofs.Common.{◌≡◌, ℕ, ◌<◌, ◌≤◌, Some, None, List, [], ◌∷◌, ◌++◌, length, All, Contains, refl, sym, ap, ◌∙◌, arith, append_assoc}
+use Rattle.std.proofs.Common.{◌≡◌, ℕ, ◌<◌, ◌≤◌, List, [], ◌∷◌, ◌++◌, length, All, Contains, refl, sym, ap, ◌∙◌, arith, append_assoc}
 use Rattle.std.specs.Prelude.{codes}
-use Rattle.std.specs.List.{join_with_byte}
 use Rattle.std.proofs.lemmas.List.{append_cancel_right}
 use Rattle.std.proofs.lemmas.List.Elements.{All-append, All-cons, All-weaker}
 use Rattle.affinity_mask.specs.Number.{canonical_number}
@@ -11,26 +10,20 @@ use Rattle.task_set.specs.declared.context.Context.{Context}
 use Rattle.task_set.specs.declared.event.Event.{Event}
 use Rattle.task_set.specs.declared.event.Event.TheVariants.{Arrive, Depart, Tick, Affinity, Offline, Online}
 use Rattle.scheduler_reply.specs.declared.reply.Reply.{Reply}
-use Rattle.scheduler_reply.specs.declared.reply.Reply.TheVariants.{Placed, Displaced, Waits, Freed, Remasked, Off, On}
-use Rattle.scheduler_reply.specs.declared.reply.Came.{Came}
-use Rattle.scheduler_reply.specs.declared.reply.Came.TheVariants as came
-use Rattle.scheduler_reply.specs.declared.reply.Gone.{Gone}
 use Rattle.scheduler_reply.specs.declared.reply.Entry.{Entry}
+use Rattle.scheduler_reply.specs.Reply.{IsReplyOfVersion}
 use Rattle.text_fields.specs.LineText.{line, task_line, task_fields}
 use Rattle.text_fields.specs.EventText.{name_of, event_text, IsAboutSet, event_fields}
-use Rattle.schedule_text.specs.ScheduleText.{chain_text, set_text, somebody_text, number_text, came_text, gone_text, reply_text, entry_line, context_line, IsReplyOf}
+use Rattle.schedule_text.specs.ScheduleText.{number_text, reply_fields, context_fields, spaced, reply_text, entry_line, context_line, IsReplyOf}
 use Rattle.schedule_text.specs.Schedule.{HasProcessors}
 use Rattle.task_set.specs.Event.{HasUnits}
 use Rattle.schedule_text.specs.LineForms.{HasFields, IsTaskForm, IsEntryForm, IsEntryText, IsContextText}
 use Rattle.schedule_text.specs.Fields.{spaced_fields_of}
-use Rattle.schedule_text.specs.LineFields.{came_fields, gone_fields, reply_fields, entry_fields, context_fields, IsTaskFields, IsContextFields, IsEntryFields, IsSomeEntry}
+use Rattle.schedule_text.specs.LineFields.{entry_fields, IsTaskFields, IsContextFields, IsEntryFields, IsSomeEntry}
+use Rattle.schedule_text.proofs.FieldLists.{spaced_apart}
 use Rattle.schedule_text.proofs.Fields.{split_joined, joined_split}
 use Rattle.schedule_text.proofs.Names.{set_fields}
-use Rattle.schedule_text.proofs.Spaces.{EachByte, IsNoSpace, high_no_space, none_from_no_space, field_no_space, fields_no_space, number_bytes, task_bytes, event_bytes, reply_bytes, context_bytes}
-
--- fields with one space between them
-abbrev pub spaced : List (List ℕ) → List ℕ
-spaced fields = join_with_byte 32 fields
+use Rattle.schedule_text.proofs.Spaces.{EachByte, IsNoSpace, high_no_space, none_from_no_space, field_no_space, fields_no_space, number_bytes, task_bytes, event_bytes, reply_some, reply_bytes, context_bytes}
 
 pub fields_back : (text first : List ℕ) (more : List (List ℕ)) → text ≡ spaced (first ∷ more)
     → EachByte IsNoSpace (first ∷ more) → spaced_fields_of text ≡ first ∷ more
@@ -67,96 +60,14 @@ event_spaced set (Affinity t mask) = pair_spaced (32 ∷ []) (codes "affinity") 
 event_spaced set (Offline p) = refl
 event_spaced set (Online p) = refl
 
--- the spaced fields of two parts
-spaced_apart : (first : List ℕ) (more : List (List ℕ)) (second : List ℕ) (others : List (List ℕ))
-    → spaced ((first ∷ more) ++ second ∷ others) ≡ spaced (first ∷ more) ++ 32 ∷ spaced (second ∷ others)
-spaced_apart first [] second others = refl
-spaced_apart first (next ∷ more) second others =
-    ap (λ (rest : List ℕ). first ++ 32 ∷ rest) (spaced_apart next more second others)
-    ∙ sym (append_assoc first (32 ∷ spaced (next ∷ more)) (32 ∷ spaced (second ∷ others)))
-
 three_spaced : (s a b c : List ℕ) → a ++ s ++ b ++ s ++ c ≡ a ++ (s ++ (b ++ (s ++ c)))
 three_spaced s a b c = simp append_assoc
 
--- ---- the parts of a reply
-
-six_spaced : (s w a v b u c : List ℕ) → w ++ s ++ a ++ (s ++ v ++ s) ++ b ++ (s ++ u ++ s) ++ c ≡ w
-    ++ (s ++ (a ++ (s ++ (v ++ (s ++ (b ++ (s ++ (u ++ (s ++ c)))))))))
-six_spaced s w a v b u c = simp append_assoc
-
-came_spaced : (set : SetData) (arrival : Came) → came_text set arrival ≡ spaced (came_fields set arrival)
-unfolding came_text
-came_spaced set (came.Placed chain) = refl
-came_spaced set (came.Displaced chain out reach) =
-    six_spaced (32 ∷ []) (codes "displaced") (chain_text chain) (codes "out") (name_of set out) (codes "reach")
-    (set_text reach)
-came_spaced set (came.Waits reach) = refl
-
-five_spaced : (s a v b u c : List ℕ) → a ++ (s ++ v ++ s) ++ b ++ (s ++ u ++ s) ++ c
-    ≡ a ++ (s ++ (v ++ (s ++ (b ++ (s ++ (u ++ (s ++ c)))))))
-five_spaced s a v b u c = simp append_assoc
-
-gone_spaced : (set : SetData) (gone : Gone) → gone_text set gone ≡ spaced (gone_fields set gone)
-unfolding gone_text
-gone_spaced set gone =
-    five_spaced (32 ∷ []) (chain_text gone.chain) (codes "enters") (somebody_text set gone.entered) (codes "back")
-    (set_text gone.back)
-
--- a word before the result of an arrival
-then_spaced : (set : SetData) (word : List ℕ) (arrival : Came) → word ++ 32 ∷ came_text set arrival
-    ≡ spaced (word ∷ came_fields set arrival)
-then_spaced set word arrival = ap (λ (text : List ℕ). word ++ 32 ∷ text) (came_spaced set arrival) ∙ by arrival
-  where
-    by : (arrival : Came) → word ++ 32 ∷ spaced (came_fields set arrival) ≡ spaced (word ∷ came_fields set arrival)
-    by (came.Placed chain) = refl
-    by (came.Displaced chain out reach) = refl
-    by (came.Waits reach) = refl
-
--- a part between a word and the word `then`
-around_then : (a b c d : List ℕ) → a ++ b ++ c ++ d ≡ a ++ (b ++ (c ++ d))
-around_then a b c d = simp append_assoc
-
-pub reply_spaced : (set : SetData) (reply : Reply) → reply_text set reply ≡ spaced (reply_fields set reply)
-unfolding reply_text
-reply_spaced set (Placed chain) = came_spaced set (came.Placed chain)
-reply_spaced set (Displaced chain out reach) = came_spaced set (came.Displaced chain out reach)
-reply_spaced set (Waits reach) = came_spaced set (came.Waits reach)
-reply_spaced set (Freed entered chain back) =
-    ap (λ (text : List ℕ). codes "freed " ++ text)
-    (gone_spaced set (record { entered = entered; chain = chain; back = back }))
-reply_spaced set (Remasked None arrival) =
-    ap (λ (text : List ℕ). codes "remasked left " ++ text) (then_spaced set (codes "then") arrival)
-reply_spaced set (Remasked (Some gone) arrival) =
-    around_then (codes "remasked freed ") (gone_text set gone) (codes " then ") (came_text set arrival)
-    ∙ ap (λ (text : List ℕ). codes "remasked freed " ++ (gone_text set gone ++ 32 ∷ text))
-    (then_spaced set (codes "then") arrival)
-    ∙ ap (λ (text : List ℕ). codes "remasked freed " ++ (text ++ 32 ∷ spaced (codes "then" ∷ came_fields set arrival)))
-    (gone_spaced set gone)
-    ∙ ap (λ (text : List ℕ). codes "remasked freed " ++ text)
-    (sym (spaced_apart (chain_text gone.chain)
-    (codes "enters" ∷ somebody_text set gone.entered ∷ codes "back" ∷ set_text gone.back ∷ []) (codes "then")
-    (came_fields set arrival)))
-reply_spaced set (Off None) = refl
-reply_spaced set (Off (Some moved)) =
-    around_then (codes "off ") (name_of set moved.task) (codes " then ") (came_text set moved.came)
-    ∙ ap (λ (text : List ℕ). codes "off " ++ (name_of set moved.task ++ 32 ∷ text))
-    (then_spaced set (codes "then") moved.came)
-reply_spaced set (On parts) = ap (λ (text : List ℕ). codes "on " ++ text) (gone_spaced set parts)
-reply_spaced set _ = refl
-
--- an event and a reply have fields
+-- an event has fields
 event_some : (set : SetData) (event : Event) → (first : List ℕ) × (more : List (List ℕ))
     × (event_fields set event ≡ first ∷ more)
 event_some set (Arrive t) = (_, _, refl)
 event_some set _ = (_, _, refl)
-
-pub reply_some : (set : SetData) (reply : Reply) → (first : List ℕ) × (more : List (List ℕ))
-    × (reply_fields set reply ≡ first ∷ more)
-reply_some set (Remasked None arrival) = (_, _, refl)
-reply_some set (Remasked (Some gone) arrival) = (_, _, refl)
-reply_some set (Off None) = (_, _, refl)
-reply_some set (Off (Some moved)) = (_, _, refl)
-reply_some set _ = (_, _, refl)
 
 -- a number, and two parts that have fields
 parts_spaced : (number : List ℕ) (xs ys : List (List ℕ)) (first : List ℕ) (more : List (List ℕ))
@@ -169,13 +80,13 @@ parts_spaced number xs ys first more second others is are =
 pub on_stream : (number event reply : List ℕ) (tasks others : SetData) (e : Event) (r : Reply) → event
     ≡ event_text tasks e → reply ≡ reply_text others r → number ++ codes " " ++ event ++ codes " " ++ reply
     ≡ spaced (number ∷ (event_fields tasks e ++ reply_fields others r))
+unfolding reply_text
 on_stream number event reply tasks others e r is are =
     let some = event_some tasks e in
     let some' = reply_some others r in
     three_spaced (32 ∷ []) number event reply
     ∙ ap (λ (text : List ℕ). number ++ 32 ∷ (text ++ 32 ∷ reply)) (is ∙ event_spaced tasks e)
-    ∙ ap (λ (text : List ℕ). number ++ 32 ∷ (spaced (event_fields tasks e) ++ 32 ∷ text))
-    (are ∙ reply_spaced others r)
+    ∙ ap (λ (text : List ℕ). number ++ 32 ∷ (spaced (event_fields tasks e) ++ 32 ∷ text)) are
     ∙ parts_spaced number (event_fields tasks e) (reply_fields others r) some.0 some.1 some'.0 some'.1 some.2 some'.2
 
 pub entry_spaced : (set : SetData) (entry : Entry) → entry_line set entry ≡ line (spaced (entry_fields set entry))
@@ -184,19 +95,10 @@ entry_spaced set entry =
     ap line (on_stream (canonical_number entry.caller) (event_text set entry.event) (reply_text set entry.reply)
     set set entry.event entry.reply refl refl)
 
-eleven_spaced : (s a b c d e f g h i j k : List ℕ) → a ++ (s ++ b ++ s) ++ c ++ (s ++ d ++ s) ++ e
-    ++ (s ++ f ++ s) ++ g ++ (s ++ h ++ s) ++ i ++ (s ++ j ++ s) ++ k
-    ≡ a ++ (s ++ (b ++ (s ++ (c ++ (s
-    ++ (d ++ (s ++ (e ++ (s ++ (f ++ (s ++ (g ++ (s ++ (h ++ (s ++ (i ++ (s ++ (j ++ (s ++ k)))))))))))))))))))
-eleven_spaced s a b c d e f g h i j k = simp append_assoc
-
 pub context_spaced : (set : SetData) (context : Context) → context_line set context
     ≡ line (spaced (context_fields set context))
 unfolding context_line
-context_spaced set context =
-    ap line (eleven_spaced (32 ∷ []) (name_of set context.task) (codes "units") (canonical_number context.units)
-    (codes "stints") (canonical_number context.stints) (codes "moves") (canonical_number context.moves)
-    (codes "last") (number_text context.last) (codes "trail") (canonical_number context.trail))
+context_spaced set context = refl
 
 -- ---- forms of text and of fields
 
@@ -234,18 +136,18 @@ entry_to_text version set text entry f =
     }
 
 -- the fields on a stream
-stream_fields : (text : List ℕ) (stream : ℕ) (tasks others : SetData) (e : Event) (r : Reply) → stream < 16
+stream_fields : (version : ℕ) (text : List ℕ) (stream : ℕ) (tasks others : SetData) (e : Event) (r : Reply) → stream < 16
     → tasks.processors ≤ 64 → HasFields tasks → HasFields others → IsAboutSet tasks e → HasUnits e → IsReplyOf others r
-    → HasProcessors r → text ≡ spaced (canonical_number stream
+    → IsReplyOfVersion version r → HasProcessors r → text ≡ spaced (canonical_number stream
     ∷ (event_fields tasks e ++ reply_fields others r))
     → spaced_fields_of text ≡ canonical_number stream ∷ (event_fields tasks e ++ reply_fields others r)
-stream_fields text stream tasks others e r small few names names' about units about' processors is =
+stream_fields version text stream tasks others e r small few names names' about units about' of processors is =
     fields_back text (canonical_number stream) (event_fields tasks e ++ reply_fields others r) is
     (All-cons (λ (piece : List ℕ). All IsNoSpace piece) (canonical_number stream)
     (event_fields tasks e ++ reply_fields others r) (number_bytes IsNoSpace high_no_space stream (omega arith))
     (All-append (λ (piece : List ℕ). All IsNoSpace piece) (event_fields tasks e) (reply_fields others r)
     (event_bytes IsNoSpace high_no_space tasks e few (fields_no_space tasks names) about units)
-    (reply_bytes IsNoSpace high_no_space others r (fields_no_space others names') about' processors)))
+    (reply_bytes IsNoSpace high_no_space version others r (fields_no_space others names') about' of processors)))
 
 pub entry_to_fields : (version : ℕ) (set : SetData) (text : List ℕ) (entry : Entry) → IsTaskSet set
     → IsEntryText version set text entry → IsEntryFields version (spaced_fields_of text) set entry
@@ -253,8 +155,9 @@ entry_to_fields version set text entry valid f =
     let s = f.scheduled in
     record {
       scheduled = s;
-      each_field = stream_fields text entry.caller set set entry.event entry.reply s.caller valid.processors.1
-          (set_fields set valid) (set_fields set valid) s.tasks.event s.units s.tasks.reply s.processors
+      each_field = stream_fields version text entry.caller set set entry.event entry.reply s.caller valid.processors.1
+          (set_fields set valid) (set_fields set valid) s.tasks.event s.units s.tasks.reply s.of_version.reply
+          s.processors
           (line_same text (spaced (entry_fields set entry)) (f.is_text ∙ entry_spaced set entry));
     }
 
@@ -286,8 +189,8 @@ form_to_fields version m text few f =
         r.names,
         record { about = r.about; of_version = r.of_version; processors = r.processors; each_field = refl },
       );
-      each_field = stream_fields text f.stream e.tasks r.tasks e.event r.reply f.caller
-          (let on = e.processors in omega arith) e.names r.names e.about e.units r.about r.processors
+      each_field = stream_fields version text f.stream e.tasks r.tasks e.event r.reply f.caller
+          (let on = e.processors in omega arith) e.names r.names e.about e.units r.about r.of_version r.processors
           (f.is_text ∙ on_stream (canonical_number f.stream) f.event f.reply e.tasks r.tasks e.event r.reply
           e.is_text r.is_text);
     }

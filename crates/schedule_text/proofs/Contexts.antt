@@ -6,10 +6,10 @@ use Rattle.task_set.specs.TaskSet.{SetData}
 use Rattle.task_set.specs.declared.context.Context.{Context}
 use Rattle.text_fields.specs.EventText.{name_of}
 use Rattle.text_fields.specs.Fields.{texts}
-use Rattle.schedule_text.specs.ScheduleText.{number_text}
+use Rattle.schedule_text.specs.ScheduleText.{number_text, context_fields}
 use Rattle.schedule_text.specs.Schedule.{IsContextOf}
 use Rattle.schedule_text.specs.Fields.{IsNumberField, IsLastField}
-use Rattle.schedule_text.specs.LineFields.{context_fields, AreContextWords, IsContextFields}
+use Rattle.schedule_text.specs.LineFields.{AreContextWords, IsContextFields}
 use Rattle.text_fields.proofs.Words.{head_same, tail_same}
 use Rattle.std.proofs.lemmas.Fmt.{decimal_injective}
 use Rattle.schedule_text.proofs.Fields.{number_once, number_lacks}

@@ -6,8 +6,9 @@ use Rattle.task_set.specs.declared.event.Event.{Event}
 use Rattle.task_set.specs.declared.event.Event.TheVariants.{Arrive, Depart, Tick, Affinity, Offline, Online}
 use Rattle.scheduler_reply.specs.declared.reply.Reply.{Reply}
 use Rattle.scheduler_reply.specs.declared.reply.Entry.{Entry}
+use Rattle.schedule_text.specs.ScheduleText.{reply_fields}
 use Rattle.schedule_text.specs.Fields.{IsNumberField}
-use Rattle.schedule_text.specs.LineFields.{IsSaid, IsEventFields, IsReplyFields, IsEntryFields, IsSomeEntry, IsEventSize, IsEventThen, reply_fields}
+use Rattle.schedule_text.specs.LineFields.{IsSaid, IsEventFields, IsReplyFields, IsEntryFields, IsSomeEntry, IsEventSize, IsEventThen}
 use Rattle.text_fields.specs.EventText.{event_fields}
 use Rattle.text_fields.proofs.Words.{head_same, tail_same, other_word}
 use Rattle.schedule_text.proofs.Names.{set_fields}

@@ -7,9 +7,10 @@ use Rattle.task_set.specs.Refusal.{IsNameOf}
 use Rattle.task_set.specs.declared.event.Event.{Event}
 use Rattle.task_set.specs.declared.event.Event.TheVariants.{Arrive, Depart, Tick, Affinity, Offline, Online}
 use Rattle.scheduler_reply.specs.declared.reply.Came.TheVariants as came
-use Rattle.scheduler_reply.specs.declared.reply.Reply.TheVariants.{Left, Ticked, AlreadyReady, NotReady, Masked, Remasked, AlreadyOff, AlreadyOn, Off, On}
+use Rattle.scheduler_reply.specs.declared.reply.Reply.TheVariants.{Remasked, Off, On}
+use Rattle.scheduler_reply.specs.declared.reply.Reply.{Reply}
 use Rattle.scheduler_reply.specs.declared.reply.Entry.{Entry}
-use Rattle.scheduler_reply.specs.Reply.{reply_of_came, reply_of_gone}
+use Rattle.scheduler_reply.specs.Reply.{reply_of_came, reply_of_gone, IsReplyOfVersion}
 use Rattle.schedule_text.specs.declared.fault.TextKind.{TextKind}
 use Rattle.schedule_text.specs.declared.fault.TextKind.TheVariants.{BadLine, UnknownTask}
 use Rattle.schedule_text.specs.LineForms.{IsField, HasFields}
@@ -24,9 +25,9 @@ use Rattle.schedule_text.proofs.Names.{IsNamed, set_fields, named_fault}
 use Rattle.schedule_text.proofs.Parts.{IsDecided, parts_decided, same_decided, none_said}
 use Rattle.schedule_text.proofs.Shapes.{tick_none, first_none, no_processor, no_event, tick_read, offline_read, online_read, three_none, mask_of_some, affinity_read, event_length, arrival_read, departure_read, arrival_fault, departure_fault, affinity_fault}
 use Rattle.schedule_text.proofs.Arrivals.{placed_read, waits_read, placed_none, waits_none, two_none, displaced_read, displaced_parts, displaced_fault, six_words, six_none, came_length, gone_read, gone_parts, gone_fault, five_words, five_none, gone_length}
-use Rattle.schedule_text.proofs.Replies.{came_to, came_from, freed_to, freed_from, on_to, on_from, on_none, unmoved_read, off_none, off_other, moved_parts, moved_written, waiting_to, waiting_from, waiting_other, linked_parts, linked_to, linked_other, remasked_none, remasked_other, word_cases, word_read}
+use Rattle.schedule_text.proofs.Replies.{came_to, came_from, freed_to, freed_from, on_to, on_from, on_none, unmoved_read, off_none, off_other, moved_parts, moved_written, waiting_to, waiting_from, waiting_other, linked_parts, linked_to, linked_other, remasked_none, remasked_other, moved_reply}
 use Rattle.schedule_text.proofs.FieldLists.{short_gone}
-use Rattle.schedule_text.proofs.Bridges.{reply_some}
+use Rattle.schedule_text.proofs.FirstWords.{word_replies, reply_named, none_some, some_same, version_decided, word_read, word_told, said}
 use Rattle.schedule_text.proofs.Entries.{some_stream, some_event_then, entry_of_parts, entry_parts}
 
 -- ---- names
@@ -121,17 +122,11 @@ module _ (version : ℕ) (set : SetData) (range : (1 ≤ set.processors) × (set
   ]
 
   event_decided : (fields : List (List ℕ)) → IsDecided (IsEventFields version set.processors fields) set
-  event_decided [] =
-      none_said (IsEventFields version set.processors []) set
-      (event_length version set.processors [] (λ e. omega (arith, e)) (λ e. omega (arith, e)))
-  event_decided (a ∷ []) =
-      none_said (IsEventFields version set.processors (a ∷ [])) set
-      (event_length version set.processors (a ∷ []) (λ e. omega (arith, e)) (λ e. omega (arith, e)))
   event_decided (word ∷ value ∷ []) = valued_decided word value
   event_decided (word ∷ name ∷ list ∷ []) = affinity_decided word name list
-  event_decided (a ∷ b ∷ c ∷ d ∷ more) =
-      none_said (IsEventFields version set.processors (a ∷ b ∷ c ∷ d ∷ more)) set
-      (event_length version set.processors (a ∷ b ∷ c ∷ d ∷ more) (λ e. omega (arith, e)) (λ e. omega (arith, e)))
+  event_decided fields =
+      none_said (IsEventFields version set.processors fields) set
+      (event_length version set.processors fields (λ e. omega (arith, e)) (λ e. omega (arith, e)))
 
 -- ---- the parts of a reply
 
@@ -191,22 +186,8 @@ six_decided set a b c d e f = elim (words_decided a c e (codes "displaced") (cod
 came_decided : (set : SetData) (fields : List (List ℕ)) → IsDecided (IsCameFields fields) set
 came_decided set (word ∷ value ∷ []) = two_decided set word value
 came_decided set (a ∷ b ∷ c ∷ d ∷ e ∷ f ∷ []) = six_decided set a b c d e f
-came_decided set [] =
-    none_said (IsCameFields []) set (came_length [] (λ e. omega (arith, e)) (λ e. omega (arith, e)))
-came_decided set (a ∷ []) =
-    none_said (IsCameFields (a ∷ [])) set (came_length (a ∷ []) (λ e. omega (arith, e)) (λ e. omega (arith, e)))
-came_decided set (a ∷ b ∷ c ∷ []) =
-    none_said (IsCameFields (a ∷ b ∷ c ∷ [])) set
-    (came_length (a ∷ b ∷ c ∷ []) (λ e. omega (arith, e)) (λ e. omega (arith, e)))
-came_decided set (a ∷ b ∷ c ∷ d ∷ []) =
-    none_said (IsCameFields (a ∷ b ∷ c ∷ d ∷ [])) set
-    (came_length (a ∷ b ∷ c ∷ d ∷ []) (λ e. omega (arith, e)) (λ e. omega (arith, e)))
-came_decided set (a ∷ b ∷ c ∷ d ∷ e ∷ []) =
-    none_said (IsCameFields (a ∷ b ∷ c ∷ d ∷ e ∷ [])) set
-    (came_length (a ∷ b ∷ c ∷ d ∷ e ∷ []) (λ e. omega (arith, e)) (λ e. omega (arith, e)))
-came_decided set (a ∷ b ∷ c ∷ d ∷ e ∷ f ∷ g ∷ more) =
-    none_said (IsCameFields (a ∷ b ∷ c ∷ d ∷ e ∷ f ∷ g ∷ more)) set
-    (came_length (a ∷ b ∷ c ∷ d ∷ e ∷ f ∷ g ∷ more) (λ e. omega (arith, e)) (λ e. omega (arith, e)))
+came_decided set fields =
+    none_said (IsCameFields fields) set (came_length fields (λ e. omega (arith, e)) (λ e. omega (arith, e)))
 
 gone_words_decided : (set : SetData) (chain name processors : List ℕ)
     → IsDecided (IsGoneFields (gone_words chain name processors)) set
@@ -236,17 +217,7 @@ five_decided set a b c d e = elim (both_decided (bytes_decided b (codes "enters"
 
 gone_decided : (set : SetData) (fields : List (List ℕ)) → IsDecided (IsGoneFields fields) set
 gone_decided set (a ∷ b ∷ c ∷ d ∷ e ∷ []) = five_decided set a b c d e
-gone_decided set [] = none_said (IsGoneFields []) set (gone_length [] (λ e. omega (arith, e)))
-gone_decided set (a ∷ []) = none_said (IsGoneFields (a ∷ [])) set (gone_length (a ∷ []) (λ e. omega (arith, e)))
-gone_decided set (a ∷ b ∷ []) =
-    none_said (IsGoneFields (a ∷ b ∷ [])) set (gone_length (a ∷ b ∷ []) (λ e. omega (arith, e)))
-gone_decided set (a ∷ b ∷ c ∷ []) =
-    none_said (IsGoneFields (a ∷ b ∷ c ∷ [])) set (gone_length (a ∷ b ∷ c ∷ []) (λ e. omega (arith, e)))
-gone_decided set (a ∷ b ∷ c ∷ d ∷ []) =
-    none_said (IsGoneFields (a ∷ b ∷ c ∷ d ∷ [])) set (gone_length (a ∷ b ∷ c ∷ d ∷ []) (λ e. omega (arith, e)))
-gone_decided set (a ∷ b ∷ c ∷ d ∷ e ∷ f ∷ more) =
-    none_said (IsGoneFields (a ∷ b ∷ c ∷ d ∷ e ∷ f ∷ more)) set
-    (gone_length (a ∷ b ∷ c ∷ d ∷ e ∷ f ∷ more) (λ e. omega (arith, e)))
+gone_decided set fields = none_said (IsGoneFields fields) set (gone_length fields (λ e. omega (arith, e)))
 
 -- five fields and `then` stand at the beginning, or not
 gone_then_decided : (fields : List (List ℕ)) → ((part : List (List ℕ)) × (after : List (List ℕ)) × IsGoneThen fields part after)
@@ -264,12 +235,7 @@ gone_then_decided (a ∷ b ∷ c ∷ d ∷ e ∷ f ∷ after) = elim (bytes_deci
     other differs (p ∷ q ∷ r ∷ s ∷ t ∷ []) more cut =
         differs (head_same (tail_same (tail_same (tail_same (tail_same (tail_same cut.each_field))))))
     other differs part more cut = absurd (omega (arith, cut.five))
-gone_then_decided [] = inr (short_gone [] (omega arith))
-gone_then_decided (a ∷ []) = inr (short_gone (a ∷ []) (omega arith))
-gone_then_decided (a ∷ b ∷ []) = inr (short_gone (a ∷ b ∷ []) (omega arith))
-gone_then_decided (a ∷ b ∷ c ∷ []) = inr (short_gone (a ∷ b ∷ c ∷ []) (omega arith))
-gone_then_decided (a ∷ b ∷ c ∷ d ∷ []) = inr (short_gone (a ∷ b ∷ c ∷ d ∷ []) (omega arith))
-gone_then_decided (a ∷ b ∷ c ∷ d ∷ e ∷ []) = inr (short_gone (a ∷ b ∷ c ∷ d ∷ e ∷ []) (omega arith))
+gone_then_decided fields = inr (short_gone fields (omega arith))
 
 -- ---- replies
 
@@ -292,7 +258,7 @@ module _ (version : ℕ) (set : SetData) (fields : HasFields set) where
   moved_decided two name after =
       parts_decided (moved_parts version set name after two fields)
       (λ named known. (
-        Off (Some (record { task = named.0; came = known.0 })),
+        moved_reply named.0 known.0,
         moved_written version two name after set named.0 known.0 named.1 named.2 known.1,
       )) (name_part_decided set name) (came_decided set after)
 
@@ -365,43 +331,21 @@ module _ (version : ℕ) (set : SetData) (fields : HasFields set) where
       ]
 
   word_decided : (word : List ℕ) → IsReplyDecided (word ∷ [])
-  word_decided word = elim (bytes_decided word (codes "left")) [
-    | inl is ↦ inl (Left, (word_read version word set).0 is)
-    | inr a ↦ elim (bytes_decided word (codes "ticked")) [
-      | inl is ↦ inl (Ticked, (word_read version word set).1 is)
-      | inr b ↦ elim (bytes_decided word (codes "already")) [
-        | inl is ↦ inl (AlreadyReady, (word_read version word set).2 is)
-        | inr c ↦ elim (bytes_decided word (codes "absent")) [
-          | inl is ↦ inl (NotReady, (word_read version word set).3 is)
-          | inr d ↦ elim (cases_eq version 2) [
-            | inr other ↦ no_reply (word ∷ [])
-                (word_cases version word a b c d (λ two is. other two) (λ two is. other two) (λ two is. other two))
-            | inl two ↦ later_decided word two a b c d
-          ]
-        ]
-      ]
-    ]
-  ]
+  word_decided word = by (reply_named word word_replies) refl
     where
-      later_decided : (word : List ℕ) → version ≡ 2 → word ≢ codes "left" → word ≢ codes "ticked"
-          → word ≢ codes "already" → word ≢ codes "absent" → IsReplyDecided (word ∷ [])
-      later_decided word two a b c d = elim (bytes_decided word (codes "masked")) [
-        | inl is ↦ inl (Masked, (word_read version word set).4 two is)
-        | inr e ↦ elim (bytes_decided word (codes "already_off")) [
-          | inl is ↦ inl (AlreadyOff, (word_read version word set).5 two is)
-          | inr f ↦ elim (bytes_decided word (codes "already_on")) [
-            | inl is ↦ inl (AlreadyOn, (word_read version word set).6 two is)
-            | inr g ↦ no_reply (word ∷ []) (word_cases version word a b c d (λ two is. e is) (λ two is. f is) (λ two is. g is))
-          ]
-        ]
+      by : (found : Option Reply) → reply_named word word_replies ≡ found → IsReplyDecided (word ∷ [])
+      by None none =
+          no_reply (word ∷ []) (λ some. none_some (sym none ∙ (word_told version word some.0 some.1 some.3).0))
+      by (Some reply) is = elim (version_decided version reply) [
+        | inl of ↦ inl (reply, word_read version word set reply is of)
+        | inr other ↦ no_reply (word ∷ [])
+            (λ some. let told = word_told version word some.0 some.1 some.3 in
+            other (subst (IsReplyOfVersion version) (some_same (sym told.0 ∙ is)) told.1))
       ]
 
   -- a reply has a field
   no_fields : IsSaid (IsReplyFields version []) → ⊥
-  no_fields (tasks, reply, names, f) = let some = reply_some tasks reply in none (f.each_field ∙ some.2)
-    where
-      none : {a : List ℕ} {xs : List (List ℕ)} → [] ≡ a ∷ xs → ⊥
-      none e = cc
+  no_fields (tasks, reply, names, f) = said version [] tasks reply f
 
   reply_decided : (line : List (List ℕ)) → IsReplyDecided line
   reply_decided [] = no_reply [] no_fields

@@ -1,8 +1,9 @@
 -- The fields of a line, taken one by one, and cut in two.
-use Rattle.std.proofs.Common.{◌≡◌, ℕ, zero, suc, ◌-◌, ◌<◌, ◌≤◌, List, [], ◌∷◌, length, take, drop, get_or, Bor, refl, sym, ap, ◌∙◌, arith, length-append, ◌≢◌, Bool, false, nat_eq}
+use Rattle.std.proofs.Common.{◌≡◌, ℕ, zero, suc, ◌-◌, ◌<◌, ◌≤◌, List, [], ◌∷◌, length, take, drop, get_or, Bor, refl, sym, ap, ◌∙◌, ◌++◌, arith, append_assoc, length-append, ◌≢◌, Bool, false, nat_eq}
 use Rattle.std.specs.Prelude.{codes}
 use Rattle.std.proofs.lemmas.Bool.{true≢false}
 use Rattle.text_fields.specs.Fields.{texts}
+use Rattle.schedule_text.specs.ScheduleText.{spaced}
 use Rattle.schedule_text.specs.LineFields.{IsGoneThen}
 use Rattle.text_fields.proofs.Words.{head_same, tail_same}
 use Rattle.text_fields.proofs.FieldLists.{texts_first_one, texts_three, texts_four}
@@ -68,3 +69,12 @@ pub other_gone : (fields : List (Bor (List ℕ))) (d : Bor (List ℕ)) → 5 < l
 other_gone (a ∷ b ∷ c ∷ e ∷ f ∷ g ∷ fields) d some other (p ∷ q ∷ r ∷ s ∷ t ∷ []) after cut =
     other (head_same (tail_same (tail_same (tail_same (tail_same (tail_same cut.each_field))))))
 other_gone fields d some other part after cut = absurd (omega (arith, some, cut.five))
+
+-- ---- fields with spaces between them
+
+pub spaced_apart : (first : List ℕ) (more : List (List ℕ)) (second : List ℕ) (others : List (List ℕ))
+    → spaced ((first ∷ more) ++ second ∷ others) ≡ spaced (first ∷ more) ++ 32 ∷ spaced (second ∷ others)
+spaced_apart first [] second others = refl
+spaced_apart first (next ∷ more) second others =
+    ap (λ (rest : List ℕ). first ++ 32 ∷ rest) (spaced_apart next more second others)
+    ∙ sym (append_assoc first (32 ∷ spaced (next ∷ more)) (32 ∷ spaced (second ∷ others)))

@@ -64,17 +64,12 @@ first_gone one other fields gone f = by gone.entered gone.chain gone.back f
 
 -- the result of an arrival, with the numbers that its tasks have after so many others
 abbrev pub later_came : ℕ → Came → Came
-later_came n (came.Placed chain) = came.Placed chain
 later_came n (came.Displaced chain out reach) = came.Displaced chain (n + out) reach
-later_came n (came.Waits reach) = came.Waits reach
+later_came n arrival = arrival
 
 -- the result of an arrival of the second set
 pub second_came : (one other : SetData) (fields : List (List ℕ)) (arrival : Came) → IsCameFields fields other arrival
     → IsCameFields fields (joined one other) (later_came (length one.tasks) arrival)
-second_came one other fields (came.Placed chain) f =
-    record { about = no_task_named (joined one other); processors = f.processors; each_field = f.each_field }
-second_came one other fields (came.Waits reach) f =
-    record { about = no_task_named (joined one other); processors = f.processors; each_field = f.each_field }
 second_came one other fields (came.Displaced chain out reach) f =
     let within = the_task other out f.about in
     record {
@@ -82,3 +77,5 @@ second_came one other fields (came.Displaced chain out reach) f =
       processors = f.processors;
       each_field = rw (second_name one other out) f.each_field;
     }
+second_came one other fields _ f =
+    record { about = no_task_named (joined one other); processors = f.processors; each_field = f.each_field }

@@ -4,6 +4,7 @@ mod Chains
 mod Names
 mod Shapes
 pub mod ReplyParts
+mod FirstWords
 mod Parts
 mod Joined
 mod Arrivals

@@ -13,17 +13,16 @@ use Rattle.task_set.specs.declared.context.Context.{Context}
 use Rattle.task_set.specs.declared.event.Event.{Event}
 use Rattle.task_set.specs.declared.event.Event.TheVariants.{Arrive, Depart, Tick, Affinity, Offline, Online}
 use Rattle.scheduler_reply.specs.declared.reply.Reply.{Reply}
-use Rattle.scheduler_reply.specs.declared.reply.Reply.TheVariants.{Placed, Displaced, Waits, Freed, Left, Ticked, AlreadyReady, NotReady, Masked, Remasked, AlreadyOff, AlreadyOn, Off, On}
+use Rattle.scheduler_reply.specs.declared.reply.Reply.TheVariants.{Remasked, Off, On}
 use Rattle.scheduler_reply.specs.declared.reply.Came.{Came}
 use Rattle.scheduler_reply.specs.declared.reply.Came.TheVariants as came
 use Rattle.scheduler_reply.specs.declared.reply.Gone.{Gone}
 use Rattle.scheduler_reply.specs.declared.reply.Moved.{Moved}
-use Rattle.scheduler_reply.specs.Reply.{came_tasks, came_chains, came_sets}
-use Rattle.std.specs.List.{cons_option}
+use Rattle.scheduler_reply.specs.Reply.{reply_of_came, reply_of_gone}
 use Rattle.scheduler_reply.specs.declared.reply.Entry.{Entry}
 use Rattle.text_fields.specs.EventText.{IsAboutSet, event_fields}
-use Rattle.schedule_text.specs.ScheduleText.{chain_text, set_text, somebody_text, AreTasksOf, IsReplyOf}
-use Rattle.schedule_text.specs.Schedule.{IsProcessorList, IsOfProcessors, AreOfProcessors, HasProcessors}
+use Rattle.schedule_text.specs.ScheduleText.{chain_text, set_text, somebody_text, reply_fields}
+use Rattle.schedule_text.specs.Schedule.{IsProcessorList, IsOfProcessors}
 use Rattle.task_set.specs.Event.{HasUnits}
 use Rattle.schedule_text.specs.ScheduleFault.{IsLineFault}
 use Rattle.schedule_text.specs.Prefix.{Progress, HeaderExpected, ProcessorsExpected, TasksExpected, EntriesExpected, ContextsExpected, Ended, IsPrefix}
@@ -32,14 +31,15 @@ use Rattle.schedule_text.specs.declared.fault.TextKind.{TextKind}
 use Rattle.schedule_text.specs.declared.fault.TextKind.TheVariants.{BadLine, TaskRefused, UnknownTask}
 use Rattle.schedule_text.specs.Reading.{Leads, LeadsTasks, LeadsEntries}
 use Rattle.schedule_text.specs.Fields.{spaced_fields_of}
-use Rattle.schedule_text.specs.LineFields.{IsTaskFields, IsEntryFields, came_fields, gone_fields, reply_fields}
-use Rattle.text_fields.proofs.Words.{head_same, tail_same, clash, other_word}
+use Rattle.schedule_text.specs.LineFields.{IsTaskFields, IsCameFields, IsGoneFields, IsReplyFields, IsEntryFields}
+use Rattle.text_fields.proofs.Words.{head_same, tail_same, clash}
 use Rattle.schedule_text.proofs.Names.{name_of_no_dash, set_fields}
 use Rattle.text_fields.proofs.NamedTasks.{same_task, same_parts}
 use Rattle.schedule_text.proofs.Fields.{list_once, set_once, mask_processors}
 use Rattle.schedule_text.proofs.Chains.{chain_once}
 use Rattle.schedule_text.proofs.Contexts.{context_once}
-use Rattle.schedule_text.proofs.ReplyParts.{the_task, the_somebody, the_chain, the_set, first_task, other_tasks, first_somebody, after_somebody, first_processors, other_processors}
+use Rattle.schedule_text.proofs.ReplyParts.{the_task, the_somebody, the_chain, the_set}
+use Rattle.schedule_text.proofs.FirstWords.{opening, Opening, freed_first, on_first, off_first, remasked_first, other_first, IsMovedFields, IsReturnFields, IsTold, IsToldBy, said, some_same}
 use Rattle.schedule_text.proofs.Entries.{event_size, events_apart}
 use Rattle.schedule_text.proofs.Replies.{parts_apart}
 use Rattle.schedule_text.proofs.Spaces.{IsNoSpace, high_no_space, word_number_bytes}
@@ -101,38 +101,41 @@ displaced_same : {c c' : List ℕ} {o o' r r' : ℕ} → c ≡ c' → o ≡ o' �
     → came.Displaced c o r ≡ came.Displaced c' o' r'
 displaced_same one two three = cc
 
-came_once : (set : SetData) (one other : Came) → IsTaskSet set → AreTasksOf set (came_tasks one)
-    → AreTasksOf set (came_tasks other) → AreOfProcessors (came_chains one) (came_sets one)
-    → AreOfProcessors (came_chains other) (came_sets other) → came_fields set one ≡ came_fields set other → one ≡ other
-came_once set (came.Placed c) (came.Placed c') valid a b p q e =
-    ap came.Placed (chain_same c c' (the_chain c [] p) (the_chain c' [] q) (second e))
-came_once set (came.Displaced c o r) (came.Displaced c' o' r') valid a b p q e =
+came_once : (fields : List (List ℕ)) (set : SetData) (one other : Came) → IsTaskSet set → IsCameFields fields set one
+    → IsCameFields fields set other → one ≡ other
+came_once fields set (came.Placed c) (came.Placed c') valid f g =
+    let e = sym f.each_field ∙ g.each_field in
+    ap came.Placed (chain_same c c' (the_chain c [] f.processors) (the_chain c' [] g.processors) (second e))
+came_once fields set (came.Displaced c o r) (came.Displaced c' o' r') valid f g =
+    let e = sym f.each_field ∙ g.each_field in
     let third = tail_same (tail_same e) in
     let fifth = tail_same (tail_same third) in
-    displaced_same (chain_same c c' (the_chain c (r ∷ []) p) (the_chain c' (r' ∷ []) q) (second e))
-    (same_task set o o' valid (the_task set o a) (the_task set o' b) (second third))
-    (set_same r r' (the_set (c ∷ []) r p) (the_set (c' ∷ []) r' q) (second fifth))
-came_once set (came.Waits r) (came.Waits r') valid a b p q e =
-    ap came.Waits (set_same r r' (the_set [] r p) (the_set [] r' q) (second e))
-came_once set one other valid a b p q e = absurd (clash e refl)
+    displaced_same
+    (chain_same c c' (the_chain c (r ∷ []) f.processors) (the_chain c' (r' ∷ []) g.processors) (second e))
+    (same_task set o o' valid (the_task set o f.about) (the_task set o' g.about) (second third))
+    (set_same r r' (the_set (c ∷ []) r f.processors) (the_set (c' ∷ []) r' g.processors) (second fifth))
+came_once fields set (came.Waits r) (came.Waits r') valid f g =
+    let e = sym f.each_field ∙ g.each_field in
+    ap came.Waits (set_same r r' (the_set [] r f.processors) (the_set [] r' g.processors) (second e))
+came_once fields set one other valid f g = absurd (clash (sym f.each_field ∙ g.each_field) refl)
 
 gone_same : {c c' : List ℕ} {o o' : Option ℕ} {r r' : ℕ} → o ≡ o' → c ≡ c' → r ≡ r'
     → ◌≡◌ {A = Gone} (record { entered = o; chain = c; back = r }) (record { entered = o'; chain = c'; back = r' })
 gone_same one two three = rw (one, two, three) refl
 
-gone_once : (set : SetData) (one other : Gone) → IsTaskSet set → AreTasksOf set (cons_option one.entered [])
-    → AreTasksOf set (cons_option other.entered []) → AreOfProcessors (one.chain ∷ []) (one.back ∷ [])
-    → AreOfProcessors (other.chain ∷ []) (other.back ∷ []) → gone_fields set one ≡ gone_fields set other → one ≡ other
-gone_once set one other valid a b p q e =
+gone_once : (fields : List (List ℕ)) (set : SetData) (one other : Gone) → IsTaskSet set → IsGoneFields fields set one
+    → IsGoneFields fields set other → one ≡ other
+gone_once fields set one other valid f g =
+    let e = sym f.each_field ∙ g.each_field in
     let third = tail_same (tail_same e) in
     let fifth = tail_same (tail_same third) in
     gone_same
-    (somebody_once set one.entered other.entered valid (the_somebody set one.entered a)
-    (the_somebody set other.entered b) (head_same third))
-    (chain_same one.chain other.chain (the_chain one.chain (one.back ∷ []) p)
-    (the_chain other.chain (other.back ∷ []) q) (head_same e))
-    (set_same one.back other.back (the_set (one.chain ∷ []) one.back p) (the_set (other.chain ∷ []) other.back q)
-    (head_same fifth))
+    (somebody_once set one.entered other.entered valid (the_somebody set one.entered f.about)
+    (the_somebody set other.entered g.about) (head_same third))
+    (chain_same one.chain other.chain (the_chain one.chain (one.back ∷ []) f.processors)
+    (the_chain other.chain (other.back ∷ []) g.processors) (head_same e))
+    (set_same one.back other.back (the_set (one.chain ∷ []) one.back f.processors)
+    (the_set (other.chain ∷ []) other.back g.processors) (head_same fifth))
 
 remasked_same : {g g' : Option Gone} {c c' : Came} → g ≡ g' → c ≡ c' → Remasked g c ≡ Remasked g' c'
 remasked_same one two = cc
@@ -141,89 +144,57 @@ moved_same : {t t' : ℕ} {c c' : Came} → t ≡ t' → c ≡ c'
     → ◌≡◌ {A = Moved} (record { task = t; came = c }) (record { task = t'; came = c' })
 moved_same one two = rw (one, two) refl
 
-freed_same : (g h : Gone) → g ≡ h → Freed g.entered g.chain g.back ≡ Freed h.entered h.chain h.back
-freed_same g h e = ap (λ (gone : Gone). Freed gone.entered gone.chain gone.back) e
+-- of other fields that are the same
+came_at : {fields others : List (List ℕ)} (set : SetData) (arrival : Came) → fields ≡ others
+    → IsCameFields others set arrival → IsCameFields fields set arrival
+came_at set arrival is f = subst (λ (fields : List (List ℕ)). IsCameFields fields set arrival) (sym is) f
 
-reply_of : Came → Reply
-reply_of (came.Placed c) = Placed c
-reply_of (came.Displaced c o r) = Displaced c o r
-reply_of (came.Waits r) = Waits r
+moved_once : (rest : List (List ℕ)) (set : SetData) (one other : Option Moved) → IsTaskSet set
+    → IsMovedFields rest set one → IsMovedFields rest set other → one ≡ other
+moved_once rest set None None valid e e' = refl
+moved_once rest set None (Some n) valid e q = absurd (omega (arith, ap length (sym e ∙ q.2)))
+moved_once rest set (Some m) None valid p e = absurd (omega (arith, ap length (sym e ∙ p.2)))
+moved_once rest set (Some m) (Some n) valid (after, within, is, f) (after', within', is', g) =
+    let e = sym is ∙ is' in
+    ap Some (moved_same (same_task set m.task n.task valid within within' (head_same e))
+    (came_once after set m.came n.came valid f (came_at set n.came (tail_same (tail_same e)) g)))
 
--- the first word of a reply
-abbrev head_of : Reply → List ℕ
-head_of (Placed c) = codes "placed"
-head_of (Displaced c o r) = codes "displaced"
-head_of (Waits r) = codes "waits"
-head_of (Freed o c r) = codes "freed"
-head_of Left = codes "left"
-head_of Ticked = codes "ticked"
-head_of AlreadyReady = codes "already"
-head_of NotReady = codes "absent"
-head_of Masked = codes "masked"
-head_of (Remasked g c) = codes "remasked"
-head_of AlreadyOff = codes "already_off"
-head_of AlreadyOn = codes "already_on"
-head_of (Off m) = codes "off"
-head_of (On g) = codes "on"
-
-headed : (set : SetData) (reply : Reply) → (rest : List (List ℕ)) × (reply_fields set reply ≡ head_of reply ∷ rest)
-headed set (Remasked None c) = (_, refl)
-headed set (Remasked (Some g) c) = (_, refl)
-headed set (Off None) = (_, refl)
-headed set (Off (Some m)) = (_, refl)
-headed set _ = (_, refl)
-
-same_heads : (set : SetData) (one other : Reply) → reply_fields set one ≡ reply_fields set other
-    → head_of one ≡ head_of other
-same_heads set one other e = head_same (sym (headed set one).1 ∙ e ∙ (headed set other).1)
-
-reply_once : (set : SetData) (one other : Reply) → IsTaskSet set → IsReplyOf set one → IsReplyOf set other
-    → HasProcessors one → HasProcessors other → reply_fields set one ≡ reply_fields set other → one ≡ other
-unfolding reply_of
-reply_once set (Placed c) (Placed c') valid a b p q e =
-    ap reply_of (came_once set (came.Placed c) (came.Placed c') valid a b p q e)
-reply_once set (Displaced c o r) (Displaced c' o' r') valid a b p q e =
-    ap reply_of (came_once set (came.Displaced c o r) (came.Displaced c' o' r') valid a b p q e)
-reply_once set (Waits r) (Waits r') valid a b p q e =
-    ap reply_of (came_once set (came.Waits r) (came.Waits r') valid a b p q e)
-reply_once set (Freed o c r) (Freed o' c' r') valid a b p q e =
-    let g : Gone = record { entered = o; chain = c; back = r } in
-    let h : Gone = record { entered = o'; chain = c'; back = r' } in
-    freed_same g h (gone_once set g h valid a b p q (tail_same e))
-reply_once set Left Left valid a b p q e = refl
-reply_once set Ticked Ticked valid a b p q e = refl
-reply_once set AlreadyReady AlreadyReady valid a b p q e = refl
-reply_once set NotReady NotReady valid a b p q e = refl
-reply_once set Masked Masked valid a b p q e = refl
-reply_once set AlreadyOff AlreadyOff valid a b p q e = refl
-reply_once set AlreadyOn AlreadyOn valid a b p q e = refl
-reply_once set (Remasked None c) (Remasked None c') valid a b p q e =
-    remasked_same refl (came_once set c c' valid a b p q (tail_same (tail_same (tail_same e))))
-reply_once set (Remasked (Some g) c) (Remasked (Some g') c') valid a b p q e =
-    let apart = parts_apart (gone_fields set g) (gone_fields set g') (codes "then" ∷ came_fields set c)
-    (codes "then" ∷ came_fields set c') refl (tail_same (tail_same e)) in
+return_once : (rest : List (List ℕ)) (set : SetData) (one other : Option Gone) (c c' : Came) → IsTaskSet set
+    → IsReturnFields rest set one c → IsReturnFields rest set other c' → Remasked one c ≡ Remasked other c'
+return_once rest set None None c c' valid (after, is, f) (after', is', g) =
+    remasked_same refl (came_once after set c c' valid f (came_at set c' (tail_same (tail_same (sym is ∙ is'))) g))
+return_once rest set None (Some h) c c' valid p q = absurd (clash (sym p.1 ∙ q.2) refl)
+return_once rest set (Some g) None c c' valid p q = absurd (clash (sym p.2 ∙ q.1) refl)
+return_once rest set (Some g) (Some h) c c' valid p q =
+    let apart = parts_apart p.0 q.0 (codes "then" ∷ p.1) (codes "then" ∷ q.1)
+    (ap length p.3.each_field ∙ sym (ap length q.3.each_field)) (tail_same (sym p.2 ∙ q.2)) in
     remasked_same
-    (ap Some (gone_once set g g' valid (first_somebody set g.entered (came_tasks c) a)
-    (first_somebody set g'.entered (came_tasks c') b)
-    (first_processors g.chain g.back (came_chains c) (came_sets c) p)
-    (first_processors g'.chain g'.back (came_chains c') (came_sets c') q) apart.0))
-    (came_once set c c' valid (after_somebody set g.entered (came_tasks c) a)
-    (after_somebody set g'.entered (came_tasks c') b)
-    (other_processors g.chain g.back (came_chains c) (came_sets c) p)
-    (other_processors g'.chain g'.back (came_chains c') (came_sets c') q) (tail_same apart.1))
-reply_once set (Remasked None c) (Remasked (Some g) c') valid a b p q e = absurd (clash (tail_same e) refl)
-reply_once set (Remasked (Some g) c) (Remasked None c') valid a b p q e = absurd (clash (tail_same e) refl)
-reply_once set (Off None) (Off None) valid a b p q e = refl
-reply_once set (Off (Some m)) (Off (Some n)) valid a b p q e =
-    let first = first_task set m.task (came_tasks m.came) a in
-    let first' = first_task set n.task (came_tasks n.came) b in
-    ap Off (ap Some (moved_same (same_task set m.task n.task valid first first' (second e))
-    (came_once set m.came n.came valid (other_tasks set m.task (came_tasks m.came) a)
-    (other_tasks set n.task (came_tasks n.came) b) p q (tail_same (tail_same (tail_same e))))))
-reply_once set (Off None) (Off (Some n)) valid a b p q e = absurd (omega (arith, ap length e))
-reply_once set (Off (Some m)) (Off None) valid a b p q e = absurd (omega (arith, ap length e))
-reply_once set (On g) (On h) valid a b p q e = ap On (gone_once set g h valid a b p q (tail_same e))
-reply_once set one other valid a b p q e = absurd (other_word (same_heads set one other e) refl)
+    (ap Some (gone_once p.0 set g h valid p.3
+    (subst (λ (fields : List (List ℕ)). IsGoneFields fields set h) (sym apart.0) q.3)))
+    (came_once p.1 set c c' valid p.4 (came_at set c' (tail_same apart.1) q.4))
+
+told_once : (first : Opening) (version : ℕ) (word : List ℕ) (rest : List (List ℕ)) (set : SetData) (one other : Reply)
+    → IsTaskSet set → IsTold first version word rest set one → IsTold first version word rest set other → one ≡ other
+told_once freed_first version word rest set one other valid t u =
+    t.1 ∙ ap reply_of_gone (gone_once rest set t.0 u.0 valid t.2 u.2) ∙ sym u.1
+told_once on_first version word rest set one other valid t u =
+    t.2 ∙ ap On (gone_once rest set t.0 u.0 valid t.3 u.3) ∙ sym u.2
+told_once off_first version word rest set one other valid t u =
+    t.2 ∙ ap Off (moved_once rest set t.0 u.0 valid t.3 u.3) ∙ sym u.2
+told_once remasked_first version word rest set one other valid t u =
+    t.3 ∙ return_once rest set t.0 u.0 t.1 u.1 valid t.4 u.4 ∙ sym u.3
+told_once other_first version word [] set one other valid t u = some_same (sym t.0 ∙ u.0)
+told_once other_first version word (next ∷ rest) set one other valid t u =
+    t.1 ∙ ap reply_of_came (came_once (word ∷ next ∷ rest) set t.0 u.0 valid t.2 u.2) ∙ sym u.1
+
+reply_once : (version : ℕ) (fields : List (List ℕ)) (set : SetData) (one other : Reply) → IsTaskSet set
+    → IsReplyFields version fields set one → IsReplyFields version fields set other → one ≡ other
+reply_once version fields set one other valid f g =
+    by fields (said version fields set one f) (said version fields set other g)
+  where
+    by : (fields : List (List ℕ)) → IsToldBy version fields set one → IsToldBy version fields set other → one ≡ other
+    by [] t u = absurd t
+    by (word ∷ rest) t u = told_once (opening word) version word rest set one other valid t u
 
 -- ---- entries
 
@@ -248,7 +219,19 @@ entry_once version set fields one other valid f g =
     (reply_fields set other.reply) (event_size set one.event) (event_size set other.event) (tail_same both) in
     entry_same one other (number_same one.caller other.caller (omega arith) (omega arith) (head_same both))
     (event_once set one.event other.event valid s.tasks.event s'.tasks.event s.units s'.units apart.0)
-    (reply_once set one.reply other.reply valid s.tasks.reply s'.tasks.reply s.processors s'.processors apart.1)
+    (reply_once version (reply_fields set one.reply) set one.reply other.reply valid
+    (record {
+      about = s.tasks.reply;
+      of_version = s.of_version.reply;
+      processors = s.processors;
+      each_field = refl;
+    })
+    (record {
+      about = s'.tasks.reply;
+      of_version = s'.of_version.reply;
+      processors = s'.processors;
+      each_field = apart.1;
+    }))
 
 -- ---- tasks
 

@@ -9,18 +9,18 @@ use Rattle.task_set.specs.declared.context.Context.{Context}
 use Rattle.scheduler_reply.specs.declared.reply.Entry.{Entry}
 use Rattle.text_fields.specs.LineText.{line, task_fields}
 use Rattle.text_fields.specs.Version.{IsVersion}
-use Rattle.schedule_text.specs.ScheduleText.{header}
+use Rattle.schedule_text.specs.ScheduleText.{header, reply_fields, context_fields, spaced}
 use Rattle.schedule_text.specs.Schedule.{IsScheduled, IsContextOf, AreInOrder, IsScheduleSet}
 use Rattle.schedule_text.specs.Prefix.{Progress, HeaderExpected, ProcessorsExpected, TasksExpected, EntriesExpected, ContextsExpected, Ended, text_so_far, IsPrefix}
 use Rattle.schedule_text.specs.Reading.{Leads}
-use Rattle.schedule_text.specs.LineFields.{entry_fields, reply_fields, context_fields}
+use Rattle.schedule_text.specs.LineFields.{entry_fields}
 use Rattle.text_fields.specs.EventText.{event_fields}
 use Rattle.text_fields.proofs.Folds.{folds_append}
 use Rattle.text_fields.proofs.Addable.{can_add_next}
 use Rattle.schedule_text.proofs.Names.{name_field}
 use Rattle.schedule_text.proofs.Fields.{mask_processors}
 use Rattle.schedule_text.proofs.Spaces.{EachByte, IsNoFeed, high_no_feed, none_from_no_feed, names_no_feed, name_high, number_bytes, word_bytes, joined_bytes, word_number_bytes, task_bytes, event_bytes, reply_bytes, context_bytes}
-use Rattle.schedule_text.proofs.Bridges.{spaced, task_spaced, entry_spaced, context_spaced}
+use Rattle.schedule_text.proofs.Bridges.{task_spaced, entry_spaced, context_spaced}
 use Rattle.schedule_text.proofs.Prefixes.{leads_prefix, leads_text}
 use Rattle.std.proofs.lemmas.List.Elements.{All-append, All-cons, All-weaker}
 
@@ -163,8 +163,8 @@ entries_path version set count before (entry ∷ entries) valid few each =
         (reply_fields set entry.reply)
         (event_bytes IsNoFeed high_no_feed set entry.event valid.processors.1 (names_no_feed set valid) s.tasks.event
         s.units)
-        (reply_bytes IsNoFeed high_no_feed set entry.reply (names_no_feed set valid) s.tasks.reply
-        s.processors))
+        (reply_bytes IsNoFeed high_no_feed version set entry.reply (names_no_feed set valid) s.tasks.reply
+        s.of_version.reply s.processors))
 
 to_entries : (version : ℕ) (set : SetData) (count : ℕ) (entries : List Entry) → IsPrefix (EntriesExpected version set count entries)
     → IsPath HeaderExpected (EntriesExpected version set count entries)

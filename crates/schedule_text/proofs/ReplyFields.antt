@@ -12,7 +12,8 @@ use Rattle.schedule_text.specs.LineFields.{IsCameFields, IsCameFault, IsGoneFiel
 use Rattle.schedule_text.proofs.FieldLists.{texts_rest_two, headed}
 use Rattle.text_fields.proofs.FieldLists.{texts_first_one}
 use Rattle.schedule_text.proofs.Parts.{same_fault}
-use Rattle.schedule_text.proofs.Replies.{IsOtherWord, came_to, came_from, freed_to, freed_from, waiting_to, waiting_from}
+use Rattle.schedule_text.proofs.FirstWords.{IsOtherWord}
+use Rattle.schedule_text.proofs.Replies.{came_to, came_from, freed_to, freed_from, waiting_to, waiting_from}
 
 -- what is refused
 abbrev pub IsRefused : ℕ → List (List ℕ) → SetData → Result Reply TextKind → Type 0

@@ -1,6 +1,6 @@
 -- What holds of each byte from ',' on holds of each byte of the fields of a line, where it holds of the names: so the
 -- fields have no space and no line feed.
-use Rattle.std.proofs.Common.{◌≡◌, ◌≢◌, ℕ, ◌<◌, ◌≤◌, ◌^◌, Bool, true, false, ◌&&◌, nat_eq, nat_le, IsTrue, leb-true, inl, inr, List, [], ◌∷◌, ◌++◌, length, map, All, Contains, Option, Some, None, IfSome, refl, sym, ◌∙◌, subst, arith, ne_eqb, eq-eqb}
+use Rattle.std.proofs.Common.{◌≡◌, ◌≢◌, ℕ, ◌<◌, ◌≤◌, ◌^◌, Bool, true, false, ◌&&◌, nat_eq, nat_le, IsTrue, leb-true, inl, inr, List, [], ◌∷◌, length, map, All, Contains, Option, Some, None, IfSome, refl, sym, ◌∙◌, subst, arith, ne_eqb, eq-eqb}
 use Rattle.std.specs.Prelude.{codes}
 use Rattle.std.specs.List.{join_with_byte}
 use Rattle.std.specs.Str.Parse.{AllDigits}
@@ -20,24 +20,25 @@ use Rattle.task_set.specs.declared.context.Context.{Context}
 use Rattle.task_set.specs.declared.event.Event.{Event}
 use Rattle.task_set.specs.declared.event.Event.TheVariants.{Arrive, Depart, Tick, Affinity, Offline, Online}
 use Rattle.scheduler_reply.specs.declared.reply.Reply.{Reply}
-use Rattle.scheduler_reply.specs.declared.reply.Reply.TheVariants.{Placed, Displaced, Waits, Freed, Remasked, Off, On}
+use Rattle.scheduler_reply.specs.declared.reply.Reply.TheVariants.{Left}
 use Rattle.scheduler_reply.specs.declared.reply.Came.{Came}
 use Rattle.scheduler_reply.specs.declared.reply.Came.TheVariants as came
 use Rattle.scheduler_reply.specs.declared.reply.Gone.{Gone}
-use Rattle.scheduler_reply.specs.Reply.{came_tasks, came_chains, came_sets}
-use Rattle.std.specs.List.{cons_option}
+use Rattle.scheduler_reply.specs.declared.reply.Moved.{Moved}
+use Rattle.scheduler_reply.specs.Reply.{IsReplyOfVersion}
 use Rattle.text_fields.specs.EventText.{name_of, IsAboutSet, event_fields}
-use Rattle.schedule_text.specs.ScheduleText.{chain_text, set_text, somebody_text, number_text, AreTasksOf, IsReplyOf}
-use Rattle.schedule_text.specs.Schedule.{IsProcessorList, IsOfProcessors, AreOfProcessors, HasProcessors, IsContextOf}
+use Rattle.schedule_text.specs.ScheduleText.{chain_text, set_text, somebody_text, number_text, reply_fields, context_fields, IsReplyOf}
+use Rattle.schedule_text.specs.LineFields.{IsCameFields, IsGoneFields}
+use Rattle.schedule_text.specs.Schedule.{IsProcessorList, IsOfProcessors, HasProcessors, IsContextOf}
 use Rattle.task_set.specs.Event.{HasUnits}
 use Rattle.schedule_text.specs.LineForms.{IsField, HasFields}
-use Rattle.schedule_text.specs.LineFields.{came_fields, gone_fields, reply_fields, context_fields}
 use Rattle.text_fields.specs.LineText.{task_fields}
 use Rattle.text_fields.proofs.Names.{name_bytes}
 use Rattle.text_fields.proofs.Words.{and_left, and_right}
 use Rattle.text_fields.proofs.NamedTasks.{name_at, no_task}
 use Rattle.schedule_text.proofs.Fields.{set_list, mask_processors}
-use Rattle.schedule_text.proofs.ReplyParts.{the_task, the_somebody, the_chain, the_set, first_task, other_tasks, first_somebody, after_somebody, first_processors, other_processors}
+use Rattle.schedule_text.proofs.ReplyParts.{the_task, the_somebody, the_chain, the_set}
+use Rattle.schedule_text.proofs.FirstWords.{opening, Opening, freed_first, on_first, off_first, remasked_first, other_first, IsMovedFields, IsReturnFields, IsTold, IsToldBy, told}
 
 -- the digits are such bytes
 digits_from : (text : List ℕ) → AllDigits 10 text → All (λ (b : ℕ). 44 ≤ b) text
@@ -67,21 +68,15 @@ EachByte P fields = All (λ (field : List ℕ). All P field) fields
 abbrev pub EachName : (ℕ → Type 0) → SetData → Type 0
 EachName P set = All (λ (task : TaskData). All P task.name) set.tasks
 
--- the fields of a context from one of its words on
-abbrev from_trail : Context → List (List ℕ)
-from_trail context = codes "trail" ∷ canonical_number context.trail ∷ []
+-- it holds of each byte of these fields, said so that the fields are seen in the type
+record HasBytes (P : ℕ → Type 0) (fields : List (List ℕ)) : Type 0 where
+  all : EachByte P fields
 
-abbrev from_last : Context → List (List ℕ)
-from_last context = codes "last" ∷ number_text context.last ∷ from_trail context
-
-abbrev from_moves : Context → List (List ℕ)
-from_moves context = codes "moves" ∷ canonical_number context.moves ∷ from_last context
-
-abbrev from_stints : Context → List (List ℕ)
-from_stints context = codes "stints" ∷ canonical_number context.stints ∷ from_moves context
-
-abbrev from_units : Context → List (List ℕ)
-from_units context = codes "units" ∷ canonical_number context.units ∷ from_stints context
+-- a reply has fields, and the first one has such bytes
+pub reply_some : (set : SetData) (reply : Reply) → (first : List ℕ) × (more : List (List ℕ))
+    × (reply_fields set reply ≡ first ∷ more) × (is_high first ≡ true)
+reply_some set Left = (_, _, refl, refl)
+reply_some set _ = (_, _, refl, refl)
 
 module _ (P : ℕ → Type 0) (high : (b : ℕ) → 44 ≤ b → P b) where
   raised : (text : List ℕ) → All (λ (b : ℕ). 44 ≤ b) text → All P text
@@ -144,146 +139,133 @@ module _ (P : ℕ → Type 0) (high : (b : ℕ) → 44 ≤ b → P b) where
 
   -- ---- the fields of a line
 
-  none : EachByte P []
-  none = All-nil (λ (t : List ℕ). All P t)
+  none : HasBytes P []
+  none = record { all = All-nil (λ (t : List ℕ). All P t) }
 
-  more : (field : List ℕ) (fields : List (List ℕ)) → All P field → EachByte P fields → EachByte P (field ∷ fields)
-  more field fields here rest = All-cons (λ (t : List ℕ). All P t) field fields here rest
+  more : {field : List ℕ} {fields : List (List ℕ)} → All P field → HasBytes P fields → HasBytes P (field ∷ fields)
+  more {field = field} {fields = fields} here rest =
+      record { all = All-cons (λ (t : List ℕ). All P t) field fields here rest.all }
 
   -- a word, and then other fields
-  worded : (word : List ℕ) (fields : List (List ℕ)) → is_high word ≡ true → EachByte P fields → EachByte P (word ∷ fields)
-  worded word fields e rest = more word fields (word_bytes word e) rest
+  worded : (word : List ℕ) {fields : List (List ℕ)} → is_high word ≡ true → HasBytes P fields → HasBytes P (word ∷ fields)
+  worded word e rest = more (word_bytes word e) rest
 
   -- a number after a word
+  numbered : (word : List ℕ) (n : ℕ) → is_high word ≡ true → n < 2 ^ 64 → HasBytes P (word ∷ canonical_number n ∷ [])
+  numbered word n e small = worded word e (more (number_bytes n small) none)
+
   pub word_number_bytes : (word : List ℕ) (n : ℕ) → is_high word ≡ true → n < 2 ^ 64
       → EachByte P (word ∷ canonical_number n ∷ [])
-  word_number_bytes word n e small =
-      worded word (canonical_number n ∷ []) e (more (canonical_number n) [] (number_bytes n small) none)
+  word_number_bytes word n e small = (numbered word n e small).all
 
   pub task_bytes : (added : TaskData) → All P added.name → added.priority < 2 ^ 32 → added.mask ≢ empty
       → IsOfProcessors added.mask → EachByte P (task_fields added)
   task_bytes added name priority some processors =
-      worded (codes "task") (added.name ∷ canonical_number added.priority ∷ canonical_list added.mask ∷ []) refl
-      (more added.name (canonical_number added.priority ∷ canonical_list added.mask ∷ []) name
-      (more (canonical_number added.priority) (canonical_list added.mask ∷ [])
-      (number_bytes added.priority (omega arith))
-      (more (canonical_list added.mask) [] (mask_bytes added.mask some processors) none)))
+      let each : HasBytes P (task_fields added) =
+      worded (codes "task") refl (more name (more (number_bytes added.priority (omega arith))
+      (more (mask_bytes added.mask some processors) none))) in each.all
 
   called_bytes : (set : SetData) (t : ℕ) → EachName P set → t < length set.tasks → All P (name_of set t)
   called_bytes set t names within = subst (λ (t : List ℕ). All P t) (sym (name_at set t within)) (names t no_task within)
 
+  event_each : (set : SetData) (event : Event) → set.processors ≤ 64 → EachName P set → IsAboutSet set event
+      → HasUnits event → HasBytes P (event_fields set event)
+  event_each set (Arrive t) few names about units =
+      worded (codes "arrive") refl (more (called_bytes set t names about) none)
+  event_each set (Depart t) few names about units =
+      worded (codes "depart") refl (more (called_bytes set t names about) none)
+  event_each set (Tick n) few names about units =
+      (let most : n ≤ 1000000 = units.1 in numbered (codes "tick") n refl (omega arith))
+  event_each set (Affinity t mask) few names about units =
+      worded (codes "affinity") refl (more (called_bytes set t names about.0)
+      (more (mask_bytes mask about.1.some (mask_processors set.processors mask few about.1)) none))
+  event_each set (Offline p) few names about units = numbered (codes "offline") p refl (omega (arith, few, about))
+  event_each set (Online p) few names about units = numbered (codes "online") p refl (omega (arith, few, about))
+
   pub event_bytes : (set : SetData) (event : Event) → set.processors ≤ 64 → EachName P set → IsAboutSet set event
       → HasUnits event → EachByte P (event_fields set event)
-  event_bytes set (Arrive t) few names about units =
-      worded (codes "arrive") (name_of set t ∷ []) refl
-      (more (name_of set t) [] (called_bytes set t names about) none)
-  event_bytes set (Depart t) few names about units =
-      worded (codes "depart") (name_of set t ∷ []) refl
-      (more (name_of set t) [] (called_bytes set t names about) none)
-  event_bytes set (Tick n) few names about units =
-      (let most : n ≤ 1000000 = units.1 in word_number_bytes (codes "tick") n refl (omega arith))
-  event_bytes set (Affinity t mask) few names about units =
-      worded (codes "affinity") (name_of set t ∷ canonical_list mask ∷ []) refl
-      (more (name_of set t) (canonical_list mask ∷ []) (called_bytes set t names about.0)
-      (more (canonical_list mask) []
-      (mask_bytes mask about.1.some (mask_processors set.processors mask few about.1)) none))
-  event_bytes set (Offline p) few names about units = word_number_bytes (codes "offline") p refl (omega (arith, few, about))
-  event_bytes set (Online p) few names about units = word_number_bytes (codes "online") p refl (omega (arith, few, about))
+  event_bytes set event few names about units = (event_each set event few names about units).all
 
   somebody_bytes : (set : SetData) (entered : Option ℕ) → EachName P set
       → IfSome entered (λ t. t < length set.tasks) → All P (somebody_text set entered)
   somebody_bytes set None names about = dash_bytes
   somebody_bytes set (Some t) names about = called_bytes set t names about
 
-  came_bytes : (set : SetData) (arrival : Came) → EachName P set → AreTasksOf set (came_tasks arrival)
-      → AreOfProcessors (came_chains arrival) (came_sets arrival) → EachByte P (came_fields set arrival)
-  came_bytes set (came.Placed chain) names about has =
-      worded (codes "placed") (chain_text chain ∷ []) refl
-      (more (chain_text chain) [] (chain_bytes chain (the_chain chain [] has)) none)
-  came_bytes set (came.Displaced chain out reach) names about has =
-      worded (codes "displaced")
-      (chain_text chain ∷ codes "out" ∷ name_of set out ∷ codes "reach" ∷ set_text reach ∷ []) refl
-      (more (chain_text chain) (codes "out" ∷ name_of set out ∷ codes "reach" ∷ set_text reach ∷ [])
-      (chain_bytes chain (the_chain chain (reach ∷ []) has))
-      (worded (codes "out") (name_of set out ∷ codes "reach" ∷ set_text reach ∷ []) refl
-      (more (name_of set out) (codes "reach" ∷ set_text reach ∷ []) (called_bytes set out names (the_task set out about))
-      (worded (codes "reach") (set_text reach ∷ []) refl
-      (more (set_text reach) [] (set_bytes reach (the_set (chain ∷ []) reach has)) none)))))
-  came_bytes set (came.Waits reach) names about has =
-      worded (codes "waits") (set_text reach ∷ []) refl
-      (more (set_text reach) [] (set_bytes reach (the_set [] reach has)) none)
+  came_bytes : (fields : List (List ℕ)) (set : SetData) (arrival : Came) → EachName P set → IsCameFields fields set arrival
+      → HasBytes P fields
+  came_bytes fields set (came.Placed chain) names f =
+      rw f.each_field (worded (codes "placed") refl (more (chain_bytes chain (the_chain chain [] f.processors)) none))
+  came_bytes fields set (came.Displaced chain out reach) names f =
+      rw f.each_field (worded (codes "displaced") refl
+      (more (chain_bytes chain (the_chain chain (reach ∷ []) f.processors))
+      (worded (codes "out") refl (more (called_bytes set out names (the_task set out f.about))
+      (worded (codes "reach") refl (more (set_bytes reach (the_set (chain ∷ []) reach f.processors)) none))))))
+  came_bytes fields set (came.Waits reach) names f =
+      rw f.each_field (worded (codes "waits") refl (more (set_bytes reach (the_set [] reach f.processors)) none))
 
-  gone_bytes : (set : SetData) (gone : Gone) → EachName P set → AreTasksOf set (cons_option gone.entered [])
-      → AreOfProcessors (gone.chain ∷ []) (gone.back ∷ []) → EachByte P (gone_fields set gone)
-  gone_bytes set gone names about has =
-      let entered = somebody_text set gone.entered in
-      let back = set_text gone.back in
-      more (chain_text gone.chain) (codes "enters" ∷ entered ∷ codes "back" ∷ back ∷ [])
-      (chain_bytes gone.chain (the_chain gone.chain (gone.back ∷ []) has))
-      (worded (codes "enters") (entered ∷ codes "back" ∷ back ∷ []) refl
-      (more entered (codes "back" ∷ back ∷ [])
-      (somebody_bytes set gone.entered names (the_somebody set gone.entered about))
-      (worded (codes "back") (back ∷ []) refl
-      (more back [] (set_bytes gone.back (the_set (gone.chain ∷ []) gone.back has)) none))))
+  gone_bytes : (fields : List (List ℕ)) (set : SetData) (gone : Gone) → EachName P set → IsGoneFields fields set gone
+      → HasBytes P fields
+  gone_bytes fields set gone names f =
+      rw f.each_field (more (chain_bytes gone.chain (the_chain gone.chain (gone.back ∷ []) f.processors))
+      (worded (codes "enters") refl (more (somebody_bytes set gone.entered names (the_somebody set gone.entered f.about))
+      (worded (codes "back") refl
+      (more (set_bytes gone.back (the_set (gone.chain ∷ []) gone.back f.processors)) none)))))
 
-  pub reply_bytes : (set : SetData) (reply : Reply) → EachName P set → IsReplyOf set reply → HasProcessors reply
-      → EachByte P (reply_fields set reply)
-  reply_bytes set (Placed chain) names about has = came_bytes set (came.Placed chain) names about has
-  reply_bytes set (Displaced chain out reach) names about has =
-      came_bytes set (came.Displaced chain out reach) names about has
-  reply_bytes set (Waits reach) names about has = came_bytes set (came.Waits reach) names about has
-  reply_bytes set (Freed entered chain back) names about has =
-      let gone : Gone = record { entered = entered; chain = chain; back = back } in
-      worded (codes "freed") (gone_fields set gone) refl (gone_bytes set gone names about has)
-  reply_bytes set (Remasked None arrival) names about has =
-      worded (codes "remasked") (codes "left" ∷ codes "then" ∷ came_fields set arrival) refl
-      (worded (codes "left") (codes "then" ∷ came_fields set arrival) refl
-      (worded (codes "then") (came_fields set arrival) refl (came_bytes set arrival names about has)))
-  reply_bytes set (Remasked (Some gone) arrival) names about has =
-      let after = codes "then" ∷ came_fields set arrival in
-      worded (codes "remasked") (codes "freed" ∷ (gone_fields set gone ++ after)) refl
-      (worded (codes "freed") (gone_fields set gone ++ after) refl
-      (All-append (λ (t : List ℕ). All P t) (gone_fields set gone) after
-      (gone_bytes set gone names (first_somebody set gone.entered (came_tasks arrival) about)
-      (first_processors gone.chain gone.back (came_chains arrival) (came_sets arrival) has))
-      (worded (codes "then") (came_fields set arrival) refl
-      (came_bytes set arrival names (after_somebody set gone.entered (came_tasks arrival) about)
-      (other_processors gone.chain gone.back (came_chains arrival) (came_sets arrival) has)))))
-  reply_bytes set (Off None) names about has =
-      worded (codes "off") (codes "-" ∷ []) refl (more (codes "-") [] dash_bytes none)
-  reply_bytes set (Off (Some moved)) names about has =
-      let after = codes "then" ∷ came_fields set moved.came in
-      worded (codes "off") (name_of set moved.task ∷ after) refl
-      (more (name_of set moved.task) after
-      (called_bytes set moved.task names (first_task set moved.task (came_tasks moved.came) about))
-      (worded (codes "then") (came_fields set moved.came) refl
-      (came_bytes set moved.came names (other_tasks set moved.task (came_tasks moved.came) about) has)))
-  reply_bytes set (On parts) names about has =
-      worded (codes "on") (gone_fields set parts) refl (gone_bytes set parts names about has)
-  reply_bytes set _ names about has = worded _ [] refl none
+  -- the word `then`, and the result of an arrival
+  then_bytes : (after : List (List ℕ)) (set : SetData) (arrival : Came) → EachName P set → IsCameFields after set arrival
+      → HasBytes P (codes "then" ∷ after)
+  then_bytes after set arrival names f = worded (codes "then") refl (came_bytes after set arrival names f)
+
+  moved_bytes : (rest : List (List ℕ)) (set : SetData) (moved : Option Moved) → EachName P set
+      → IsMovedFields rest set moved → HasBytes P rest
+  moved_bytes rest set None names is = rw is (more dash_bytes none)
+  moved_bytes rest set (Some moved) names (after, within, is, f) =
+      rw is (more (called_bytes set moved.task names within) (then_bytes after set moved.came names f))
+
+  return_bytes : (rest : List (List ℕ)) (set : SetData) (gone : Option Gone) (arrival : Came) → EachName P set
+      → IsReturnFields rest set gone arrival → HasBytes P rest
+  return_bytes rest set None arrival names (after, is, f) =
+      rw is (worded (codes "left") refl (then_bytes after set arrival names f))
+  return_bytes rest set (Some gone) arrival names (part, after, is, g, f) =
+      rw is (worded (codes "freed") refl (record {
+        all = All-append (λ (t : List ℕ). All P t) part (codes "then" ∷ after) (gone_bytes part set gone names g).all
+            (then_bytes after set arrival names f).all;
+      }))
+
+  told_bytes : (first : Opening) (version : ℕ) (word : List ℕ) (rest : List (List ℕ)) (set : SetData) (reply : Reply)
+      → All P word → EachName P set → IsTold first version word rest set reply → HasBytes P (word ∷ rest)
+  told_bytes freed_first version word rest set reply here names t = more here (gone_bytes rest set t.0 names t.2)
+  told_bytes on_first version word rest set reply here names t = more here (gone_bytes rest set t.0 names t.3)
+  told_bytes off_first version word rest set reply here names t = more here (moved_bytes rest set t.0 names t.3)
+  told_bytes remasked_first version word rest set reply here names t =
+      more here (return_bytes rest set t.0 t.1 names t.4)
+  told_bytes other_first version word [] set reply here names t = more here none
+  told_bytes other_first version word (next ∷ rest) set reply here names t =
+      came_bytes (word ∷ next ∷ rest) set t.0 names t.2
+
+  pub reply_bytes : (version : ℕ) (set : SetData) (reply : Reply) → EachName P set → IsReplyOf set reply
+      → IsReplyOfVersion version reply → HasProcessors reply → EachByte P (reply_fields set reply)
+  reply_bytes version set reply names about of has =
+      let some = reply_some set reply in
+      let all = told_bytes (opening some.0) version some.0 some.1 set reply (word_bytes some.0 some.3) names
+      (subst (λ (fields : List (List ℕ)). IsToldBy version fields set reply) some.2
+      (told version set reply about of has)) in
+      rw some.2 all.all
 
   last_bytes : (last : Option ℕ) → IfSome last (λ p. p < 64) → All P (number_text last)
   last_bytes None below = dash_bytes
   last_bytes (Some p) below = number_bytes p (omega (arith, below))
 
-  -- a word and a field, and then other fields
-  pair_bytes : (word field : List ℕ) (fields : List (List ℕ)) → is_high word ≡ true → All P field
-      → EachByte P fields → EachByte P (word ∷ field ∷ fields)
-  pair_bytes word field fields e here rest = worded word (field ∷ fields) e (more field fields here rest)
-
   pub context_bytes : (set : SetData) (t : ℕ) (context : Context) → EachName P set → t < length set.tasks
       → IsContextOf t context → EachByte P (context_fields set context)
   context_bytes set t context names within of =
-      more (name_of set context.task) (from_units context)
-      (called_bytes set context.task names (let same = of.task in omega arith))
-      (pair_bytes (codes "units") (canonical_number context.units) (from_stints context) refl
-      (number_bytes context.units of.units)
-      (pair_bytes (codes "stints") (canonical_number context.stints) (from_moves context) refl
-      (number_bytes context.stints of.stints)
-      (pair_bytes (codes "moves") (canonical_number context.moves) (from_last context) refl
-      (number_bytes context.moves of.moves)
-      (pair_bytes (codes "last") (number_text context.last) (from_trail context) refl (last_bytes context.last of.last)
-      (pair_bytes (codes "trail") (canonical_number context.trail) [] refl (number_bytes context.trail of.trail) none)))))
+      let each : HasBytes P (context_fields set context) =
+      more (called_bytes set context.task names (let same = of.task in omega arith))
+      (worded (codes "units") refl (more (number_bytes context.units of.units)
+      (worded (codes "stints") refl (more (number_bytes context.stints of.stints)
+      (worded (codes "moves") refl (more (number_bytes context.moves of.moves)
+      (worded (codes "last") refl (more (last_bytes context.last of.last)
+      (worded (codes "trail") refl (more (number_bytes context.trail of.trail) none)))))))))) in each.all
 
 -- ---- no spaces, and no line feeds
 

@@ -15,10 +15,11 @@ use Rattle.scheduler_reply.specs.declared.reply.Moved.{Moved}
 use Rattle.scheduler_reply.specs.declared.reply.Entry.{Entry}
 use Rattle.text_fields.specs.LineText.{line, processors_line, task_line}
 use Rattle.text_fields.specs.EventText.{name_of, event_text}
-use Rattle.schedule_text.specs.ScheduleText.{chain_text, set_text, somebody_text, number_text, came_text, gone_text, reply_text, entry_line, context_line, header, schedule_text}
+use Rattle.schedule_text.specs.ScheduleText.{chain_text, set_text, somebody_text, number_text, came_fields, gone_fields, spaced, came_text, gone_text, reply_text, entry_line, context_line, header, schedule_text}
+use Rattle.schedule_text.proofs.FieldLists.{spaced_apart}
 
 -- pieces that are appended one after another
-pieces6 : (old a b c d e f : List ℕ) → old ++ a ++ b ++ c ++ d ++ e ++ f ≡ old ++ (a ++ b ++ c ++ d ++ e ++ f)
+pieces6 : (old a b c d e f : List ℕ) → old ++ a ++ b ++ c ++ d ++ e ++ f ≡ old ++ (a ++ (b ++ (c ++ (d ++ (e ++ f)))))
 pieces6 old a b c d e f = simp append_assoc
 
 -- ---- chains
@@ -70,9 +71,6 @@ displaced_written set chain out reach t0 t1 t2 t3 t4 t5 t6 (Ok x) e1 e2 e3 e4 e5
     (set_text reach))
 displaced_written set chain out reach t0 t1 t2 t3 t4 t5 t6 (Err x) e1 e2 e3 e4 e5 e6 = tt
 
-gone_pieces : (old a b c d e f : List ℕ) → old ++ a ++ b ++ c ++ d ++ e ++ f ≡ old ++ (a ++ (b ++ c ++ d ++ e ++ f))
-gone_pieces old a b c d e f = simp append_assoc
-
 pub gone_written : {E : Type 0} (set : SetData) (word : List ℕ) (entered : Option ℕ) (chain : List ℕ) (back : ℕ)
     (t0 t1 t2 t3 t4 t5 t6 : List ℕ) (r : Result (Unit {0}) E) → t1 ≡ t0 ++ word → t2 ≡ t1
     ++ chain_text chain → t3 ≡ t2 ++ codes " enters " → t4 ≡ t3 ++ somebody_text set entered
@@ -81,33 +79,44 @@ pub gone_written : {E : Type 0} (set : SetData) (word : List ℕ) (entered : Opt
 unfolding gone_text
 gone_written set word entered chain back t0 t1 t2 t3 t4 t5 t6 (Ok x) e1 e2 e3 e4 e5 e6 =
     rw (e6, e5, e4, e3, e2, e1)
-    (gone_pieces t0 word (chain_text chain) (codes " enters ") (somebody_text set entered) (codes " back ")
+    (pieces6 t0 word (chain_text chain) (codes " enters ") (somebody_text set entered) (codes " back ")
     (set_text back))
 gone_written set word entered chain back t0 t1 t2 t3 t4 t5 t6 (Err x) e1 e2 e3 e4 e5 e6 = tt
 
-pieces3 : (old a b c d : List ℕ) → old ++ (a ++ b) ++ (c ++ d) ≡ old ++ (a ++ b ++ c ++ d)
-pieces3 old a b c d = simp append_assoc
+-- the word `then` before the result of an arrival
+then_spaced : (set : SetData) (arrival : Came) → codes "then " ++ spaced (came_fields set arrival)
+    ≡ spaced (codes "then" ∷ came_fields set arrival)
+then_spaced set (came.Placed chain) = refl
+then_spaced set _ = refl
+
+-- and before it some other fields
+before_then : (set : SetData) (old text first : List ℕ) (more : List (List ℕ)) (arrival : Came)
+    → text ≡ old ++ spaced (first ∷ more) → text ++ (codes " then " ++ came_text set arrival)
+    ≡ old ++ spaced ((first ∷ more) ++ codes "then" ∷ came_fields set arrival)
+unfolding came_text
+before_then set old text first more arrival is =
+    ap (λ (before : List ℕ). before ++ (codes " then " ++ spaced (came_fields set arrival))) is
+    ∙ append_assoc old (spaced (first ∷ more)) (codes " then " ++ spaced (came_fields set arrival))
+    ∙ ap (λ (after : List ℕ). old ++ (spaced (first ∷ more) ++ 32 ∷ after)) (then_spaced set arrival)
+    ∙ ap (λ (after : List ℕ). old ++ after) (sym (spaced_apart first more (codes "then") (came_fields set arrival)))
 
 pub linked_written : {E : Type 0} (set : SetData) (given : Option Gone) (some : Gone) (arrival : Came) (t0 t1 t2 : List ℕ)
     (r : Result (Unit {0}) E) → given ≡ Some some → t1 ≡ t0 ++ (codes "remasked freed " ++ gone_text set some)
     → OnOk r (t2 ≡ t1 ++ (codes " then " ++ came_text set arrival))
     → OnOk r (t2 ≡ t0 ++ reply_text set (Remasked given arrival))
-unfolding reply_text
+unfolding reply_text gone_text
 linked_written set given some arrival t0 t1 t2 (Ok x) is e1 e2 =
-    rw (is, e2, e1)
-    (pieces3 t0 (codes "remasked freed ") (gone_text set some) (codes " then ") (came_text set arrival))
+    rw (is, e2) (before_then set t0 t1 (codes "remasked") (codes "freed" ∷ gone_fields set some) arrival e1)
 linked_written set given some arrival t0 t1 t2 (Err x) is e1 e2 = tt
 
 pub waiting_written : {E : Type 0} (set : SetData) (given : Option Gone) (arrival : Came) (t0 t1 : List ℕ)
     (r : Result (Unit {0}) E) → given ≡ None
     → OnOk r (t1 ≡ t0 ++ (codes "remasked left then " ++ came_text set arrival))
     → OnOk r (t1 ≡ t0 ++ reply_text set (Remasked given arrival))
-unfolding reply_text
-waiting_written set given arrival t0 t1 (Ok x) is e1 = rw (is, e1) refl
+unfolding reply_text came_text
+waiting_written set given arrival t0 t1 (Ok x) is e1 =
+    rw (is, e1) (ap (λ (text : List ℕ). t0 ++ (codes "remasked left " ++ text)) (then_spaced set arrival))
 waiting_written set given arrival t0 t1 (Err x) is e1 = tt
-
-pieces4 : (old a b c d : List ℕ) → old ++ a ++ b ++ (c ++ d) ≡ old ++ (a ++ b ++ c ++ d)
-pieces4 old a b c d = simp append_assoc
 
 pub moved_written : {E : Type 0} (set : SetData) (moved : Option Moved) (some : Moved) (t0 t1 t2 t3 : List ℕ)
     (r : Result (Unit {0}) E) → moved ≡ Some some → t1 ≡ t0 ++ codes "off " → t2 ≡ t1 ++ name_of set some.task
@@ -115,7 +124,9 @@ pub moved_written : {E : Type 0} (set : SetData) (moved : Option Moved) (some : 
     → OnOk r (t3 ≡ t0 ++ reply_text set (Off moved))
 unfolding reply_text
 moved_written set moved some t0 t1 t2 t3 (Ok x) is e1 e2 e3 =
-    rw (is, e3, e2, e1) (pieces4 t0 (codes "off ") (name_of set some.task) (codes " then ") (came_text set some.came))
+    rw (is, e3) (before_then set t0 t2 (codes "off") (name_of set some.task ∷ []) some.came
+    (e2 ∙ ap (λ (text : List ℕ). text ++ name_of set some.task) e1
+    ∙ append_assoc t0 (codes "off ") (name_of set some.task)))
 moved_written set moved some t0 t1 t2 t3 (Err x) is e1 e2 e3 = tt
 
 pub unmoved_written : {E : Type 0} (set : SetData) (moved : Option Moved) (t0 t1 : List ℕ) (r : Result (Unit {0}) E)
@@ -126,6 +137,9 @@ unmoved_written set moved t0 t1 (Err x) is e1 = tt
 
 -- ---- lines
 
+entry_pieces : (old a b c d e f : List ℕ) → old ++ a ++ b ++ c ++ d ++ e ++ f ≡ old ++ (a ++ b ++ c ++ d ++ e ++ f)
+entry_pieces old a b c d e f = simp append_assoc
+
 pub entry_written : (set : SetData) (entry : Entry) (t0 t1 t2 t3 t4 t5 t6 : List ℕ) → t1 ≡ t0
     ++ canonical_number entry.caller → t2 ≡ t1 ++ 32 ∷ [] → t3 ≡ t2 ++ event_text set entry.event → t4 ≡ t3
     ++ 32 ∷ []
@@ -133,11 +147,11 @@ pub entry_written : (set : SetData) (entry : Entry) (t0 t1 t2 t3 t4 t5 t6 : List
 unfolding entry_line
 entry_written set entry t0 t1 t2 t3 t4 t5 t6 e1 e2 e3 e4 e5 e6 =
     rw (e6, e5, e4, e3, e2, e1)
-    (pieces6 t0 (canonical_number entry.caller) (codes " ") (event_text set entry.event) (codes " ")
+    (entry_pieces t0 (canonical_number entry.caller) (codes " ") (event_text set entry.event) (codes " ")
     (reply_text set entry.reply) (10 ∷ []))
 
 context_pieces : (old a b c d e f g h i j k l : List ℕ) → old ++ a ++ (b ++ c) ++ (d ++ e) ++ (f ++ g) ++ h ++ i
-    ++ (j ++ k) ++ l ≡ old ++ (a ++ b ++ c ++ d ++ e ++ f ++ g ++ h ++ i ++ j ++ k ++ l)
+    ++ (j ++ k) ++ l ≡ old ++ ((a ++ (b ++ (c ++ (d ++ (e ++ (f ++ (g ++ (h ++ (i ++ (j ++ k)))))))))) ++ l)
 context_pieces old a b c d e f g h i j k l = simp append_assoc
 
 pub context_written : (set : SetData) (context : Context) (t0 t1 t2 t3 t4 t5 t6 t7 t8 : List ℕ) → t1 ≡ t0

@@ -1,5 +1,5 @@
 -- Private: what the fields of a line say, and their faults, for the contracts of this crate's own functions.
-use Rattle.std.specs.Prelude.{◌≡◌, ◌≢◌, ℕ, ◌<◌, ◌^◌, ◌⊎◌, List, [], ◌∷◌, ◌++◌, length, codes, None, Some, Result, Ok, Err}
+use Rattle.std.specs.Prelude.{◌≡◌, ◌≢◌, ℕ, ◌<◌, ◌^◌, ◌⊎◌, List, [], ◌∷◌, ◌++◌, length, codes, Result, Ok, Err}
 use Rattle.std.specs.List.{cons_option}
 use Rattle.affinity_mask.specs.ProcSet.{empty}
 use Rattle.affinity_mask.specs.Number.{canonical_number}
@@ -9,72 +9,23 @@ use Rattle.task_set.specs.declared.context.Context.{Context}
 use Rattle.task_set.specs.declared.fault.TaskFault.{TaskFault}
 use Rattle.task_set.specs.declared.event.Event.{Event}
 use Rattle.scheduler_reply.specs.declared.reply.Came.{Came}
-use Rattle.scheduler_reply.specs.declared.reply.Came.TheVariants as came
 use Rattle.scheduler_reply.specs.declared.reply.Gone.{Gone}
 use Rattle.scheduler_reply.specs.declared.reply.Reply.{Reply}
-use Rattle.scheduler_reply.specs.declared.reply.Reply.TheVariants.{Placed, Displaced, Waits, Freed, Left, Ticked, AlreadyReady, NotReady, Masked, Remasked, AlreadyOff, AlreadyOn, Off, On}
 use Rattle.scheduler_reply.specs.declared.reply.Entry.{Entry}
 use Rattle.scheduler_reply.specs.Reply.{came_chains, came_sets, came_tasks, IsReplyOfVersion}
 use Rattle.text_fields.specs.LineText.{task_fields}
-use Rattle.text_fields.specs.EventText.{event_fields, name_of, IsAboutSet}
-use Rattle.schedule_text.specs.ScheduleText.{chain_text, set_text, somebody_text, number_text, AreTasksOf, IsReplyOf}
+use Rattle.text_fields.specs.EventText.{event_fields, IsAboutSet}
+use Rattle.schedule_text.specs.ScheduleText.{came_fields, gone_fields, reply_fields, context_fields, AreTasksOf, IsReplyOf}
 use Rattle.schedule_text.specs.Schedule.{IsOfProcessors, AreOfProcessors, HasProcessors, IsScheduled, IsContextOf}
 use Rattle.task_set.specs.Event.{HasUnits, IsOfVersion}
 use Rattle.schedule_text.specs.LineForms.{IsField, HasFields}
 use Rattle.schedule_text.specs.declared.fault.TextKind.{TextKind}
 use Rattle.schedule_text.specs.declared.fault.TextKind.TheVariants.{BadLine, TaskRefused, UnknownTask}
 
--- ---- the fields
-
--- the result of an arrival
-abbrev pub came_fields : SetData → Came → List (List ℕ)
-came_fields set (came.Placed chain) = codes "placed" ∷ chain_text chain ∷ []
-came_fields set (came.Displaced chain out reach) =
-    codes "displaced" ∷ chain_text chain ∷ codes "out" ∷ name_of set out ∷ codes "reach"
-    ∷ set_text reach ∷ []
-came_fields set (came.Waits reach) = codes "waits" ∷ set_text reach ∷ []
-
--- who came in at a processor that became idle
-abbrev pub gone_fields : SetData → Gone → List (List ℕ)
-gone_fields set gone =
-    chain_text gone.chain ∷ codes "enters" ∷ somebody_text set gone.entered ∷ codes "back"
-    ∷ set_text gone.back ∷ []
-
--- a reply
-abbrev pub reply_fields : SetData → Reply → List (List ℕ)
-reply_fields set (Placed chain) = came_fields set (came.Placed chain)
-reply_fields set (Displaced chain out reach) = came_fields set (came.Displaced chain out reach)
-reply_fields set (Waits reach) = came_fields set (came.Waits reach)
-reply_fields set (Freed entered chain back) =
-    codes "freed" ∷ gone_fields set (record { entered = entered; chain = chain; back = back })
-reply_fields set Left = codes "left" ∷ []
-reply_fields set Ticked = codes "ticked" ∷ []
-reply_fields set AlreadyReady = codes "already" ∷ []
-reply_fields set NotReady = codes "absent" ∷ []
-reply_fields set Masked = codes "masked" ∷ []
-reply_fields set (Remasked None result) =
-    codes "remasked" ∷ codes "left" ∷ codes "then" ∷ came_fields set result
-reply_fields set (Remasked (Some gone) result) =
-    codes "remasked" ∷ codes "freed" ∷ (gone_fields set gone ++ codes "then" ∷ came_fields set result)
-reply_fields set AlreadyOff = codes "already_off" ∷ []
-reply_fields set AlreadyOn = codes "already_on" ∷ []
-reply_fields set (Off None) = codes "off" ∷ codes "-" ∷ []
-reply_fields set (Off (Some moved)) =
-    codes "off" ∷ name_of set moved.task ∷ codes "then" ∷ came_fields set moved.came
-reply_fields set (On parts) = codes "on" ∷ gone_fields set parts
-
--- an entry
+-- the fields of an entry
 abbrev pub entry_fields : SetData → Entry → List (List ℕ)
 entry_fields set entry =
     canonical_number entry.caller ∷ (event_fields set entry.event ++ reply_fields set entry.reply)
-
--- a context
-abbrev pub context_fields : SetData → Context → List (List ℕ)
-context_fields set context =
-    name_of set context.task ∷ codes "units" ∷ canonical_number context.units ∷ codes "stints"
-    ∷ canonical_number context.stints ∷ codes "moves" ∷ canonical_number context.moves
-    ∷ codes "last" ∷ number_text context.last ∷ codes "trail"
-    ∷ canonical_number context.trail ∷ []
 
 -- ---- tasks and contexts
 

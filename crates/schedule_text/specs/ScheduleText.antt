@@ -12,6 +12,7 @@ use Rattle.task_set.specs.declared.context.Context.{Context}
 use Rattle.scheduler_reply.specs.declared.reply.Came.{Came}
 use Rattle.scheduler_reply.specs.declared.reply.Came.TheVariants as came
 use Rattle.scheduler_reply.specs.declared.reply.Gone.{Gone}
+use Rattle.scheduler_reply.specs.declared.reply.Moved.{Moved}
 use Rattle.scheduler_reply.specs.declared.reply.Reply.{Reply}
 use Rattle.scheduler_reply.specs.declared.reply.Reply.TheVariants.{Placed, Displaced, Waits, Freed, Left, Ticked, AlreadyReady, NotReady, Masked, Remasked, AlreadyOff, AlreadyOn, Off, On}
 use Rattle.scheduler_reply.specs.declared.reply.Entry.{Entry}
@@ -38,41 +39,77 @@ abbrev pub number_text : Option ℕ → List ℕ
 number_text None = codes "-"
 number_text (Some n) = canonical_number n
 
+-- ---- the fields of a line
+
 -- the result of an arrival, with the chain or the set of processors that justifies it
-unfoldable pub came_text : SetData → Came → List ℕ
-came_text set (came.Placed chain) = codes "placed " ++ chain_text chain
-came_text set (came.Displaced chain out reach) =
-    codes "displaced " ++ chain_text chain ++ codes " out " ++ name_of set out ++ codes " reach "
-    ++ set_text reach
-came_text set (came.Waits reach) = codes "waits " ++ set_text reach
+abbrev pub came_fields : SetData → Came → List (List ℕ)
+came_fields set (came.Placed chain) = codes "placed" ∷ chain_text chain ∷ []
+came_fields set (came.Displaced chain out reach) =
+    codes "displaced" ∷ chain_text chain ∷ codes "out" ∷ name_of set out ∷ codes "reach"
+    ∷ set_text reach ∷ []
+came_fields set (came.Waits reach) = codes "waits" ∷ set_text reach ∷ []
 
 -- who came in at a processor that became idle, with the set that justifies it
+abbrev pub gone_fields : SetData → Gone → List (List ℕ)
+gone_fields set gone =
+    chain_text gone.chain ∷ codes "enters" ∷ somebody_text set gone.entered ∷ codes "back"
+    ∷ set_text gone.back ∷ []
+
+-- what a task left: a processor, with who came in there; or nothing, as it had waited
+abbrev pub left_fields : SetData → Option Gone → List (List ℕ)
+left_fields set None = codes "left" ∷ []
+left_fields set (Some gone) = codes "freed" ∷ gone_fields set gone
+
+-- the task that was on a processor, and what it came to; '-' for nobody
+abbrev pub moved_fields : SetData → Option Moved → List (List ℕ)
+moved_fields set None = codes "-" ∷ []
+moved_fields set (Some moved) =
+    name_of set moved.task ∷ codes "then" ∷ came_fields set moved.came
+
+-- a reply
+abbrev pub reply_fields : SetData → Reply → List (List ℕ)
+reply_fields set (Placed chain) = came_fields set (came.Placed chain)
+reply_fields set (Displaced chain out reach) = came_fields set (came.Displaced chain out reach)
+reply_fields set (Waits reach) = came_fields set (came.Waits reach)
+reply_fields set (Freed entered chain back) =
+    codes "freed" ∷ gone_fields set (record { entered = entered; chain = chain; back = back })
+reply_fields set Left = codes "left" ∷ []
+reply_fields set Ticked = codes "ticked" ∷ []
+reply_fields set AlreadyReady = codes "already" ∷ []
+reply_fields set NotReady = codes "absent" ∷ []
+reply_fields set Masked = codes "masked" ∷ []
+reply_fields set (Remasked gone result) =
+    codes "remasked" ∷ (left_fields set gone ++ codes "then" ∷ came_fields set result)
+reply_fields set AlreadyOff = codes "already_off" ∷ []
+reply_fields set AlreadyOn = codes "already_on" ∷ []
+reply_fields set (Off moved) = codes "off" ∷ moved_fields set moved
+reply_fields set (On parts) = codes "on" ∷ gone_fields set parts
+
+-- what a task has run: its units of time, stints, moves between processors, last processor and trail
+abbrev pub context_fields : SetData → Context → List (List ℕ)
+context_fields set context =
+    name_of set context.task ∷ codes "units" ∷ canonical_number context.units ∷ codes "stints"
+    ∷ canonical_number context.stints ∷ codes "moves" ∷ canonical_number context.moves
+    ∷ codes "last" ∷ number_text context.last ∷ codes "trail"
+    ∷ canonical_number context.trail ∷ []
+
+-- ---- the text
+
+-- fields with one space between them
+abbrev pub spaced : List (List ℕ) → List ℕ
+spaced fields = join_with_byte 32 fields
+
+-- the result of an arrival
+unfoldable pub came_text : SetData → Came → List ℕ
+came_text set result = spaced (came_fields set result)
+
+-- who came in at a processor that became idle
 unfoldable pub gone_text : SetData → Gone → List ℕ
-gone_text set gone =
-    chain_text gone.chain ++ codes " enters " ++ somebody_text set gone.entered ++ codes " back "
-    ++ set_text gone.back
+gone_text set gone = spaced (gone_fields set gone)
 
 -- a reply
 unfoldable pub reply_text : SetData → Reply → List ℕ
-reply_text set (Placed chain) = came_text set (came.Placed chain)
-reply_text set (Displaced chain out reach) = came_text set (came.Displaced chain out reach)
-reply_text set (Waits reach) = came_text set (came.Waits reach)
-reply_text set (Freed entered chain back) =
-    codes "freed " ++ gone_text set (record { entered = entered; chain = chain; back = back })
-reply_text set Left = codes "left"
-reply_text set Ticked = codes "ticked"
-reply_text set AlreadyReady = codes "already"
-reply_text set NotReady = codes "absent"
-reply_text set Masked = codes "masked"
-reply_text set (Remasked None result) = codes "remasked left then " ++ came_text set result
-reply_text set (Remasked (Some gone) result) =
-    codes "remasked freed " ++ gone_text set gone ++ codes " then " ++ came_text set result
-reply_text set AlreadyOff = codes "already_off"
-reply_text set AlreadyOn = codes "already_on"
-reply_text set (Off None) = codes "off -"
-reply_text set (Off (Some moved)) =
-    codes "off " ++ name_of set moved.task ++ codes " then " ++ came_text set moved.came
-reply_text set (On parts) = codes "on " ++ gone_text set parts
+reply_text set reply = spaced (reply_fields set reply)
 
 -- an entry of the history: the stream that posted it, the event and the reply
 unfoldable pub entry_line : SetData → Entry → List ℕ
@@ -80,13 +117,9 @@ entry_line set entry =
     line (canonical_number entry.caller ++ codes " " ++ event_text set entry.event ++ codes " "
     ++ reply_text set entry.reply)
 
--- what a task has run: its units of time, stints, moves between processors, last processor and trail
+-- a context
 unfoldable pub context_line : SetData → Context → List ℕ
-context_line set context =
-    line (name_of set context.task ++ codes " units " ++ canonical_number context.units
-    ++ codes " stints " ++ canonical_number context.stints
-    ++ codes " moves " ++ canonical_number context.moves ++ codes " last "
-    ++ number_text context.last ++ codes " trail " ++ canonical_number context.trail)
+context_line set context = line (spaced (context_fields set context))
 
 -- the header: the version
 abbrev pub header : ℕ → List ℕ

@@ -88,7 +88,7 @@ fn write_entry(text: &mut Vec<u8>, set: &TaskSet, entry: &Entry) -> Result<(), O
 }
 
 /// Appends a reply.
-#[tactic(auto, unfolding(crate::specs::ScheduleText::reply_text, crate::specs::ScheduleText::came_text))]
+#[tactic(auto, unfolding(crate::specs::ScheduleText::reply_text, crate::specs::ScheduleText::came_text, crate::specs::ScheduleText::gone_text))]
 fn write_reply(text: &mut Vec<u8>, set: &TaskSet, reply: &Reply) -> Result<(), OutOfMemory>
     requires { IsReplyOf set.now reply.now }
     ensures { OnOk result (text.new.items ≡ text.old.items ++ reply_text set.now reply.now) }
