@@ -25,7 +25,6 @@ use sched_core::Core;
 use std::alloc::Global;
 use std::marker::{Brand, Model};
 use std::sync::Wait;
-use std::thread;
 use task_set::{Event, TaskSet};
 
 mod history;
@@ -162,7 +161,7 @@ impl Board {
         for _ in rt.forever() {
             match self.try_post(pass, *event) {
                 Ok(receipt) => return Ok(receipt),
-                Err(PostFault::Busy { found: _ }) => thread::yield_now(),
+                Err(PostFault::Busy { found }) => turn::wait(&self.table.shared, rt, found),
                 Err(PostFault::Closed) => return Err(EndFault::Closed),
                 Err(PostFault::Full) => return Err(EndFault::Full),
                 Err(PostFault::OutOfMemory) => return Err(EndFault::OutOfMemory),
@@ -199,10 +198,10 @@ impl Board {
         ensures closed { pass.new.saw_close ≡ true }
     {
         for _ in rt.forever() {
-            if self.try_finish(pass).is_ok() {
-                return;
+            match self.try_finish(pass) {
+                Ok(()) => return,
+                Err(found) => turn::wait(&self.table.shared, rt, found),
             }
-            thread::yield_now();
         }
         unreachable!()
     }
@@ -241,10 +240,10 @@ impl Board {
         ensures flushed { Flushed self.now.set pass.old pass.new result }
     {
         for _ in rt.forever() {
-            if let Ok(owed) = self.try_flush(rt, pass, queues) {
-                return owed;
+            match self.try_flush(rt, pass, queues) {
+                Ok(owed) => return owed,
+                Err(found) => turn::wait(&self.table.shared, rt, found),
             }
-            thread::yield_now();
         }
         unreachable!()
     }

@@ -17,6 +17,7 @@ use std::alloc::Global;
 use std::marker::{Brand, PhantomData};
 use std::snapshot::Snapshot;
 use std::sync::Wait;
+use std::time::Duration;
 use task_set::{Event, TaskSet};
 
 /// What a turn word is told once: the set of its core, the senders as they were at first, and how many callers there
@@ -27,6 +28,10 @@ pub struct About {
     pub senders: Snapshot<Vec<Sender>>,
     pub callers: u32,
 }
+
+/// How long a caller that found the turn busy sleeps at most, in microseconds, before it tries again. A turn takes a few
+/// microseconds, but where many callers try at once, it is best that most of them sleep while one goes on.
+const LONGEST_WAIT: u64 = 50;
 
 /// The rule of a turn word.
 pub struct TurnWord;
@@ -176,6 +181,18 @@ pub fn leave(turn: &Turn, state: &mut PassState, held: Held)
     turn.store::<Leaves>(&mut state.seat, 0, 2 * count);
     state.known = state.known.max(count);
     state.saw_close = closed;
+}
+
+/// Parks the calling thread where the word found says that somebody has the turn, and while it is still that word, but not
+/// for long: nobody wakes it, since a wake would cost each turn more than the turn itself. It may return at once, or for no
+/// reason, so the caller tries again.
+pub fn wait<R: Wait>(turn: &Turn, rt: &R, found: u64)
+    requires { IsTurnTable turn.now.table_id }
+{
+    if found % 2 == 1 {
+        let low = (found & 0xffff_ffff) as u32;
+        turn.park_timeout(rt, 0, low, Duration::from_micros(LONGEST_WAIT));
+    }
 }
 
 /// One try at the turn, to post an event.

@@ -11,10 +11,9 @@ use super::Board;
 use crate::fault::{EndFault, PostFault, Unread};
 use crate::pass::Pass;
 use crate::pass_state::PassState;
-use crate::turn::{Over, Turn, begin, leave, record_entry};
+use crate::turn::{Over, Turn, begin, leave, record_entry, wait};
 use std::marker::Brand;
 use std::sync::Wait;
-use std::thread;
 use task_set::Event;
 
 impl Board {
@@ -41,7 +40,7 @@ impl Board {
         for _ in rt.forever() {
             match self.try_post_unread(pass, *event) {
                 Ok(unread) => return Ok(unread),
-                Err(PostFault::Busy { found: _ }) => thread::yield_now(),
+                Err(PostFault::Busy { found }) => wait(&self.table.shared, rt, found),
                 Err(PostFault::Closed) => return Err(EndFault::Closed),
                 Err(PostFault::Full) => return Err(EndFault::Full),
                 Err(PostFault::OutOfMemory) => return Err(EndFault::OutOfMemory),
