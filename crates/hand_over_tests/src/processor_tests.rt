@@ -325,35 +325,47 @@ fn processors_by_calls(rt: HostRuntime) -> Result<(), Fail> {
     Ok(())
 }
 
-/// It counts the calls before the first try of a take.
+/// How often the gate yields before a take of processor 0. It takes some milliseconds, in which processor 1 goes to sleep.
+const YIELDS_BEFORE_A_TAKE: u32 = 10_000;
+
+/// It counts the calls before the first try of a take, and keeps processor 0 from its takes for a while.
 #[derive(Drop)]
 struct Takes {
     count: AtomicU64,
 }
 
 impl Gate for Takes {
-    fn at(&self, _who: u32, point: u32) {
+    fn at(&self, who: u32, point: u32) {
         if point == 2 {
             self.count.fetch_add(1, Ordering::SeqCst);
+            if who == 0 {
+                yield_often();
+            }
         }
     }
 }
 
-/// Sends two stints of the task 0, of which the second is two turns later, and Stop.
+fn yield_often() {
+    for _ in 0..YIELDS_BEFORE_A_TAKE {
+        thread::yield_now();
+    }
+}
+
+/// Sends two stints of the task 1, of which the second is two turns later, and Stop.
 fn send_two_stints<R: Abort + Wait>(rt: &R, queue: &Queue, end: &mut End, number: u32, units: u32)
     requires queue { end.old ≡ queue.now }
     requires number { number < 2 }
 {
     let orders = [
-        Order::Take { task: 0, number },
+        Order::Take { task: 1, number },
         Order::Run(units),
-        Order::Release(0),
+        Order::Release(1),
         Order::Take {
-            task: 0,
+            task: 1,
             number: number + 2,
         },
         Order::Run(units),
-        Order::Release(0),
+        Order::Release(1),
         Order::Stop,
     ];
     for order in orders {
@@ -412,7 +424,7 @@ fn both_worked<R: Threads + Wait + Sync, G: Gate + Sync>(
     )
 }
 
-/// Two processors hand the task 0 to and fro, each in a thread of its own.
+/// Two processors hand the task 1 to and fro, each in a thread of its own.
 fn hand_to_and_fro<R: Abort + Threads + Wait + Sync, G: Gate + Sync>(
     rt: &R,
     alloc: Global,
@@ -445,7 +457,7 @@ fn hand_to_and_fro<R: Abort + Threads + Wait + Sync, G: Gate + Sync>(
     Ok((hand_0, hand_1))
 }
 
-/// The contexts after two processors handed the task 0 to and fro.
+/// The contexts after two processors handed the task 1 to and fro.
 fn after_to_and_fro<R: Abort + Threads + Wait + Sync, G: Gate + Sync>(
     rt: &R,
     alloc: Global,
@@ -459,10 +471,10 @@ fn after_to_and_fro<R: Abort + Threads + Wait + Sync, G: Gate + Sync>(
     contexts_of_two(rt, alloc, slots, hand_0, hand_1)
 }
 
-/// Whether the first context is that of a task with four stints and three moves, of 16 units, that was last on 1.
+/// Whether the second context is that of a task with four stints and three moves, of 16 units, that was last on 1.
 fn is_after_to_and_fro(contexts: &[Context]) -> bool {
-    match contexts.first() {
-        Some(a) => a.units == 16 && a.stints == 4 && a.moves == 3 && a.last == Some(1),
+    match contexts.get(1) {
+        Some(b) => b.units == 16 && b.stints == 4 && b.moves == 3 && b.last == Some(1),
         None => false,
     }
 }
