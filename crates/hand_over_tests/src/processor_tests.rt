@@ -325,8 +325,8 @@ fn processors_by_calls(rt: HostRuntime) -> Result<(), Fail> {
     Ok(())
 }
 
-/// How often the gate yields before a take of processor 0. It takes some milliseconds, in which processor 1 goes to sleep.
-const YIELDS_BEFORE_A_TAKE: u32 = 10_000;
+/// How often the gate yields before a take of processor 0. Meanwhile processor 1 goes to sleep.
+const YIELDS_BEFORE_A_TAKE: u32 = 1_000;
 
 /// It counts the calls before the first try of a take, and keeps processor 0 from its takes for a while.
 #[derive(Drop)]
