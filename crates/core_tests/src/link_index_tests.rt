@@ -1,46 +1,12 @@
 //! The index against plain scans, on generated states.
-ghost use Rattle.std.specs.Prelude.{◌<◌, ◌≤◌, ℕ, IfSome};
-ghost use Rattle.link_state.specs.State.{task_count};
-
 use crate::link_table_tests::{arrive, is_chain, is_simple};
+use crate::numbers::Numbers;
+use crate::tables::{Task, tasks_of};
 use affinity_mask::ProcSet;
 use link_table::{Chain, Links};
 use std::process::Abort;
 use std::test::Fail;
 use task_set::TaskSet;
-
-/// A linear congruential generator.
-#[derive(Drop)]
-struct Numbers {
-    state: u64,
-}
-
-impl Numbers {
-    /// A number below `n`.
-    fn below(&mut self, n: u32) -> u32
-        requires { 0 < n }
-        ensures { result < n }
-    {
-        self.state = self
-            .state
-            .wrapping_mul(6364136223846793005)
-            .wrapping_add(1442695040888963407);
-        ((self.state >> 33) % u64::from(n)) as u32
-    }
-
-    /// A set of the processors below `m`, of about every second one.
-    fn some_of(&mut self, m: u8) -> ProcSet
-        requires { m ≤ 64 }
-    {
-        let mut set = ProcSet::empty();
-        for p in 0..m {
-            if self.below(2) == 0 {
-                set = set.with(p);
-            }
-        }
-        set
-    }
-}
 
 /// The processor of a task, by a scan.
 fn scan_of(links: &Links, t: u32) -> Option<u8> {
@@ -129,7 +95,7 @@ fn some_chain(rt: &impl Abort, numbers: &mut Numbers, links: &Links, t: u32) -> 
         };
         assert!(rt; u < links.len() && chain.len() < 64);
         let open = links.effective(u).both(&unused);
-        let Some(p) = open.both(&numbers.some_of(64)).least().or(open.least()) else {
+        let Some(p) = open.both(&numbers.some_of(64, 2)).least().or(open.least()) else {
             return chain;
         };
         assert!(rt; p < links.processors() && p < 64);
@@ -167,7 +133,7 @@ fn mask_or_ready(rt: &impl Abort, numbers: &mut Numbers, links: &mut Links, t: u
     let processors = links.processors();
     assert!(rt; 0 < processors && processors <= 64);
     assert!(rt; t < links.len() && !links.is_ready(t));
-    let mask = numbers.some_of(processors);
+    let mask = numbers.some_of(processors, 2);
     if mask.is_empty() || numbers.below(2) == 0 {
         links.make_ready(t);
         return;
@@ -222,7 +188,7 @@ fn some_set(
     for t in 0..tasks {
         let name = format!(in rt.alloc(); "t{t}")?;
         let own = numbers.below(u32::from(processors)) as u8;
-        let mask = numbers.some_of(processors).with(own);
+        let mask = numbers.some_of(processors, 2).with(own);
         set.add(&name, t.wrapping_mul(37) % 1009, mask)?;
     }
     Ok(set)
@@ -236,7 +202,7 @@ fn run(
     steps: u32,
 ) -> Result<(), Fail> {
     assert!(rt; 0 < tasks && processors <= 64);
-    let mut numbers = Numbers { state: 1 };
+    let mut numbers = Numbers::after(1);
     let set = some_set(rt, &mut numbers, processors, tasks)?;
     let mut links = Links::new(rt.alloc(), &set)?;
     let mut online = ProcSet::first(processors);
@@ -245,7 +211,7 @@ fn run(
         step(rt, &mut numbers, &mut links, t);
         online = turn(rt, &mut numbers, &mut links, online);
         assert!(rt; links.online() == online, "on line");
-        compare(rt, &links, numbers.some_of(processors));
+        compare(rt, &links, numbers.some_of(processors, 2));
     }
     Ok(())
 }
@@ -256,20 +222,29 @@ fn answers_are_those_of_scans(rt: HostRuntime) -> Result<(), Fail> {
     run(&rt, 64, 200, 300)
 }
 
-#[test]
-fn two_wait_for_two_processors(rt: HostRuntime) -> Result<(), Fail> {
-    let mut set = TaskSet::new(rt.alloc(), 2)?;
-    set.add("x", 1, ProcSet::one(0))?;
-    set.add("y", 2, ProcSet::first(2))?;
-    set.add("w1", 3, ProcSet::one(1))?;
-    set.add("w2", 5, ProcSet::one(0))?;
+/// Two tasks run and two wait.
+fn two_and_two(rt: &(impl Abort + AllocGlobal)) -> Result<Links, Fail> {
+    let tasks: [Task; 4] = [
+        ("x", 1, &[0]),
+        ("y", 2, &[0, 1]),
+        ("w1", 3, &[1]),
+        ("w2", 5, &[0]),
+    ];
+    let set = tasks_of(rt, rt.alloc(), 2, &tasks)?;
     let mut links = Links::new(rt.alloc(), &set)?;
-    arrive(&rt, &mut links, 0, &[0]);
-    arrive(&rt, &mut links, 1, &[1]);
+    arrive(rt, &mut links, 0, &[0]);
+    arrive(rt, &mut links, 1, &[1]);
     for t in 2..4 {
         assert!(rt; t < links.len() && !links.is_ready(t));
         links.make_ready(t);
     }
+    Ok(links)
+}
+
+#[test]
+fn two_wait_for_two_processors(rt: HostRuntime) -> Result<(), Fail> {
+    let links = two_and_two(&rt)?;
+    assert!(rt; links.processors() == 2);
     assert_eq!(rt; links.most_urgent_in(ProcSet::one(1)), Some(2));
     assert_eq!(rt; links.most_urgent_in(ProcSet::first(2)), Some(2));
     assert_eq!(rt; links.most_urgent_in(ProcSet::one(0)), Some(3));
@@ -279,16 +254,25 @@ fn two_wait_for_two_processors(rt: HostRuntime) -> Result<(), Fail> {
     Ok(())
 }
 
-#[test]
-fn a_task_waits_for_no_processor(rt: HostRuntime) -> Result<(), Fail> {
-    let mut set = TaskSet::new(rt.alloc(), 2)?;
-    set.add("w", 1, ProcSet::one(1))?;
+/// The processor of the only task of two processors goes off line, and then it becomes ready.
+fn ready_without_processor(rt: &(impl Abort + AllocGlobal)) -> Result<Links, Fail> {
+    let set = tasks_of(rt, rt.alloc(), 2, &[("w", 1, &[1])])?;
     let mut links = Links::new(rt.alloc(), &set)?;
+    assert!(rt; links.processors() == 2 && links.len() == 1);
+    assert!(rt; !links.is_ready(0) && links.on(1).is_none());
     links.make_ready(0);
     links.set_online(1, false);
+    Ok(links)
+}
+
+#[test]
+fn a_task_waits_for_no_processor(rt: HostRuntime) -> Result<(), Fail> {
+    let mut links = ready_without_processor(&rt)?;
+    assert!(rt; links.processors() == 2 && links.len() == 1);
     assert!(rt; links.effective(0).is_empty() && links.is_waiting(0));
     assert!(rt; links.idle() == ProcSet::one(0));
     assert_eq!(rt; links.most_urgent_in(ProcSet::first(2)), None);
+    assert!(rt; links.on(1).is_none());
     links.set_online(1, true);
     assert_eq!(rt; links.most_urgent_in(ProcSet::first(2)), Some(0));
     Ok(())

@@ -3,11 +3,11 @@ ghost use Rattle.std.specs.Prelude.{◌<◌, ℕ, IsTrue};
 ghost use Rattle.link_state.specs.State.{task_count};
 ghost use Rattle.link_state.specs.Chain.{IsChainOf, IsSimple};
 
+use crate::tables::{Task, chain_of, tasks_of};
 use affinity_mask::ProcSet;
 use link_table::{Chain, Links};
 use std::process::Abort;
 use std::test::Fail;
-use task_set::TaskSet;
 
 /// Whether the list is a chain of the task.
 pub(crate) fn is_chain(links: &Links, t: u32, chain: &Chain) -> bool
@@ -50,33 +50,34 @@ pub(crate) fn is_simple(chain: &Chain) -> bool
 
 /// Makes an absent task ready and shifts it along a list, which has to be a simple chain of it.
 pub(crate) fn arrive(rt: &impl Abort, links: &mut Links, t: u32, processors: &[u8]) -> Option<u32> {
-    let mut chain = Chain::new();
-    for &p in processors {
-        assert!(rt; p < 64 && chain.len() < 64);
-        chain.push(p);
-    }
+    let chain = chain_of(rt, processors);
     assert!(rt; t < links.len() && !links.is_ready(t));
     links.make_ready(t);
     assert!(rt; is_chain(links, t, &chain) && is_simple(&chain));
     links.shift(t, &chain)
 }
 
+/// A task is shifted along a list, and then this one is put out, and these are on the two processors.
+fn moves(
+    rt: &impl Abort,
+    links: &mut Links,
+    t: u32,
+    chain: &[u8],
+    put_out: Option<u32>,
+    on: [Option<u32>; 2],
+) {
+    assert_eq!(rt; arrive(rt, links, t, chain), put_out, "task {t}");
+    assert!(rt; links.processors() == 2);
+    assert_eq!(rt; [links.on(0), links.on(1)], on, "task {t}");
+}
+
 #[test]
 fn tasks_move_along_chains(rt: HostRuntime) -> Result<(), Fail> {
-    let mut set = TaskSet::new(rt.alloc(), 2)?;
-    set.add("a", 1, ProcSet::first(2))?;
-    set.add("b", 3, ProcSet::one(0))?;
-    set.add("c", 2, ProcSet::one(1))?;
+    let tasks: [Task; 3] = [("a", 1, &[0, 1]), ("b", 3, &[0]), ("c", 2, &[1])];
+    let set = tasks_of(&rt, rt.alloc(), 2, &tasks)?;
     let mut links = Links::new(rt.alloc(), &set)?;
-    let steps: [(u32, &[u8], Option<u32>, [Option<u32>; 2]); 3] = [
-        (0, &[0], None, [Some(0), None]),
-        (1, &[0, 1], None, [Some(1), Some(0)]),
-        (2, &[1], Some(0), [Some(1), Some(2)]),
-    ];
-    for (t, chain, put_out, on) in steps {
-        assert_eq!(rt; arrive(&rt, &mut links, t, chain), put_out, "task {t}");
-        assert!(rt; links.processors() == 2);
-        assert_eq!(rt; [links.on(0), links.on(1)], on, "task {t}");
-    }
+    moves(&rt, &mut links, 0, &[0], None, [Some(0), None]);
+    moves(&rt, &mut links, 1, &[0, 1], None, [Some(1), Some(0)]);
+    moves(&rt, &mut links, 2, &[1], Some(0), [Some(1), Some(2)]);
     Ok(())
 }

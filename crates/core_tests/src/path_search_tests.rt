@@ -1,4 +1,5 @@
 //! What no clause says: that the calls say of small states what a reader works out by hand.
+use crate::tables::{chain_of, set_of};
 use affinity_mask::ProcSet;
 use link_table::{Chain, Links};
 use path_search::{back_chain, back_set, chain_to, chain_to_idle, reach};
@@ -199,28 +200,13 @@ pub(crate) fn link(rt: &impl Abort, links: &mut Links, t: u32, p: u8) {
     let _ = links.shift(t, &chain);
 }
 
-/// The set of these processors.
-fn set_of(rt: &impl Abort, processors: &[u8]) -> ProcSet {
-    let mut set = ProcSet::empty();
-    for &p in processors {
-        assert!(rt; p < 64);
-        set = set.with(p);
-    }
-    set
-}
-
 /// The chain of these processors, if any are given.
-fn chain_of(rt: &impl Abort, processors: Option<&[u8]>) -> Option<Chain> {
-    let mut chain = Chain::new();
-    for &p in processors? {
-        assert!(rt; p < 64 && chain.len() < 64);
-        chain.push(p);
-    }
-    Some(chain)
+fn chain_if(rt: &impl Abort, processors: Option<&[u8]>) -> Option<Chain> {
+    Some(chain_of(rt, processors?))
 }
 
 /// The set of the tasks of a row, with their numbers as priorities.
-fn tasks_of(rt: &impl Abort, alloc: Global, row: &Row) -> Result<TaskSet, Fail> {
+fn tasks_of_row(rt: &impl Abort, alloc: Global, row: &Row) -> Result<TaskSet, Fail> {
     assert!(rt; 0 < row.processors && row.processors <= 64);
     let mut set = TaskSet::new(alloc, row.processors)?;
     for (mask, _) in row.tasks {
@@ -233,7 +219,7 @@ fn tasks_of(rt: &impl Abort, alloc: Global, row: &Row) -> Result<TaskSet, Fail> 
 
 /// The state of a row.
 fn state_of(rt: &impl Abort, alloc: Global, row: &Row) -> Result<Links, Fail> {
-    let set = tasks_of(rt, alloc, row)?;
+    let set = tasks_of_row(rt, alloc, row)?;
     let mut links = Links::new(alloc, &set)?;
     for ((_, place), t) in row.tasks.iter().zip(0..1024) {
         if let Some(p) = place {
@@ -243,42 +229,59 @@ fn state_of(rt: &impl Abort, alloc: Global, row: &Row) -> Result<Links, Fail> {
     Ok(links)
 }
 
+/// Compares what the searches say of a row.
+fn compare_row(rt: &impl Abort, links: &Links, row: &Row, number: usize) {
+    let (t, p) = (row.t, row.p);
+    assert!(rt; t < links.len() && p < links.processors());
+    assert_eq!(rt; reach(links, t), set_of(rt, row.reach), "row {number}");
+    let least = chain_if(rt, row.to_idle);
+    assert_eq!(rt; chain_to_idle(links, t), least, "row {number}");
+    let least = chain_if(rt, row.to_p);
+    assert_eq!(rt; chain_to(links, t, p), least, "row {number}");
+    assert_eq!(rt; back_set(links, p), set_of(rt, row.back), "row {number}");
+    let least = chain_if(rt, row.back_chain);
+    assert_eq!(rt; back_chain(links, t, p), least, "row {number}");
+}
+
 #[test]
 fn searches_by_calls(rt: HostRuntime) -> Result<(), Fail> {
     for (number, row) in ROWS.iter().enumerate() {
         let links = state_of(&rt, rt.alloc(), row)?;
-        let (t, p) = (row.t, row.p);
-        assert!(rt; t < links.len() && p < links.processors());
-        assert_eq!(rt; reach(&links, t), set_of(&rt, row.reach), "row {number}");
-        let least = chain_of(&rt, row.to_idle);
-        assert_eq!(rt; chain_to_idle(&links, t), least, "row {number}");
-        let least = chain_of(&rt, row.to_p);
-        assert_eq!(rt; chain_to(&links, t, p), least, "row {number}");
-        assert_eq!(rt; back_set(&links, p), set_of(&rt, row.back), "row {number}");
-        let least = chain_of(&rt, row.back_chain);
-        assert_eq!(rt; back_chain(&links, t, p), least, "row {number}");
+        compare_row(&rt, &links, row, number);
     }
     Ok(())
+}
+
+/// Tasks that may move on by one processor, each with that of its number, and one that may run on the first alone.
+fn staircase(alloc: Global) -> Result<TaskSet, Fail> {
+    let mut set = TaskSet::new(alloc, 64)?;
+    for p in 0..63 {
+        let name = format!(in alloc; "c{p}")?;
+        set.add(name.as_str(), p as u32, ProcSet::one(p).with(p + 1))?;
+    }
+    set.add("z", 63, ProcSet::one(0))?;
+    Ok(set)
+}
+
+/// All processors, in their order.
+fn all_processors(rt: &impl Abort) -> Chain {
+    let mut chain = Chain::new();
+    for p in 0..64 {
+        assert!(rt; chain.len() < 64);
+        chain.push(p);
+    }
+    chain
 }
 
 /// Each processor but the last is occupied, and its task may move on by one.
 #[test]
 fn the_longest_chain(rt: HostRuntime) -> Result<(), Fail> {
-    let mut set = TaskSet::new(rt.alloc(), 64)?;
-    let mut onward = Chain::new();
-    for p in 0..63 {
-        let name = format!(in rt.alloc(); "c{p}")?;
-        set.add(name.as_str(), p as u32, ProcSet::one(p).with(p + 1))?;
-    }
-    set.add("z", 63, ProcSet::one(0))?;
+    let set = staircase(rt.alloc())?;
     let mut links = Links::new(rt.alloc(), &set)?;
     for p in 0..63 {
         link(&rt, &mut links, p as u32, p);
     }
-    for p in 0..64 {
-        assert!(rt; onward.len() < 64);
-        onward.push(p);
-    }
+    let onward = all_processors(&rt);
     assert!(rt; links.len() == 64 && links.processors() == 64);
     assert_eq!(rt; reach(&links, 63), ProcSet::first(64));
     assert_eq!(rt; back_chain(&links, 63, 63), Some(onward.reversed()));

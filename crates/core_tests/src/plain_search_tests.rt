@@ -1,7 +1,6 @@
 //! The searches in their plainest form, in which each level asks every processor, and what they and the calls say of
 //! generated states.
-ghost use Rattle.std.specs.Prelude.{◌<◌};
-
+use crate::numbers::Numbers;
 use crate::path_search_tests::link;
 use affinity_mask::ProcSet;
 use link_table::{Chain, Links};
@@ -101,56 +100,52 @@ fn plain_path(
     Some(chain)
 }
 
-/// The number that follows in a linear congruential generator.
-fn advanced(seed: u64) -> u64 {
-    seed.wrapping_mul(6364136223846793005)
-        .wrapping_add(1442695040888963407)
+/// A mask that has each processor once in four times, and one at least.
+fn some_mask(rt: &impl Abort, numbers: &mut Numbers, processors: u8) -> ProcSet {
+    assert!(rt; 0 < processors && processors <= 64);
+    let own = numbers.below(u32::from(processors)) as u8;
+    numbers.some_of(processors, 4).with(own)
 }
 
-/// A number below `bound`, from the high bits of a generated one.
-fn drawn(seed: u64, bound: u64) -> u64
-    requires { 0 < bound }
-    ensures { result < bound }
-{
-    (seed >> 33) % bound
-}
-
-/// A mask that has each processor once in `spread` times, and one at least.
-fn mask_from(rt: &impl Abort, seed: &mut u64, processors: u8, spread: u64) -> ProcSet {
-    assert!(rt; 0 < processors && processors <= 64 && 0 < spread);
-    *seed = advanced(*seed);
-    let mut mask = ProcSet::one(drawn(*seed, processors as u64) as u8);
-    for p in 0..processors {
-        *seed = advanced(*seed);
-        if drawn(*seed, spread) == 0 {
-            mask = mask.with(p);
-        }
-    }
-    mask
-}
-
-/// A state in which most tasks were offered a processor, and are linked to it where it is in their mask and idle.
-fn generated(
+/// A set of so many tasks with masks that are taken at random, the more urgent ones first.
+fn generated_set(
     rt: &impl Abort,
     alloc: Global,
-    seed: &mut u64,
+    numbers: &mut Numbers,
     processors: u8,
     tasks: u32,
-) -> Result<Links, Fail> {
+) -> Result<TaskSet, Fail> {
     assert!(rt; 0 < processors && processors <= 64);
     let mut set = TaskSet::new(alloc, processors)?;
     for t in 0..tasks {
         let name = format!(in alloc; "t{t}")?;
-        set.add(name.as_str(), t, mask_from(rt, seed, processors, 4))?;
+        set.add(name.as_str(), t, some_mask(rt, numbers, processors))?;
     }
+    Ok(set)
+}
+
+/// A task is offered a processor, and linked to it where it is in its mask and idle.
+fn offer(rt: &impl Abort, links: &mut Links, t: u32, p: u8) {
+    assert!(rt; t < links.len() && p < 64);
+    if links.effective(t).both(&links.idle()).has(p) {
+        link(rt, links, t, p);
+    }
+}
+
+/// A state in which each task was offered a processor.
+fn generated(
+    rt: &impl Abort,
+    alloc: Global,
+    numbers: &mut Numbers,
+    processors: u8,
+    tasks: u32,
+) -> Result<Links, Fail> {
+    assert!(rt; 0 < processors);
+    let set = generated_set(rt, alloc, numbers, processors, tasks)?;
     let mut links = Links::new(alloc, &set)?;
     for t in 0..tasks {
-        *seed = advanced(*seed);
-        let p = drawn(*seed, processors as u64) as u8;
-        assert!(rt; t < links.len() && p < 64);
-        if links.effective(t).both(&links.idle()).has(p) {
-            link(rt, &mut links, t, p);
-        }
+        let p = numbers.below(u32::from(processors)) as u8;
+        offer(rt, &mut links, t, p);
     }
     Ok(links)
 }
@@ -182,9 +177,9 @@ fn compare_all(rt: &impl Abort, links: &Links) {
 
 #[test]
 fn as_the_plain_searches_of_few_processors(rt: HostRuntime) -> Result<(), Fail> {
-    let mut seed = 1;
+    let mut numbers = Numbers::after(1);
     for _round in 0..60 {
-        let links = generated(&rt, rt.alloc(), &mut seed, 7, 12)?;
+        let links = generated(&rt, rt.alloc(), &mut numbers, 7, 12)?;
         compare_all(&rt, &links);
     }
     Ok(())
@@ -192,8 +187,8 @@ fn as_the_plain_searches_of_few_processors(rt: HostRuntime) -> Result<(), Fail> 
 
 #[test]
 fn as_the_plain_searches_of_all_processors(rt: HostRuntime) -> Result<(), Fail> {
-    let mut seed = 2;
-    let links = generated(&rt, rt.alloc(), &mut seed, 64, 80)?;
+    let mut numbers = Numbers::after(2);
+    let links = generated(&rt, rt.alloc(), &mut numbers, 64, 80)?;
     compare_all(&rt, &links);
     Ok(())
 }

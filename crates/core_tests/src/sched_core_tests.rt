@@ -1,17 +1,16 @@
 //! What no clause says: that calls succeed with ample memory, and what they answer on a table followed by hand.
+use crate::tables::{Task, chain_of, set_of, tasks_of};
 use affinity_mask::ProcSet;
-use link_table::{Chain, Entry, Reply};
+use link_table::{Entry, Reply};
 use sched_core::{Core, CoreFault, MAX_ENTRIES};
 use std::alloc::Global;
 use std::process::Abort;
 use std::test::Fail;
-use task_set::{Event, Order, TaskSet};
+use task_set::{Event, Order};
 
 /// A core over two processors, with a task that may run on both and a less urgent one that may run on the first alone.
-fn core_of_two(alloc: Global) -> Result<Core, Fail> {
-    let mut set = TaskSet::new(alloc, 2)?;
-    set.add("a", 1, ProcSet::first(2))?;
-    set.add("b", 2, ProcSet::first(1))?;
+fn core_of_two(rt: &impl Abort, alloc: Global) -> Result<Core, Fail> {
+    let set = tasks_of(rt, alloc, 2, &[("a", 1, &[0, 1]), ("b", 2, &[0])])?;
     let core = Core::new(alloc, &set)?;
     Ok(core)
 }
@@ -36,16 +35,6 @@ fn apply(rt: &impl Abort, core: &mut Core, caller: u32, event: Event) -> Result<
 fn orders<'a>(rt: &impl Abort, core: &'a Core, p: u8) -> &'a [Order] {
     assert!(rt; p < core.links().processors());
     core.orders(p)
-}
-
-/// The list of these processors.
-fn chain_of(rt: &impl Abort, processors: &[u8]) -> Chain {
-    let mut chain = Chain::new();
-    for &p in processors {
-        assert!(rt; p < 64 && chain.len() < 64);
-        chain.push(p);
-    }
-    chain
 }
 
 /// The first task comes, the second one takes its processor, and both run.
@@ -115,7 +104,7 @@ fn entries_of_events(rt: &impl Abort) -> [Entry; 3] {
 
 #[test]
 fn core_by_calls(rt: HostRuntime) -> Result<(), Fail> {
-    let mut core = core_of_two(rt.alloc())?;
+    let mut core = core_of_two(&rt, rt.alloc())?;
     core.reserve()?;
     apply_events(&rt, &mut core);
     assert_eq!(rt; orders(&rt, &core, 0), open_orders().as_slice());
@@ -136,21 +125,25 @@ fn event_at(place: u64) -> Event {
     }
 }
 
+/// As many events as a history may have.
+fn fill(rt: &impl Abort, core: &mut Core) {
+    for place in 0..MAX_ENTRIES as u64 {
+        assert_eq!(rt; apply(rt, core, 0, event_at(place)), Ok(place));
+    }
+}
+
+/// The core takes no tick.
+fn refuses(rt: &impl Abort, core: &mut Core, fault: CoreFault) {
+    assert_eq!(rt; apply(rt, core, 0, Event::Tick(1)), Err(fault));
+}
+
 #[test]
 fn history_fills_up(rt: HostRuntime) -> Result<(), Fail> {
-    let mut core = core_of_two(rt.alloc())?;
-    for place in 0..MAX_ENTRIES as u64 {
-        assert_eq!(rt; apply(&rt, &mut core, 0, event_at(place)), Ok(place));
-    }
-    assert_eq!(rt;
-        apply(&rt, &mut core, 0, Event::Tick(1)),
-        Err(CoreFault::Full)
-    );
+    let mut core = core_of_two(&rt, rt.alloc())?;
+    fill(&rt, &mut core);
+    refuses(&rt, &mut core, CoreFault::Full);
     core.close_now();
-    assert_eq!(rt;
-        apply(&rt, &mut core, 0, Event::Tick(1)),
-        Err(CoreFault::Closed)
-    );
+    refuses(&rt, &mut core, CoreFault::Closed);
     // A take, a run and a release for each four events, and the stop.
     let last = Order::Take {
         task: 0,
@@ -175,8 +168,7 @@ enum Happens {
 struct Row {
     processors: u8,
 
-    /// Of each task its name and its mask; the priorities are 1, 2 and so on.
-    tasks: &'static [(&'static str, &'static [u8])],
+    tasks: &'static [Task<'static>],
     events: &'static [Happens],
 
     /// The orders to each processor.
@@ -188,7 +180,7 @@ static ROWS: [Row; 4] = [
     // shifted to where the first one was.
     Row {
         processors: 2,
-        tasks: &[("a", &[0, 1]), ("b", &[0, 1])],
+        tasks: &[("a", 1, &[0, 1]), ("b", 2, &[0, 1])],
         events: &[
             Happens::Arrive(0),
             Happens::Arrive(1),
@@ -221,7 +213,7 @@ static ROWS: [Row; 4] = [
     // order comes of that.
     Row {
         processors: 1,
-        tasks: &[("a", &[0]), ("b", &[0])],
+        tasks: &[("a", 1, &[0]), ("b", 2, &[0])],
         events: &[
             Happens::Arrive(0),
             Happens::Arrive(1),
@@ -239,7 +231,7 @@ static ROWS: [Row; 4] = [
     // Both processors go off line, and one of them comes back.
     Row {
         processors: 2,
-        tasks: &[("a", &[0, 1]), ("b", &[0, 1])],
+        tasks: &[("a", 1, &[0, 1]), ("b", 2, &[0, 1])],
         events: &[
             Happens::Arrive(0),
             Happens::Arrive(1),
@@ -269,7 +261,7 @@ static ROWS: [Row; 4] = [
     // The task waits while all of its mask is off line, and comes in where its new mask comes on line.
     Row {
         processors: 2,
-        tasks: &[("a", &[1])],
+        tasks: &[("a", 1, &[1])],
         events: &[
             Happens::Offline(0),
             Happens::Arrive(0),
@@ -295,16 +287,6 @@ static ROWS: [Row; 4] = [
     },
 ];
 
-/// The set of these processors.
-fn set_of(rt: &impl Abort, processors: &[u8]) -> ProcSet {
-    let mut set = ProcSet::empty();
-    for &p in processors {
-        assert!(rt; p < 64);
-        set = set.with(p);
-    }
-    set
-}
-
 fn event_of(rt: &impl Abort, happens: &Happens) -> Event {
     match happens {
         Happens::Arrive(t) => Event::Arrive(*t),
@@ -318,29 +300,22 @@ fn event_of(rt: &impl Abort, happens: &Happens) -> Event {
     }
 }
 
-/// A core over the processors and the tasks of a row.
-fn core_of(rt: &impl Abort, alloc: Global, row: &Row) -> Result<Core, Fail> {
-    assert!(rt; 1 <= row.processors && row.processors <= 64);
-    let mut set = TaskSet::new(alloc, row.processors)?;
-    let mut priority = 0;
-    for (name, mask) in row.tasks {
-        assert!(rt; priority < 1024);
-        priority += 1;
-        set.add(name, priority, set_of(rt, mask))?;
+/// Applies the events of a row to a new core, and closes it.
+fn closed_core(rt: &impl Abort, alloc: Global, row: &Row, i: usize) -> Result<Core, Fail> {
+    let set = tasks_of(rt, alloc, row.processors, row.tasks)?;
+    let mut core = Core::new(alloc, &set)?;
+    for (j, happens) in row.events.iter().enumerate() {
+        let place = apply(rt, &mut core, 0, event_of(rt, happens));
+        assert_eq!(rt; place, Ok(j as u64), "row {i}");
     }
-    let core = Core::new(alloc, &set)?;
+    core.close_now();
     Ok(core)
 }
 
 #[test]
 fn orders_by_hand(rt: HostRuntime) -> Result<(), Fail> {
     for (i, row) in ROWS.iter().enumerate() {
-        let mut core = core_of(&rt, rt.alloc(), row)?;
-        for (j, happens) in row.events.iter().enumerate() {
-            let place = apply(&rt, &mut core, 0, event_of(&rt, happens));
-            assert_eq!(rt; place, Ok(j as u64), "row {i}");
-        }
-        core.close_now();
+        let core = closed_core(&rt, rt.alloc(), row, i)?;
         for (p, expected) in row.orders.iter().enumerate() {
             assert!(rt; p < 64);
             assert_eq!(rt;

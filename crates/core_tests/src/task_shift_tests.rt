@@ -1,9 +1,9 @@
 //! What no clause says: that the calls answer on small tables what a reader works out by hand.
+use crate::tables::{Task, chain_of, set_of, tasks_of};
 use affinity_mask::ProcSet;
-use link_table::{Came, Chain, Gone, Links, Moved, Reply};
+use link_table::{Came, Gone, Links, Moved, Reply};
 use std::process::Abort;
 use std::test::Fail;
-use task_set::TaskSet;
 use task_shift::{affinity, arrive, depart, offline, online};
 
 /// A call of this crate, with masks written as lists.
@@ -52,8 +52,7 @@ enum Answer {
 struct Row {
     processors: u8,
 
-    /// Of each task its name, its priority and its mask.
-    tasks: &'static [(&'static str, u32, &'static [u8])],
+    tasks: &'static [Task<'static>],
     calls: &'static [(Call, Answer)],
 }
 
@@ -295,26 +294,6 @@ static ROWS: [Row; 12] = [
     },
 ];
 
-/// The list of these processors.
-fn chain_of(rt: &impl Abort, processors: &[u8]) -> Chain {
-    let mut chain = Chain::new();
-    for &p in processors {
-        assert!(rt; p < 64 && chain.len() < 64);
-        chain.push(p);
-    }
-    chain
-}
-
-/// The set of these processors.
-fn set_of(rt: &impl Abort, processors: &[u8]) -> ProcSet {
-    let mut set = ProcSet::empty();
-    for &p in processors {
-        assert!(rt; p < 64);
-        set = set.with(p);
-    }
-    set
-}
-
 fn came_of(rt: &impl Abort, arrival: &Arrival) -> Came {
     match arrival {
         Arrival::Placed(chain) => Came::Placed {
@@ -399,22 +378,23 @@ fn reply_to(rt: &impl Abort, links: &mut Links, call: &Call) -> Reply {
     }
 }
 
+/// Compares the replies to the calls of a row.
+fn follow(rt: &impl Abort, links: &mut Links, row: &Row, i: usize) {
+    for (j, (call, answer)) in row.calls.iter().enumerate() {
+        assert_eq!(rt;
+            reply_to(rt, links, call),
+            reply_of(rt, answer),
+            "row {i}, call {j}"
+        );
+    }
+}
+
 #[test]
 fn replies_by_hand(rt: HostRuntime) -> Result<(), Fail> {
     for (i, row) in ROWS.iter().enumerate() {
-        assert!(rt; 1 <= row.processors && row.processors <= 64);
-        let mut set = TaskSet::new(rt.alloc(), row.processors)?;
-        for (name, priority, mask) in row.tasks {
-            set.add(name, *priority, set_of(&rt, mask))?;
-        }
+        let set = tasks_of(&rt, rt.alloc(), row.processors, row.tasks)?;
         let mut links = Links::new(rt.alloc(), &set)?;
-        for (j, (call, answer)) in row.calls.iter().enumerate() {
-            assert_eq!(rt;
-                reply_to(&rt, &mut links, call),
-                reply_of(&rt, answer),
-                "row {i}, call {j}"
-            );
-        }
+        follow(&rt, &mut links, row, i);
     }
     Ok(())
 }

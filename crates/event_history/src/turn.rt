@@ -183,9 +183,9 @@ pub fn leave(turn: &Turn, state: &mut PassState, held: Held)
     state.saw_close = closed;
 }
 
-/// Parks the calling thread where the word found says that somebody has the turn, and while it is still that word, but not
-/// for long: nobody wakes it, since a wake would cost each turn more than the turn itself. It may return at once, or for no
-/// reason, so the caller tries again.
+/// Parks the calling thread where the word found says that somebody has the turn, unless the word is another one by then, but
+/// not for long: nobody wakes it, since a wake would cost each turn more than the turn itself. It may return at once, or for
+/// no reason, so the caller tries again.
 pub fn wait<R: Wait>(turn: &Turn, rt: &R, found: u64)
     requires { IsTurnTable turn.now.table_id }
 {

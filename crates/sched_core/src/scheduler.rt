@@ -22,10 +22,6 @@ use task_shift::{affinity, arrive, depart, offline, online};
 /// A history has at most so many entries.
 pub const MAX_ENTRIES: usize = 20_000;
 
-/// Room is made for so many entries at a time, so that most events take no memory. The room of a row is then so large that
-/// the allocator moves a row that grows by its pages, and does not copy it.
-const ENTRIES_AT_ONCE: usize = 8_192;
-
 /// The history of the events applied so far, the links after it, and the orders that it gives each processor.
 #[derive(Drop)]
 pub struct Core {
@@ -84,7 +80,8 @@ impl Core {
     }
 
     /// Makes room for an entry, so that the next `apply` is not refused for lack of memory. Nothing else changes. Room is
-    /// made for many entries where it can be, and for one where memory is short.
+    /// made for a whole history where it can be, and for one entry where memory is short. A list that grew later would be
+    /// moved, for which the system interrupts each thread of the process.
     pub fn reserve(&mut self) -> Result<(), OutOfMemory>
         ensures kept { OnlyMadeRoom self.old self.new }
         ensures valid { IsCore self.new }
@@ -94,7 +91,7 @@ impl Core {
         if self.spare > 0 {
             return Ok(());
         }
-        match self.make_room(ENTRIES_AT_ONCE) {
+        match self.make_room(MAX_ENTRIES) {
             Ok(()) => Ok(()),
             Err(OutOfMemory) => self.make_room(1),
         }
@@ -104,7 +101,7 @@ impl Core {
     /// for its orders, besides the room for the orders of the close.
     fn make_room(&mut self, entries: usize) -> Result<(), OutOfMemory>
         requires none { self.old.spare ≡ 0 }
-        requires few { entries ≤ 8192 }
+        requires few { entries ≤ 20000 }
         ensures kept { OnlyMadeRoom self.old self.new }
         ensures refused { OnErr result (self.new ≡ self.old) }
         ensures valid { IsCore self.new }

@@ -98,8 +98,9 @@ fn wait_for(count: &AtomicU64, least: u64) -> bool {
     false
 }
 
-/// It holds stream 0 after its first post until observer 0 is before its third read, and observer 0 before its second read
-/// until stream 0 has posted once. So neither can end before the other begins.
+/// It holds stream 0 before its first post until observer 0 is before its first read, and that read until stream 0 is
+/// before its second post, which waits until observer 0 is before its third read. So neither can end before the other
+/// begins, and the first read comes after the first entry was published and before the second one was posted.
 #[derive(Drop)]
 struct ObserverGate {
     posts: AtomicU64,
@@ -117,15 +118,13 @@ impl ObserverGate {
 
 impl Gate for ObserverGate {
     fn at(&self, who: u32, point: u32) {
-        if who == 0 && point == 1 {
+        if who == 0 && point == 0 {
             let before = self.posts.fetch_add(1, Ordering::SeqCst);
-            if before == 0 {
-                self.hold(&self.reads, 3);
-            }
+            self.hold(&self.reads, if before == 0 { 1 } else { 3 });
         } else if who == 0 && point == 3 {
             let before = self.reads.fetch_add(1, Ordering::SeqCst);
-            if before == 1 {
-                self.hold(&self.posts, 1);
+            if before == 0 {
+                self.hold(&self.posts, 2);
             }
         }
     }
@@ -142,7 +141,9 @@ fn observers_read_beside_posts(rt: HostRuntime) -> Result<(), Fail> {
     assert!(rt; !gate.late.load(Ordering::SeqCst));
     assert_eq!(rt; gate.posts.load(Ordering::SeqCst), 2);
     assert_eq!(rt; gate.reads.load(Ordering::SeqCst), 100);
-    expect_two(&rt, rt.alloc(), str::from_utf8(&text).unwrap_or(""))
+    let text = str::from_utf8(&text).unwrap_or("");
+    assert!(rt; text.contains("observer 0 first 1 0 last "), "{text}");
+    expect_two(&rt, rt.alloc(), text)
 }
 
 /// Appends a line of a generated input, and an event's with this stream in the place of stream 0; reports whether it is one.
