@@ -11,6 +11,7 @@ use std::alloc::{AllocError, Global};
 use std::process::Abort;
 use std::test::Fail;
 use task_set::{Event, TaskSet};
+use trace_reader::Input;
 
 /// Adds a task that is ready and may run somewhere, with its effective mask, and notes its number in the links.
 fn add_ready(
@@ -146,7 +147,25 @@ fn follow(
     Ok(())
 }
 
-/// Replays the input of a number, with a change after each event.
+/// Follows the events of an input, with a change after each.
+fn follow_input(
+    rt: &(impl Abort + AllocGlobal),
+    core: &mut Core,
+    checker: &mut Checker,
+    input: &Input,
+    reached: &mut Reached,
+) -> Result<(), Fail> {
+    let mut changes = 0u32;
+    for posted in input.events() {
+        follow(rt, core, checker, posted.event, reached)?;
+        let change = change_of(rt, input.set(), changes);
+        follow(rt, core, checker, change, reached)?;
+        changes = changes.saturating_add(1);
+    }
+    Ok(())
+}
+
+/// Replays the input of a number.
 fn replay_number(
     rt: &(impl Abort + AllocGlobal),
     number: u64,
@@ -155,14 +174,7 @@ fn replay_number(
     let input = make_input(rt.alloc(), number, 6, 10, 60)?;
     let mut core = Core::new(rt.alloc(), input.set())?;
     let mut checker = Checker::new(rt.alloc(), input.set())?;
-    let mut changes = 0u32;
-    for posted in input.events() {
-        follow(rt, &mut core, &mut checker, posted.event, reached)?;
-        let change = change_of(rt, input.set(), changes);
-        follow(rt, &mut core, &mut checker, change, reached)?;
-        changes = changes.saturating_add(1);
-    }
-    Ok(())
+    follow_input(rt, &mut core, &mut checker, &input, reached)
 }
 
 #[test]

@@ -51,10 +51,16 @@ static CONTEXTS: [Context; 2] = [
     },
 ];
 
-/// A core after the events.
-fn core_after(rt: &(impl Abort + AllocGlobal)) -> Result<Core, Fail> {
+/// A core of the two tasks.
+fn core_of_two(rt: &(impl Abort + AllocGlobal)) -> Result<Core, Fail> {
     let set = set_of(rt, 2, &TASKS)?;
-    let mut core = Core::new(rt.alloc(), &set)?;
+    let core = Core::new(rt.alloc(), &set)?;
+    Ok(core)
+}
+
+/// The core after the events.
+fn core_after(rt: &(impl Abort + AllocGlobal)) -> Result<Core, Fail> {
+    let mut core = core_of_two(rt)?;
     apply(rt, &mut core, Event::Arrive(0));
     apply(rt, &mut core, Event::Arrive(1));
     apply(rt, &mut core, Event::Tick(5));

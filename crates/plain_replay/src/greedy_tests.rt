@@ -1,6 +1,7 @@
 //! Generated histories: after every entry the linked tasks are those that a plain greedy program finds.
 
-use crate::task_sets::{all_below, is_event_for};
+use crate::checker_tests::apply;
+use crate::task_sets::all_below;
 use generated_input::make_input;
 use link_table::{Links, Reply};
 use placement_laws::best_set;
@@ -9,6 +10,7 @@ use std::alloc::{AllocError, Global};
 use std::process::Abort;
 use std::test::Fail;
 use task_set::{Event, TaskSet};
+use trace_reader::Input;
 
 /// The ready tasks after an event.
 fn follow(ready: &mut Vec<u32>, event: Event) -> Result<(), AllocError> {
@@ -84,10 +86,8 @@ impl Reached {
 }
 
 /// Applies the event, and notes the reply.
-fn apply(rt: &impl Abort, core: &mut Core, event: Event, reached: &mut Reached) {
-    assert!(rt; is_event_for(core.links(), &event));
-    let applied = core.apply(0, event).is_ok();
-    assert!(rt; applied);
+fn apply_noted(rt: &impl Abort, core: &mut Core, event: Event, reached: &mut Reached) {
+    apply(rt, core, event);
     if let Some(entry) = core.history().last() {
         reached.note(&entry.reply);
     }
@@ -110,7 +110,24 @@ fn assert_greedy(
     Ok(())
 }
 
-/// Replays the input of a number, and compares the linked tasks with the greedy set after each event.
+/// Replays an input, and compares the linked tasks with the greedy set after each event.
+fn replay(
+    rt: &(impl Abort + AllocGlobal),
+    core: &mut Core,
+    input: &Input,
+    number: u64,
+    reached: &mut Reached,
+) -> Result<(), Fail> {
+    let mut ready = Vec::new(rt.alloc());
+    for posted in input.events() {
+        follow(&mut ready, posted.event)?;
+        apply_noted(rt, core, posted.event, reached);
+        assert_greedy(rt, input.set(), core, ready.as_slice(), number)?;
+    }
+    Ok(())
+}
+
+/// Replays the input of a number.
 fn replay_number(
     rt: &(impl Abort + AllocGlobal),
     number: u64,
@@ -118,13 +135,7 @@ fn replay_number(
 ) -> Result<(), Fail> {
     let input = make_input(rt.alloc(), number, 6, 10, 60)?;
     let mut core = Core::new(rt.alloc(), input.set())?;
-    let mut ready = Vec::new(rt.alloc());
-    for posted in input.events() {
-        follow(&mut ready, posted.event)?;
-        apply(rt, &mut core, posted.event, reached);
-        assert_greedy(rt, input.set(), &core, ready.as_slice(), number)?;
-    }
-    Ok(())
+    replay(rt, &mut core, &input, number, reached)
 }
 
 #[test]

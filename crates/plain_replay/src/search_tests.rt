@@ -55,14 +55,19 @@ static PAST_THE_MASK: [(&str, u32, &[u8]); 4] = [
     ("d", 1, &[0]),
 ];
 
+/// Asserts what d reaches where the others run: all three processors, and none of them is idle.
+fn reaches_all(rt: &impl Abort, links: &Links) {
+    assert!(rt; 3 < links.len() && 2 < links.processors());
+    assert!(rt; reach(links, 3) == ProcSet::first(3));
+    assert!(rt; chain_to_idle(links, 3) == None);
+    assert!(rt; chain_to(links, 3, 2) == chain_of(rt, &[0, 1, 2]));
+}
+
 #[test]
 fn reach_past_the_own_mask(rt: HostRuntime) -> Result<(), Fail> {
     let set = set_of(&rt, 3, &PAST_THE_MASK)?;
     let links = links_after(&rt, &set, 3)?;
-    assert!(rt; 3 < links.len() && 2 < links.processors());
-    assert!(rt; reach(&links, 3) == ProcSet::first(3));
-    assert!(rt; chain_to_idle(&links, 3) == None);
-    assert!(rt; chain_to(&links, 3, 2) == chain_of(&rt, &[0, 1, 2]));
+    reaches_all(&rt, &links);
     Ok(())
 }
 
@@ -99,12 +104,17 @@ static CERTIFIED: [([&[u8]; 4], bool); 2] = [
     ([&[], &[], &[1], &[0]], false),
 ];
 
+/// Asserts that no chain leads w2 to the second processor, and that both processors certify that it waits.
+fn waits_for_both(rt: &impl Abort, links: &Links) {
+    assert!(rt; 3 < links.len() && 1 < links.processors());
+    assert!(rt; chain_to(links, 3, 1) == None);
+    assert!(rt; is_certificate(links, 3, ProcSet::first(2)));
+}
+
 #[test]
 fn searches_and_certificates(rt: HostRuntime) -> Result<(), Fail> {
     let links = two_wait(&rt)?;
-    assert!(rt; 3 < links.len() && 1 < links.processors());
-    assert!(rt; chain_to(&links, 3, 1) == None);
-    assert!(rt; is_certificate(&links, 3, ProcSet::first(2)));
+    waits_for_both(&rt, &links);
     for (sets, expected) in &CERTIFIED {
         assert_certified(&rt, &links, sets, *expected);
     }
@@ -142,22 +152,32 @@ fn best_sets(rt: HostRuntime) -> Result<(), Fail> {
     Ok(())
 }
 
+/// Asserts that back chains of processor 0 lead to both processors, and that w1 enters at the second one.
+fn w1_enters(rt: &impl Abort, links: &Links) {
+    assert!(rt; 2 < links.len() && links.processors() == 2);
+    assert!(rt; back_set(links, 0) == ProcSet::first(2));
+    assert!(rt; back_chain(links, 2, 0) == chain_of(rt, &[0, 1]));
+}
+
 #[test]
 fn enters_from_another_processor(rt: HostRuntime) -> Result<(), Fail> {
     let mut links = two_wait(&rt)?;
     leave(&rt, &mut links, 0);
-    assert!(rt; 2 < links.len() && links.processors() == 2);
-    assert!(rt; back_set(&links, 0) == ProcSet::first(2));
-    assert!(rt; back_chain(&links, 2, 0) == chain_of(&rt, &[0, 1]));
+    w1_enters(&rt, &links);
     Ok(())
+}
+
+/// Asserts that back chains of processor 1 lead to no other one, and that w2 cannot enter there.
+fn w2_cannot_enter(rt: &impl Abort, links: &Links) {
+    assert!(rt; 3 < links.len() && links.processors() == 2);
+    assert!(rt; back_set(links, 1) == ProcSet::one(1));
+    assert!(rt; back_chain(links, 3, 1) == None);
 }
 
 #[test]
 fn nobody_can_enter(rt: HostRuntime) -> Result<(), Fail> {
     let mut links = two_wait(&rt)?;
     leave(&rt, &mut links, 1);
-    assert!(rt; 3 < links.len() && links.processors() == 2);
-    assert!(rt; back_set(&links, 1) == ProcSet::one(1));
-    assert!(rt; back_chain(&links, 3, 1) == None);
+    w2_cannot_enter(&rt, &links);
     Ok(())
 }

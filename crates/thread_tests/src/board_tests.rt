@@ -1,16 +1,16 @@
 //! What no clause says: that calls succeed with ample memory, what they answer on runs followed by hand, and that they
 //! may be made from several threads at once.
-ghost use Rattle.std.specs.Prelude.{◌≡◌, ◌∷◌, [], IfOk, length, map};
+ghost use Rattle.std.specs.Prelude.{◌≡◌, ◌∷◌, [], IfOk, length};
 ghost use Rattle.task_set.specs.Event.{IsOfSystem};
 ghost use Rattle.link_state.specs.State.{task_count};
-ghost use Rattle.order_queues.specs.Ends.{new_sender};
 ghost use Rattle.event_history.specs.Boards.{AreAll, Grown};
 
+use crate::two_processors::{two_queues, two_tasks};
 use affinity_mask::{OutOfMemory, ProcSet};
 use event_history::{Board, EndFault, Pass, PostFault, Receipt};
 use link_table::{Chain, Entry, Reply};
-use order_queues::{Queue, Receiver, Sender};
-use sched_core::Core;
+use order_queues::{Queue, Receiver};
+use sched_core::{Core, CoreFault};
 use std::alloc::Global;
 use std::process::Abort;
 use std::sync::{Mutex, Wait};
@@ -30,36 +30,6 @@ struct Bench {
     ghost passes: { AreAll board (first ∷ second ∷ []) },
     ghost lanes: { queues.items ≡ board.queues },
     ghost ends: { queues.items ≡ receivers.0.queue ∷ receivers.1.queue ∷ [] },
-}
-
-/// A set for two processors, with a task that may run on both and a less urgent one that may run on the first alone.
-fn two_tasks(rt: &impl Abort, alloc: Global) -> Result<TaskSet, Fail>
-    ensures { IfOk result (λ set. (length set.tasks ≡ 2) × (set.processors ≡ 2)) }
-{
-    let mut set = TaskSet::new(alloc, 2)?;
-    set.add("a", 1, ProcSet::first(2))?;
-    set.add("b", 2, ProcSet::first(1))?;
-    assert!(rt; set.len() == 2 && set.processors() == 2);
-    Ok(set)
-}
-
-/// Two queues for two tasks, and their ends.
-fn two_queues(alloc: Global) -> Result<(Vec<Queue>, Vec<Sender>, (Receiver, Receiver)), OutOfMemory>
-    ensures senders { IfOk result (λ made. made.1.items ≡ map new_sender made.0.items) }
-    ensures ends { IfOk result
-        (λ made. made.0.items ≡ made.2.0.queue ∷ made.2.1.queue ∷ []) }
-    ensures tasks { IfOk result
-        (λ made. (made.2.0.queue.tasks ≡ 2) × (made.2.1.queue.tasks ≡ 2)) }
-{
-    let (first, first_sender, first_receiver) = Queue::new(alloc, 2)?;
-    let (second, second_sender, second_receiver) = Queue::new(alloc, 2)?;
-    let mut queues = Vec::with_capacity(alloc, 2)?;
-    queues.push_reserved(first);
-    queues.push_reserved(second);
-    let mut senders = Vec::with_capacity(alloc, 2)?;
-    senders.push_reserved(first_sender);
-    senders.push_reserved(second_sender);
-    Ok((queues, senders, (first_receiver, second_receiver)))
 }
 
 impl Bench {
@@ -199,13 +169,18 @@ fn is_closed<R: Wait + Abort>(rt: &R, bench: &mut Bench) {
     );
 }
 
+/// Both tasks arrive, and the second one once more.
+fn post_three<R: Wait + Abort>(rt: &R, bench: &mut Bench) {
+    posts(rt, bench, Event::Arrive(0), 0, placed(rt, &[0]));
+    tries(rt, bench, Event::Arrive(1), 1, placed(rt, &[0, 1]));
+    knows_two(rt, bench);
+    posts(rt, bench, Event::Arrive(1), 2, Reply::AlreadyReady);
+}
+
 #[test]
 fn board_by_calls(rt: HostRuntime) -> Result<(), Fail> {
     let mut bench = Bench::new(&rt, rt.alloc())?;
-    posts(&rt, &mut bench, Event::Arrive(0), 0, placed(&rt, &[0]));
-    tries(&rt, &mut bench, Event::Arrive(1), 1, placed(&rt, &[0, 1]));
-    knows_two(&rt, &mut bench);
-    posts(&rt, &mut bench, Event::Arrive(1), 2, Reply::AlreadyReady);
+    post_three(&rt, &mut bench);
     let copied = bench.copied(&rt, rt.alloc());
     bench.finish(&rt);
     is_closed(&rt, &mut bench);
@@ -229,11 +204,18 @@ fn received<R: Wait>(rt: &R, bench: &mut Bench) -> u32 {
     count
 }
 
+/// Posts an event with the first pass, and asserts that it was.
+fn is_posted<R: Wait + Abort>(rt: &R, bench: &mut Bench, event: Event)
+    requires { IsOfSystem 2 2 event }
+{
+    assert!(rt; bench.post(rt, event).is_ok());
+}
+
 /// The first task arrives, and 300 ticks are posted.
 fn ticks<R: Wait + Abort>(rt: &R, bench: &mut Bench) {
-    assert!(rt; bench.post(rt, Event::Arrive(0)).is_ok());
+    is_posted(rt, bench, Event::Arrive(0));
     for _ in 0..300 {
-        assert!(rt; bench.post(rt, Event::Tick(1)).is_ok());
+        is_posted(rt, bench, Event::Tick(1));
     }
 }
 
@@ -361,24 +343,32 @@ fn arrived_elsewhere<R: Threads + Wait + Sync>(rt: &R, one: Core, other: Core) -
     thread::join(rt, || arrived(one), || arrived(other))
 }
 
-/// The second task arrives, and the core is closed. The orders are those of a core that stayed where it was.
-fn goes_on(rt: &impl Abort, core: &mut Core) -> Result<(), Fail> {
+/// The second task arrives.
+fn second_arrives(rt: &impl Abort, core: &mut Core) -> Result<u64, CoreFault> {
     assert!(rt; core.links().len() == 2);
-    assert!(rt; core.apply(1, Event::Arrive(1)) == Ok(1));
+    core.apply(1, Event::Arrive(1))
+}
+
+/// The second task arrives, and the core is closed.
+fn goes_on(rt: &impl Abort, core: &mut Core) {
+    assert_eq!(rt; second_arrives(rt, core), Ok(1));
     core.close_now();
+}
+
+/// What the first processor is ordered where the first task arrives, the second one moves it on, and the core is closed.
+static ORDERS: [Order; 5] = [
+    Order::Take { task: 0, number: 0 },
+    Order::Release(0),
+    Order::Take { task: 1, number: 0 },
+    Order::Release(1),
+    Order::Stop,
+];
+
+/// Asserts that the orders are those of a core that stayed where it was.
+fn has_orders(rt: &impl Abort, core: &Core) {
     assert!(rt; core.links().processors() == 2);
-    let first = Order::Take { task: 0, number: 0 };
-    let second = Order::Take { task: 1, number: 0 };
-    let expected = [
-        first,
-        Order::Release(0),
-        second,
-        Order::Release(1),
-        Order::Stop,
-    ];
-    assert_eq!(rt; core.orders(0), expected.as_slice());
+    assert_eq!(rt; core.orders(0), ORDERS.as_slice());
     assert_eq!(rt; core.orders(1).len(), 3);
-    Ok(())
 }
 
 /// A core that was moved to another thread and back goes on as one that stayed.
@@ -388,8 +378,11 @@ fn cores_move_between_threads(rt: HostRuntime) -> Result<(), Fail> {
     let (one, other) = (Core::new(rt.alloc(), &set)?, Core::new(rt.alloc(), &set)?);
     assert!(rt; one.links().len() == 2 && other.links().len() == 2);
     let (mut one, mut other) = arrived_elsewhere(&rt, one, other);
-    goes_on(&rt, &mut one)?;
-    goes_on(&rt, &mut other)
+    goes_on(&rt, &mut one);
+    goes_on(&rt, &mut other);
+    has_orders(&rt, &one);
+    has_orders(&rt, &other);
+    Ok(())
 }
 
 /// How many threads post at once, and how many events each: together as many as a history may have.
@@ -486,17 +479,24 @@ fn all_stand(history: &[Entry], told: &[Told]) -> bool {
     true
 }
 
-/// A set of eight tasks on one processor.
-fn eight_tasks(rt: &impl Abort, alloc: Global) -> Result<TaskSet, Fail>
-    ensures { IfOk result (λ set. (length set.tasks ≡ 8) × (set.processors ≡ 1)) }
-{
+/// Eight tasks on one processor.
+fn eight_added(alloc: Global) -> Result<TaskSet, Fail> {
     let mut set = TaskSet::new(alloc, 1)?;
     let mut priority = 0u32;
     for name in ["a", "b", "c", "d", "e", "f", "g", "h"] {
         priority = priority.saturating_add(1);
         set.add(name, priority, ProcSet::first(1))?;
     }
-    assert!(rt; set.len() == THREADS && set.processors() == 1);
+    Ok(set)
+}
+
+/// These eight tasks, counted.
+fn eight_tasks(rt: &impl Abort, alloc: Global) -> Result<TaskSet, Fail>
+    ensures { IfOk result (λ set. (length set.tasks ≡ 8) × (set.processors ≡ 1)) }
+{
+    let set = eight_added(alloc)?;
+    assert!(rt; set.len() == THREADS);
+    assert!(rt; set.processors() == 1);
     Ok(set)
 }
 

@@ -7,3 +7,5 @@ mod board_tests;
 mod owed_orders;
 #[cfg(test)]
 mod schedule_tests;
+#[cfg(test)]
+mod two_processors;

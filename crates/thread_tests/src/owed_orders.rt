@@ -8,7 +8,8 @@ ghost use Rattle.thread_replay.specs.Driving.{IsDone};
 ghost use Rattle.thread_replay.specs.Seats.{IsSeated};
 ghost use Rattle.thread_tests.specs.Fitting.{are_for-prop};
 
-use affinity_mask::{OutOfMemory, ProcSet};
+use crate::two_processors::{list_of_two, two_queues, two_tasks};
+use affinity_mask::OutOfMemory;
 use context_slots::{Hand, Slots};
 use event_history::{Board, Pass};
 use order_queues::{Queue, Receiver, Sender};
@@ -35,51 +36,6 @@ struct Bench {
     ghost lanes: { queues.items ≡ board.queues },
     ghost made_for: { AreFor slots.set queues.items } by { are_for-prop slots.set queues.items },
     ghost seated: { IsSeated queues.items slots first × IsSeated queues.items slots second },
-}
-
-/// Adds a task to the set.
-fn add(rt: &impl Abort, set: &mut TaskSet, name: &str, priority: u32, mask: ProcSet) {
-    let added = set.add(name, priority, mask).is_ok();
-    assert!(rt; added);
-}
-
-/// A task that may run on both processors, and a less urgent one that may run on the first alone.
-fn two_tasks(rt: &impl Abort, alloc: Global) -> Result<TaskSet, Fail>
-    ensures { IfOk result (λ set. (length set.tasks ≡ 2) × (set.processors ≡ 2)) }
-{
-    let mut set = TaskSet::new(alloc, 2)?;
-    add(rt, &mut set, "a", 1, ProcSet::first(2));
-    add(rt, &mut set, "b", 2, ProcSet::one(0));
-    assert!(rt; set.len() == 2);
-    assert!(rt; set.processors() == 2);
-    Ok(set)
-}
-
-/// A list of two things.
-fn list_of_two<T: Drop>(alloc: Global, first: T, second: T) -> Result<Vec<T>, OutOfMemory>
-    ensures { IfOk result (λ two. two.items ≡ first ∷ second ∷ []) }
-{
-    let mut two = Vec::with_capacity(alloc, 2)?;
-    two.push_reserved(first);
-    two.push_reserved(second);
-    Ok(two)
-}
-
-/// Two queues for two tasks, and their ends.
-fn two_queues(alloc: Global) -> Result<(Vec<Queue>, Vec<Sender>, (Receiver, Receiver)), OutOfMemory>
-    ensures senders { IfOk result (λ made. made.1.items ≡ map new_sender made.0.items) }
-    ensures ends { IfOk result
-        (λ made. made.0.items ≡ made.2.0.queue ∷ made.2.1.queue ∷ []) }
-    ensures new { IfOk result (λ made. (made.2.0 ≡ new_receiver made.2.0.queue)
-        × (made.2.1 ≡ new_receiver made.2.1.queue)) }
-    ensures tasks { IfOk result
-        (λ made. (made.2.0.queue.tasks ≡ 2) × (made.2.1.queue.tasks ≡ 2)) }
-{
-    let (first, first_sender, first_receiver) = Queue::new(alloc, 2)?;
-    let (second, second_sender, second_receiver) = Queue::new(alloc, 2)?;
-    let queues = list_of_two(alloc, first, second)?;
-    let senders = list_of_two(alloc, first_sender, second_sender)?;
-    Ok((queues, senders, (first_receiver, second_receiver)))
 }
 
 /// Slots for two processors, with their hands.

@@ -1,18 +1,53 @@
 //! A schedule of two events, by calls.
-use affinity_mask::ProcSet;
+ghost use Rattle.std.specs.Prelude.{◌≡◌, length};
+
+use crate::two_processors::two_tasks;
+use affinity_mask::OutOfMemory;
 use processor_seat::OpenGate;
+use std::alloc::Global;
+use std::process::Abort;
+use std::sync::Wait;
 use std::test::Fail;
+use std::thread::Threads;
 use task_set::{Context, Event, TaskSet};
-use thread_schedule::schedule_of;
+use thread_schedule::{Schedule, schedule_of};
 use trace_reader::Posted;
 
-/// The second task may run where the first one is, and the first one moves aside.
-#[test]
-fn schedule_by_calls(rt: HostRuntime) -> Result<(), Fail> {
-    let mut set = TaskSet::new(rt.alloc(), 2)?;
-    set.add("a", 1, ProcSet::first(2))?;
-    set.add("b", 2, ProcSet::one(0))?;
-    assert!(rt; set.len() == 2);
+/// The contexts where the second task may run where the first one is, and the first one moves aside.
+static CONTEXTS: [Context; 2] = [
+    Context {
+        task: 0,
+        units: 0,
+        stints: 2,
+        moves: 1,
+        last: Some(1),
+        trail: 0,
+    },
+    Context {
+        task: 1,
+        units: 0,
+        stints: 1,
+        moves: 0,
+        last: Some(0),
+        trail: 1,
+    },
+];
+
+/// Asserts that the schedule has two entries and is closed, with these contexts.
+fn is_expected(rt: &impl Abort, made: &Schedule) {
+    assert_eq!(rt; made.core.history().len(), 2);
+    assert!(rt; made.core.is_closed());
+    assert_eq!(rt; made.contexts.as_slice(), CONTEXTS.as_slice());
+}
+
+/// The schedule of the arrivals of two tasks.
+fn schedule_of_two<R: Threads + Wait + Sync>(
+    rt: &R,
+    alloc: Global,
+    set: &TaskSet,
+) -> Result<Schedule, OutOfMemory>
+    requires { length set.now.tasks ≡ 2 }
+{
     let events = [
         Posted {
             stream: 0,
@@ -23,27 +58,13 @@ fn schedule_by_calls(rt: HostRuntime) -> Result<(), Fail> {
             event: Event::Arrive(1),
         },
     ];
-    let made = schedule_of(&rt, rt.alloc(), &set, &events, &OpenGate)?;
-    assert_eq!(rt; made.core.history().len(), 2);
-    assert!(rt; made.core.is_closed());
-    let expected = [
-        Context {
-            task: 0,
-            units: 0,
-            stints: 2,
-            moves: 1,
-            last: Some(1),
-            trail: 0,
-        },
-        Context {
-            task: 1,
-            units: 0,
-            stints: 1,
-            moves: 0,
-            last: Some(0),
-            trail: 1,
-        },
-    ];
-    assert_eq!(rt; made.contexts.as_slice(), expected.as_slice());
+    schedule_of(rt, alloc, set, &events, &OpenGate)
+}
+
+#[test]
+fn schedule_by_calls(rt: HostRuntime) -> Result<(), Fail> {
+    let set = two_tasks(&rt, rt.alloc())?;
+    let made = schedule_of_two(&rt, rt.alloc(), &set)?;
+    is_expected(&rt, &made);
     Ok(())
 }

@@ -1,0 +1,61 @@
+//! Two tasks on two processors, and the queues of these.
+ghost use Rattle.std.specs.Prelude.{◌≡◌, ◌∷◌, [], IfOk, length, map};
+ghost use Rattle.order_queues.specs.Ends.{new_receiver, new_sender};
+
+use affinity_mask::{OutOfMemory, ProcSet};
+use order_queues::{Queue, Receiver, Sender};
+use std::alloc::Global;
+use std::process::Abort;
+use std::test::Fail;
+use task_set::TaskSet;
+
+/// A task that may run on both processors, and a less urgent one that may run on the first alone.
+fn both_added(alloc: Global) -> Result<TaskSet, Fail> {
+    let mut set = TaskSet::new(alloc, 2)?;
+    set.add("a", 1, ProcSet::first(2))?;
+    set.add("b", 2, ProcSet::one(0))?;
+    Ok(set)
+}
+
+/// These two tasks, counted.
+pub(crate) fn two_tasks(rt: &impl Abort, alloc: Global) -> Result<TaskSet, Fail>
+    ensures { IfOk result (λ set. (length set.tasks ≡ 2) × (set.processors ≡ 2)) }
+{
+    let set = both_added(alloc)?;
+    assert!(rt; set.len() == 2);
+    assert!(rt; set.processors() == 2);
+    Ok(set)
+}
+
+/// A list of two things.
+pub(crate) fn list_of_two<T: Drop>(
+    alloc: Global,
+    first: T,
+    second: T,
+) -> Result<Vec<T>, OutOfMemory>
+    ensures { IfOk result (λ two. two.items ≡ first ∷ second ∷ []) }
+{
+    let mut two = Vec::with_capacity(alloc, 2)?;
+    two.push_reserved(first);
+    two.push_reserved(second);
+    Ok(two)
+}
+
+/// Two queues for two tasks, and their ends.
+pub(crate) fn two_queues(
+    alloc: Global,
+) -> Result<(Vec<Queue>, Vec<Sender>, (Receiver, Receiver)), OutOfMemory>
+    ensures senders { IfOk result (λ made. made.1.items ≡ map new_sender made.0.items) }
+    ensures ends { IfOk result
+        (λ made. made.0.items ≡ made.2.0.queue ∷ made.2.1.queue ∷ []) }
+    ensures new { IfOk result (λ made. (made.2.0 ≡ new_receiver made.2.0.queue)
+        × (made.2.1 ≡ new_receiver made.2.1.queue)) }
+    ensures tasks { IfOk result
+        (λ made. (made.2.0.queue.tasks ≡ 2) × (made.2.1.queue.tasks ≡ 2)) }
+{
+    let (first, first_sender, first_receiver) = Queue::new(alloc, 2)?;
+    let (second, second_sender, second_receiver) = Queue::new(alloc, 2)?;
+    let queues = list_of_two(alloc, first, second)?;
+    let senders = list_of_two(alloc, first_sender, second_sender)?;
+    Ok((queues, senders, (first_receiver, second_receiver)))
+}
