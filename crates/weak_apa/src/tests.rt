@@ -35,24 +35,30 @@ fn apply(rt: &impl Abort, weak: &mut Weak, event: Event) {
     weak.apply(event);
 }
 
+/// Three tasks on three processors, of which the last one is the most urgent and may run on the first processor alone.
+fn three_tasks(rt: &impl Abort, alloc: Global) -> Result<TaskSet, Fail> {
+    let mut set = TaskSet::new(alloc, 3)?;
+    set.add("a", 5, set_of(rt, &[0, 1]))?;
+    set.add("b", 6, set_of(rt, &[1, 2]))?;
+    set.add("c", 1, set_of(rt, &[0]))?;
+    Ok(set)
+}
+
+/// Asserts who is on the three processors.
+fn assert_on(rt: &impl Abort, links: &Links, expected: [Option<u32>; 3]) {
+    assert!(rt; links.processors() == 3);
+    assert_eq!(rt; [links.on(0), links.on(1), links.on(2)], expected);
+}
+
+// c displaces a from 0, and a displaces b from 1, which goes on 2.
 #[test]
 fn cascade_by_calls(rt: HostRuntime) -> Result<(), Fail> {
-    let mut set = TaskSet::new(rt.alloc(), 3)?;
-    set.add("a", 5, set_of(&rt, &[0, 1]))?;
-    set.add("b", 6, set_of(&rt, &[1, 2]))?;
-    set.add("c", 1, set_of(&rt, &[0]))?;
+    let set = three_tasks(&rt, rt.alloc())?;
     let mut weak = Weak::new(rt.alloc(), &set)?;
     for t in 0u32..3 {
         apply(&rt, &mut weak, Event::Arrive(t));
     }
-
-    // c displaces a from 0, and a displaces b from 1, which goes on 2.
-    let links = weak.links();
-    assert!(rt; links.processors() == 3);
-    assert_eq!(rt;
-        [links.on(0), links.on(1), links.on(2)],
-        [Some(2), Some(0), Some(1)]
-    );
+    assert_on(&rt, weak.links(), [Some(2), Some(0), Some(1)]);
     Ok(())
 }
 
@@ -70,15 +76,27 @@ fn follow(rt: &impl Abort, weak: &mut Weak, plain: &mut Plain, event: Event) {
     assert_same(rt, weak.links(), plain, &event);
 }
 
+/// Adds a task with a mask from the seed, to the set and to the plain scheduler.
+fn add_drawn(
+    alloc: Global,
+    set: &mut TaskSet,
+    plain: &mut Plain,
+    t: u32,
+    seed: &mut u64,
+) -> Result<(), Fail> {
+    let name = format!(in alloc; "t{t}")?;
+    let mask = drawn_mask(seed);
+    plain.set_mask(t, mask);
+    set.add(&name, t, mask)?;
+    Ok(())
+}
+
 /// Seven tasks on four processors, and events from one seed.
 fn run_seed(rt: &impl Abort, alloc: Global, seed: &mut u64) -> Result<(), Fail> {
     let mut set = TaskSet::new(alloc, PROCESSORS)?;
     let mut plain = Plain::new();
     for t in 0..TASKS {
-        let name = format!(in alloc; "t{t}")?;
-        let mask = drawn_mask(seed);
-        plain.set_mask(t, mask);
-        set.add(&name, t, mask)?;
+        add_drawn(alloc, &mut set, &mut plain, t, seed)?;
     }
     let mut weak = Weak::new(alloc, &set)?;
     for _step in 0..200 {
