@@ -241,6 +241,49 @@ fn worked_histories_on_three_streams(rt: HostRuntime) -> Result<(), Fail> {
     Ok(())
 }
 
+/// It counts the calls before and after posts.
+#[derive(Drop)]
+struct PostGate {
+    before: AtomicU64,
+    after: AtomicU64,
+}
+
+impl Gate for PostGate {
+    fn at(&self, _who: u32, point: u32) {
+        if point == 0 {
+            self.before.fetch_add(1, Ordering::SeqCst);
+        } else if point == 1 {
+            self.after.fetch_add(1, Ordering::SeqCst);
+        }
+    }
+}
+
+/// `large` of ten events is done with this gate.
+fn expect_large<R: Threads + Wait + Sync + Abort, G: Gate + Sync>(
+    rt: &R,
+    alloc: Global,
+    gate: &G,
+) -> Result<(), Fail> {
+    let source = source_of(alloc, b"", 4096, &[])?;
+    let sink = sink_of(alloc, 4096, 4096, &[])?;
+    let words = ["large", "7", "2", "3", "10"];
+    let (status, _put) = replay_with(rt, alloc, &words, source, sink, gate)?;
+    assert_eq!(rt; status, Status::Done);
+    Ok(())
+}
+
+#[test]
+fn large_calls_the_gate_at_each_post(rt: HostRuntime) -> Result<(), Fail> {
+    let gate = PostGate {
+        before: AtomicU64::new(0),
+        after: AtomicU64::new(0),
+    };
+    expect_large(&rt, rt.alloc(), &gate)?;
+    assert_eq!(rt; gate.before.load(Ordering::SeqCst), 10);
+    assert_eq!(rt; gate.after.load(Ordering::SeqCst), 10);
+    Ok(())
+}
+
 /// It looks at a counter before it lets a thread go on, at each call another number of times, below 1,000.
 #[derive(Drop)]
 struct SlowGate {
