@@ -1,7 +1,7 @@
 -- What is kept by a core, before any entry and one entry later.
 use Rattle.std.proofs.Common.{◌≡◌, ℕ, ◌+◌, ◌*◌, ◌<◌, ◌≤◌, false, not, ◌&&◌, List, [], ◌∷◌, ◌++◌, length, get_or, filter, Option, Some, refl, sym, ap, ◌∙◌, arith, append_assoc}
 use Rattle.std.specs.List.{range_with_len}
-use Rattle.std.proofs.lemmas.List.{length-append}
+use Rattle.std.proofs.lemmas.List.{length-append, get_or_push}
 use Rattle.scheduler_reply.specs.declared.reply.Entry.{Entry}
 use Rattle.link_state.specs.State.{State, IsState, task_on, is_task}
 use Rattle.link_state.specs.Step.{SchedulerStep}
@@ -31,6 +31,10 @@ takes_bound s (entry ∷ rest) t few =
     let here = filtered_count-bound (λ p. is_task t (task_on next p) && not (is_task t (task_on s p))) s.processors in
     let both = length-append (taken_between s next t) (processors_of next rest t) in
     omega (arith, later, here, both, few)
+
+-- what is read at the place of the last entry is that entry
+pub read_last : (before now : List Entry) (entry read : Entry) (place : ℕ) → now ≡ before ++ entry ∷ [] → length before ≡ place → read ≡ get_or now place read → read ≡ entry
+read_last before now entry read place pushed at is = is ∙ ap (λ (h : List Entry). get_or h place read) pushed ∙ get_or_push before entry read place at
 
 -- what holds of every core holds before any entry
 pub core_started : (s : State) (history : List Entry) → IsState s → NobodyIsReady s → HasCertificates s → history ≡ [] → IsCore (record { start = s; history = history; links = s; closed = false; spare = 0 })

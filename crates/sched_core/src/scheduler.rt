@@ -151,7 +151,8 @@ impl Core {
         Ok(place as u64)
     }
 
-    /// One entry more, for which there is room.
+    /// One entry more, for which there is room. The orders are those of the entry where it is stored: a reply is long, and
+    /// would be copied to a place of its own to be lent.
     fn enter(&mut self, caller: u32, event: Event)
         requires of_system { IsEventFor self.old.links event }
         requires not_closed { self.old.closed ≡ false }
@@ -160,14 +161,16 @@ impl Core {
         ensures applied { Applied self.old caller event (length self.old.history) self.new }
         ensures valid { IsCore self.new }
     {
+        let place = self.history.len();
         let reply = reply_to(&mut self.links, &event);
-        follow_links(&mut self.rows, &mut self.takes, &self.links, &event, &reply);
         self.history.push_reserved(Entry {
             caller,
             event,
             reply,
         });
         self.spare -= 1;
+        let Entry { event, reply, .. } = &self.history[place];
+        follow_links(&mut self.rows, &mut self.takes, &self.links, event, reply);
     }
 
     /// Closes the core, for which it takes no memory. Where it was closed, nothing changes.

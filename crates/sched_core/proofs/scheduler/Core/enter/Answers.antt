@@ -10,14 +10,17 @@ use Rattle.certificate_laws.proofs.Kept.{step_has_justification}
 use Rattle.sched_core.specs.CoreData.{CoreData, IsCore, Applied, entry_of, max_entries}
 use Rattle.sched_core.specs.CoreView.{core_view}
 use Rattle.certificate_laws.specs.Touched.{touched}
-use Rattle.sched_core.specs.CoreRows.{row_at}
+use Rattle.sched_core.specs.CoreRows.{row_at, RowsFollow}
 use Rattle.sched_core.proofs.StepTouches.{step_stays_outside, tick_has_no_chain}
-use Rattle.sched_core.proofs.CoreEntered.{takes_bound, core_entered, core_orders-open, orders_entered, takes_entered}
+use Rattle.sched_core.proofs.CoreEntered.{takes_bound, read_last, core_entered, core_orders-open, orders_entered, takes_entered}
 use Rattle.link_state.proofs.SameTasks.{same_tasks-step}
 use Rattle.sched_core.proofs.scheduler.Core.enter.Goals as goal
 
 pub follow_links-requires-clause-can : goal.follow_links-requires-clause-can
 follow_links-requires-clause-can c =
+    let entry = entry_of c.args.caller c.args.event c.reply_to-reply.result in
+    let lent = read_last c.self.inside.history.items c.push_reserved.new.self.items entry c.index.result.now c.len-place.result
+    c.push_reserved.ensures.items (sym c.self.inside.history.ok.0 ∙ sym c.len-place.ensures) c.index.ensures in
     let inside = c.self.inside in
     let kept = c.self.invariant in
     let reply = c.reply_to-reply.result in
@@ -26,7 +29,7 @@ follow_links-requires-clause-can c =
     let same = same_tasks-step inside.links c.args.event reply new step in
     let open_before : inside.closed ≡ false = ap (λ (core : CoreData). core.closed) c.self.view_is ∙ c.requires.not_closed in
     let state : IsState new = step_keeps_state inside.links c.args.event reply new kept.core.state step in
-    record {
+    rw lent record {
       state = state;
       below = subst (λ (n : ℕ). All (λ p. p < n) (touched c.args.event reply)) (sym same.processors) (step_stays_outside inside.links c.args.event reply new kept.core.state step).below;
       one_each = kept.rows_count ∙ sym same.processors;
@@ -41,7 +44,11 @@ follow_links-requires-clause-can c =
     }
 
 pub follow_links-requires-clause-outside : goal.follow_links-requires-clause-outside
-follow_links-requires-clause-outside c = λ p fits free.
+follow_links-requires-clause-outside c =
+    let entry = entry_of c.args.caller c.args.event c.reply_to-reply.result in
+    let lent = read_last c.self.inside.history.items c.push_reserved.new.self.items entry c.index.result.now c.len-place.result
+    c.push_reserved.ensures.items (sym c.self.inside.history.ok.0 ∙ sym c.len-place.ensures) c.index.ensures in
+    rw lent λ p fits free.
     let inside = c.self.inside in
     let kept = c.self.invariant in
     let reply = c.reply_to-reply.result in
@@ -59,7 +66,11 @@ follow_links-requires-clause-room c = λ p fits.
     omega (arith, room)
 
 pub follow_links-requires-clause-tick : goal.follow_links-requires-clause-tick
-follow_links-requires-clause-tick c = tick_has_no_chain c.self.inside.links c.args.event c.reply_to-reply.result c.reply_to-reply.new.links c.reply_to-reply.ensures
+follow_links-requires-clause-tick c =
+    let entry = entry_of c.args.caller c.args.event c.reply_to-reply.result in
+    let lent = read_last c.self.inside.history.items c.push_reserved.new.self.items entry c.index.result.now c.len-place.result
+    c.push_reserved.ensures.items (sym c.self.inside.history.ok.0 ∙ sym c.len-place.ensures) c.index.ensures in
+    rw lent (tick_has_no_chain c.self.inside.links c.args.event c.reply_to-reply.result c.reply_to-reply.new.links c.reply_to-reply.ensures)
 
 pub invariant_of-self : goal.invariant_of-self
 invariant_of-self c =
@@ -68,9 +79,12 @@ invariant_of-self c =
     let new = c.reply_to-reply.new.links in
     let step = c.reply_to-reply.ensures in
     let entry = entry_of c.args.caller c.args.event c.reply_to-reply.result in
+    let lent = read_last c.self.inside.history.items c.push_reserved.new.self.items entry c.index.result.now c.len-place.result
+    c.push_reserved.ensures.items (sym c.self.inside.history.ok.0 ∙ sym c.len-place.ensures) c.index.ensures in
     let begin = inside.start in
     let history = inside.history.items in
     let items = c.push_reserved.ensures.items in
+    let rows = subst (λ (e : Entry). RowsFollow inside.rows.items (λ t. get_or inside.takes.items t 0) new e.event c.follow_links.new.rows.items) lent c.follow_links.ensures.rows in
     let now : new ≡ effect_of inside.links entry = reply_gives_new_state inside.links c.args.event c.reply_to-reply.result new step in
     let same = same_tasks-step inside.links c.args.event c.reply_to-reply.result new step in
     let open_before : inside.closed ≡ false = ap (λ (core : CoreData). core.closed) c.self.view_is ∙ c.requires.not_closed in
@@ -83,14 +97,14 @@ invariant_of-self c =
     record {
       core = subst (λ (h : List Entry). IsCore (record { start = begin; history = h; links = new; closed = inside.closed; spare = inside.spare - 1 })) (sym items)
           (core_entered (core_view inside) entry new (inside.spare - 1) kept.core step space);
-      rows_count = c.follow_links.ensures.rows.count ∙ kept.rows_count ∙ sym same.processors;
+      rows_count = rows.count ∙ kept.rows_count ∙ sym same.processors;
       takes_count = c.follow_links.ensures.takes.count ∙ kept.takes_count ∙ sym (ap length same.priorities);
       orders = λ p fits.
           let below = at_p p fits in
           orders_entered begin history entry inside.links new p (λ t. get_or inside.takes.items t 0) (row_at inside.rows.items p) (row_at c.follow_links.new.rows.items p) kept.core.links now
           (λ t on. kept.takes t (at_t t (linked_number new p t state on)))
           (kept.orders p below ∙ core_orders-open (core_view inside) p open_before)
-          (kept.rows_open open_before p below).held (c.follow_links.ensures.rows.each p (in_rows p below))
+          (kept.rows_open open_before p below).held (rows.each p (in_rows p below))
           ∙ ap (λ (h : List Entry). orders_of begin h p) (sym items)
           ∙ sym (core_orders-open (record { start = begin; history = c.push_reserved.new.self.items; links = new; closed = inside.closed; spare = inside.spare - 1 }) p open_before);
       takes = λ t fits.
@@ -100,7 +114,7 @@ invariant_of-self c =
           ∙ ap (λ (h : List Entry). length (processors_of begin h t)) (sym items);
       rows_open = λ still p fits.
           let below = at_p p fits in
-          let follows = c.follow_links.ensures.rows.each p (in_rows p below) in
+          let follows = rows.each p (in_rows p below) in
           record {
             held = follows.held;
             room = omega (arith, follows.room, (kept.rows_open open_before p below).room, some_spare);
