@@ -18,7 +18,7 @@ struct Replies {
 }
 
 impl Replies {
-    /// Counts a reply, where it is one of these.
+    /// Counts a reply, where it is one of these. It does so without a jump: nobody can guess which reply comes next.
     fn note(&mut self, reply: &Reply)
         requires displaced { self.old.displaced < 20000 }
         requires waits { self.old.waits < 20000 }
@@ -26,11 +26,8 @@ impl Replies {
             ≡ self.old.displaced + (if displaces reply.now then 1 else 0) }
         ensures waits { self.new.waits ≡ self.old.waits + (if makes_wait reply.now then 1 else 0) }
     {
-        match reply {
-            Reply::Displaced { .. } => self.displaced += 1,
-            Reply::Waits { .. } => self.waits += 1,
-            _ => {}
-        }
+        self.displaced += u32::from(matches!(reply, Reply::Displaced { .. }));
+        self.waits += u32::from(matches!(reply, Reply::Waits { .. }));
     }
 }
 
