@@ -1,5 +1,5 @@
 -- One step of the reader. Private: the contracts of this crate's own functions.
-use Rattle.std.specs.Prelude.{◌≡◌, ◌⊎◌, ◌≤◌, ℕ, List, ◌∷◌, ◌++◌, [], Contains, Result, IfOk, IfErr}
+use Rattle.std.specs.Prelude.{◌≡◌, true, false, ◌⊎◌, ◌≤◌, ℕ, List, ◌∷◌, ◌++◌, [], Contains, Result, IfOk, IfErr}
 use Rattle.job_text.specs.JobText.{Progress, HeaderExpected, ProcessorsExpected, HorizonExpected, Listed, Ended, Outcome, Fails, TaskLine, IsJobText, IsJobRefused}
 use Rattle.job_text.specs.JobInput.{JobInputData, IsJobInput}
 use Rattle.job_text.specs.declared.fault.JobFault.{JobFault}
@@ -14,8 +14,8 @@ abbrev pub progress_of : Stage → Progress
 progress_of stage.HeaderExpected = HeaderExpected
 progress_of stage.ProcessorsExpected = ProcessorsExpected
 progress_of (stage.HorizonExpected m) = HorizonExpected m
-progress_of (stage.Listed horizon set jobs) = Listed (record { set = set; horizon = horizon; jobs = jobs.items })
-progress_of (stage.Ended horizon set jobs) = Ended (record { set = set; horizon = horizon; jobs = jobs.items })
+progress_of (stage.Listed horizon set jobs false) = Listed (record { set = set; horizon = horizon; jobs = jobs.items })
+progress_of (stage.Listed horizon set jobs true) = Ended (record { set = set; horizon = horizon; jobs = jobs.items })
 
 -- what was listed so far is an input
 abbrev pub IsValid : Progress → Type 0

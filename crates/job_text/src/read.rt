@@ -37,10 +37,10 @@ fn read_lines(alloc: Global, bytes: &[u8]) -> Result<JobInput, JobFault>
     let mut line = 1;
     while !rest.is_empty() {
         let (text, after) = first_line(rest);
-        stage = match stage.after_line(alloc, text, &mut room) {
-            Ok(next) => next,
+        match stage.after_line(alloc, text, &mut room) {
+            Ok(()) => {}
             Err(kind) => return Err(JobFault { line, kind }),
-        };
+        }
         rest = after;
         line += 1;
     }

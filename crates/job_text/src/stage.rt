@@ -2,7 +2,7 @@
 ghost use Rattle.std.specs.Prelude.{◌≡◌, ◌≢◌, ℕ, ◌≤◌, ◌↔◌, ◌⊎◌, ◌<◌, ◌+◌, IsTrue, List, [], ◌∷◌, ◌++◌, length, IfOk, IfErr, OnOk, MatchOption, All};
 ghost use Rattle.job_text.specs.Jobs.{total_jobs};
 ghost use Rattle.job_text.specs.JobInput.{JobInputData, IsJobInput};
-ghost use Rattle.job_text.specs.JobText.{IsWorded, IsTaskOutcome, IsListedOutcome, IsOutcome, IsLineOutcome, Leads, HeaderExpected, ProcessorsExpected, HorizonExpected, Ended, end_line};
+ghost use Rattle.job_text.specs.JobText.{IsWorded, IsTaskOutcome, IsListedOutcome, IsOutcome, IsLineOutcome, Leads, HeaderExpected, ProcessorsExpected, HorizonExpected, Listed, Ended, end_line};
 ghost use Rattle.job_text.specs.Reading.{progress_of, line_of, IsValid, IsRefusedBy};
 ghost use Rattle.text_fields.specs.Fields.{texts};
 ghost use Rattle.job_text.specs.declared.input.JobTask.{JobTask};
@@ -35,33 +35,28 @@ pub enum Stage {
         processors: u8,
     },
 
-    /// Tasks, then the end are expected.
+    /// Tasks, then the end are expected, or the end came.
     Listed {
         horizon: u32,
         set: TaskSet,
         jobs: Vec<JobTask>,
-    },
-
-    /// The end came.
-    Ended {
-        horizon: u32,
-        set: TaskSet,
-        jobs: Vec<JobTask>,
+        is_ended: bool,
     },
 }
 
 impl Stage {
-    /// What is expected after one more line. The room is for its fields.
+    /// Goes on by one more line. The room is for its fields. After an `Err` the stage is not used again.
     pub fn after_line<'a>(
-        self,
+        &mut self,
         alloc: Global,
         line: &'a [u8],
         room: &mut Vec<&'a [u8]>,
-    ) -> Result<Stage, JobKind>
-        requires { IsValid (progress_of self) }
-        ensures read { IfOk result (λ next. IsLineOutcome (progress_of self) line.now
-            (Leads (progress_of next))) }
-        ensures refused { IfErr result (IsRefusedBy (IsLineOutcome (progress_of self) line.now)) }
+    ) -> Result<(), JobKind>
+        requires { IsValid (progress_of self.old) }
+        ensures read { OnOk result (IsLineOutcome (progress_of self.old) line.now
+            (Leads (progress_of self.new))) }
+        ensures refused { IfErr result (IsRefusedBy (IsLineOutcome (progress_of self.old)
+            line.now)) }
     {
         if !is_plain(line) {
             return Err(JobKind::BadByte);
@@ -71,7 +66,7 @@ impl Stage {
         }
         let fields = fields(line, room)?;
         if is_comment(fields) {
-            Ok(self)
+            Ok(())
         } else {
             self.after(alloc, fields)
         }
@@ -85,25 +80,54 @@ impl Stage {
             (λ input. progress_of self ≡ Ended input) }
     {
         match self {
-            Stage::Ended { horizon, set, jobs } => Some(JobInput::new(set, horizon, jobs)),
+            Stage::Listed {
+                horizon,
+                set,
+                jobs,
+                is_ended: true,
+            } => Some(JobInput::new(set, horizon, jobs)),
             _ => None,
         }
     }
 
-    /// What is expected after a line that is not skipped, by its fields.
-    fn after(self, alloc: Global, fields: &[&[u8]]) -> Result<Stage, JobKind>
-        requires { IsValid (progress_of self) }
-        ensures read { IfOk result (λ next. IsOutcome (progress_of self) (texts fields.now)
-            (Leads (progress_of next))) }
-        ensures refused { IfErr result (IsRefusedBy (IsOutcome (progress_of self)
+    /// Goes on by a line that is not skipped, by its fields.
+    fn after(&mut self, alloc: Global, fields: &[&[u8]]) -> Result<(), JobKind>
+        requires { IsValid (progress_of self.old) }
+        ensures read { OnOk result (IsOutcome (progress_of self.old) (texts fields.now)
+            (Leads (progress_of self.new))) }
+        ensures refused { IfErr result (IsRefusedBy (IsOutcome (progress_of self.old)
             (texts fields.now))) }
     {
         match self {
-            Stage::HeaderExpected => read_header(fields),
-            Stage::ProcessorsExpected => read_processors(fields),
-            Stage::HorizonExpected { processors } => start(alloc, processors, fields),
-            Stage::Listed { horizon, set, jobs } => read_listed(horizon, set, jobs, fields),
-            Stage::Ended { .. } => Err(JobKind::AfterEnd),
+            Stage::HeaderExpected => {
+                read_header(fields)?;
+                *self = Stage::ProcessorsExpected;
+                Ok(())
+            }
+            Stage::ProcessorsExpected => {
+                let processors = read_processors(fields)?;
+                *self = Stage::HorizonExpected { processors };
+                Ok(())
+            }
+            Stage::HorizonExpected { processors } => {
+                *self = start(alloc, *processors, fields)?;
+                Ok(())
+            }
+            Stage::Listed {
+                horizon,
+                set,
+                jobs,
+                is_ended,
+            } => {
+                if *is_ended {
+                    Err(JobKind::AfterEnd)
+                } else if is_end(fields) {
+                    *is_ended = true;
+                    Ok(())
+                } else {
+                    read_task(*horizon, set, jobs, fields)
+                }
+            }
         }
     }
 }
@@ -121,28 +145,26 @@ fn read_worded(fields: &[&[u8]], word: &str, least: u64, most: u64) -> Option<u6
 }
 
 /// Reads the header.
-fn read_header(fields: &[&[u8]]) -> Result<Stage, JobKind>
-    ensures read { IfOk result (λ next. IsOutcome HeaderExpected (texts fields.now)
-        (Leads (progress_of next))) }
+fn read_header(fields: &[&[u8]]) -> Result<(), JobKind>
+    ensures read { OnOk result (IsOutcome HeaderExpected (texts fields.now)
+        (Leads ProcessorsExpected)) }
     ensures refused { IfErr result (IsRefusedBy (IsOutcome HeaderExpected (texts fields.now))) }
 {
     match read_worded(fields, "jobs", FIRST_VERSION as u64, FIRST_VERSION as u64) {
-        Some(_) => Ok(Stage::ProcessorsExpected),
+        Some(_) => Ok(()),
         None => Err(JobKind::BadHeader),
     }
 }
 
 /// Reads how many processors there are.
-fn read_processors(fields: &[&[u8]]) -> Result<Stage, JobKind>
-    ensures read { IfOk result (λ next. IsOutcome ProcessorsExpected (texts fields.now)
-        (Leads (progress_of next))) }
+fn read_processors(fields: &[&[u8]]) -> Result<u8, JobKind>
+    ensures read { IfOk result (λ processors. IsOutcome ProcessorsExpected (texts fields.now)
+        (Leads (HorizonExpected processors))) }
     ensures refused { IfErr result (IsRefusedBy (IsOutcome ProcessorsExpected
         (texts fields.now))) }
 {
     match read_worded(fields, "processors", 1, MAX_PROCESSORS) {
-        Some(processors) => Ok(Stage::HorizonExpected {
-            processors: processors as u8,
-        }),
+        Some(processors) => Ok(processors as u8),
         None => Err(JobKind::BadProcessors),
     }
 }
@@ -163,26 +185,30 @@ fn start(alloc: Global, processors: u8, fields: &[&[u8]]) -> Result<Stage, JobKi
         horizon: horizon as u32,
         set,
         jobs: Vec::new(alloc),
+        is_ended: false,
     })
 }
 
-/// Reads a task or the end after what was listed.
-fn read_listed(
+/// Reads a task, which is listed after the others.
+fn read_task(
     horizon: u32,
-    set: TaskSet,
-    jobs: Vec<JobTask>,
+    set: &mut TaskSet,
+    jobs: &mut Vec<JobTask>,
     fields: &[&[u8]],
-) -> Result<Stage, JobKind>
-    requires { IsJobInput (record { set = set; horizon = horizon; jobs = jobs.items }) }
-    ensures read { IfOk result (λ next. IsListedOutcome
-        (record { set = set; horizon = horizon; jobs = jobs.items }) (texts fields.now)
-        (Leads (progress_of next))) }
+) -> Result<(), JobKind>
+    requires listed { IsJobInput (record {
+      set = set.old;
+      horizon = horizon;
+      jobs = jobs.old.items;
+    }) }
+    requires end { texts fields.now ≢ end_line }
+    ensures read { OnOk result (IsListedOutcome
+        (record { set = set.old; horizon = horizon; jobs = jobs.old.items }) (texts fields.now)
+        (Leads (Listed (record { set = set.new; horizon = horizon; jobs = jobs.new.items })))) }
     ensures refused { IfErr result (IsRefusedBy (IsListedOutcome
-        (record { set = set; horizon = horizon; jobs = jobs.items }) (texts fields.now))) }
+        (record { set = set.old; horizon = horizon; jobs = jobs.old.items })
+        (texts fields.now))) }
 {
-    if is_end(fields) {
-        return Ok(Stage::Ended { horizon, set, jobs });
-    }
     match TaskForm::read(fields) {
         Some(form) => list_task(horizon, set, jobs, &form),
         None => Err(JobKind::BadTask),
@@ -202,30 +228,35 @@ fn is_end(fields: &[&[u8]]) -> bool
 /// Lists the task of a line.
 fn list_task(
     horizon: u32,
-    mut set: TaskSet,
-    mut jobs: Vec<JobTask>,
+    set: &mut TaskSet,
+    jobs: &mut Vec<JobTask>,
     form: &TaskForm,
-) -> Result<Stage, JobKind>
-    requires listed { IsJobInput (record { set = set; horizon = horizon; jobs = jobs.items }) }
+) -> Result<(), JobKind>
+    requires listed { IsJobInput (record {
+      set = set.old;
+      horizon = horizon;
+      jobs = jobs.old.items;
+    }) }
     requires period { 1 ≤ form.now.job.period }
-    ensures read { IfOk result (λ next. IsTaskOutcome
-        (record { set = set; horizon = horizon; jobs = jobs.items }) (line_of form.now)
-        (Leads (progress_of next))) }
+    ensures read { OnOk result (IsTaskOutcome
+        (record { set = set.old; horizon = horizon; jobs = jobs.old.items }) (line_of form.now)
+        (Leads (Listed (record { set = set.new; horizon = horizon; jobs = jobs.new.items })))) }
     ensures refused { IfErr result (IsRefusedBy (IsTaskOutcome
-        (record { set = set; horizon = horizon; jobs = jobs.items }) (line_of form.now))) }
+        (record { set = set.old; horizon = horizon; jobs = jobs.old.items })
+        (line_of form.now))) }
 {
     let mask = ProcSet::read_list(form.list)?;
     let Ok(name) = str::from_utf8(form.name) else {
         return Err(JobKind::TaskRefused(TaskFault::BadName));
     };
     set.add(name, form.priority, mask)?;
-    if jobs_of_all(horizon, &jobs) + form.job.count(horizon) as u64 > MAX_JOBS {
+    if jobs_of_all(horizon, jobs) + form.job.count(horizon) as u64 > MAX_JOBS {
         return Err(JobKind::ManyJobs);
     }
     if jobs.push(form.job).is_err() {
         return Err(JobKind::OutOfMemory);
     }
-    Ok(Stage::Listed { horizon, set, jobs })
+    Ok(())
 }
 
 /// How many jobs there are below the horizon.

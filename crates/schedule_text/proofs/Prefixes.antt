@@ -22,6 +22,7 @@ use Rattle.schedule_text.specs.declared.fault.TextKind.TheVariants.{Short, After
 use Rattle.schedule_text.specs.declared.fault.TextFault.{TextFault}
 use Rattle.schedule_text.specs.declared.stage.Stage.{Stage}
 use Rattle.schedule_text.specs.declared.stage.Stage.TheVariants as stages
+use Rattle.schedule_text.specs.declared.stage.Listing.TheVariants as listings
 use Rattle.schedule_text.specs.declared.stage.Reached.TheVariants.{End}
 use Rattle.schedule_text.specs.Reading.{progress_of, progress_after, IsAnswerTo, Leads, LeadsTasks, LeadsEntries, LeadsContexts}
 
@@ -119,9 +120,9 @@ no_tasks m range = record {
 pub unended : (stage : Stage) → IsUnended (progress_of stage)
 unended stages.HeaderExpected = tt
 unended (stages.ProcessorsExpected version) = tt
-unended (stages.TasksExpected version set) = tt
-unended (stages.EntriesExpected version set count entries) = tt
-unended (stages.ContextsExpected version set entries contexts) = tt
+unended (stages.Listed version set entries contexts listings.Tasks) = tt
+unended (stages.Listed version set entries contexts (listings.Entries count)) = tt
+unended (stages.Listed version set entries contexts listings.Contexts) = tt
 
 -- a line leads to a prefix
 pub leads_prefix : (expected : Progress) (text : List ℕ) (next : Progress) → IsPrefix expected
@@ -220,12 +221,13 @@ never_start (Ended version set entries contexts) text step = step
 -- a last line leads to a whole schedule
 pub leads_whole : (expected : Progress) (text : List ℕ) (next : Stage) → IsPrefix expected
     → Leads expected text (progress_after End next) → IsWholePrefix (progress_after End next)
-leads_whole expected text (stages.ContextsExpected version set entries contexts) prefix step =
+leads_whole expected text (stages.Listed version set entries contexts listings.Contexts) prefix step =
     leads_prefix expected text (Ended version set entries.items contexts.items) prefix step
 leads_whole expected text stages.HeaderExpected prefix step = never_start expected text step
 leads_whole expected text (stages.ProcessorsExpected version) prefix step = never_start expected text step
-leads_whole expected text (stages.TasksExpected version set) prefix step = never_start expected text step
-leads_whole expected text (stages.EntriesExpected version set count entries) prefix step =
+leads_whole expected text (stages.Listed version set entries contexts listings.Tasks) prefix step =
+    never_start expected text step
+leads_whole expected text (stages.Listed version set entries contexts (listings.Entries count)) prefix step =
     never_start expected text step
 
 -- ---- what was read

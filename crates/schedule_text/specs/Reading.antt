@@ -15,6 +15,7 @@ use Rattle.schedule_text.specs.declared.fault.TextKind.{TextKind}
 use Rattle.schedule_text.specs.declared.fault.TextKind.TheVariants.{OutOfMemory}
 use Rattle.schedule_text.specs.declared.stage.Stage.{Stage}
 use Rattle.schedule_text.specs.declared.stage.Stage.TheVariants as stage
+use Rattle.schedule_text.specs.declared.stage.Listing.TheVariants as listing
 use Rattle.schedule_text.specs.declared.stage.Reached.{Reached}
 use Rattle.schedule_text.specs.declared.stage.Reached.TheVariants as reached
 
@@ -28,16 +29,16 @@ IsOutOfMemory kind = kind ≡ OutOfMemory
 abbrev pub progress_of : Stage → Progress
 progress_of stage.HeaderExpected = HeaderExpected
 progress_of (stage.ProcessorsExpected version) = ProcessorsExpected version
-progress_of (stage.TasksExpected version set) = TasksExpected version set
-progress_of (stage.EntriesExpected version set count entries) =
+progress_of (stage.Listed version set entries contexts listing.Tasks) = TasksExpected version set
+progress_of (stage.Listed version set entries contexts (listing.Entries count)) =
     EntriesExpected version set count entries.items
-progress_of (stage.ContextsExpected version set entries contexts) =
+progress_of (stage.Listed version set entries contexts listing.Contexts) =
     ContextsExpected version set entries.items contexts.items
 
 -- what is expected after a line that more follow, and after the last one; the end comes after contexts alone
 abbrev pub progress_after : Reached → Stage → Progress
 progress_after reached.Expected next = progress_of next
-progress_after reached.End (stage.ContextsExpected version set entries contexts) =
+progress_after reached.End (stage.Listed version set entries contexts listing.Contexts) =
     Ended version set entries.items contexts.items
 progress_after reached.End _ = HeaderExpected
 

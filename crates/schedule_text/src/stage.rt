@@ -15,7 +15,6 @@ use crate::line::{add_task, is_numbered, read_context};
 use crate::schedule::{MAX_ENTRIES, Schedule};
 use scheduler_reply::Entry;
 use std::alloc::Global;
-use std::mem;
 use task_set::{Context, TaskSet};
 use text_fields::is_word;
 use text_fields::limits::{FIRST_VERSION, LAST_VERSION, MAX_PROCESSORS};
@@ -31,27 +30,27 @@ pub enum Stage {
         version: u8,
     },
 
-    /// Tasks, and then the number of entries, are expected.
-    TasksExpected {
-        version: u8,
-        set: TaskSet,
-    },
-
-    /// Entries up to a count, and then the number of contexts, are expected.
-    EntriesExpected {
-        version: u8,
-        set: TaskSet,
-        count: u64,
-        entries: Vec<Entry>,
-    },
-
-    /// Contexts, one for each task, and then the end are expected.
-    ContextsExpected {
+    /// One of the lists goes on. Those that come after it are not looked at before they begin.
+    Listed {
         version: u8,
         set: TaskSet,
         entries: Vec<Entry>,
         contexts: Vec<Context>,
+        list: Listing,
     },
+}
+
+/// Which list goes on.
+#[derive(Clone, Copy)]
+pub enum Listing {
+    /// Tasks, and then the number of entries, are expected.
+    Tasks,
+
+    /// Entries up to a count, and then the number of contexts, are expected.
+    Entries { count: u64 },
+
+    /// Contexts, one for each task, and then the end are expected.
+    Contexts,
 }
 
 /// What came with a line.
@@ -90,71 +89,39 @@ impl Stage {
                 start(self, alloc, version, text, room)?;
                 Ok(Reached::Expected)
             }
-            Stage::TasksExpected { set, .. } => {
-                if let Some(count) = read_task(set, text, room)? {
-                    self.begin_entries(alloc, count);
-                }
-                Ok(Reached::Expected)
-            }
-            Stage::EntriesExpected {
+            Stage::Listed {
                 version,
                 set,
-                count,
                 entries,
-            } => {
-                if (entries.len() as u64) < *count {
-                    list_entry(*version, set, entries, text, room)?;
-                } else {
-                    judge_count(alloc, set, text)?;
-                    self.begin_contexts(alloc);
-                }
-                Ok(Reached::Expected)
-            }
-            Stage::ContextsExpected { set, contexts, .. } => {
-                if contexts.len() < set.len() as usize {
-                    list_context(set, contexts, text, room)?;
+                contexts,
+                list,
+            } => match *list {
+                Listing::Tasks => {
+                    if let Some(count) = read_task(set, text, room)? {
+                        entries.clear();
+                        *list = Listing::Entries { count };
+                    }
                     Ok(Reached::Expected)
-                } else {
-                    judge_end(text)
                 }
-            }
-        }
-    }
-
-    /// The tasks are all listed, and so many entries come.
-    fn begin_entries(&mut self, alloc: Global, count: u64)
-        ensures { (version : ℕ) (set : SetData) → progress_of self.old ≡ TasksExpected version set
-            → progress_of self.new ≡ EntriesExpected version set count [] }
-    {
-        if let Stage::TasksExpected { version, set } = mem::replace(self, Stage::HeaderExpected) {
-            *self = Stage::EntriesExpected {
-                version,
-                set,
-                count,
-                entries: Vec::new(alloc),
-            };
-        }
-    }
-
-    /// The entries are all listed, and the contexts come.
-    fn begin_contexts(&mut self, alloc: Global)
-        ensures { (version : ℕ) (set : SetData) (count : ℕ) (entries : List Entry)
-            → progress_of self.old ≡ EntriesExpected version set count entries
-            → progress_of self.new ≡ ContextsExpected version set entries [] }
-    {
-        if let Stage::EntriesExpected {
-            version,
-            set,
-            entries,
-            ..
-        } = mem::replace(self, Stage::HeaderExpected)
-        {
-            *self = Stage::ContextsExpected {
-                version,
-                set,
-                entries,
-                contexts: Vec::new(alloc),
-            };
+                Listing::Entries { count } => {
+                    if (entries.len() as u64) < count {
+                        list_entry(*version, set, entries, text, room)?;
+                    } else {
+                        judge_count(alloc, set, text)?;
+                        contexts.clear();
+                        *list = Listing::Contexts;
+                    }
+                    Ok(Reached::Expected)
+                }
+                Listing::Contexts => {
+                    if contexts.len() < set.len() as usize {
+                        list_context(set, contexts, text, room)?;
+                        Ok(Reached::Expected)
+                    } else {
+                        judge_end(text)
+                    }
+                }
+            },
         }
     }
 
@@ -164,11 +131,12 @@ impl Stage {
         ensures { progress_after Reached.End self ≡ whole result }
     {
         match self {
-            Stage::ContextsExpected {
+            Stage::Listed {
                 version,
                 set,
                 entries,
                 contexts,
+                list: Listing::Contexts,
             } => Schedule::new(version, set, entries, contexts),
             _ => unreachable!(),
         }
@@ -216,7 +184,13 @@ fn start<'a>(
         return Err(TextKind::BadLine);
     };
     let set = TaskSet::new(alloc, processors as u8)?;
-    *stage = Stage::TasksExpected { version, set };
+    *stage = Stage::Listed {
+        version,
+        set,
+        entries: Vec::new(alloc),
+        contexts: Vec::new(alloc),
+        list: Listing::Tasks,
+    };
     Ok(())
 }
 

@@ -22,8 +22,8 @@ use Rattle.trace_reader.specs.LineForms.{IsNameWord, IsPairForm, IsChangeForm, I
 abbrev pub progress_of : Stage → Progress
 progress_of stage.HeaderExpected = HeaderExpected
 progress_of (stage.ProcessorsExpected version) = ProcessorsExpected version
-progress_of (stage.Listed version set events) = Listed version set events.items
-progress_of (stage.Ended version set events) = Ended version set events.items
+progress_of (stage.Listed version set events false) = Listed version set events.items
+progress_of (stage.Listed version set events true) = Ended version set events.items
 
 -- the line of a task that can be added
 pub record SaysTask (fields : List (List ℕ)) (set next : SetData) : Type 0 where

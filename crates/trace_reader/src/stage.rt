@@ -17,7 +17,7 @@ use crate::input::{FIRST_VERSION, Input, LAST_VERSION, MAX_EVENTS, MAX_PRIORITY,
 use crate::posted::Posted;
 use affinity_mask::ProcSet;
 use std::alloc::Global;
-use std::{mem, str};
+use std::str;
 use task_set::{TaskFault, TaskSet};
 use text_fields::{is_word, read_number};
 
@@ -35,18 +35,12 @@ pub enum Stage {
         version: u8,
     },
 
-    /// Tasks, then events, then the end are expected.
+    /// Tasks, then events, then the end are expected, or the end came.
     Listed {
         version: u8,
         set: TaskSet,
         events: Vec<Posted>,
-    },
-
-    /// The end came.
-    Ended {
-        version: u8,
-        set: TaskSet,
-        events: Vec<Posted>,
+        is_ended: bool,
     },
 }
 
@@ -90,10 +84,11 @@ impl Stage {
             (λ input. progress_of self ≡ Ended input.version input.set input.events) }
     {
         match self {
-            Stage::Ended {
+            Stage::Listed {
                 version,
                 set,
                 events,
+                is_ended: true,
             } => Some(Input::new(version, set, events)),
             _ => None,
         }
@@ -109,7 +104,8 @@ impl Stage {
     {
         match self {
             Stage::HeaderExpected => {
-                *self = read_header(fields)?;
+                let version = read_header(fields)?;
+                *self = Stage::ProcessorsExpected { version };
                 Ok(())
             }
             Stage::ProcessorsExpected { version } => {
@@ -120,9 +116,12 @@ impl Stage {
                 version,
                 set,
                 events,
+                is_ended,
             } => {
-                if is_end(fields) {
-                    self.end();
+                if *is_ended {
+                    Err(InputKind::AfterEnd)
+                } else if is_end(fields) {
+                    *is_ended = true;
                     Ok(())
                 } else if is_for_task(events, fields) {
                     add_task(*version, set, fields)
@@ -130,41 +129,17 @@ impl Stage {
                     list_event(*version, set, events, fields)
                 }
             }
-            Stage::Ended { .. } => Err(InputKind::AfterEnd),
-        }
-    }
-
-    /// What is listed is all, and the end came.
-    fn end(&mut self)
-        ensures { (version : ℕ) (set : SetData) (events : List Posted)
-            → progress_of self.old ≡ Listed version set events
-            → progress_of self.new ≡ Ended version set events }
-    {
-        if let Stage::Listed {
-            version,
-            set,
-            events,
-        } = mem::replace(self, Stage::HeaderExpected)
-        {
-            *self = Stage::Ended {
-                version,
-                set,
-                events,
-            };
         }
     }
 }
 
 /// Reads the header.
-fn read_header(fields: &[&[u8]]) -> Result<Stage, InputKind>
-    ensures read { IfOk result (λ next. Says HeaderExpected (texts fields.now)
-        (progress_of next)) }
+fn read_header(fields: &[&[u8]]) -> Result<u8, InputKind>
+    ensures read { IfOk result (λ version. Says HeaderExpected (texts fields.now)
+        (ProcessorsExpected version)) }
     ensures refused { IfErr result (IsFieldsFault HeaderExpected (texts fields.now)) }
 {
-    match read_version(fields) {
-        Some(version) => Ok(Stage::ProcessorsExpected { version }),
-        None => Err(InputKind::BadHeader),
-    }
+    read_version(fields).ok_or(InputKind::BadHeader)
 }
 
 /// Which version a header says.
@@ -216,6 +191,7 @@ fn start(alloc: Global, version: u8, fields: &[&[u8]]) -> Result<Stage, InputKin
         version,
         set,
         events,
+        is_ended: false,
     })
 }
 

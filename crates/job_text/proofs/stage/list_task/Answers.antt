@@ -13,15 +13,15 @@ returns-in_default-clause-refused c =
 pub returns-in_err-add-clause-refused : goal.returns-in_err-add-clause-refused
 returns-in_err-add-clause-refused c =
     let p = err_from_is_err_and c.from_residual-in_err-add.result c.from_residual-in_err-add.ensures.1 in
-    rw (p.1, p.2) (task_refused (record { set = c.args.set; horizon = c.args.horizon; jobs = c.args.jobs.items }) (line_of c.args.form.now) c.in-Ok.name.now c.in_ok-mask.mask
+    rw (p.1, p.2) (task_refused (record { set = c.args.set.now; horizon = c.args.horizon; jobs = c.args.jobs.now.items }) (line_of c.args.form.now) c.in-Ok.name.now c.in_ok-mask.mask
     c.in_err-add.field-0.0 c.in-Ok.ensures.cases.0 c.in_ok-mask.ensures.read c.in_err-add.ensures.refused)
 
 pub returns-then-jobs_of_all-count-gt-MAX_JOBS-clause-refused : goal.returns-then-jobs_of_all-count-gt-MAX_JOBS-clause-refused
 returns-then-jobs_of_all-count-gt-MAX_JOBS-clause-refused c =
-    inr (too_many (record { set = c.args.set; horizon = c.args.horizon; jobs = c.args.jobs.items }) (line_of c.args.form.now) c.in-Ok.name.now c.in_ok-mask.mask _ c.add.new.self
+    inr (too_many (record { set = c.args.set.now; horizon = c.args.horizon; jobs = c.args.jobs.now.items }) (line_of c.args.form.now) c.in-Ok.name.now c.in_ok-mask.mask _ c.add.new.self
     c.in-Ok.ensures.cases.0 c.in_ok-mask.ensures.read c.in_ok-add.ensures.added (search (rules, arith)))
 
 pub returns-clause-read : goal.returns-clause-read
 returns-clause-read c =
-    task_listed (record { set = c.args.set; horizon = c.args.horizon; jobs = c.args.jobs.items }) (line_of c.args.form.now) c.in-Ok.name.now c.in_ok-mask.mask _ c.add.new.self
+    task_listed (record { set = c.args.set.now; horizon = c.args.horizon; jobs = c.args.jobs.now.items }) (line_of c.args.form.now) c.in-Ok.name.now c.in_ok-mask.mask _ c.add.new.self
     c.in-Ok.ensures.cases.0 c.in_ok-mask.ensures.read c.in_ok-add.ensures.added (search (rules, arith)) c.push.new.self.items (search rules)

@@ -3,15 +3,18 @@ use Rattle.trace_reader.proofs.stage.Stage.into_input.Goals as goal
 
 pub new-requires-clause-version : goal.new-requires-clause-version
 new-requires-clause-version c =
-    let expects = rw c.in-Ended.is at c.requires in
-    version_of_body c.in-Ended.version expects.1.0 c.in-Ended.set c.in-Ended.events.items expects.1.2
+    let ended = c.in-Listed-default-default-default-true in
+    let expects = rw ended.is_ended-test at (rw ended.is at c.requires) in
+    version_of_body ended.version expects.1.0 ended.set ended.events.items expects.1.2
 
 pub new-requires-clause-events : goal.new-requires-clause-events
 new-requires-clause-events c =
-    let expects = rw c.in-Ended.is at c.requires in
-    posted_of_body c.in-Ended.version expects.1.0 c.in-Ended.set c.in-Ended.events.items expects.1.2
+    let ended = c.in-Listed-default-default-default-true in
+    let expects = rw ended.is_ended-test at (rw ended.is at c.requires) in
+    posted_of_body ended.version expects.1.0 ended.set ended.events.items expects.1.2
 
 pub new-requires-clause-of_version : goal.new-requires-clause-of_version
 new-requires-clause-of_version c =
-    let expects = rw c.in-Ended.is at c.requires in
-    of_version_of_body c.in-Ended.version expects.1.0 c.in-Ended.set c.in-Ended.events.items expects.1.2
+    let ended = c.in-Listed-default-default-default-true in
+    let expects = rw ended.is_ended-test at (rw ended.is at c.requires) in
+    of_version_of_body ended.version expects.1.0 ended.set ended.events.items expects.1.2
