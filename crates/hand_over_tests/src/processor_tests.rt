@@ -7,7 +7,9 @@ ghost use Rattle.order_queues.specs.Ends.{QueueData};
 ghost use Rattle.context_slots.specs.Hands.{AreAll, new_hand};
 ghost use Rattle.processor_seat.specs.Stepping.{ProcessorData, IsInStep, IsSameSeat};
 
-use affinity_mask::{OutOfMemory, ProcSet};
+use crate::queue_tests::{holder_after, is_stop};
+use crate::slot_tests::{contexts, two_tasks};
+use affinity_mask::OutOfMemory;
 use context_slots::{Hand, Slots};
 use order_queues::{Eye, Queue, Sender};
 use processor_seat::{Gate, OpenGate, Processor, Step};
@@ -85,22 +87,6 @@ fn may_come(held: Option<u32>, order: Order) -> bool
         (Some(_), Order::Run(_)) => true,
         _ => false,
     }
-}
-
-fn holder_after(held: Option<u32>, order: Order) -> Option<u32>
-    ensures { result ≡ held_after held order }
-{
-    match order {
-        Order::Take { task, .. } => Some(task),
-        Order::Release(_) => None,
-        _ => held,
-    }
-}
-
-fn is_stop(order: Order) -> bool
-    ensures { result ≡ false → order ≢ Stop }
-{
-    matches!(order, Order::Stop)
 }
 
 /// A processor with its queue and the sending end.
@@ -184,16 +170,6 @@ impl Seat {
     }
 }
 
-/// The contexts in the end.
-fn contexts(alloc: Global, slots: Slots, hands: Vec<Hand>) -> Result<Vec<Context>, Fail>
-    requires { AreAll slots hands.items }
-{
-    match slots.close(alloc, hands) {
-        Ok(contexts) => Ok(contexts),
-        Err(_unclosed) => Err(Fail::new("out of memory")),
-    }
-}
-
 /// The contexts in the end, of two hands that hold nothing.
 fn contexts_of_two(
     rt: &impl Abort,
@@ -213,25 +189,6 @@ fn contexts_of_two(
     contexts(alloc, slots, hands)
 }
 
-/// One task more, on the first processors.
-fn add_task(set: &mut TaskSet, name: &str, priority: u32, processors: u8) -> Result<(), Fail>
-    requires { processors ≤ 64 }
-{
-    set.add(name, priority, ProcSet::first(processors))?;
-    Ok(())
-}
-
-/// A set of two tasks on two processors.
-fn two_tasks(rt: &impl Abort, alloc: Global) -> Result<TaskSet, Fail>
-    ensures { IfOk result (λ set. (length set.tasks ≡ 2) × (set.processors ≡ 2)) }
-{
-    let mut set = TaskSet::new(alloc, 2)?;
-    add_task(&mut set, "a", 1, 2)?;
-    add_task(&mut set, "b", 2, 1)?;
-    assert!(rt; set.len() == 2 && set.processors() == 2);
-    Ok(set)
-}
-
 /// Slots for two processors, with their hands.
 fn two_hands(alloc: Global, set: &TaskSet) -> Result<(Slots, Hand, Hand), OutOfMemory>
     requires { set.now.processors ≡ 2 }
@@ -244,7 +201,47 @@ fn two_hands(alloc: Global, set: &TaskSet) -> Result<(Slots, Hand, Hand), OutOfM
     Ok((slots, hand_0, hand_1))
 }
 
+/// Two processors that received nothing.
+fn two_seats(
+    alloc: Global,
+    slots: &Slots,
+    hand_0: Hand,
+    hand_1: Hand,
+) -> Result<(Seat, Seat), OutOfMemory>
+    requires hand_0 { hand_0 ≡ new_hand slots.now.id 0 }
+    requires hand_1 { hand_1 ≡ new_hand slots.now.id 1 }
+    ensures first { IfOk result (λ seats. seats.0.hand.slots ≡ slots.now.id) }
+    ensures second { IfOk result (λ seats. seats.1.hand.slots ≡ slots.now.id) }
+{
+    let first = Seat::new(alloc, 0, hand_0, slots)?;
+    let second = Seat::new(alloc, 1, hand_1, slots)?;
+    Ok((first, second))
+}
+
 /// What happens at two processors, one act after the other, each at the processor of this number.
+fn act_in_turn<R: Abort + Wait>(
+    rt: &R,
+    slots: &Slots,
+    first: &mut Seat,
+    second: &mut Seat,
+    acts: &[(u8, Act)],
+)
+    requires first { first.old.hand.slots ≡ slots.now.id }
+    requires second { second.old.hand.slots ≡ slots.now.id }
+    requires tasks { length slots.now.set.tasks ≡ 2 }
+    ensures first { first.new.hand.slots ≡ slots.now.id }
+    ensures second { second.new.hand.slots ≡ slots.now.id }
+{
+    for &(number, act) in acts {
+        if number == 0 {
+            first.act(rt, slots, act);
+        } else {
+            second.act(rt, slots, act);
+        }
+    }
+}
+
+/// The hands of two processors after these acts.
 fn act_all<R: Abort + Wait>(
     rt: &R,
     alloc: Global,
@@ -259,16 +256,23 @@ fn act_all<R: Abort + Wait>(
     ensures hand_0 { IfOk result (λ hands. (hands.0.slots ≡ slots.now.id) × (hands.0.holds ≡ None)) }
     ensures hand_1 { IfOk result (λ hands. (hands.1.slots ≡ slots.now.id) × (hands.1.holds ≡ None)) }
 {
-    let mut first = Seat::new(alloc, 0, hand_0, slots)?;
-    let mut second = Seat::new(alloc, 1, hand_1, slots)?;
-    for &(number, act) in acts {
-        if number == 0 {
-            first.act(rt, slots, act);
-        } else {
-            second.act(rt, slots, act);
-        }
-    }
+    let (mut first, mut second) = two_seats(alloc, slots, hand_0, hand_1)?;
+    act_in_turn(rt, slots, &mut first, &mut second, acts);
     Ok((first.into_hand(rt, slots), second.into_hand(rt, slots)))
+}
+
+/// The contexts after two processors did these acts.
+fn after_acts<R: Abort + Wait>(
+    rt: &R,
+    alloc: Global,
+    set: &TaskSet,
+    acts: &[(u8, Act)],
+) -> Result<Vec<Context>, Fail>
+    requires { (length set.now.tasks ≡ 2) × (set.now.processors ≡ 2) }
+{
+    let (slots, hand_0, hand_1) = two_hands(alloc, set)?;
+    let (hand_0, hand_1) = act_all(rt, alloc, &slots, hand_0, hand_1, acts)?;
+    contexts_of_two(rt, alloc, slots, hand_0, hand_1)
 }
 
 /// Two processors hand the task 0 over. The second one's take is not at its turn before the first one has the task, nor
@@ -302,9 +306,14 @@ fn hand_over() -> [(u8, Act); 18] {
 #[test]
 fn processors_by_calls(rt: HostRuntime) -> Result<(), Fail> {
     let set = two_tasks(&rt, rt.alloc())?;
-    let (slots, hand_0, hand_1) = two_hands(rt.alloc(), &set)?;
-    let (hand_0, hand_1) = act_all(&rt, rt.alloc(), &slots, hand_0, hand_1, &hand_over())?;
-    let contexts = contexts_of_two(&rt, rt.alloc(), slots, hand_0, hand_1)?;
+    check_hand_over(&rt, rt.alloc(), &set)
+}
+
+/// Two processors hand the task 0 over, which leaves these contexts.
+fn check_hand_over<R: Abort + Wait>(rt: &R, alloc: Global, set: &TaskSet) -> Result<(), Fail>
+    requires { (length set.now.tasks ≡ 2) × (set.now.processors ≡ 2) }
+{
+    let contexts = after_acts(rt, alloc, set, &hand_over())?;
     let a = Context {
         task: 0,
         units: 4,
@@ -427,34 +436,33 @@ fn both_worked<R: Threads + Wait + Sync, G: Gate + Sync>(
 /// Two processors hand the task 1 to and fro, each in a thread of its own.
 fn hand_to_and_fro<R: Abort + Threads + Wait + Sync, G: Gate + Sync>(
     rt: &R,
-    alloc: Global,
     slots: &Slots,
     gate: &G,
-    hand_0: Hand,
-    hand_1: Hand,
-) -> Result<(Hand, Hand), OutOfMemory>
-    requires hand_0 { hand_0 ≡ new_hand slots.now.id 0 }
-    requires hand_1 { hand_1 ≡ new_hand slots.now.id 1 }
+    first: Seat,
+    second: Seat,
+) -> (Hand, Hand)
+    requires first { first.hand.slots ≡ slots.now.id }
+    requires second { second.hand.slots ≡ slots.now.id }
     requires tasks { length slots.now.set.tasks ≡ 2 }
-    ensures hand_0 { IfOk result (λ hands. (hands.0.slots ≡ slots.now.id) × (hands.0.holds ≡ None)) }
-    ensures hand_1 { IfOk result (λ hands. (hands.1.slots ≡ slots.now.id) × (hands.1.holds ≡ None)) }
+    ensures hand_0 { (result.0.slots ≡ slots.now.id) × (result.0.holds ≡ None) }
+    ensures hand_1 { (result.1.slots ≡ slots.now.id) × (result.1.holds ≡ None) }
 {
     let Seat {
         queue: queue_0,
         end: mut end_0,
         processor: one,
-    } = Seat::new(alloc, 0, hand_0, slots)?;
+    } = first;
     let Seat {
         queue: queue_1,
         end: mut end_1,
         processor: other,
-    } = Seat::new(alloc, 1, hand_1, slots)?;
+    } = second;
     send_two_stints(rt, &queue_0, &mut end_0, 0, 3);
     send_two_stints(rt, &queue_1, &mut end_1, 1, 5);
     let (one, other) = both_worked(rt, slots, gate, &queue_0, one, &queue_1, other);
     let (hand_0, _receiver_0) = one.finish();
     let (hand_1, _receiver_1) = other.finish();
-    Ok((hand_0, hand_1))
+    (hand_0, hand_1)
 }
 
 /// The contexts after two processors handed the task 1 to and fro.
@@ -467,7 +475,8 @@ fn after_to_and_fro<R: Abort + Threads + Wait + Sync, G: Gate + Sync>(
     requires { (length set.now.tasks ≡ 2) × (set.now.processors ≡ 2) }
 {
     let (slots, hand_0, hand_1) = two_hands(alloc, set)?;
-    let (hand_0, hand_1) = hand_to_and_fro(rt, alloc, &slots, gate, hand_0, hand_1)?;
+    let (first, second) = two_seats(alloc, &slots, hand_0, hand_1)?;
+    let (hand_0, hand_1) = hand_to_and_fro(rt, &slots, gate, first, second);
     contexts_of_two(rt, alloc, slots, hand_0, hand_1)
 }
 
@@ -481,11 +490,22 @@ fn is_after_to_and_fro(contexts: &[Context]) -> bool {
 
 #[test]
 fn task_goes_to_and_fro(rt: HostRuntime) -> Result<(), Fail> {
+    let set = two_tasks(&rt, rt.alloc())?;
+    check_to_and_fro(&rt, rt.alloc(), &set)
+}
+
+/// Two processors hand the task 1 to and fro by four takes, each of which calls the gate once.
+fn check_to_and_fro<R: Abort + Threads + Wait + Sync>(
+    rt: &R,
+    alloc: Global,
+    set: &TaskSet,
+) -> Result<(), Fail>
+    requires { (length set.now.tasks ≡ 2) × (set.now.processors ≡ 2) }
+{
     let gate = Takes {
         count: AtomicU64::new(0),
     };
-    let set = two_tasks(&rt, rt.alloc())?;
-    let contexts = after_to_and_fro(&rt, rt.alloc(), &set, &gate)?;
+    let contexts = after_to_and_fro(rt, alloc, set, &gate)?;
     assert_eq!(rt; contexts.len(), 2);
     assert!(rt; is_after_to_and_fro(&contexts));
     assert_eq!(rt; gate.count.load(Ordering::SeqCst), 4);

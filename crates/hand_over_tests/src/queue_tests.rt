@@ -2,9 +2,10 @@
 ghost use Rattle.std.specs.Prelude.{◌≡◌, ◌≢◌, true, false, [], length, All};
 ghost use Rattle.task_set.specs.declared.order.Order.TheVariants.{Stop};
 ghost use Rattle.task_set.specs.Orders.{IsObeyable, MayCome, NamesTaskBelow, held_after, task_held};
-ghost use Rattle.order_queues.specs.Ends.{SenderData};
+ghost use Rattle.order_queues.specs.Ends.{SenderData, new_sender};
 
 use order_queues::{Eye, QUEUE_ROOM, Queue, Receiver, Sender, settle};
+use std::alloc::{AllocError, Global};
 use std::marker::Model;
 use std::process::Abort;
 use std::sync::Wait;
@@ -16,6 +17,9 @@ use task_set::Order;
 
 /// The orders that one thread sends to the other, `Stop` included.
 const RELAYED: u32 = 100_000;
+
+/// The first order of the tests that send orders by hand.
+const FIRST_TAKE: Order = Order::Take { task: 0, number: 0 };
 
 /// How long a receiver sleeps whom nobody wakes, in seconds. One that is woken is back long before.
 const LONGEST_SLEEP: u64 = 60;
@@ -106,7 +110,7 @@ fn may_come(held: Option<u32>, order: Order) -> bool
     }
 }
 
-fn holder_after(held: Option<u32>, order: Order) -> Option<u32>
+pub(crate) fn holder_after(held: Option<u32>, order: Order) -> Option<u32>
     ensures { result ≡ held_after held order }
 {
     match order {
@@ -116,7 +120,7 @@ fn holder_after(held: Option<u32>, order: Order) -> Option<u32>
     }
 }
 
-fn is_stop(order: Order) -> bool
+pub(crate) fn is_stop(order: Order) -> bool
     ensures { result ≡ false → order ≢ Stop }
 {
     matches!(order, Order::Stop)
@@ -127,56 +131,151 @@ fn queue_by_calls(rt: HostRuntime) -> Result<(), Fail> {
     let (queue, mut sender, mut receiver) = Queue::new(rt.alloc(), 1)?;
     let mut eye = sender.eye(&queue);
     let mut feed = Feed::new(sender);
-    let take = Order::Take { task: 0, number: 0 };
-    assert_eq!(rt; QUEUE_ROOM, 256);
-    assert_eq!(rt; receiver.next(&rt, &queue), None);
-    assert_eq!(rt; feed.send(&rt, &queue, &mut eye, take), Ok(()));
-    assert_eq!(rt; send_runs(&rt, &queue, &mut feed, &mut eye), 255);
-    assert_eq!(rt;
-        feed.send(&rt, &queue, &mut eye, Order::Run(1)),
-        Err(Order::Run(1))
-    );
-    queue.meet(&mut feed.sender, &mut eye, &mut receiver);
-    assert_eq!(rt;
-        feed.send(&rt, &queue, &mut eye, Order::Run(1)),
-        Err(Order::Run(1))
-    );
-    assert_eq!(rt; receiver.next(&rt, &queue), Some(take));
-    assert_eq!(rt; receive_runs(&rt, &queue, &mut receiver), 255);
-    queue.meet(&mut feed.sender, &mut eye, &mut receiver);
-    assert_eq!(rt; receiver.next(&rt, &queue), None);
-    assert_eq!(rt; feed.send(&rt, &queue, &mut eye, Order::Release(0)), Ok(()));
-    assert_eq!(rt; feed.send(&rt, &queue, &mut eye, Order::Stop), Ok(()));
-    assert_eq!(rt; receiver.next(&rt, &queue), Some(Order::Release(0)));
-    assert_eq!(rt; receiver.next(&rt, &queue), Some(Order::Stop));
-    let settled = settle(queue, feed.sender, receiver);
-    assert_eq!(rt; settled.sent, 258);
-    assert_eq!(rt; settled.received, 258);
+    fill(&rt, &queue, &mut feed, &mut eye, &mut receiver);
+    empty(&rt, &queue, &mut feed, &mut eye, &mut receiver);
+    stop(&rt, &queue, &mut feed, &mut eye, &mut receiver);
+    settles(&rt, queue, feed.sender, receiver, 258);
     Ok(())
+}
+
+/// The answer to an order that is sent is this.
+fn sends<R: Wait + Abort>(
+    rt: &R,
+    queue: &Queue,
+    feed: &mut Feed,
+    eye: &mut Eye,
+    order: Order,
+    answer: Result<(), Order>,
+)
+    requires feed { feed.old.queue ≡ queue.now }
+    requires eye { eye.old.received_word ≡ queue.now.received_word }
+    ensures feed { feed.new.queue ≡ queue.now }
+    ensures eye { eye.new.received_word ≡ queue.now.received_word }
+{
+    assert_eq!(rt; feed.send(rt, queue, eye, order), answer);
+}
+
+/// The next order that is received is this, or there is none.
+fn receives<R: Wait + Abort>(rt: &R, queue: &Queue, receiver: &mut Receiver, order: Option<Order>)
+    requires receiver { receiver.old.queue ≡ queue.now }
+    ensures receiver { receiver.new.queue ≡ queue.now }
+{
+    assert_eq!(rt; receiver.next(rt, queue), order);
+}
+
+/// Fills a new queue with a take and its runs. It is full by its look, and still is after its ends met.
+fn fill<R: Wait + Abort>(
+    rt: &R,
+    queue: &Queue,
+    feed: &mut Feed,
+    eye: &mut Eye,
+    receiver: &mut Receiver,
+)
+    requires feed { feed.old.queue ≡ queue.now }
+    requires eye { eye.old.received_word ≡ queue.now.received_word }
+    requires receiver { receiver.old.queue ≡ queue.now }
+    ensures feed { feed.new.queue ≡ queue.now }
+    ensures eye { eye.new.received_word ≡ queue.now.received_word }
+    ensures receiver { receiver.new.queue ≡ queue.now }
+{
+    let refused = Err(Order::Run(1));
+    assert_eq!(rt; QUEUE_ROOM, 256);
+    receives(rt, queue, receiver, None);
+    sends(rt, queue, feed, eye, FIRST_TAKE, Ok(()));
+    assert_eq!(rt; send_runs(rt, queue, feed, eye), 255);
+    sends(rt, queue, feed, eye, Order::Run(1), refused);
+    queue.meet(&mut feed.sender, eye, receiver);
+    sends(rt, queue, feed, eye, Order::Run(1), refused);
+}
+
+/// Receives the take and its runs, after which the queue is empty.
+fn empty<R: Wait + Abort>(
+    rt: &R,
+    queue: &Queue,
+    feed: &mut Feed,
+    eye: &mut Eye,
+    receiver: &mut Receiver,
+)
+    requires feed { feed.old.queue ≡ queue.now }
+    requires eye { eye.old.received_word ≡ queue.now.received_word }
+    requires receiver { receiver.old.queue ≡ queue.now }
+    ensures feed { feed.new.queue ≡ queue.now }
+    ensures eye { eye.new.received_word ≡ queue.now.received_word }
+    ensures receiver { receiver.new.queue ≡ queue.now }
+{
+    receives(rt, queue, receiver, Some(FIRST_TAKE));
+    assert_eq!(rt; receive_runs(rt, queue, receiver), 255);
+    queue.meet(&mut feed.sender, eye, receiver);
+    receives(rt, queue, receiver, None);
+}
+
+/// Sends the last two orders, and receives them.
+fn stop<R: Wait + Abort>(
+    rt: &R,
+    queue: &Queue,
+    feed: &mut Feed,
+    eye: &mut Eye,
+    receiver: &mut Receiver,
+)
+    requires feed { feed.old.queue ≡ queue.now }
+    requires eye { eye.old.received_word ≡ queue.now.received_word }
+    requires receiver { receiver.old.queue ≡ queue.now }
+    ensures feed { feed.new.queue ≡ queue.now }
+    ensures receiver { receiver.new.queue ≡ queue.now }
+{
+    sends(rt, queue, feed, eye, Order::Release(0), Ok(()));
+    sends(rt, queue, feed, eye, Order::Stop, Ok(()));
+    receives(rt, queue, receiver, Some(Order::Release(0)));
+    receives(rt, queue, receiver, Some(Order::Stop));
+}
+
+/// Ends the queue, of which so many orders were sent and received.
+fn settles(rt: &impl Abort, queue: Queue, sender: Sender, receiver: Receiver, count: u64)
+    requires sender { sender.queue ≡ queue }
+    requires receiver { receiver.queue ≡ queue }
+{
+    let settled = settle(queue, sender, receiver);
+    assert_eq!(rt; settled.sent, count);
+    assert_eq!(rt; settled.received, count);
 }
 
 #[test]
 fn many_at_once(rt: HostRuntime) -> Result<(), Fail> {
     let (queue, mut sender, mut receiver) = Queue::new(rt.alloc(), 1)?;
-    let mut eye = sender.eye(&queue);
-    let take = Order::Take { task: 0, number: 0 };
+    send_six(&rt, &queue, &mut sender);
+    receive_six(&rt, &queue, &mut receiver);
+    Ok(())
+}
+
+/// Sends six orders by one call.
+fn send_six<R: Wait + Abort>(rt: &R, queue: &Queue, sender: &mut Sender)
+    requires queue { sender.old.queue ≡ queue.now }
+    requires one_task { queue.now.tasks ≡ 1 }
+    requires nothing_sent { sender.old.sent ≡ [] }
+{
     let orders = [
-        take,
+        FIRST_TAKE,
         Order::Run(7),
         Order::Run(8),
         Order::Run(9),
         Order::Release(0),
         Order::Stop,
     ];
-    assert_eq!(rt; sender.send_all(&rt, &queue, &mut eye, &orders), 6);
-    assert_eq!(rt; receiver.next(&rt, &queue), Some(take));
-    assert_eq!(rt; receiver.next(&rt, &queue), Some(Order::Run(7)));
-    assert_eq!(rt; receiver.next(&rt, &queue), Some(Order::Run(8)));
-    assert_eq!(rt; receiver.next(&rt, &queue), Some(Order::Run(9)));
-    assert_eq!(rt; receiver.next(&rt, &queue), Some(Order::Release(0)));
-    assert_eq!(rt; receiver.next(&rt, &queue), Some(Order::Stop));
-    assert_eq!(rt; receiver.next(&rt, &queue), None);
-    Ok(())
+    let mut eye = sender.eye(queue);
+    assert_eq!(rt; sender.send_all(rt, queue, &mut eye, &orders), 6);
+}
+
+/// Receives the six orders, and finds no more.
+fn receive_six<R: Wait + Abort>(rt: &R, queue: &Queue, receiver: &mut Receiver)
+    requires queue { receiver.old.queue ≡ queue.now }
+{
+    receives(rt, queue, receiver, Some(FIRST_TAKE));
+    receives(rt, queue, receiver, Some(Order::Run(7)));
+    receives(rt, queue, receiver, Some(Order::Run(8)));
+    receives(rt, queue, receiver, Some(Order::Run(9)));
+    receives(rt, queue, receiver, Some(Order::Release(0)));
+    receives(rt, queue, receiver, Some(Order::Stop));
+    receives(rt, queue, receiver, None);
 }
 
 // How many runs of one unit are sent until one is refused, 255 at most.
@@ -210,17 +309,36 @@ fn receive_runs<R: Wait>(rt: &R, queue: &Queue, receiver: &mut Receiver) -> u64
 #[test]
 fn two_threads_relay(rt: HostRuntime) -> Result<(), Fail> {
     let (queue, sender, receiver) = Queue::new(rt.alloc(), 1)?;
-    let list = Vec::with_capacity(rt.alloc(), RELAYED as usize)?;
+    let list = relayed(&rt, rt.alloc(), queue, sender, receiver)?;
+    check_relayed(&rt, &list);
+    Ok(())
+}
+
+/// The orders that one thread receives from the other by a new queue.
+fn relayed<R: Threads + Wait + Abort + Sync>(
+    rt: &R,
+    alloc: Global,
+    queue: Queue,
+    sender: Sender,
+    receiver: Receiver,
+) -> Result<Vec<Order>, AllocError>
+    requires sender { sender ≡ new_sender queue }
+    requires receiver { receiver.queue ≡ queue }
+    requires one_task { queue.tasks ≡ 1 }
+{
+    let list = Vec::with_capacity(alloc, RELAYED as usize)?;
     let feed = Feed::new(sender);
-    let (sender, (receiver, list)) = relay(&rt, &queue, feed, receiver, list);
-    let settled = settle(queue, sender, receiver);
-    assert_eq!(rt; settled.sent, 100_000);
-    assert_eq!(rt; settled.received, 100_000);
+    let (sender, (receiver, list)) = relay(rt, &queue, feed, receiver, list);
+    settles(rt, queue, sender, receiver, 100_000);
+    Ok(list)
+}
+
+/// These are all orders that are relayed, in their order.
+fn check_relayed(rt: &impl Abort, list: &[Order]) {
     assert_eq!(rt; list.len(), 100_000);
     for (i, order) in list.iter().enumerate() {
         assert_eq!(rt; *order, order_at(i as u32), "order {i}");
     }
-    Ok(())
 }
 
 /// The order at a place: stints of three orders, each with one run, whose units change from stint to stint, and `Stop`.

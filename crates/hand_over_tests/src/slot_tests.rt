@@ -88,6 +88,18 @@ fn first_stint(slots: &Slots, first: &mut Hand, second: &mut Hand) -> Result<(u6
     Ok((out, turn))
 }
 
+/// What the second hand finds after the first stint of the task 0, of which it makes the next one.
+fn second_stint(slots: &Slots, second: &mut Hand) -> Result<u64, Fail>
+    requires second { (second.old.slots ≡ slots.now.id) × (second.old.holds ≡ None) }
+    requires tasks { 0 < length slots.now.set.tasks }
+    ensures { OnOk result ((second.new.slots ≡ slots.now.id) × (second.new.holds ≡ None)
+        × (second.new.number ≡ second.old.number)) }
+{
+    let next = found(slots, second, 0)?;
+    take_and_run(slots, second, 1, 2)?;
+    Ok(next)
+}
+
 /// Two processors pass task 0 from one to the other: what the second one finds, one look after the other.
 fn pass_by_calls(slots: &Slots, first: &mut Hand, second: &mut Hand) -> Result<[u64; 3], Fail>
     requires first { (first.old.slots ≡ slots.now.id) × (first.old.holds ≡ None) }
@@ -99,13 +111,12 @@ fn pass_by_calls(slots: &Slots, first: &mut Hand, second: &mut Hand) -> Result<[
         × (second.new.number ≡ second.old.number)) }
 {
     let (out, turn) = first_stint(slots, first, second)?;
-    let next = found(slots, second, 0)?;
-    take_and_run(slots, second, 1, 2)?;
+    let next = second_stint(slots, second)?;
     Ok([out, turn, next])
 }
 
 /// The contexts in the end.
-fn contexts(alloc: Global, slots: Slots, hands: Vec<Hand>) -> Result<Vec<Context>, Fail>
+pub(crate) fn contexts(alloc: Global, slots: Slots, hands: Vec<Hand>) -> Result<Vec<Context>, Fail>
     requires { AreAll slots hands.items }
 {
     match slots.close(alloc, hands) {
@@ -114,37 +125,80 @@ fn contexts(alloc: Global, slots: Slots, hands: Vec<Hand>) -> Result<Vec<Context
     }
 }
 
-/// What two hands find as they pass task 0 on, and the contexts in the end.
-fn passed(
-    rt: &impl Abort,
-    alloc: Global,
-    slots: Slots,
-    mut hands: Vec<Hand>,
-) -> Result<([u64; 3], Vec<Context>), Fail>
-    requires hands { AreAll slots hands.items }
-    requires tasks { length slots.set.tasks ≡ 2 }
+/// The last two of these free hands, in their order.
+fn pop_two(slots: &Slots, hands: &mut Vec<Hand>) -> Result<(Hand, Hand), Fail>
+    requires { AreFreeFrom slots.now.id 0 hands.old.items }
+    ensures rest { OnOk result (AreFreeFrom slots.now.id 0 hands.new.items) }
+    ensures length { OnOk result (length hands.old.items ≡ length hands.new.items + 2) }
+    ensures first { IfOk result (λ two. (two.0.slots ≡ slots.now.id) × (two.0.holds ≡ None)
+        × (two.0.number ≡ length hands.new.items)) }
+    ensures second { IfOk result (λ two. (two.1.slots ≡ slots.now.id) × (two.1.holds ≡ None)
+        × (two.1.number ≡ length hands.new.items + 1)) }
 {
-    let Some(mut second) = pop_hand(&slots, &mut hands) else {
+    let Some(second) = pop_hand(slots, hands) else {
         return Err(Fail::new("no hand"));
     };
-    let Some(mut first) = pop_hand(&slots, &mut hands) else {
+    let Some(first) = pop_hand(slots, hands) else {
         return Err(Fail::new("one hand"));
     };
+    Ok((first, second))
+}
+
+/// What two hands find as they pass task 0 on. They come back to the others.
+fn passed(rt: &impl Abort, slots: &Slots, hands: &mut Vec<Hand>) -> Result<[u64; 3], Fail>
+    requires hands { AreAll slots.now hands.old.items }
+    requires tasks { length slots.now.set.tasks ≡ 2 }
+    ensures { OnOk result (AreAll slots.now hands.new.items) }
+{
+    let (mut first, mut second) = pop_two(slots, hands)?;
     assert_eq!(rt; (first.number(), second.number()), (0, 1));
-    let found = pass_by_calls(&slots, &mut first, &mut second)?;
-    push_hand(&slots, &mut hands, first)?;
-    push_hand(&slots, &mut hands, second)?;
+    let found = pass_by_calls(slots, &mut first, &mut second)?;
+    push_hand(slots, hands, first)?;
+    push_hand(slots, hands, second)?;
+    Ok(found)
+}
+
+/// What two hands find as they pass task 0 on, and the contexts in the end.
+fn after_passing(
+    rt: &impl Abort,
+    alloc: Global,
+    set: &TaskSet,
+) -> Result<([u64; 3], Vec<Context>), Fail>
+    requires { length set.now.tasks ≡ 2 }
+{
+    let (slots, mut hands) = new_slots(alloc, set)?;
+    let found = passed(rt, &slots, &mut hands)?;
     Ok((found, contexts(alloc, slots, hands)?))
+}
+
+/// Two tasks, of which the second one is for one processor alone.
+fn add_two_tasks(set: &mut TaskSet) -> Result<(), Fail> {
+    set.add("a", 1, ProcSet::first(2))?;
+    set.add("b", 2, ProcSet::one(0))?;
+    Ok(())
+}
+
+/// A set of two tasks on two processors.
+pub(crate) fn two_tasks(rt: &impl Abort, alloc: Global) -> Result<TaskSet, Fail>
+    ensures { IfOk result (λ set. (length set.tasks ≡ 2) × (set.processors ≡ 2)) }
+{
+    let mut set = TaskSet::new(alloc, 2)?;
+    add_two_tasks(&mut set)?;
+    assert!(rt; set.len() == 2 && set.processors() == 2);
+    Ok(set)
 }
 
 #[test]
 fn hand_over_by_calls(rt: HostRuntime) -> Result<(), Fail> {
-    let mut set = TaskSet::new(rt.alloc(), 2)?;
-    set.add("a", 1, ProcSet::first(2))?;
-    set.add("b", 2, ProcSet::one(0))?;
-    assert!(rt; set.len() == 2);
-    let (slots, hands) = new_slots(rt.alloc(), &set)?;
-    let (found, contexts) = passed(&rt, rt.alloc(), slots, hands)?;
+    let set = two_tasks(&rt, rt.alloc())?;
+    check_passed(&rt, rt.alloc(), &set)
+}
+
+/// What two hands find as they pass a task of this set on, and the contexts that this leaves.
+fn check_passed(rt: &impl Abort, alloc: Global, set: &TaskSet) -> Result<(), Fail>
+    requires { length set.now.tasks ≡ 2 }
+{
+    let (found, contexts) = after_passing(rt, alloc, set)?;
     assert_eq!(rt; found, [1, 1, 2]);
     let a = Context {
         task: 0,
@@ -296,13 +350,35 @@ fn after_round(contexts: &mut Vec<Context>) {
     }
 }
 
+/// The contexts after the round, made by eight threads.
+fn contexts_of_round<R: Threads + Wait + Sync>(
+    rt: &R,
+    alloc: Global,
+    set: &TaskSet,
+) -> Result<Vec<Context>, Fail>
+    requires { length set.now.tasks ≡ 64 }
+{
+    let (slots, hands) = new_slots(alloc, set)?;
+    let hands = all_go_round(rt, &slots, hands)?;
+    contexts(alloc, slots, hands)
+}
+
 #[test]
 fn eight_threads_pass_contexts_round(rt: HostRuntime) -> Result<(), Fail> {
     let set = round_set(&rt, rt.alloc())?;
-    let (slots, hands) = new_slots(rt.alloc(), &set)?;
-    let hands = all_go_round(&rt, &slots, hands)?;
-    let contexts = contexts(rt.alloc(), slots, hands)?;
-    let mut expected = fresh_contexts(rt.alloc())?;
+    check_round(&rt, rt.alloc(), &set)
+}
+
+/// Eight threads leave the contexts that one would.
+fn check_round<R: Abort + Threads + Wait + Sync>(
+    rt: &R,
+    alloc: Global,
+    set: &TaskSet,
+) -> Result<(), Fail>
+    requires { length set.now.tasks ≡ 64 }
+{
+    let contexts = contexts_of_round(rt, alloc, set)?;
+    let mut expected = fresh_contexts(alloc)?;
     after_round(&mut expected);
     assert_eq!(rt; contexts.as_slice(), expected.as_slice());
     Ok(())
