@@ -2,6 +2,8 @@
 #![tactic(auto)]
 
 #[cfg(test)]
+mod entries;
+#[cfg(test)]
 mod reach_certificate_tests;
 #[cfg(test)]
 mod schedule_text_tests;

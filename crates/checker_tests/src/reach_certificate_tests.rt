@@ -2,71 +2,22 @@
 ghost use Rattle.std.specs.Prelude.{IsTrue};
 ghost use Rattle.link_state.specs.Step.{IsEventFor};
 
+use crate::entries::Answer::{
+    AlreadyOff, AlreadyOn, AlreadyReady, Freed, Left, Masked, NotReady, Off, On, Remasked, Ticked,
+};
+use crate::entries::Arrival::{Displaced, Placed, Waits};
+use crate::entries::Happens::{Affinity, Arrive, Depart, Offline, Online, Tick};
+use crate::entries::{Answer, Happens, Task, entry_of, tasks_of};
 use affinity_mask::ProcSet;
-use link_table::{Came, Chain, Entry, Gone, Reply};
+use reach_certificate::Defect::{BadChain, BadSet, WrongReply, WrongTask};
 use reach_certificate::{Checker, Defect};
-use scheduler_reply::Moved;
 use std::alloc::Global;
 use std::process::Abort;
 use std::test::Fail;
 use task_set::{Context, Event, TaskSet};
 
-/// Processors, of a chain or of a set.
-type List = &'static [u8];
-
-/// An event, with its mask written as a list.
-#[derive(Clone, Copy)]
-enum Happens {
-    Arrive(u32),
-    Depart(u32),
-    Tick(u32),
-    Affinity(u32, List),
-    Offline(u8),
-    Online(u8),
-}
-
-/// What an arrival came to.
-#[derive(Clone, Copy)]
-enum Arrival {
-    Placed(List),
-
-    /// The chain, who is displaced, and the set.
-    Displaced(List, u32, List),
-    Waits(List),
-}
-
-/// Who came in: the chain, who enters, and the set.
-type Fill = (List, Option<u32>, List);
-
-/// A reply.
-#[derive(Clone, Copy)]
-enum Answer {
-    Came(Arrival),
-    Freed(Fill),
-    Left,
-    Ticked,
-    AlreadyReady,
-    NotReady,
-    Masked,
-    Remasked(Option<Fill>, Arrival),
-    AlreadyOff,
-    AlreadyOn,
-    Off(Option<(u32, Arrival)>),
-    On(Fill),
-}
-
 /// An entry, and its defect if it has one.
 type Row = (Happens, Answer, Option<Defect>);
-
-/// Of a task its name, its priority and its mask.
-type Task = (&'static str, u32, List);
-
-use Answer::{
-    AlreadyOff, AlreadyOn, AlreadyReady, Freed, Left, Masked, NotReady, Off, On, Remasked, Ticked,
-};
-use Arrival::{Displaced, Placed, Waits};
-use Defect::{BadChain, BadSet, WrongReply, WrongTask};
-use Happens::{Affinity, Arrive, Depart, Offline, Online, Tick};
 
 const A: u32 = 0;
 
@@ -404,101 +355,6 @@ static NOWHERE: [Row; 7] = [
     (Online(0), On((&[0], Some(A), &[0])), None),
 ];
 
-/// The list of these processors.
-fn chain_of(rt: &impl Abort, processors: &[u8]) -> Chain {
-    let mut chain = Chain::new();
-    for &p in processors {
-        assert!(rt; p < 64 && chain.len() < 64);
-        chain.push(p);
-    }
-    chain
-}
-
-/// The set of these processors.
-fn set_of(rt: &impl Abort, processors: &[u8]) -> ProcSet {
-    let mut set = ProcSet::empty();
-    for &p in processors {
-        assert!(rt; p < 64);
-        set = set.with(p);
-    }
-    set
-}
-
-fn event_of(rt: &impl Abort, happens: &Happens) -> Event {
-    match happens {
-        Arrive(t) => Event::Arrive(*t),
-        Depart(t) => Event::Depart(*t),
-        Tick(units) => Event::Tick(*units),
-        Affinity(t, mask) => Event::Affinity {
-            task: *t,
-            mask: set_of(rt, mask),
-        },
-        Offline(p) => Event::Offline(*p),
-        Online(p) => Event::Online(*p),
-    }
-}
-
-fn came_of(rt: &impl Abort, arrival: &Arrival) -> Came {
-    match arrival {
-        Placed(chain) => Came::Placed {
-            chain: chain_of(rt, chain),
-        },
-        Displaced(chain, out, reach) => Came::Displaced {
-            chain: chain_of(rt, chain),
-            out: *out,
-            reach: set_of(rt, reach),
-        },
-        Waits(reach) => Came::Waits {
-            reach: set_of(rt, reach),
-        },
-    }
-}
-
-fn gone_of(rt: &impl Abort, fill: &Fill) -> Gone {
-    Gone {
-        entered: fill.1,
-        chain: chain_of(rt, fill.0),
-        back: set_of(rt, fill.2),
-    }
-}
-
-fn moved_of(rt: &impl Abort, moved: &(u32, Arrival)) -> Moved {
-    Moved {
-        task: moved.0,
-        came: came_of(rt, &moved.1),
-    }
-}
-
-fn reply_of(rt: &impl Abort, answer: &Answer) -> Reply {
-    match answer {
-        Answer::Came(arrival) => came_of(rt, arrival).into(),
-        Freed(fill) => gone_of(rt, fill).into(),
-        Left => Reply::Left,
-        Ticked => Reply::Ticked,
-        AlreadyReady => Reply::AlreadyReady,
-        NotReady => Reply::NotReady,
-        Masked => Reply::Masked,
-        Remasked(fill, arrival) => Reply::Remasked {
-            gone: match fill {
-                Some(fill) => Some(gone_of(rt, fill)),
-                None => None,
-            },
-            came: came_of(rt, arrival),
-        },
-        AlreadyOff => Reply::AlreadyOff,
-        AlreadyOn => Reply::AlreadyOn,
-        Off(moved) => Reply::Off {
-            moved: match moved {
-                Some(moved) => Some(moved_of(rt, moved)),
-                None => None,
-            },
-        },
-        On(fill) => Reply::On {
-            parts: gone_of(rt, fill),
-        },
-    }
-}
-
 /// Whether an event is of the checker's tasks and processors.
 fn is_known(checker: &Checker, event: &Event) -> bool
     ensures { IsTrue result → IsEventFor checker.now.links event.now }
@@ -523,38 +379,32 @@ fn judge(
     happens: &Happens,
     answer: &Answer,
 ) -> Option<Defect> {
-    let entry = Entry {
-        caller: 0,
-        event: event_of(rt, happens),
-        reply: reply_of(rt, answer),
-    };
+    let entry = entry_of(rt, 0, happens, answer);
     assert!(rt; is_known(checker, &entry.event));
     checker.accept(&entry).err()
 }
 
-/// A checker of these tasks, after these rows. What is refused changes nothing, so the next entry is judged on the same
-/// links.
-fn judged(
+/// A checker of the tasks of a set, before any entry.
+fn checker_over(alloc: Global, set: &TaskSet) -> Result<Checker, Fail> {
+    Ok(Checker::new(alloc, set)?)
+}
+
+/// A checker of these tasks, before any entry.
+fn checker_of(
     rt: &impl Abort,
     alloc: Global,
     processors: u8,
     tasks: &[Task],
-    rows: &[Row],
 ) -> Result<Checker, Fail> {
-    assert!(rt; 0 < processors && processors <= 64);
-    let mut set = TaskSet::new(alloc, processors)?;
-    for (name, priority, mask) in tasks {
-        set.add(name, *priority, set_of(rt, mask))?;
-    }
-    let mut checker = Checker::new(alloc, &set)?;
+    let set = tasks_of(rt, alloc, processors, tasks)?;
+    checker_over(alloc, &set)
+}
+
+/// Judges these rows. What is refused changes nothing, so the next entry is judged on the same links.
+fn judge_rows(rt: &impl Abort, checker: &mut Checker, rows: &[Row]) {
     for (i, (happens, answer, expected)) in rows.iter().enumerate() {
-        assert_eq!(rt;
-            judge(rt, &mut checker, happens, answer),
-            *expected,
-            "row {i}"
-        );
+        assert_eq!(rt; judge(rt, checker, happens, answer), *expected, "row {i}");
     }
-    Ok(checker)
 }
 
 /// The context of a task that there is.
@@ -582,11 +432,11 @@ fn context(
     }
 }
 
-#[test]
-fn entries_judged_by_hand(rt: HostRuntime) -> Result<(), Fail> {
-    judged(&rt, rt.alloc(), 3, &TASKS, &ROWS)?;
-    assert_eq!(rt; Defect::BadSet(7).number(), 3);
-    Ok(())
+/// Compares the contexts of these tasks.
+fn compare_contexts(rt: &impl Abort, checker: &Checker, contexts: &[Context]) {
+    for expected in contexts {
+        assert_eq!(rt; context_of(rt, checker, expected.task), *expected);
+    }
 }
 
 /// Judges the rows, and compares the contexts after them.
@@ -598,10 +448,16 @@ fn follow(
     rows: &[Row],
     contexts: &[Context],
 ) -> Result<(), Fail> {
-    let checker = judged(rt, alloc, processors, tasks, rows)?;
-    for expected in contexts {
-        assert_eq!(rt; context_of(rt, &checker, expected.task), *expected);
-    }
+    let mut checker = checker_of(rt, alloc, processors, tasks)?;
+    judge_rows(rt, &mut checker, rows);
+    compare_contexts(rt, &checker, contexts);
+    Ok(())
+}
+
+#[test]
+fn entries_judged_by_hand(rt: HostRuntime) -> Result<(), Fail> {
+    follow(&rt, rt.alloc(), 3, &TASKS, &ROWS, &[])?;
+    assert_eq!(rt; Defect::BadSet(7).number(), 3);
     Ok(())
 }
 

@@ -7,14 +7,23 @@ ghost use Rattle.scheduler_reply.specs.Reply.{came_tasks, IsReplyOfVersion};
 ghost use Rattle.text_fields.specs.EventText.{IsAboutSet};
 ghost use Rattle.schedule_text.specs.ScheduleText.{AreTasksOf, IsReplyOf, IsEntryOf, IsEntryOfVersion};
 
+use crate::entries::Answer::{
+    AlreadyOff, AlreadyOn, AlreadyReady, Freed, Left, Masked, NotReady, Off, On, Remasked, Ticked,
+};
+use crate::entries::Arrival::{Displaced, Placed, Waits};
+use crate::entries::Happens::{Affinity, Arrive, Depart, Offline, Online, Tick};
+use crate::entries::{Answer, Happens, Task, entry_of, tasks_of};
 use affinity_mask::ProcSet;
 use schedule_text::{read_schedule, write_schedule};
-use scheduler_reply::{Came, Chain, Entry, Gone, Moved, Reply};
+use scheduler_reply::{Came, Entry, Reply};
 use std::alloc::Global;
 use std::process::Abort;
 use std::str;
 use std::test::Fail;
 use task_set::{Context, Event, TaskSet};
+
+/// The caller of an entry, its event and its reply.
+type Row = (u32, Happens, Answer);
 
 const SMALLEST: &str = "schedule 1\nprocessors 1\ntask a 5 0\nhistory 1\n0 arrive a placed 0\n\
 contexts 1\na units 0 stints 1 moves 0 last 0 trail 0\nend\n";
@@ -192,85 +201,6 @@ fn have_tasks(set: &TaskSet, contexts: &[Context]) -> bool
     true
 }
 
-/// A set of these processors.
-fn set_of(rt: &impl Abort, processors: &[u8]) -> ProcSet {
-    let mut set = ProcSet::empty();
-    for &p in processors {
-        assert!(rt; p < 64);
-        set = set.with(p);
-    }
-    set
-}
-
-/// A chain of these processors.
-fn chain_of(rt: &impl Abort, processors: &[u8]) -> Chain {
-    let mut chain = Chain::new();
-    for &p in processors {
-        assert!(rt; p < 64 && chain.len() < 64);
-        chain.push(p);
-    }
-    chain
-}
-
-/// The result that a task was placed.
-fn placed(rt: &impl Abort, processors: &[u8]) -> Came {
-    Came::Placed {
-        chain: chain_of(rt, processors),
-    }
-}
-
-/// The result that a task was displaced.
-fn displaced(rt: &impl Abort, processors: &[u8], out: u32, reach: &[u8]) -> Came {
-    Came::Displaced {
-        chain: chain_of(rt, processors),
-        out,
-        reach: set_of(rt, reach),
-    }
-}
-
-/// The result that a task waits.
-fn waits(rt: &impl Abort, reach: &[u8]) -> Came {
-    Came::Waits {
-        reach: set_of(rt, reach),
-    }
-}
-
-/// Who came in at a processor.
-fn gone(rt: &impl Abort, processors: &[u8], entered: Option<u32>, back: &[u8]) -> Gone {
-    Gone {
-        entered,
-        chain: chain_of(rt, processors),
-        back: set_of(rt, back),
-    }
-}
-
-/// The event that the mask of a task becomes these processors.
-fn affinity(rt: &impl Abort, task: u32, processors: &[u8]) -> Event {
-    let mask = set_of(rt, processors);
-    Event::Affinity { task, mask }
-}
-
-/// The reply that the mask of a ready task was set.
-fn remasked(gone: Option<Gone>, came: Came) -> Reply {
-    Reply::Remasked { gone, came }
-}
-
-/// The reply that a processor is off line, where a task was on it.
-fn off(task: u32, came: Came) -> Reply {
-    Reply::Off {
-        moved: Some(Moved { task, came }),
-    }
-}
-
-/// An entry of these parts.
-fn entry(caller: u32, event: Event, reply: Reply) -> Entry {
-    Entry {
-        caller,
-        event,
-        reply,
-    }
-}
-
 /// The text of a schedule is this one.
 fn expect_text(
     rt: &impl Abort,
@@ -289,14 +219,47 @@ fn expect_text(
     Ok(())
 }
 
+/// Adds the entry of a row.
+fn add_entry(rt: &impl Abort, entries: &mut Vec<Entry>, row: &Row) -> Result<(), Fail> {
+    let (caller, happens, answer) = row;
+    entries.push(entry_of(rt, *caller, happens, answer))?;
+    Ok(())
+}
+
+/// The entries of these rows.
+fn entries_of(rt: &impl Abort, alloc: Global, rows: &[Row]) -> Result<Vec<Entry>, Fail> {
+    let mut entries = Vec::new(alloc);
+    for row in rows {
+        add_entry(rt, &mut entries, row)?;
+    }
+    Ok(entries)
+}
+
+/// The text of a schedule with the entries of these rows is this one.
+fn expect_rows(
+    rt: &impl Abort,
+    alloc: Global,
+    version: u8,
+    set: &TaskSet,
+    rows: &[Row],
+    contexts: &[Context],
+    want: &str,
+) -> Result<(), Fail> {
+    let entries = entries_of(rt, alloc, rows)?;
+    expect_text(rt, alloc, version, set, &entries, contexts, want)
+}
+
+/// The task and the entry of `SMALLEST`.
+static ONE_TASK: [Task; 1] = [("a", 5, &[0])];
+
+static ONE_ROW: [Row; 1] = [(0, Arrive(0), Answer::Came(Placed(&[0])))];
+
 #[test]
 fn smallest_schedule(rt: HostRuntime) -> Result<(), Fail> {
-    let mut set = TaskSet::new(rt.alloc(), 1)?;
-    set.add("a", 5, ProcSet::one(0))?;
-    let entries = vec![in rt.alloc(); entry(0, Event::Arrive(0), Reply::from(placed(&rt, &[0])))]?;
+    let set = tasks_of(&rt, rt.alloc(), 1, &ONE_TASK)?;
     let mut context = Context::fresh(0);
     context.took(0);
-    expect_text(&rt, rt.alloc(), 1, &set, &entries, &[context], SMALLEST)
+    expect_rows(&rt, rt.alloc(), 1, &set, &ONE_ROW, &[context], SMALLEST)
 }
 
 #[test]
@@ -305,38 +268,36 @@ fn no_task_and_no_entry(rt: HostRuntime) -> Result<(), Fail> {
     expect_text(&rt, rt.alloc(), 1, &set, &[], &[], NOTHING)
 }
 
+/// The tasks of `EACH_REPLY`.
+static FOUR_TASKS: [Task; 4] = [
+    ("a", 2, &[0, 1]),
+    ("b", 3, &[1, 2]),
+    ("c", 9, &[2, 3]),
+    ("w1", 4294967295, &[0, 2, 3]),
+];
+
+/// The entries of `EACH_REPLY`.
+static ROWS: [Row; 11] = [
+    (0, Arrive(0), Answer::Came(Placed(&[0, 1, 2]))),
+    (15, Arrive(1), Answer::Came(Placed(&[]))),
+    (
+        0,
+        Arrive(1),
+        Answer::Came(Displaced(&[0, 1, 2], 2, &[0, 1, 2])),
+    ),
+    (0, Arrive(3), Answer::Came(Waits(&[0, 2, 3]))),
+    (2, Arrive(2), Answer::Came(Waits(&[]))),
+    (0, Depart(0), Freed((&[0, 1], Some(3), &[0, 1]))),
+    (0, Depart(0), Freed((&[0], None, &[0]))),
+    (7, Depart(3), Left),
+    (0, Tick(1000000), Ticked),
+    (0, Arrive(0), AlreadyReady),
+    (0, Depart(2), NotReady),
+];
+
 #[test]
 fn each_reply(rt: HostRuntime) -> Result<(), Fail> {
-    let mut set = TaskSet::new(rt.alloc(), 4)?;
-    set.add("a", 2, set_of(&rt, &[0, 1]))?;
-    set.add("b", 3, set_of(&rt, &[1, 2]))?;
-    set.add("c", 9, set_of(&rt, &[2, 3]))?;
-    set.add("w1", 4294967295, set_of(&rt, &[0, 2, 3]))?;
-    let entries = vec![in rt.alloc();
-        entry(0, Event::Arrive(0), Reply::from(placed(&rt, &[0, 1, 2]))),
-        entry(15, Event::Arrive(1), Reply::from(placed(&rt, &[]))),
-        entry(
-            0,
-            Event::Arrive(1),
-            Reply::from(displaced(&rt, &[0, 1, 2], 2, &[0, 1, 2]))
-        ),
-        entry(0, Event::Arrive(3), Reply::from(waits(&rt, &[0, 2, 3]))),
-        entry(2, Event::Arrive(2), Reply::from(waits(&rt, &[]))),
-        entry(
-            0,
-            Event::Depart(0),
-            Reply::from(gone(&rt, &[0, 1], Some(3), &[0, 1]))
-        ),
-        entry(
-            0,
-            Event::Depart(0),
-            Reply::from(gone(&rt, &[0], None, &[0]))
-        ),
-        entry(7, Event::Depart(3), Reply::Left),
-        entry(0, Event::Tick(1000000), Reply::Ticked),
-        entry(0, Event::Arrive(0), Reply::AlreadyReady),
-        entry(0, Event::Depart(2), Reply::NotReady),
-    ]?;
+    let set = tasks_of(&rt, rt.alloc(), 4, &FOUR_TASKS)?;
     let contexts = [
         Context {
             task: 2,
@@ -355,91 +316,70 @@ fn each_reply(rt: HostRuntime) -> Result<(), Fail> {
             trail: 641,
         },
     ];
-    expect_text(&rt, rt.alloc(), 1, &set, &entries, &contexts, EACH_REPLY)
+    expect_rows(&rt, rt.alloc(), 1, &set, &ROWS, &contexts, EACH_REPLY)
 }
 
-/// Three tasks on four processors, two of which have words of the format as names.
-fn three_tasks(rt: &impl Abort, alloc: Global) -> Result<TaskSet, Fail> {
-    let mut set = TaskSet::new(alloc, 4)?;
-    set.add("a", 2, set_of(rt, &[0, 1]))?;
-    set.add("then", 3, set_of(rt, &[1, 2]))?;
-    set.add("left", 9, set_of(rt, &[2, 3]))?;
-    Ok(set)
+/// Over four processors. Two tasks have words of the format as names.
+static THREE_TASKS: [Task; 3] = [
+    ("a", 2, &[0, 1]),
+    ("then", 3, &[1, 2]),
+    ("left", 9, &[2, 3]),
+];
+
+/// The text of a schedule of the three tasks, with the entries of these rows, is this one.
+fn expect_of_three(rt: &impl Abort, alloc: Global, rows: &[Row], want: &str) -> Result<(), Fail> {
+    let set = tasks_of(rt, alloc, 4, &THREE_TASKS)?;
+    let contexts = [Context::fresh(0), Context::fresh(1), Context::fresh(2)];
+    expect_rows(rt, alloc, 2, &set, rows, &contexts, want)
 }
+
+/// The entries of `OF_MASKS`.
+static ROWS_OF_MASKS: [Row; 7] = [
+    (0, Affinity(0, &[0, 2, 3]), Masked),
+    (1, Affinity(1, &[1]), Remasked(None, Placed(&[1, 2]))),
+    (
+        0,
+        Affinity(2, &[2, 3]),
+        Remasked(None, Displaced(&[2], 1, &[2, 3])),
+    ),
+    (0, Affinity(0, &[0]), Remasked(None, Waits(&[]))),
+    (
+        0,
+        Affinity(0, &[1]),
+        Remasked(Some((&[0], None, &[0, 1])), Waits(&[1])),
+    ),
+    (
+        2,
+        Affinity(1, &[0, 1, 2, 3]),
+        Remasked(Some((&[0, 1], Some(1), &[0, 1])), Placed(&[3])),
+    ),
+    (
+        0,
+        Affinity(1, &[1]),
+        Remasked(Some((&[0], Some(2), &[0])), Displaced(&[0], 1, &[0])),
+    ),
+];
 
 #[test]
 fn each_reply_of_masks(rt: HostRuntime) -> Result<(), Fail> {
-    let set = three_tasks(&rt, rt.alloc())?;
-    let entries = vec![in rt.alloc();
-        entry(0, affinity(&rt, 0, &[0, 2, 3]), Reply::Masked),
-        entry(
-            1,
-            affinity(&rt, 1, &[1]),
-            remasked(None, placed(&rt, &[1, 2]))
-        ),
-        entry(
-            0,
-            affinity(&rt, 2, &[2, 3]),
-            remasked(None, displaced(&rt, &[2], 1, &[2, 3]))
-        ),
-        entry(0, affinity(&rt, 0, &[0]), remasked(None, waits(&rt, &[]))),
-        entry(
-            0,
-            affinity(&rt, 0, &[1]),
-            remasked(Some(gone(&rt, &[0], None, &[0, 1])), waits(&rt, &[1]))
-        ),
-        entry(
-            2,
-            affinity(&rt, 1, &[0, 1, 2, 3]),
-            remasked(
-                Some(gone(&rt, &[0, 1], Some(1), &[0, 1])),
-                placed(&rt, &[3])
-            )
-        ),
-        entry(
-            0,
-            affinity(&rt, 1, &[1]),
-            remasked(
-                Some(gone(&rt, &[0], Some(2), &[0])),
-                displaced(&rt, &[0], 1, &[0])
-            )
-        ),
-    ]?;
-    let contexts = [Context::fresh(0), Context::fresh(1), Context::fresh(2)];
-    expect_text(&rt, rt.alloc(), 2, &set, &entries, &contexts, OF_MASKS)
+    expect_of_three(&rt, rt.alloc(), &ROWS_OF_MASKS, OF_MASKS)
 }
+
+/// The entries of `OF_PROCESSORS`.
+static ROWS_OF_PROCESSORS: [Row; 8] = [
+    (0, Offline(3), AlreadyOff),
+    (0, Offline(0), Off(None)),
+    (0, Offline(1), Off(Some((1, Placed(&[2]))))),
+    (0, Offline(1), Off(Some((0, Displaced(&[1], 2, &[1, 3]))))),
+    (0, Offline(2), Off(Some((2, Waits(&[]))))),
+    (0, Online(3), AlreadyOn),
+    (0, Online(0), On((&[0], None, &[0]))),
+    (15, Online(2), On((&[2, 1], Some(1), &[1, 2]))),
+];
 
 #[test]
 fn each_reply_of_processors(rt: HostRuntime) -> Result<(), Fail> {
-    let set = three_tasks(&rt, rt.alloc())?;
-    let entries = vec![in rt.alloc();
-        entry(0, Event::Offline(3), Reply::AlreadyOff),
-        entry(0, Event::Offline(0), Reply::Off { moved: None }),
-        entry(0, Event::Offline(1), off(1, placed(&rt, &[2]))),
-        entry(
-            0,
-            Event::Offline(1),
-            off(0, displaced(&rt, &[1], 2, &[1, 3]))
-        ),
-        entry(0, Event::Offline(2), off(2, waits(&rt, &[]))),
-        entry(0, Event::Online(3), Reply::AlreadyOn),
-        entry(
-            0,
-            Event::Online(0),
-            Reply::On {
-                parts: gone(&rt, &[0], None, &[0])
-            }
-        ),
-        entry(
-            15,
-            Event::Online(2),
-            Reply::On {
-                parts: gone(&rt, &[2, 1], Some(1), &[1, 2])
-            }
-        ),
-    ]?;
-    let contexts = [Context::fresh(0), Context::fresh(1), Context::fresh(2)];
-    expect_text(&rt, rt.alloc(), 2, &set, &entries, &contexts, OF_PROCESSORS)
+    expect_of_three(&rt, rt.alloc(), &ROWS_OF_PROCESSORS, OF_PROCESSORS)
 }
 
 /// Each reply, with the contexts of all tasks.
@@ -535,7 +475,7 @@ fn round_trips(rt: HostRuntime) -> Result<(), Fail> {
 
 #[test]
 fn round_trips_of_the_second_version(rt: HostRuntime) -> Result<(), Fail> {
-    for text in LATER {
+    for text in &LATER {
         expect_round_trip(&rt, rt.alloc(), 2, text)?;
     }
     Ok(())

@@ -6,7 +6,7 @@ use std::test::Fail;
 use task_set::TaskFault;
 
 /// Texts, each with the first line that has a fault, and its kind. Each begins with a prefix of the smallest schedule.
-const FIRST_FAULTS: [(&[u8], u64, TextKind); 34] = [
+static FIRST_FAULTS: [(&[u8], u64, TextKind); 34] = [
     (b"", 1, TextKind::Short),
     (b"schedule 1", 1, TextKind::Short),
     (b"schedule 0\n", 1, TextKind::BadLine),
@@ -203,6 +203,11 @@ static FAULTS_OF_ENTRIES: [(&str, TextKind); 33] = [
     ),
 ];
 
+/// The first fault of a text, if it has one.
+fn fault_of(alloc: Global, text: &[u8]) -> Option<TextFault> {
+    read_schedule(alloc, text).err()
+}
+
 /// A schedule with this header and this entry on two processors is refused at the entry.
 fn expect_refused(
     rt: &impl Abort,
@@ -211,22 +216,15 @@ fn expect_refused(
     entry: &str,
     kind: TextKind,
 ) -> Result<(), Fail> {
-    let mut text = Vec::from_slice(alloc, header.as_bytes())?;
-    text.extend_from_slice(b"\nprocessors 2\ntask a 1 0-1\nhistory 1\n")?;
-    text.extend_from_slice(entry.as_bytes())?;
-    text.push(b'\n')?;
+    let text = format!(in alloc; "{header}\nprocessors 2\ntask a 1 0-1\nhistory 1\n{entry}\n")?;
     let fault = TextFault { line: 5, kind };
-    assert_eq!(rt;
-        read_schedule(alloc, &text).err(),
-        Some(fault),
-        "at {entry}"
-    );
+    assert_eq!(rt; fault_of(alloc, text.as_bytes()), Some(fault), "at {entry}");
     Ok(())
 }
 
 #[test]
 fn later_forms_in_the_first_version(rt: HostRuntime) -> Result<(), Fail> {
-    for entry in LATER_FORMS {
+    for entry in &LATER_FORMS {
         expect_refused(&rt, rt.alloc(), "schedule 1", entry, TextKind::BadLine)?;
     }
     Ok(())
@@ -234,20 +232,20 @@ fn later_forms_in_the_first_version(rt: HostRuntime) -> Result<(), Fail> {
 
 #[test]
 fn faults_of_entries(rt: HostRuntime) -> Result<(), Fail> {
-    for (entry, kind) in FAULTS_OF_ENTRIES {
-        expect_refused(&rt, rt.alloc(), "schedule 2", entry, kind)?;
+    for (entry, kind) in &FAULTS_OF_ENTRIES {
+        expect_refused(&rt, rt.alloc(), "schedule 2", entry, *kind)?;
     }
     Ok(())
 }
 
 #[test]
 fn first_faults(rt: HostRuntime) {
-    for (text, line, kind) in FIRST_FAULTS {
-        assert_eq!(rt;
-            read_schedule(rt.alloc(), text).err(),
-            Some(TextFault { line, kind }),
-            "at {text:?}"
-        );
+    for (text, line, kind) in &FIRST_FAULTS {
+        let fault = TextFault {
+            line: *line,
+            kind: *kind,
+        };
+        assert_eq!(rt; fault_of(rt.alloc(), text), Some(fault), "at {text:?}");
     }
 }
 
