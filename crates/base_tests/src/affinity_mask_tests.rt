@@ -1,5 +1,5 @@
 use affinity_mask::{MaskFault, OutOfMemory, ProcSet};
-use std::alloc::AllocError;
+use std::alloc::{AllocError, Global};
 use std::process::Abort;
 use std::test::Fail;
 
@@ -138,14 +138,31 @@ static FAULTS: [(&str, MaskFault); 33] = [
     ),
 ];
 
+/// The list that is written for a set.
+fn written_list(alloc: Global, set: &ProcSet) -> Result<Vec<u8>, Fail> {
+    let mut written = Vec::new(alloc);
+    set.write_list(&mut written)?;
+    Ok(written)
+}
+
+/// Asserts that this list is written for the set of a text, and that the set is read back from it.
+fn assert_list(
+    rt: &(impl Abort + AllocGlobal),
+    set: &ProcSet,
+    text: &str,
+    expected: &str,
+) -> Result<(), Fail> {
+    let written = written_list(rt.alloc(), set)?;
+    assert!(rt; written.as_slice() == expected.as_bytes(), "of {text}");
+    let again = ProcSet::read_list(written.as_slice());
+    assert!(rt; again == Ok(*set), "again of {text}");
+    Ok(())
+}
+
 /// Asserts that the text is a list, whose set is written so and read back.
 fn assert_written(rt: &(impl Abort + AllocGlobal), text: &str, expected: &str) -> Result<(), Fail> {
     let set = ProcSet::read_list(text.as_bytes())?;
-    let mut written = Vec::new(rt.alloc());
-    set.write_list(&mut written)?;
-    assert!(rt; written.as_slice() == expected.as_bytes(), "of {text}");
-    let again = ProcSet::read_list(written.as_slice())?;
-    assert!(rt; again == set, "again of {text}");
+    assert_list(rt, &set, text, expected)?;
     assert_canonical(rt, &set, text, expected);
     Ok(())
 }
@@ -180,36 +197,54 @@ fn texts_of_no_list(rt: HostRuntime) {
     }
 }
 
+/// Asserts that the list of a set is appended to this text, which is another one then.
+fn assert_appended(
+    rt: &impl Abort,
+    into: &mut Vec<u8>,
+    set: ProcSet,
+    want: &[u8],
+) -> Result<(), Fail> {
+    set.write_list(into)?;
+    assert_eq!(rt; into.as_slice(), want);
+    Ok(())
+}
+
 #[test]
 fn lists_are_appended(rt: HostRuntime) -> Result<(), Fail> {
     let mut into = Vec::from_slice(rt.alloc(), b"mask ")?;
-    ProcSet::empty().write_list(&mut into)?;
-    assert_eq!(rt; into.as_slice(), b"mask ".as_slice());
-    ProcSet::first(64).without(9).write_list(&mut into)?;
-    assert_eq!(rt; into.as_slice(), b"mask 0-8,10-63".as_slice());
+    assert_appended(&rt, &mut into, ProcSet::empty(), b"mask ")?;
+    let set = ProcSet::first(64).without(9);
+    assert_appended(&rt, &mut into, set, b"mask 0-8,10-63")
+}
+
+/// Each fault, and its sentence.
+static SENTENCES: [(MaskFault, &str); 4] = [
+    (MaskFault::Empty, "the processor list has no bytes"),
+    (
+        MaskFault::BadItem { place: 2 },
+        "at 2 stands no number and no range of numbers",
+    ),
+    (
+        MaskFault::Backward { place: 0 },
+        "the range at 0 begins above its end",
+    ),
+    (
+        MaskFault::Large { place: 7 },
+        "the item at 7 has a number above 63",
+    ),
+];
+
+/// Asserts the sentence of a fault.
+fn assert_told(rt: &(impl Abort + AllocGlobal), fault: MaskFault, want: &str) -> Result<(), Fail> {
+    let text = format!(in rt.alloc(); "{fault}")?;
+    assert!(rt; text.as_str() == want, "{want}");
     Ok(())
 }
 
 #[test]
 fn faults_as_sentences(rt: HostRuntime) -> Result<(), Fail> {
-    let rows = [
-        (MaskFault::Empty, "the processor list has no bytes"),
-        (
-            MaskFault::BadItem { place: 2 },
-            "at 2 stands no number and no range of numbers",
-        ),
-        (
-            MaskFault::Backward { place: 0 },
-            "the range at 0 begins above its end",
-        ),
-        (
-            MaskFault::Large { place: 7 },
-            "the item at 7 has a number above 63",
-        ),
-    ];
-    for (row, (fault, want)) in rows.iter().enumerate() {
-        let text = format!(in rt.alloc(); "{fault}")?;
-        assert_eq!(rt; text.as_str(), *want, "row {row}");
+    for (fault, want) in &SENTENCES {
+        assert_told(&rt, *fault, want)?;
     }
     Ok(())
 }

@@ -10,15 +10,25 @@ use std::io::{ErrorKind, Read, Write};
 use std::process::Abort;
 use std::test::Fail;
 
-#[test]
-fn read_all_limit(rt: HostRuntime) -> Result<(), Fail> {
-    let alloc = rt.alloc();
-    let mut source = SoundSource::new(b"abc".to_vec(alloc)?);
+/// A source of three bytes.
+fn three_bytes(alloc: Global) -> Result<SoundSource, Fail> {
+    Ok(SoundSource::new(b"abc".to_vec(alloc)?))
+}
+
+/// A whole read of the three bytes, with room for just these, gives them.
+fn expect_three(rt: &impl Abort, alloc: Global) -> Result<(), Fail> {
+    let mut source = three_bytes(alloc)?;
     let bytes = read_all(alloc, &mut source, 3)?;
     assert_eq!(rt; bytes.as_slice(), b"abc".as_slice());
-    let mut source = SoundSource::new(b"abc".to_vec(alloc)?);
+    Ok(())
+}
+
+#[test]
+fn read_all_limit(rt: HostRuntime) -> Result<(), Fail> {
+    expect_three(&rt, rt.alloc())?;
+    let mut source = three_bytes(rt.alloc())?;
     assert_eq!(rt;
-        read_all(alloc, &mut source, 2).err(),
+        read_all(rt.alloc(), &mut source, 2).err(),
         Some(ReadAllFault::TooLong)
     );
     Ok(())
@@ -26,9 +36,16 @@ fn read_all_limit(rt: HostRuntime) -> Result<(), Fail> {
 
 const LAZY_DOGS: &[u8] = b"the quick brown fox jumps over the lazy dogs.";
 
-/// A whole read of 45 bytes at 8 a call, of which the call of this number fails, gives all of them or is a fault.
+/// A source of 45 bytes at 8 a call, of which the call of this number fails.
+fn source_of(alloc: Global, fails: u64) -> Result<MemSource, Fail> {
+    let bytes = LAZY_DOGS.to_vec(alloc)?;
+    let fails = [fails].to_vec(alloc)?;
+    Ok(MemSource::new(bytes, 8, fails))
+}
+
+/// A whole read of that source gives all bytes or is a fault.
 fn expect_read(rt: &impl Abort, alloc: Global, fails: u64, want: bool) -> Result<(), Fail> {
-    let mut source = MemSource::new(LAZY_DOGS.to_vec(alloc)?, 8, [fails].to_vec(alloc)?);
+    let mut source = source_of(alloc, fails)?;
     match read_all(alloc, &mut source, 1000) {
         Ok(bytes) => assert!(rt; want && bytes.as_slice() == LAZY_DOGS, "at {fails}"),
         Err(fault) => assert!(rt; !want && fault == ReadAllFault::ReadFault, "at {fails}"),
@@ -47,54 +64,80 @@ fn reads_fail_at_their_calls(rt: HostRuntime) -> Result<(), Fail> {
 
 const TWENTY: &[u8] = b"twenty bytes of text";
 
-/// So many of 20 bytes arrive in a sink with this room, at this pace, where the call of this number fails.
-fn expect_put(
+/// A sink's room and its pace, the number of its call that fails, and how many of 20 bytes arrive in it.
+type Put = (usize, usize, u64, usize);
+
+static PUTS: [Put; 7] = [
+    (10, 200, 9, 10),
+    (20, 10, 1, 10),
+    (20, 10, 2, 20),
+    (20, 200, 0, 0),
+    (20, 200, 1, 20),
+    (30, 8, 2, 16),
+    (30, 8, 3, 20),
+];
+
+/// A sink with this room, at this pace, where the call of this number fails.
+fn sink_of(
     rt: &impl Abort,
     alloc: Global,
     room: usize,
     most: usize,
     fails: u64,
-    arrived: usize,
-) -> Result<(), Fail> {
+) -> Result<MemSink, Fail> {
     assert!(rt; 0 < most);
-    let mut sink = MemSink::new(vec![in alloc; 0; room]?, most, [fails].to_vec(alloc)?);
-    let result = put_all(&mut sink, TWENTY);
+    let room = vec![in alloc; 0; room]?;
+    let fails = [fails].to_vec(alloc)?;
+    Ok(MemSink::new(room, most, fails))
+}
+
+/// As many of 20 bytes arrive in the sink as are expected.
+fn expect_arrived(rt: &impl Abort, sink: &mut MemSink, put: &Put) {
+    let (room, most, fails, arrived) = *put;
+    let result = put_all(sink, TWENTY);
     assert_eq!(rt; result.is_ok(), arrived == 20, "at {room}, {most}, {fails}");
     assert_eq!(rt;
         Some(sink.bytes()),
         TWENTY.get(..arrived),
         "at {room}, {most}, {fails}"
     );
+}
+
+/// So many of 20 bytes arrive in the sink of this put.
+fn expect_put(rt: &impl Abort, alloc: Global, put: &Put) -> Result<(), Fail> {
+    let (room, most, fails, _arrived) = *put;
+    let mut sink = sink_of(rt, alloc, room, most, fails)?;
+    expect_arrived(rt, &mut sink, put);
     Ok(())
 }
 
 #[test]
 fn puts_fail_at_their_calls(rt: HostRuntime) -> Result<(), Fail> {
-    for (room, most, fails, arrived) in [
-        (10, 200, 9, 10),
-        (20, 10, 1, 10),
-        (20, 10, 2, 20),
-        (20, 200, 0, 0),
-        (20, 200, 1, 20),
-        (30, 8, 2, 16),
-        (30, 8, 3, 20),
-    ] {
-        expect_put(&rt, rt.alloc(), room, most, fails, arrived)?;
+    for put in &PUTS {
+        expect_put(&rt, rt.alloc(), put)?;
     }
+    Ok(())
+}
+
+/// What a whole read gives of a reader of three bytes.
+fn read_three(alloc: Global) -> Result<Vec<u8>, Fail> {
+    let mut source = StdSource::new(b"abc".as_slice());
+    Ok(read_all(alloc, &mut source, 3)?)
+}
+
+/// A whole put writes these bytes.
+fn expect_written(rt: &impl Abort, written: &mut Vec<u8>, bytes: &[u8]) -> Result<(), Fail> {
+    put_all(&mut StdSink::new(&mut *written), bytes)?;
+    assert_eq!(rt; written.as_slice(), b"abc".as_slice());
     Ok(())
 }
 
 #[test]
 fn std_streams(rt: HostRuntime) -> Result<(), Fail> {
-    let alloc = rt.alloc();
-    let mut source = StdSource::new(b"abc".as_slice());
-    let bytes = read_all(alloc, &mut source, 3)?;
+    let bytes = read_three(rt.alloc())?;
     assert_eq!(rt; bytes.as_slice(), b"abc".as_slice());
-    let mut written = Vec::new(alloc);
-    let mut sink = StdSink::new(&mut written);
-    put_all(&mut sink, &bytes)?;
-    assert_eq!(rt; written.as_slice(), b"abc".as_slice());
-    Ok(())
+    let mut written = Vec::new(rt.alloc());
+    expect_written(&rt, &mut written, &bytes)
 }
 
 /// A writer that takes all, and cannot flush.
@@ -143,6 +186,34 @@ impl Read for OneFaultReader<'_> {
     }
 }
 
+/// What a whole read gives of a reader.
+fn read_five(alloc: Global, reader: &mut OneFaultReader) -> Result<Vec<u8>, ReadAllFault> {
+    read_all(alloc, &mut StdSource::new(reader), 5)
+}
+
+/// A whole read ends at its failed read.
+fn expect_fault(rt: &impl Abort, alloc: Global, reader: &mut OneFaultReader) {
+    let fails_at = reader.fails_at;
+    assert_eq!(rt;
+        read_five(alloc, reader).err(),
+        Some(ReadAllFault::ReadFault),
+        "at {fails_at}"
+    );
+    assert_eq!(rt; reader.reads, fails_at, "at {fails_at}");
+}
+
+/// A whole read gives what is left.
+fn expect_left(
+    rt: &impl Abort,
+    alloc: Global,
+    reader: &mut OneFaultReader,
+    left: &[u8],
+) -> Result<(), Fail> {
+    let bytes = read_five(alloc, reader)?;
+    assert_eq!(rt; bytes.as_slice(), left, "at {}", reader.fails_at);
+    Ok(())
+}
+
 /// A whole read ends at its failed read, and the next whole read gives what is left then.
 fn expect_failed_read(
     rt: &impl Abort,
@@ -155,16 +226,8 @@ fn expect_failed_read(
         fails_at,
         reads: 0,
     };
-    let result = read_all(alloc, &mut StdSource::new(&mut reader), 5);
-    assert_eq!(rt;
-        result.err(),
-        Some(ReadAllFault::ReadFault),
-        "at {fails_at}"
-    );
-    assert_eq!(rt; reader.reads, fails_at, "at {fails_at}");
-    let bytes = read_all(alloc, &mut StdSource::new(&mut reader), 5)?;
-    assert_eq!(rt; bytes.as_slice(), left, "at {fails_at}");
-    Ok(())
+    expect_fault(rt, alloc, &mut reader);
+    expect_left(rt, alloc, &mut reader, left)
 }
 
 /// Three reads give the text, and the fourth finds its end. The failed one is the last of a whole
@@ -219,6 +282,13 @@ impl Write for CountedWriter {
     }
 }
 
+/// How often a writer was called for what.
+fn expect_calls(rt: &impl Abort, writer: &CountedWriter, writes: u32, flushes: u32, taken: usize) {
+    assert_eq!(rt; writer.writes, writes);
+    assert_eq!(rt; writer.flushes, flushes);
+    assert_eq!(rt; writer.taken, taken);
+}
+
 /// How a whole put of the text into a writer goes: whether it is a fault, and how often the writer is called for what.
 fn expect_writes(
     rt: &impl Abort,
@@ -230,9 +300,7 @@ fn expect_writes(
 ) {
     let result = put_all(&mut StdSink::new(&mut *writer), TEXT);
     assert_eq!(rt; result.is_err(), fails, "{} writes", writer.writes);
-    assert_eq!(rt; writer.writes, writes);
-    assert_eq!(rt; writer.flushes, flushes);
-    assert_eq!(rt; writer.taken, taken);
+    expect_calls(rt, writer, writes, flushes, taken);
 }
 
 /// The write and the flush of a put that fail, and the writes, the flushes and the bytes taken then.
@@ -271,14 +339,18 @@ fn a_whole_put_writes_and_flushes(rt: HostRuntime) {
     }
 }
 
+/// An empty piece, and a whole put of nothing, go well.
+fn expect_empty_puts(rt: &impl Abort, writer: &mut CountedWriter) {
+    let mut sink = StdSink::new(writer);
+    assert_eq!(rt; sink.put(b""), Ok(0));
+    assert_eq!(rt; put_all(&mut sink, b""), Ok(()));
+}
+
 /// An empty piece is no write and no flush.
 #[test]
 fn an_empty_piece_is_not_written(rt: HostRuntime) {
     let mut writer = CountedWriter::new(1, 1);
-    let mut sink = StdSink::new(&mut writer);
-    assert_eq!(rt; sink.put(b""), Ok(0));
-    assert_eq!(rt; put_all(&mut sink, b""), Ok(()));
-    drop(sink);
+    expect_empty_puts(&rt, &mut writer);
     assert_eq!(rt; writer.writes, 0);
     assert_eq!(rt; writer.flushes, 0);
 }

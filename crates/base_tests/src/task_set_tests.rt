@@ -67,12 +67,17 @@ fn assert_contents(rt: &impl Abort, set: &TaskSet) {
     }
 }
 
+/// Asserts what each call answers.
+fn assert_answers(rt: &impl Abort, set: &mut TaskSet) {
+    for (name, priority, width, answer) in &CALLS {
+        assert_added(rt, set, name, *priority, *width, *answer);
+    }
+}
+
 #[test]
 fn add_refuses(rt: HostRuntime) -> Result<(), Fail> {
     let mut set = TaskSet::new(rt.alloc(), 2)?;
-    for (name, priority, width, answer) in &CALLS {
-        assert_added(&rt, &mut set, name, *priority, *width, *answer);
-    }
+    assert_answers(&rt, &mut set);
     assert_contents(&rt, &set);
     Ok(())
 }
@@ -120,15 +125,26 @@ static REFUSED: [(&str, u32, TaskFault); 3] = [
     ("9", 0, TaskFault::BadName),
 ];
 
+/// Adds as many tasks as a set may have.
+fn fill(rt: &(impl Abort + AllocGlobal), set: &mut TaskSet) -> Result<(), Fail> {
+    for t in 0..MAX_TASKS as u32 {
+        add_numbered(rt, set, t)?;
+    }
+    Ok(())
+}
+
+/// Asserts why a full set refuses each task.
+fn assert_refusals(rt: &impl Abort, set: &mut TaskSet) {
+    for (name, priority, fault) in &REFUSED {
+        assert_added(rt, set, name, *priority, 1, Err(*fault));
+    }
+}
+
 #[test]
 fn full_set_refuses(rt: HostRuntime) -> Result<(), Fail> {
     let mut set = TaskSet::new(rt.alloc(), 1)?;
-    for t in 0..MAX_TASKS as u32 {
-        add_numbered(&rt, &mut set, t)?;
-    }
-    for (name, priority, fault) in &REFUSED {
-        assert_added(&rt, &mut set, name, *priority, 1, Err(*fault));
-    }
+    fill(&rt, &mut set)?;
+    assert_refusals(&rt, &mut set);
     Ok(())
 }
 

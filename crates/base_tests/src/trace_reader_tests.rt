@@ -1,14 +1,16 @@
 //! Texts of inputs, spelled out by hand.
 use affinity_mask::{MaskFault, ProcSet};
+use std::alloc::Global;
+use std::process::Abort;
 use std::str;
 use std::test::Fail;
 use task_set::{Event, TaskFault};
-use trace_reader::{InputFault, InputKind, Posted, read_input, read_number, write_input};
+use trace_reader::{Input, InputFault, InputKind, Posted, read_input, read_number, write_input};
 
 const SMALLEST: &str = "apa 1\nprocessors 1\ntask a 5 0\n0 arrive a\nend\n";
 
 /// Texts, each with the first line that has a fault, and its kind.
-const FIRST_FAULTS: [(&str, u64, InputKind); 23] = [
+static FIRST_FAULTS: [(&str, u64, InputKind); 23] = [
     ("apa 1\r\n", 1, InputKind::BadByte),
     ("# caf\u{e9}\n", 1, InputKind::BadByte),
     ("apa\n", 1, InputKind::BadHeader),
@@ -79,7 +81,7 @@ const FIRST_FAULTS: [(&str, u64, InputKind); 23] = [
 ];
 
 /// Events on line 4 of a text in which task a may run on processor 0 of two, each with the version and the kind of the fault.
-const EVENT_FAULTS: [(u8, &str, InputKind); 16] = [
+static EVENT_FAULTS: [(u8, &str, InputKind); 16] = [
     (1, "0 affinity a 1", InputKind::BadEvent),
     (1, "0 affinity a 1-0", InputKind::BadEvent),
     (1, "0 offline 0", InputKind::BadEvent),
@@ -107,39 +109,42 @@ const EVENT_FAULTS: [(u8, &str, InputKind); 16] = [
 ];
 
 /// The text with this version, two processors, task a on processor 0, and then this line.
-fn text_with(rt: &HostRuntime, version: u8, line: &str) -> Result<Vec<u8>, Fail> {
-    let mut text = Vec::new(rt.alloc());
-    text.extend_from_slice(b"apa ")?;
-    text.push(if version == 2 { b'2' } else { b'1' })?;
-    text.extend_from_slice(b"\nprocessors 2\ntask a 1 0\n")?;
-    text.extend_from_slice(line.as_bytes())?;
-    Ok(text)
+fn text_with(alloc: Global, version: u8, line: &str) -> Result<String, Fail> {
+    Ok(format!(in alloc; "apa {version}\nprocessors 2\ntask a 1 0\n{line}")?)
 }
 
 /// The first fault of a text, if it has one.
-fn fault_of(rt: &HostRuntime, text: &str) -> Option<InputFault> {
-    read_input(rt.alloc(), text.as_bytes()).err()
+fn fault_of(alloc: Global, text: &str) -> Option<InputFault> {
+    read_input(alloc, text.as_bytes()).err()
 }
+
+/// Asserts what is written for the input of a text.
+fn expect_written(rt: &impl Abort, alloc: Global, input: &Input, text: &str, want: &str) {
+    let written = write_input(alloc, input).expect(rt, "memory");
+    assert_eq!(rt; str::from_utf8(&written), Ok(want), "at {text:?}");
+}
+
+/// Fields, each with bounds and the number that it is read as.
+static NUMBERS: [(&str, u64, u64, Option<u64>); 11] = [
+    ("0", 0, 9, Some(0)),
+    ("007", 0, 9, Some(7)),
+    ("000000000000000000000000000000000000001", 1, 1, Some(1)),
+    ("10", 0, 9, None),
+    ("0", 1, 9, None),
+    ("", 0, 9, None),
+    ("+7", 0, 9, None),
+    ("-7", 0, 9, None),
+    ("7 ", 0, 9, None),
+    ("18446744073709551615", 0, u64::MAX, Some(u64::MAX)),
+    ("18446744073709551616", 0, u64::MAX, None),
+];
 
 #[test]
 fn numbers(rt: HostRuntime) {
-    let rows = [
-        ("0", 0, 9, Some(0)),
-        ("007", 0, 9, Some(7)),
-        ("000000000000000000000000000000000000001", 1, 1, Some(1)),
-        ("10", 0, 9, None),
-        ("0", 1, 9, None),
-        ("", 0, 9, None),
-        ("+7", 0, 9, None),
-        ("-7", 0, 9, None),
-        ("7 ", 0, 9, None),
-        ("18446744073709551615", 0, u64::MAX, Some(u64::MAX)),
-        ("18446744073709551616", 0, u64::MAX, None),
-    ];
-    for (field, least, most, want) in rows {
+    for (field, least, most, want) in &NUMBERS {
         assert_eq!(rt;
-            read_number(field.as_bytes(), least, most),
-            want,
+            read_number(field.as_bytes(), *least, *most),
+            *want,
             "at {field:?}"
         );
     }
@@ -154,8 +159,7 @@ fn lines_between_the_lines(rt: HostRuntime) {
     ];
     for text in texts {
         let input = read_input(rt.alloc(), text.as_bytes()).expect(&rt, "an input");
-        let written = write_input(rt.alloc(), &input).expect(&rt, "memory");
-        assert_eq!(rt; str::from_utf8(&written), Ok(SMALLEST), "at {text:?}");
+        expect_written(&rt, rt.alloc(), &input, text, SMALLEST);
     }
 }
 
@@ -179,32 +183,40 @@ fn every_event(rt: HostRuntime) {
         },
     ];
     assert_eq!(rt; input.events(), events.as_slice());
-    let written = write_input(rt.alloc(), &input).expect(&rt, "memory");
     let want =
         "apa 1\nprocessors 64\ntask a 4294967295 0-63\ntask b 0 1-3,5\n15 arrive b\n0 tick 1000000\n7 depart a\nend\n";
-    assert_eq!(rt; str::from_utf8(&written), Ok(want));
+    expect_written(&rt, rt.alloc(), &input, text, want);
 }
 
 #[test]
 fn first_faults(rt: HostRuntime) {
-    for (text, line, kind) in FIRST_FAULTS {
-        assert_eq!(rt;
-            fault_of(&rt, text),
-            Some(InputFault { line, kind }),
-            "at {text:?}"
-        );
+    for (text, line, kind) in &FIRST_FAULTS {
+        let fault = InputFault {
+            line: *line,
+            kind: *kind,
+        };
+        assert_eq!(rt; fault_of(rt.alloc(), text), Some(fault), "at {text:?}");
     }
+}
+
+/// Asserts that an event on line 4 has a fault of this kind.
+fn expect_fault(
+    rt: &impl Abort,
+    alloc: Global,
+    version: u8,
+    event: &str,
+    kind: InputKind,
+) -> Result<(), Fail> {
+    let text = text_with(alloc, version, event)?;
+    let fault = InputFault { line: 4, kind };
+    assert_eq!(rt; fault_of(alloc, &text), Some(fault), "at {event:?}");
+    Ok(())
 }
 
 #[test]
 fn events_of_both_versions(rt: HostRuntime) -> Result<(), Fail> {
-    for (version, event, kind) in EVENT_FAULTS {
-        let text = text_with(&rt, version, event)?;
-        assert_eq!(rt;
-            read_input(rt.alloc(), &text).err(),
-            Some(InputFault { line: 4, kind }),
-            "at {event:?}"
-        );
+    for (version, event, kind) in &EVENT_FAULTS {
+        expect_fault(&rt, rt.alloc(), *version, event, *kind)?;
     }
     Ok(())
 }
@@ -237,21 +249,26 @@ fn every_event_of_version_two(rt: HostRuntime) {
         },
     ];
     assert_eq!(rt; input.events(), events.as_slice());
-    let written = write_input(rt.alloc(), &input).expect(&rt, "memory");
     let want =
         "apa 2\nprocessors 4\ntask a 1 0-3\n0 affinity a 1,3\n1 offline 2\n15 online 2\n0 arrive a\nend\n";
-    assert_eq!(rt; str::from_utf8(&written), Ok(want));
+    expect_written(&rt, rt.alloc(), &input, text, want);
+}
+
+/// A text with one event more than an input may have.
+fn long_text(alloc: Global) -> Result<String, Fail> {
+    let mut text = text_with(alloc, 2, "")?;
+    for _ in 0..20_000 {
+        text.push_str("0 tick 1\n")?;
+    }
+    text.push_str("0 affinity a 2\n")?;
+    Ok(text)
 }
 
 #[test]
 fn one_event_too_many(rt: HostRuntime) -> Result<(), Fail> {
-    let mut text = text_with(&rt, 2, "")?;
-    for _ in 0..20_000 {
-        text.extend_from_slice(b"0 tick 1\n")?;
-    }
-    text.extend_from_slice(b"0 affinity a 2\n")?;
+    let text = long_text(rt.alloc())?;
     assert_eq!(rt;
-        read_input(rt.alloc(), &text).err(),
+        fault_of(rt.alloc(), &text),
         Some(InputFault {
             line: 20_004,
             kind: InputKind::ManyEvents,
