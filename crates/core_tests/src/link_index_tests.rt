@@ -1,7 +1,7 @@
 //! The index against plain scans, on generated states.
 use crate::link_table_tests::{arrive, is_chain, is_simple};
 use crate::numbers::Numbers;
-use crate::tables::{Task, tasks_of};
+use crate::tables::{Task, add_numbered, links_of, links_over};
 use affinity_mask::ProcSet;
 use link_table::{Chain, Links};
 use std::process::Abort;
@@ -176,6 +176,20 @@ fn step(rt: &impl Abort, numbers: &mut Numbers, links: &mut Links, t: u32) {
     }
 }
 
+/// Adds a task with a priority of its own and a mask that is taken at random.
+fn add_some(
+    rt: &(impl Abort + AllocGlobal),
+    numbers: &mut Numbers,
+    set: &mut TaskSet,
+    t: u32,
+) -> Result<(), Fail> {
+    let processors = set.processors();
+    assert!(rt; 1 <= processors && processors <= 64);
+    let own = numbers.below(u32::from(processors)) as u8;
+    let mask = numbers.some_of(processors, 2).with(own);
+    add_numbered(rt.alloc(), set, 't', t.wrapping_mul(37) % 1009, mask)
+}
+
 /// A set of so many tasks, each with a priority of its own and a mask that is taken at random.
 fn some_set(
     rt: &(impl Abort + AllocGlobal),
@@ -186,33 +200,46 @@ fn some_set(
     assert!(rt; 1 <= processors && processors <= 64);
     let mut set = TaskSet::new(rt.alloc(), processors)?;
     for t in 0..tasks {
-        let name = format!(in rt.alloc(); "t{t}")?;
-        let own = numbers.below(u32::from(processors)) as u8;
-        let mask = numbers.some_of(processors, 2).with(own);
-        set.add(&name, t.wrapping_mul(37) % 1009, mask)?;
+        add_some(rt, numbers, &mut set, t)?;
     }
     Ok(set)
 }
 
+/// The state of a set of so many tasks that is taken at random.
+fn some_links(
+    rt: &(impl Abort + AllocGlobal),
+    numbers: &mut Numbers,
+    processors: u8,
+    tasks: u32,
+) -> Result<Links, Fail> {
+    let set = some_set(rt, numbers, processors, tasks)?;
+    links_over(rt.alloc(), &set)
+}
+
 /// Compares after each of so many steps.
+fn compare_steps(rt: &impl Abort, numbers: &mut Numbers, links: &mut Links, steps: u32) {
+    let (processors, tasks) = (links.processors(), links.len());
+    assert!(rt; 0 < tasks && processors <= 64);
+    let mut online = ProcSet::first(processors);
+    for _step in 0..steps {
+        let t = numbers.below(tasks);
+        step(rt, numbers, links, t);
+        online = turn(rt, numbers, links, online);
+        assert!(rt; links.online() == online, "on line");
+        compare(rt, links, numbers.some_of(processors, 2));
+    }
+}
+
+/// Compares after each of so many steps of a state that is taken at random.
 fn run(
     rt: &(impl Abort + AllocGlobal),
     processors: u8,
     tasks: u32,
     steps: u32,
 ) -> Result<(), Fail> {
-    assert!(rt; 0 < tasks && processors <= 64);
     let mut numbers = Numbers::after(1);
-    let set = some_set(rt, &mut numbers, processors, tasks)?;
-    let mut links = Links::new(rt.alloc(), &set)?;
-    let mut online = ProcSet::first(processors);
-    for _step in 0..steps {
-        let t = numbers.below(tasks);
-        step(rt, &mut numbers, &mut links, t);
-        online = turn(rt, &mut numbers, &mut links, online);
-        assert!(rt; links.online() == online, "on line");
-        compare(rt, &links, numbers.some_of(processors, 2));
-    }
+    let mut links = some_links(rt, &mut numbers, processors, tasks)?;
+    compare_steps(rt, &mut numbers, &mut links, steps);
     Ok(())
 }
 
@@ -230,20 +257,23 @@ fn two_and_two(rt: &(impl Abort + AllocGlobal)) -> Result<Links, Fail> {
         ("w1", 3, &[1]),
         ("w2", 5, &[0]),
     ];
-    let set = tasks_of(rt, rt.alloc(), 2, &tasks)?;
-    let mut links = Links::new(rt.alloc(), &set)?;
-    arrive(rt, &mut links, 0, &[0]);
-    arrive(rt, &mut links, 1, &[1]);
+    let mut links = links_of(rt, rt.alloc(), 2, &tasks)?;
+    make_two_run(rt, &mut links);
+    Ok(links)
+}
+
+/// The first two tasks arrive, each at a processor, and the other two become ready.
+fn make_two_run(rt: &impl Abort, links: &mut Links) {
+    arrive(rt, links, 0, &[0]);
+    arrive(rt, links, 1, &[1]);
     for t in 2..4 {
         assert!(rt; t < links.len() && !links.is_ready(t));
         links.make_ready(t);
     }
-    Ok(links)
 }
 
-#[test]
-fn two_wait_for_two_processors(rt: HostRuntime) -> Result<(), Fail> {
-    let links = two_and_two(&rt)?;
+/// The most urgent one of those who wait for a processor, and whom each processor can get its occupant from.
+fn ask_who_waits(rt: &impl Abort, links: &Links) {
     assert!(rt; links.processors() == 2);
     assert_eq!(rt; links.most_urgent_in(ProcSet::one(1)), Some(2));
     assert_eq!(rt; links.most_urgent_in(ProcSet::first(2)), Some(2));
@@ -251,23 +281,25 @@ fn two_wait_for_two_processors(rt: HostRuntime) -> Result<(), Fail> {
     assert_eq!(rt; links.most_urgent_in(ProcSet::empty()), None);
     assert!(rt; links.feeders(0) == ProcSet::first(2));
     assert!(rt; links.feeders(1) == ProcSet::one(1));
+}
+
+#[test]
+fn two_wait_for_two_processors(rt: HostRuntime) -> Result<(), Fail> {
+    let links = two_and_two(&rt)?;
+    ask_who_waits(&rt, &links);
     Ok(())
 }
 
-/// The processor of the only task of two processors goes off line, and then it becomes ready.
-fn ready_without_processor(rt: &(impl Abort + AllocGlobal)) -> Result<Links, Fail> {
-    let set = tasks_of(rt, rt.alloc(), 2, &[("w", 1, &[1])])?;
-    let mut links = Links::new(rt.alloc(), &set)?;
+/// The only task of two processors becomes ready, and its processor goes off line.
+fn ready_without_processor(rt: &impl Abort, links: &mut Links) {
     assert!(rt; links.processors() == 2 && links.len() == 1);
     assert!(rt; !links.is_ready(0) && links.on(1).is_none());
     links.make_ready(0);
     links.set_online(1, false);
-    Ok(links)
 }
 
-#[test]
-fn a_task_waits_for_no_processor(rt: HostRuntime) -> Result<(), Fail> {
-    let mut links = ready_without_processor(&rt)?;
+/// The task waits for no processor, until its processor comes on line.
+fn wait_for_the_processor(rt: &impl Abort, links: &mut Links) {
     assert!(rt; links.processors() == 2 && links.len() == 1);
     assert!(rt; links.effective(0).is_empty() && links.is_waiting(0));
     assert!(rt; links.idle() == ProcSet::one(0));
@@ -275,5 +307,12 @@ fn a_task_waits_for_no_processor(rt: HostRuntime) -> Result<(), Fail> {
     assert!(rt; links.on(1).is_none());
     links.set_online(1, true);
     assert_eq!(rt; links.most_urgent_in(ProcSet::first(2)), Some(0));
+}
+
+#[test]
+fn a_task_waits_for_no_processor(rt: HostRuntime) -> Result<(), Fail> {
+    let mut links = links_of(&rt, rt.alloc(), 2, &[("w", 1, &[1])])?;
+    ready_without_processor(&rt, &mut links);
+    wait_for_the_processor(&rt, &mut links);
     Ok(())
 }

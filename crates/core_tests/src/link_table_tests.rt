@@ -3,7 +3,7 @@ ghost use Rattle.std.specs.Prelude.{◌<◌, ℕ, IsTrue};
 ghost use Rattle.link_state.specs.State.{task_count};
 ghost use Rattle.link_state.specs.Chain.{IsChainOf, IsSimple};
 
-use crate::tables::{Task, chain_of, tasks_of};
+use crate::tables::{Task, chain_of, links_of};
 use affinity_mask::ProcSet;
 use link_table::{Chain, Links};
 use std::process::Abort;
@@ -71,13 +71,17 @@ fn moves(
     assert_eq!(rt; [links.on(0), links.on(1)], on, "task {t}");
 }
 
+/// Three tasks come, one after the other.
+fn move_three(rt: &impl Abort, links: &mut Links) {
+    moves(rt, links, 0, &[0], None, [Some(0), None]);
+    moves(rt, links, 1, &[0, 1], None, [Some(1), Some(0)]);
+    moves(rt, links, 2, &[1], Some(0), [Some(1), Some(2)]);
+}
+
 #[test]
 fn tasks_move_along_chains(rt: HostRuntime) -> Result<(), Fail> {
     let tasks: [Task; 3] = [("a", 1, &[0, 1]), ("b", 3, &[0]), ("c", 2, &[1])];
-    let set = tasks_of(&rt, rt.alloc(), 2, &tasks)?;
-    let mut links = Links::new(rt.alloc(), &set)?;
-    moves(&rt, &mut links, 0, &[0], None, [Some(0), None]);
-    moves(&rt, &mut links, 1, &[0, 1], None, [Some(1), Some(0)]);
-    moves(&rt, &mut links, 2, &[1], Some(0), [Some(1), Some(2)]);
+    let mut links = links_of(&rt, rt.alloc(), 2, &tasks)?;
+    move_three(&rt, &mut links);
     Ok(())
 }

@@ -1,5 +1,5 @@
 //! What no clause says: that the calls say of small states what a reader works out by hand.
-use crate::tables::{chain_of, set_of};
+use crate::tables::{add_numbered, chain_of, links_over, set_of};
 use affinity_mask::ProcSet;
 use link_table::{Chain, Links};
 use path_search::{back_chain, back_set, chain_to, chain_to_idle, reach};
@@ -211,22 +211,31 @@ fn tasks_of_row(rt: &impl Abort, alloc: Global, row: &Row) -> Result<TaskSet, Fa
     let mut set = TaskSet::new(alloc, row.processors)?;
     for (mask, _) in row.tasks {
         let t = set.len();
-        let name = format!(in alloc; "t{t}")?;
-        set.add(name.as_str(), t, set_of(rt, mask))?;
+        add_numbered(alloc, &mut set, 't', t, set_of(rt, mask))?;
     }
     Ok(set)
 }
 
 /// The state of a row.
 fn state_of(rt: &impl Abort, alloc: Global, row: &Row) -> Result<Links, Fail> {
+    let mut links = links_of_row(rt, alloc, row)?;
+    link_row(rt, &mut links, row);
+    Ok(links)
+}
+
+/// The state of the tasks of a row, none of which is ready.
+fn links_of_row(rt: &impl Abort, alloc: Global, row: &Row) -> Result<Links, Fail> {
     let set = tasks_of_row(rt, alloc, row)?;
-    let mut links = Links::new(alloc, &set)?;
+    links_over(alloc, &set)
+}
+
+/// Links the tasks of a row that have a processor.
+fn link_row(rt: &impl Abort, links: &mut Links, row: &Row) {
     for ((_, place), t) in row.tasks.iter().zip(0..1024) {
         if let Some(p) = place {
-            link(rt, &mut links, t, *p);
+            link(rt, links, t, *p);
         }
     }
-    Ok(links)
 }
 
 /// Compares what the searches say of a row.
@@ -255,12 +264,17 @@ fn searches_by_calls(rt: HostRuntime) -> Result<(), Fail> {
 /// Tasks that may move on by one processor, each with that of its number, and one that may run on the first alone.
 fn staircase(alloc: Global) -> Result<TaskSet, Fail> {
     let mut set = TaskSet::new(alloc, 64)?;
+    add_stairs(alloc, &mut set)?;
+    Ok(set)
+}
+
+/// Adds the tasks that may move on by one processor, and the one that may run on the first alone.
+fn add_stairs(alloc: Global, set: &mut TaskSet) -> Result<(), Fail> {
     for p in 0..63 {
-        let name = format!(in alloc; "c{p}")?;
-        set.add(name.as_str(), p as u32, ProcSet::one(p).with(p + 1))?;
+        add_numbered(alloc, set, 'c', p as u32, ProcSet::one(p).with(p + 1))?;
     }
     set.add("z", 63, ProcSet::one(0))?;
-    Ok(set)
+    Ok(())
 }
 
 /// All processors, in their order.
@@ -273,18 +287,33 @@ fn all_processors(rt: &impl Abort) -> Chain {
     chain
 }
 
+/// The state of these tasks, none of which is ready.
+fn links_of_staircase(alloc: Global) -> Result<Links, Fail> {
+    let set = staircase(alloc)?;
+    links_over(alloc, &set)
+}
+
+/// Links each task but the last one to the processor of its number.
+fn link_staircase(rt: &impl Abort, links: &mut Links) {
+    for p in 0..63 {
+        link(rt, links, p as u32, p);
+    }
+}
+
+/// The last task reaches all processors, by a chain of all of them.
+fn ask_last(rt: &impl Abort, links: &Links) {
+    let onward = all_processors(rt);
+    assert!(rt; links.len() == 64 && links.processors() == 64);
+    assert_eq!(rt; reach(links, 63), ProcSet::first(64));
+    assert_eq!(rt; back_chain(links, 63, 63), Some(onward.reversed()));
+    assert_eq!(rt; chain_to_idle(links, 63), Some(onward));
+}
+
 /// Each processor but the last is occupied, and its task may move on by one.
 #[test]
 fn the_longest_chain(rt: HostRuntime) -> Result<(), Fail> {
-    let set = staircase(rt.alloc())?;
-    let mut links = Links::new(rt.alloc(), &set)?;
-    for p in 0..63 {
-        link(&rt, &mut links, p as u32, p);
-    }
-    let onward = all_processors(&rt);
-    assert!(rt; links.len() == 64 && links.processors() == 64);
-    assert_eq!(rt; reach(&links, 63), ProcSet::first(64));
-    assert_eq!(rt; back_chain(&links, 63, 63), Some(onward.reversed()));
-    assert_eq!(rt; chain_to_idle(&links, 63), Some(onward));
+    let mut links = links_of_staircase(rt.alloc())?;
+    link_staircase(&rt, &mut links);
+    ask_last(&rt, &links);
     Ok(())
 }

@@ -2,6 +2,7 @@
 //! generated states.
 use crate::numbers::Numbers;
 use crate::path_search_tests::link;
+use crate::tables::{add_numbered, links_over};
 use affinity_mask::ProcSet;
 use link_table::{Chain, Links};
 use path_search::{back_chain, back_set, chain_to, chain_to_idle, reach};
@@ -118,8 +119,8 @@ fn generated_set(
     assert!(rt; 0 < processors && processors <= 64);
     let mut set = TaskSet::new(alloc, processors)?;
     for t in 0..tasks {
-        let name = format!(in alloc; "t{t}")?;
-        set.add(name.as_str(), t, some_mask(rt, numbers, processors))?;
+        let mask = some_mask(rt, numbers, processors);
+        add_numbered(alloc, &mut set, 't', t, mask)?;
     }
     Ok(set)
 }
@@ -140,14 +141,31 @@ fn generated(
     processors: u8,
     tasks: u32,
 ) -> Result<Links, Fail> {
-    assert!(rt; 0 < processors);
-    let set = generated_set(rt, alloc, numbers, processors, tasks)?;
-    let mut links = Links::new(alloc, &set)?;
-    for t in 0..tasks {
-        let p = numbers.below(u32::from(processors)) as u8;
-        offer(rt, &mut links, t, p);
-    }
+    let mut links = generated_links(rt, alloc, numbers, processors, tasks)?;
+    offer_all(rt, numbers, &mut links);
     Ok(links)
+}
+
+/// The state of a generated set, in which no task is ready.
+fn generated_links(
+    rt: &impl Abort,
+    alloc: Global,
+    numbers: &mut Numbers,
+    processors: u8,
+    tasks: u32,
+) -> Result<Links, Fail> {
+    let set = generated_set(rt, alloc, numbers, processors, tasks)?;
+    links_over(alloc, &set)
+}
+
+/// Each task is offered a processor.
+fn offer_all(rt: &impl Abort, numbers: &mut Numbers, links: &mut Links) {
+    let processors = links.processors();
+    assert!(rt; 0 < processors);
+    for t in 0..links.len() {
+        let p = numbers.below(u32::from(processors)) as u8;
+        offer(rt, links, t, p);
+    }
 }
 
 /// The calls at a task and a processor say what the plain searches say.

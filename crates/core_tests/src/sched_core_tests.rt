@@ -6,13 +6,22 @@ use sched_core::{Core, CoreFault, MAX_ENTRIES};
 use std::alloc::Global;
 use std::process::Abort;
 use std::test::Fail;
-use task_set::{Event, Order};
+use task_set::{Event, Order, TaskSet};
 
 /// A core over two processors, with a task that may run on both and a less urgent one that may run on the first alone.
 fn core_of_two(rt: &impl Abort, alloc: Global) -> Result<Core, Fail> {
-    let set = tasks_of(rt, alloc, 2, &[("a", 1, &[0, 1]), ("b", 2, &[0])])?;
-    let core = Core::new(alloc, &set)?;
-    Ok(core)
+    core_of(rt, alloc, 2, &[("a", 1, &[0, 1]), ("b", 2, &[0])])
+}
+
+/// A core over these tasks.
+fn core_of(rt: &impl Abort, alloc: Global, processors: u8, tasks: &[Task]) -> Result<Core, Fail> {
+    let set = tasks_of(rt, alloc, processors, tasks)?;
+    core_over(alloc, &set)
+}
+
+/// A core over a set of tasks.
+fn core_over(alloc: Global, set: &TaskSet) -> Result<Core, Fail> {
+    Ok(Core::new(alloc, set)?)
 }
 
 /// Applies an event of a task or a processor of the core.
@@ -102,18 +111,23 @@ fn entries_of_events(rt: &impl Abort) -> [Entry; 3] {
     ]
 }
 
+/// A core gets these events, and is closed twice.
+fn open_and_close(rt: &impl Abort, core: &mut Core) -> Result<(), Fail> {
+    core.reserve()?;
+    apply_events(rt, core);
+    assert_eq!(rt; orders(rt, core, 0), open_orders().as_slice());
+    core.close_now();
+    closed_orders(rt, core);
+    core.close_now();
+    assert_eq!(rt; orders(rt, core, 1).len(), 4);
+    assert_eq!(rt; core.history(), entries_of_events(rt).as_slice());
+    Ok(())
+}
+
 #[test]
 fn core_by_calls(rt: HostRuntime) -> Result<(), Fail> {
     let mut core = core_of_two(&rt, rt.alloc())?;
-    core.reserve()?;
-    apply_events(&rt, &mut core);
-    assert_eq!(rt; orders(&rt, &core, 0), open_orders().as_slice());
-    core.close_now();
-    closed_orders(&rt, &mut core);
-    core.close_now();
-    assert_eq!(rt; orders(&rt, &core, 1).len(), 4);
-    assert_eq!(rt; core.history(), entries_of_events(&rt).as_slice());
-    Ok(())
+    open_and_close(&rt, &mut core)
 }
 
 /// The first task comes, runs, leaves, and does not run.
@@ -137,21 +151,30 @@ fn refuses(rt: &impl Abort, core: &mut Core, fault: CoreFault) {
     assert_eq!(rt; apply(rt, core, 0, Event::Tick(1)), Err(fault));
 }
 
-#[test]
-fn history_fills_up(rt: HostRuntime) -> Result<(), Fail> {
-    let mut core = core_of_two(&rt, rt.alloc())?;
-    fill(&rt, &mut core);
-    refuses(&rt, &mut core, CoreFault::Full);
-    core.close_now();
-    refuses(&rt, &mut core, CoreFault::Closed);
-    // A take, a run and a release for each four events, and the stop.
+/// The orders of a core whose history is full: a take, a run and a release for each four events, and the stop.
+fn full_orders(rt: &impl Abort, core: &Core) {
     let last = Order::Take {
         task: 0,
         number: 4999,
     };
-    assert_eq!(rt; orders(&rt, &core, 0).len(), 15_001);
-    assert_eq!(rt; orders(&rt, &core, 0).get(14_997), Some(&last));
-    assert_eq!(rt; orders(&rt, &core, 1), [Order::Stop].as_slice());
+    assert_eq!(rt; orders(rt, core, 0).len(), 15_001);
+    assert_eq!(rt; orders(rt, core, 0).get(14_997), Some(&last));
+    assert_eq!(rt; orders(rt, core, 1), [Order::Stop].as_slice());
+}
+
+/// The history of a core fills up, and then it takes no event.
+fn fill_and_close(rt: &impl Abort, core: &mut Core) {
+    fill(rt, core);
+    refuses(rt, core, CoreFault::Full);
+    core.close_now();
+    refuses(rt, core, CoreFault::Closed);
+    full_orders(rt, core);
+}
+
+#[test]
+fn history_fills_up(rt: HostRuntime) -> Result<(), Fail> {
+    let mut core = core_of_two(&rt, rt.alloc())?;
+    fill_and_close(&rt, &mut core);
     Ok(())
 }
 
@@ -302,28 +325,37 @@ fn event_of(rt: &impl Abort, happens: &Happens) -> Event {
 
 /// Applies the events of a row to a new core, and closes it.
 fn closed_core(rt: &impl Abort, alloc: Global, row: &Row, i: usize) -> Result<Core, Fail> {
-    let set = tasks_of(rt, alloc, row.processors, row.tasks)?;
-    let mut core = Core::new(alloc, &set)?;
-    for (j, happens) in row.events.iter().enumerate() {
-        let place = apply(rt, &mut core, 0, event_of(rt, happens));
-        assert_eq!(rt; place, Ok(j as u64), "row {i}");
-    }
+    let mut core = core_of(rt, alloc, row.processors, row.tasks)?;
+    apply_row(rt, &mut core, row, i);
     core.close_now();
     Ok(core)
+}
+
+/// Applies the events of a row.
+fn apply_row(rt: &impl Abort, core: &mut Core, row: &Row, i: usize) {
+    for (j, happens) in row.events.iter().enumerate() {
+        let place = apply(rt, core, 0, event_of(rt, happens));
+        assert_eq!(rt; place, Ok(j as u64), "row {i}");
+    }
+}
+
+/// Compares the orders of a core with those of a row.
+fn compare_orders(rt: &impl Abort, core: &Core, row: &Row, i: usize) {
+    for (p, expected) in row.orders.iter().enumerate() {
+        assert!(rt; p < 64);
+        assert_eq!(rt;
+            orders(rt, core, p as u8),
+            *expected,
+            "row {i}, processor {p}"
+        );
+    }
 }
 
 #[test]
 fn orders_by_hand(rt: HostRuntime) -> Result<(), Fail> {
     for (i, row) in ROWS.iter().enumerate() {
         let core = closed_core(&rt, rt.alloc(), row, i)?;
-        for (p, expected) in row.orders.iter().enumerate() {
-            assert!(rt; p < 64);
-            assert_eq!(rt;
-                orders(&rt, &core, p as u8),
-                *expected,
-                "row {i}, processor {p}"
-            );
-        }
+        compare_orders(&rt, &core, row, i);
     }
     Ok(())
 }

@@ -1,5 +1,5 @@
 //! What no clause says: that the calls answer on small tables what a reader works out by hand.
-use crate::tables::{Task, chain_of, set_of, tasks_of};
+use crate::tables::{Task, chain_of, links_of, set_of};
 use affinity_mask::ProcSet;
 use link_table::{Came, Gone, Links, Moved, Reply};
 use std::process::Abort;
@@ -360,13 +360,7 @@ fn reply_to(rt: &impl Abort, links: &mut Links, call: &Call) -> Reply {
             assert!(rt; *t < links.len());
             depart(links, *t)
         }
-        Call::Affinity(t, mask) => {
-            let mask = set_of(rt, mask);
-            assert!(rt; *t < links.len() && !mask.is_empty());
-            assert!(rt; links.processors() <= 64);
-            assert!(rt; mask.within(&ProcSet::first(links.processors())));
-            affinity(links, *t, mask)
-        }
+        Call::Affinity(t, mask) => reply_to_affinity(rt, links, *t, set_of(rt, mask)),
         Call::Offline(p) => {
             assert!(rt; *p < links.processors());
             offline(links, *p)
@@ -376,6 +370,14 @@ fn reply_to(rt: &impl Abort, links: &mut Links, call: &Call) -> Reply {
             online(links, *p)
         }
     }
+}
+
+/// The reply to a mask for a task of the table.
+fn reply_to_affinity(rt: &impl Abort, links: &mut Links, t: u32, mask: ProcSet) -> Reply {
+    assert!(rt; t < links.len() && !mask.is_empty());
+    assert!(rt; links.processors() <= 64);
+    assert!(rt; mask.within(&ProcSet::first(links.processors())));
+    affinity(links, t, mask)
 }
 
 /// Compares the replies to the calls of a row.
@@ -392,8 +394,7 @@ fn follow(rt: &impl Abort, links: &mut Links, row: &Row, i: usize) {
 #[test]
 fn replies_by_hand(rt: HostRuntime) -> Result<(), Fail> {
     for (i, row) in ROWS.iter().enumerate() {
-        let set = tasks_of(&rt, rt.alloc(), row.processors, row.tasks)?;
-        let mut links = Links::new(rt.alloc(), &set)?;
+        let mut links = links_of(&rt, rt.alloc(), row.processors, row.tasks)?;
         follow(&rt, &mut links, row, i);
     }
     Ok(())
