@@ -1,12 +1,11 @@
 //! The index against plain scans, on generated states.
 use crate::link_table_tests::{arrive, is_chain, is_simple};
 use crate::numbers::Numbers;
-use crate::tables::{Task, add_numbered, links_of, links_over};
+use crate::tables::{Sizes, Task, generated_links, links_of};
 use affinity_mask::ProcSet;
 use link_table::{Chain, Links};
 use std::process::Abort;
 use std::test::Fail;
-use task_set::TaskSet;
 
 /// The processor of a task, by a scan.
 fn scan_of(links: &Links, t: u32) -> Option<u8> {
@@ -67,20 +66,30 @@ fn earlier(rt: &impl Abort, links: &Links, a: u32, b: u32) -> u32 {
     }
 }
 
-/// Compares the answers with those of the scans.
-fn compare(rt: &impl Abort, links: &Links, set: ProcSet) {
+/// Compares the processor of each task with that of a scan.
+fn compare_places(rt: &impl Abort, links: &Links) {
     for t in 0..links.len() {
         assert_eq!(rt; links.of(t), scan_of(links, t), "the processor of {t}");
     }
-    let linked = scan_linked(links);
-    assert!(rt; links.linked() == linked, "linked");
-    assert!(rt; links.idle() == links.online().minus(&linked), "idle");
+}
+
+/// Compares the feeders of each processor with those of a scan.
+fn compare_feeders(rt: &impl Abort, links: &Links) {
     for q in 0..links.processors() {
         assert!(rt;
             links.feeders(q) == scan_feeders(rt, links, q),
             "the feeders of {q}"
         );
     }
+}
+
+/// Compares the answers with those of the scans.
+fn compare(rt: &impl Abort, links: &Links, set: ProcSet) {
+    compare_places(rt, links);
+    let linked = scan_linked(links);
+    assert!(rt; links.linked() == linked, "linked");
+    assert!(rt; links.idle() == links.online().minus(&linked), "idle");
+    compare_feeders(rt, links);
     assert_eq!(rt; links.most_urgent_in(set), scan_most_urgent(rt, links, set));
 }
 
@@ -176,46 +185,6 @@ fn step(rt: &impl Abort, numbers: &mut Numbers, links: &mut Links, t: u32) {
     }
 }
 
-/// Adds a task with a priority of its own and a mask that is taken at random.
-fn add_some(
-    rt: &(impl Abort + AllocGlobal),
-    numbers: &mut Numbers,
-    set: &mut TaskSet,
-    t: u32,
-) -> Result<(), Fail> {
-    let processors = set.processors();
-    assert!(rt; 1 <= processors && processors <= 64);
-    let own = numbers.below(u32::from(processors)) as u8;
-    let mask = numbers.some_of(processors, 2).with(own);
-    add_numbered(rt.alloc(), set, 't', t.wrapping_mul(37) % 1009, mask)
-}
-
-/// A set of so many tasks, each with a priority of its own and a mask that is taken at random.
-fn some_set(
-    rt: &(impl Abort + AllocGlobal),
-    numbers: &mut Numbers,
-    processors: u8,
-    tasks: u32,
-) -> Result<TaskSet, Fail> {
-    assert!(rt; 1 <= processors && processors <= 64);
-    let mut set = TaskSet::new(rt.alloc(), processors)?;
-    for t in 0..tasks {
-        add_some(rt, numbers, &mut set, t)?;
-    }
-    Ok(set)
-}
-
-/// The state of a set of so many tasks that is taken at random.
-fn some_links(
-    rt: &(impl Abort + AllocGlobal),
-    numbers: &mut Numbers,
-    processors: u8,
-    tasks: u32,
-) -> Result<Links, Fail> {
-    let set = some_set(rt, numbers, processors, tasks)?;
-    links_over(rt.alloc(), &set)
-}
-
 /// Compares after each of so many steps.
 fn compare_steps(rt: &impl Abort, numbers: &mut Numbers, links: &mut Links, steps: u32) {
     let (processors, tasks) = (links.processors(), links.len());
@@ -238,7 +207,13 @@ fn run(
     steps: u32,
 ) -> Result<(), Fail> {
     let mut numbers = Numbers::after(1);
-    let mut links = some_links(rt, &mut numbers, processors, tasks)?;
+    let sizes = Sizes {
+        processors,
+        tasks,
+        spread: 2,
+        step: 37,
+    };
+    let mut links = generated_links(rt, rt.alloc(), &mut numbers, &sizes)?;
     compare_steps(rt, &mut numbers, &mut links, steps);
     Ok(())
 }

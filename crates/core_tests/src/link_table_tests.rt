@@ -67,6 +67,11 @@ fn moves(
     on: [Option<u32>; 2],
 ) {
     assert_eq!(rt; arrive(rt, links, t, chain), put_out, "task {t}");
+    are_on(rt, links, t, on);
+}
+
+/// After the shift of a task these are on the two processors.
+fn are_on(rt: &impl Abort, links: &Links, t: u32, on: [Option<u32>; 2]) {
     assert!(rt; links.processors() == 2);
     assert_eq!(rt; [links.on(0), links.on(1)], on, "task {t}");
 }

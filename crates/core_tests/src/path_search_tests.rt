@@ -209,11 +209,17 @@ fn chain_if(rt: &impl Abort, processors: Option<&[u8]>) -> Option<Chain> {
 fn tasks_of_row(rt: &impl Abort, alloc: Global, row: &Row) -> Result<TaskSet, Fail> {
     assert!(rt; 0 < row.processors && row.processors <= 64);
     let mut set = TaskSet::new(alloc, row.processors)?;
+    add_row(rt, alloc, &mut set, row)?;
+    Ok(set)
+}
+
+/// Adds the tasks of a row, with their numbers as priorities.
+fn add_row(rt: &impl Abort, alloc: Global, set: &mut TaskSet, row: &Row) -> Result<(), Fail> {
     for (mask, _) in row.tasks {
         let t = set.len();
-        add_numbered(alloc, &mut set, 't', t, set_of(rt, mask))?;
+        add_numbered(alloc, set, 't', t, set_of(rt, mask))?;
     }
-    Ok(set)
+    Ok(())
 }
 
 /// The state of a row.
@@ -238,25 +244,45 @@ fn link_row(rt: &impl Abort, links: &mut Links, row: &Row) {
     }
 }
 
-/// Compares what the searches say of a row.
-fn compare_row(rt: &impl Abort, links: &Links, row: &Row, number: usize) {
-    let (t, p) = (row.t, row.p);
-    assert!(rt; t < links.len() && p < links.processors());
+/// Compares what the task of a row reaches, and its least chain to an idle processor.
+fn compare_reach(rt: &impl Abort, links: &Links, row: &Row, number: usize) {
+    let t = row.t;
+    assert!(rt; t < links.len());
     assert_eq!(rt; reach(links, t), set_of(rt, row.reach), "row {number}");
     let least = chain_if(rt, row.to_idle);
     assert_eq!(rt; chain_to_idle(links, t), least, "row {number}");
+}
+
+/// Compares the least chain of the task of a row to its processor.
+fn compare_chain(rt: &impl Abort, links: &Links, row: &Row, number: usize) {
+    let (t, p) = (row.t, row.p);
+    assert!(rt; t < links.len() && p < links.processors());
     let least = chain_if(rt, row.to_p);
     assert_eq!(rt; chain_to(links, t, p), least, "row {number}");
+}
+
+/// Compares what back chains to the processor of a row lead back to, and the least one of its task.
+fn compare_back(rt: &impl Abort, links: &Links, row: &Row, number: usize) {
+    let (t, p) = (row.t, row.p);
+    assert!(rt; t < links.len() && p < links.processors());
     assert_eq!(rt; back_set(links, p), set_of(rt, row.back), "row {number}");
     let least = chain_if(rt, row.back_chain);
     assert_eq!(rt; back_chain(links, t, p), least, "row {number}");
 }
 
+/// Compares what the searches say of a row.
+fn compare_row(rt: &impl Abort, alloc: Global, row: &Row, number: usize) -> Result<(), Fail> {
+    let links = state_of(rt, alloc, row)?;
+    compare_reach(rt, &links, row, number);
+    compare_chain(rt, &links, row, number);
+    compare_back(rt, &links, row, number);
+    Ok(())
+}
+
 #[test]
 fn searches_by_calls(rt: HostRuntime) -> Result<(), Fail> {
     for (number, row) in ROWS.iter().enumerate() {
-        let links = state_of(&rt, rt.alloc(), row)?;
-        compare_row(&rt, &links, row, number);
+        compare_row(&rt, rt.alloc(), row, number)?;
     }
     Ok(())
 }

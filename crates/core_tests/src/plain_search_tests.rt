@@ -2,14 +2,13 @@
 //! generated states.
 use crate::numbers::Numbers;
 use crate::path_search_tests::link;
-use crate::tables::{add_numbered, links_over};
+use crate::tables::{Sizes, generated_links};
 use affinity_mask::ProcSet;
 use link_table::{Chain, Links};
 use path_search::{back_chain, back_set, chain_to, chain_to_idle, reach};
 use std::alloc::Global;
 use std::process::Abort;
 use std::test::Fail;
-use task_set::TaskSet;
 
 /// How a path reads the shifts.
 #[derive(Clone, Copy)]
@@ -101,30 +100,6 @@ fn plain_path(
     Some(chain)
 }
 
-/// A mask that has each processor once in four times, and one at least.
-fn some_mask(rt: &impl Abort, numbers: &mut Numbers, processors: u8) -> ProcSet {
-    assert!(rt; 0 < processors && processors <= 64);
-    let own = numbers.below(u32::from(processors)) as u8;
-    numbers.some_of(processors, 4).with(own)
-}
-
-/// A set of so many tasks with masks that are taken at random, the more urgent ones first.
-fn generated_set(
-    rt: &impl Abort,
-    alloc: Global,
-    numbers: &mut Numbers,
-    processors: u8,
-    tasks: u32,
-) -> Result<TaskSet, Fail> {
-    assert!(rt; 0 < processors && processors <= 64);
-    let mut set = TaskSet::new(alloc, processors)?;
-    for t in 0..tasks {
-        let mask = some_mask(rt, numbers, processors);
-        add_numbered(alloc, &mut set, 't', t, mask)?;
-    }
-    Ok(set)
-}
-
 /// A task is offered a processor, and linked to it where it is in its mask and idle.
 fn offer(rt: &impl Abort, links: &mut Links, t: u32, p: u8) {
     assert!(rt; t < links.len() && p < 64);
@@ -141,21 +116,15 @@ fn generated(
     processors: u8,
     tasks: u32,
 ) -> Result<Links, Fail> {
-    let mut links = generated_links(rt, alloc, numbers, processors, tasks)?;
+    let sizes = Sizes {
+        processors,
+        tasks,
+        spread: 4,
+        step: 1,
+    };
+    let mut links = generated_links(rt, alloc, numbers, &sizes)?;
     offer_all(rt, numbers, &mut links);
     Ok(links)
-}
-
-/// The state of a generated set, in which no task is ready.
-fn generated_links(
-    rt: &impl Abort,
-    alloc: Global,
-    numbers: &mut Numbers,
-    processors: u8,
-    tasks: u32,
-) -> Result<Links, Fail> {
-    let set = generated_set(rt, alloc, numbers, processors, tasks)?;
-    links_over(alloc, &set)
 }
 
 /// Each task is offered a processor.
@@ -168,19 +137,32 @@ fn offer_all(rt: &impl Abort, numbers: &mut Numbers, links: &mut Links) {
     }
 }
 
-/// The calls at a task and a processor say what the plain searches say.
-fn compare(rt: &impl Abort, links: &Links, t: u32, p: u8) {
+/// The calls at a task and a processor say of sets what the plain searches say.
+fn compare_sets(rt: &impl Abort, links: &Links, t: u32, p: u8) {
     assert!(rt; t < links.len() && p < links.processors() && p < 64);
-    let m = links.processors();
     let (mask, here) = (links.effective(t), ProcSet::one(p));
     let (onward, back) = (Direction::Onward, Direction::Back);
     assert_eq!(rt; reach(links, t), plain_ends(links, onward, mask));
     assert_eq!(rt; back_set(links, p), plain_ends(links, back, here));
-    let least = plain_path(links, onward, mask, here, m);
+}
+
+/// The calls at a task and a processor say of chains what the plain searches say.
+fn compare_chains(rt: &impl Abort, links: &Links, t: u32, p: u8) {
+    assert!(rt; t < links.len() && p < links.processors() && p < 64);
+    let m = links.processors();
+    let (mask, here) = (links.effective(t), ProcSet::one(p));
+    let least = plain_path(links, Direction::Onward, mask, here, m);
     assert_eq!(rt; chain_to(links, t, p), least);
-    let least = plain_path(links, onward, mask, links.idle(), m);
+    let least = plain_path(links, Direction::Onward, mask, links.idle(), m);
     assert_eq!(rt; chain_to_idle(links, t), least);
-    let least = plain_path(links, back, here, mask, m);
+}
+
+/// The call at a task and a processor says of a back chain what the plain search says.
+fn compare_back(rt: &impl Abort, links: &Links, t: u32, p: u8) {
+    assert!(rt; t < links.len() && p < links.processors() && p < 64);
+    let m = links.processors();
+    let (mask, here) = (links.effective(t), ProcSet::one(p));
+    let least = plain_path(links, Direction::Back, here, mask, m);
     assert_eq!(rt; back_chain(links, t, p), least);
 }
 
@@ -188,7 +170,9 @@ fn compare(rt: &impl Abort, links: &Links, t: u32, p: u8) {
 fn compare_all(rt: &impl Abort, links: &Links) {
     for t in 0..links.len() {
         for p in 0..links.processors() {
-            compare(rt, links, t, p);
+            compare_sets(rt, links, t, p);
+            compare_chains(rt, links, t, p);
+            compare_back(rt, links, t, p);
         }
     }
 }

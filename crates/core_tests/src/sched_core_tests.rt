@@ -73,17 +73,27 @@ fn open_orders() -> [Order; 4] {
 /// The orders to both processors once the core is closed, which takes no event then.
 fn closed_orders(rt: &impl Abort, core: &mut Core) {
     assert!(rt; core.is_closed());
+    closed_orders_to_first(rt, core);
+    closed_orders_to_second(rt, core);
+    refuses(rt, core, CoreFault::Closed);
+}
+
+/// The orders to the first processor once the core is closed.
+fn closed_orders_to_first(rt: &impl Abort, core: &Core) {
     let [a, b, c, d] = open_orders();
     assert_eq!(rt;
         orders(rt, core, 0),
         [a, b, c, d, Order::Release(1), Order::Stop].as_slice()
     );
+}
+
+/// The orders to the second processor once the core is closed.
+fn closed_orders_to_second(rt: &impl Abort, core: &Core) {
     let again = Order::Take { task: 0, number: 1 };
     assert_eq!(rt;
         orders(rt, core, 1),
         [again, Order::Run(5), Order::Release(0), Order::Stop].as_slice()
     );
-    assert_eq!(rt; apply(rt, core, 0, Event::Tick(1)), Err(CoreFault::Closed));
 }
 
 /// The entries of these events.
@@ -119,9 +129,14 @@ fn open_and_close(rt: &impl Abort, core: &mut Core) -> Result<(), Fail> {
     core.close_now();
     closed_orders(rt, core);
     core.close_now();
+    closed_history(rt, core);
+    Ok(())
+}
+
+/// The second close gives no order, and the history is that of these events.
+fn closed_history(rt: &impl Abort, core: &Core) {
     assert_eq!(rt; orders(rt, core, 1).len(), 4);
     assert_eq!(rt; core.history(), entries_of_events(rt).as_slice());
-    Ok(())
 }
 
 #[test]
@@ -159,6 +174,11 @@ fn full_orders(rt: &impl Abort, core: &Core) {
     };
     assert_eq!(rt; orders(rt, core, 0).len(), 15_001);
     assert_eq!(rt; orders(rt, core, 0).get(14_997), Some(&last));
+    only_stops(rt, core);
+}
+
+/// The second processor has no order but to stop.
+fn only_stops(rt: &impl Abort, core: &Core) {
     assert_eq!(rt; orders(rt, core, 1), [Order::Stop].as_slice());
 }
 
@@ -339,6 +359,13 @@ fn apply_row(rt: &impl Abort, core: &mut Core, row: &Row, i: usize) {
     }
 }
 
+/// Compares the orders of a row from the start on.
+fn compare_from_start(rt: &impl Abort, alloc: Global, row: &Row, i: usize) -> Result<(), Fail> {
+    let core = closed_core(rt, alloc, row, i)?;
+    compare_orders(rt, &core, row, i);
+    Ok(())
+}
+
 /// Compares the orders of a core with those of a row.
 fn compare_orders(rt: &impl Abort, core: &Core, row: &Row, i: usize) {
     for (p, expected) in row.orders.iter().enumerate() {
@@ -354,8 +381,7 @@ fn compare_orders(rt: &impl Abort, core: &Core, row: &Row, i: usize) {
 #[test]
 fn orders_by_hand(rt: HostRuntime) -> Result<(), Fail> {
     for (i, row) in ROWS.iter().enumerate() {
-        let core = closed_core(&rt, rt.alloc(), row, i)?;
-        compare_orders(&rt, &core, row, i);
+        compare_from_start(&rt, rt.alloc(), row, i)?;
     }
     Ok(())
 }
