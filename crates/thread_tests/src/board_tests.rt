@@ -1,15 +1,16 @@
 //! What no clause says: that calls succeed with ample memory, what they answer on runs followed by hand, and that they
 //! may be made from several threads at once.
-ghost use Rattle.std.specs.Prelude.{◌≡◌, ◌∷◌, [], IfOk, length};
+ghost use Rattle.std.specs.Prelude.{◌≡◌, ◌∷◌, [], IfOk, length, map};
 ghost use Rattle.task_set.specs.Event.{IsOfSystem};
 ghost use Rattle.link_state.specs.State.{task_count};
-ghost use Rattle.event_history.specs.Boards.{AreAll, Grown};
+ghost use Rattle.order_queues.specs.Ends.{new_sender};
+ghost use Rattle.event_history.specs.Boards.{AreAll, AreFor, Grown};
 
-use crate::two_processors::{two_queues, two_tasks};
+use crate::two_processors::{list_of_one, list_of_two, two_queues, two_tasks};
 use affinity_mask::{OutOfMemory, ProcSet};
 use event_history::{Board, EndFault, Pass, PostFault, Receipt};
 use link_table::{Chain, Entry, Reply};
-use order_queues::{Queue, Receiver};
+use order_queues::{Queue, Receiver, Sender};
 use sched_core::{Core, CoreFault};
 use std::alloc::Global;
 use std::process::Abort;
@@ -32,17 +33,59 @@ struct Bench {
     ghost ends: { queues.items ≡ receivers.0.queue ∷ receivers.1.queue ∷ [] },
 }
 
+/// A board of two callers, with their passes.
+fn board_of_two(
+    alloc: Global,
+    set: &TaskSet,
+    senders: Vec<Sender>,
+    queues: &[Queue],
+) -> Result<(Board, Pass, Pass), Fail>
+    requires senders { senders.items ≡ map new_sender queues.now }
+    requires one_each { length queues.now ≡ set.now.processors }
+    requires tasks { AreFor set.now queues.now }
+    ensures board { IfOk result (λ made. (made.0.set ≡ set.now) × (made.0.queues ≡ queues.now)) }
+    ensures passes { IfOk result (λ made. AreAll made.0 (made.1 ∷ made.2 ∷ [])) }
+{
+    let Ok((board, mut passes)) = Board::new(alloc, set, senders, queues, 2) else {
+        return Err(OutOfMemory.into());
+    };
+    let (Some(second), Some(first)) = (passes.pop(), passes.pop()) else {
+        unreachable!()
+    };
+    Ok((board, first, second))
+}
+
+/// The core of a board of two processors, when its two passes come back.
+fn core_of(
+    rt: &impl Abort,
+    alloc: Global,
+    board: Board,
+    first: Pass,
+    second: Pass,
+) -> Result<Core, Fail>
+    requires { AreAll board (first ∷ second ∷ []) }
+{
+    let passes = list_of_two(alloc, first, second)?;
+    let Ok((core, senders)) = board.close(passes) else {
+        return Err(OutOfMemory.into());
+    };
+    assert_eq!(rt; senders.len(), 2);
+    Ok(core)
+}
+
 impl Bench {
     /// A board over two processors.
     fn new(rt: &impl Abort, alloc: Global) -> Result<Bench, Fail> {
         let set = two_tasks(rt, alloc)?;
+        Bench::over(alloc, &set)
+    }
+
+    /// A board over this set of two tasks.
+    fn over(alloc: Global, set: &TaskSet) -> Result<Bench, Fail>
+        requires { (length set.now.tasks ≡ 2) × (set.now.processors ≡ 2) }
+    {
         let (queues, senders, receivers) = two_queues(alloc)?;
-        let Ok((board, mut passes)) = Board::new(alloc, &set, senders, queues.as_slice(), 2) else {
-            return Err(OutOfMemory.into());
-        };
-        let (Some(second), Some(first)) = (passes.pop(), passes.pop()) else {
-            unreachable!()
-        };
+        let (board, first, second) = board_of_two(alloc, set, senders, queues.as_slice())?;
         Ok(Bench {
             board,
             first,
@@ -116,14 +159,7 @@ impl Bench {
             queues: _,
             receivers: _,
         } = self;
-        let mut passes = Vec::with_capacity(alloc, 2)?;
-        passes.push_reserved(first);
-        passes.push_reserved(second);
-        let Ok((core, senders)) = board.close(passes) else {
-            return Err(OutOfMemory.into());
-        };
-        assert_eq!(rt; senders.len(), 2);
-        Ok(core)
+        core_of(rt, alloc, board, first, second)
     }
 }
 
@@ -177,15 +213,37 @@ fn post_three<R: Wait + Abort>(rt: &R, bench: &mut Bench) {
     posts(rt, bench, Event::Arrive(1), 2, Reply::AlreadyReady);
 }
 
+/// So many orders are still owed after a flush.
+fn owes<R: Wait + Abort>(rt: &R, bench: &mut Bench, orders: u64) {
+    assert_eq!(rt; bench.flush(rt), orders);
+}
+
+/// The core is closed, and no order is owed.
+fn finishes<R: Wait + Abort>(rt: &R, bench: &mut Bench) {
+    bench.finish(rt);
+    is_closed(rt, bench);
+    owes(rt, bench, 0);
+}
+
+/// The core has so many entries.
+fn has_entries(rt: &impl Abort, core: &Core, entries: usize) {
+    assert_eq!(rt; core.history().len(), entries);
+}
+
+/// Closes the board, whose core has so many entries.
+fn closes(rt: &impl Abort, alloc: Global, bench: Bench, entries: usize) -> Result<(), Fail> {
+    let core = bench.close(rt, alloc)?;
+    has_entries(rt, &core, entries);
+    Ok(())
+}
+
 #[test]
 fn board_by_calls(rt: HostRuntime) -> Result<(), Fail> {
     let mut bench = Bench::new(&rt, rt.alloc())?;
     post_three(&rt, &mut bench);
     let copied = bench.copied(&rt, rt.alloc());
-    bench.finish(&rt);
-    is_closed(&rt, &mut bench);
-    assert_eq!(rt; bench.flush(&rt), 0);
-    assert_eq!(rt; bench.close(&rt, rt.alloc())?.history().len(), 3);
+    finishes(&rt, &mut bench);
+    closes(&rt, rt.alloc(), bench, 3)?;
     let Some(copied) = copied else {
         return Err(Fail::new("out of memory"));
     };
@@ -219,20 +277,29 @@ fn ticks<R: Wait + Abort>(rt: &R, bench: &mut Bench) {
     }
 }
 
+/// So many orders come out of the first queue.
+fn gives<R: Wait + Abort>(rt: &R, bench: &mut Bench, orders: u32) {
+    assert_eq!(rt; received(rt, bench), orders);
+}
+
+/// All orders come out of the first queue: those that had room, and then those that were owed.
+fn flushes<R: Wait + Abort>(rt: &R, bench: &mut Bench) {
+    owes(rt, bench, 45);
+    bench.finish(rt);
+    owes(rt, bench, 47);
+    gives(rt, bench, 256);
+    owes(rt, bench, 0);
+    gives(rt, bench, 47);
+}
+
 // Processor 0 gets a Take and 300 Runs, and at the close a Release and a Stop, and processor 1 a Stop. A queue has room
 // for 256 orders: of 301 there are 45 left, and after the close 2 more.
 #[test]
 fn owed_orders_wait_for_room(rt: HostRuntime) -> Result<(), Fail> {
     let mut bench = Bench::new(&rt, rt.alloc())?;
     ticks(&rt, &mut bench);
-    assert_eq!(rt; bench.flush(&rt), 45);
-    bench.finish(&rt);
-    assert_eq!(rt; bench.flush(&rt), 47);
-    assert_eq!(rt; received(&rt, &mut bench), 256);
-    assert_eq!(rt; bench.flush(&rt), 0);
-    assert_eq!(rt; received(&rt, &mut bench), 47);
-    assert_eq!(rt; bench.close(&rt, rt.alloc())?.history().len(), 301);
-    Ok(())
+    flushes(&rt, &mut bench);
+    closes(&rt, rt.alloc(), bench, 301)
 }
 
 /// Posts one event with a pass, and hands the pass back.
@@ -371,18 +438,42 @@ fn has_orders(rt: &impl Abort, core: &Core) {
     assert_eq!(rt; core.orders(1).len(), 3);
 }
 
+/// Two new cores over the same two tasks.
+fn two_cores(rt: &impl Abort, alloc: Global, set: &TaskSet) -> Result<(Core, Core), Fail>
+    ensures one { IfOk result (λ cores. task_count cores.0.links ≡ 2) }
+    ensures other { IfOk result (λ cores. task_count cores.1.links ≡ 2) }
+{
+    let one = Core::new(alloc, set)?;
+    let other = Core::new(alloc, set)?;
+    assert!(rt; one.links().len() == 2 && other.links().len() == 2);
+    Ok((one, other))
+}
+
+/// Both cores go on, with the orders of cores that stayed where they were.
+fn both_go_on(rt: &impl Abort, one: &mut Core, other: &mut Core) {
+    goes_on(rt, one);
+    goes_on(rt, other);
+    has_orders(rt, one);
+    has_orders(rt, other);
+}
+
+/// Two cores over this set are moved to another thread and back, and go on.
+fn check_moved<R: Abort + Threads + Wait + Sync>(
+    rt: &R,
+    alloc: Global,
+    set: &TaskSet,
+) -> Result<(), Fail> {
+    let (one, other) = two_cores(rt, alloc, set)?;
+    let (mut one, mut other) = arrived_elsewhere(rt, one, other);
+    both_go_on(rt, &mut one, &mut other);
+    Ok(())
+}
+
 /// A core that was moved to another thread and back goes on as one that stayed.
 #[test]
 fn cores_move_between_threads(rt: HostRuntime) -> Result<(), Fail> {
     let set = two_tasks(&rt, rt.alloc())?;
-    let (one, other) = (Core::new(rt.alloc(), &set)?, Core::new(rt.alloc(), &set)?);
-    assert!(rt; one.links().len() == 2 && other.links().len() == 2);
-    let (mut one, mut other) = arrived_elsewhere(&rt, one, other);
-    goes_on(&rt, &mut one);
-    goes_on(&rt, &mut other);
-    has_orders(&rt, &one);
-    has_orders(&rt, &other);
-    Ok(())
+    check_moved(&rt, rt.alloc(), &set)
 }
 
 /// How many threads post at once, and how many events each: together as many as a history may have.
@@ -479,43 +570,79 @@ fn all_stand(history: &[Entry], told: &[Told]) -> bool {
     true
 }
 
-/// Eight tasks on one processor.
-fn eight_added(alloc: Global) -> Result<TaskSet, Fail> {
-    let mut set = TaskSet::new(alloc, 1)?;
+/// Adds eight tasks for one processor.
+fn add_eight(set: &mut TaskSet) -> Result<(), Fail> {
     let mut priority = 0u32;
     for name in ["a", "b", "c", "d", "e", "f", "g", "h"] {
         priority = priority.saturating_add(1);
         set.add(name, priority, ProcSet::first(1))?;
     }
-    Ok(set)
+    Ok(())
 }
 
-/// These eight tasks, counted.
+/// A set of these eight tasks, counted.
 fn eight_tasks(rt: &impl Abort, alloc: Global) -> Result<TaskSet, Fail>
     ensures { IfOk result (λ set. (length set.tasks ≡ 8) × (set.processors ≡ 1)) }
 {
-    let set = eight_added(alloc)?;
+    let mut set = TaskSet::new(alloc, 1)?;
+    add_eight(&mut set)?;
     assert!(rt; set.len() == THREADS);
     assert!(rt; set.processors() == 1);
     Ok(set)
 }
 
-/// A board of eight callers over that set, with their passes.
+/// A queue for eight tasks and its sender, each in a list, and its receiver.
+fn one_queue(alloc: Global) -> Result<(Vec<Queue>, Vec<Sender>, Receiver), OutOfMemory>
+    ensures senders { IfOk result (λ made. made.1.items ≡ map new_sender made.0.items) }
+    ensures queue { IfOk result (λ made. made.0.items ≡ made.2.queue ∷ []) }
+    ensures tasks { IfOk result (λ made. made.2.queue.tasks ≡ 8) }
+{
+    let (queue, sender, receiver) = Queue::new(alloc, THREADS)?;
+    let queues = list_of_one(alloc, queue)?;
+    let senders = list_of_one(alloc, sender)?;
+    Ok((queues, senders, receiver))
+}
+
+/// A board of eight callers over this set, with their passes.
+fn callers_over(alloc: Global, set: &TaskSet) -> Result<(Board, Vec<Pass>), Fail>
+    requires { (length set.now.tasks ≡ 8) × (set.now.processors ≡ 1) }
+    ensures passes { IfOk result (λ made. AreAll made.0 made.1.items) }
+    ensures tasks { IfOk result
+        (λ made. (length made.0.set.tasks ≡ 8) × (made.0.set.processors ≡ 1)) }
+{
+    let (queues, senders, _receiver) = one_queue(alloc)?;
+    match Board::new(alloc, set, senders, queues.as_slice(), THREADS) {
+        Ok(made) => Ok(made),
+        Err(_unmade) => Err(Fail::new("out of memory")),
+    }
+}
+
+/// A board of eight callers over eight tasks, with their passes.
 fn eight_callers(rt: &impl Abort, alloc: Global) -> Result<(Board, Vec<Pass>), Fail>
     ensures passes { IfOk result (λ made. AreAll made.0 made.1.items) }
     ensures tasks { IfOk result
         (λ made. (length made.0.set.tasks ≡ 8) × (made.0.set.processors ≡ 1)) }
 {
     let set = eight_tasks(rt, alloc)?;
-    let (queue, sender, _receiver) = Queue::new(alloc, THREADS)?;
-    let mut queues = Vec::with_capacity(alloc, 1)?;
-    queues.push_reserved(queue);
-    let mut senders = Vec::with_capacity(alloc, 1)?;
-    senders.push_reserved(sender);
-    match Board::new(alloc, &set, senders, queues.as_slice(), THREADS) {
-        Ok(made) => Ok(made),
-        Err(_unmade) => Err(Fail::new("out of memory")),
-    }
+    callers_over(alloc, &set)
+}
+
+/// All receipts of the callers were written down, and stand in the history of this core.
+fn all_told(rt: &impl Abort, core: &Core, told: &[Told]) {
+    assert!(rt; told.len() == 20_000 && core.history().len() == 20_000);
+    assert!(rt; all_stand(core.history(), told));
+}
+
+/// All receipts stand in the history of the board's core.
+fn check_told(rt: &impl Abort, board: Board, passes: Vec<Pass>, told: Mutex<Vec<Told>>)
+    requires { AreAll board passes.items }
+{
+    let Ok((core, _senders)) = board.close(passes) else {
+        assert!(rt; false);
+        unreachable!()
+    };
+    let told = told.into_inner();
+    all_told(rt, &core, told.as_slice());
 }
 
 #[test]
@@ -523,12 +650,6 @@ fn eight_threads_post(rt: HostRuntime) -> Result<(), Fail> {
     let (board, mut passes) = eight_callers(&rt, rt.alloc())?;
     let told = Mutex::new(Vec::new(rt.alloc()));
     post_shares(&rt, &board, &mut passes, &told);
-    let Ok((core, _senders)) = board.close(passes) else {
-        assert!(rt; false);
-        unreachable!()
-    };
-    let told = told.into_inner();
-    assert!(rt; told.len() == 20_000 && core.history().len() == 20_000);
-    assert!(rt; all_stand(core.history(), told.as_slice()));
+    check_told(&rt, board, passes, told);
     Ok(())
 }

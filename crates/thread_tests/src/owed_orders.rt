@@ -1,5 +1,5 @@
 //! More orders than a queue holds, for processors that have no thread: one call at a time, and by a drive.
-ghost use Rattle.std.specs.Prelude.{◌≡◌, ◌∷◌, [], All, None, Some, IfOk, length, map, slice_get};
+ghost use Rattle.std.specs.Prelude.{◌≡◌, ◌∷◌, [], All, None, Some, true, IfOk, OnOk, length, map, slice_get};
 ghost use Rattle.task_set.specs.Event.{IsOfSystem};
 ghost use Rattle.order_queues.specs.Ends.{new_receiver, new_sender};
 ghost use Rattle.context_slots.specs.Hands.{new_hand};
@@ -181,11 +181,45 @@ fn last_two(
     Ok((first, second))
 }
 
+/// Two processors after a drive of both.
+fn both_driven<R: Wait>(
+    rt: &R,
+    alloc: Global,
+    board: &Board,
+    pass: &mut Pass,
+    queues: &[Queue],
+    slots: &Slots,
+    two: (Processor, Processor),
+) -> Result<(Processor, Processor), Fail>
+    requires board { pass.old.board ≡ board.now.id }
+    requires closed { pass.old.saw_close ≡ true }
+    requires eyes { AreEyesOf board.now.queues pass.old.eyes }
+    requires queues { queues.now ≡ board.now.queues }
+    requires tasks { AreFor slots.now.set queues.now }
+    requires first { IsSeated queues.now slots.now two.0 }
+    requires second { IsSeated queues.now slots.now two.1 }
+    ensures board { OnOk result (pass.new.board ≡ board.now.id) }
+    ensures eyes { OnOk result (AreEyesOf board.now.queues pass.new.eyes) }
+    ensures first { IfOk result (λ two. IsSeated queues.now slots.now two.0) }
+    ensures second { IfOk result (λ two. IsSeated queues.now slots.now two.1) }
+{
+    let mut processors = list_of_two(alloc, two.0, two.1)?;
+    drive(rt, board, pass, queues, slots, &mut processors, &OpenGate);
+    last_two(queues, slots, processors)
+}
+
 impl Bench {
     fn new(rt: &impl Abort, alloc: Global) -> Result<Bench, Fail> {
         let set = two_tasks(rt, alloc)?;
+        Bench::for_set(alloc, &set)
+    }
+
+    /// A bench for these two tasks.
+    fn for_set(alloc: Global, set: &TaskSet) -> Result<Bench, Fail>
+        requires { (length set.now.tasks ≡ 2) × (set.now.processors ≡ 2) }
+    {
         let (queues, senders, receivers) = two_queues(alloc)?;
-        Bench::over(alloc, &set, queues, senders, receivers)
+        Bench::over(alloc, set, queues, senders, receivers)
     }
 
     /// A bench with these queues and their ends.
@@ -249,9 +283,15 @@ impl Bench {
             second,
         } = self;
         assert!(rt; pass.saw_close());
-        let mut two = list_of_two(alloc, first, second)?;
-        drive(rt, &board, &mut pass, &queues, &slots, &mut two, &OpenGate);
-        let (first, second) = last_two(&queues, &slots, two)?;
+        let (first, second) = both_driven(
+            rt,
+            alloc,
+            &board,
+            &mut pass,
+            &queues,
+            &slots,
+            (first, second),
+        )?;
         Ok(Bench {
             board,
             pass,
@@ -290,6 +330,16 @@ fn obeyed<R: Wait>(rt: &R, bench: &mut Bench) -> (u32, Step) {
     (count, Step::Empty)
 }
 
+/// So many orders are still owed after a flush.
+fn owes<R: Wait + Abort>(rt: &R, bench: &mut Bench, orders: u64) {
+    assert_eq!(rt; bench.flush(rt), orders);
+}
+
+/// The first processor obeys so many orders, and then its step answers this.
+fn obeys<R: Wait + Abort>(rt: &R, bench: &mut Bench, orders: u32, answer: Step) {
+    assert_eq!(rt; obeyed(rt, bench), (orders, answer));
+}
+
 /// The first processor gets 301 orders, of which its queue has room for 256, and two more at the close; the second one
 /// gets a `Stop`.
 fn fill<R: Wait + Abort>(rt: &R, bench: &mut Bench) {
@@ -297,9 +347,9 @@ fn fill<R: Wait + Abort>(rt: &R, bench: &mut Bench) {
     for _ in 0..300 {
         bench.post(rt, Event::Tick(1));
     }
-    assert_eq!(rt; bench.flush(rt), 45);
+    owes(rt, bench, 45);
     bench.finish(rt);
-    assert_eq!(rt; bench.flush(rt), 47);
+    owes(rt, bench, 47);
 }
 
 /// One task ran for 300 units, and the other one not at all.
@@ -325,17 +375,27 @@ fn are_expected(contexts: &[Context]) -> bool {
     }
 }
 
+/// The first processor steps through the orders that are in its queue, and then through those that were owed.
+fn steps_to_stop<R: Wait + Abort>(rt: &R, bench: &mut Bench) {
+    obeys(rt, bench, 256, Step::Empty);
+    owes(rt, bench, 0);
+    obeys(rt, bench, 46, Step::Stopped);
+    assert_eq!(rt; bench.step_second(rt), Step::Stopped);
+}
+
+/// Asserts that the contexts in the end are the expected ones.
+fn ends_as_expected<R: Wait + Abort>(rt: &R, alloc: Global, bench: Bench) -> Result<(), Fail> {
+    let contexts = bench.contexts(rt, alloc)?;
+    assert!(rt; are_expected(&contexts));
+    Ok(())
+}
+
 #[test]
 fn orders_owed_beyond_the_queue(rt: HostRuntime) -> Result<(), Fail> {
     let mut bench = Bench::new(&rt, rt.alloc())?;
     fill(&rt, &mut bench);
-    assert_eq!(rt; obeyed(&rt, &mut bench), (256, Step::Empty));
-    assert_eq!(rt; bench.flush(&rt), 0);
-    assert_eq!(rt; obeyed(&rt, &mut bench), (46, Step::Stopped));
-    assert_eq!(rt; bench.step_second(&rt), Step::Stopped);
-    let contexts = bench.contexts(&rt, rt.alloc())?;
-    assert!(rt; are_expected(&contexts));
-    Ok(())
+    steps_to_stop(&rt, &mut bench);
+    ends_as_expected(&rt, rt.alloc(), bench)
 }
 
 #[test]
@@ -343,7 +403,5 @@ fn orders_owed_are_driven(rt: HostRuntime) -> Result<(), Fail> {
     let mut bench = Bench::new(&rt, rt.alloc())?;
     fill(&rt, &mut bench);
     let bench = bench.driven(&rt, rt.alloc())?;
-    let contexts = bench.contexts(&rt, rt.alloc())?;
-    assert!(rt; are_expected(&contexts));
-    Ok(())
+    ends_as_expected(&rt, rt.alloc(), bench)
 }

@@ -64,7 +64,18 @@ fn schedule_of_two<R: Threads + Wait + Sync>(
 #[test]
 fn schedule_by_calls(rt: HostRuntime) -> Result<(), Fail> {
     let set = two_tasks(&rt, rt.alloc())?;
-    let made = schedule_of_two(&rt, rt.alloc(), &set)?;
-    is_expected(&rt, &made);
+    check_schedule(&rt, rt.alloc(), &set)
+}
+
+/// The schedule of the arrivals of these two tasks is as expected.
+fn check_schedule<R: Abort + Threads + Wait + Sync>(
+    rt: &R,
+    alloc: Global,
+    set: &TaskSet,
+) -> Result<(), Fail>
+    requires { length set.now.tasks ≡ 2 }
+{
+    let made = schedule_of_two(rt, alloc, set)?;
+    is_expected(rt, &made);
     Ok(())
 }

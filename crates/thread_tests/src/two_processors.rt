@@ -9,22 +9,31 @@ use std::process::Abort;
 use std::test::Fail;
 use task_set::TaskSet;
 
-/// A task that may run on both processors, and a less urgent one that may run on the first alone.
-fn both_added(alloc: Global) -> Result<TaskSet, Fail> {
-    let mut set = TaskSet::new(alloc, 2)?;
+/// Adds a task that may run on both processors, and a less urgent one that may run on the first alone.
+fn add_both(set: &mut TaskSet) -> Result<(), Fail> {
     set.add("a", 1, ProcSet::first(2))?;
     set.add("b", 2, ProcSet::one(0))?;
-    Ok(set)
+    Ok(())
 }
 
-/// These two tasks, counted.
+/// A set of these two tasks, counted.
 pub(crate) fn two_tasks(rt: &impl Abort, alloc: Global) -> Result<TaskSet, Fail>
     ensures { IfOk result (λ set. (length set.tasks ≡ 2) × (set.processors ≡ 2)) }
 {
-    let set = both_added(alloc)?;
+    let mut set = TaskSet::new(alloc, 2)?;
+    add_both(&mut set)?;
     assert!(rt; set.len() == 2);
     assert!(rt; set.processors() == 2);
     Ok(set)
+}
+
+/// A list of one thing.
+pub(crate) fn list_of_one<T: Drop>(alloc: Global, only: T) -> Result<Vec<T>, OutOfMemory>
+    ensures { IfOk result (λ one. one.items ≡ only ∷ []) }
+{
+    let mut one = Vec::with_capacity(alloc, 1)?;
+    one.push_reserved(only);
+    Ok(one)
 }
 
 /// A list of two things.
@@ -53,9 +62,30 @@ pub(crate) fn two_queues(
     ensures tasks { IfOk result
         (λ made. (made.2.0.queue.tasks ≡ 2) × (made.2.1.queue.tasks ≡ 2)) }
 {
-    let (first, first_sender, first_receiver) = Queue::new(alloc, 2)?;
-    let (second, second_sender, second_receiver) = Queue::new(alloc, 2)?;
-    let queues = list_of_two(alloc, first, second)?;
-    let senders = list_of_two(alloc, first_sender, second_sender)?;
-    Ok((queues, senders, (first_receiver, second_receiver)))
+    let first = Queue::new(alloc, 2)?;
+    let second = Queue::new(alloc, 2)?;
+    in_lists(alloc, first, second)
+}
+
+/// Two queues and their senders in two lists, and their receivers.
+fn in_lists(
+    alloc: Global,
+    first: (Queue, Sender, Receiver),
+    second: (Queue, Sender, Receiver),
+) -> Result<(Vec<Queue>, Vec<Sender>, (Receiver, Receiver)), OutOfMemory>
+    requires first { (first.1 ≡ new_sender first.0) × (first.2 ≡ new_receiver first.0)
+        × (first.0.tasks ≡ 2) }
+    requires second { (second.1 ≡ new_sender second.0) × (second.2 ≡ new_receiver second.0)
+        × (second.0.tasks ≡ 2) }
+    ensures senders { IfOk result (λ made. made.1.items ≡ map new_sender made.0.items) }
+    ensures ends { IfOk result
+        (λ made. made.0.items ≡ made.2.0.queue ∷ made.2.1.queue ∷ []) }
+    ensures new { IfOk result (λ made. (made.2.0 ≡ new_receiver made.2.0.queue)
+        × (made.2.1 ≡ new_receiver made.2.1.queue)) }
+    ensures tasks { IfOk result
+        (λ made. (made.2.0.queue.tasks ≡ 2) × (made.2.1.queue.tasks ≡ 2)) }
+{
+    let queues = list_of_two(alloc, first.0, second.0)?;
+    let senders = list_of_two(alloc, first.1, second.1)?;
+    Ok((queues, senders, (first.2, second.2)))
 }
