@@ -187,6 +187,35 @@ fn add_event(
     Ok(())
 }
 
+/// Both texts before the first event.
+fn begun_texts(
+    alloc: Global,
+    version: u8,
+    plain: &mut Plain,
+    seed: &mut u64,
+) -> Result<Texts, AllocError> {
+    let input = write_tasks(alloc, version, plain, seed)?;
+    let comparison = format!(in alloc; "weak 1\nentries {EVENTS}\n")?;
+    Ok(Texts { input, comparison })
+}
+
+/// The events of one seed in both texts, and their ends.
+fn add_events(
+    texts: &mut Texts,
+    version: u8,
+    plain: &mut Plain,
+    seed: &mut u64,
+    reached: &mut Reached,
+) -> Result<(), AllocError> {
+    for _event in 0..EVENTS {
+        let stream = drawn(seed, 16);
+        add_event(&mut texts.input, plain, drawn_of(seed, version), stream)?;
+        write_found(&mut texts.comparison, plain, reached)?;
+    }
+    writeln!(texts.input, "end")?;
+    writeln!(texts.comparison, "end")
+}
+
 /// Both texts of one seed.
 fn drawn_texts(
     alloc: Global,
@@ -195,16 +224,26 @@ fn drawn_texts(
     reached: &mut Reached,
 ) -> Result<Texts, AllocError> {
     let mut plain = Plain::new();
-    let mut input = write_tasks(alloc, version, &mut plain, seed)?;
-    let mut comparison = format!(in alloc; "weak 1\nentries {EVENTS}\n")?;
-    for _event in 0..EVENTS {
-        let stream = drawn(seed, 16);
-        add_event(&mut input, &mut plain, drawn_of(seed, version), stream)?;
-        write_found(&mut comparison, &plain, reached)?;
-    }
-    writeln!(input, "end")?;
-    writeln!(comparison, "end")?;
-    Ok(Texts { input, comparison })
+    let mut texts = begun_texts(alloc, version, &mut plain, seed)?;
+    add_events(&mut texts, version, &mut plain, seed, reached)?;
+    Ok(texts)
+}
+
+/// The program's text for the input of a text.
+fn compared(alloc: Global, text: &str) -> Result<Vec<u8>, Fail> {
+    let input = read_input(alloc, text.as_bytes())?;
+    Ok(compare(alloc, &input)?)
+}
+
+/// Asserts that the program's text is that of the plain one.
+fn assert_same_text(rt: &impl Abort, alloc: Global, texts: &Texts) -> Result<(), Fail> {
+    let text = compared(alloc, &texts.input)?;
+    assert!(rt;
+        text.as_slice() == texts.comparison.as_bytes(),
+        "{}",
+        texts.input
+    );
+    Ok(())
 }
 
 /// Asserts that the program's text is that of the plain one, for one seed.
@@ -216,14 +255,7 @@ fn assert_compared(
     reached: &mut Reached,
 ) -> Result<(), Fail> {
     let texts = drawn_texts(alloc, version, seed, reached)?;
-    let input = read_input(alloc, texts.input.as_bytes())?;
-    let text = compare(alloc, &input)?;
-    assert!(rt;
-        text.as_slice() == texts.comparison.as_bytes(),
-        "{}",
-        texts.input
-    );
-    Ok(())
+    assert_same_text(rt, alloc, &texts)
 }
 
 #[test]

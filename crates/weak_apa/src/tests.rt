@@ -36,12 +36,42 @@ fn apply(rt: &impl Abort, weak: &mut Weak, event: Event) {
 }
 
 /// Three tasks on three processors, of which the last one is the most urgent and may run on the first processor alone.
+static THREE_TASKS: [(&str, u32, &[u8]); 3] = [
+    ("a", 5, &[0, 1]),
+    ("b", 6, &[1, 2]),
+    ("c", 1, &[0]),
+];
+
+/// Adds a task with this name, this priority and these processors.
+fn add_task(
+    rt: &impl Abort,
+    set: &mut TaskSet,
+    name: &str,
+    priority: u32,
+    processors: &[u8],
+) -> Result<(), Fail> {
+    set.add(name, priority, set_of(rt, processors))?;
+    Ok(())
+}
+
+/// The set of the three tasks.
 fn three_tasks(rt: &impl Abort, alloc: Global) -> Result<TaskSet, Fail> {
     let mut set = TaskSet::new(alloc, 3)?;
-    set.add("a", 5, set_of(rt, &[0, 1]))?;
-    set.add("b", 6, set_of(rt, &[1, 2]))?;
-    set.add("c", 1, set_of(rt, &[0]))?;
+    for (name, priority, processors) in &THREE_TASKS {
+        add_task(rt, &mut set, name, *priority, processors)?;
+    }
     Ok(set)
+}
+
+/// The weak scheduler of a set, before any event.
+fn weak_over(alloc: Global, set: &TaskSet) -> Result<Weak, Fail> {
+    Ok(Weak::new(alloc, set)?)
+}
+
+/// The weak scheduler of the three tasks, before any event.
+fn weak_of_three(rt: &impl Abort, alloc: Global) -> Result<Weak, Fail> {
+    let set = three_tasks(rt, alloc)?;
+    weak_over(alloc, &set)
 }
 
 /// Asserts who is on the three processors.
@@ -53,8 +83,7 @@ fn assert_on(rt: &impl Abort, links: &Links, expected: [Option<u32>; 3]) {
 // c displaces a from 0, and a displaces b from 1, which goes on 2.
 #[test]
 fn cascade_by_calls(rt: HostRuntime) -> Result<(), Fail> {
-    let set = three_tasks(&rt, rt.alloc())?;
-    let mut weak = Weak::new(rt.alloc(), &set)?;
+    let mut weak = weak_of_three(&rt, rt.alloc())?;
     for t in 0u32..3 {
         apply(&rt, &mut weak, Event::Arrive(t));
     }
@@ -91,17 +120,33 @@ fn add_drawn(
     Ok(())
 }
 
-/// Seven tasks on four processors, and events from one seed.
-fn run_seed(rt: &impl Abort, alloc: Global, seed: &mut u64) -> Result<(), Fail> {
+/// A set of ten tasks on six processors, drawn from a seed.
+fn drawn_set(alloc: Global, plain: &mut Plain, seed: &mut u64) -> Result<TaskSet, Fail> {
     let mut set = TaskSet::new(alloc, PROCESSORS)?;
-    let mut plain = Plain::new();
     for t in 0..TASKS {
-        add_drawn(alloc, &mut set, &mut plain, t, seed)?;
+        add_drawn(alloc, &mut set, plain, t, seed)?;
     }
-    let mut weak = Weak::new(alloc, &set)?;
+    Ok(set)
+}
+
+/// The weak scheduler of such a set, before any event.
+fn drawn_weak(alloc: Global, plain: &mut Plain, seed: &mut u64) -> Result<Weak, Fail> {
+    let set = drawn_set(alloc, plain, seed)?;
+    weak_over(alloc, &set)
+}
+
+/// Follows the events of a seed.
+fn follow_all(rt: &impl Abort, weak: &mut Weak, plain: &mut Plain, seed: &mut u64) {
     for _step in 0..200 {
-        follow(rt, &mut weak, &mut plain, drawn_event(seed));
+        follow(rt, weak, plain, drawn_event(seed));
     }
+}
+
+/// Ten tasks on six processors, and events from one seed.
+fn run_seed(rt: &impl Abort, alloc: Global, seed: &mut u64) -> Result<(), Fail> {
+    let mut plain = Plain::new();
+    let mut weak = drawn_weak(alloc, &mut plain, seed)?;
+    follow_all(rt, &mut weak, &mut plain, seed);
     Ok(())
 }
 
