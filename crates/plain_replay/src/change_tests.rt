@@ -57,20 +57,21 @@ fn numbers_at(alloc: Global, numbers: &[u32], places: &[u32]) -> Result<Vec<u32>
     Ok(at)
 }
 
-/// All numbers below this one.
-fn below(alloc: Global, count: u32) -> Result<Vec<u32>, AllocError> {
-    let mut numbers = Vec::new(alloc);
-    for number in 0..count {
-        numbers.push(number)?;
-    }
-    Ok(numbers)
+/// The numbers of the tasks that the greedy program takes of this set, where its tasks have these numbers.
+fn greedy_numbers(
+    rt: &(impl Abort + AllocGlobal),
+    set: &TaskSet,
+    numbers: &[u32],
+) -> Result<Vec<u32>, Fail> {
+    let all: Vec<u32> = (0..set.len()).collect(rt.alloc())?;
+    let places = greedy(rt, set, &all)?;
+    Ok(numbers_at(rt.alloc(), numbers, &places)?)
 }
 
 /// Whether the linked tasks are those that the greedy program takes of the ready ones.
 fn are_greedy(rt: &(impl Abort + AllocGlobal), links: &Links) -> Result<bool, Fail> {
     let (set, numbers) = ready_tasks(rt, links)?;
-    let best = greedy(rt, &set, &below(rt.alloc(), set.len())?)?;
-    let best = numbers_at(rt.alloc(), &numbers, &best)?;
+    let best = greedy_numbers(rt, &set, &numbers)?;
     let linked = linked_tasks(rt.alloc(), links)?;
     Ok(linked.as_slice() == best.as_slice())
 }
@@ -165,23 +166,23 @@ fn follow_input(
     Ok(())
 }
 
-/// Replays the input of a number.
-fn replay_number(
+/// Replays an input, with a change after each event.
+fn replay_input(
     rt: &(impl Abort + AllocGlobal),
-    number: u64,
+    input: &Input,
     reached: &mut Reached,
 ) -> Result<(), Fail> {
-    let input = make_input(rt.alloc(), number, 6, 10, 60)?;
     let mut core = Core::new(rt.alloc(), input.set())?;
     let mut checker = Checker::new(rt.alloc(), input.set())?;
-    follow_input(rt, &mut core, &mut checker, &input, reached)
+    follow_input(rt, &mut core, &mut checker, input, reached)
 }
 
 #[test]
 fn generated_changes_match_the_greedy_set(rt: HostRuntime) -> Result<(), Fail> {
     let mut reached = Reached::default();
     for number in 0u64..10 {
-        replay_number(&rt, number, &mut reached)?;
+        let input = make_input(rt.alloc(), number, 6, 10, 60)?;
+        replay_input(&rt, &input, &mut reached)?;
     }
     assert!(rt; reached.is_all());
     Ok(())
