@@ -1,3 +1,4 @@
 pub mod Apart
 pub mod Compared
+mod Start
 pub mod WeakText

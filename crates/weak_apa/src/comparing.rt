@@ -1,7 +1,9 @@
 //! The events of an input, given to both schedulers.
-ghost use Rattle.std.specs.Prelude.{◌≡◌, ◌<◌, false, length, IfOk};
+ghost use Rattle.std.specs.Prelude.{◌≡◌, ◌<◌, false, length, IfOk, OnOk};
+ghost use Rattle.link_state.specs.State.{start_of};
 ghost use Rattle.link_state.specs.Step.{IsEventFor};
 ghost use Rattle.sched_core.specs.CoreData.{Applied, max_entries};
+ghost use Rattle.weak_apa.specs.Start.{new_core};
 ghost use Rattle.weak_apa.specs.WeakText.{IsWeakTextOf, weak_heading};
 
 use crate::comparison::Comparison;
@@ -17,19 +19,49 @@ use weak_step::Weak;
 pub fn compare(alloc: Global, input: &Input) -> Result<Vec<u8>, OutOfMemory>
     ensures { IfOk result (λ text. IsWeakTextOf input.now.set input.now.events text.items) }
 {
+    let mut weak = Weak::new(alloc, input.set())?;
+    let mut core = Core::new(alloc, input.set())?;
+    compared(alloc, &mut weak, &mut core, input)
+}
+
+/// The text of two schedulers that were given no event yet.
+fn compared(
+    alloc: Global,
+    weak: &mut Weak,
+    core: &mut Core,
+    input: &Input,
+) -> Result<Vec<u8>, OutOfMemory>
+    requires weak { weak.old ≡ start_of input.now.set }
+    requires core { core.old ≡ new_core input.now.set }
+    ensures { IfOk result (λ text. IsWeakTextOf input.now.set input.now.events text.items) }
+{
+    let mut text = heading(alloc, input.events().len() as u64)?;
+    add_lines(weak, core, input, &mut text)?;
+    Ok(text)
+}
+
+/// Appends the lines of the events, and the end.
+fn add_lines(
+    weak: &mut Weak,
+    core: &mut Core,
+    input: &Input,
+    text: &mut Vec<u8>,
+) -> Result<(), OutOfMemory>
+    requires weak { weak.old ≡ start_of input.now.set }
+    requires core { core.old ≡ new_core input.now.set }
+    requires text { text.old.items ≡ weak_heading (length input.now.events) }
+    ensures { OnOk result (IsWeakTextOf input.now.set input.now.events text.new.items) }
+{
     let set = input.set();
     let events = input.events();
-    let mut weak = Weak::new(alloc, set)?;
-    let mut core = Core::new(alloc, set)?;
-    let mut text = heading(alloc, events.len() as u64)?;
     let _valid = core.links();
     for posted in events {
         weak.apply(posted.event);
-        enter(&mut core, *posted)?;
-        Comparison::new(weak.links(), core.links()).write(&mut text, set)?;
+        enter(core, *posted)?;
+        Comparison::new(weak.links(), core.links()).write(text, set)?;
     }
     text.extend_from_slice(b"end\n")?;
-    Ok(text)
+    Ok(())
 }
 
 /// The lines before those of so many events.
