@@ -26,6 +26,13 @@ pub record Replays (read put : List ℕ) : Type 0 where
   pub schedule : Schedules set events history contexts
   pub text : put ≡ schedule_text version set history contexts
 
+-- the schedule text of a legal history of exactly these events, with the contexts that this history gives
+pub record IsTextOf (version : ℕ) (set : SetData) (events : List Posted) (put : List ℕ) : Type 0 where
+  pub history : List Entry
+  pub contexts : List Context
+  pub schedule : Schedules set events history contexts
+  pub text : put ≡ schedule_text version set history contexts
+
 -- all that was left of a source was read, and this is the schedule text of it
 pub record ReadsAndReplays (old new : Option (List ℕ)) (put : List ℕ) : Type 0 where
   pub read : List ℕ

@@ -1,5 +1,5 @@
 //! The call: from the bytes read to the bytes written.
-ghost use Rattle.std.specs.Prelude.{◌≡◌, ◌≢◌, ℕ, ◌+◌, ◌≤◌, List, ◌⊎◌, length};
+ghost use Rattle.std.specs.Prelude.{◌≡◌, ◌≢◌, ℕ, ◌+◌, ◌≤◌, List, ◌⊎◌, length, IfOk};
 ghost use Rattle.std.specs.Io.KnownBytes.{Appends};
 ghost use Rattle.shift_io.specs.Causes.{Rose};
 ghost use Rattle.shift_io.specs.Stream.{TakesAtMost, TakesExactly, AppendsPrefix};
@@ -8,14 +8,15 @@ ghost use Rattle.program_status.specs.Answers.{Answers};
 ghost use Rattle.program_status.specs.Reading.{byte_limit};
 ghost use Rattle.program_status.specs.Refusal.{IsAccepted, IsAnsweredInput, RefusesInput};
 ghost use Rattle.program_status.specs.Status.{BeforePut};
-ghost use Rattle.plain_run.specs.Run.{Replays, ReadsAndReplays, ReadsRefused, IsRunAnswer, IsToRead};
+ghost use Rattle.plain_run.specs.Run.{Replays, IsTextOf, ReadsAndReplays, ReadsRefused, IsRunAnswer, IsToRead};
 
+use affinity_mask::OutOfMemory;
 use event_replay::schedule_of;
 use program_status::{MAX_BYTES, Status};
 use schedule_text::write_schedule;
 use shift_io::{ReadAllFault, Sink, Source, put_all, read_all};
 use std::alloc::Global;
-use trace_reader::read_input;
+use trace_reader::{Input, read_input};
 
 /// Reads the source to its end as an input text, replays its events in the order of their lines, and writes the schedule
 /// text into the sink. Nothing is written before the text is made whole.
@@ -75,13 +76,21 @@ fn replayed_text(alloc: Global, bytes: &[u8]) -> Result<Vec<u8>, Status>
         (IsAnsweredInput (RefusesInput bytes.now)) result }
 {
     let input = read_input(alloc, bytes)?;
+    let text = text_of(alloc, &input)?;
+    Ok(text)
+}
+
+/// The schedule text of an input. Refused only where memory runs out.
+fn text_of(alloc: Global, input: &Input) -> Result<Vec<u8>, OutOfMemory>
+    ensures { IfOk result (λ text. IsTextOf input.now.version input.now.set input.now.events
+        text.items) }
+{
     let made = schedule_of(alloc, input.set(), input.events())?;
-    let text = write_schedule(
+    write_schedule(
         alloc,
         input.version(),
         input.set(),
         made.core.history(),
         &made.contexts,
-    )?;
-    Ok(text)
+    )
 }

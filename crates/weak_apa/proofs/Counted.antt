@@ -1,11 +1,11 @@
 -- There are as many linked tasks as occupied processors, and what holds of the tasks that are linked in one state alone.
-use Rattle.std.proofs.Common.{◌≡◌, ℕ, ◌<◌, ◌≤◌, Bool, true, false, Option, Some, None, refl, sym, ap, ◌∙◌, inl, inr, ◌⊎◌, arith, le_antisymm, length}
+use Rattle.std.proofs.Common.{◌≡◌, ℕ, ◌<◌, ◌≤◌, true, false, Option, Some, None, refl, sym, ap, ◌∙◌, inl, inr, ◌⊎◌, arith, le_antisymm, length}
 use Rattle.std.specs.Prelude.{is_some, unwrap_or, MatchOption, IfSome}
 use Rattle.std.specs.Option.{ForSome}
 use Rattle.std.proofs.lemmas.Bool.{cases_Bool, true≢false}
 use Rattle.std.proofs.lemmas.Option.{same_Some}
 use Rattle.affinity_mask.specs.ProcSet.{has, members}
-use Rattle.link_state.specs.State.{State, IsState, HasSameTasks, task_on, task_count, is_linked, priority_of}
+use Rattle.link_state.specs.State.{State, IsState, task_on, task_count, is_linked, priority_of}
 use Rattle.link_state.proofs.Linked.{place_in, task_on-linked, is_linked-from_on, linked_number, occupied_number}
 use Rattle.link_table.proofs.Leaders.{IsFound}
 use Rattle.certificate_laws.proofs.Counts.{count_below-injection}

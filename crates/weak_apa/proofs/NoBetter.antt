@@ -1,10 +1,10 @@
 -- The weak scheduler is never better than the strong one: what it has linked is a placeable set of the ready tasks, of which
 -- the strong one has the best, and the largest, linked.
-use Rattle.std.proofs.Common.{◌≡◌, ℕ, ◌≤◌, true, false, Option, Some, None, length, refl, sym, ap, ◌∙◌, subst, inl, inr, arith, IsTrue}
+use Rattle.std.proofs.Common.{◌≡◌, ℕ, ◌≤◌, true, Option, Some, None, length, sym, ap, ◌∙◌, subst, inl, inr}
 use Rattle.std.specs.Prelude.{IfSome}
 use Rattle.std.proofs.lemmas.Bool.{cases_Bool}
 use Rattle.std.proofs.lemmas.Option.{same_Some}
-use Rattle.affinity_mask.specs.ProcSet.{has, passing_below}
+use Rattle.affinity_mask.specs.ProcSet.{passing_below}
 use Rattle.link_state.specs.State.{State, IsState, task_on, task_count, is_linked, is_ready, effective_mask}
 use Rattle.link_state.specs.Placement.{IsPlaceable, IsSubset, IsBetter}
 use Rattle.link_state.proofs.Linked.{place_in, task_on-linked}

@@ -1,4 +1,4 @@
-use Rattle.std.proofs.Common.{◌≡◌, inr}
+use Rattle.std.proofs.Common.{inr}
 use Rattle.program_status.specs.declared.status.Status.TheVariants.{Input}
 use Rattle.program_status.proofs.ReadBytes.{all_is_reported}
 use Rattle.plain_run.proofs.Refusals.{answer_of, refused_at, refused_answer}

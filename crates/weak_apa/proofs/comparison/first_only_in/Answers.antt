@@ -1,4 +1,4 @@
-use Rattle.std.proofs.Common.{ℕ, ◌<◌, ◌≤◌}
+use Rattle.std.proofs.Common.{◌<◌, ◌≤◌}
 use Rattle.link_state.specs.State.{task_count, priority_of}
 use Rattle.link_state.proofs.Linked.{linked_number}
 use Rattle.link_table.proofs.Leaders.{found_at}

@@ -1,4 +1,4 @@
-use Rattle.std.proofs.Common.{sym, length}
+use Rattle.std.proofs.Common.{sym}
 use Rattle.link_state.proofs.Linked.{linked_number}
 use Rattle.weak_apa.proofs.comparison.only_on.Goals as goal
 
