@@ -2,7 +2,9 @@
 use Rattle.std.proofs.Common.{◌≡◌, ◌<◌, List, length, get_or, map, All, subst}
 use Rattle.std.proofs.lemmas.List.{length-map, get_or-map}
 use Rattle.std.proofs.lemmas.List.Elements.{All-weaker}
-use Rattle.task_set.specs.TaskSet.{SetData}
+use Rattle.task_set.specs.TaskSet.{SetData, TaskData}
+use Rattle.link_state.specs.State.{start_of}
+use Rattle.link_state.specs.Step.{IsEventFor}
 use Rattle.trace_reader.specs.declared.posted.Posted.{Posted}
 use Rattle.trace_reader.specs.Input.{IsPostedOf}
 use Rattle.scheduler_reply.specs.declared.reply.Entry.{Entry}
@@ -11,6 +13,11 @@ use Rattle.event_replay.specs.Replay.{IsKnown, posted_of}
 
 pub known_events : (set : SetData) (events : List Posted) → All (IsPostedOf set) events → All (IsKnown set) events
 known_events set events posted = All-weaker (IsPostedOf set) (IsKnown set) (λ one of_set. of_set.event.0) events posted
+
+-- and so of the state in which a core of the set begins
+pub known_at_start : (set : SetData) (events : List Posted) → All (IsKnown set) events → All (λ (posted : Posted). IsEventFor (start_of set) posted.event) events
+known_at_start set events known =
+    All-weaker (IsKnown set) (λ (posted : Posted). IsEventFor (start_of set) posted.event) (λ posted one. rw (length-map set.tasks (λ (task : TaskData). task.priority)) one) events known
 
 -- what holds of each event holds of that of each entry
 pub each_entry : (P : Posted → Type 0) (events : List Posted) (entries : List Entry) → All P events → map posted_of entries ≡ events → All (λ (entry : Entry). P (posted_of entry)) entries
