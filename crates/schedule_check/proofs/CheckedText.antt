@@ -1,5 +1,6 @@
 -- The answer to the text of a schedule: it is the one that the schedule has, since a text has one schedule.
-use Rattle.std.proofs.Common.{◌≡◌, ℕ, ◌⊎◌, List, length, Result, Ok, Err, OnOk, IfErr, MatchResult, sym, ap, ◌∙◌, subst, inl, inr}
+use Rattle.std.proofs.Common.{◌≡◌, ℕ, ◌⊎◌, List, length, Result, Ok, Err, IfOk, IfErr, Vec, sym, ap, ◌∙◌, subst, inl, inr}
+use Rattle.std.specs.declared.alloc.Global.{Global}
 use Rattle.schedule_text.specs.Laws.{text_of_schedule}
 use Rattle.schedule_text.specs.Schedule.{ScheduleData, IsSchedule}
 use Rattle.schedule_text.specs.ScheduleFault.{IsScheduleRefused}
@@ -25,22 +26,16 @@ pub wrong_context : (schedule : ScheduleData) (status : Status) → IsBadContext
 wrong_context schedule status bad = (bad.0, bad.1, bad.2, inr bad.3)
 
 -- a valid schedule is not answered as wrong
-pub memory_of_valid : (schedule : ScheduleData) (status : Status) → IsSchedule schedule → IsValid schedule → IsInvalidStatus schedule status ⊎ (status ≡ OutOfMemory) → status ≡ OutOfMemory
+memory_of_valid : (schedule : ScheduleData) (status : Status) → IsSchedule schedule → IsValid schedule → IsInvalidStatus schedule status ⊎ (status ≡ OutOfMemory) → status ≡ OutOfMemory
 memory_of_valid schedule status ok valid (inl bad) = absurd (valid_is_not_invalid schedule ok bad.0 bad.1 valid bad.3)
 memory_of_valid schedule status ok valid (inr memory) = memory
 
 -- a wrong one is answered in its line, with its defect
-pub status_of_invalid : (schedule : ScheduleData) (status : Status) (number defect : ℕ) → IsSchedule schedule → IsInvalid schedule number defect → IsInvalidStatus schedule status ⊎ (status ≡ OutOfMemory) → (status ≡ Invalid number defect) ⊎ (status ≡ OutOfMemory)
+status_of_invalid : (schedule : ScheduleData) (status : Status) (number defect : ℕ) → IsSchedule schedule → IsInvalid schedule number defect → IsInvalidStatus schedule status ⊎ (status ≡ OutOfMemory) → (status ≡ Invalid number defect) ⊎ (status ≡ OutOfMemory)
 status_of_invalid schedule status number defect ok invalid (inl bad) =
     let same = invalid_once schedule ok bad.0 number bad.1 defect bad.3 invalid in
     inl (bad.2 ∙ ap (λ (n : ℕ). Invalid n bad.1) same.0 ∙ ap (λ (d : ℕ). Invalid number d) same.1)
 status_of_invalid schedule status number defect ok invalid (inr memory) = inr memory
-
--- the comparison of the contexts answers what is expected
-pub compared_status : {A : Type 0} (schedule : ScheduleData) (result : Result A Status) (number defect : ℕ) → IsSchedule schedule → OnOk result (IsValid schedule) → IfErr result (IsBadContextStatus schedule) → IsInvalid schedule number defect
-    → MatchResult result (λ (a : A). ⊥) (λ status. (status ≡ Invalid number defect) ⊎ (status ≡ OutOfMemory))
-compared_status schedule (Ok a) number defect ok valid bad invalid = valid_is_not_invalid schedule ok number defect valid invalid
-compared_status schedule (Err status) number defect ok valid bad invalid = status_of_invalid schedule status number defect ok invalid (inl (wrong_context schedule status bad))
 
 -- ---- a text that is no schedule's
 text_refused : (bytes : List ℕ) (fault : TextFault) → (fault.kind ≡ text_kind.OutOfMemory) ⊎ IsScheduleRefused bytes fault.line fault.kind → RefusesCheck bytes (status_of_text_fault fault) ⊎ (status_of_text_fault fault ≡ OutOfMemory)
@@ -83,13 +78,13 @@ module _ (bytes : List ℕ) (schedule : ScheduleData) (ok : IsSchedule schedule)
         | inr memory ↦ inr memory
       ]
 
-  pub valid_unrefused : (expected : Status) → IsValid schedule → ((line : ℕ) (kind : TextKind) → IsScheduleRefused bytes line kind → ⊥) → RefusesCheck bytes expected → ⊥
+  valid_unrefused : (expected : Status) → IsValid schedule → ((line : ℕ) (kind : TextKind) → IsScheduleRefused bytes line kind → ⊥) → RefusesCheck bytes expected → ⊥
   valid_unrefused expected valid unrefused (inl input) = unrefused input.number input.cause.cause input.cause.refused
   valid_unrefused expected valid unrefused (inr invalid) =
       let same = only invalid.cause.schedule invalid.cause.is_text.is_schedule invalid.cause.is_text.text in
       valid_is_not_invalid schedule ok invalid.number invalid.defect valid (subst (λ (x : ScheduleData). IsInvalid x invalid.number invalid.defect) (sym same) invalid.cause.invalid)
 
-  pub is_check_of : (put : List ℕ) → IsValid schedule → put ≡ valid_text (length schedule.entries) → IsCheckOf bytes put
+  is_check_of : (put : List ℕ) → IsValid schedule → put ≡ valid_text (length schedule.entries) → IsCheckOf bytes put
   is_check_of put valid reported = record {
     schedule = schedule;
     is_text = record { is_schedule = ok; text = text };
@@ -103,12 +98,21 @@ module _ (bytes : List ℕ) (schedule : ScheduleData) (ok : IsSchedule schedule)
   invalid_refused status (inl bad) = inl (inr record { number = bad.0; defect = bad.1; answer = bad.2; cause = record { schedule = schedule; is_text = record { is_schedule = ok; text = text }; invalid = bad.3 } })
   invalid_refused status (inr memory) = inr memory
 
-  pub answers_invalid : (status : Status) → ((line : ℕ) (kind : TextKind) → IsScheduleRefused bytes line kind → ⊥) → IsInvalidStatus schedule status ⊎ (status ≡ OutOfMemory) → (IsValid schedule → status ≡ OutOfMemory)
-      → ((number defect : ℕ) → IsInvalid schedule number defect → (status ≡ Invalid number defect) ⊎ (status ≡ OutOfMemory)) → Answers (IsCheckOf bytes) (IsValidText bytes) (RefusesCheck bytes) (Err status)
-  answers_invalid status unrefused refused accepts judged =
+  -- the answer to a schedule that was judged is that to the bytes
+  pub answers_judged : (result : Result (Vec ℕ Global) Status) → ((line : ℕ) (kind : TextKind) → IsScheduleRefused bytes line kind → ⊥)
+      → IfOk result (λ (made : Vec ℕ Global). IsValid schedule × (made.items ≡ valid_text (length schedule.entries))) → IfErr result (λ (status : Status). IsInvalidStatus schedule status ⊎ (status ≡ OutOfMemory))
+      → Answers (IsCheckOf bytes) (IsValidText bytes) (RefusesCheck bytes) result
+  answers_judged (Ok made) unrefused valid refused =
+      record {
+        makes = is_check_of made.items valid.0 valid.1;
+        refused = tt;
+        accepts = λ accepted. tt;
+        refuses = λ expected. valid_unrefused expected valid.0 unrefused;
+      }
+  answers_judged (Err status) unrefused valid refused =
       record {
         makes = tt;
         refused = invalid_refused status refused;
-        accepts = λ accepted. accepts (subst IsValid (sym (only accepted.0 accepted.1.is_schedule accepted.1.text)) accepted.2);
-        refuses = λ expected. schedule_refused_status status expected unrefused judged;
+        accepts = λ accepted. memory_of_valid schedule status ok (subst IsValid (sym (only accepted.0 accepted.1.is_schedule accepted.1.text)) accepted.2) refused;
+        refuses = λ expected. schedule_refused_status status expected unrefused (λ number defect invalid. status_of_invalid schedule status number defect ok invalid refused);
       }

@@ -4,7 +4,7 @@ use Rattle.std.specs.Prelude.{slice_get}
 use Rattle.std.specs.List.{range_with_len}
 use Rattle.std.proofs.lemmas.List.{take_more, length-map}
 use Rattle.std.proofs.lemmas.Option.{slice_get_within, slice_get_read, get_or_from_slice_get}
-use Rattle.task_set.specs.TaskSet.{SetData, TaskData}
+use Rattle.task_set.specs.TaskSet.{TaskData}
 use Rattle.task_set.specs.Context.{fresh_context}
 use Rattle.scheduler_reply.specs.declared.reply.Entry.{Entry}
 use Rattle.link_state.specs.State.{State, start_of, task_count}
@@ -18,7 +18,6 @@ use Rattle.link_state.specs.Step.{IsEventFor}
 use Rattle.reach_certificate.specs.declared.defect.Defect.{Defect}
 use Rattle.reach_certificate.proofs.ContextsFollow.{contexts-follow}
 use Rattle.link_state.proofs.SameTasks.{same_tasks-history}
-use Rattle.text_fields.specs.EventText.{IsAboutSet}
 use Rattle.schedule_text.specs.Schedule.{ScheduleData, IsSchedule, IsScheduled}
 use Rattle.valid_schedule.specs.Valid.{HasBadEntry, entry_line_number}
 use Rattle.schedule_check.specs.Checking.{HasFollowed}

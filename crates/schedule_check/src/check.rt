@@ -1,8 +1,8 @@
 //! The check of a schedule that somebody wrote.
-ghost use Rattle.std.specs.Prelude.{◌≡◌, ◌⊎◌, ℕ, ◌≤◌, ◌↔◌, IsTrue, OnOk, IfOk, IfErr, MatchResult, length};
+ghost use Rattle.std.specs.Prelude.{◌≡◌, ◌⊎◌, ◌≤◌, ◌↔◌, IsTrue, OnOk, IfOk, IfErr, length};
 ghost use Rattle.program_status.specs.declared.status.Status.{Status};
 ghost use Rattle.program_status.specs.Answers.{Answers};
-ghost use Rattle.valid_schedule.specs.Valid.{IsValid, IsInvalid, IsValidText};
+ghost use Rattle.valid_schedule.specs.Valid.{IsValid, IsValidText};
 ghost use Rattle.schedule_check.specs.Check.{IsCheckOf, RefusesCheck, valid_text};
 ghost use Rattle.schedule_check.specs.Checking.{HasFollowed, IsBadEntryStatus, IsBadContextStatus, IsInvalidStatus};
 
@@ -22,7 +22,17 @@ pub fn checked_text(alloc: Global, bytes: &[u8]) -> Result<Vec<u8>, Status>
         (RefusesCheck bytes.now) result }
 {
     let schedule = read_schedule(alloc, bytes)?;
-    judge(alloc, &schedule)?;
+    judged_text(alloc, &schedule)
+}
+
+/// The line that reports how many entries a schedule has, or the status that says why it is not valid.
+fn judged_text(alloc: Global, schedule: &Schedule) -> Result<Vec<u8>, Status>
+    ensures reported { IfOk result (λ text.
+        IsValid schedule.now × (text.items ≡ valid_text (length schedule.now.entries))) }
+    ensures refused { IfErr result (λ status.
+        IsInvalidStatus schedule.now status ⊎ (status ≡ Status.OutOfMemory)) }
+{
+    judge(alloc, schedule)?;
     let text = write_valid(alloc, schedule.entries().len())?;
     Ok(text)
 }
@@ -32,23 +42,28 @@ fn judge(alloc: Global, schedule: &Schedule) -> Result<(), Status>
     ensures valid { OnOk result (IsValid schedule.now) }
     ensures refused { IfErr result (λ status.
         IsInvalidStatus schedule.now status ⊎ (status ≡ Status.OutOfMemory)) }
-    ensures accepts { IsValid schedule.now → IfErr result (λ status. status ≡ Status.OutOfMemory) }
-    ensures refuses { (line defect : ℕ) → IsInvalid schedule.now line defect
-        → MatchResult result (λ unit. ⊥) (λ status. (status ≡ Status.Invalid line defect) ⊎ (status ≡ Status.OutOfMemory)) }
-{
-    let _valid = schedule.entries();
-    let checker = follow_entries(alloc, schedule)?;
-    compare_contexts(schedule, &checker)
-}
-
-/// A checker that accepted each entry of a schedule, or the first entry that it refuses.
-fn follow_entries(alloc: Global, schedule: &Schedule) -> Result<Checker, Status>
-    ensures followed { IfOk result (λ checker.
-        HasFollowed schedule.now (length schedule.now.entries) checker) }
-    ensures refused { IfErr result (λ status.
-        IsBadEntryStatus schedule.now status ⊎ (status ≡ Status.OutOfMemory)) }
 {
     let mut checker = Checker::new(alloc, schedule.set())?;
+    judge_by(&mut checker, schedule)
+}
+
+/// The same by a checker that accepted no entry yet.
+fn judge_by(checker: &mut Checker, schedule: &Schedule) -> Result<(), Status>
+    requires { HasFollowed schedule.now 0 checker.old }
+    ensures valid { OnOk result (IsValid schedule.now) }
+    ensures refused { IfErr result (IsInvalidStatus schedule.now) }
+{
+    accept_entries(checker, schedule)?;
+    compare_contexts(schedule, checker)
+}
+
+/// Judges each entry of a schedule. Refused with the first that is wrong.
+fn accept_entries(checker: &mut Checker, schedule: &Schedule) -> Result<(), Status>
+    requires { HasFollowed schedule.now 0 checker.old }
+    ensures followed { OnOk result
+        (HasFollowed schedule.now (length schedule.now.entries) checker.new) }
+    ensures refused { IfErr result (IsBadEntryStatus schedule.now) }
+{
     let mut line = u64::from(schedule.set().len()) + 4;
     for entry in schedule.entries() {
         match checker.accept(entry) {
@@ -61,7 +76,7 @@ fn follow_entries(alloc: Global, schedule: &Schedule) -> Result<Checker, Status>
             }
         }
     }
-    Ok(checker)
+    Ok(())
 }
 
 /// Compares the contexts of a schedule with those of a checker that accepted all its entries.

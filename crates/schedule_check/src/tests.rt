@@ -4,10 +4,10 @@ use program_status::{Status, exit_status, report};
 use std::alloc::{AllocError, Global};
 use std::cell::RefCell;
 use std::fmt::{Display, Write};
+use std::io;
 use std::process::Abort;
 use std::test::Fail;
-use std::{io, str};
-use worked_histories::{CHANGES, HISTORIES, History, texts_of};
+use worked_histories::{History, all_changes, all_histories, schedule_of};
 
 const SMALLEST_SCHEDULE: &str =
     "schedule 1\nprocessors 1\ntask a 5 0\nhistory 1\n0 arrive a placed 0\n\
@@ -170,11 +170,8 @@ static ALTERED: [Altered; 18] = [
 
 /// The schedule text of a history, or of the smallest one.
 fn schedule_named(alloc: Global, name: &str) -> Result<String, AllocError> {
-    match history_named(&HISTORIES, name).or(history_named(&CHANGES, name)) {
-        Some(history) => {
-            let (_, schedule) = texts_of(alloc, history)?;
-            Ok(schedule)
-        }
+    match history_named(all_histories(), name).or(history_named(all_changes(), name)) {
+        Some(history) => schedule_of(alloc, history),
         None => String::from_str(alloc, SMALLEST_SCHEDULE),
     }
 }
@@ -204,8 +201,8 @@ fn is_valid(alloc: Global, schedule: &str, count: usize) -> Result<bool, AllocEr
 
 /// The schedule of a history is found valid.
 fn expect_right(rt: &impl Abort, alloc: Global, history: &History) -> Result<(), AllocError> {
-    let (_, schedule) = texts_of(alloc, history)?;
-    let valid = is_valid(alloc, &schedule, history.entries.len())?;
+    let schedule = schedule_of(alloc, history)?;
+    let valid = is_valid(alloc, &schedule, history.count())?;
     assert!(rt; valid, "in {}", history.name);
     Ok(())
 }
@@ -214,58 +211,67 @@ fn expect_right(rt: &impl Abort, alloc: Global, history: &History) -> Result<(),
 fn right_schedules(rt: HostRuntime) -> Result<(), Fail> {
     assert!(rt; is_valid(rt.alloc(), SMALLEST_SCHEDULE, 1)?);
     assert!(rt; is_valid(rt.alloc(), LONGER_CHAIN, 2)?);
-    for history in &HISTORIES {
+    for history in all_histories() {
         expect_right(&rt, rt.alloc(), history)?;
     }
-    for history in &CHANGES {
+    for history in all_changes() {
         expect_right(&rt, rt.alloc(), history)?;
     }
+    Ok(())
+}
+
+/// What is answered to a schedule text, `Status::Done` where it is valid.
+fn answer_to(alloc: Global, schedule: &str) -> Status {
+    match checked_text(alloc, schedule.as_bytes()) {
+        Ok(_) => Status::Done,
+        Err(status) => status,
+    }
+}
+
+/// A changed schedule gets the answer of its row.
+fn expect_answer(rt: &impl Abort, alloc: Global, change: &Altered) -> Result<(), AllocError> {
+    let text = changed(alloc, change)?;
+    assert!(rt;
+        text.is_some(),
+        "no {:?} in {:?}",
+        change.old,
+        change.history
+    );
+    let text = text.unwrap_or(String::new(alloc));
+    assert_eq!(rt;
+        answer_to(alloc, &text),
+        change.status,
+        "{:?} in place of {:?}",
+        change.new,
+        change.old
+    );
     Ok(())
 }
 
 #[test]
 fn changed_schedules(rt: HostRuntime) -> Result<(), Fail> {
     for change in &ALTERED {
-        let text = changed(rt.alloc(), change)?;
-        assert!(rt;
-            text.is_some(),
-            "no {:?} in {:?}",
-            change.old,
-            change.history
-        );
-        let text = text.unwrap_or(String::new(rt.alloc()));
-        match checked_text(rt.alloc(), text.as_bytes()) {
-            Ok(valid) => assert_eq!(rt; str::from_utf8(&valid), Ok("")),
-            Err(status) => assert_eq!(rt;
-                status,
-                change.status,
-                "{:?} in place of {:?}",
-                change.new, change.old
-            ),
-        }
+        expect_answer(&rt, rt.alloc(), change)?;
     }
     Ok(())
 }
 
 /// A schedule of one task, which never arrives, and of so many ticks.
-fn ticks(alloc: Global, count: u32) -> Result<String, Fail> {
+fn ticks(alloc: Global, count: u32) -> Result<String, AllocError> {
     let mut text = format!(in alloc; "schedule 1\nprocessors 1\ntask a 5 0\nhistory {count}\n")?;
+    write_ticks(&mut text, count)?;
+    Ok(text)
+}
+
+/// So many entries of ticks, and the context of the one task.
+fn write_ticks(text: &mut String, count: u32) -> Result<(), AllocError> {
     for _ in 0..count {
         writeln!(text, "0 tick 1 ticked")?;
     }
     writeln!(
         text,
         "contexts 1\na units 0 stints 0 moves 0 last - trail 0\nend"
-    )?;
-    Ok(text)
-}
-
-/// The status of a schedule that is not valid.
-fn refusal(alloc: Global, schedule: &str) -> Option<Status> {
-    match checked_text(alloc, schedule.as_bytes()) {
-        Ok(_) => None,
-        Err(status) => Some(status),
-    }
+    )
 }
 
 #[test]
@@ -273,24 +279,30 @@ fn longest_schedules(rt: HostRuntime) -> Result<(), Fail> {
     assert!(rt; is_valid(rt.alloc(), &ticks(rt.alloc(), 20_000)?, 20_000)?);
     let one_more = ticks(rt.alloc(), 20_001)?;
     assert_eq!(rt;
-        refusal(rt.alloc(), &one_more),
-        Some(Status::Input { line: 4, kind: 21 })
+        answer_to(rt.alloc(), &one_more),
+        Status::Input { line: 4, kind: 21 }
     );
     Ok(())
 }
 
+/// The start of a schedule of so many tasks.
+fn tasks(alloc: Global, count: u32) -> Result<String, AllocError> {
+    let mut text = format!(in alloc; "schedule 1\nprocessors 1\n")?;
+    for i in 0..count {
+        writeln!(text, "task t{i} {i} 0")?;
+    }
+    Ok(text)
+}
+
 #[test]
 fn one_task_too_many(rt: HostRuntime) -> Result<(), Fail> {
-    let mut tasks = format!(in rt.alloc(); "schedule 1\nprocessors 1\n")?;
-    for i in 0u32..1025 {
-        writeln!(tasks, "task t{i} {i} 0")?;
-    }
+    let text = tasks(rt.alloc(), 1025)?;
     assert_eq!(rt;
-        refusal(rt.alloc(), &tasks),
-        Some(Status::Input {
+        answer_to(rt.alloc(), &text),
+        Status::Input {
             line: 1027,
             kind: 22
-        })
+        }
     );
     Ok(())
 }

@@ -170,7 +170,7 @@ pub(crate) fn expect_history<R: Threads + Wait + Sync + Abort>(
 ) -> Result<(), Fail> {
     let (input, schedule) = texts_of(alloc, history)?;
     expect_schedule(rt, alloc, &input, &schedule)?;
-    expect_valid(rt, alloc, schedule.as_bytes(), history.entries.len())
+    expect_valid(rt, alloc, schedule.as_bytes(), history.count())
 }
 
 #[test]

@@ -9,7 +9,7 @@ use std::sync::atomic::{AtomicBool, AtomicU64, Ordering};
 use std::test::Fail;
 use std::thread::Threads;
 use std::{str, thread};
-use worked_histories::{History, all_histories};
+use worked_histories::{History, all_histories, event_and_reply};
 
 /// How often a gate looks before it lets a thread go on all the same.
 const MOST_LOOKS: u32 = 20_000_000;
@@ -214,7 +214,8 @@ pub(crate) fn expect_run_on_streams<R: Threads + Wait + Sync + Abort>(
 fn on_three_streams(alloc: Global, history: &History) -> Result<String, Fail> {
     let mut input = format!(in alloc; "apa {}\n{}", history.version, history.head)?;
     let mut stream = 0u32;
-    for (event, _reply) in history.entries {
+    for entry in history.entries.lines() {
+        let (event, _reply) = event_and_reply(entry);
         let rest = event.strip_prefix("0").unwrap_or("");
         writeln!(input, "{stream}{rest}")?;
         stream = if stream < 2 { stream + 1 } else { 0 };
@@ -230,7 +231,7 @@ pub(crate) fn expect_on_three_streams<R: Threads + Wait + Sync + Abort>(
     history: &History,
 ) -> Result<(), Fail> {
     let input = on_three_streams(alloc, history)?;
-    expect_run_on_streams(rt, alloc, &input, history.entries.len(), 3)
+    expect_run_on_streams(rt, alloc, &input, history.count(), 3)
 }
 
 #[test]

@@ -5,5 +5,5 @@
 mod histories;
 mod texts;
 
-pub use histories::{CHANGES, HISTORIES, History, all_changes, all_histories};
-pub use texts::texts_of;
+pub use histories::{History, all_changes, all_histories};
+pub use texts::{event_and_reply, schedule_of, texts_of};

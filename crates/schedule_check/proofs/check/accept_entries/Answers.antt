@@ -1,12 +1,12 @@
-use Rattle.std.proofs.Common.{◌≡◌, ℕ, ◌<◌, length, refl, ◌∙◌, subst, inl, arith, le_antisymm}
+use Rattle.std.proofs.Common.{◌≡◌, ℕ, ◌<◌, length, refl, subst, arith, le_antisymm}
 use Rattle.schedule_check.specs.Checking.{HasFollowed}
-use Rattle.schedule_check.proofs.Following.{followed_start, followed_more, bad_entry, entry_known, entry_read}
-use Rattle.schedule_check.proofs.check.follow_entries.Goals as goal
+use Rattle.schedule_check.proofs.Following.{followed_more, bad_entry, entry_known, entry_read}
+use Rattle.schedule_check.proofs.check.accept_entries.Goals as goal
 
 pub loop-entry-init : goal.loop-entry-init
 loop-entry-init c = record {
-  followed = followed_start c.args.schedule.now c.in_ok-checker.checker (c.in_ok-checker.ensures.links ∙ rw c.set.ensures.value refl) (c.in_ok-checker.ensures.contexts ∙ rw c.set.ensures.value refl);
-  line = let count : c.len.result ≡ length c.args.schedule.now.set.tasks = rw c.set-2.ensures.value at c.len.ensures.value in let same = c.from-line.ensures in omega arith;
+  followed = c.requires;
+  line = let count : c.len.result ≡ length c.args.schedule.now.set.tasks = rw c.set.ensures.value at c.len.ensures.value in let same = c.from-line.ensures in omega arith;
 }
 
 pub accept-requires : goal.accept-requires
@@ -15,7 +15,7 @@ accept-requires c =
     (entry_read c.args.schedule.now c.entries-entry-items.result.now c.loop-entry.entry-index c.entry-item.result c.entries-entry-items.ensures.value c.loop-entry-test.true c.entry-item.is) c.loop-entry.invariant.followed
 
 pub returns-in-Err-clause-refused : goal.returns-in-Err-clause-refused
-returns-in-Err-clause-refused c = inl (
+returns-in-Err-clause-refused c = (
   _,
   _,
   refl,
@@ -28,7 +28,7 @@ pub overflow_add-line-in-Ok : goal.overflow_add-line-in-Ok
 overflow_add-line-in-Ok c =
     let few = c.entries-entry-items.ensures.valid.few in
     let tasks = c.len.ensures.bound in
-    let count : c.len.result ≡ length c.args.schedule.now.set.tasks = rw c.set-2.ensures.value at c.len.ensures.value in
+    let count : c.len.result ≡ length c.args.schedule.now.set.tasks = rw c.set.ensures.value at c.len.ensures.value in
     let line = c.loop-entry.invariant.line in
     let fits : c.loop-entry.entry-index < length c.args.schedule.now.entries = rw c.entries-entry-items.ensures.value at c.loop-entry-test.true in
     omega arith

@@ -1,6 +1,6 @@
 use Rattle.std.proofs.Common.{◌≡◌, ◌+◌, length}
 use Rattle.schedule_check.specs.Checking.{HasFollowed}
-use Rattle.schedule_check.proofs.check.follow_entries.Given as goal
+use Rattle.schedule_check.proofs.check.accept_entries.Given as goal
 
 abbrev pub invariant-loop-entry : goal.invariant-loop-entry
 invariant-loop-entry l = record {
