@@ -5,6 +5,7 @@ use crate::replay::run;
 use program_status::{Status, exit_status};
 use shift_io::{MemSink, MemSource, StdSink, StdSource};
 use std::alloc::{AllocError, Global};
+use std::process::Abort;
 use std::str;
 use std::test::Fail;
 
@@ -123,20 +124,61 @@ batch units 0 stints 1 moves 0 last 4 trail 10\n\
 idle_scan units 0 stints 0 moves 0 last - trail 11\n\
 end\n";
 
-fn source_of(alloc: Global, text: &str, most: usize, fails: &[u64]) -> Result<MemSource, AllocError>
-    requires { 0 < most }
+/// A run over memory, and what it comes to.
+#[derive(Clone, Copy)]
+struct Run {
+    input: &'static str,
+    /// The most bytes at a take, and the numbers of the takes that fail.
+    takes: (usize, &'static [u64]),
+    /// The same of the puts.
+    puts: (usize, &'static [u64]),
+    status: Status,
+    code: u8,
+    /// The bytes put.
+    put: &'static str,
+}
+
+fn source_of(alloc: Global, run: &Run) -> Result<MemSource, AllocError>
+    requires { 0 < run.now.takes.0 }
 {
-    let bytes = Vec::from_slice(alloc, text.as_bytes())?;
+    let (most, fails) = run.takes;
+    let bytes = Vec::from_slice(alloc, run.input.as_bytes())?;
     let fails = Vec::from_slice(alloc, fails)?;
     Ok(MemSource::new(bytes, most, fails))
 }
 
-fn sink_of(alloc: Global, room: usize, most: usize, fails: &[u64]) -> Result<MemSink, AllocError>
-    requires { 0 < most }
+fn sink_of(alloc: Global, run: &Run) -> Result<MemSink, AllocError>
+    requires { 0 < run.now.puts.0 }
 {
-    let room = vec![in alloc; 0u8; room]?;
+    let (most, fails) = run.puts;
+    let room = vec![in alloc; 0u8; 4096]?;
     let fails = Vec::from_slice(alloc, fails)?;
     Ok(MemSink::new(room, most, fails))
+}
+
+/// A run comes to what is said of it.
+fn expect_run(rt: &impl Abort, alloc: Global, expected: &Run) -> Result<(), AllocError>
+    requires takes { 0 < expected.now.takes.0 }
+    requires puts { 0 < expected.now.puts.0 }
+{
+    let mut source = source_of(alloc, expected)?;
+    let mut sink = sink_of(alloc, expected)?;
+    expect_over(rt, alloc, &mut source, &mut sink, expected);
+    Ok(())
+}
+
+/// The same over this source and this sink.
+fn expect_over(
+    rt: &impl Abort,
+    alloc: Global,
+    source: &mut MemSource,
+    sink: &mut MemSink,
+    expected: &Run,
+) {
+    let status = run(alloc, source, sink);
+    assert_eq!(rt; status, expected.status);
+    assert_eq!(rt; exit_status(&status), expected.code);
+    assert_eq!(rt; str::from_utf8(sink.bytes()), Ok(expected.put));
 }
 
 #[test]
@@ -145,23 +187,31 @@ fn worked_inputs(rt: HostRuntime) -> Result<(), Fail> {
         (BY_TURNS_INPUT, BY_TURNS_SCHEDULE),
         (TWO_CLUSTERS_INPUT, TWO_CLUSTERS_SCHEDULE),
     ];
-    for (input, schedule) in rows {
-        let mut source = source_of(rt.alloc(), input, 100, &[])?;
-        let mut sink = sink_of(rt.alloc(), 4096, 100, &[])?;
-        let status = run(rt.alloc(), &mut source, &mut sink);
-        assert_eq!(rt; status, Status::Done);
-        assert_eq!(rt; str::from_utf8(sink.bytes()), Ok(schedule));
+    for (input, put) in rows {
+        let worked = Run {
+            input,
+            takes: (100, &[]),
+            puts: (100, &[]),
+            status: Status::Done,
+            code: 0,
+            put,
+        };
+        expect_run(&rt, rt.alloc(), &worked)?;
     }
     Ok(())
+}
+
+/// The status of a run over standard streams that puts its bytes into a list.
+fn status_over_std_streams(alloc: Global, put: &mut Vec<u8>) -> Status {
+    let mut source = StdSource::new(BY_TURNS_INPUT.as_bytes());
+    let mut sink = StdSink::new(put);
+    run(alloc, &mut source, &mut sink)
 }
 
 #[test]
 fn worked_input_over_std_streams(rt: HostRuntime) -> Result<(), Fail> {
     let mut put = Vec::new(rt.alloc());
-    let mut source = StdSource::new(BY_TURNS_INPUT.as_bytes());
-    let mut sink = StdSink::new(&mut put);
-    let status = run(rt.alloc(), &mut source, &mut sink);
-    drop(sink);
+    let status = status_over_std_streams(rt.alloc(), &mut put);
     assert_eq!(rt; status, Status::Done);
     assert_eq!(rt; exit_status(&status), 0);
     assert_eq!(rt; str::from_utf8(&put), Ok(BY_TURNS_SCHEDULE));
@@ -170,34 +220,42 @@ fn worked_input_over_std_streams(rt: HostRuntime) -> Result<(), Fail> {
 
 #[test]
 fn unknown_task_is_refused(rt: HostRuntime) -> Result<(), Fail> {
-    let input = "apa 1\nprocessors 1\ntask a 1 0\n0 arrive q\nend\n";
-    let mut source = source_of(rt.alloc(), input, 8, &[])?;
-    let mut sink = sink_of(rt.alloc(), 4096, 4096, &[])?;
-    let status = run(rt.alloc(), &mut source, &mut sink);
-    assert_eq!(rt; status, Status::Input { line: 4, kind: 9 });
-    assert_eq!(rt; exit_status(&status), 3);
+    let status = Status::Input { line: 4, kind: 9 };
+    let refused = Run {
+        input: "apa 1\nprocessors 1\ntask a 1 0\n0 arrive q\nend\n",
+        takes: (8, &[]),
+        puts: (4096, &[]),
+        status,
+        code: 3,
+        put: "",
+    };
+    expect_run(&rt, rt.alloc(), &refused)?;
     assert_eq!(rt;
         format!(in rt.alloc(); "{status}")?.as_str(),
         "input: line 4, kind 9"
     );
-    assert!(rt; sink.bytes().is_empty());
     Ok(())
 }
 
 #[test]
 fn faults_of_source_and_sink(rt: HostRuntime) -> Result<(), Fail> {
-    let mut source = source_of(rt.alloc(), BY_TURNS_INPUT, 8, &[1])?;
-    let mut sink = sink_of(rt.alloc(), 4096, 4096, &[])?;
-    let status = run(rt.alloc(), &mut source, &mut sink);
-    assert_eq!(rt; status, Status::ReadFault);
-    assert_eq!(rt; exit_status(&status), 4);
-    assert!(rt; sink.bytes().is_empty());
-
-    let mut source = source_of(rt.alloc(), BY_TURNS_INPUT, 4096, &[])?;
-    let mut sink = sink_of(rt.alloc(), 4096, 10, &[1])?;
-    let status = run(rt.alloc(), &mut source, &mut sink);
-    assert_eq!(rt; status, Status::WriteFault);
-    assert_eq!(rt; exit_status(&status), 5);
-    assert_eq!(rt; str::from_utf8(sink.bytes()), Ok("schedule 1"));
+    let second_take_fails = Run {
+        input: BY_TURNS_INPUT,
+        takes: (8, &[1]),
+        puts: (4096, &[]),
+        status: Status::ReadFault,
+        code: 4,
+        put: "",
+    };
+    expect_run(&rt, rt.alloc(), &second_take_fails)?;
+    let second_put_fails = Run {
+        input: BY_TURNS_INPUT,
+        takes: (4096, &[]),
+        puts: (10, &[1]),
+        status: Status::WriteFault,
+        code: 5,
+        put: "schedule 1",
+    };
+    expect_run(&rt, rt.alloc(), &second_put_fails)?;
     Ok(())
 }
