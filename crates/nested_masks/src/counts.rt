@@ -1,9 +1,10 @@
 //! Which tasks are ready and linked, and what nodes hold.
 ghost use Rattle.std.specs.Prelude.{◌≡◌, ◌⊎◌, ℕ, ◌<◌, ◌≤◌, ◌↔◌, ◌+◌, IsTrue, IfOk, IfErr, MatchOption, true, false, length, replicate, set};
-ghost use Rattle.affinity_mask.specs.ProcSet.{Within};
+ghost use Rattle.affinity_mask.specs.ProcSet.{Within, empty};
 ghost use Rattle.task_set.specs.TaskSet.{masks, priorities};
 ghost use Rattle.nested_masks.specs.Laminar.{IsLaminar, tasks_in};
 ghost use Rattle.nested_masks.specs.Answers.{IsCrossingFault};
+ghost use Rattle.nested_masks.specs.HeldTasks.{AreEmptyLists};
 ghost use Rattle.nested_masks.specs.declared.fault.NestedFault.{NestedFault};
 
 use crate::crossing::first_crossing;
@@ -68,11 +69,8 @@ impl Counts {
             return Err(NestedFault::Crossing { one, other });
         }
         let nodes = NodeCounts::new(alloc, &masks)?;
-        let priorities = priorities_of(alloc, set)?;
-        let held_tasks = empty_lists(alloc, &priorities, nodes.len())?;
-        let waiting = WaitingTasks::new(alloc, priorities)?;
-        let ready = nobody(alloc, count)?;
-        let linked = nobody(alloc, count)?;
+        let (waiting, held_tasks) = nobody_listed(alloc, set, nodes.len())?;
+        let (ready, linked) = nobody_stands(alloc, count)?;
         Ok(Counts {
             processors: set.processors(),
             masks,
@@ -303,6 +301,35 @@ fn priorities_of(alloc: Global, set: &TaskSet) -> Result<Vec<u32>, OutOfMemory>
         column.push(set.priority(t))?;
     }
     Ok(column)
+}
+
+/// Nobody waits, and none of so many nodes holds anybody.
+fn nobody_listed(
+    alloc: Global,
+    set: &TaskSet,
+    nodes: usize,
+) -> Result<(WaitingTasks, Vec<WaitingTasks>), OutOfMemory>
+    requires { length (priorities set.now) ≤ 1024 }
+    ensures waiting { IfOk result (λ made. made.0 ≡ record {
+      priorities = priorities set.now;
+      masks = replicate (length (priorities set.now)) empty;
+    }) }
+    ensures held { IfOk result (λ made. AreEmptyLists (priorities set.now) nodes made.1.items) }
+{
+    let priorities = priorities_of(alloc, set)?;
+    let held_tasks = empty_lists(alloc, &priorities, nodes)?;
+    let waiting = WaitingTasks::new(alloc, priorities)?;
+    Ok((waiting, held_tasks))
+}
+
+/// Nobody of so many tasks is ready, and nobody is linked.
+fn nobody_stands(alloc: Global, count: u32) -> Result<(Vec<bool>, Vec<bool>), OutOfMemory>
+    ensures ready { IfOk result (λ made. made.0.items ≡ replicate count false) }
+    ensures linked { IfOk result (λ made. made.1.items ≡ replicate count false) }
+{
+    let ready = nobody(alloc, count)?;
+    let linked = nobody(alloc, count)?;
+    Ok((ready, linked))
 }
 
 /// Nobody of so many tasks.

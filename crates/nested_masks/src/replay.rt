@@ -1,5 +1,5 @@
 //! The text of a run by counts.
-ghost use Rattle.std.specs.Prelude.{◌≡◌, ◌⊎◌, ℕ, ◌<◌, ◌++◌, codes, length, IfOk, IfErr, IfSome, OnOk, IsOkUnless, Err};
+ghost use Rattle.std.specs.Prelude.{◌≡◌, ◌⊎◌, ℕ, ◌<◌, [], ◌++◌, codes, length, IfOk, IfErr, IfSome, OnOk, IsOkUnless, Err};
 ghost use Rattle.affinity_mask.specs.Number.{canonical_number};
 ghost use Rattle.task_set.specs.TaskSet.{masks};
 ghost use Rattle.text_fields.specs.LineText.{line};
@@ -27,24 +27,25 @@ pub fn replay_nested(alloc: Global, input: &Input) -> Result<Vec<u8>, NestedFaul
         ⊎ IsCrossingFault input.now.set fault) }
 {
     let _valid = input.events();
-    let nested = Nested::new(alloc, input.set())?;
-    let text = write_run(alloc, nested, input)?;
+    let mut nested = Nested::new(alloc, input.set())?;
+    let mut text = Vec::new(alloc);
+    write_run(&mut text, &mut nested, input)?;
     Ok(text)
 }
 
-/// The text of the run from the first moment on.
-fn write_run(alloc: Global, mut nested: Nested, input: &Input) -> Result<Vec<u8>, OutOfMemory>
+/// Writes the text of the run from the first moment on.
+fn write_run(text: &mut Vec<u8>, nested: &mut Nested, input: &Input) -> Result<(), OutOfMemory>
     requires version { input.now.version ≡ 1 }
-    requires start { nested ≡ nested_start input.now.set }
-    ensures { IfOk result (λ text. IsNestedText input.now.set input.now.events text.items) }
+    requires start { nested.old ≡ nested_start input.now.set }
+    requires empty { text.old.items ≡ [] }
+    ensures { OnOk result (IsNestedText input.now.set input.now.events text.new.items) }
 {
-    let mut text = Vec::new(alloc);
-    write_head(&mut text, input.events().len())?;
+    write_head(text, input.events().len())?;
     for posted in input.events() {
-        write_step(&mut text, input.set(), &mut nested, posted.event)?;
+        write_step(text, input.set(), nested, posted.event)?;
     }
     text.extend_from_slice(b"end\n")?;
-    Ok(text)
+    Ok(())
 }
 
 /// Appends the lines before the first entry.

@@ -2,7 +2,7 @@ use Rattle.nested_masks.proofs.Replayed.{written_start, written_more, events_mor
 use Rattle.nested_masks.proofs.replay.write_run.Goals as goal
 
 pub loop-posted-init : goal.loop-posted-init
-loop-posted-init c = rw (c.requires.start, c.in_ok-write_head.ensures) (rw (c.events.ensures.value, c.events-posted-items.ensures.value, c.new-text.ensures.items) (written_start c.args.input.now.set _))
+loop-posted-init c = rw (c.requires.start, c.in_ok-write_head.ensures) (rw (c.events.ensures.value, c.events-posted-items.ensures.value, c.requires.empty) (written_start c.args.input.now.set _))
 
 pub write_step-requires-clause-same : goal.write_step-requires-clause-same
 write_step-requires-clause-same c = rw c.set.ensures.value c.loop-posted.invariant.same

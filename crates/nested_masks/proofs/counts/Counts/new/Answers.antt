@@ -13,11 +13,11 @@ new-requires-clause-laminar c = rw c.deref-2.ensures.value (rw c.deref.ensures.v
 
 pub invariant_of-result : goal.invariant_of-result
 invariant_of-result c =
-    rw (c.processors.ensures.value, c.in_ok-waiting.ensures, c.in_ok-priorities.ensures, c.in_ok-masks.ensures, c.in_ok-ready.ensures, c.in_ok-linked.ensures, c.len-count.ensures.value) record {
+    rw (c.processors.ensures.value, c.in_ok-waiting.ensures.waiting, c.in_ok-masks.ensures, c.in_ok-ready.ensures.ready, c.in_ok-ready.ensures.linked, c.len-count.ensures.value) record {
       tallied = tallied-start c.args.set.now c.len-count.ensures.valid (rw (c.deref.ensures.value, c.in_ok-masks.ensures) at c.in_default.ensures) c.in_ok-nodes.nodes
           (rw (c.deref-2.ensures.value, c.in_ok-masks.ensures) at c.in_ok-nodes.ensures.nodes) c.in_ok-nodes.ensures.empty;
       waiting = waiting-start c.args.set.now;
-      listed = lists-start (nested_start c.args.set.now) c.in_ok-nodes.nodes.nodes c.in_ok-held_tasks.held_tasks.items (nobody_linked c.args.set.now) (rw (c.deref-3.ensures.value, c.in_ok-priorities.ensures, c.len.ensures) at c.in_ok-held_tasks.ensures);
+      listed = lists-start (nested_start c.args.set.now) c.in_ok-nodes.nodes.nodes c.in_ok-waiting.held_tasks.items (nobody_linked c.args.set.now) (rw c.len.ensures at c.in_ok-waiting.ensures.held);
     }
 
 pub returns-clause-laminar : goal.returns-clause-laminar
