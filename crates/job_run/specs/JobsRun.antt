@@ -20,6 +20,12 @@ pub record IsJobsOf (read put : List ℕ) : Type 0 where
   pub runs : RunsJobs input history
   pub text : put ≡ jobs_text input history
 
+-- the bytes written say when the jobs of this input are finished, in one history that runs them
+pub record IsTextOfRun (input : JobInputData) (put : List ℕ) : Type 0 where
+  pub history : List Entry
+  pub runs : RunsJobs input history
+  pub text : put ≡ jobs_text input history
+
 -- the bytes are the text of an input
 abbrev pub AcceptsJobs : List ℕ → Type 0
 AcceptsJobs bytes = (input : JobInputData) × IsJobText bytes input

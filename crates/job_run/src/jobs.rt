@@ -1,10 +1,11 @@
 //! From the bytes of an input to those of the finishes and responses.
-ghost use Rattle.std.specs.Prelude.{◌≡◌};
+ghost use Rattle.std.specs.Prelude.{◌≡◌, IfOk};
 ghost use Rattle.program_status.specs.Answers.{Answers};
-ghost use Rattle.job_run.specs.JobsRun.{AcceptsJobs, IsJobsOf, RefusesJobs, status_of_jobs_fault};
+ghost use Rattle.job_run.specs.JobsRun.{AcceptsJobs, IsJobsOf, IsTextOfRun, RefusesJobs, status_of_jobs_fault};
 
+use affinity_mask::OutOfMemory;
 use job_release::{drive_jobs, write_jobs};
-use job_text::{JobFault, read_jobs};
+use job_text::{JobFault, JobInput, read_jobs};
 use program_status::Status;
 use std::alloc::Global;
 
@@ -17,8 +18,16 @@ pub fn jobs_text(alloc: Global, bytes: &[u8]) -> Result<Vec<u8>, Status>
         Ok(input) => input,
         Err(fault) => return Err(status_of(fault)),
     };
-    let run = drive_jobs(alloc, &input)?;
-    let text = write_jobs(alloc, &input, &run)?;
+    let text = text_of(alloc, &input)?;
+    Ok(text)
+}
+
+/// The finishes and responses of the jobs of an input. Refused only where memory runs out.
+fn text_of(alloc: Global, input: &JobInput) -> Result<Vec<u8>, OutOfMemory>
+    ensures { IfOk result (λ text. IsTextOfRun input.now text.items) }
+{
+    let run = drive_jobs(alloc, input)?;
+    let text = write_jobs(alloc, input, &run)?;
     Ok(text)
 }
 

@@ -6,24 +6,19 @@ use Rattle.job_run.proofs.jobs.jobs_text.Goals as goal
 pub returns-in-Err : goal.returns-in-Err
 returns-in-Err c = rw c.status_of.ensures (answers_fault c.args.bytes.now c.in-Err.fault c.in-Err.ensures.accepts c.in-Err.ensures.refused c.in-Err.ensures.refuses)
 
-pub returns-in_err-run : goal.returns-in_err-run
-returns-in_err-run c =
-    let p = err_from_is_err_and c.from_residual.result c.from_residual.ensures.1 in
-    rw (p.1, p.2) answers_memory
-
 pub returns-in_err-text : goal.returns-in_err-text
 returns-in_err-text c =
-    let p = err_from_is_err_and c.from_residual-in_err-text.result c.from_residual-in_err-text.ensures.1 in
+    let p = err_from_is_err_and c.from_residual.result c.from_residual.ensures.1 in
     rw (p.1, p.2) answers_memory
 
 pub returns : goal.returns
 returns c = record {
   makes = record {
     input = c.in-Ok.input;
-    history = _;
+    history = c.in_ok-text.ensures.history;
     is_text = c.in-Ok.ensures.input;
-    runs = c.in_ok-run.ensures.runs;
-    text = c.in_ok-text.ensures;
+    runs = c.in_ok-text.ensures.runs;
+    text = c.in_ok-text.ensures.text;
   };
   refused = tt;
   accepts = λ accepted. tt;
