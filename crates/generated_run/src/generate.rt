@@ -35,6 +35,20 @@ pub fn summary_of<R: Threads + Wait + Sync, G: Gate + Sync>(
     ensures { IfOk result (λ text. IsLargeOf sizes text.items) }
 {
     let input = input_of(alloc, sizes)?;
+    summary_over(rt, alloc, sizes, &input, gate)
+}
+
+/// The same over the input that was made.
+fn summary_over<R: Threads + Wait + Sync, G: Gate + Sync>(
+    rt: &R,
+    alloc: Global,
+    sizes: Sizes,
+    input: &Input,
+    gate: &G,
+) -> Result<Vec<u8>, OutOfMemory>
+    requires { IsInputOf sizes input.now.set input.now.events }
+    ensures { IfOk result (λ text. IsLargeOf sizes text.items) }
+{
     let made = schedule_of(rt, alloc, input.set(), input.events(), gate)?;
     let text = write_summary(alloc, sizes, made.core.history(), &made.contexts)?;
     Ok(text)

@@ -11,7 +11,9 @@ use Rattle.certificate_laws.specs.Improving.{HasNoImprovingChainThroughout}
 use Rattle.trace_reader.specs.declared.posted.Posted.{Posted}
 use Rattle.trace_reader.specs.InputText.{IsInputText}
 use Rattle.valid_schedule.specs.Valid.{IsTextOf, IsValid}
+use Rattle.sched_core.specs.CoreData.{CoreData}
 use Rattle.thread_replay.specs.Merge.{IsMerge, IsOnOneStream}
+use Rattle.thread_replay.specs.Replayed.{IsReplayOf}
 use Rattle.schedule_text.specs.Schedule.{ScheduleData}
 use Rattle.schedule_text.specs.ScheduleText.{schedule_text}
 
@@ -38,3 +40,11 @@ pub record IsRunOf (read put : List ℕ) : Type 0 where
   pub is_text : IsTextOf put schedule
   pub valid : IsValid schedule
   pub one_stream : IsOnOneStream replayed.events → (other : List ℕ) → Replays read other → other ≡ put
+
+-- the schedule text of one replay of these events, with the contexts that its history gives
+pub record IsTextOfReplay (version : ℕ) (set : SetData) (events : List Posted) (put : List ℕ) : Type 0 where
+  pub core : CoreData
+  pub printed : List Context
+  pub replay : IsReplayOf set events core
+  pub contexts : printed ≡ contexts_of set core.history
+  pub text : put ≡ schedule_text version set core.history printed

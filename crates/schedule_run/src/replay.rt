@@ -3,7 +3,7 @@ ghost use Rattle.std.specs.Prelude.{◌≡◌, IfOk};
 ghost use Rattle.link_state.specs.Dispatch.{contexts_of};
 ghost use Rattle.program_status.specs.Answers.{Answers};
 ghost use Rattle.program_status.specs.Refusal.{IsAccepted, IsAnsweredInput, RefusesInput};
-ghost use Rattle.schedule_run.specs.Run.{IsRunOf};
+ghost use Rattle.schedule_run.specs.Run.{IsRunOf, IsTextOfReplay};
 ghost use Rattle.schedule_text.specs.ScheduleText.{schedule_text};
 ghost use Rattle.thread_replay.specs.Replayed.{IsReplayOf};
 
@@ -30,8 +30,22 @@ pub fn replayed_text<R: Threads + Wait + Sync, G: Gate + Sync>(
         (IsAnsweredInput (RefusesInput bytes.now)) result }
 {
     let input = read_input(alloc, bytes)?;
+    let text = text_of(rt, alloc, &input, gate)?;
+    Ok(text)
+}
+
+/// The schedule text of an input. Refused only when out of memory.
+fn text_of<R: Threads + Wait + Sync, G: Gate + Sync>(
+    rt: &R,
+    alloc: Global,
+    input: &Input,
+    gate: &G,
+) -> Result<Vec<u8>, OutOfMemory>
+    ensures { IfOk result (λ text. IsTextOfReplay input.now.version input.now.set input.now.events
+        text.items) }
+{
     let made = schedule_of(rt, alloc, input.set(), input.events(), gate)?;
-    let text = text_of_replay(alloc, &input, &made.core, &made.contexts)?;
+    let text = text_of_replay(alloc, input, &made.core, &made.contexts)?;
     Ok(text)
 }
 

@@ -6,7 +6,8 @@ use Rattle.task_set.specs.TaskSet.{SetData}
 use Rattle.scheduler_reply.specs.declared.reply.Entry.{Entry}
 use Rattle.link_state.specs.State.{State, task_on}
 use Rattle.link_state.specs.History.{state_at}
-use Rattle.schedule_run.specs.Run.{IsRunOf}
+use Rattle.trace_reader.specs.declared.posted.Posted.{Posted}
+use Rattle.schedule_run.specs.Run.{IsRunOf, IsTextOfReplay}
 use Rattle.watch_run.specs.WatchText.{Snapshot, Reading, observers_text}
 
 -- the set has exactly the occupied processors: those to which a task is linked
@@ -34,4 +35,13 @@ pub record IsWatchOf (observers : ℕ) (read put : List ℕ) : Type 0 where
   pub readings : List Reading
   pub each_observer : length readings ≡ observers
   pub each_reading : All (IsReadingOf run.replayed.set run.replayed.history) readings
+  pub text : put ≡ schedule ++ observers_text readings
+
+-- the bytes written are the schedule text of one replay of these events, and what each observer read of its history
+pub record IsTextOfWatch (observers version : ℕ) (set : SetData) (events : List Posted) (put : List ℕ) : Type 0 where
+  pub schedule : List ℕ
+  pub replayed : IsTextOfReplay version set events schedule
+  pub readings : List Reading
+  pub each_observer : length readings ≡ observers
+  pub each_reading : All (IsReadingOf set replayed.core.history) readings
   pub text : put ≡ schedule ++ observers_text readings

@@ -1,18 +1,21 @@
 //! From the bytes of an input to those of its schedule and its observers.
-ghost use Rattle.std.specs.Prelude.{◌≤◌};
+ghost use Rattle.std.specs.Prelude.{◌≡◌, ◌≤◌, ◌++◌, map, IfOk};
 ghost use Rattle.program_status.specs.Answers.{Answers};
 ghost use Rattle.program_status.specs.Refusal.{IsAccepted, IsAnsweredInput, RefusesInput};
-ghost use Rattle.watch_run.specs.Watch.{IsWatchOf};
+ghost use Rattle.watch_run.specs.Shown.{reading_of};
+ghost use Rattle.watch_run.specs.Watch.{IsWatchOf, IsTextOfWatch};
+ghost use Rattle.watch_run.specs.WatchText.{observers_text};
 
 use crate::observers::write_observers;
+use affinity_mask::OutOfMemory;
 use processor_seat::Gate;
 use program_status::Status;
 use schedule_run::text_of_replay;
 use std::alloc::Global;
 use std::sync::Wait;
 use std::thread::Threads;
-use trace_reader::read_input;
-use watched_replay::watched_schedule_of;
+use trace_reader::{Input, read_input};
+use watched_replay::{Sighting, watched_schedule_of};
 
 /// The most observers.
 pub const MAX_OBSERVERS: u32 = 8;
@@ -31,8 +34,33 @@ pub fn watched_text<R: Threads + Wait + Sync, G: Gate + Sync>(
         (IsAnsweredInput (RefusesInput bytes.now)) result }
 {
     let input = read_input(alloc, bytes)?;
+    let text = text_of(rt, alloc, &input, observers, gate)?;
+    Ok(text)
+}
+
+/// The same of an input. Refused only when out of memory.
+fn text_of<R: Threads + Wait + Sync, G: Gate + Sync>(
+    rt: &R,
+    alloc: Global,
+    input: &Input,
+    observers: u32,
+    gate: &G,
+) -> Result<Vec<u8>, OutOfMemory>
+    requires { (1 ≤ observers) × (observers ≤ 8) }
+    ensures { IfOk result (λ text. IsTextOfWatch observers input.now.version input.now.set
+        input.now.events text.items) }
+{
     let made = watched_schedule_of(rt, alloc, input.set(), input.events(), observers, gate)?;
-    let mut text = text_of_replay(alloc, &input, &made.core, &made.contexts)?;
-    write_observers(&mut text, &made.sightings)?;
+    let text = text_of_replay(alloc, input, &made.core, &made.contexts)?;
+    let text = with_observers(text, &made.sightings)?;
+    Ok(text)
+}
+
+/// The text with what the observers read after it.
+fn with_observers(mut text: Vec<u8>, sightings: &[Sighting]) -> Result<Vec<u8>, OutOfMemory>
+    ensures { IfOk result (λ whole. whole.items ≡ text.items
+        ++ observers_text (map reading_of sightings.now)) }
+{
+    write_observers(&mut text, sightings)?;
     Ok(text)
 }

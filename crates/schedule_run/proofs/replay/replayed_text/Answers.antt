@@ -8,17 +8,6 @@ returns-in_err-input g c =
     let p = err_from_is_err_and c.from_residual.result c.from_residual.ensures.1 in
     rw (p.1, p.2) (answers_fault c.args.bytes.now c.in_err-input.field-0.0 c.in_err-input.ensures.accepts c.in_err-input.ensures.refused c.in_err-input.ensures.refuses)
 
-pub returns-in_err-made : goal.returns-in_err-made
-returns-in_err-made g c =
-    let p = err_from_is_err_and c.from_residual-in_err-made.result c.from_residual-in_err-made.ensures.1 in
-    rw (p.1, p.2) answers_memory
-
-pub text_of_replay-requires-clause-core : goal.text_of_replay-requires-clause-core
-text_of_replay-requires-clause-core g c = rw (c.set.ensures.value, c.events.ensures.value) at c.in_ok-made.ensures.core
-
-pub text_of_replay-requires-clause-contexts : goal.text_of_replay-requires-clause-contexts
-text_of_replay-requires-clause-contexts g c = rw c.deref.ensures.value (rw c.set.ensures.value at c.in_ok-made.ensures.contexts)
-
 pub returns-in_err-text : goal.returns-in_err-text
 returns-in_err-text g c =
     let p = err_from_is_err_and c.from_residual-in_err-text.result c.from_residual-in_err-text.ensures.1 in
@@ -27,10 +16,8 @@ returns-in_err-text g c =
 pub returns : goal.returns
 returns g c =
     let input = c.in_ok-input.input in
-    let core = rw (c.set.ensures.value, c.events.ensures.value) at c.in_ok-made.ensures.core in
-    let contexts = rw c.set.ensures.value at c.in_ok-made.ensures.contexts in
-    let text = rw c.deref.ensures.value at c.in_ok-text.ensures in
-    let run = run_of_replay c.args.bytes.now _ input.version input.set input.events c.in_ok-made.made.core c.in_ok-made.made.contexts.items c.in_ok-input.ensures.input core contexts text in
+    let made = c.in_ok-text.ensures in
+    let run = run_of_replay c.args.bytes.now _ input.version input.set input.events made.core made.printed c.in_ok-input.ensures.input made.replay made.contexts made.text in
     record {
       makes = run.0;
       refused = tt;
