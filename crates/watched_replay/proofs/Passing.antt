@@ -1,6 +1,5 @@
 -- Passes that one caller uses, each at its place.
-use Rattle.std.proofs.Common.{◌≡◌, ◌≢◌, ℕ, zero, suc, ◌+◌, ◌<◌, ◌≤◌, ◌==◌, Bool, true, false, Option, None, Some, IfSome, is_some, List, [], ◌∷◌, ◌++◌, length, map, filter, drop, set, get_or, inl, All, refl, sym, ap, ◌∙◌, subst, arith, append-nil}
-use Rattle.std.proofs.Math.Seq.{drop-append_seam}
+use Rattle.std.proofs.Common.{◌≡◌, ◌≢◌, ℕ, zero, suc, ◌+◌, ◌<◌, ◌≤◌, ◌==◌, Bool, true, false, Option, None, Some, IfSome, is_some, List, [], ◌∷◌, ◌++◌, length, map, filter, set, get_or, inl, All, refl, sym, ap, ◌∙◌, subst, arith, append-nil}
 use Rattle.std.proofs.lemmas.List.{map-append}
 use Rattle.std.proofs.lemmas.List.Elements.{All-head, All-tail, filter-append}
 use mathlib.Core.List.{IsPrefix}
@@ -16,7 +15,7 @@ use Rattle.thread_replay.specs.Places.{AllFrom}
 use Rattle.thread_replay.specs.Streams.{Adds, IsPassAt, IsStreamedAt, IsUnused, SomeSawClose}
 use Rattle.thread_replay.proofs.Places.{AllFrom-weaker}
 use Rattle.thread_replay.proofs.Posting.{of_other, of_stream, pass_stays, streamed_stays}
-use Rattle.watched_replay.specs.Passes.{FirstSaw, FirstSawJust, FirstSawClose, HasGrown, HaveGrown}
+use Rattle.watched_replay.specs.Passes.{FirstSaw, FirstSawClose, HasGrown, HaveGrown}
 
 -- a pass of which nothing changed
 grown_self : (p : PassData) → Grown p p

@@ -1,6 +1,7 @@
 -- What observers saw, once it is known that the published entries are the history.
-use Rattle.std.proofs.Common.{◌≡◌, ℕ, ◌≤◌, List, [], ◌∷◌, length, take, get_or, Bool, sym, ap, ◌∙◌, subst, arith}
+use Rattle.std.proofs.Common.{◌≡◌, ℕ, ◌≤◌, List, [], ◌∷◌, length, take, get_or, Bool, Result, Ok, Err, IfOk, Vec, sym, ap, ◌∙◌, subst, arith}
 use Rattle.std.specs.Prelude.{All}
+use Rattle.std.specs.declared.alloc.Global.{Global}
 use Rattle.std.proofs.Math.Seq.{take-append_seam}
 use mathlib.Core.List.{IsPrefix}
 use Rattle.task_set.specs.TaskSet.{SetData}
@@ -55,3 +56,10 @@ sightings_of set m published history all same is told few = λ i d low.
 pub few_of : (count : ℕ) (history : List Entry) (all : List Sighting) → count ≡ length history
     → All (λ (s : Sighting). s.told.count ≤ count) all → All (λ (s : Sighting). s.told.count ≤ length history) all
 few_of count history all is few = subst (λ (n : ℕ). All (λ (s : Sighting). s.told.count ≤ n) all) is few
+
+-- what was told is of what the first pass has just seen
+pub told_whole : {E : Type 0} (published : List Entry) (passes : List PassData) (m processors : ℕ) (result : Result (Vec Sighting Global) E) → FirstSawJust published passes → m ≡ processors
+    → IfOk result (λ (all : Vec Sighting Global). All (IsToldOf m published) all.items)
+    → IfOk result (λ (all : Vec Sighting Global). (whole : List Entry) × FirstSawJust whole passes × All (IsToldOf processors whole) all.items)
+told_whole published passes m processors (Ok all) saw same told = (published, saw, subst (λ (k : ℕ). All (IsToldOf k published) all.items) same told)
+told_whole published passes m processors (Err e) saw same told = tt

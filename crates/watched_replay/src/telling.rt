@@ -1,12 +1,18 @@
 //! The end of a watched replay: each observer is told of the whole history, and reads once more.
-ghost use Rattle.std.specs.Prelude.{◌≡◌, ◌≤◌, All, true, length, IfOk};
+ghost use Rattle.std.specs.Prelude.{◌≡◌, ◌≤◌, List, All, true, length, IfOk};
+ghost use Rattle.scheduler_reply.specs.declared.reply.Entry.{Entry};
 ghost use Rattle.schedule_board.specs.Boards.{board_of, published};
+ghost use Rattle.thread_replay.specs.Places.{AllFrom};
+ghost use Rattle.thread_replay.specs.Streams.{IsPassAt};
+ghost use Rattle.watched_replay.specs.Passes.{FirstSaw, FirstSawJust, HaveGrown};
 ghost use Rattle.watched_replay.specs.Watches.{IsObservedOf, IsToldOf};
 ghost use Rattle.watched_replay.specs.declared.sighting.Sighting.{Sighting};
 
 use crate::observing::Observed;
+use crate::posting::publish_new;
 use crate::sighting::Sighting;
 use affinity_mask::OutOfMemory;
+use event_history::{Board, Pass};
 use schedule_board::Publisher;
 use std::alloc::Global;
 use std::sync::Wait;
@@ -33,7 +39,7 @@ fn tell_one<R: Wait, K: Wait + Drop>(
 }
 
 /// Tells all observers, and gives what each of them saw, in their order.
-pub fn tell_all<R: Wait, K: Wait + Drop>(
+fn tell_all<R: Wait, K: Wait + Drop>(
     rt: &R,
     alloc: Global,
     publisher: &mut Publisher<K>,
@@ -50,6 +56,28 @@ pub fn tell_all<R: Wait, K: Wait + Drop>(
         sightings.push_reserved(sighting);
     }
     Ok(sightings)
+}
+
+/// Publishes what is not published yet, and tells all observers of the whole.
+pub fn tell_whole<R: Wait, K: Wait + Drop>(
+    rt: &R,
+    alloc: Global,
+    board: &Board,
+    passes: &mut Vec<Pass>,
+    mut publisher: Publisher<K>,
+    observed: Vec<Observed>,
+) -> Result<Vec<Sighting>, OutOfMemory>
+    requires passes { AllFrom (IsPassAt board.now) 0 passes.old.items }
+    requires published { FirstSaw (published publisher) passes.old.items }
+    requires observed { All (IsObservedOf (board_of publisher)) observed.items }
+    ensures grown { HaveGrown board.now.queues passes.old.items passes.new.items }
+    ensures count { IfOk result (λ sightings. length sightings.items ≡ length observed.items) }
+    ensures each { IfOk result (λ sightings. (whole : List Entry)
+        × FirstSawJust whole passes.new.items
+        × All (IsToldOf (board_of publisher).processors whole) sightings.items) }
+{
+    publish_new(rt, alloc, board, passes, &mut publisher)?;
+    tell_all(rt, alloc, &mut publisher, observed)
 }
 
 /// Whether no observer saw more entries in the end than this.

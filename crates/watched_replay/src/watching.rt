@@ -1,5 +1,6 @@
 //! From a set and its events to one history, the contexts that the workers carried, and what the observers saw.
 ghost use Rattle.std.specs.Prelude.{◌≡◌, ◌≤◌, [], All, length, IfOk};
+ghost use Rattle.std.specs.Vec.{vec_capacity};
 ghost use Rattle.link_state.specs.Dispatch.{contexts_of};
 ghost use Rattle.event_history.specs.Boards.{AreAll};
 ghost use Rattle.schedule_board.specs.Boards.{board_of, published, IsNewObserver};
@@ -7,14 +8,14 @@ ghost use Rattle.thread_replay.specs.Replayed.{HaveAllStints, IsReplayOf};
 ghost use Rattle.thread_replay.specs.Seats.{AreIdle};
 ghost use Rattle.thread_replay.specs.Streams.{IsForBoard, IsUnused};
 ghost use Rattle.trace_reader.specs.Input.{IsPostedOf};
+ghost use Rattle.watched_replay.specs.Joining.{AreJoined};
 ghost use Rattle.watched_replay.specs.Sightings.{IsSightingOf};
 
-use crate::posting::publish_new;
 use crate::sighting::Sighting;
-use crate::telling::{none_beyond, tell_all};
+use crate::telling::{none_beyond, tell_whole};
 use crate::threads::{Joined, in_threads};
 use affinity_mask::OutOfMemory;
-use context_slots::Slots;
+use context_slots::{Hand, Slots};
 use event_history::laws::board_is_made;
 use event_history::{Board, Pass};
 use order_queues::Queue;
@@ -81,16 +82,47 @@ fn watched_replay<R: Threads + Wait + Sync, K: Wait + Drop, G: Gate + Sync>(
     let refused = flags(alloc, queues.len())?;
     let unwatched = flags(alloc, observers.len())?;
     let hands = Vec::with_capacity(alloc, queues.len())?;
-    let Joined {
-        mut threaded,
-        mut publisher,
-        observed,
-    } = in_threads(
+    let joined = in_threads(
         rt, alloc, &board, &queues, slots, events, &refused, &unwatched, gate, passes, processors,
         publisher, observers,
     )?;
-    publish_new(rt, alloc, &board, &mut threaded.passes, &mut publisher)?;
-    let sightings = tell_all(rt, alloc, &mut publisher, observed)?;
+    settle_watched(rt, alloc, board, queues, slots, events, joined, hands)
+}
+
+/// Tells the observers of the whole history once the threads are joined, and settles the replay. `hands` is an empty list
+/// with room for a hand for each processor.
+fn settle_watched<R: Wait, K: Wait + Drop>(
+    rt: &R,
+    alloc: Global,
+    board: Board,
+    queues: Vec<Queue>,
+    slots: &Slots,
+    events: &[Posted],
+    joined: Joined<K>,
+    hands: Vec<Hand>,
+) -> Result<WatchedReplay, OutOfMemory>
+    requires joined { AreJoined board events.now queues.items slots.now
+        (board_of joined.publisher) (length joined.observed.items) joined }
+    requires queues { queues.items ≡ board.queues }
+    requires one_set { slots.now.set ≡ board.set }
+    requires events { All (IsForBoard board) events.now }
+    requires room { (hands.items ≡ []) × (length queues.items ≤ vec_capacity hands) }
+    requires processors { (board_of joined.publisher).processors ≡ slots.now.set.processors }
+    ensures core { IfOk result (λ done. IsReplayOf slots.now.set events.now done.replayed.core) }
+    ensures hands { IfOk result (λ done.
+        HaveAllStints slots.now done.replayed.core.history done.replayed.hands.items) }
+    ensures each_observer { IfOk result (λ done.
+        length done.sightings.items ≡ length joined.observed.items) }
+    ensures sightings { IfOk result (λ done.
+        All (IsSightingOf slots.now.set done.replayed.core.history) done.sightings.items) }
+{
+    let Joined {
+        mut threaded,
+        publisher,
+        observed,
+    } = joined;
+    let passes = &mut threaded.passes;
+    let sightings = tell_whole(rt, alloc, &board, passes, publisher, observed)?;
     let replayed = settle_replay(board, queues, slots, events, threaded, hands)?;
     if !none_beyond(&sightings, replayed.core.history().len()) {
         return Err(OutOfMemory);
