@@ -74,38 +74,59 @@ fn observe<R: Wait + Abort, K: Wait + Drop>(
     rt: &R,
     alloc: Global,
     board: &Board,
-    mut pass: Pass,
-    mut publisher: Publisher<K>,
-    mut observer: Observer,
+    pass: &mut Pass,
+    publisher: &mut Publisher<K>,
+    observer: &mut Observer,
 ) -> Result<(), OutOfMemory>
     requires tasks { length board.now.set.tasks ≡ 2 }
-    requires pass { pass.board ≡ board.now.id }
-    requires observer { board_of publisher ≡ board_at observer }
-    requires none { published publisher ≡ [] }
+    requires pass { pass.old.board ≡ board.now.id }
+    requires observer { board_of publisher.old ≡ board_at observer.old }
+    requires none { published publisher.old ≡ [] }
 {
     assert_eq!(rt; observer.read(rt).count(), 0);
-    post(rt, board, &mut pass, 0);
-    assert_eq!(rt; publish(rt, alloc, board, &mut pass, &mut publisher)?, 1);
-    publisher.tell(&mut observer);
+    post(rt, board, pass, 0);
+    assert_eq!(rt; publish(rt, alloc, board, pass, publisher)?, 1);
+    publisher.tell(observer);
     let picture = observer.read(rt);
     assert_eq!(rt; picture.count(), 1);
     assert_eq!(rt; picture.on(0), Some(0));
-    post(rt, board, &mut pass, 1);
+    post(rt, board, pass, 1);
     assert_eq!(rt; observer.read(rt).count(), 1);
-    assert_eq!(rt; publish(rt, alloc, board, &mut pass, &mut publisher)?, 2);
-    publisher.tell(&mut observer);
+    assert_eq!(rt; publish(rt, alloc, board, pass, publisher)?, 2);
+    publisher.tell(observer);
     let picture = observer.read(rt);
     assert_eq!(rt; picture.count(), 2);
     assert!(rt; picture.linked().is_list(b"0-1"));
     Ok(())
 }
 
+/// The same by a new observer.
+fn observe_anew<R: Wait + Abort>(
+    rt: &R,
+    alloc: Global,
+    set: &TaskSet,
+    board: &Board,
+    pass: &mut Pass,
+) -> Result<(), OutOfMemory>
+    requires tasks { length board.now.set.tasks ≡ 2 }
+    requires pass { pass.old.board ≡ board.now.id }
+{
+    let (mut publisher, mut observers) = make_board(rt, alloc, set, 1)?;
+    assert_eq!(rt; observers.len(), 1);
+    observe(rt, alloc, board, pass, &mut publisher, &mut observers[0])
+}
+
+/// The same over a new board.
+fn observe_over<R: Wait + Abort>(rt: &R, alloc: Global, set: &TaskSet) -> Result<(), OutOfMemory>
+    requires { length set.now.tasks ≡ 2 }
+{
+    let (board, mut pass) = board_over(alloc, set)?;
+    observe_anew(rt, alloc, set, &board, &mut pass)
+}
+
 #[test]
 fn observer_by_calls(rt: HostRuntime) -> Result<(), Fail> {
     let set = two_tasks(&rt, rt.alloc())?;
-    let (board, pass) = board_over(rt.alloc(), &set)?;
-    let (publisher, mut observers) = make_board(&rt, rt.alloc(), &set, 1)?;
-    let observer = observers.pop().ok_or("one observer")?;
-    observe(&rt, rt.alloc(), &board, pass, publisher, observer)?;
+    observe_over(&rt, rt.alloc(), &set)?;
     Ok(())
 }

@@ -5,6 +5,7 @@ ghost use Rattle.schedule_board.specs.Boards.{board_of, board_at, published};
 use affinity_mask::{OutOfMemory, ProcSet};
 use schedule_board::{Observer, Picture, Publisher, make_board};
 use scheduler_reply::{Chain, Entry, Reply};
+use std::alloc::Global;
 use std::process::Abort;
 use std::sync::Wait;
 use std::test::Fail;
@@ -84,31 +85,37 @@ fn expect(rt: &impl Abort, picture: Picture, count: u64, first: Option<u32>, sec
 /// Two tasks are placed, and the first one departs.
 fn publish_three<R: Wait + Abort, K: Wait + Drop>(
     rt: &R,
-    mut publisher: Publisher<K>,
-    mut observer: Observer,
+    publisher: &mut Publisher<K>,
+    observer: &mut Observer,
 ) -> Result<(), OutOfMemory>
-    requires { (board_of publisher ≡ board_at observer) × (published publisher ≡ []) }
+    requires board { board_of publisher.old ≡ board_at observer.old }
+    requires none { published publisher.old ≡ [] }
 {
     expect(rt, observer.read(rt), 0, None, None);
     let entry = placed(0, one(0));
-    let picture = publish_and_read(rt, &mut publisher, &mut observer, &entry)?;
+    let picture = publish_and_read(rt, publisher, observer, &entry)?;
     expect(rt, picture, 1, Some(0), None);
     let entry = placed(1, two(0, 1));
-    let picture = publish_and_read(rt, &mut publisher, &mut observer, &entry)?;
+    let picture = publish_and_read(rt, publisher, observer, &entry)?;
     expect(rt, picture, 2, Some(1), Some(0));
     let entry = departed(0, one(1));
-    let picture = publish_and_read(rt, &mut publisher, &mut observer, &entry)?;
+    let picture = publish_and_read(rt, publisher, observer, &entry)?;
     expect(rt, picture, 3, Some(1), None);
     Ok(())
+}
+
+/// The same over the board of a set.
+fn publish_over<R: Wait + Abort>(rt: &R, alloc: Global, set: &TaskSet) -> Result<(), OutOfMemory> {
+    let made = make_board(rt, alloc, set, 1)?;
+    let (mut publisher, mut observers) = made;
+    assert_eq!(rt; observers.len(), 1);
+    publish_three(rt, &mut publisher, &mut observers[0])
 }
 
 #[test]
 fn pictures_by_calls(rt: HostRuntime) -> Result<(), Fail> {
     let set = TaskSet::new(rt.alloc(), 2)?;
-    let made = make_board(&rt, rt.alloc(), &set, 1)?;
-    let (publisher, mut observers) = made;
-    let observer = observers.pop().ok_or("one observer")?;
-    publish_three(&rt, publisher, observer)?;
+    publish_over(&rt, rt.alloc(), &set)?;
     Ok(())
 }
 

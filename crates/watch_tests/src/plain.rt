@@ -39,37 +39,47 @@ fn write_run(list: &mut String, first: usize, last: usize) -> Result<(), AllocEr
     }
 }
 
-/// The list of the occupied processors, by its longest runs; `-` where there is none.
-fn list_of(alloc: Global, occupied: &Occupied) -> Result<String, AllocError> {
-    let mut list = String::new(alloc);
+/// Appends the occupied processors, by their longest runs; `-` where there is none.
+fn write_list(list: &mut String, occupied: &Occupied) -> Result<(), AllocError> {
     let mut first = None;
     for p in 0usize..65 {
         let is_occupied = occupied.get(p) == Some(&true);
         if is_occupied && first.is_none() {
             first = Some(p);
         } else if !is_occupied && let Some(begin) = first {
-            write_run(&mut list, begin, p.saturating_sub(1))?;
+            write_run(list, begin, p.saturating_sub(1))?;
             first = None;
         }
     }
     if list.is_empty() {
         write!(list, "-")?;
     }
-    Ok(list)
+    Ok(())
 }
 
-/// The list of the occupied processors before any entry, and after each of so many, as a schedule has them.
-fn lists_of(alloc: Global, text: &str, entries: usize) -> Result<Vec<String>, Fail> {
+/// Adds the list of the occupied processors.
+fn add_list(alloc: Global, lists: &mut Vec<String>, occupied: &Occupied) -> Result<(), AllocError> {
+    let mut list = String::new(alloc);
+    write_list(&mut list, occupied)?;
+    lists.push(list)?;
+    Ok(())
+}
+
+/// Adds the list of the occupied processors before any entry, and after each of so many, as a schedule has them.
+fn add_lists(
+    alloc: Global,
+    lists: &mut Vec<String>,
+    text: &str,
+    entries: usize,
+) -> Result<(), AllocError> {
     let (_head, history) = text.split_once("\nhistory ").unwrap_or(("", ""));
     let mut lines = history.lines().skip(1);
     let mut occupied = [false; 64];
-    let mut lists = Vec::new(alloc);
     for _ in 0..entries {
-        lists.push(list_of(alloc, &occupied)?)?;
+        add_list(alloc, lists, &occupied)?;
         follow(&mut occupied, lines.next().unwrap_or(""));
     }
-    lists.push(list_of(alloc, &occupied)?)?;
-    Ok(lists)
+    add_list(alloc, lists, &occupied)
 }
 
 /// The count that a field is; a great one where it is none.
@@ -115,6 +125,25 @@ fn expect_line(
     Ok(())
 }
 
+/// The end of a text is what so many observers read, and the end.
+fn expect_lines(
+    rt: &impl Abort,
+    alloc: Global,
+    lists: &[String],
+    text: &str,
+    observers: usize,
+) -> Result<(), Fail> {
+    let (_schedule, rest) = text.split_once("\nend\nobservers ").unwrap_or(("", ""));
+    let mut lines = rest.lines();
+    assert_eq!(rt; count_of(lines.next()), observers);
+    for number in 0..observers {
+        expect_line(rt, alloc, lists, number, lines.next().unwrap_or(""))?;
+    }
+    assert_eq!(rt; lines.next(), Some("end"));
+    assert_eq!(rt; lines.next(), None);
+    Ok(())
+}
+
 /// The text is a schedule of so many entries, and what so many observers read of it, as the plain program has it.
 pub(crate) fn expect_read(
     rt: &impl Abort,
@@ -123,14 +152,7 @@ pub(crate) fn expect_read(
     entries: usize,
     observers: usize,
 ) -> Result<(), Fail> {
-    let lists = lists_of(alloc, text, entries)?;
-    let (_schedule, rest) = text.split_once("\nend\nobservers ").unwrap_or(("", ""));
-    let mut lines = rest.lines();
-    assert_eq!(rt; count_of(lines.next()), observers);
-    for number in 0..observers {
-        expect_line(rt, alloc, &lists, number, lines.next().unwrap_or(""))?;
-    }
-    assert_eq!(rt; lines.next(), Some("end"));
-    assert_eq!(rt; lines.next(), None);
-    Ok(())
+    let mut lists = Vec::new(alloc);
+    add_lists(alloc, &mut lists, text, entries)?;
+    expect_lines(rt, alloc, &lists, text, observers)
 }

@@ -12,7 +12,7 @@ use std::test::Fail;
 use std::thread::Threads;
 use task_set::{Context, Event, TaskSet};
 use trace_reader::Posted;
-use watched_replay::{Watched, watched_schedule_of};
+use watched_replay::{Sighting, Watched, watched_schedule_of};
 
 /// Two tasks arrive, each on a stream of its own: the second one may run where the first one is, which moves aside.
 fn watch_two<R: Threads + Wait + Sync, G: Gate + Sync>(
@@ -46,6 +46,20 @@ fn two_tasks(alloc: Global) -> Result<TaskSet, Fail> {
     Ok(set)
 }
 
+/// The same of a new set of the two tasks.
+fn watch_new_two<R: Threads + Wait + Sync + Abort, G: Gate + Sync>(
+    rt: &R,
+    alloc: Global,
+    observers: u32,
+    gate: &G,
+) -> Result<Watched, Fail>
+    requires { (1 ≤ observers) × (observers ≤ 8) }
+{
+    let set = two_tasks(alloc)?;
+    assert!(rt; set.len() == 2);
+    Ok(watch_two(rt, alloc, &set, observers, gate)?)
+}
+
 /// The contexts of the two tasks after their arrivals.
 static CONTEXTS: [Context; 2] = [
     Context {
@@ -66,21 +80,28 @@ static CONTEXTS: [Context; 2] = [
     },
 ];
 
-#[test]
-fn watched_by_calls(rt: HostRuntime) -> Result<(), Fail> {
-    let set = two_tasks(rt.alloc())?;
-    assert!(rt; set.len() == 2);
-    let made = watch_two(&rt, rt.alloc(), &set, 1, &OpenGate)?;
-    assert_eq!(rt; made.core.history().len(), 2);
-    assert!(rt; made.core.is_closed());
-    assert_eq!(rt; made.contexts.as_slice(), CONTEXTS.as_slice());
-    assert_eq!(rt; made.sightings.len(), 1);
-    let seen = made.sightings[0];
+/// An observer of the two arrivals saw both in the end.
+fn expect_seen(rt: &impl Abort, seen: &Sighting) {
     assert_eq!(rt; seen.told.count(), 2);
     assert_eq!(rt; seen.told.on(0), Some(1));
     assert_eq!(rt; seen.told.on(1), Some(0));
     assert_eq!(rt; seen.told.linked().count(), 2);
     assert!(rt; seen.first.count() <= seen.last.count() && seen.last.count() <= 2);
+}
+
+/// One observer watched the two arrivals.
+fn expect_watched(rt: &impl Abort, made: &Watched) {
+    assert_eq!(rt; made.core.history().len(), 2);
+    assert!(rt; made.core.is_closed());
+    assert_eq!(rt; made.contexts.as_slice(), CONTEXTS.as_slice());
+    assert_eq!(rt; made.sightings.len(), 1);
+    expect_seen(rt, &made.sightings[0]);
+}
+
+#[test]
+fn watched_by_calls(rt: HostRuntime) -> Result<(), Fail> {
+    let made = watch_new_two(&rt, rt.alloc(), 1, &OpenGate)?;
+    expect_watched(&rt, &made);
     Ok(())
 }
 
@@ -106,6 +127,16 @@ impl Gate for CountingGate {
     }
 }
 
+/// How many sightings two observers of the two arrivals leave.
+fn sightings_beside<R: Threads + Wait + Sync + Abort>(
+    rt: &R,
+    alloc: Global,
+    gate: &CountingGate,
+) -> Result<usize, Fail> {
+    let made = watch_new_two(rt, alloc, 2, gate)?;
+    Ok(made.sightings.len())
+}
+
 #[test]
 fn gate_is_called_at_each_read(rt: HostRuntime) -> Result<(), Fail> {
     let gate = CountingGate {
@@ -114,10 +145,7 @@ fn gate_is_called_at_each_read(rt: HostRuntime) -> Result<(), Fail> {
         first_reads: AtomicU64::new(0),
         second_reads: AtomicU64::new(0),
     };
-    let set = two_tasks(rt.alloc())?;
-    assert!(rt; set.len() == 2);
-    let made = watch_two(&rt, rt.alloc(), &set, 2, &gate)?;
-    assert_eq!(rt; made.sightings.len(), 2);
+    assert_eq!(rt; sightings_beside(&rt, rt.alloc(), &gate)?, 2);
     assert_eq!(rt; gate.before.load(SeqCst), 2);
     assert_eq!(rt; gate.after.load(SeqCst), 2);
     assert_eq!(rt; gate.first_reads.load(SeqCst), 100);

@@ -33,11 +33,16 @@ static READ_OF_TWO: [&str; 6] = [
     "first 2 0-1 last 2 0-1",
 ];
 
+/// Whether a line is that of an observer that read this.
+fn is_line_of(alloc: Global, line: &str, number: usize, read: &str) -> Result<bool, AllocError> {
+    let expected = format!(in alloc; "observer {number} {read} told 2 0-1")?;
+    Ok(line == expected.as_str())
+}
+
 /// Whether a line is that of an observer of the two entries.
 fn is_line_of_two(alloc: Global, line: &str, number: usize) -> Result<bool, AllocError> {
     for read in &READ_OF_TWO {
-        let expected = format!(in alloc; "observer {number} {read} told 2 0-1")?;
-        if line == expected.as_str() {
+        if is_line_of(alloc, line, number, read)? {
             return Ok(true);
         }
     }
@@ -130,6 +135,20 @@ impl Gate for ObserverGate {
     }
 }
 
+/// The two posts and the reads of an observer waited for each other, and the text is that of the two tasks.
+fn expect_beside(
+    rt: &impl Abort,
+    alloc: Global,
+    gate: &ObserverGate,
+    text: &str,
+) -> Result<(), Fail> {
+    assert!(rt; !gate.late.load(Ordering::SeqCst));
+    assert_eq!(rt; gate.posts.load(Ordering::SeqCst), 2);
+    assert_eq!(rt; gate.reads.load(Ordering::SeqCst), 100);
+    assert!(rt; text.contains("observer 0 first 1 0 last "), "{text}");
+    expect_two(rt, alloc, text)
+}
+
 #[test]
 fn observers_read_beside_posts(rt: HostRuntime) -> Result<(), Fail> {
     let gate = ObserverGate {
@@ -138,12 +157,8 @@ fn observers_read_beside_posts(rt: HostRuntime) -> Result<(), Fail> {
         late: AtomicBool::new(false),
     };
     let text = watched(&rt, rt.alloc(), TWO_TASKS, 2, &gate)?;
-    assert!(rt; !gate.late.load(Ordering::SeqCst));
-    assert_eq!(rt; gate.posts.load(Ordering::SeqCst), 2);
-    assert_eq!(rt; gate.reads.load(Ordering::SeqCst), 100);
     let text = str::from_utf8(&text).unwrap_or("");
-    assert!(rt; text.contains("observer 0 first 1 0 last "), "{text}");
-    expect_two(&rt, rt.alloc(), text)
+    expect_beside(&rt, rt.alloc(), &gate, text)
 }
 
 /// Appends a line of a generated input, and an event's with this stream in the place of stream 0; reports whether it is one.
@@ -160,25 +175,45 @@ fn write_on_stream(text: &mut String, line: &str, stream: u32) -> Result<bool, A
     }
 }
 
-/// A generated input of 60 events on sixteen streams in turn, for 6 processors and 10 tasks.
-fn on_sixteen_streams(alloc: Global, number: u64) -> Result<String, Fail> {
-    let input = make_input(alloc, number, 6, 10, 60)?;
-    let made = write_input(alloc, &input)?;
-    let mut spread = String::new(alloc);
+/// Appends the lines of a generated input, with the events on sixteen streams in turn.
+fn write_on_sixteen(text: &mut String, input: &str) -> Result<(), AllocError> {
     let mut i = 0u32;
-    for line in str::from_utf8(&made).unwrap_or("").lines() {
-        let is_event = write_on_stream(&mut spread, line, i % 16)?;
+    for line in input.lines() {
+        let is_event = write_on_stream(text, line, i % 16)?;
         i = i.wrapping_add(is_event as u32);
     }
+    Ok(())
+}
+
+/// A generated input of 60 events, for 6 processors and 10 tasks.
+fn generated(alloc: Global, number: u64) -> Result<Vec<u8>, Fail> {
+    let input = make_input(alloc, number, 6, 10, 60)?;
+    Ok(write_input(alloc, &input)?)
+}
+
+/// The same on sixteen streams in turn.
+fn on_sixteen_streams(alloc: Global, number: u64) -> Result<String, Fail> {
+    let made = generated(alloc, number)?;
+    let mut spread = String::new(alloc);
+    write_on_sixteen(&mut spread, str::from_utf8(&made).unwrap_or(""))?;
     Ok(spread)
+}
+
+/// Eight observers read what the plain program has.
+fn expect_eight<R: Threads + Wait + Sync + Abort>(
+    rt: &R,
+    alloc: Global,
+    input: &str,
+) -> Result<(), Fail> {
+    let text = watched(rt, alloc, input, 8, &OpenGate)?;
+    expect_read(rt, alloc, str::from_utf8(&text).unwrap_or(""), 60, 8)
 }
 
 #[test]
 fn eight_observers_beside_sixteen_streams(rt: HostRuntime) -> Result<(), Fail> {
     let input = on_sixteen_streams(rt.alloc(), 7)?;
     for _ in 0..100 {
-        let text = watched(&rt, rt.alloc(), &input, 8, &OpenGate)?;
-        expect_read(&rt, rt.alloc(), str::from_utf8(&text).unwrap_or(""), 60, 8)?;
+        expect_eight(&rt, rt.alloc(), &input)?;
     }
     Ok(())
 }
