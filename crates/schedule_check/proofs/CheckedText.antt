@@ -15,16 +15,9 @@ use Rattle.program_status.proofs.Refusals.{refusal_of_text_fault, memory_of_text
 use Rattle.valid_schedule.specs.Valid.{IsValid, IsInvalid, IsValidText}
 use Rattle.valid_schedule.proofs.OneVerdict.{invalid_once, valid_is_not_invalid, valid_is_best, valid_has_no_improving_chain}
 use Rattle.schedule_check.specs.Check.{IsCheckOf, RefusesCheck, valid_text}
-use Rattle.schedule_check.specs.Checking.{IsBadEntryStatus, IsBadContextStatus, IsInvalidStatus}
+use Rattle.schedule_check.specs.Checking.{IsInvalidStatus}
 
 -- ---- a schedule that is judged
-pub wrong_entry : (schedule : ScheduleData) (status : Status) → IsBadEntryStatus schedule status ⊎ (status ≡ OutOfMemory) → IsInvalidStatus schedule status ⊎ (status ≡ OutOfMemory)
-wrong_entry schedule status (inl bad) = inl (bad.0, bad.1, bad.2, inl bad.3)
-wrong_entry schedule status (inr memory) = inr memory
-
-pub wrong_context : (schedule : ScheduleData) (status : Status) → IsBadContextStatus schedule status → IsInvalidStatus schedule status
-wrong_context schedule status bad = (bad.0, bad.1, bad.2, inr bad.3)
-
 -- a valid schedule is not answered as wrong
 memory_of_valid : (schedule : ScheduleData) (status : Status) → IsSchedule schedule → IsValid schedule → IsInvalidStatus schedule status ⊎ (status ≡ OutOfMemory) → status ≡ OutOfMemory
 memory_of_valid schedule status ok valid (inl bad) = absurd (valid_is_not_invalid schedule ok bad.0 bad.1 valid bad.3)
