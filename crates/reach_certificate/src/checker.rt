@@ -54,8 +54,8 @@ impl Checker {
     {
         let links = Links::new(alloc, set)?;
         prove!(links.processors() <= 64);
-        let saved = Links::new(alloc, set)?;
         let contexts = Contexts::new(alloc, &links)?;
+        let saved = Links::new(alloc, set)?;
         Ok(Checker {
             links,
             saved,

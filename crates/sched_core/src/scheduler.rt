@@ -63,11 +63,11 @@ impl Core {
           spare = 0;
         }) }
     {
+        let mut rows = empty_rows(alloc, set.processors())?;
+        reserve_rows(&mut rows, 2)?;
+        let takes = no_takes(alloc, set.len())?;
         let start = Links::new(alloc, set)?;
         let links = Links::new(alloc, set)?;
-        let mut rows = empty_rows(alloc, links.processors())?;
-        reserve_rows(&mut rows, 2)?;
-        let takes = no_takes(alloc, links.len())?;
         Ok(Core {
             start,
             history: Vec::new(alloc),

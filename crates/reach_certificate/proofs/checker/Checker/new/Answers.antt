@@ -7,9 +7,9 @@ use Rattle.certificate_laws.specs.Certified.{HasCertificates}
 use Rattle.certificate_laws.proofs.Kept.{HasCertificates-start}
 use Rattle.reach_certificate.specs.Checker.{IsChecker}
 use Rattle.reach_certificate.proofs.checker.Checker.new.Goals as goal
-use Rattle.reach_certificate.proofs.checker.Checker.new.Goals.{In_ok-contexts}
+use Rattle.reach_certificate.proofs.checker.Checker.new.Goals.{In_ok-saved}
 
-made : (c : In_ok-contexts) → IsChecker (record { links = c.in_ok-links.links; contexts = c.in_ok-contexts.contexts.each })
+made : (c : In_ok-saved) → IsChecker (record { links = c.in_ok-links.links; contexts = c.in_ok-contexts.contexts.each })
 made c =
     let fresh = c.in_ok-contexts.ensures.each in
     let count = task_count c.in_ok-links.links in
@@ -22,7 +22,7 @@ made c =
           ∙ ap (λ (x : Context). x.task) (get_or-map-range_with_len fresh_context 0 count t t d lt (omega arith));
     }
 
-same : (c : In_ok-contexts) → HasSameTasks c.in_ok-links.links c.in_ok-saved.saved
+same : (c : In_ok-saved) → HasSameTasks c.in_ok-links.links c.in_ok-saved.saved
 same c =
     let e = c.in_ok-saved.ensures ∙ sym c.in_ok-links.ensures in
     record { processors = ap (λ (s : State). s.processors) e; priorities = ap (λ (s : State). s.priorities) e }
