@@ -54,8 +54,7 @@ static CONTEXTS: [Context; 2] = [
 /// A core of the two tasks.
 fn core_of_two(rt: &(impl Abort + AllocGlobal)) -> Result<Core, Fail> {
     let set = set_of(rt, 2, &TASKS)?;
-    let core = Core::new(rt.alloc(), &set)?;
-    Ok(core)
+    Ok(Core::new(rt.alloc(), &set)?)
 }
 
 /// The core after the events.
@@ -77,12 +76,17 @@ fn checker_after(rt: &(impl Abort + AllocGlobal), core: &Core) -> Result<Checker
     Ok(checker)
 }
 
+/// Asserts that a checker that accepted the history of the core has the contexts of both tasks.
+fn assert_followed(rt: &(impl Abort + AllocGlobal), core: &Core) -> Result<(), Fail> {
+    let checker = checker_after(rt, core)?;
+    for expected in &CONTEXTS {
+        assert_context(rt, &checker, expected);
+    }
+    Ok(())
+}
+
 #[test]
 fn checker_follows_the_core(rt: HostRuntime) -> Result<(), Fail> {
     let core = core_after(&rt)?;
-    let checker = checker_after(&rt, &core)?;
-    for context in &CONTEXTS {
-        assert_context(&rt, &checker, context);
-    }
-    Ok(())
+    assert_followed(&rt, &core)
 }

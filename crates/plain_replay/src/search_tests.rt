@@ -1,12 +1,11 @@
 //! What searches, certificates and best sets say of the states to which arrivals and a departure lead.
-ghost use Rattle.std.specs.Prelude.{◌<◌, ◌≤◌};
-ghost use Rattle.link_state.specs.State.{task_count, IsState};
 
-use crate::task_sets::{all_below, mask_of, set_of};
+use crate::greedy_tests::greedy;
+use crate::task_sets::{mask_of, set_of};
 use affinity_mask::ProcSet;
 use link_table::{Chain, Links};
 use path_search::{back_chain, back_set, chain_to, chain_to_idle, reach};
-use placement_laws::{all_certified, best_set};
+use placement_laws::all_certified;
 use reach_certificate::is_certificate;
 use std::process::Abort;
 use std::test::Fail;
@@ -21,9 +20,15 @@ fn arrive_all(rt: &impl Abort, links: &mut Links, count: u32) {
     }
 }
 
-/// The state after the first tasks of the set arrived, so many.
-fn links_after(rt: &(impl Abort + AllocGlobal), set: &TaskSet, count: u32) -> Result<Links, Fail> {
-    let mut links = Links::new(rt.alloc(), set)?;
+/// The state after the first tasks of these rows arrived, so many.
+fn links_after(
+    rt: &(impl Abort + AllocGlobal),
+    processors: u8,
+    rows: &[(&str, u32, &[u8])],
+    count: u32,
+) -> Result<Links, Fail> {
+    let set = set_of(rt, processors, rows)?;
+    let mut links = Links::new(rt.alloc(), &set)?;
     arrive_all(rt, &mut links, count);
     Ok(links)
 }
@@ -65,8 +70,7 @@ fn reaches_all(rt: &impl Abort, links: &Links) {
 
 #[test]
 fn reach_past_the_own_mask(rt: HostRuntime) -> Result<(), Fail> {
-    let set = set_of(&rt, 3, &PAST_THE_MASK)?;
-    let links = links_after(&rt, &set, 3)?;
+    let links = links_after(&rt, 3, &PAST_THE_MASK, 3)?;
     reaches_all(&rt, &links);
     Ok(())
 }
@@ -81,8 +85,7 @@ static TWO_WAIT: [(&str, u32, &[u8]); 4] = [
 
 /// The state after the four arrived.
 fn two_wait(rt: &(impl Abort + AllocGlobal)) -> Result<Links, Fail> {
-    let set = set_of(rt, 2, &TWO_WAIT)?;
-    links_after(rt, &set, 4)
+    links_after(rt, 2, &TWO_WAIT, 4)
 }
 
 /// Asserts whether the sets of these processors certify the waiting tasks, of four tasks.
@@ -121,13 +124,6 @@ fn searches_and_certificates(rt: HostRuntime) -> Result<(), Fail> {
     Ok(())
 }
 
-/// The best placeable set of these tasks.
-fn best(rt: &(impl Abort + AllocGlobal), set: &TaskSet, ready: &[u32]) -> Result<Vec<u32>, Fail> {
-    assert!(rt; all_below(ready, set.len()));
-    let best = best_set(rt.alloc(), set, ready)?;
-    Ok(best)
-}
-
 /// Asserts that this is the best placeable set of these tasks.
 fn assert_best(
     rt: &(impl Abort + AllocGlobal),
@@ -135,7 +131,7 @@ fn assert_best(
     ready: &[u32],
     expected: &[u32],
 ) -> Result<(), Fail> {
-    let found = best(rt, set, ready)?;
+    let found = greedy(rt, set, ready)?;
     assert!(rt; found.as_slice() == expected, "of {} tasks", ready.len());
     Ok(())
 }
