@@ -84,12 +84,33 @@ fn smallest_generated_input(rt: HostRuntime) -> Result<(), Fail> {
     Ok(())
 }
 
-#[test]
-fn run_of_a_generated_input(rt: HostRuntime) -> Result<(), Fail> {
-    let input = put_for(&rt, rt.alloc(), "make", ["7", "8", "40", "2000"])?;
-    let (status, schedule) = replay(&rt, rt.alloc(), &["run"], &input)?;
+/// The numbers of generated inputs, and how many entries their schedules have: one for each event.
+static RUNS: [([&str; 4], usize); 4] = [
+    (["0", "1", "1", "1"], 1),
+    (["3", "6", "10", "60"], 60),
+    (["7", "8", "40", "2000"], 2000),
+    (["11", "64", "300", "1500"], 1500),
+];
+
+/// `run` of the input that `make` writes for these numbers ends well, and `check` finds so many entries valid.
+fn expect_run<R: Threads + Wait + Sync + Abort>(
+    rt: &R,
+    alloc: Global,
+    sizes: [&str; 4],
+    entries: usize,
+) -> Result<(), Fail> {
+    let input = put_for(rt, alloc, "make", sizes)?;
+    let (status, schedule) = replay(rt, alloc, &["run"], &input)?;
     assert_eq!(rt; status, Status::Done);
-    expect_valid(&rt, rt.alloc(), &schedule, 2000)
+    expect_valid(rt, alloc, &schedule, entries)
+}
+
+#[test]
+fn runs_of_generated_inputs(rt: HostRuntime) -> Result<(), Fail> {
+    for (sizes, entries) in &RUNS {
+        expect_run(&rt, rt.alloc(), *sizes, *entries)?;
+    }
+    Ok(())
 }
 
 /// Summaries that a program of a reader's own, written from the definitions, made.
