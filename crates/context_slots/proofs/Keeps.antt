@@ -1,11 +1,12 @@
 -- Each step keeps the rule.
-use Rattle.std.proofs.Common.{◌≡◌, ℕ, zero, suc, ◌+◌, ◌*◌, ◌/◌, ◌%◌, ◌<◌, eqb, cond, Bool, true, false, ◌≢◌, List, [], ◌∷◌, ◌++◌, length, length-append, get_or, set, sym, refl, ap, ◌∙◌, subst, ⊎_elim, arith, length-set, get_or-set_other, get_or-set_same, eq-eqb, ne_eqb, Option, Some, None, IsSome, IfSome, MatchBool}
+use Rattle.std.proofs.Common.{◌≡◌, ℕ, zero, suc, ◌+◌, ◌*◌, ◌/◌, ◌%◌, ◌^◌, ◌<◌, eqb, cond, Bool, true, false, ◌≢◌, List, [], ◌∷◌, ◌++◌, length, length-append, get_or, set, sym, refl, ap, ◌∙◌, subst, ⊎_elim, arith, length-set, get_or-set_other, get_or-set_same, eq-eqb, ne_eqb, Option, Some, None, IsSome, IfSome, MatchBool}
 use mathlib.Core.Logic.{dite}
 use mathlib.Core.Option.{some, none, some-injective, some-ne-none}
 use native.Mathlib.Decide.{ℕ_discrete}
 use lib.ListN.{get_elem?}
 use lib.Seq.{set-get_or}
 use prog.Atomic.{either}
+use Rattle.std.proofs.Math.Nat.{mod-add-mod, add-zero}
 use Rattle.atomic_table.specs.Table.{State, step, Act, keeps, takes, gives, Valid, carried_after, stepped, Allows, Splits, Joins, Seen, rest}
 use Rattle.atomic_table.proofs.Lists.{at_set, at_snoc, set_here, set_else}
 use Rattle.task_set.specs.declared.context.Context.{Context}
@@ -13,9 +14,9 @@ use Rattle.context_slots.specs.declared.view.OpenStint.{OpenStint}
 use Rattle.task_set.specs.Orders.{Stint}
 use Rattle.context_slots.specs.declared.view.HandView.{HandView}
 use Rattle.context_slots.specs.Contexts.{context_after_stints}
-use Rattle.context_slots.specs.HandOver.{of_task, runs, IsNumbered, IsRun, IdleIsEmpty, HandOverRule}
+use Rattle.context_slots.specs.HandOver.{of_task, runs, IsNumbered, IsHomeAfter, IsRun, IdleIsEmpty, HandOverRule}
 use Rattle.task_set.specs.Sum.{total}
-use Rattle.context_slots.specs.Hands.{begun, with_run, closed}
+use Rattle.context_slots.specs.Hands.{begun, with_run, closed, IsInStint}
 use Rattle.context_slots.specs.HandSteps.{SeatState, looked, holding, looks_play, takes_play, runs_play, releases_play, IsFree, TookHeld, dealt, next_hand, joined, spent}
 use Rattle.context_slots.specs.Homes.{Came}
 use Rattle.task_set.specs.Context.{fresh_context, context_after_take, context_after_run, context_after_runs, context_after_stint}
@@ -41,7 +42,7 @@ at_either l t x a d P near here else = dite (ℕ_discrete x t)
 
 abbrev Taking : ℕ → ℕ → ℕ → SeatState → St → ℕ → Bool → Type 0
 Taking processors id t m s number b = (w : HandView) × (a : Act (Option Context)) × Valid s.homes m.1 a × HandOverRule processors (stepped s t (either b (2 * number + 1) (get_or s.words t 0)) id m.1 w a)
-    × MatchBool b ((base : Context) × ◌≡◌ {A = SeatState} (w, carried_after m.1 a) (holding (looked m.0 t (get_or s.words t 0)) (Some (begun t ((2 * number) / 2) base)), (t, Some base) ∷ [])) (◌≡◌ {A = SeatState} (w, carried_after m.1 a) (looked m.0 t (get_or s.words t 0), m.1))
+    × MatchBool b ((base : Context) × IsHomeAfter base t ((2 * number) / 2) × ◌≡◌ {A = SeatState} (w, carried_after m.1 a) (holding (looked m.0 t (get_or s.words t 0)) (Some (begun t ((2 * number) / 2) base)), (t, Some base) ∷ [])) (◌≡◌ {A = SeatState} (w, carried_after m.1 a) (looked m.0 t (get_or s.words t 0), m.1))
 
 taken : (processors id t number : ℕ) (m : SeatState) → IsFree m → 0 < m.0.parts → (s : St) → (k : HandOverRule processors s) → t < length s.homes → get_elem? s.views id ≡ some m.0 → get_or s.words t 0 ≡ 2 * number → Taking processors id t m s number true
 taken processors id t number m free part s k near at hit =
@@ -81,7 +82,7 @@ taken processors id t number m free part s k near at hit =
             (λ d. subst (λ y. IsRun k.log y u.holds) (sym (length-set s.homes t none)) (k.out j u d.1))
             (at_set s.views id j w u e);
       },
-      (base, λ i. (w, (t, Some base) ∷ free.1 i)),
+      (base, record { log = k.log t; numbered = k.numbered t; count = omega (arith, count); context = refl }, λ i. (w, (t, Some base) ∷ free.1 i)),
     )
 
 missed : (processors id t number : ℕ) (m : SeatState) → (s : St) → (k : HandOverRule processors s) → t < length s.homes → get_elem? s.views id ≡ some m.0 → Taking processors id t m s number false
@@ -142,11 +143,37 @@ takes_lem processors slots id t number m free part near s k wide at small =
 pub won : (A B : Type 0) (n old : ℕ) → n ≡ old → MatchBool (eqb n old) A B → A
 won A B n old e h = subst (λ b. MatchBool b A B) (eq-eqb n old e) h
 
-pub settled : (m0 : HandView) (t number n p : ℕ) (base : Context) (m1 m2 : SeatState) (r : Option Context) (ctx after : Context) → n ≡ 2 * number
+-- runs keep the task and the stints
+runs_keep : (c : Context) (p : ℕ) (units : List ℕ) → ((context_after_runs c p units).task ≡ c.task) × ((context_after_runs c p units).stints ≡ c.stints)
+runs_keep c p [] = (refl, refl)
+runs_keep c p (u ∷ units) = runs_keep (context_after_run c p u) p units
+
+-- the task of a context after stints, and how many they are
+after_stints : (c : Context) (n : ℕ) (log : List Stint) → c.stints ≡ n % 2 ^ 64 → ((context_after_stints c log).task ≡ c.task) × ((context_after_stints c log).stints ≡ (n + length log) % 2 ^ 64)
+after_stints c n [] e = (refl, e ∙ ap (λ (k : ℕ). k % 2 ^ 64) (sym (add-zero n)))
+after_stints c n (x ∷ xs) e =
+    let keep = runs_keep (context_after_take c x.processor) x.processor x.units in
+    let more : (c.stints + 1) % 2 ^ 64 ≡ (n + 1) % 2 ^ 64 = ap (λ (k : ℕ). (k + 1) % 2 ^ 64) e ∙ mod-add-mod n (2 ^ 64) 1 in
+    let later = after_stints (context_after_stint c x) (n + 1) xs (keep.1 ∙ more) in
+    (later.0 ∙ keep.0, later.1 ∙ ap (λ (k : ℕ). k % 2 ^ 64) (let e : n + 1 + length xs ≡ n + suc (length xs) = omega arith in e))
+
+in_stint : (base : Context) (t number p : ℕ) → IsHomeAfter base t number → number < 2 ^ 32 → IsInStint (context_after_take base p) t number p
+in_stint base t number p home small =
+    let at = after_stints (fresh_context t) 0 home.log refl in
+    let count : 0 + length home.log ≡ number = (let e = home.count in omega arith) in
+    let before : base.stints ≡ number % 2 ^ 64 = ap (λ (c : Context). c.stints) home.context ∙ at.1 ∙ ap (λ (k : ℕ). k % 2 ^ 64) count in
+    let whole : (number + 1) % 2 ^ 64 ≡ number + 1 = omega arith in
+    record {
+      task = ap (λ (c : Context). c.task) home.context ∙ at.0;
+      stints = ap (λ (k : ℕ). (k + 1) % 2 ^ 64) before ∙ mod-add-mod number (2 ^ 64) 1 ∙ whole;
+      last = refl;
+    }
+
+pub settled : (m0 : HandView) (t number n p : ℕ) (base : Context) (m1 m2 : SeatState) (r : Option Context) (ctx after : Context) → IsHomeAfter base t ((2 * number) / 2) → number < 2 ^ 32 → n ≡ 2 * number
     → m1 ≡ (holding (looked m0 t n) (Some (begun t ((2 * number) / 2) base)), (t, Some base) ∷ [])
     → m1.1 ≡ (t, r) ∷ rest m1.1 → m2 ≡ (m1.0, (t, None) ∷ rest m1.1) → r ≡ Some ctx → after ≡ context_after_take ctx p → p ≡ m0.number
-    → TookHeld m2 t number after × ((b : Context) × (m2.0 ≡ holding (looked m0 t (2 * number)) (Some (begun t number b))))
-settled m0 t number n p base m1 m2 r ctx after hit took_it held put got did is =
+    → TookHeld m2 t number after × ((b : Context) × IsHomeAfter b t number × (m2.0 ≡ holding (looked m0 t (2 * number)) (Some (begun t number b)))) × IsInStint after t number p
+settled m0 t number n p base m1 m2 r ctx after home small hit took_it held put got did is =
     let half : (2 * number) / 2 ≡ number = omega arith in
     let w1 : m1.0 ≡ holding (looked m0 t (2 * number)) (Some (begun t number base)) = ap (λ (m : SeatState). m.0) took_it ∙ (λ i. holding (looked m0 t (hit i)) (Some (begun t (half i) base))) in
     let w2 : m2.0 ≡ holding (looked m0 t (2 * number)) (Some (begun t number base)) = ap (λ (m : SeatState). m.0) put ∙ w1 in
@@ -156,7 +183,8 @@ settled m0 t number n p base m1 m2 r ctx after hit took_it held put got did is =
     let slots : m2.1 ≡ (t, None) ∷ [] = ap (λ (m : SeatState). m.1) put ∙ ap (λ l. (t, None) ∷ l) none_left in
     let head : (t, r) ≡ (t, Some base) = cc in
     let found : r ≡ Some base = ap (λ (y : ℕ × Option Context). y.1) head in
-    let same : ctx ≡ base = cc in (
+    let same : ctx ≡ base = cc in
+    let at_home : IsHomeAfter base t number = subst (IsHomeAfter base t) half home in (
       (
         begun t number base,
         ap (λ (v : HandView). v.holds) w2,
@@ -165,7 +193,8 @@ settled m0 t number n p base m1 m2 r ctx after hit took_it held put got did is =
         slots,
         did ∙ (λ i. context_after_take (same i) (is i)) ∙ ap (λ (q : ℕ). context_after_take base q) (sym (ap (λ (v : HandView). v.number) w2)),
       ),
-      (base, w2),
+      (base, at_home, w2),
+      subst (λ (c : Context). IsInStint c t number p) (sym (did ∙ ap (λ (c : Context). context_after_take c p) same)) (in_stint base t number p at_home small),
     )
 
 -- the log, with the stint e at the end of its task's

@@ -26,6 +26,14 @@ abbrev pub IsNumbered : ℕ → ℕ → List Stint → Type 0
 IsNumbered t n [] = Unit {0}
 IsNumbered t n (e ∷ es) = (e.task ≡ t) × (e.number ≡ n) × IsNumbered t (n + 1) es
 
+-- a context that lies at home once so many stints of its task have ended: the fresh one after stints of the task that are
+-- numbered from 0 on
+pub record IsHomeAfter (base : Context) (t number : ℕ) : Type 0 where
+  pub log : List Stint
+  pub numbered : IsNumbered t 0 log
+  pub count : length log ≡ number
+  pub context : base ≡ context_after_stints (fresh_context t) log
+
 -- a stint under way has the next number of its task, and its base is the context after all earlier stints
 abbrev pub IsRun : (ℕ → List Stint) → ℕ → Option OpenStint → Type 0
 IsRun log slots None = Unit {0}

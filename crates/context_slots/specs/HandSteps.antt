@@ -4,6 +4,7 @@ use Rattle.atomic_table.specs.Table.{Me, Step}
 use Rattle.task_set.specs.declared.context.Context.{Context}
 use Rattle.context_slots.specs.declared.view.OpenStint.{OpenStint}
 use Rattle.context_slots.specs.declared.view.HandView.{HandView}
+use Rattle.context_slots.specs.HandOver.{IsHomeAfter}
 use Rattle.context_slots.specs.Hands.{begun, with_run, closed, context_in}
 
 -- what a hand's seat has: its view, and the slots that it holds
@@ -26,10 +27,11 @@ ended_with v held = record v { holds = None; ended = v.ended ++ closed v.number 
 abbrev pub looks_play : Step (Option Context) → SeatState → ℕ → SeatState → Type 0
 looks_play st m n m' = m' ≡ (looked m.0 st.word n, m.1)
 
--- an exchange adds a look; where it found the word that it expected, a stint begins, from the context that was at home
+-- an exchange adds a look; where it found the word that it expected, a stint begins, from the context that was at home after
+-- all earlier ones
 abbrev pub takes_play : Step (Option Context) → SeatState → ℕ → SeatState → Type 0
 takes_play st m n m' = MatchBool (n == st.first)
-    ((base : Context) × (m' ≡ (holding (looked m.0 st.word n) (Some (begun st.word (st.first / 2) base)), (st.word, Some base) ∷ [])))
+    ((base : Context) × IsHomeAfter base st.word (st.first / 2) × (m' ≡ (holding (looked m.0 st.word n) (Some (begun st.word (st.first / 2) base)), (st.word, Some base) ∷ [])))
     (m' ≡ (looked m.0 st.word n, m.1))
 
 -- a load at which these units join the stint under way

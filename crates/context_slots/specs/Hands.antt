@@ -8,6 +8,7 @@ use Rattle.task_set.specs.TaskSet.{SetData}
 use Rattle.task_set.specs.Context.{context_after_take, context_after_runs}
 use Rattle.context_slots.specs.declared.view.OpenStint.{OpenStint}
 use Rattle.context_slots.specs.Contexts.{HeldData}
+use Rattle.context_slots.specs.HandOver.{IsHomeAfter}
 
 -- which slots they are, and of which set of tasks
 pub record SlotsData : Type 0 where
@@ -101,10 +102,18 @@ pub record Took (hand : HandData) (held : HeldData) : Type 0 where
   pub context : held.context ≡ context_in hand.number stint
   pub inside : stint.task + 1 < hand.slots.words
 
--- a hand takes a task for the stint with this number
+-- a context in the stint of the task with this number, on p
+pub record IsInStint (c : Context) (t number p : ℕ) : Type 0 where
+  pub task : c.task ≡ t
+  pub stints : c.stints ≡ number + 1
+  pub last : c.last ≡ Some p
+
+-- a hand takes a task for the stint with this number, from the context after all earlier stints of the task
 pub record Takes (old : HandData) (task number : ℕ) (held : HeldData) (new : HandData) : Type 0 where
   pub task_is : held.task ≡ task
   pub number_is : held.number ≡ number
   pub base : Context
+  pub home : IsHomeAfter base task number
   pub hand : new ≡ after_take old task number base
   pub took : Took new held
+  pub context : IsInStint held.context task number old.number

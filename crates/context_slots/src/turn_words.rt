@@ -4,8 +4,8 @@
 //! them. Each function here is one step of one hand, but for `take`, which also empties the slot that it has won, and
 //! `release`, which first fills it.
 ghost use Rattle.std.specs.Prelude.{◌≡◌, ◌≢◌, ℕ, ◌+◌, ◌*◌, ◌<◌, ◌++◌, ◌∷◌, [], Some, None, length, MatchResult, IfSome, IsSome, IfOk};
-ghost use Rattle.context_slots.specs.HandOver.{HandOverRule};
-ghost use Rattle.context_slots.specs.Hands.{begun, with_run, closed};
+ghost use Rattle.context_slots.specs.HandOver.{HandOverRule, IsHomeAfter};
+ghost use Rattle.context_slots.specs.Hands.{begun, with_run, closed, IsInStint};
 ghost use Rattle.context_slots.specs.HandSeats.{IsSameHand};
 ghost use Rattle.context_slots.specs.HandSteps.{looked, holding, looks_play, takes_play, runs_play, releases_play, IsFree, TookHeld, dealing, dealt, next_hand, joined, spent};
 
@@ -139,9 +139,10 @@ impl TurnWords {
         ensures turn { MatchResult result
             (λ held. (held.task ≡ task) × (held.number ≡ number)
             × TookHeld hand.new.seat.me task number held.context
-            × ((base : Context) × (hand.new.seat.me.0
+            × ((base : Context) × IsHomeAfter base task number × (hand.new.seat.me.0
             ≡ holding (looked hand.old.seat.me.0 task (2 * number))
-            (Some (begun task number base)))))
+            (Some (begun task number base))))
+            × IsInStint held.context task number hand.old.number)
             (λ no. (no.found ≢ 2 * number)
             × (hand.new.seat.me ≡ (looked hand.old.seat.me.0 task no.found, []))) }
     {

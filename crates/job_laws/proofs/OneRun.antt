@@ -44,7 +44,7 @@ same_masks s (first ∷ rest) events =
     let later = same_masks (effect_of s first) rest (All-tail (λ (entry : Entry). IsJobEvent entry.event) first rest events) in
     record { masks = later.masks ∙ here.masks; online = later.online ∙ here.online }
 
-same_answer : (a b : Bool) → (a ≡ true → b ≡ true) → (b ≡ true → a ≡ true) → a ≡ b
+pub same_answer : (a b : Bool) → (a ≡ true → b ≡ true) → (b ≡ true → a ≡ true) → a ≡ b
 same_answer true true to from = refl
 same_answer true false to from = sym (to refl)
 same_answer false true to from = from refl
@@ -52,26 +52,26 @@ same_answer false false to from = refl
 
 -- ---- a run at a moment
 module _ (input : JobInputData) (valid : IsJobInput input) where
-  abbrev start : State
+  abbrev pub start : State
   start = start_of input.set
 
   module _ (history : List Entry) (runs : RunsJobs input history) (x : ℕ) where
-    tasks_at : HasSameTasks start (state_at start history x)
+    pub tasks_at : HasSameTasks start (state_at start history x)
     tasks_at = same_tasks-history start (changes_by x 0 history)
 
-    masks_at : HasSameMasks start (state_at start history x)
+    pub masks_at : HasSameMasks start (state_at start history x)
     masks_at =
         let prefix = state_by_entries start history x 0 in
         subst (HasSameMasks start) (sym prefix.2) (same_masks start (take prefix.0 history) (All-take (λ (entry : Entry). IsJobEvent entry.event) prefix.0 history runs.events))
 
     -- what is best at the moment is best at the start
-    best_at_start : (ready : TaskTest) → ((t : ℕ) → is_ready (state_at start history x) t ≡ ready t) → RunsTheBest (state_at start history x) → IsBest start ready (is_linked (state_at start history x))
+    pub best_at_start : (ready : TaskTest) → ((t : ℕ) → is_ready (state_at start history x) t ≡ ready t) → RunsTheBest (state_at start history x) → IsBest start ready (is_linked (state_at start history x))
     best_at_start ready agree best =
         let now = state_at start history x in
         IsBest-same start now tasks_at masks_at (is_ready now) ready (is_linked now) (is_linked now) agree (λ t. refl) best
 
     -- only a task of the input is ready
-    none_beyond : (t : ℕ) → length input.jobs ≤ t → is_ready (state_at start history x) t ≡ false
+    pub none_beyond : (t : ℕ) → length input.jobs ≤ t → is_ready (state_at start history x) t ≡ false
     none_beyond t beyond = elim (cases_Bool (is_ready (state_at start history x) t)) [
       | inr absent ↦ absent
       | inl ready ↦ (
@@ -129,7 +129,7 @@ module _ (input : JobInputData) (valid : IsJobInput input) where
         ]
 
 -- ---- the text
-same_first : (test other : ℕ → Bool) (n : ℕ) → ((x : ℕ) → x ≤ n → test x ≡ other x) → first_upto test n ≡ first_upto other n
+pub same_first : (test other : ℕ → Bool) (n : ℕ) → ((x : ℕ) → x ≤ n → test x ≡ other x) → first_upto test n ≡ first_upto other n
 unfolding first_upto
 same_first test other zero agree = rw (agree 0 (omega arith)) refl
 same_first test other (suc n) agree = rw (same_first test other n (λ x within. agree x (omega arith)), agree (suc n) (omega arith)) refl

@@ -71,7 +71,7 @@ obeyed-release p stints (Some stint) t may =
 
 -- what was obeyed, after one order more
 pub obeyed_more : (order : Order) (old new : HandData) → MayCome (held_task old.holds) order → Obeys order old new → orders_obeyed new ≡ orders_obeyed old ++ order ∷ []
-obeyed_more (Take t k) old new may h = ap orders_obeyed h.1 ∙ obeyed-take (flat_map stint_orders old.ended) old.holds t k may
+obeyed_more (Take t k) old new may h = ap orders_obeyed h.2 ∙ obeyed-take (flat_map stint_orders old.ended) old.holds t k may
 obeyed_more (Run u) old new may h = ap orders_obeyed h ∙ obeyed-run (flat_map stint_orders old.ended) old.holds u may
 obeyed_more (Release t) old new may h = ap orders_obeyed h ∙ obeyed-release old.number old.ended old.holds t may
 obeyed_more Stop old new may h = absurd h
@@ -85,14 +85,14 @@ OnOwn hand = AllOn hand.number hand.ended
 
 -- the stints that it ended are its own, after one order more
 pub on_more : (order : Order) (old new : HandData) → Obeys order old new → AllOn old.number old.ended → AllOn new.number new.ended
-on_more (Take t k) old new h on = subst OnOwn (sym h.1) on
+on_more (Take t k) old new h on = subst OnOwn (sym h.2) on
 on_more (Run u) old new h on = subst OnOwn (sym h) on
 on_more (Release t) old new h on = subst OnOwn (sym h) (All-append (λ (stint : Stint). stint.processor ≡ old.number) old.ended (held_closed old.number old.holds) on (closed-on old.number old.holds))
 on_more Stop old new h on = absurd h
 
 -- the hand stays the same processor's, and of the same slots
 pub same_number : (order : Order) (old new : HandData) → Obeys order old new → new.number ≡ old.number
-same_number (Take t k) old new h = ap (λ (d : HandData). d.number) h.1
+same_number (Take t k) old new h = ap (λ (d : HandData). d.number) h.2
 same_number (Run u) old new h = ap (λ (d : HandData). d.number) h
 same_number (Release t) old new h = ap (λ (d : HandData). d.number) h
 same_number Stop old new h = absurd h

@@ -7,6 +7,7 @@ use Rattle.task_set.specs.declared.order.Order.{Order}
 use Rattle.task_set.specs.declared.order.Order.TheVariants.{Take, Release, Run, Stop}
 use Rattle.task_set.specs.Orders.{stint_orders}
 use Rattle.context_slots.specs.declared.view.OpenStint.{OpenStint}
+use Rattle.context_slots.specs.HandOver.{IsHomeAfter}
 use Rattle.context_slots.specs.Hands.{HandData, after_look, after_take, after_run, after_release}
 use Rattle.processor_seat.specs.declared.answer.Obeyed.{Obeyed}
 use Rattle.processor_seat.specs.declared.answer.Obeyed.TheVariants.{Done, NotTurn}
@@ -25,9 +26,9 @@ abbrev pub held_task : Option OpenStint → Option ℕ
 held_task None = None
 held_task (Some stint) = Some stint.task
 
--- the hand obeys an order: it takes a context that is at home, or runs what it took, or releases it
+-- the hand obeys an order: it takes the context that is at home after all earlier stints, or runs what it took, or releases it
 abbrev pub Obeys : Order → HandData → HandData → Type 0
-Obeys (Take task number) old new = (base : Context) × (new ≡ after_take old task number base)
+Obeys (Take task number) old new = (base : Context) × IsHomeAfter base task number × (new ≡ after_take old task number base)
 Obeys (Run units) old new = new ≡ after_run old units
 Obeys (Release task) old new = new ≡ after_release old
 Obeys Stop old new = ⊥
