@@ -12,10 +12,10 @@ use Rattle.trace_reader.specs.declared.posted.Posted.{Posted}
 use Rattle.trace_reader.specs.CanonicalText.{canonical_input_text}
 use Rattle.trace_reader.specs.InputText.{IsInputText}
 use Rattle.generated_input.proofs.OneInput.{one_input}
-use Rattle.event_replay.specs.Replay.{posted_of, Schedules}
+use Rattle.thread_replay.specs.Merge.{posted_of}
 use Rattle.link_state.specs.Dispatch.{contexts_of}
 use Rattle.thread_replay.specs.Replayed.{IsReplayOf}
-use Rattle.generated_run.specs.Generating.{IsInputOf, WritesInput, IsMakeOf, Summarizes, IsLargeOf}
+use Rattle.generated_run.specs.Generating.{IsInputOf, WritesInput, IsMakeOf, Summarizes, IsLargeOf, Schedules}
 use Rattle.generated_run.specs.Summary.{summary_text}
 use Rattle.generated_run.specs.declared.sizes.Sizes.{Sizes}
 use Rattle.merge_laws.proofs.OneStream.{merge_in_order}

@@ -1,2 +1,3 @@
+pub mod ContextLists
 pub mod MergedCounts
 pub mod OneStream

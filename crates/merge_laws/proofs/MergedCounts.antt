@@ -10,8 +10,7 @@ use Rattle.trace_reader.specs.declared.posted.Posted.{Posted}
 use Rattle.text_fields.specs.EventText.{IsAboutSet}
 use Rattle.trace_reader.specs.Input.{IsPostedOf}
 use Rattle.event_history.specs.Merging.{events_of_caller}
-use Rattle.event_replay.specs.Replay.{posted_of}
-use Rattle.thread_replay.specs.Merge.{events_of_stream, streams_of, IsMerge}
+use Rattle.thread_replay.specs.Merge.{posted_of, events_of_stream, streams_of, IsMerge}
 
 -- ---- a list by the numbers of its elements
 -- the sum of a function over the numbers below n

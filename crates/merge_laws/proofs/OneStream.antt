@@ -1,12 +1,11 @@
 -- A merge of events on one stream has just one order: theirs.
-use Rattle.event_replay.specs.Replay.{posted_of}
 use Rattle.std.proofs.Common.{◌≡◌, ℕ, ◌<◌, ◌==◌, true, List, [], ◌∷◌, map, filter, length, get_or, All, refl, sym, ap, ◌∙◌, subst, arith}
 use Rattle.std.proofs.lemmas.List.{get_or-map, length-map}
 use Rattle.std.proofs.lemmas.List.Elements.{All-head, All-tail}
 use Rattle.scheduler_reply.specs.declared.reply.Entry.{Entry}
 use Rattle.history_laws.specs.StepLaws.{caller_and_event}
 use Rattle.trace_reader.specs.declared.posted.Posted.{Posted}
-use Rattle.thread_replay.specs.Merge.{IsMerge}
+use Rattle.thread_replay.specs.Merge.{posted_of, IsMerge}
 
 -- a filter that all elements pass keeps them all
 filter_passed : {X : Type 0} (number : X → ℕ) (stream : ℕ) (xs : List X) → All (λ x. number x ≡ stream) xs → filter (λ x. number x == stream) xs ≡ xs

@@ -2,8 +2,7 @@
 use Rattle.std.specs.Prelude.{◌≡◌, ℕ, ◌<◌, List, length, map, All}
 use Rattle.scheduler_reply.specs.declared.reply.Entry.{Entry}
 use Rattle.trace_reader.specs.declared.posted.Posted.{Posted}
-use Rattle.event_replay.specs.Replay.{posted_of}
-use Rattle.thread_replay.specs.Merge.{IsMerge}
+use Rattle.thread_replay.specs.Merge.{posted_of, IsMerge}
 
 -- a merge of events on the 16 streams has an entry for each event, and no other
 abbrev pub MergeHasEachEvent : Type 0

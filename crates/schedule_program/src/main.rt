@@ -1,4 +1,5 @@
-//! The strong APA scheduler as a program: from the bytes read to the schedule text.
+//! The strong APA scheduler as a program: its words are those of the command line, it reads standard input and writes to
+//! standard output.
 #![tactic(auto)]
 
 #[cfg(test)]
@@ -9,17 +10,14 @@ mod further_tests;
 mod generated_tests;
 #[cfg(test)]
 mod hostile_tests;
-mod run;
 #[cfg(test)]
 mod tests;
 #[cfg(test)]
 mod thread_tests;
-mod words;
 
+use commands::run;
 use processor_seat::OpenGate;
-pub use program_status::Status;
-use program_status::report;
-use run::run;
+use program_status::{Status, report};
 use shift_io::{StdSink, StdSource};
 use std::process::ExitCode;
 use std::rt::Env;

@@ -1,7 +1,7 @@
 //! Whole runs, from the bytes of an input to the bytes of its schedule.
 ghost use Rattle.std.specs.Prelude.{◌<◌};
 
-use crate::run::run;
+use commands::run;
 use processor_seat::{Gate, OpenGate};
 use program_status::{Status, exit_status};
 use shift_io::{MemSink, MemSource, Sink, Source, StdSink, StdSource};

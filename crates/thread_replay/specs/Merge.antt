@@ -6,6 +6,10 @@ use Rattle.scheduler_reply.specs.declared.reply.Entry.{Entry}
 use Rattle.trace_reader.specs.declared.posted.Posted.{Posted}
 use Rattle.event_history.specs.Merging.{events_of_caller}
 
+-- the event that an entry is of, on its stream
+abbrev pub posted_of : Entry → Posted
+posted_of entry = record { stream = entry.caller; event = entry.event }
+
 -- the events of a stream, in their order
 abbrev pub events_of_stream : ℕ → List Posted → List Event
 events_of_stream stream events = map (λ (posted : Posted). posted.event) (filter (λ (posted : Posted). posted.stream == stream) events)

@@ -1,4 +1,4 @@
-use Rattle.event_replay.proofs.Running.{contexts_count}
+use Rattle.merge_laws.proofs.ContextLists.{contexts_count}
 use Rattle.generated_run.proofs.Generating.{is_large_of}
 use Rattle.generated_run.proofs.generate.summary_over.Goals as goal
 

@@ -1,5 +1,5 @@
 use Rattle.order_laws.proofs.LegalNames.{legal_names}
-use Rattle.event_replay.proofs.Running.{contexts_known}
+use Rattle.merge_laws.proofs.ContextLists.{contexts_known}
 use Rattle.task_set.specs.Event.{IsOfVersion}
 use Rattle.trace_reader.specs.declared.posted.Posted.{Posted}
 use Rattle.link_state.specs.State.{start_of}

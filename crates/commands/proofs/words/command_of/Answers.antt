@@ -1,0 +1,17 @@
+use Rattle.std.proofs.Common.{◌≡◌, [], ◌∷◌, map}
+use Rattle.std.specs.Prelude.{string_bytes}
+use Rattle.std.specs.declared.alloc.Global.{Global}
+use Rattle.commands.proofs.CommandBytes.{unsized_words, unwatched_words, two_words, five_words}
+use Rattle.commands.proofs.words.command_of.Goals as goal
+
+pub returns-in_default-sizes_of : goal.returns-in_default-sizes_of
+returns-in_default-sizes_of c =
+    let words : map (string_bytes {Z = Global}) c.args.words.now ≡ string_bytes c.word-item-then-words-lt6.result ∷ string_bytes c.number-item-then-words-lt6.result ∷ string_bytes c.processors-item.result ∷ string_bytes c.tasks-item.result ∷ string_bytes c.events-item.result ∷ [] =
+    five_words c.args.words.now _ _ _ _ _ c.in-len5.len_at_least c.in-len5.len_below c.word-item-then-words-lt6.is c.number-item-then-words-lt6.is c.processors-item.is c.tasks-item.is c.events-item.is in
+    unsized_words _ _ _ _ _ _ words (rw (c.deref-in-len5.ensures, c.deref-in-len5-2.ensures, c.deref-in-len5-3.ensures, c.deref-in-len5-4.ensures) at c.in_default-sizes_of.ensures)
+
+pub returns-in_default-observers_of : goal.returns-in_default-observers_of
+returns-in_default-observers_of c =
+    let words : map (string_bytes {Z = Global}) c.args.words.now ≡ string_bytes c.word-item-then-words-lt3.result ∷ string_bytes c.number-item.result ∷ [] =
+    two_words c.args.words.now _ _ c.in-len2.len_at_least c.in-len2.len_below c.word-item-then-words-lt3.is c.number-item.is in
+    unwatched_words _ _ _ words (rw c.deref.ensures at c.in_default-observers_of.ensures)

@@ -1,0 +1,147 @@
+-- The commands: the words that they are, what they read, what they make of it, and what they refuse, each with one answer.
+use Rattle.std.specs.Prelude.{◌≡◌, ℕ, ◌≤◌, List, [], ◌∷◌, codes, Option}
+use Rattle.text_fields.specs.Number.{IsNumberWithin}
+use Rattle.program_status.specs.Reading.{ReadsAll, IsReported}
+use Rattle.program_status.specs.Refusal.{IsAccepted, IsAnsweredInput, RefusesInput}
+use Rattle.program_status.specs.declared.status.Status.{Status}
+use Rattle.valid_schedule.specs.Valid.{IsValidText}
+use Rattle.schedule_check.specs.Check.{IsCheckOf, RefusesCheck}
+use Rattle.schedule_run.specs.Run.{IsRunOf}
+use Rattle.weak_run.specs.Weak.{IsWeakOf}
+use Rattle.watch_run.specs.Watch.{IsWatchOf}
+use Rattle.nested_run.specs.NestedRun.{IsNestedOf, AcceptsNested, RefusesNested}
+use Rattle.job_run.specs.JobsRun.{IsJobsOf, AcceptsJobs, RefusesJobs}
+use Rattle.generated_run.specs.Generating.{IsMakeOf, IsLargeOf}
+use Rattle.generated_run.specs.Sizes.{AreWithin}
+use Rattle.generated_run.specs.declared.sizes.Sizes.{Sizes}
+use Rattle.commands.specs.declared.words.Command.{Command}
+use Rattle.commands.specs.declared.words.Command.TheVariants.{Run, Check, Weak, Nested, Jobs, Watch, Make, Large}
+
+-- ---- words
+-- a number, and then how many processors, tasks and events there are; leading zeros are no fault
+pub record AreSizes (number processors tasks events : List ℕ) (sizes : Sizes) : Type 0 where
+  pub is_number : IsNumberWithin 0 18446744073709551615 number sizes.number
+  pub are_processors : IsNumberWithin 1 64 processors sizes.processors
+  pub are_tasks : IsNumberWithin 1 1024 tasks sizes.tasks
+  pub are_events : IsNumberWithin 0 20000 events sizes.events
+
+-- a word, and the four numbers
+pub record IsSized (first : List ℕ) (words : List (List ℕ)) (sizes : Sizes) : Type 0 where
+  pub number : List ℕ
+  pub processors : List ℕ
+  pub tasks : List ℕ
+  pub events : List ℕ
+  pub each_word : words ≡ first ∷ number ∷ processors ∷ tasks ∷ events ∷ []
+  pub sized : AreSizes number processors tasks events sizes
+
+-- the word `watch`, and how many observers there are, from 1 to 8; leading zeros are no fault
+pub record IsWatch (words : List (List ℕ)) (observers : ℕ) : Type 0 where
+  pub number : List ℕ
+  pub each_word : words ≡ codes "watch" ∷ number ∷ []
+  pub is_number : IsNumberWithin 1 8 number observers
+
+-- the words mean the command
+abbrev pub IsCommand : List (List ℕ) → Command → Type 0
+IsCommand words Run = words ≡ codes "run" ∷ []
+IsCommand words Check = words ≡ codes "check" ∷ []
+IsCommand words Weak = words ≡ codes "weak" ∷ []
+IsCommand words Nested = words ≡ codes "nested" ∷ []
+IsCommand words Jobs = words ≡ codes "jobs" ∷ []
+IsCommand words (Watch observers) = IsWatch words observers
+IsCommand words (Make sizes) = IsSized (codes "make") words sizes
+IsCommand words (Large sizes) = IsSized (codes "large") words sizes
+
+-- the numbers of a command, where it has some, are within their bounds
+abbrev pub IsBounded : Command → Type 0
+IsBounded Run = Unit {0}
+IsBounded Check = Unit {0}
+IsBounded Weak = Unit {0}
+IsBounded Nested = Unit {0}
+IsBounded Jobs = Unit {0}
+IsBounded (Watch observers) = (1 ≤ observers) × (observers ≤ 8)
+IsBounded (Make sizes) = AreWithin sizes
+IsBounded (Large sizes) = AreWithin sizes
+
+-- ---- what is read
+-- what a command reads of a source; `make` and `large` read nothing
+abbrev pub Reads : Command → Option (List ℕ) → Option (List ℕ) → List ℕ → Type 0
+Reads Run old new read = ReadsAll old new read
+Reads Check old new read = ReadsAll old new read
+Reads Weak old new read = ReadsAll old new read
+Reads Nested old new read = ReadsAll old new read
+Reads Jobs old new read = ReadsAll old new read
+Reads (Watch observers) old new read = ReadsAll old new read
+Reads (Make sizes) old new read = (new ≡ old) × (read ≡ [])
+Reads (Large sizes) old new read = (new ≡ old) × (read ≡ [])
+
+-- what a command is to read of a source with this left
+abbrev pub IsToRead : Command → Option (List ℕ) → List ℕ → Type 0
+IsToRead Run left read = IsReported left read
+IsToRead Check left read = IsReported left read
+IsToRead Weak left read = IsReported left read
+IsToRead Nested left read = IsReported left read
+IsToRead Jobs left read = IsReported left read
+IsToRead (Watch observers) left read = IsReported left read
+IsToRead (Make sizes) left read = read ≡ []
+IsToRead (Large sizes) left read = read ≡ []
+
+-- the command reads nothing
+abbrev pub ReadsNothing : Command → Type 0
+ReadsNothing Run = ⊥
+ReadsNothing Check = ⊥
+ReadsNothing Weak = ⊥
+ReadsNothing Nested = ⊥
+ReadsNothing Jobs = ⊥
+ReadsNothing (Watch observers) = ⊥
+ReadsNothing (Make sizes) = Unit {0}
+ReadsNothing (Large sizes) = Unit {0}
+
+-- ---- what is made
+-- what a command writes for the bytes that it read
+abbrev pub Makes : Command → List ℕ → List ℕ → Type 0
+Makes Run read put = IsRunOf read put
+Makes Check read put = IsCheckOf read put
+Makes Weak read put = IsWeakOf read put
+Makes Nested read put = IsNestedOf read put
+Makes Jobs read put = IsJobsOf read put
+Makes (Watch observers) read put = IsWatchOf observers read put
+Makes (Make sizes) read put = IsMakeOf sizes put
+Makes (Large sizes) read put = IsLargeOf sizes put
+
+-- the bytes that a command accepts: a text of the kind that it reads; or none
+abbrev pub Accepts : Command → List ℕ → Type 0
+Accepts Run bytes = IsAccepted bytes
+Accepts Check bytes = IsValidText bytes
+Accepts Weak bytes = IsAccepted bytes
+Accepts Nested bytes = AcceptsNested bytes
+Accepts Jobs bytes = AcceptsJobs bytes
+Accepts (Watch observers) bytes = IsAccepted bytes
+Accepts (Make sizes) bytes = bytes ≡ []
+Accepts (Large sizes) bytes = bytes ≡ []
+
+-- the bytes that a command refuses, each with its answer
+abbrev pub Refuses : Command → List ℕ → Status → Type 0
+Refuses Run bytes status = IsAnsweredInput (RefusesInput bytes) status
+Refuses Check bytes status = RefusesCheck bytes status
+Refuses Weak bytes status = IsAnsweredInput (RefusesInput bytes) status
+Refuses Nested bytes status = RefusesNested bytes status
+Refuses Jobs bytes status = RefusesJobs bytes status
+Refuses (Watch observers) bytes status = IsAnsweredInput (RefusesInput bytes) status
+Refuses (Make sizes) bytes status = ⊥
+Refuses (Large sizes) bytes status = ⊥
+
+-- the words mean a command, which read what it is to read, and makes this of it
+pub record ReadsAndMakes (words : List (List ℕ)) (old new : Option (List ℕ)) (put : List ℕ) : Type 0 where
+  pub command : Command
+  pub spoken : IsCommand words command
+  pub read : List ℕ
+  pub reads : Reads command old new read
+  pub made : Makes command read put
+
+-- the words mean a command, which read what it is to read, and refuses it with this answer
+pub record ReadsRefused (words : List (List ℕ)) (old new : Option (List ℕ)) (status : Status) : Type 0 where
+  pub command : Command
+  pub spoken : IsCommand words command
+  pub read : List ℕ
+  pub reads : Reads command old new read
+  pub refused : Refuses command read status

@@ -1,0 +1,173 @@
+//! The top call: from the words and the bytes read to the bytes written.
+ghost use Rattle.std.specs.Prelude.{◌≡◌, ◌≢◌, ℕ, ◌+◌, ◌↔◌, ◌≤◌, ◌⊎◌, List, length, map, IfOk, IsErrOf, IsOk, string_bytes};
+ghost use Rattle.std.specs.Io.KnownBytes.{Appends};
+ghost use Rattle.shift_io.specs.declared.whole.ReadAllFault.{ReadAllFault};
+ghost use Rattle.shift_io.specs.declared.whole.ReadAllFault.TheVariants as fault;
+ghost use Rattle.shift_io.specs.Causes.{Rose};
+ghost use Rattle.shift_io.specs.Stream.{TakesAtMost, TakesExactly, AppendsPrefix};
+ghost use Rattle.program_status.specs.declared.status.Status.{Status};
+ghost use Rattle.program_status.specs.Answers.{Answers};
+ghost use Rattle.program_status.specs.Reading.{byte_limit};
+ghost use Rattle.program_status.specs.Status.{BeforePut};
+ghost use Rattle.commands.specs.declared.words.Command.{Command};
+ghost use Rattle.commands.specs.Command.{IsCommand, IsBounded, Reads, ReadsNothing, IsToRead, Makes, Accepts, Refuses, ReadsAndMakes, ReadsRefused};
+
+use crate::words::{Command, command_of};
+use generated_run::{made_text, summary_of};
+use job_run::jobs_text;
+use nested_run::nested_text;
+use processor_seat::Gate;
+use program_status::{MAX_BYTES, Status};
+use schedule_check::checked_text;
+use schedule_run::replayed_text;
+use shift_io::{ReadAllFault, Sink, Source, put_all, read_all};
+use std::alloc::Global;
+use std::sync::Wait;
+use std::thread::Threads;
+use watch_run::watched_text;
+use weak_run::weak_text;
+
+/// Does what the words say. `run` reads the source to its end as an input text, replays its events on threads, a worker
+/// for each processor and a thread for each stream that has events, and writes the schedule text into the sink. The
+/// gate is called before and after each post, and before the first try of each take. `check` reads the source as a
+/// schedule text, whoever made it, and where that is a valid schedule, writes how many entries it has. `weak` reads an
+/// input text, replays its events by the weak scheduler beside the strong one, and writes what differs. `nested` reads
+/// an input text of version 1 whose masks nest, and writes what counts decide. `jobs` reads a text of periodic tasks,
+/// and writes when each of their jobs ends. `watch` works as `run` does, but for the posts, which are in the order of
+/// the lines, and beside it so many observers read which processors are occupied, each on a thread of its own. It writes
+/// the schedule text, and then what they read; the gate is also called before each of their reads. `make` writes the text
+/// of the input of its four numbers, and `large` replays that input as `run` does and writes a summary; neither reads the
+/// source.
+pub fn run<R: Threads + Wait + Sync, S: Source, K: Sink, G: Gate + Sync>(
+    rt: &R,
+    alloc: Global,
+    words: &[String],
+    source: &mut S,
+    sink: &mut K,
+    gate: &G,
+) -> Status
+    // The text that the command makes of the bytes that it read, whole.
+    ensures done { result ≡ Status.Done → (text : List ℕ)
+        × ReadsAndMakes (map string_bytes words.now) (S.left source.old) (S.left source.new) text
+        × Appends (K.bytes sink.old) (K.bytes sink.new) text
+        × (K.calls sink.new ≤ K.calls sink.old + length text) }
+
+    // The words come first, then the source, then what was read, then the sink.
+    ensures usage { (result ≡ Status.Usage)
+        ↔ ((command : Command) → IsCommand (map string_bytes words.now) command → ⊥) }
+    ensures unread { result ≡ Status.Usage → source.new ≡ source.old }
+    ensures nothing_to_read { (command : Command) → IsCommand (map string_bytes words.now) command
+        → ReadsNothing command → source.new ≡ source.old }
+    ensures read_fault { result ≡ Status.ReadFault → Rose (S.faults source.old) (S.faults source.new) }
+    ensures too_long { result ≡ Status.TooLong →
+        TakesExactly (S.left source.old) (S.left source.new) (byte_limit + 1) }
+    ensures within { result ≢ Status.TooLong →
+        TakesAtMost (S.left source.old) (S.left source.new) byte_limit }
+    ensures input { (line kind : ℕ) → result ≡ Status.Input line kind
+        → ReadsRefused (map string_bytes words.now) (S.left source.old) (S.left source.new) result }
+    ensures version { result ≡ Status.Version
+        → ReadsRefused (map string_bytes words.now) (S.left source.old) (S.left source.new) result }
+    ensures crossing { (one other : ℕ) → result ≡ Status.Crossing one other
+        → ReadsRefused (map string_bytes words.now) (S.left source.old) (S.left source.new) result }
+    ensures invalid { (line defect : ℕ) → result ≡ Status.Invalid line defect
+        → ReadsRefused (map string_bytes words.now) (S.left source.old) (S.left source.new) result }
+    ensures write_fault { result ≡ Status.WriteFault → Rose (K.faults sink.old) (K.faults sink.new)
+        × ((text : List ℕ)
+        × ReadsAndMakes (map string_bytes words.now) (S.left source.old) (S.left source.new) text
+        × AppendsPrefix (K.bytes sink.old) (K.bytes sink.new) text
+        × (K.calls sink.new ≤ K.calls sink.old + length text)) }
+
+    // At most two more takes than the most bytes that are read.
+    ensures takes { S.calls source.new ≤ S.calls source.old + byte_limit + 2 }
+
+    // Where nothing fails, the bytes alone decide, unless memory is out.
+    ensures complete { (command : Command) (read : List ℕ)
+        → IsCommand (map string_bytes words.now) command
+        → IsToRead command (S.left source.old) read → Accepts command read
+        → (Rose (S.faults source.old) (S.faults source.new) → ⊥)
+        → (Rose (K.faults sink.old) (K.faults sink.new) → ⊥)
+        → (result ≡ Status.Done) ⊎ (result ≡ Status.OutOfMemory) }
+    ensures refuses { (command : Command) (read : List ℕ) (expected : Status)
+        → IsCommand (map string_bytes words.now) command
+        → IsToRead command (S.left source.old) read → Refuses command read expected
+        → (Rose (S.faults source.old) (S.faults source.new) → ⊥)
+        → (result ≡ expected) ⊎ (result ≡ Status.OutOfMemory) }
+    ensures unput { BeforePut result (sink.new ≡ sink.old) }
+{
+    let Some(command) = command_of(words) else {
+        return Status::Usage;
+    };
+    let bytes = match bytes_for(alloc, command, source) {
+        Ok(bytes) => bytes,
+        Err(ReadAllFault::ReadFault) => return Status::ReadFault,
+        Err(ReadAllFault::TooLong) => return Status::TooLong,
+        Err(ReadAllFault::OutOfMemory) => return Status::OutOfMemory,
+    };
+    let text = match text_made(rt, alloc, command, &bytes, gate) {
+        Ok(text) => text,
+        Err(refusal) => return refusal,
+    };
+    match put_all(sink, &text) {
+        Ok(()) => Status::Done,
+        Err(_) => Status::WriteFault,
+    }
+}
+
+/// The bytes that a command reads: all that the source has left, or none, and then the source is not touched.
+fn bytes_for<S: Source>(
+    alloc: Global,
+    command: Command,
+    source: &mut S,
+) -> Result<Vec<u8>, ReadAllFault>
+    ensures reads { IfOk result (λ bytes.
+        Reads command (S.left source.old) (S.left source.new) bytes.items) }
+    ensures untouched { ReadsNothing command → source.new ≡ source.old }
+    ensures nothing { ReadsNothing command → IsOk result }
+    ensures read_fault { IsErrOf result fault.ReadFault →
+        Rose (S.faults source.old) (S.faults source.new) }
+    ensures too_long { IsErrOf result fault.TooLong →
+        TakesExactly (S.left source.old) (S.left source.new) (byte_limit + 1) }
+    ensures within { IsErrOf result fault.TooLong
+        ⊎ TakesAtMost (S.left source.old) (S.left source.new) byte_limit }
+    ensures takes { S.calls source.new ≤ S.calls source.old + byte_limit + 2 }
+{
+    match command {
+        Command::Make(_) | Command::Large(_) => Ok(Vec::new(alloc)),
+        Command::Run
+        | Command::Check
+        | Command::Weak
+        | Command::Nested
+        | Command::Jobs
+        | Command::Watch(_) => read_all(alloc, source, MAX_BYTES),
+    }
+}
+
+/// The text that a command makes of these bytes, or the status that says why there is none.
+fn text_made<R: Threads + Wait + Sync, G: Gate + Sync>(
+    rt: &R,
+    alloc: Global,
+    command: Command,
+    bytes: &[u8],
+    gate: &G,
+) -> Result<Vec<u8>, Status>
+    requires { IsBounded command }
+    ensures { Answers (Makes command bytes.now) (Accepts command bytes.now)
+        (Refuses command bytes.now) result }
+{
+    match command {
+        Command::Run => replayed_text(rt, alloc, bytes, gate),
+        Command::Check => checked_text(alloc, bytes),
+        Command::Weak => weak_text(alloc, bytes),
+        Command::Nested => nested_text(alloc, bytes),
+        Command::Jobs => jobs_text(alloc, bytes),
+        Command::Watch(observers) => watched_text(rt, alloc, bytes, observers, gate),
+        Command::Make(sizes) => {
+            let text = made_text(alloc, sizes)?;
+            Ok(text)
+        }
+        Command::Large(sizes) => {
+            let text = summary_of(rt, alloc, sizes, gate)?;
+            Ok(text)
+        }
+    }
+}

@@ -1,0 +1,10 @@
+//! The commands: from the words of a call and the bytes of a source to the bytes of a sink.
+//!
+//! [`run`] is the top call. [`command_of`] reads the words that it is given.
+#![tactic(auto)]
+
+mod call;
+mod words;
+
+pub use call::run;
+pub use words::{Command, command_of};

@@ -1,0 +1,102 @@
+//! The words of a call, and the command that they mean.
+ghost use Rattle.std.specs.Prelude.{◌≡◌, ℕ, [], ◌∷◌, MatchOption, map, string_bytes, codes};
+ghost use Rattle.commands.specs.declared.words.Command.{Command};
+ghost use Rattle.generated_run.specs.declared.sizes.Sizes.{Sizes};
+ghost use Rattle.commands.specs.Command.{IsCommand, AreSizes};
+ghost use Rattle.text_fields.specs.Number.{IsNumberWithin};
+
+use generated_run::Sizes;
+use task_set::MAX_TASKS;
+use text_fields::limits::{MAX_EVENTS, MAX_PROCESSORS};
+use text_fields::read_number;
+use watch_run::MAX_OBSERVERS;
+
+/// What the program can do.
+#[derive(Clone, Copy, Debug, PartialEq, Eq)]
+pub enum Command {
+    /// The source is an input text; its events are replayed, and the schedule text is written.
+    Run,
+    /// The source is a schedule text; it is checked, and the number of its entries is written.
+    Check,
+    /// The source is an input text; its events are replayed by the weak scheduler and by the strong one, and what differs
+    /// is written.
+    Weak,
+    /// The source is an input text of version 1 whose masks nest; its events are decided by counts, and the replies are
+    /// written.
+    Nested,
+    /// The source is a text of periodic tasks; their jobs are released and run, and when each job ends is written.
+    Jobs,
+    /// The source is an input text; its events are replayed while so many observers read, and the schedule text is
+    /// written, and what they read.
+    Watch(u32),
+    /// The text of the input of these numbers is written. Nothing is read.
+    Make(Sizes),
+    /// The events of the input of these numbers are replayed, and a summary of the schedule is written. Nothing is
+    /// read.
+    Large(Sizes),
+}
+
+/// The command that the words mean, if they mean one.
+pub fn command_of(words: &[String]) -> Option<Command>
+    ensures { MatchOption result ((command : Command) → IsCommand (map string_bytes words.now) command → ⊥)
+        (IsCommand (map string_bytes words.now)) }
+{
+    match words {
+        [word] => match word.as_str() {
+            "run" => Some(Command::Run),
+            "check" => Some(Command::Check),
+            "weak" => Some(Command::Weak),
+            "nested" => Some(Command::Nested),
+            "jobs" => Some(Command::Jobs),
+            _ => None,
+        },
+        [word, number] => {
+            let Some(observers) = observers_of(number) else {
+                return None;
+            };
+            match word.as_str() {
+                "watch" => Some(Command::Watch(observers)),
+                _ => None,
+            }
+        }
+        [word, number, processors, tasks, events] => {
+            let Some(sizes) = sizes_of(number, processors, tasks, events) else {
+                return None;
+            };
+            match word.as_str() {
+                "make" => Some(Command::Make(sizes)),
+                "large" => Some(Command::Large(sizes)),
+                _ => None,
+            }
+        }
+        _ => None,
+    }
+}
+
+/// The number of observers that this word is, if it is a number within its bounds.
+fn observers_of(number: &str) -> Option<u32>
+    ensures { MatchOption result
+        ((observers : ℕ) → IsNumberWithin 1 8 number.now observers → ⊥)
+        (IsNumberWithin 1 8 number.now) }
+{
+    let observers = read_number(number.as_bytes(), 1, MAX_OBSERVERS as u64)?;
+    Some(observers as u32)
+}
+
+/// The numbers that these words are, if each is a number within its bounds.
+fn sizes_of(number: &str, processors: &str, tasks: &str, events: &str) -> Option<Sizes>
+    ensures { MatchOption result
+        ((sizes : Sizes) → AreSizes number.now processors.now tasks.now events.now sizes → ⊥)
+        (AreSizes number.now processors.now tasks.now events.now) }
+{
+    let number = read_number(number.as_bytes(), 0, u64::MAX)?;
+    let processors = read_number(processors.as_bytes(), 1, MAX_PROCESSORS)?;
+    let tasks = read_number(tasks.as_bytes(), 1, MAX_TASKS as u64)?;
+    let events = read_number(events.as_bytes(), 0, MAX_EVENTS as u64)?;
+    Some(Sizes {
+        number,
+        processors: processors as u8,
+        tasks: tasks as u32,
+        events: events as u32,
+    })
+}

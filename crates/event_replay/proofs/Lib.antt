@@ -1,3 +1,0 @@
-mod Entries
-pub mod Known
-pub mod Running
