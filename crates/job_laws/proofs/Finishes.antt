@@ -12,7 +12,7 @@ use Rattle.job_text.specs.JobInput.{JobInputData, IsJobInput, job_at, no_job}
 use Rattle.job_text.specs.declared.input.JobTask.{JobTask}
 use Rattle.job_text.proofs.Released.{at_most, release_more}
 use Rattle.job_laws.specs.Driven.{RunsJobs}
-use Rattle.job_laws.specs.Laws.{FinishFollowsRelease}
+use Rattle.job_laws.specs.Laws.{FinishFollowsRelease, FinishedJobsRanTheirCosts, NextJobRanItsCost}
 use Rattle.job_laws.specs.Moments.{state_at, service_of, IsFinish, IsUnfinished}
 use Rattle.job_laws.proofs.Moments.{no_service}
 
@@ -85,6 +85,26 @@ module _ (input : JobInputData) (history : List Entry) (t : ℕ) (runs : RunsJob
             let same = ap (service_of start history t) since in
             omega arith)
       ]
+
+-- a moment before its finish the task had not yet got all that the jobs ask for, and it gets one unit at most in a moment
+pub finished_jobs_ran_their_costs : FinishedJobsRanTheirCosts
+finished_jobs_ran_their_costs start history t cost horizon k zero found =
+    let got = found.got in
+    let none = no_service start history t in
+    omega arith
+finished_jobs_ran_their_costs start history t cost horizon k (suc y) found =
+    let got = found.got in
+    let before = found.least y (omega arith) in
+    let grown = service_grows start history t y 1 in
+    let next : y + 1 ≡ suc y = omega arith in
+    let same = ap (service_of start history t) next in
+    omega arith
+
+pub next_job_ran_its_cost : NextJobRanItsCost
+next_job_ran_its_cost start history t cost horizon k x y found next =
+    let first = finished_jobs_ran_their_costs start history t cost horizon k x found in
+    let second = finished_jobs_ran_their_costs start history t cost horizon (k + 1) y next in
+    omega arith
 
 pub finish_follows_release : FinishFollowsRelease
 finish_follows_release input history t k x valid runs number found =

@@ -1,7 +1,7 @@
 -- Laws of the histories that run the jobs of an input. They rest on nothing but the definitions that they name.
-use Rattle.std.specs.Prelude.{◌≡◌, ℕ, ◌+◌, ◌<◌, ◌≤◌, List, length}
+use Rattle.std.specs.Prelude.{◌≡◌, ℕ, ◌+◌, ◌*◌, ◌<◌, ◌≤◌, List, length}
 use Rattle.scheduler_reply.specs.declared.reply.Entry.{Entry}
-use Rattle.link_state.specs.State.{start_of}
+use Rattle.link_state.specs.State.{State, start_of}
 use Rattle.job_text.specs.Jobs.{release_of}
 use Rattle.job_text.specs.JobInput.{JobInputData, IsJobInput, job_at}
 use Rattle.job_laws.specs.Driven.{RunsJobs}
@@ -15,6 +15,19 @@ FinishFollowsRelease =
     → IsJobInput input → RunsJobs input history → t < length input.jobs
     → IsFinish (start_of input.set) history t (job_at input.jobs t).cost input.horizon k x
     → release_of (job_at input.jobs t) k + (job_at input.jobs t).cost ≤ x
+
+-- at the finish of a job its task got exactly the units that this job and those before it ask for
+abbrev pub FinishedJobsRanTheirCosts : Type 0
+FinishedJobsRanTheirCosts =
+    (start : State) (history : List Entry) (t cost horizon k x : ℕ)
+    → IsFinish start history t cost horizon k x → service_of start history t x ≡ (k + 1) * cost
+
+-- from there to the finish of the next job it got exactly the units of that one
+abbrev pub NextJobRanItsCost : Type 0
+NextJobRanItsCost =
+    (start : State) (history : List Entry) (t cost horizon k x y : ℕ)
+    → IsFinish start history t cost horizon k x → IsFinish start history t cost horizon (k + 1) y
+    → service_of start history t y ≡ service_of start history t x + cost
 
 -- histories that run the jobs of an input give each task the same service before each moment up to the horizon
 abbrev pub InputHasOneService : Type 0

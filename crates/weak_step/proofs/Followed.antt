@@ -1,6 +1,6 @@
 -- But for the links, what a step leaves is what the event says, of the weak scheduler and of the strong one. So both agree
 -- for ever on who is ready, on the masks, and on which processors are on line.
-use Rattle.std.proofs.Common.{◌≡◌, ℕ, Bool, true, false, not, ◌&&◌, ◌||◌, List, [], ◌∷◌, get_or, set, Option, Some, None, refl, sym, ap, ◌∙◌, inl, inr, arith, nat_eq, eq-eqb, ne_eqb}
+use Rattle.std.proofs.Common.{◌≡◌, ℕ, Bool, true, false, not, ◌&&◌, ◌||◌, List, [], ◌∷◌, get_or, set, Option, Some, None, refl, sym, ap, ◌∙◌, inl, inr, arith, nat_eq, ne_eqb}
 use Rattle.std.proofs.lemmas.Bool.{cases_eq}
 use Rattle.std.proofs.lemmas.List.{set-set, set-get_or}
 use Rattle.affinity_mask.specs.ProcSet.{has, with_member, without_member}
@@ -13,7 +13,7 @@ use Rattle.scheduler_reply.specs.declared.reply.Gone.{Gone}
 use Rattle.scheduler_reply.specs.declared.reply.Reply.{Reply}
 use Rattle.link_state.specs.State.{State, IsState, is_ready, state_with_ready, state_with_absent, state_with_mask, state_with_online, state_with_offline, state_after_leaving}
 use Rattle.link_state.specs.Step.{Comes, Fills, LeaveStep, SchedulerStep}
-use Rattle.link_state.specs.History.{state_after_came, state_after_gone, state_after_entering}
+use Rattle.link_state.specs.History.{state_after_came, state_after_entering}
 use Rattle.link_state.proofs.Readiness.{ready_already}
 use Rattle.link_state.proofs.Steps.{comes_effect, fills_effect}
 use Rattle.weak_step.specs.Step.{WeakStep, WeaklyComes, WeaklyFills, WeaklyLeaves, IsPlacedInTurns, without_links, Follows}
@@ -63,11 +63,11 @@ fills_known : (s : State) (p : ℕ) (new : State) → WeaklyFills s p new → wi
 fills_known s p new (inl nobody) = ap without_links nobody.1
 fills_known s p new (inr (w, most_urgent, goes)) = ap without_links goes
 
-leaves_known : (s : State) (t : ℕ) (new : State) → WeaklyLeaves s t new → without_links new ≡ without_links (state_with_absent s t)
+pub leaves_known : (s : State) (t : ℕ) (new : State) → WeaklyLeaves s t new → without_links new ≡ without_links (state_with_absent s t)
 leaves_known s t new (inl waited) = ap without_links waited.1
 leaves_known s t new (inr linked) = fills_known (state_after_leaving s t) linked.place new linked.fills
 
-leaves_ready : (s : State) → IsState s → (t : ℕ) (new : State) → WeaklyLeaves s t new → is_ready s t ≡ true
+pub leaves_ready : (s : State) → IsState s → (t : ℕ) (new : State) → WeaklyLeaves s t new → is_ready s t ≡ true
 leaves_ready s ok t new (inl waited) = waited.0.ready
 leaves_ready s ok t new (inr linked) = ok.linked_ready linked.place t linked.on
 

@@ -1,15 +1,15 @@
 -- A task leaves, its mask changes while it is absent, or a processor goes off line or comes on line: what stays stable.
-use Rattle.std.proofs.Common.{◌≡◌, ◌≢◌, ℕ, ◌<◌, true, false, not, ◌&&◌, ◌||◌, Bool, Option, Some, None, refl, sym, ap, ◌∙◌, inl, inr, IsTrue, arith, get_or-set_same, get_or-set_other, nat_eq, ne_eqb, get_or, set}
+use Rattle.std.proofs.Common.{◌≡◌, ◌≢◌, ℕ, ◌<◌, true, false, not, ◌||◌, Bool, Option, Some, None, refl, sym, ap, ◌∙◌, inl, inr, IsTrue, arith, get_or-set_same, get_or-set_other, nat_eq, ne_eqb, get_or, set}
 use Rattle.std.proofs.lemmas.Bool.{cases_eq, true≢false, and_parts, and_from}
 use Rattle.affinity_mask.specs.ProcSet.{has}
 use Rattle.affinity_mask.proofs.Sets.{has-intersection}
-use Rattle.link_state.specs.State.{State, IsState, IsWaiting, task_on, task_count, is_ready, is_linked, mask_of, effective_mask, state_with_ready, state_with_absent, state_with_mask, state_with_online, state_with_offline, state_after_leaving}
+use Rattle.link_state.specs.State.{State, IsState, IsWaiting, task_on, task_count, is_ready, mask_of, effective_mask, state_with_ready, state_with_absent, state_with_mask, state_with_online, state_with_offline, state_after_leaving}
 use Rattle.link_state.proofs.Changes.{effective_mask-offline, effective_mask-online, effective_mask-other}
 use Rattle.link_state.proofs.Masks.{effective_mask_online}
 use Rattle.link_state.proofs.Leaving.{task_on-stays}
-use Rattle.link_state.proofs.Linked.{is_linked-from_on, task_on-linked, place_in, not_linked-from_on, not_on}
+use Rattle.link_state.proofs.Linked.{not_linked-from_on, not_on}
 use Rattle.link_state.proofs.Readiness.{IsWaiting-state_with_ready}
-use Rattle.weak_step.specs.Stable.{IsWeaklyStable, IsStableBeside, IsToBePlaced, IsKeptOut}
+use Rattle.weak_step.specs.Stable.{IsWeaklyStable, IsStableBeside, IsToBePlaced}
 
 -- who waits is another task than one that is absent
 waiting_is_other : (s : State) (t w : ℕ) → is_ready s t ≡ false → IsWaiting s w → w ≢ t

@@ -1,5 +1,7 @@
 pub mod Alike
+mod Examples
 pub mod Followed
 mod Leaving
 mod Looking
 mod Placing
+pub mod Unique

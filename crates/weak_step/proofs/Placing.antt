@@ -1,10 +1,10 @@
 -- A waiting task goes on a processor of its effective mask: who is where then, who waits then, and what stays stable.
-use Rattle.std.proofs.Common.{◌≡◌, ◌≢◌, ℕ, ◌<◌, ◌≤◌, List, [], ◌∷◌, Option, Some, None, refl, sym, ap, ◌∙◌, inl, inr, ◌⊎◌, IsTrue, arith, le_antisymm}
-use Rattle.std.proofs.lemmas.Bool.{cases_eq, cases_lt, true≢false}
+use Rattle.std.proofs.Common.{◌≡◌, ◌≢◌, ℕ, ◌<◌, [], ◌∷◌, Some, None, refl, sym, ap, ◌∙◌, inl, inr, ◌⊎◌, IsTrue, arith}
+use Rattle.std.proofs.lemmas.Bool.{cases_eq, cases_lt}
 use Rattle.std.proofs.lemmas.Option.{same_Some}
 use Rattle.std.proofs.lemmas.List.FromFn.{get_or-map-range_with_len}
 use Rattle.affinity_mask.specs.ProcSet.{has}
-use Rattle.link_state.specs.State.{State, IsState, IsWaiting, IsMoreUrgent, task_on, task_count, priority_of, effective_mask}
+use Rattle.link_state.specs.State.{State, IsState, IsWaiting, IsMoreUrgent, task_on, priority_of, effective_mask}
 use Rattle.link_state.specs.Chain.{IsChainOf, IsSimple, occupant_after_shift, state_after_shift}
 use Rattle.link_state.proofs.Linked.{not_linked-from_on, not_on, linked_number, occupied_number}
 use Rattle.link_state.proofs.Masks.{effective_mask_below}

@@ -1,5 +1,5 @@
 use Rattle.std.proofs.Common.{ℕ, ◌-◌, ◌^◌, List}
-use Rattle.link_state.specs.State.{State, IsState, priority_of}
+use Rattle.link_state.specs.State.{State, priority_of}
 use Rattle.weak_step.specs.Stable.{IsToBePlaced}
 use Rattle.weak_step.specs.Step.{IsPlacedInTurns}
 use Rattle.weak_step.proofs.arrival.place.Given as goal
