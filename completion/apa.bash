@@ -1,0 +1,19 @@
+# Completion of apa for bash: its words, and then the files that each of them reads.
+_apa() {
+    local word=${COMP_WORDS[COMP_CWORD]} command=${COMP_WORDS[1]-} files=''
+    COMPREPLY=()
+    if [ "$COMP_CWORD" -eq 1 ]; then
+        mapfile -t COMPREPLY < <(compgen -W 'run check weak nested jobs watch make large prove install version help' -- "$word")
+        return
+    fi
+    case $COMP_CWORD:$command in
+    2:run | 2:weak | 2:nested | 3:watch) files='apa' ;;
+    2:check) files='schedule' ;;
+    2:jobs) files='jobs' ;;
+    2:watch) mapfile -t COMPREPLY < <(compgen -W '1 2 3 4 5 6 7 8' -- "$word") ;;
+    2:install) mapfile -t COMPREPLY < <(compgen -d -- "$word") ;;
+    esac
+    [ -z "$files" ] || mapfile -t COMPREPLY < <(compgen -f -X "!*.$files" -- "$word" && true; compgen -d -- "$word")
+    [ "$COMP_CWORD" -ne 2 ] || [[ $word != -* ]] || COMPREPLY=(--help)
+}
+complete -o filenames -F _apa apa ./apa
