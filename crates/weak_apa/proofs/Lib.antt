@@ -1,4 +1,5 @@
 mod ComparedSoFar
 mod Counted
 mod NoBetter
+pub mod OneText
 mod Written

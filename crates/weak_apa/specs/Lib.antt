@@ -1,4 +1,5 @@
 pub mod Apart
 pub mod Compared
+pub mod Laws
 mod Start
 pub mod WeakText

@@ -1,13 +1,14 @@
 //! The weak scheduler, beside the strong one.
 //!
-//! [`Weak`], of weak_step, schedules as stock schedulers with affinity masks do. [`compare`] gives both schedulers the events
-//! of an input, and writes after each event what the two have linked.
+//! [`Weak`], of weak_step, moves no running task aside. [`compare`] gives both schedulers the events of an input, and writes
+//! after each event what the two have linked.
 #![tactic(auto)]
 
 mod comparing;
 #[cfg(test)]
 mod comparing_tests;
 pub mod comparison;
+pub mod laws;
 #[cfg(test)]
 mod plain;
 #[cfg(test)]

@@ -4,6 +4,7 @@
 //! the two have linked.
 #![tactic(auto)]
 
+pub mod laws;
 #[cfg(test)]
 mod tests;
 mod text;
