@@ -1,0 +1,184 @@
+-- The definitions on one example, worked by hand. Two processors; a may run on both, b on 1 alone, and c, the least urgent, on both.
+-- They arrive as c, a, b. So c takes processor 0 and a processor 1, and then a moves aside for b, and c waits.
+use Rattle.std.proofs.Common.{◌≡◌, ℕ, zero, suc, ◌<◌, ◌≤◌, ◌==◌, ◌||◌, Bool, true, false, List, [], ◌∷◌, map, Some, None, refl, sym, ap, ◌∙◌, arith}
+use Rattle.std.proofs.lemmas.Bool.{ltb-true}
+use Rattle.std.proofs.lemmas.Option.{same_Some}
+use Rattle.affinity_mask.specs.ProcSet.{has, all_below, intersection, passing_below}
+use Rattle.affinity_mask.proofs.Sets.{has-all_below}
+use Rattle.task_set.specs.TaskSet.{SetData, TaskData}
+use Rattle.task_set.specs.declared.event.Event.{Event}
+use Rattle.task_set.specs.declared.event.Event.TheVariants.{Arrive, Tick}
+use Rattle.task_set.specs.declared.order.Order.{Order}
+use Rattle.task_set.specs.declared.order.Order.TheVariants.{Release, Take, Run, Stop}
+use Rattle.scheduler_reply.specs.declared.reply.Reply.{Reply}
+use Rattle.scheduler_reply.specs.declared.reply.Reply.TheVariants.{Placed, Displaced, Ticked}
+use Rattle.scheduler_reply.specs.declared.reply.Entry.{Entry}
+use Rattle.link_state.specs.State.{State, IsWaiting, priority_of, start_of}
+use Rattle.link_state.specs.Chain.{Reaches, IsReach}
+use Rattle.link_state.specs.History.{linked_after, state_at}
+use Rattle.link_state.specs.Dispatch.{closed_orders_of}
+use Rattle.link_state.proofs.Paths.{Reaches-online}
+use Rattle.job_text.specs.JobInput.{JobInputData}
+use Rattle.job_text.specs.declared.input.JobTask.{JobTask}
+use Rattle.scheduling_laws.specs.Faces.{IsCertifiedByReach}
+use Rattle.scheduling_laws.specs.Going.{times_taken, times_released, CanBeObeyed}
+use Rattle.scheduling_laws.specs.InReach.{IsWorkConserving, HasNoInversion}
+use Rattle.scheduling_laws.specs.Isolation.{IsUrgent, IsSameTask, AgreeUpTo}
+use Rattle.scheduling_laws.specs.OneEnd.{is_of_task, events_that, events_by}
+use Rattle.scheduling_laws.specs.ShiftCounts.{shifts_of}
+use Rattle.scheduling_laws.specs.Sustained.{AsksNoMore, AsksNoMoreUpTo}
+use Rattle.scheduling_laws.specs.Urgency.{urgent_of}
+use Rattle.scheduling_laws.specs.UrgentWork.{urgent_work}
+
+-- a mask is written as the number whose ones are its processors; names play no part
+abbrev task : ℕ → ℕ → TaskData
+task priority mask = record { name = []; priority = priority; mask = mask }
+
+abbrev three_tasks : SetData
+three_tasks = record { processors = 2; tasks = task 1 3 ∷ task 2 2 ∷ task 3 3 ∷ [] }
+
+abbrev entry : Event → Reply → Entry
+entry event reply = record { caller = 0; event = event; reply = reply }
+
+abbrev moved_aside : List Entry
+moved_aside =
+    entry (Arrive 2) (Placed (0 ∷ []))
+    ∷ entry (Arrive 0) (Placed (1 ∷ []))
+    ∷ entry (Arrive 1) (Displaced (1 ∷ 0 ∷ []) 2 3)
+    ∷ entry (Tick 5) Ticked
+    ∷ []
+
+-- ---- one running task is shifted, at the third entry
+shifts : map (λ (e : Entry). shifts_of e.reply) moved_aside ≡ 0 ∷ 0 ∷ 1 ∷ 0 ∷ []
+shifts = refl
+
+-- ---- who is urgent up to priority 2, of all tasks
+urgent : map (urgent_of (start_of three_tasks) (λ t. true) 2) (0 ∷ 1 ∷ 2 ∷ []) ≡ true ∷ true ∷ false ∷ []
+urgent = refl
+
+-- ---- the tick of 5 units is work of a and b; of a and c, had a stayed where it was
+abbrev a_and_c : ℕ → ℕ → Bool
+a_and_c n t = (t == 0) || (t == 2)
+
+work_done : urgent_work (start_of three_tasks) moved_aside (linked_after three_tasks moved_aside) 2 ≡ 10
+unfolding passing_below
+work_done = refl
+
+other_work : urgent_work (start_of three_tasks) moved_aside a_and_c 2 ≡ 5
+unfolding passing_below
+other_work = refl
+
+-- ---- the events of a, and those of the only caller
+events_of_a : events_that (is_of_task 0) moved_aside ≡ Arrive 0 ∷ []
+events_of_a = refl
+
+events_of_caller : events_by 0 moved_aside ≡ Arrive 2 ∷ Arrive 0 ∷ Arrive 1 ∷ Tick 5 ∷ []
+events_of_caller = refl
+
+-- ---- obeying: processor 0 takes c and releases it, and then takes a, once processor 1 has released it
+abbrev orders : ℕ → List Order
+orders p = closed_orders_of (start_of three_tasks) moved_aside p
+
+orders_are : map orders (0 ∷ 1 ∷ [])
+    ≡ (Take 2 0 ∷ Release 2 ∷ Take 0 1 ∷ Run 5 ∷ Release 0 ∷ Stop ∷ []) ∷ (Take 0 0 ∷ Release 0 ∷ Take 1 0 ∷ Run 5 ∷ Release 1 ∷ Stop ∷ []) ∷ []
+orders_are = refl
+
+-- the latest step first
+abbrev one_taken : List ℕ
+one_taken = 1 ∷ 0 ∷ 0 ∷ []
+
+taken_once : times_taken 2 orders one_taken 0 ≡ 1
+taken_once = refl
+
+not_released : times_released 2 orders one_taken 0 ≡ 0
+not_released = refl
+
+too_early : CanBeObeyed (times_taken 2 orders one_taken) (times_released 2 orders one_taken) (Take 0 1) → ⊥
+too_early can = let released : times_released 2 orders one_taken 0 ≡ 1 = can.1 in absurd (let e : 0 ≡ 1 = sym not_released ∙ released in omega arith)
+
+in_time : CanBeObeyed (times_taken 2 orders (1 ∷ one_taken)) (times_released 2 orders (1 ∷ one_taken)) (Take 0 1)
+in_time = (refl, refl)
+
+-- ---- where a does not move aside, b waits, and reaches processor 0 by way of a, where c runs, which is less urgent
+abbrev stayed : State
+stayed = record (state_at three_tasks moved_aside 3) { on = Some 2 ∷ Some 0 ∷ [] }
+
+b_waits : IsWaiting stayed 1
+b_waits = record { ready = refl; not_linked = refl }
+
+b_reaches_0 : Reaches stayed 1 0
+unfolding has intersection all_below
+b_reaches_0 = (1 ∷ 0 ∷ [], (refl, ((0, refl, refl), refl)))
+
+b_reaches_1 : Reaches stayed 1 1
+unfolding has intersection all_below
+b_reaches_1 = (1 ∷ [], (refl, refl))
+
+priority_inverted : HasNoInversion stayed → ⊥
+priority_inverted none = let more_urgent = none 1 0 2 b_waits b_reaches_0 refl in omega arith
+
+reach_of_b : IsReach stayed 1 3
+unfolding all_below
+reach_of_b q = (
+  (λ h. reached q (ltb-true q 2 (sym (has-all_below 2 q) ∙ h))),
+  Reaches-online stayed 1 q,
+)
+  where
+    reached : (q : ℕ) → q < 2 → Reaches stayed 1 q
+    reached zero lt = b_reaches_0
+    reached (suc zero) lt = b_reaches_1
+    reached (suc (suc q)) lt = absurd (omega arith)
+
+reach_is_no_certificate : IsCertifiedByReach stayed → ⊥
+unfolding has
+reach_is_no_certificate certified =
+    let held = (certified 1 3 b_waits reach_of_b).occupied 0 refl in
+    let occupant : 2 ≡ held.0 = same_Some 2 held.0 held.1 in
+    let more_urgent = held.2 in
+    absurd (let priorities = ap (priority_of stayed) occupant in omega arith)
+
+-- ---- and were c absent, processor 0 would idle, which b reaches
+abbrev idled : State
+idled = record stayed { on = None ∷ Some 0 ∷ [] }
+
+work_lost : IsWorkConserving idled → ⊥
+unfolding has intersection all_below
+work_lost conserving = conserving 1 0 record { ready = refl; not_linked = refl } (1 ∷ 0 ∷ [], (refl, ((0, refl, refl), refl))) (refl, refl)
+
+-- ---- an input with c, and one without it, agree up to priority 2; and b's jobs are shorter in the second
+abbrev job : ℕ → JobTask
+job cost = record { offset = 0; period = 9; cost = cost }
+
+abbrev with_c : JobInputData
+with_c = record { set = three_tasks; horizon = 30; jobs = job 3 ∷ job 4 ∷ job 5 ∷ [] }
+
+abbrev without_c : ℕ → JobInputData
+without_c cost = record { set = record { processors = 2; tasks = task 1 3 ∷ task 2 2 ∷ [] }; horizon = 30; jobs = job 3 ∷ job cost ∷ [] }
+
+is_urgent_without : (cost t : ℕ) → IsUrgent with_c 2 t → IsUrgent (without_c cost) 2 t
+is_urgent_without cost zero h = (omega arith, omega arith)
+is_urgent_without cost (suc zero) h = (omega arith, omega arith)
+is_urgent_without cost (suc (suc zero)) h = absurd (let above = h.1 in omega arith)
+is_urgent_without cost (suc (suc (suc t))) h = absurd (let beyond = h.0 in omega arith)
+
+is_urgent_with : (cost t : ℕ) → IsUrgent (without_c cost) 2 t → IsUrgent with_c 2 t
+is_urgent_with cost zero h = (omega arith, omega arith)
+is_urgent_with cost (suc zero) h = (omega arith, omega arith)
+is_urgent_with cost (suc (suc t)) h = absurd (let beyond = h.0 in omega arith)
+
+agree : AgreeUpTo 2 with_c (without_c 4)
+agree = record { processors = refl; horizon = refl; urgent = λ t. (is_urgent_without 4 t, is_urgent_with 4 t); same = λ t urgent. same t (urgent.0) (urgent.1) }
+  where
+    same : (t : ℕ) → t < 3 → priority_of (start_of three_tasks) t ≤ 2 → IsSameTask with_c (without_c 4) t
+    same zero lt le = record { priority = refl; mask = refl; job = refl }
+    same (suc zero) lt le = record { priority = refl; mask = refl; job = refl }
+    same (suc (suc zero)) lt le = absurd (omega arith)
+    same (suc (suc (suc t))) lt le = absurd (omega arith)
+
+asks_no_more : AsksNoMoreUpTo 2 with_c (without_c 2)
+asks_no_more = record { processors = refl; horizon = refl; urgent = λ t. is_urgent_with 2 t; each = λ t urgent. each t urgent.0 }
+  where
+    each : (t : ℕ) → t < 2 → AsksNoMore with_c (without_c 2) t
+    each zero lt = record { priority = refl; mask = refl; offset = refl; period = refl; cost = omega arith }
+    each (suc zero) lt = record { priority = refl; mask = refl; offset = refl; period = refl; cost = omega arith }
+    each (suc (suc t)) lt = absurd (omega arith)

@@ -1,0 +1,8 @@
+use Rattle.scheduling_laws.proofs.OneEnd.{same_events_have_one_end, callers_give_same_events}
+use Rattle.scheduling_laws.proofs.laws.merges_have_one_end.Goals as goal
+
+pub returns-clause-end : goal.returns-clause-end
+returns-clause-end c = same_events_have_one_end
+
+pub returns-clause-callers : goal.returns-clause-callers
+returns-clause-callers c = callers_give_same_events

@@ -1,0 +1,8 @@
+use Rattle.scheduling_laws.proofs.Going.{orders_can_be_ended-from, orders_can_be_ended}
+use Rattle.scheduling_laws.proofs.laws.orders_can_be_ended.Goals as goal
+
+pub returns-clause-from_start : goal.returns-clause-from_start
+returns-clause-from_start c = orders_can_be_ended-from
+
+pub returns-clause-of_set : goal.returns-clause-of_set
+returns-clause-of_set c = orders_can_be_ended

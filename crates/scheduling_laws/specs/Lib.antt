@@ -1,0 +1,10 @@
+pub mod Faces
+pub mod Going
+pub mod InReach
+pub mod Isolation
+pub mod OneEnd
+pub mod ShiftCounts
+pub mod Staying
+pub mod Sustained
+pub mod Urgency
+pub mod UrgentWork

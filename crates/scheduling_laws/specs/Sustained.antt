@@ -1,0 +1,43 @@
+-- Inputs of periodic tasks of which one asks for less than the other: its jobs are shorter, or some of its tasks are missing.
+use Rattle.std.specs.Prelude.{◌≡◌, ℕ, ◌*◌, ◌≤◌, List}
+use Rattle.scheduler_reply.specs.declared.reply.Entry.{Entry}
+use Rattle.link_state.specs.State.{start_of, priority_of, mask_of}
+use Rattle.job_text.specs.JobInput.{JobInputData, IsJobInput, job_at}
+use Rattle.job_laws.specs.Driven.{RunsJobs}
+use Rattle.job_laws.specs.Moments.{service_of, IsFinish}
+use Rattle.scheduling_laws.specs.Isolation.{IsUrgent}
+
+-- t has the same priority and the same mask in both inputs, and its jobs are released at the same moments; in the other input
+-- each asks for no more
+pub record AsksNoMore (one other : JobInputData) (t : ℕ) : Type 0 where
+  pub priority : priority_of (start_of one.set) t ≡ priority_of (start_of other.set) t
+  pub mask : mask_of (start_of one.set) t ≡ mask_of (start_of other.set) t
+  pub offset : (job_at one.jobs t).offset ≡ (job_at other.jobs t).offset
+  pub period : (job_at one.jobs t).period ≡ (job_at other.jobs t).period
+  pub cost : (job_at other.jobs t).cost ≤ (job_at one.jobs t).cost
+
+-- the inputs have the same processors and the same horizon; each task of the other one that is as urgent as the bound is a task
+-- of the one, and asks for no more
+pub record AsksNoMoreUpTo (bound : ℕ) (one other : JobInputData) : Type 0 where
+  pub processors : one.set.processors ≡ other.set.processors
+  pub horizon : one.horizon ≡ other.horizon
+  pub urgent : (t : ℕ) → IsUrgent other bound t → IsUrgent one bound t
+  pub each : (t : ℕ) → IsUrgent other bound t → AsksNoMore one other t
+
+-- what holds of each urgent task of the other input in histories that run the jobs of two such inputs
+abbrev pub HoldsWhereLessIsAsked : ((one other : JobInputData) → List Entry → List Entry → ℕ → Type 0) → Type 0
+HoldsWhereLessIsAsked Law =
+    (bound : ℕ) (one other : JobInputData) (history also : List Entry) (t : ℕ)
+    → IsJobInput one → IsJobInput other → AsksNoMoreUpTo bound one other → RunsJobs one history → RunsJobs other also
+    → IsUrgent other bound t → Law one other history also t
+
+-- a task has as many of its jobs done before each moment, whatever the less urgent tasks do
+abbrev pub ShorterJobsKeepUp : Type 0
+ShorterJobsKeepUp = HoldsWhereLessIsAsked (λ one other history also t. (j x : ℕ) → x ≤ one.horizon
+    → j * (job_at one.jobs t).cost ≤ service_of (start_of one.set) history t x → j * (job_at other.jobs t).cost ≤ service_of (start_of other.set) also t x)
+
+-- and no job of it is finished later
+abbrev pub ShorterJobsFinishNoLater : Type 0
+ShorterJobsFinishNoLater = HoldsWhereLessIsAsked (λ one other history also t. (k x : ℕ)
+    → IsFinish (start_of one.set) history t (job_at one.jobs t).cost one.horizon k x
+    → (y : ℕ) × (y ≤ x) × IsFinish (start_of other.set) also t (job_at other.jobs t).cost other.horizon k y)

@@ -1,0 +1,96 @@
+//! Theorems of strong APA scheduling. Each law is the contract of a function that does nothing: a caller in a proof gets
+//! the law by its clause.
+ghost use Rattle.scheduling_laws.specs.Faces.{BestIsCertified, CertifiedIsWithoutChain, CertifiedIsByReach};
+ghost use Rattle.scheduling_laws.specs.Going.{OrdersCanGoOnFrom, OrdersCanGoOn, OrdersCanBeEndedFrom, OrdersCanBeEnded};
+ghost use Rattle.scheduling_laws.specs.InReach.{LegalConservesWork, PassingConservesWork, LegalHasNoInversion, PassingHasNoInversion};
+ghost use Rattle.scheduling_laws.specs.Isolation.{UrgentServiceIsIsolated, UrgentFinishIsIsolated};
+ghost use Rattle.scheduling_laws.specs.OneEnd.{SameEventsHaveOneEnd, CallersGiveSameEvents};
+ghost use Rattle.scheduling_laws.specs.ShiftCounts.{PassingShiftsFew, LegalShiftsFew};
+ghost use Rattle.scheduling_laws.specs.Staying.{BestStays};
+ghost use Rattle.scheduling_laws.specs.Sustained.{ShorterJobsKeepUp, ShorterJobsFinishNoLater};
+ghost use Rattle.scheduling_laws.specs.Urgency.{BestRestricts};
+ghost use Rattle.scheduling_laws.specs.UrgentWork.{LinkedDoesMostWork};
+
+// ---- the best set
+
+/// Four ways to say that the right tasks are linked come to the same, in every state.
+pub fn best_has_four_faces()
+    ensures best { BestIsCertified }
+    ensures chains { CertifiedIsWithoutChain }
+    ensures reaches { CertifiedIsByReach }
+{}
+
+/// Less urgent tasks never interfere: the urgent part of the best subset of a set is the best subset of its urgent part.
+pub fn best_restricts()
+    ensures { BestRestricts }
+{}
+
+/// Where fewer tasks are ready, whoever was chosen and still is ready is chosen still.
+pub fn best_stays()
+    ensures { BestStays }
+{}
+
+// ---- after every entry of a history
+
+/// Work is conserved: no processor idles that a waiting task reaches.
+pub fn no_processor_idles()
+    ensures legal { LegalConservesWork }
+    ensures passing { PassingConservesWork }
+{}
+
+/// No priority is inverted within reach: whoever runs on a processor that a waiting task reaches is more urgent.
+pub fn no_priority_inversion()
+    ensures legal { LegalHasNoInversion }
+    ensures passing { PassingHasNoInversion }
+{}
+
+/// Whoever chooses other placeable tasks to run at the same events does no more of the most urgent work, over all ticks and
+/// up to any priority.
+pub fn most_urgent_work_is_done()
+    ensures { LinkedDoesMostWork }
+{}
+
+/// On m processors at most m - 1 running tasks are shifted at an event, and at most twice as many at a change of a mask.
+pub fn few_tasks_are_shifted()
+    ensures legal { LegalShiftsFew }
+    ensures passing { PassingShiftsFew }
+{}
+
+// ---- periodic tasks
+
+/// Whoever runs the jobs of periodic tasks serves each task as if there were no less urgent ones: inputs that agree on all
+/// tasks up to a priority give each of these the same service at every moment, and finish its jobs at the same moments.
+pub fn urgent_tasks_are_isolated()
+    ensures service { UrgentServiceIsIsolated }
+    ensures finish { UrgentFinishIsIsolated }
+{}
+
+/// Where less is asked, nothing is finished later. Where each task of an input up to a priority is one of another input and
+/// asks for no more than there, be it that jobs are shorter or that tasks are missing, each has as many jobs done before every
+/// moment, and finishes each no later.
+pub fn shorter_jobs_finish_no_later()
+    ensures done { ShorterJobsKeepUp }
+    ensures finish { ShorterJobsFinishNoLater }
+{}
+
+// ---- between threads
+
+/// Processors that obey the orders of a legal history never wait in a circle: as long as one has orders left, one of them can
+/// obey its next order. So it is before the close and with it.
+pub fn orders_can_go_on()
+    ensures from_start { OrdersCanGoOnFrom }
+    ensures of_set { OrdersCanGoOn }
+{}
+
+/// Whatever the processors have obeyed so far, they can go on until each has obeyed all its orders.
+pub fn orders_can_be_ended()
+    ensures from_start { OrdersCanBeEndedFrom }
+    ensures of_set { OrdersCanBeEnded }
+{}
+
+/// However the events of different tasks and processors are merged, a legal history ends with the same tasks linked: it is
+/// enough that those of each task come in their order, and those of each processor, as they do where each is on one stream.
+pub fn merges_have_one_end()
+    ensures end { SameEventsHaveOneEnd }
+    ensures callers { CallersGiveSameEvents }
+{}
