@@ -5,7 +5,7 @@ import re
 import signal
 import sys
 
-# The program of the repository, which `./apa` builds.
+# The program of the repository, which `./apa prove` builds.
 DEFAULT = os.path.normpath(os.path.join(os.path.dirname(os.path.abspath(__file__)),
                                         '../crates/schedule_program/out/schedule_program'))
 
@@ -63,7 +63,7 @@ class Program:
 
     def __init__(self, path, seconds):
         if not os.access(path, os.X_OK):
-            sys.exit(f'{path} is not a program: build it by ./apa, or name another by --program')
+            sys.exit(f'{path} is not a program: build it by ./apa prove, or name another by --program')
         self.path = path
         self.seconds = seconds
         self.starts = 0
