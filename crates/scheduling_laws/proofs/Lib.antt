@@ -6,6 +6,7 @@ pub mod GoingEntries
 pub mod GoingSums
 pub mod InReach
 pub mod Isolation
+pub mod Merges
 pub mod OneEnd
 pub mod PlacedState
 pub mod ShiftCounts

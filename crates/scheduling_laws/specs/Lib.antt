@@ -2,6 +2,7 @@ pub mod Faces
 pub mod Going
 pub mod InReach
 pub mod Isolation
+pub mod Merges
 pub mod OneEnd
 pub mod ShiftCounts
 pub mod Staying

@@ -4,6 +4,7 @@ ghost use Rattle.scheduling_laws.specs.Faces.{BestIsCertified, CertifiedIsWithou
 ghost use Rattle.scheduling_laws.specs.Going.{OrdersCanGoOnFrom, OrdersCanGoOn, OrdersCanBeEndedFrom, OrdersCanBeEnded};
 ghost use Rattle.scheduling_laws.specs.InReach.{LegalConservesWork, PassingConservesWork, LegalHasNoInversion, PassingHasNoInversion};
 ghost use Rattle.scheduling_laws.specs.Isolation.{UrgentServiceIsIsolated, UrgentFinishIsIsolated};
+ghost use Rattle.scheduling_laws.specs.Merges.{MergesHaveOneEnd};
 ghost use Rattle.scheduling_laws.specs.OneEnd.{SameEventsHaveOneEnd, CallersGiveSameEvents};
 ghost use Rattle.scheduling_laws.specs.ShiftCounts.{PassingShiftsFew, LegalShiftsFew};
 ghost use Rattle.scheduling_laws.specs.Staying.{BestStays};
@@ -88,9 +89,10 @@ pub fn orders_can_be_ended()
     ensures of_set { OrdersCanBeEnded }
 {}
 
-/// However the events of different tasks and processors are merged, a legal history ends with the same tasks linked: it is
-/// enough that those of each task come in their order, and those of each processor, as they do where each is on one stream.
+/// Where all events of a task are on one stream, and all of a processor, every legal merge of the streams ends with the same
+/// tasks ready and linked. It is enough that those of each task come in their order, and those of each processor.
 pub fn merges_have_one_end()
-    ensures end { SameEventsHaveOneEnd }
+    ensures merges { MergesHaveOneEnd }
+    ensures histories { SameEventsHaveOneEnd }
     ensures callers { CallersGiveSameEvents }
 {}
