@@ -1,6 +1,7 @@
 pub mod Alike
-mod Examples
+mod Anomaly
 pub mod Followed
+mod Interference
 mod Leaving
 mod Looking
 mod Placing
