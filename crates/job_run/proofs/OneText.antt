@@ -1,8 +1,7 @@
 -- What is read is the text of one input, and its jobs have one text.
 use Rattle.std.proofs.Common.{sym, ap, ◌∙◌, subst}
 use Rattle.job_text.specs.JobInput.{JobInputData}
-use Rattle.job_text.proofs.Answered.{text_has_one_input}
-use Rattle.job_text.proofs.Decided.{text_is_of_valid_input}
+use Rattle.job_text.proofs.Decided.{text_has_one_input, text_is_of_valid_input}
 use Rattle.job_laws.specs.Driven.{RunsJobs}
 use Rattle.job_laws.specs.JobsText.{jobs_text}
 use Rattle.job_laws.proofs.OneRun.{input_has_one_text}

@@ -1,25 +1,33 @@
 -- Each line comes to an outcome, and so each text is that of an input or is refused.
-use Rattle.std.proofs.Common.{◌≡◌, ℕ, ◌+◌, ◌≤◌, ◌⊎◌, List, [], ◌∷◌, length, codes, refl, sym, ap, subst, inl, inr, arith}
-use Rattle.std.proofs.lemmas.Bool.{cases_Bool, cases_eq, cases_lt}
+use Rattle.std.proofs.Common.{◌≡◌, ℕ, ◌≤◌, ◌⊎◌, true, List, [], ◌∷◌, codes, refl, sym, ap, subst, inl, inr, arith}
+use Rattle.std.proofs.lemmas.Bool.{cases_lt}
 use Rattle.affinity_mask.proofs.TextCases.{text_list_or_fault}
 use Rattle.task_set.specs.TaskSet.{IsTaskSet}
 use Rattle.task_set.specs.Refusal.{new_task}
 use Rattle.text_fields.specs.Number.{IsNumberWithin}
 use Rattle.text_fields.proofs.Addable.{can_add_decided}
-use Rattle.text_fields.proofs.Decisions.{all_decided, bytes_decided, number_within_decided}
-use Rattle.trace_reader.specs.Lines.{lines_of, fields_of, is_skipped, IsPlain}
-use Rattle.job_text.specs.Jobs.{total_jobs}
+use Rattle.text_fields.proofs.Decisions.{bytes_decided, number_within_decided}
+use Rattle.line_machine.specs.Choice.{IsDecided}
+use Rattle.line_machine.proofs.Choices.{only, choice, reading, judging, allowing}
+use Rattle.line_machine.specs.Lines.{lines_of}
+use Rattle.affinity_mask.proofs.ListTexts.{list_text-one_set, list_text-one_fault, list_text-no_fault}
+use Rattle.task_set.proofs.Refusals.{CanAdd-IsRefusal, same_refusal}
+use Rattle.line_machine.proofs.LineRule.{lines_machine}
+use Rattle.job_text.specs.JobFault.{job_kind}
+use Rattle.line_machine.specs.Machine.{Outcome, Leads, Fails, IsMachine}
+use Rattle.line_machine.proofs.TextLaws.{one_value, ends_valid}
 use Rattle.job_text.specs.JobInput.{JobInputData, IsJobInput}
-use Rattle.job_text.specs.JobText.{IsWorded, TaskLine, AreTimes, IsTaskForm, end_line, Progress, HeaderExpected, ProcessorsExpected, HorizonExpected, Listed, Ended, Outcome, Leads, Fails, with_jobs, IsCountOutcome, IsAddOutcome, IsTaskOutcome, IsListedOutcome, IsWordedOutcome, IsOutcome, IsLineOutcome, Answer, IsText, Refuses, IsAnswer, IsJobText, IsJobRefused}
-use Rattle.job_text.specs.Laws.{AcceptedOrRefused, TextIsOfValidInput}
+use Rattle.job_text.specs.JobText.{IsWorded, TaskLine, AreTimes, IsTaskForm, end_line, Progress, HeaderExpected, ProcessorsExpected, HorizonExpected, Listed, Ended, without_tasks, IsCountOutcome, IsAddOutcome, IsTaskOutcome, IsListedOutcome, IsWordedOutcome, IsOutcome, IsEndOutcome}
+use Rattle.job_text.specs.Laws.{TextHasOneInput, TextIsOfValidInput}
 use Rattle.job_text.specs.Reading.{IsValid}
 use Rattle.job_text.specs.declared.fault.JobKind.{JobKind}
-use Rattle.job_text.specs.declared.fault.JobKind.TheVariants.{BadByte, LongLine, BadHeader, BadProcessors, BadHorizon, BadTask, BadMask, TaskRefused, ManyJobs, AfterEnd, NoEnd}
+use Rattle.job_text.specs.declared.fault.JobKind.TheVariants.{BadHeader, BadProcessors, BadHorizon, NoEnd}
 use Rattle.job_text.specs.declared.input.JobTask.{JobTask}
-use Rattle.job_text.proofs.Outcomes.{line_valid}
+use Rattle.job_text.proofs.Outcomes.{same_worded, same_line, outcome_valid, end_once}
 
 -- ---- the forms of lines
-worded_decided : (word : List ℕ) (least most : ℕ) (fields : List (List ℕ)) → ((n : ℕ) × IsWorded word least most n fields) ⊎ ((n : ℕ) → IsWorded word least most n fields → ⊥)
+worded_decided : (word : List ℕ) (least most : ℕ) (fields : List (List ℕ))
+    → ((n : ℕ) × IsWorded word least most n fields) ⊎ ((n : ℕ) → IsWorded word least most n fields → ⊥)
 worded_decided word least most (first ∷ number ∷ []) = elim (bytes_decided first word) [
   | inr differs ↦ inr (λ n is. let e = is.1 in differs (cc))
   | inl same ↦ elim (number_within_decided least most number) [
@@ -78,115 +86,73 @@ end_decided (word ∷ []) = elim (bytes_decided word (codes "end")) [
 end_decided fields = inr (λ e. cc)
 
 -- ---- what a line comes to
--- there is an outcome of this kind
-abbrev Comes : (Outcome → Type 0) → Type 0
-Comes Is = (outcome : Outcome) × Is outcome
-
-worded_comes : (Is : ℕ → Type 0) (next : ℕ → Progress) (kind : JobKind) → ((n : ℕ) × Is n) ⊎ ((n : ℕ) → Is n → ⊥) → Comes (IsWordedOutcome Is next kind)
-worded_comes Is next kind (inl found) = (Leads (next found.0), inl (found.0, found.1, refl))
-worded_comes Is next kind (inr none) = (Fails kind, inr (none, refl))
-
-count_comes : (input : JobInputData) (line : TaskLine) (mask : ℕ) → Comes (IsCountOutcome input line mask)
-count_comes input line mask =
-    let next = with_jobs input line.name line.priority mask line.job in
-    elim (cases_lt 4000 (total_jobs next.horizon next.jobs)) [
-      | inl many ↦ (Fails ManyJobs, inl (many, refl))
-      | inr few ↦ (Leads (Listed next), inr (few, refl))
-    ]
-
-add_comes : (input : JobInputData) (line : TaskLine) (mask : ℕ) → IsTaskSet input.set → Comes (IsAddOutcome input line mask)
-add_comes input line mask valid = elim (can_add_decided input.set (new_task line.name line.priority mask) valid) [
-  | inl can ↦ (let counted = count_comes input line mask in (counted.0, inr (can, counted.1)))
-  | inr refused ↦ (Fails (TaskRefused refused.0), inl (refused.0, refused.1, refl))
+le_decided : (a b : ℕ) → (a ≤ b) ⊎ (a ≤ b → ⊥)
+le_decided a b = elim (cases_lt b a) [
+  | inl above ↦ inr (λ within. omega arith)
+  | inr within ↦ inl within
 ]
 
-task_comes : (input : JobInputData) (line : TaskLine) → IsTaskSet input.set → Comes (IsTaskOutcome input line)
-task_comes input line valid = elim (text_list_or_fault line.list) [
-  | inl mask ↦ (let added = add_comes input line mask.0 valid in (added.0, inr (mask.0, mask.1, added.1)))
-  | inr bad ↦ (Fails (BadMask bad.0), inl (bad.0, bad.1, refl))
-]
+worded : (word : List ℕ) (least most : ℕ) (fields : List (List ℕ)) (next : ℕ → Progress) (kind : JobKind)
+    → IsDecided (IsWordedOutcome (λ n. IsWorded word least most n fields) next kind)
+worded word least most fields next kind =
+    reading (worded_decided word least most fields) (λ n k. same_worded word least most n k fields) (λ n is. only _) (only _)
 
-listed_comes : (input : JobInputData) (fields : List (List ℕ)) → IsTaskSet input.set → Comes (IsListedOutcome input fields)
-listed_comes input fields valid = elim (end_decided fields) [
-  | inl end ↦ (Leads (Ended input), inl (end, refl))
-  | inr not_end ↦ elim (task_form_decided fields) [
-    | inl form ↦ (let task = task_comes input form.0 valid in (task.0, inr (inl (form.0, form.1, task.1))))
-    | inr none ↦ (Fails BadTask, inr (inr (not_end, none, refl)))
-  ]
-]
+counted : (input : JobInputData) (line : TaskLine) (mask : ℕ) → IsDecided (IsCountOutcome input line mask)
+counted input line mask = choice (le_decided _ 4000) (λ few. only _) (λ many. only _)
 
-fields_come : (expected : Progress) (fields : List (List ℕ)) → IsValid expected → Comes (IsOutcome expected fields)
-fields_come HeaderExpected fields valid = worded_comes _ _ BadHeader (worded_decided (codes "jobs") 1 1 fields)
-fields_come ProcessorsExpected fields valid = worded_comes _ _ BadProcessors (worded_decided (codes "processors") 1 64 fields)
-fields_come (HorizonExpected m) fields valid = worded_comes _ _ BadHorizon (worded_decided (codes "horizon") 1 1000000 fields)
-fields_come (Listed input) fields valid = listed_comes input fields valid.valid
-fields_come (Ended input) fields valid = (Fails AfterEnd, refl)
+added : (input : JobInputData) (line : TaskLine) (mask : ℕ) → IsTaskSet input.set → IsDecided (IsAddOutcome input line mask)
+added input line mask valid =
+    let task = new_task line.name line.priority mask in
+    allowing (can_add_decided input.set task valid) (λ fault other is also. same_refusal input.set task fault other valid is also)
+    (λ fault can is. CanAdd-IsRefusal input.set task fault can is) (λ can. counted input line mask) (λ fault is. only _)
 
-plain_decided : (byte : ℕ) → IsPlain byte ⊎ (IsPlain byte → ⊥)
-plain_decided byte = elim (cases_eq byte 9) [
-  | inl tab ↦ inl (inl tab)
-  | inr other ↦ elim (cases_lt byte 32) [
-    | inl low ↦ inr (λ plain. elim plain [ inl tab ↦ other tab | inr printed ↦ (let from : 32 ≤ byte = printed.0 in omega arith) ])
-    | inr from ↦ elim (cases_lt 126 byte) [
-      | inl high ↦ inr (λ plain. elim plain [ inl tab ↦ other tab | inr printed ↦ (let to : byte ≤ 126 = printed.1 in omega arith) ])
-      | inr to ↦ inl (inr (from, to))
-    ]
-  ]
-]
+listed_task : (input : JobInputData) (line : TaskLine) → IsTaskSet input.set → IsDecided (IsTaskOutcome input line)
+listed_task input line valid =
+    judging (text_list_or_fault line.list) (list_text-one_set line.list) (list_text-one_fault line.list) (list_text-no_fault line.list)
+    (λ mask is. added input line mask valid) (λ fault is. only _)
 
-line_comes : (expected : Progress) (line : List ℕ) → IsValid expected → Comes (IsLineOutcome expected line)
-line_comes expected line valid = elim (all_decided IsPlain plain_decided line) [
-  | inr bad ↦ (Fails BadByte, inl (bad, refl))
-  | inl plain ↦ elim (cases_lt 4096 (length line)) [
-    | inl long ↦ (Fails LongLine, inr (inl (plain, long, refl)))
-    | inr short ↦ elim (cases_Bool (is_skipped (fields_of line))) [
-      | inl skipped ↦ (Leads expected, inr (inr (inl ((plain, short), skipped, refl))))
-      | inr kept ↦ (let said = fields_come expected (fields_of line) valid in (said.0, inr (inr (inr ((plain, short), kept, said.1)))))
-    ]
-  ]
-]
+listed : (input : JobInputData) (fields : List (List ℕ)) → IsTaskSet input.set → IsDecided (IsListedOutcome input fields)
+listed input fields valid =
+    choice (end_decided fields) (λ end. only _)
+    (λ not_end. reading (task_form_decided fields) (same_line fields) (λ line is. listed_task input line valid) (only _))
 
--- ---- what a text comes to
-abbrev IsAnswered : ℕ → Progress → List (List ℕ) → Type 0
-IsAnswered number expected lines = (answer : Answer) × IsAnswer number expected lines answer
+fields_decided : (expected : Progress) (fields : List (List ℕ)) → IsValid expected → IsDecided (IsOutcome expected fields)
+fields_decided HeaderExpected fields valid = worded (codes "jobs") 1 1 fields (λ version. ProcessorsExpected) BadHeader
+fields_decided ProcessorsExpected fields valid = worded (codes "processors") 1 64 fields HorizonExpected BadProcessors
+fields_decided (HorizonExpected m) fields valid = worded (codes "horizon") 1 1000000 fields (λ horizon. Listed (without_tasks m horizon)) BadHorizon
+fields_decided (Listed input) fields valid = listed input fields valid.valid
+fields_decided (Ended input) fields valid = only _
 
-after_line : (number : ℕ) (expected : Progress) (line : List ℕ) (rest : List (List ℕ)) → IsValid expected
-    → ((next : Progress) → IsValid next → IsAnswered (number + 1) next rest) → Comes (IsLineOutcome expected line) → IsAnswered number expected (line ∷ rest)
-after_line number expected line rest valid later (Fails kind, comes) = (Refuses number kind, inl (kind, comes, refl))
-after_line number expected line rest valid later (Leads next, comes) =
-    let found = later next (line_valid expected line next valid comes) in
-    (found.0, inr (next, comes, found.1))
+end_comes : (expected : Progress) → (outcome : Outcome JobInputData JobKind) × IsEndOutcome expected outcome
+end_comes HeaderExpected = (Fails NoEnd, refl)
+end_comes ProcessorsExpected = (Fails NoEnd, refl)
+end_comes (HorizonExpected m) = (Fails NoEnd, refl)
+end_comes (Listed input) = (Fails NoEnd, refl)
+end_comes (Ended input) = (Leads input, refl)
 
-answered : (number : ℕ) (expected : Progress) (lines : List (List ℕ)) → IsValid expected → IsAnswered number expected lines
-answered number HeaderExpected [] valid = (Refuses number NoEnd, refl)
-answered number ProcessorsExpected [] valid = (Refuses number NoEnd, refl)
-answered number (HorizonExpected m) [] valid = (Refuses number NoEnd, refl)
-answered number (Listed input) [] valid = (Refuses number NoEnd, refl)
-answered number (Ended input) [] valid = (IsText input, refl)
-answered number expected (line ∷ rest) valid = after_line number expected line rest valid (λ next ok. answered (number + 1) next rest ok) (line_comes expected line valid)
-
-pub accepted_or_refused : AcceptedOrRefused
-accepted_or_refused bytes = by (answered 1 HeaderExpected (lines_of bytes) tt)
-  where
-    by : IsAnswered 1 HeaderExpected (lines_of bytes) → ((input : JobInputData) × IsJobText bytes input) ⊎ ((line : ℕ) × (kind : JobKind) × IsJobRefused bytes line kind)
-    by (IsText input, is) = inl (input, is)
-    by (Refuses line kind, is) = inr (line, kind, is)
+-- ---- the machine
+pub job_machine : IsMachine HeaderExpected IsValid IsOutcome IsEndOutcome
+job_machine = record {
+  starts = tt;
+  keeps = outcome_valid;
+  one_outcome = λ expected fields outcome other valid. (let decided = fields_decided expected fields valid in decided.one outcome other);
+  some_outcome = λ expected fields valid. (let decided = fields_decided expected fields valid in decided.some);
+  one_end = end_once;
+  some_end = λ expected valid. end_comes expected;
+}
 
 -- ---- the input of a text
-refused_is_no_text : {A : Type 0} (number : ℕ) (kind : JobKind) (input : JobInputData) → IsText input ≡ Refuses number kind → A
-refused_is_no_text number kind input e = cc
+input_at_end : (last : Progress) (input : JobInputData) → IsValid last → IsEndOutcome last (Leads input) → IsJobInput input
+input_at_end HeaderExpected input valid e = let f : ◌≡◌ {A = Outcome JobInputData JobKind} (Leads input) (Fails NoEnd) = e in cc
+input_at_end ProcessorsExpected input valid e = let f : ◌≡◌ {A = Outcome JobInputData JobKind} (Leads input) (Fails NoEnd) = e in cc
+input_at_end (HorizonExpected m) input valid e = let f : ◌≡◌ {A = Outcome JobInputData JobKind} (Leads input) (Fails NoEnd) = e in cc
+input_at_end (Listed other) input valid e = let f : ◌≡◌ {A = Outcome JobInputData JobKind} (Leads input) (Fails NoEnd) = e in cc
+input_at_end (Ended other) input valid e = let same : input ≡ other = cc in subst IsJobInput (sym same) valid
 
-same_text : (input other : JobInputData) → IsText input ≡ IsText other → input ≡ other
-same_text input other e = cc
-
-valid_at_end : (number : ℕ) (expected : Progress) (lines : List (List ℕ)) (input : JobInputData) → IsValid expected → IsAnswer number expected lines (IsText input) → IsJobInput input
-valid_at_end number HeaderExpected [] input valid is = refused_is_no_text number NoEnd input is
-valid_at_end number ProcessorsExpected [] input valid is = refused_is_no_text number NoEnd input is
-valid_at_end number (HorizonExpected m) [] input valid is = refused_is_no_text number NoEnd input is
-valid_at_end number (Listed other) [] input valid is = refused_is_no_text number NoEnd input is
-valid_at_end number (Ended other) [] input valid is = subst IsJobInput (sym (same_text input other is)) valid
-valid_at_end number expected (line ∷ rest) input valid (inl fault) = refused_is_no_text number fault.0 input fault.2
-valid_at_end number expected (line ∷ rest) input valid (inr next) = valid_at_end (number + 1) next.0 rest input (line_valid expected line next.0 valid next.1) next.2
+pub text_has_one_input : TextHasOneInput
+text_has_one_input = one_value (lines_machine 4096 true job_kind job_machine) lines_of
 
 pub text_is_of_valid_input : TextIsOfValidInput
-text_is_of_valid_input bytes input is = valid_at_end 1 HeaderExpected (lines_of bytes) input tt is
+text_is_of_valid_input bytes input is =
+    let last = ends_valid (lines_machine 4096 true job_kind job_machine) lines_of bytes input is in
+    input_at_end last.0 input last.1 last.2

@@ -2,19 +2,22 @@
 -- tasks and the end, in this order. Lines and fields are cut and skipped as those of input texts are, and numbers have any length
 -- and leading zeros. What a line comes to is said by what is expected: something else is expected then, or the line has a fault, the
 -- first of its kinds in their order. The first line with a fault decides.
-use Rattle.std.specs.Prelude.{◌≡◌, ◌≢◌, ℕ, ◌+◌, ◌<◌, ◌≤◌, ◌⊎◌, true, false, List, [], ◌∷◌, ◌++◌, length, codes, All}
+use Rattle.std.specs.Prelude.{◌≡◌, ℕ, ◌≤◌, true, List, [], ◌∷◌, ◌++◌, codes}
 use Rattle.affinity_mask.specs.ListText.{IsListText}
 use Rattle.affinity_mask.specs.ListFault.{IsListFault}
-use Rattle.affinity_mask.specs.declared.mask_fault.MaskFault.{MaskFault}
 use Rattle.task_set.specs.TaskSet.{with_task}
 use Rattle.task_set.specs.Refusal.{new_task, CanAdd, IsRefusal}
-use Rattle.task_set.specs.declared.fault.TaskFault.{TaskFault}
 use Rattle.text_fields.specs.Number.{IsNumberWithin}
-use Rattle.trace_reader.specs.Lines.{lines_of, fields_of, is_skipped, IsPlain, IsClean}
+use Rattle.line_machine.specs.Choice.{IsOnly, IsChoice, IsReading, IsJudging, IsAllowing}
+use Rattle.line_machine.specs.Lines.{lines_of}
+use Rattle.line_machine.specs.LineRule.{IsLineOutcome}
+use Rattle.line_machine.specs.Machine.{Outcome, Leads, Fails}
+use Rattle.line_machine.specs.Laws.{IsTextOf, IsRefused}
+use Rattle.job_text.specs.JobFault.{job_kind}
 use Rattle.job_text.specs.Jobs.{total_jobs}
 use Rattle.job_text.specs.JobInput.{JobInputData}
 use Rattle.job_text.specs.declared.fault.JobKind.{JobKind}
-use Rattle.job_text.specs.declared.fault.JobKind.TheVariants.{BadByte, LongLine, BadHeader, BadProcessors, BadHorizon, BadTask, BadMask, TaskRefused, ManyJobs, AfterEnd, NoEnd}
+use Rattle.job_text.specs.declared.fault.JobKind.TheVariants.{BadHeader, BadProcessors, BadHorizon, BadTask, BadMask, TaskRefused, ManyJobs, AfterEnd, NoEnd}
 use Rattle.job_text.specs.declared.input.JobTask.{JobTask}
 
 -- ---- the lines
@@ -72,10 +75,9 @@ pub data Progress : Type 0 where
   Listed : JobInputData → Progress
   Ended : JobInputData → Progress
 
--- a line leads on, or has a fault of this kind
-pub data Outcome : Type 0 where
-  Leads : Progress → Outcome
-  Fails : JobKind → Outcome
+-- a line leads on, or has a fault of a kind
+abbrev pub LineOutcome : Type 0
+LineOutcome = Outcome Progress JobKind
 
 -- no task yet, on so many processors
 abbrev pub without_tasks : ℕ → ℕ → JobInputData
@@ -89,40 +91,36 @@ with_jobs input name priority mask job = record {
   jobs = input.jobs ++ job ∷ [];
 }
 
--- the task can be added: too many jobs are a fault, and else it is listed
-abbrev pub IsCountOutcome : JobInputData → TaskLine → ℕ → Outcome → Type 0
+-- the task can be added: it is listed, where there are not too many jobs
+abbrev pub IsCountOutcome : JobInputData → TaskLine → ℕ → LineOutcome → Type 0
 IsCountOutcome input line mask outcome =
     let next = with_jobs input line.name line.priority mask line.job in
-    ((4000 < total_jobs next.horizon next.jobs) × (outcome ≡ Fails ManyJobs))
-    ⊎ ((total_jobs next.horizon next.jobs ≤ 4000) × (outcome ≡ Leads (Listed next)))
+    IsChoice (total_jobs next.horizon next.jobs ≤ 4000) (IsOnly (Leads (Listed next))) (IsOnly (Fails ManyJobs)) outcome
 
--- the list is a mask: the task set refuses the task, or it can be added
-abbrev pub IsAddOutcome : JobInputData → TaskLine → ℕ → Outcome → Type 0
+-- the list is a mask: the task can be added, or the task set refuses it
+abbrev pub IsAddOutcome : JobInputData → TaskLine → ℕ → LineOutcome → Type 0
 IsAddOutcome input line mask outcome =
     let task = new_task line.name line.priority mask in
-    ((fault : TaskFault) × IsRefusal input.set task fault × (outcome ≡ Fails (TaskRefused fault)))
-    ⊎ (CanAdd input.set task × IsCountOutcome input line mask outcome)
+    IsAllowing (CanAdd input.set task) (IsRefusal input.set task) (IsCountOutcome input line mask)
+    (λ fault. IsOnly (Fails (TaskRefused fault))) outcome
 
--- the line has the form of a task: its list is refused, or it is a mask
-abbrev pub IsTaskOutcome : JobInputData → TaskLine → Outcome → Type 0
+-- the line has the form of a task: its list is a mask, or has a fault
+abbrev pub IsTaskOutcome : JobInputData → TaskLine → LineOutcome → Type 0
 IsTaskOutcome input line outcome =
-    ((fault : MaskFault) × IsListFault line.list fault × (outcome ≡ Fails (BadMask fault)))
-    ⊎ ((mask : ℕ) × IsListText line.list mask × IsAddOutcome input line mask outcome)
+    IsJudging (IsListText line.list) (IsListFault line.list) (IsAddOutcome input line) (λ fault. IsOnly (Fails (BadMask fault))) outcome
 
--- a task or the end is expected
-abbrev pub IsListedOutcome : JobInputData → List (List ℕ) → Outcome → Type 0
+-- the end or a task is expected
+abbrev pub IsListedOutcome : JobInputData → List (List ℕ) → LineOutcome → Type 0
 IsListedOutcome input fields outcome =
-    ((fields ≡ end_line) × (outcome ≡ Leads (Ended input)))
-    ⊎ (((line : TaskLine) × IsTaskForm fields line × IsTaskOutcome input line outcome)
-    ⊎ ((fields ≢ end_line) × ((line : TaskLine) → IsTaskForm fields line → ⊥) × (outcome ≡ Fails BadTask)))
+    IsChoice (fields ≡ end_line) (IsOnly (Leads (Ended input)))
+    (IsReading (IsTaskForm fields) (IsTaskOutcome input) (IsOnly (Fails BadTask))) outcome
 
 -- a line with a word and a number leads on, or has this fault
-abbrev pub IsWordedOutcome : (ℕ → Type 0) → (ℕ → Progress) → JobKind → Outcome → Type 0
-IsWordedOutcome Is next kind outcome =
-    ((n : ℕ) × Is n × (outcome ≡ Leads (next n))) ⊎ (((n : ℕ) → Is n → ⊥) × (outcome ≡ Fails kind))
+abbrev pub IsWordedOutcome : (ℕ → Type 0) → (ℕ → Progress) → JobKind → LineOutcome → Type 0
+IsWordedOutcome Is next kind outcome = IsReading Is (λ n. IsOnly (Leads (next n))) (IsOnly (Fails kind)) outcome
 
 -- what the fields of a line come to, by what is expected
-abbrev pub IsOutcome : Progress → List (List ℕ) → Outcome → Type 0
+abbrev pub IsOutcome : Progress → List (List ℕ) → LineOutcome → Type 0
 IsOutcome HeaderExpected fields outcome =
     IsWordedOutcome (λ version. IsHeader version fields) (λ version. ProcessorsExpected) BadHeader outcome
 IsOutcome ProcessorsExpected fields outcome =
@@ -130,41 +128,21 @@ IsOutcome ProcessorsExpected fields outcome =
 IsOutcome (HorizonExpected m) fields outcome =
     IsWordedOutcome (λ horizon. IsHorizonLine horizon fields) (λ horizon. Listed (without_tasks m horizon)) BadHorizon outcome
 IsOutcome (Listed input) fields outcome = IsListedOutcome input fields outcome
-IsOutcome (Ended input) fields outcome = outcome ≡ Fails AfterEnd
+IsOutcome (Ended input) fields outcome = IsOnly (Fails AfterEnd) outcome
 
--- what a line comes to: a byte that is not plain is a fault, then too many bytes; a skipped line changes nothing
-abbrev pub IsLineOutcome : Progress → List ℕ → Outcome → Type 0
-IsLineOutcome expected line outcome =
-    ((All IsPlain line → ⊥) × (outcome ≡ Fails BadByte))
-    ⊎ ((All IsPlain line × (4096 < length line) × (outcome ≡ Fails LongLine))
-    ⊎ ((IsClean line × (is_skipped (fields_of line) ≡ true) × (outcome ≡ Leads expected))
-    ⊎ (IsClean line × (is_skipped (fields_of line) ≡ false) × IsOutcome expected (fields_of line) outcome)))
+-- what the end comes to: it is faultless where nothing is expected
+abbrev pub IsEndOutcome : Progress → Outcome JobInputData JobKind → Type 0
+IsEndOutcome (Ended input) outcome = outcome ≡ Leads input
+IsEndOutcome HeaderExpected outcome = outcome ≡ Fails NoEnd
+IsEndOutcome ProcessorsExpected outcome = outcome ≡ Fails NoEnd
+IsEndOutcome (HorizonExpected m) outcome = outcome ≡ Fails NoEnd
+IsEndOutcome (Listed input) outcome = outcome ≡ Fails NoEnd
 
--- ---- what a text comes to
--- a text is that of an input, or is refused at a line with a kind
-pub data Answer : Type 0 where
-  IsText : JobInputData → Answer
-  Refuses : ℕ → JobKind → Answer
-
--- no line is left
-abbrev pub IsEndAnswer : ℕ → Progress → Answer → Type 0
-IsEndAnswer number (Ended input) answer = answer ≡ IsText input
-IsEndAnswer number HeaderExpected answer = answer ≡ Refuses number NoEnd
-IsEndAnswer number ProcessorsExpected answer = answer ≡ Refuses number NoEnd
-IsEndAnswer number (HorizonExpected m) answer = answer ≡ Refuses number NoEnd
-IsEndAnswer number (Listed input) answer = answer ≡ Refuses number NoEnd
-
--- the answer to some lines, of which the first has this number
-abbrev pub IsAnswer : ℕ → Progress → List (List ℕ) → Answer → Type 0
-IsAnswer number expected [] answer = IsEndAnswer number expected answer
-IsAnswer number expected (line ∷ rest) answer =
-    ((kind : JobKind) × IsLineOutcome expected line (Fails kind) × (answer ≡ Refuses number kind))
-    ⊎ ((next : Progress) × IsLineOutcome expected line (Leads next) × IsAnswer (number + 1) next rest answer)
-
+-- ---- what a text comes to, line by line
 -- the bytes are the text of this input
 abbrev pub IsJobText : List ℕ → JobInputData → Type 0
-IsJobText bytes input = IsAnswer 1 HeaderExpected (lines_of bytes) (IsText input)
+IsJobText bytes input = IsTextOf lines_of HeaderExpected (IsLineOutcome 4096 true job_kind IsOutcome) IsEndOutcome bytes input
 
 -- the bytes are refused with this line and kind
 abbrev pub IsJobRefused : List ℕ → ℕ → JobKind → Type 0
-IsJobRefused bytes number kind = IsAnswer 1 HeaderExpected (lines_of bytes) (Refuses number kind)
+IsJobRefused bytes number kind = IsRefused lines_of HeaderExpected (IsLineOutcome 4096 true job_kind IsOutcome) IsEndOutcome bytes number kind

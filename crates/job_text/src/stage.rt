@@ -1,25 +1,23 @@
 //! What was read so far, and what is expected.
-ghost use Rattle.std.specs.Prelude.{◌≡◌, ◌≢◌, ℕ, ◌≤◌, ◌↔◌, ◌⊎◌, ◌<◌, ◌+◌, IsTrue, List, [], ◌∷◌, ◌++◌, length, IfOk, IfErr, OnOk, MatchOption, All};
+ghost use Rattle.std.specs.Prelude.{◌≡◌, ◌≢◌, ℕ, ◌≤◌, ◌↔◌, ◌<◌, ◌+◌, IsTrue, IfOk, IfErr, OnOk, MatchOption, All};
 ghost use Rattle.job_text.specs.Jobs.{total_jobs};
-ghost use Rattle.job_text.specs.JobInput.{JobInputData, IsJobInput};
-ghost use Rattle.job_text.specs.JobText.{IsWorded, IsTaskOutcome, IsListedOutcome, IsOutcome, IsLineOutcome, Leads, HeaderExpected, ProcessorsExpected, HorizonExpected, Listed, Ended, end_line};
+ghost use Rattle.job_text.specs.JobInput.{IsJobInput};
+ghost use Rattle.job_text.specs.JobText.{IsWorded, IsTaskOutcome, IsListedOutcome, IsOutcome, HeaderExpected, ProcessorsExpected, HorizonExpected, Listed, end_line};
+ghost use Rattle.line_machine.specs.Machine.{Leads};
 ghost use Rattle.job_text.specs.Reading.{progress_of, line_of, IsValid, IsRefusedBy};
-ghost use Rattle.text_fields.specs.Fields.{texts};
+ghost use Rattle.line_machine.specs.Fields.{texts};
 ghost use Rattle.job_text.specs.declared.input.JobTask.{JobTask};
 
 use crate::fault::JobKind;
-use crate::fields::{fields, is_comment, is_plain};
 use crate::form::TaskForm;
 use crate::input::{JobInput, JobTask, MAX_JOBS, MAX_TIME};
 use affinity_mask::ProcSet;
+use line_machine::{LineKind, LineMachine};
 use std::alloc::Global;
 use std::str;
 use task_set::{TaskFault, TaskSet};
 use text_fields::limits::{FIRST_VERSION, MAX_PRIORITY, MAX_PROCESSORS};
 use text_fields::{is_word, read_number};
-
-/// The most bytes of a line, without its line feed.
-const MAX_LINE: usize = 4096;
 
 /// What some lines said, and so what is expected after them.
 #[derive(Drop)]
@@ -44,60 +42,47 @@ pub enum Stage {
     },
 }
 
-impl Stage {
-    /// Goes on by one more line. The room is for its fields. After an `Err` the stage is not used again.
-    pub fn after_line<'a>(
-        &mut self,
-        alloc: Global,
-        line: &'a [u8],
-        room: &mut Vec<&'a [u8]>,
-    ) -> Result<(), JobKind>
-        requires { IsValid (progress_of self.old) }
-        ensures read { OnOk result (IsLineOutcome (progress_of self.old) line.now
-            (Leads (progress_of self.new))) }
-        ensures refused { IfErr result (IsRefusedBy (IsLineOutcome (progress_of self.old)
-            line.now)) }
-    {
-        if !is_plain(line) {
-            return Err(JobKind::BadByte);
-        }
-        if line.len() > MAX_LINE {
-            return Err(JobKind::LongLine);
-        }
-        let fields = fields(line, room)?;
-        if is_comment(fields) {
-            Ok(())
-        } else {
-            self.after(alloc, fields)
+impl LineMachine for Stage {
+    ghost use Rattle.std.specs.Prelude.{true};
+    ghost use Rattle.job_text.specs.JobFault.{job_kind};
+    ghost use Rattle.job_text.specs.JobText.{Progress, HeaderExpected, IsOutcome, IsEndOutcome};
+    ghost use Rattle.job_text.specs.Reading.{progress_of, IsValid};
+
+    type Value = JobInput;
+
+    type Kind = JobKind;
+
+    const LONGEST_LINE: usize = 4096;
+
+    const HAS_COMMENTS: bool = true;
+
+    ghost LONGEST_LINE = { 4096 };
+
+    ghost HAS_COMMENTS = { true };
+
+    ghost Progress = { Progress };
+
+    ghost progress = { progress_of };
+
+    ghost begins = { HeaderExpected };
+
+    ghost IsValid = { IsValid };
+
+    ghost Says = { IsOutcome };
+
+    ghost Ends = { IsEndOutcome };
+
+    ghost kind_of = { job_kind };
+
+    fn kind_of(kind: LineKind) -> JobKind {
+        match kind {
+            LineKind::BadByte => JobKind::BadByte,
+            LineKind::LongLine => JobKind::LongLine,
+            LineKind::OutOfMemory => JobKind::OutOfMemory,
         }
     }
 
-    /// The input, if the end came.
-    pub fn into_input(self) -> Option<JobInput>
-        requires { IsValid (progress_of self) }
-        ensures { MatchOption result
-            ((input : JobInputData) → progress_of self ≢ Ended input)
-            (λ input. progress_of self ≡ Ended input) }
-    {
-        match self {
-            Stage::Listed {
-                horizon,
-                set,
-                jobs,
-                is_ended: true,
-            } => Some(JobInput::new(set, horizon, jobs)),
-            _ => None,
-        }
-    }
-
-    /// Goes on by a line that is not skipped, by its fields.
-    fn after(&mut self, alloc: Global, fields: &[&[u8]]) -> Result<(), JobKind>
-        requires { IsValid (progress_of self.old) }
-        ensures read { OnOk result (IsOutcome (progress_of self.old) (texts fields.now)
-            (Leads (progress_of self.new))) }
-        ensures refused { IfErr result (IsRefusedBy (IsOutcome (progress_of self.old)
-            (texts fields.now))) }
-    {
+    fn after(&mut self, alloc: Global, fields: &[&[u8]]) -> Result<(), JobKind> {
         match self {
             Stage::HeaderExpected => {
                 read_header(fields)?;
@@ -128,6 +113,18 @@ impl Stage {
                     read_task(*horizon, set, jobs, fields)
                 }
             }
+        }
+    }
+
+    fn at_end(self) -> Result<JobInput, JobKind> {
+        match self {
+            Stage::Listed {
+                horizon,
+                set,
+                jobs,
+                is_ended: true,
+            } => Ok(JobInput::new(set, horizon, jobs)),
+            _ => Err(JobKind::NoEnd),
         }
     }
 }

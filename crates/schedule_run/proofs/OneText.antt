@@ -7,7 +7,7 @@ use Rattle.scheduler_reply.specs.declared.reply.Entry.{Entry}
 use Rattle.history_laws.proofs.StepHistories.{legal_history_is_unique}
 use Rattle.schedule_text.specs.ScheduleText.{schedule_text}
 use Rattle.trace_reader.specs.declared.posted.Posted.{Posted}
-use Rattle.trace_reader.proofs.OneInput.{text_has_one_input}
+use Rattle.trace_reader.proofs.Texts.{text_has_one_input}
 use Rattle.thread_replay.specs.Merge.{IsMerge, IsOnOneStream}
 use Rattle.merge_laws.proofs.OneStream.{callers_same, events_same, pairs_same}
 use Rattle.schedule_run.specs.Run.{Replays}

@@ -6,11 +6,11 @@ use Rattle.scheduler_reply.specs.declared.reply.Came.{Came}
 use Rattle.scheduler_reply.specs.declared.reply.Reply.{Reply}
 use Rattle.scheduler_reply.specs.declared.reply.Reply.TheVariants.{Remasked}
 use Rattle.scheduler_reply.specs.Reply.{reply_of_gone, reply_of_came}
-use Rattle.text_fields.specs.Fields.{texts}
+use Rattle.line_machine.specs.Fields.{texts}
 use Rattle.schedule_text.specs.declared.fault.TextKind.{TextKind}
 use Rattle.schedule_text.specs.LineFields.{IsCameFields, IsCameFault, IsGoneFields, IsGoneFault, IsReplyFields, IsReplyFault}
 use Rattle.schedule_text.proofs.FieldLists.{texts_rest_two, headed}
-use Rattle.text_fields.proofs.FieldLists.{texts_first_one}
+use Rattle.line_machine.proofs.FieldLists.{texts_first_one}
 use Rattle.schedule_text.proofs.Parts.{same_fault}
 use Rattle.schedule_text.proofs.FirstWords.{IsOtherWord}
 use Rattle.schedule_text.proofs.Replies.{came_to, came_from, freed_to, freed_from, waiting_to, waiting_from}

@@ -1,7 +1,7 @@
 //! The lines of entries.
 ghost use Rattle.std.specs.Prelude.{◌≡◌, ◌⊎◌, ◌∷◌, ◌++◌, [], List, ℕ, codes, IfOk, IfErr, OnOk, MatchOption};
 ghost use Rattle.scheduler_reply.specs.declared.reply.Entry.{Entry as EntryData};
-ghost use Rattle.text_fields.specs.Fields.{texts};
+ghost use Rattle.line_machine.specs.Fields.{texts};
 ghost use Rattle.schedule_text.specs.Reading.{IsOutOfMemory};
 ghost use Rattle.schedule_text.specs.LineFields.{
   IsEventFields,

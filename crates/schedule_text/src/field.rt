@@ -1,6 +1,6 @@
 //! The fields of a line, and what a field says.
 ghost use Rattle.std.specs.Prelude.{◌≡◌, ◌≢◌, ℕ, codes, ◌⊎◌, ◌↔◌, ◌++◌, ◌∷◌, IsTrue, List, Contains, IfOk, IfErr, MatchOption, MatchResult};
-ghost use Rattle.text_fields.specs.Fields.{texts};
+ghost use Rattle.line_machine.specs.Fields.{texts};
 ghost use Rattle.schedule_text.specs.LineForms.{IsField};
 ghost use Rattle.schedule_text.specs.Fields.{spaced_fields_of, links_of, IsNumberField, IsProcessorField, IsListField, IsMaskField, IsSetField, IsChainField, AreProcessorFields, IsNumberAfter, IsSomebodyField, HasLeadingZero};
 ghost use Rattle.schedule_text.specs.LineFields.{IsNameFault, both_of, first_reported};
@@ -9,10 +9,11 @@ ghost use Rattle.schedule_text.specs.declared.fault.TextKind.TheVariants.{BadLin
 
 use crate::fault::TextKind;
 use affinity_mask::{OutOfMemory, ProcSet};
+use line_machine::line_end;
 use scheduler_reply::Chain;
 use task_set::TaskSet;
 use text_fields::limits::MAX_PROCESSOR;
-use text_fields::{is_word, line_end, read_number, task_of};
+use text_fields::{is_word, read_number, task_of};
 
 /// The most processors of a chain.
 const MAX_CHAIN: usize = 64;

@@ -3,7 +3,7 @@ ghost use Rattle.std.specs.Prelude.{◌≡◌, ◌↔◌, IsTrue, ◌⊎◌, ◌
 ghost use Rattle.task_set.specs.TaskSet.{SetData};
 ghost use Rattle.scheduler_reply.specs.declared.reply.Came.{Came as CameData};
 ghost use Rattle.scheduler_reply.specs.Reply.{reply_of_came};
-ghost use Rattle.text_fields.specs.Fields.{texts};
+ghost use Rattle.line_machine.specs.Fields.{texts};
 ghost use Rattle.schedule_text.specs.LineFields.{
   displaced_fields,
   gone_words,

@@ -4,7 +4,7 @@ use Rattle.std.specs.Prelude.{All, slice_get}
 use Rattle.std.specs.Char.{digit_value}
 use Rattle.std.specs.Str.Parse.{AllDigits}
 use Rattle.std.proofs.lemmas.Bool.{cases_Bool, cases_eq, cases_lt, true≢false}
-use Rattle.std.proofs.lemmas.List.Elements.{All-nil, All-head, All-tail, All-cons}
+use Rattle.std.proofs.lemmas.List.Elements.{All-nil, All-cons}
 use Rattle.affinity_mask.specs.Number.{IsNumber, number_value}
 use Rattle.text_fields.specs.Number.{IsNumberWithin}
 
@@ -27,17 +27,6 @@ bytes_decided (x ∷ xs) (y ∷ ys) = elim (cases_eq x y) [
     | inr differ ↦ inr (λ e. differ (cc))
   ]
   | inr differ ↦ inr (λ e. differ (cc))
-]
-
--- each item of a list passes a test, or not
-pub all_decided : {A : Type 0} (P : A → Type 0) → ((x : A) → P x ⊎ (P x → ⊥)) → (xs : List A) → All P xs ⊎ (All P xs → ⊥)
-all_decided P decide [] = inl (All-nil P)
-all_decided P decide (x ∷ xs) = elim (decide x) [
-  | inl here ↦ elim (all_decided P decide xs) [
-    | inl rest ↦ inl (All-cons P x xs here rest)
-    | inr fails ↦ inr (λ all. fails (All-tail P x xs all))
-  ]
-  | inr fails ↦ inr (λ all. fails (All-head P x xs all))
 ]
 
 -- an item has this image, or none has

@@ -1,6 +1,4 @@
 pub mod EventText
-pub mod Fields
-pub mod LineEnd
 pub mod LineText
 pub mod Number
 pub mod Version

@@ -1,6 +1,5 @@
 -- Lines that the reader refuses.
 use Rattle.std.proofs.Common.{◌≡◌, ◌≢◌, ℕ, ◌⊎◌, List, [], ◌∷◌, codes, false, refl, subst, inl, inr}
-use Rattle.std.specs.Prelude.{IfErr, Result, Ok, Err}
 use Rattle.affinity_mask.specs.ListText.{IsListText}
 use Rattle.task_set.specs.TaskSet.{SetData}
 use Rattle.task_set.specs.Refusal.{new_task, IsRefusal}
@@ -9,7 +8,8 @@ use Rattle.task_set.specs.declared.fault.TaskFault.TheVariants as task
 use Rattle.trace_reader.specs.declared.posted.Posted.{Posted}
 use Rattle.trace_reader.specs.declared.fault.InputKind.{InputKind}
 use Rattle.trace_reader.specs.declared.fault.InputKind.TheVariants.{BadByte, LongLine}
-use Rattle.trace_reader.specs.Lines.{fields_of, is_skipped, IsClean}
+use Rattle.line_machine.specs.Lines.{fields_of}
+use Rattle.trace_reader.specs.Lines.{is_skipped, IsClean}
 use Rattle.trace_reader.specs.InputText.{IsTaskForm, IsOnStream, end_line}
 use Rattle.trace_reader.specs.InputFault.{IsFieldsFault, IsLineFault, kind_of_refusal}
 use Rattle.trace_reader.specs.Progress.{Progress, Listed}
@@ -82,13 +82,3 @@ pub line_refused : (expected : Progress) (line : List ℕ) (kind : InputKind) �
 line_refused expected line BadByte clean said fault = absurd fault
 line_refused expected line LongLine clean said fault = absurd fault
 line_refused expected line kind clean said fault = (clean, said, fault)
-
--- a line whose fields have a fault, or for which there was no memory
-pub after_refused : {S : Type 0} (expected : Progress) (line : List ℕ) (fields : List (List ℕ))
-    (r : Result S InputKind) → IsClean line → fields ≡ fields_of line → is_skipped fields ≡ false
-    → IfErr r (λ kind. IsOutOfMemory kind ⊎ IsFieldsFault expected fields kind)
-    → IfErr r (λ kind. IsOutOfMemory kind ⊎ IsLineFault expected line kind)
-after_refused expected line fields (Ok next) clean same said why = tt
-after_refused expected line fields (Err kind) clean same said (inl none) = inl none
-after_refused expected line fields (Err kind) clean same said (inr fault) =
-    inr (line_refused expected line kind clean (rw (← same) said) (rw (← same) fault))

@@ -11,9 +11,12 @@ use Rattle.task_set.specs.declared.event.Event.TheVariants.{Affinity}
 use Rattle.task_set.specs.declared.fault.TaskFault.{TaskFault}
 use Rattle.task_set.specs.declared.fault.TaskFault.TheVariants as task
 use Rattle.trace_reader.specs.declared.posted.Posted.{Posted}
+use Rattle.line_machine.specs.declared.kind.LineKind.{LineKind}
+use Rattle.line_machine.specs.declared.kind.LineKind.TheVariants as line_kind
 use Rattle.trace_reader.specs.declared.fault.InputKind.{InputKind}
 use Rattle.trace_reader.specs.declared.fault.InputKind.TheVariants.{BadByte, LongLine, BadHeader, BadProcessors, BadTask, BadMask, TaskRefused, BadEvent, UnknownTask, ManyEvents, AfterEnd, NoEnd, OutsideAffinity, OutOfMemory}
-use Rattle.trace_reader.specs.Lines.{lines_of, fields_of, is_skipped, said_by, IsPlain, IsClean}
+use Rattle.line_machine.specs.Lines.{lines_of, fields_of, IsPlain}
+use Rattle.trace_reader.specs.Lines.{is_skipped, said_by, IsClean}
 use Rattle.trace_reader.specs.InputText.{IsHeader, IsProcessorsLine, IsTaskForm, IsEventLine, end_line}
 use Rattle.trace_reader.specs.Progress.{Progress, Expects, HeaderExpected, ProcessorsExpected, Listed, Ended}
 use Rattle.trace_reader.specs.LineForms.{BeginsTask, IsForTask, IsNamedForm, IsEventForm, IsBadMaskForm}
@@ -122,3 +125,9 @@ kind_number OutOfMemory = None
 abbrev pub kind_of_refusal : TaskFault → InputKind
 kind_of_refusal task.OutOfMemory = OutOfMemory
 kind_of_refusal fault = TaskRefused fault
+
+-- the kind of a fault that any line may have
+abbrev pub input_kind : LineKind → InputKind
+input_kind line_kind.BadByte = BadByte
+input_kind line_kind.LongLine = LongLine
+input_kind line_kind.OutOfMemory = OutOfMemory

@@ -5,6 +5,5 @@ pub mod InputText
 pub mod Laws
 pub mod LineForms
 pub mod Lines
-pub mod PlainText
 pub mod Progress
 pub mod Reading

@@ -1,46 +1,16 @@
--- Lines and fields. A text is cut into lines at its line feeds, and what follows the last
--- line feed is a line only where it has bytes; a line is cut into fields by blanks, which are spaces and tabs; a line is
--- skipped where it has no field, or where its first field begins with '#'.
-use Rattle.std.specs.Prelude.{ℕ, ◌≤◌, ◌⊎◌, ◌≡◌, Bool, true, false, not, ◌==◌, ◌||◌, List, [], ◌∷◌, length, map, filter, All, if◌then◌else◌}
-use Rattle.std.specs.List.{slice_split, onto_first}
-
--- the byte is a line feed
-abbrev pub is_line_feed : ℕ → Bool
-is_line_feed byte = byte == 10
-
--- the lines of a text: a line feed ends a line, and what no line feed ends is a line where it has bytes
-abbrev pub lines_of : List ℕ → List (List ℕ)
-lines_of [] = []
-lines_of (byte ∷ rest) =
-    if is_line_feed byte then [] ∷ lines_of rest else onto_first byte (lines_of rest)
-
--- the byte is a space or a tab
-abbrev pub is_blank : ℕ → Bool
-is_blank byte = (byte == 32) || (byte == 9)
-
--- whether a list has no bytes
-abbrev pub is_nothing : List ℕ → Bool
-is_nothing [] = true
-is_nothing (byte ∷ rest) = false
-
--- the fields of a line: its longest runs of bytes that are no blanks
-abbrev pub fields_of : List ℕ → List (List ℕ)
-fields_of line = filter (λ piece. not (is_nothing piece)) (slice_split is_blank line)
+-- The lines of an input text. Each is clean, which is that its bytes are plain and at most 4,096, and a line whose first field
+-- begins with '#' is a comment.
+use Rattle.std.specs.Prelude.{ℕ, Bool, true, not, List, map, filter}
+use Rattle.line_machine.specs.Lines.{fields_of, is_skipped_line, IsCleanLine}
 
 -- whether the fields are those of a skipped line: there is none, or the first begins with '#'
 abbrev pub is_skipped : List (List ℕ) → Bool
-is_skipped [] = true
-is_skipped ([] ∷ more) = false
-is_skipped ((byte ∷ rest) ∷ more) = byte == 35
+is_skipped fields = is_skipped_line true fields
 
 -- what some lines say: the fields of each line that is not skipped
 abbrev pub said_by : List (List ℕ) → List (List (List ℕ))
 said_by lines = filter (λ fields. not (is_skipped fields)) (map fields_of lines)
 
--- a byte that may stand in a line: a tab, or an ASCII character that is printed
-abbrev pub IsPlain : ℕ → Type 0
-IsPlain byte = (byte ≡ 9) ⊎ ((32 ≤ byte) × (byte ≤ 126))
-
--- a line of at most 4,096 such bytes
+-- a line of at most 4,096 plain bytes
 abbrev pub IsClean : List ℕ → Type 0
-IsClean line = All IsPlain line × (length line ≤ 4096)
+IsClean line = IsCleanLine 4096 line

@@ -1,28 +1,23 @@
 //! What was read so far, and what is expected.
-ghost use Rattle.std.specs.Prelude.{◌≡◌, ◌≢◌, ℕ, ◌≤◌, ◌↔◌, ◌⊎◌, IsTrue, List, [], length, All, IfOk, IfErr, OnOk, MatchOption, MatchBool};
-ghost use Rattle.task_set.specs.TaskSet.{SetData};
+ghost use Rattle.std.specs.Prelude.{◌≡◌, ◌≢◌, ℕ, ◌≤◌, ◌↔◌, ◌⊎◌, IsTrue, [], length, IfOk, IfErr, OnOk, MatchOption, MatchBool};
 ghost use Rattle.trace_reader.specs.declared.posted.Posted.{Posted};
 ghost use Rattle.trace_reader.specs.InputText.{IsHeader, IsProcessorsLine, end_line};
-ghost use Rattle.trace_reader.specs.InputFault.{IsFieldsFault, IsLineFault};
-ghost use Rattle.trace_reader.specs.Lines.{IsPlain};
+ghost use Rattle.trace_reader.specs.InputFault.{IsFieldsFault};
 ghost use Rattle.trace_reader.specs.LineForms.{BeginsTask, IsForTask};
-ghost use Rattle.trace_reader.specs.Progress.{Expects, HeaderExpected, ProcessorsExpected, Listed, Ended};
-ghost use Rattle.trace_reader.specs.Reading.{progress_of, Says, SaysLine, SaysTask, IsOutOfMemory};
-ghost use Rattle.text_fields.specs.Fields.{texts};
+ghost use Rattle.trace_reader.specs.Progress.{HeaderExpected, ProcessorsExpected, Listed};
+ghost use Rattle.trace_reader.specs.Reading.{progress_of, Says, SaysTask, IsOutOfMemory};
+ghost use Rattle.line_machine.specs.Fields.{texts};
 
 use crate::event::{outside_of, read_event};
 use crate::fault::InputKind;
-use crate::fields::{fields, is_comment, is_plain};
 use crate::input::{FIRST_VERSION, Input, LAST_VERSION, MAX_EVENTS, MAX_PRIORITY, MAX_PROCESSORS};
 use crate::posted::Posted;
 use affinity_mask::ProcSet;
+use line_machine::{LineKind, LineMachine};
 use std::alloc::Global;
 use std::str;
 use task_set::{TaskFault, TaskSet};
 use text_fields::{is_word, read_number};
-
-/// The most bytes of a line, without its line feed.
-const MAX_LINE: usize = 4096;
 
 /// What some lines said, and so what is expected after them.
 #[derive(Drop)]
@@ -44,64 +39,48 @@ pub enum Stage {
     },
 }
 
-impl Stage {
-    /// Goes on by one more line, of which it may be known that it is plain. The room is for its fields. What a line lists
-    /// is put into the lists where they are, as there are many such lines. After an `Err` the stage is not used again.
-    pub fn after_line<'a>(
-        &mut self,
-        alloc: Global,
-        line: &'a [u8],
-        known_plain: bool,
-        room: &mut Vec<&'a [u8]>,
-    ) -> Result<(), InputKind>
-        requires plain { IsTrue known_plain → All IsPlain line.now }
-        requires expected { (said : List (List (List ℕ))) × Expects said (progress_of self.old) }
-        ensures read { OnOk result (SaysLine (progress_of self.old) line.now
-            (progress_of self.new)) }
-        ensures refused { IfErr result (λ kind. IsOutOfMemory kind
-            ⊎ IsLineFault (progress_of self.old) line.now kind) }
-    {
-        if !is_plain(line, known_plain) {
-            return Err(InputKind::BadByte);
-        }
-        if line.len() > MAX_LINE {
-            return Err(InputKind::LongLine);
-        }
-        let fields = fields(line, room)?;
-        if is_comment(fields) {
-            Ok(())
-        } else {
-            self.after(alloc, fields)
+impl LineMachine for Stage {
+    ghost use Rattle.std.specs.Prelude.{true};
+    ghost use Rattle.trace_reader.specs.InputFault.{input_kind};
+    ghost use Rattle.trace_reader.specs.Progress.{Progress as Expected, HeaderExpected};
+    ghost use Rattle.trace_reader.specs.Reading.{progress_of, IsExpected, IsOutcome, IsEndOutcome};
+
+    type Value = Input;
+
+    type Kind = InputKind;
+
+    const LONGEST_LINE: usize = 4096;
+
+    const HAS_COMMENTS: bool = true;
+
+    ghost LONGEST_LINE = { 4096 };
+
+    ghost HAS_COMMENTS = { true };
+
+    ghost Progress = { Expected };
+
+    ghost progress = { progress_of };
+
+    ghost begins = { HeaderExpected };
+
+    ghost IsValid = { IsExpected };
+
+    ghost Says = { IsOutcome };
+
+    ghost Ends = { IsEndOutcome };
+
+    ghost kind_of = { input_kind };
+
+    fn kind_of(kind: LineKind) -> InputKind {
+        match kind {
+            LineKind::BadByte => InputKind::BadByte,
+            LineKind::LongLine => InputKind::LongLine,
+            LineKind::OutOfMemory => InputKind::OutOfMemory,
         }
     }
 
-    /// The input, if the end came.
-    pub fn into_input(self) -> Option<Input>
-        requires { (said : List (List (List ℕ))) × Expects said (progress_of self) }
-        ensures { MatchOption result
-            ((version : ℕ) (set : SetData) (events : List Posted)
-            → progress_of self ≢ Ended version set events)
-            (λ input. progress_of self ≡ Ended input.version input.set input.events) }
-    {
-        match self {
-            Stage::Listed {
-                version,
-                set,
-                events,
-                is_ended: true,
-            } => Some(Input::new(version, set, events)),
-            _ => None,
-        }
-    }
-
-    /// Goes on by a line that is not skipped, by its fields.
-    fn after(&mut self, alloc: Global, fields: &[&[u8]]) -> Result<(), InputKind>
-        requires { (said : List (List (List ℕ))) × Expects said (progress_of self.old) }
-        ensures read { OnOk result (Says (progress_of self.old) (texts fields.now)
-            (progress_of self.new)) }
-        ensures refused { IfErr result (λ kind. IsOutOfMemory kind
-            ⊎ IsFieldsFault (progress_of self.old) (texts fields.now) kind) }
-    {
+    // What a line lists is put into the lists where they are, as there are many such lines.
+    fn after(&mut self, alloc: Global, fields: &[&[u8]]) -> Result<(), InputKind> {
         match self {
             Stage::HeaderExpected => {
                 let version = read_header(fields)?;
@@ -129,6 +108,18 @@ impl Stage {
                     list_event(*version, set, events, fields)
                 }
             }
+        }
+    }
+
+    fn at_end(self) -> Result<Input, InputKind> {
+        match self {
+            Stage::Listed {
+                version,
+                set,
+                events,
+                is_ended: true,
+            } => Ok(Input::new(version, set, events)),
+            _ => Err(InputKind::NoEnd),
         }
     }
 }

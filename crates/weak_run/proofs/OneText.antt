@@ -2,7 +2,7 @@
 use Rattle.std.proofs.Common.{ℕ, List, sym, subst}
 use Rattle.task_set.specs.TaskSet.{SetData}
 use Rattle.trace_reader.specs.declared.posted.Posted.{Posted}
-use Rattle.trace_reader.proofs.OneInput.{text_has_one_input}
+use Rattle.trace_reader.proofs.Texts.{text_has_one_input}
 use Rattle.weak_apa.specs.WeakText.{IsWeakTextOf}
 use Rattle.weak_apa.proofs.OneText.{events_have_one_text}
 use Rattle.weak_run.specs.Laws.{BytesHaveOneText}

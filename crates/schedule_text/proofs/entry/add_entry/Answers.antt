@@ -1,9 +1,9 @@
 use Rattle.std.proofs.Common.{refl, sym, subst, inr, ◌≡◌, ℕ, List, Result, Ok, Err, MatchResult}
 use Rattle.std.proofs.lemmas.Result.{err_from_is_err_and}
-use Rattle.text_fields.specs.Fields.{texts}
+use Rattle.line_machine.specs.Fields.{texts}
 use Rattle.schedule_text.specs.declared.fault.TextKind.{TextKind}
 use Rattle.schedule_text.specs.LineFields.{IsEventFields, IsReplyFields, IsEntryFault, first_reported, both_of}
-use Rattle.text_fields.proofs.FieldLists.{texts_first_one}
+use Rattle.line_machine.proofs.FieldLists.{texts_first_one}
 use Rattle.schedule_text.proofs.Parts.{fault_of_both}
 use Rattle.schedule_text.proofs.Entries.{entry_cut, entry_parts}
 use Rattle.schedule_text.proofs.entry.add_entry.Goals as goal
