@@ -1,34 +1,39 @@
 -- The definitions on one example, worked by hand. Two processors; a may run on both, b on 1 alone, and c, the least urgent, on both.
 -- They arrive as c, a, b. So c takes processor 0 and a processor 1, and then a moves aside for b, and c waits.
-use Rattle.std.proofs.Common.{◌≡◌, ℕ, zero, suc, ◌<◌, ◌≤◌, ◌==◌, ◌||◌, Bool, true, false, List, [], ◌∷◌, map, Some, None, refl, sym, ap, ◌∙◌, arith}
-use Rattle.std.proofs.lemmas.Bool.{ltb-true}
+use Rattle.std.proofs.Common.{◌≡◌, ℕ, zero, suc, ◌<◌, ◌≤◌, Bool, true, false, List, [], ◌∷◌, map, Some, None, refl, sym, ap, ◌∙◌, IsTrue, arith, eqb-true}
+use Rattle.std.specs.Prelude.{All}
+use Rattle.std.proofs.lemmas.Bool.{ltb-true, false≢true}
+use Rattle.std.proofs.lemmas.List.Elements.{All-nil, All-cons}
 use Rattle.std.proofs.lemmas.Option.{same_Some}
 use Rattle.affinity_mask.specs.ProcSet.{has, all_below, intersection, passing_below}
 use Rattle.affinity_mask.proofs.Sets.{has-all_below}
 use Rattle.task_set.specs.TaskSet.{SetData, TaskData}
 use Rattle.task_set.specs.declared.event.Event.{Event}
-use Rattle.task_set.specs.declared.event.Event.TheVariants.{Arrive, Tick}
+use Rattle.task_set.specs.declared.event.Event.TheVariants.{Arrive, Tick, Affinity}
 use Rattle.task_set.specs.declared.order.Order.{Order}
 use Rattle.task_set.specs.declared.order.Order.TheVariants.{Release, Take, Run, Stop}
 use Rattle.scheduler_reply.specs.declared.reply.Reply.{Reply}
 use Rattle.scheduler_reply.specs.declared.reply.Reply.TheVariants.{Placed, Displaced, Ticked}
 use Rattle.scheduler_reply.specs.declared.reply.Entry.{Entry}
-use Rattle.link_state.specs.State.{State, IsWaiting, priority_of, start_of}
+use Rattle.link_state.specs.State.{State, IsWaiting, priority_of, effective_mask, start_of}
 use Rattle.link_state.specs.Chain.{Reaches, IsReach}
-use Rattle.link_state.specs.History.{linked_after, state_at}
+use Rattle.link_state.specs.History.{linked_after, ready_after, state_at}
+use Rattle.link_state.specs.Placement.{TaskTest, IsSubset, IsPlaceable}
 use Rattle.link_state.specs.Dispatch.{closed_orders_of}
 use Rattle.link_state.proofs.Paths.{Reaches-online}
+use Rattle.trace_reader.specs.declared.posted.Posted.{Posted}
 use Rattle.job_text.specs.JobInput.{JobInputData}
 use Rattle.job_text.specs.declared.input.JobTask.{JobTask}
 use Rattle.scheduling_laws.specs.Faces.{IsCertifiedByReach}
-use Rattle.scheduling_laws.specs.Going.{times_taken, times_released, CanBeObeyed}
+use Rattle.scheduling_laws.specs.Going.{IsRun, times_taken, times_released, CanBeObeyed}
 use Rattle.scheduling_laws.specs.InReach.{IsWorkConserving, HasNoInversion}
 use Rattle.scheduling_laws.specs.Isolation.{IsUrgent, IsSameTask, AgreeUpTo}
-use Rattle.scheduling_laws.specs.OneEnd.{is_of_task, events_that, events_by}
-use Rattle.scheduling_laws.specs.ShiftCounts.{shifts_of}
+use Rattle.scheduling_laws.specs.Merges.{HaveStreams}
+use Rattle.scheduling_laws.specs.OneEnd.{is_of_task, is_of_processor, events_that, events_by}
+use Rattle.scheduling_laws.specs.ShiftCounts.{shifts_of, most_shifts}
 use Rattle.scheduling_laws.specs.Sustained.{AsksNoMore, AsksNoMoreUpTo}
 use Rattle.scheduling_laws.specs.Urgency.{urgent_of}
-use Rattle.scheduling_laws.specs.UrgentWork.{urgent_work}
+use Rattle.scheduling_laws.specs.UrgentWork.{IsChoice, urgent_work}
 
 -- a mask is written as the number whose ones are its processors; names play no part
 abbrev task : ℕ → ℕ → TaskData
@@ -52,13 +57,64 @@ moved_aside =
 shifts : map (λ (e : Entry). shifts_of e.reply) moved_aside ≡ 0 ∷ 0 ∷ 1 ∷ 0 ∷ []
 shifts = refl
 
+most : map (most_shifts 2) (Arrive 0 ∷ Affinity 0 1 ∷ Tick 5 ∷ []) ≡ 1 ∷ 2 ∷ 0 ∷ []
+most = refl
+
 -- ---- who is urgent up to priority 2, of all tasks
 urgent : map (urgent_of (start_of three_tasks) (λ t. true) 2) (0 ∷ 1 ∷ 2 ∷ []) ≡ true ∷ true ∷ false ∷ []
 urgent = refl
 
 -- ---- the tick of 5 units is work of a and b; of a and c, had a stayed where it was
 abbrev a_and_c : ℕ → ℕ → Bool
-a_and_c n t = (t == 0) || (t == 2)
+a_and_c (suc (suc (suc n))) zero = true
+a_and_c (suc (suc (suc n))) (suc (suc zero)) = true
+a_and_c n t = false
+
+abbrev place_of : ℕ → ℕ
+place_of zero = 1
+place_of (suc t) = 0
+
+nobody_is_a_choice : (s : State) (R tasks : TaskTest) → ((t : ℕ) → tasks t ≡ false) → IsSubset tasks R × IsPlaceable s tasks
+nobody_is_a_choice s R tasks none = (
+  (λ t is. absurd (false≢true (sym (none t) ∙ is))),
+  (
+    (λ t. 0),
+    record {
+      allowed = λ t is. absurd (false≢true (sym (none t) ∙ is));
+      apart = λ t u is also e. absurd (false≢true (sym (none t) ∙ is));
+    },
+  ),
+)
+
+after_three : IsSubset (a_and_c 3) (ready_after three_tasks moved_aside 3)
+after_three zero is = refl
+after_three (suc zero) is = refl
+after_three (suc (suc zero)) is = refl
+after_three (suc (suc (suc t))) is = absurd (false≢true is)
+
+allowed : (t : ℕ) → a_and_c 3 t ≡ true → IsTrue (has (effective_mask (state_at three_tasks moved_aside 3) t) (place_of t))
+unfolding has intersection all_below
+allowed zero is = refl
+allowed (suc zero) is = absurd (false≢true is)
+allowed (suc (suc zero)) is = refl
+allowed (suc (suc (suc t))) is = absurd (false≢true is)
+
+apart : (t u : ℕ) → a_and_c 3 t ≡ true → a_and_c 3 u ≡ true → place_of t ≡ place_of u → t ≡ u
+apart zero zero is also e = refl
+apart zero (suc u) is also e = absurd (omega arith)
+apart (suc t) zero is also e = absurd (omega arith)
+apart (suc zero) (suc u) is also e = absurd (false≢true is)
+apart (suc (suc zero)) (suc zero) is also e = absurd (false≢true also)
+apart (suc (suc zero)) (suc (suc zero)) is also e = refl
+apart (suc (suc zero)) (suc (suc (suc u))) is also e = absurd (false≢true also)
+apart (suc (suc (suc t))) (suc u) is also e = absurd (false≢true is)
+
+is_choice : IsChoice (start_of three_tasks) moved_aside a_and_c
+is_choice zero below = nobody_is_a_choice _ _ (a_and_c 0) (λ t. refl)
+is_choice (suc zero) below = nobody_is_a_choice _ _ (a_and_c 1) (λ t. refl)
+is_choice (suc (suc zero)) below = nobody_is_a_choice _ _ (a_and_c 2) (λ t. refl)
+is_choice (suc (suc (suc zero))) below = (after_three, (place_of, record { allowed = allowed; apart = apart }))
+is_choice (suc (suc (suc (suc n)))) below = absurd (omega arith)
 
 work_done : urgent_work (start_of three_tasks) moved_aside (linked_after three_tasks moved_aside) 2 ≡ 10
 unfolding passing_below
@@ -75,6 +131,29 @@ events_of_a = refl
 events_of_caller : events_by 0 moved_aside ≡ Arrive 2 ∷ Arrive 0 ∷ Arrive 1 ∷ Tick 5 ∷ []
 events_of_caller = refl
 
+-- ---- c has its events on stream 1, and the others on stream 0
+abbrev posted : ℕ → Event → Posted
+posted stream event = record { stream = stream; event = event }
+
+abbrev stream_of : ℕ → ℕ
+stream_of (suc (suc zero)) = 1
+stream_of t = 0
+
+two_streams : HaveStreams stream_of (λ p. 0) (posted 1 (Arrive 2) ∷ posted 0 (Arrive 0) ∷ [])
+two_streams = record { tasks = of_task; processors = of_processor }
+  where
+    of_task : (t : ℕ) → All (λ (event : Posted). is_of_task t event.event ≡ true → event.stream ≡ stream_of t) (posted 1 (Arrive 2) ∷ posted 0 (Arrive 0) ∷ [])
+    of_task t =
+        All-cons (λ (event : Posted). is_of_task t event.event ≡ true → event.stream ≡ stream_of t) (posted 1 (Arrive 2)) (posted 0 (Arrive 0) ∷ []) (λ is. ap stream_of (eqb-true 2 t is))
+        (All-cons (λ (event : Posted). is_of_task t event.event ≡ true → event.stream ≡ stream_of t) (posted 0 (Arrive 0)) [] (λ is. ap stream_of (eqb-true 0 t is))
+        (All-nil (λ (event : Posted). is_of_task t event.event ≡ true → event.stream ≡ stream_of t)))
+
+    of_processor : (p : ℕ) → All (λ (event : Posted). is_of_processor p event.event ≡ true → event.stream ≡ 0) (posted 1 (Arrive 2) ∷ posted 0 (Arrive 0) ∷ [])
+    of_processor p =
+        All-cons (λ (event : Posted). is_of_processor p event.event ≡ true → event.stream ≡ 0) (posted 1 (Arrive 2)) (posted 0 (Arrive 0) ∷ []) (λ is. absurd (false≢true is))
+        (All-cons (λ (event : Posted). is_of_processor p event.event ≡ true → event.stream ≡ 0) (posted 0 (Arrive 0)) [] (λ is. absurd (false≢true is))
+        (All-nil (λ (event : Posted). is_of_processor p event.event ≡ true → event.stream ≡ 0)))
+
 -- ---- obeying: processor 0 takes c and releases it, and then takes a, once processor 1 has released it
 abbrev orders : ℕ → List Order
 orders p = closed_orders_of (start_of three_tasks) moved_aside p
@@ -86,6 +165,15 @@ orders_are = refl
 -- the latest step first
 abbrev one_taken : List ℕ
 one_taken = 1 ∷ 0 ∷ 0 ∷ []
+
+is_run : IsRun 2 orders one_taken
+is_run = (
+  record { processor = omega arith; next = Take 0 0; is_next = refl; can = (refl, refl) },
+  (
+    record { processor = omega arith; next = Release 2; is_next = refl; can = tt },
+    (record { processor = omega arith; next = Take 2 0; is_next = refl; can = (refl, refl) }, tt),
+  ),
+)
 
 taken_once : times_taken 2 orders one_taken 0 ≡ 1
 taken_once = refl
