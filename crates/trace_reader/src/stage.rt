@@ -7,7 +7,7 @@ ghost use Rattle.trace_reader.specs.InputFault.{IsFieldsFault, IsLineFault};
 ghost use Rattle.trace_reader.specs.Lines.{IsPlain};
 ghost use Rattle.trace_reader.specs.LineForms.{BeginsTask, IsForTask};
 ghost use Rattle.trace_reader.specs.Progress.{Expects, HeaderExpected, ProcessorsExpected, Listed, Ended};
-ghost use Rattle.trace_reader.specs.Reading.{progress_of, Says, SaysLine, SaysTask, IsOutOfMemory};
+ghost use Rattle.trace_reader.specs.Reading.{progress_of, progress_of_lists, Says, SaysLine, SaysTask, IsOutOfMemory};
 ghost use Rattle.text_fields.specs.Fields.{texts};
 
 use crate::event::{outside_of, read_event};
@@ -31,17 +31,19 @@ pub enum Stage {
     HeaderExpected,
 
     /// The number of processors is expected.
-    ProcessorsExpected {
-        version: u8,
-    },
+    ProcessorsExpected { version: u8 },
 
     /// Tasks, then events, then the end are expected, or the end came.
-    Listed {
-        version: u8,
-        set: TaskSet,
-        events: Vec<Posted>,
-        is_ended: bool,
-    },
+    Listed(Lists),
+}
+
+/// The tasks and events so far, and whether the end came.
+#[derive(Drop)]
+pub struct Lists {
+    version: u8,
+    set: TaskSet,
+    events: Vec<Posted>,
+    is_ended: bool,
 }
 
 impl Stage {
@@ -84,12 +86,7 @@ impl Stage {
             (λ input. progress_of self ≡ Ended input.version input.set input.events) }
     {
         match self {
-            Stage::Listed {
-                version,
-                set,
-                events,
-                is_ended: true,
-            } => Some(Input::new(version, set, events)),
+            Stage::Listed(lists) => lists.into_input(),
             _ => None,
         }
     }
@@ -103,43 +100,100 @@ impl Stage {
             ⊎ IsFieldsFault (progress_of self.old) (texts fields.now) kind) }
     {
         match self {
-            Stage::HeaderExpected => {
-                let version = read_header(fields)?;
-                *self = Stage::ProcessorsExpected { version };
-                Ok(())
-            }
+            Stage::HeaderExpected => self.after_header(fields),
             Stage::ProcessorsExpected { version } => {
-                *self = start(alloc, *version, fields)?;
+                let version = *version;
+                self.after_processors(alloc, version, fields)
+            }
+            Stage::Listed(lists) => lists.after(fields),
+        }
+    }
+
+    /// Goes on to the next stage.
+    fn go_on(&mut self, next: Stage)
+        ensures { self.new ≡ next }
+    {
+        *self = next;
+    }
+
+    /// Goes on by the header.
+    fn after_header(&mut self, fields: &[&[u8]]) -> Result<(), InputKind>
+        ensures read { OnOk result (Says HeaderExpected (texts fields.now) (progress_of self.new)) }
+        ensures refused { IfErr result (λ kind. IsOutOfMemory kind
+            ⊎ IsFieldsFault HeaderExpected (texts fields.now) kind) }
+    {
+        match read_version(fields) {
+            Some(version) => {
+                self.go_on(Stage::ProcessorsExpected { version });
                 Ok(())
             }
-            Stage::Listed {
-                version,
-                set,
-                events,
-                is_ended,
-            } => {
-                if *is_ended {
-                    Err(InputKind::AfterEnd)
-                } else if is_end(fields) {
-                    *is_ended = true;
-                    Ok(())
-                } else if is_for_task(events, fields) {
-                    add_task(*version, set, fields)
-                } else {
-                    list_event(*version, set, events, fields)
-                }
+            None => Err(InputKind::BadHeader),
+        }
+    }
+
+    /// Goes on by the number of processors.
+    fn after_processors(
+        &mut self,
+        alloc: Global,
+        version: u8,
+        fields: &[&[u8]],
+    ) -> Result<(), InputKind>
+        ensures read { OnOk result (Says (ProcessorsExpected version) (texts fields.now)
+            (progress_of self.new)) }
+        ensures refused { IfErr result (λ kind. IsOutOfMemory kind
+            ⊎ IsFieldsFault (ProcessorsExpected version) (texts fields.now) kind) }
+    {
+        match start(alloc, version, fields) {
+            Ok(lists) => {
+                self.go_on(Stage::Listed(lists));
+                Ok(())
             }
+            Err(kind) => Err(kind),
         }
     }
 }
 
-/// Reads the header.
-fn read_header(fields: &[&[u8]]) -> Result<u8, InputKind>
-    ensures read { IfOk result (λ version. Says HeaderExpected (texts fields.now)
-        (ProcessorsExpected version)) }
-    ensures refused { IfErr result (IsFieldsFault HeaderExpected (texts fields.now)) }
-{
-    read_version(fields).ok_or(InputKind::BadHeader)
+impl Lists {
+    /// Goes on by a line that is not skipped, by its fields.
+    fn after(&mut self, fields: &[&[u8]]) -> Result<(), InputKind>
+        requires { (said : List (List (List ℕ))) × Expects said (progress_of_lists self.old) }
+        ensures read { OnOk result (Says (progress_of_lists self.old) (texts fields.now)
+            (progress_of_lists self.new)) }
+        ensures refused { IfErr result (λ kind. IsOutOfMemory kind
+            ⊎ IsFieldsFault (progress_of_lists self.old) (texts fields.now) kind) }
+    {
+        if self.is_ended {
+            Err(InputKind::AfterEnd)
+        } else if is_end(fields) {
+            self.is_ended = true;
+            Ok(())
+        } else if is_for_task(&self.events, fields) {
+            add_task(self.version, &mut self.set, fields)
+        } else {
+            list_event(self.version, &self.set, &mut self.events, fields)
+        }
+    }
+
+    /// The input, if the end came.
+    fn into_input(self) -> Option<Input>
+        requires { (said : List (List (List ℕ))) × Expects said (progress_of_lists self) }
+        ensures { MatchOption result
+            ((version : ℕ) (set : SetData) (events : List Posted)
+            → progress_of_lists self ≢ Ended version set events)
+            (λ input. progress_of_lists self ≡ Ended input.version input.set input.events) }
+    {
+        let Lists {
+            version,
+            set,
+            events,
+            is_ended,
+        } = self;
+        if is_ended {
+            Some(Input::new(version, set, events))
+        } else {
+            None
+        }
+    }
 }
 
 /// Which version a header says.
@@ -174,20 +228,20 @@ fn read_processors(fields: &[&[u8]]) -> Option<u8>
 
 /// Nothing is listed yet, on as many processors as a line says. Room is made for all events that there may be, so that
 /// none is moved later.
-fn start(alloc: Global, version: u8, fields: &[&[u8]]) -> Result<Stage, InputKind>
-    ensures read { IfOk result (λ next. Says (ProcessorsExpected version) (texts fields.now)
-        (progress_of next)) }
+fn start(alloc: Global, version: u8, fields: &[&[u8]]) -> Result<Lists, InputKind>
+    ensures read { IfOk result (λ lists. Says (ProcessorsExpected version) (texts fields.now)
+        (progress_of_lists lists)) }
     ensures refused { IfErr result (λ kind. IsOutOfMemory kind
         ⊎ IsFieldsFault (ProcessorsExpected version) (texts fields.now) kind) }
 {
     let Some(processors) = read_processors(fields) else {
         return Err(InputKind::BadProcessors);
     };
-    let set = TaskSet::new(alloc, processors)?;
     let Ok(events) = Vec::with_capacity(alloc, MAX_EVENTS) else {
         return Err(InputKind::OutOfMemory);
     };
-    Ok(Stage::Listed {
+    let set = TaskSet::new(alloc, processors)?;
+    Ok(Lists {
         version,
         set,
         events,

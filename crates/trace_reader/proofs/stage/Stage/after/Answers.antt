@@ -1,9 +1,19 @@
-use Rattle.std.proofs.Common.{refl}
 use Rattle.trace_reader.proofs.stage.Stage.after.Goals as goal
 
-pub returns-then-is_end-clause-read : goal.returns-then-is_end-clause-read
-returns-then-is_end-clause-read c =
-    rw c.in-Listed.is (rw c.if-is_ended.false (c.is_end.ensures.0 c.if-is_end.true, refl, refl, refl))
+pub returns-in-HeaderExpected-clause-read : goal.returns-in-HeaderExpected-clause-read
+returns-in-HeaderExpected-clause-read c = rw c.in-HeaderExpected.is c.after_header.ensures.read
 
-pub returns-else-is_for_task-clause-refused : goal.returns-else-is_for_task-clause-refused
-returns-else-is_for_task-clause-refused c = rw c.in-Listed.is (rw c.if-is_ended.false c.list_event.ensures.refused)
+pub returns-in-HeaderExpected-clause-refused : goal.returns-in-HeaderExpected-clause-refused
+returns-in-HeaderExpected-clause-refused c = rw c.in-HeaderExpected.is c.after_header.ensures.refused
+
+pub returns-in-ProcessorsExpected-clause-read : goal.returns-in-ProcessorsExpected-clause-read
+returns-in-ProcessorsExpected-clause-read c = rw c.in-ProcessorsExpected.is c.after_processors.ensures.read
+
+pub returns-in-ProcessorsExpected-clause-refused : goal.returns-in-ProcessorsExpected-clause-refused
+returns-in-ProcessorsExpected-clause-refused c = rw c.in-ProcessorsExpected.is c.after_processors.ensures.refused
+
+pub returns-in-Listed-clause-read : goal.returns-in-Listed-clause-read
+returns-in-Listed-clause-read c = rw c.in-Listed.is c.after.ensures.read
+
+pub returns-in-Listed-clause-refused : goal.returns-in-Listed-clause-refused
+returns-in-Listed-clause-refused c = rw c.in-Listed.is c.after.ensures.refused
