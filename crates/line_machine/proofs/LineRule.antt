@@ -1,5 +1,5 @@
 -- The rule of lines makes a machine of lines of a machine of fields.
-use Rattle.std.proofs.Common.{◌≡◌, ℕ, ◌≤◌, ◌⊎◌, Bool, List, length, true, false, refl, sym, ◌∙◌, subst, inl, inr, arith}
+use Rattle.std.proofs.Common.{◌≡◌, ℕ, ◌≤◌, ◌⊎◌, Bool, List, length, true, refl, sym, ◌∙◌, subst, inl, inr, arith}
 use Rattle.std.proofs.lemmas.Bool.{cases_Bool, cases_eq, cases_lt, true≢false}
 use Rattle.line_machine.proofs.Decisions.{all_decided}
 use Rattle.line_machine.specs.Lines.{fields_of, is_skipped_line, IsPlain}

@@ -1,11 +1,12 @@
 //! What was read so far, and what is expected.
-ghost use Rattle.std.specs.Prelude.{◌≡◌, ◌≢◌, ℕ, ◌≤◌, ◌↔◌, ◌⊎◌, IsTrue, [], length, IfOk, IfErr, OnOk, MatchOption, MatchBool};
+ghost use Rattle.std.specs.Prelude.{◌≡◌, ◌≢◌, ℕ, ◌≤◌, ◌↔◌, ◌⊎◌, IsTrue, [], length, IfOk, IfErr, OnOk, MatchOption, MatchBool, MatchResult};
 ghost use Rattle.trace_reader.specs.declared.posted.Posted.{Posted};
 ghost use Rattle.trace_reader.specs.InputText.{IsHeader, IsProcessorsLine, end_line};
 ghost use Rattle.trace_reader.specs.InputFault.{IsFieldsFault};
 ghost use Rattle.trace_reader.specs.LineForms.{BeginsTask, IsForTask};
 ghost use Rattle.trace_reader.specs.Progress.{HeaderExpected, ProcessorsExpected, Listed};
-ghost use Rattle.trace_reader.specs.Reading.{progress_of, Says, SaysTask, IsOutOfMemory};
+ghost use Rattle.trace_reader.specs.Reading.{progress_of, progress_of_lists, Says, SaysTask, IsExpected, IsEndOutcome, IsOutOfMemory};
+ghost use Rattle.line_machine.specs.Machine.{Leads, Fails};
 ghost use Rattle.line_machine.specs.Fields.{texts};
 
 use crate::event::{outside_of, read_event};
@@ -26,17 +27,19 @@ pub enum Stage {
     HeaderExpected,
 
     /// The number of processors is expected.
-    ProcessorsExpected {
-        version: u8,
-    },
+    ProcessorsExpected { version: u8 },
 
     /// Tasks, then events, then the end are expected, or the end came.
-    Listed {
-        version: u8,
-        set: TaskSet,
-        events: Vec<Posted>,
-        is_ended: bool,
-    },
+    Listed(Lists),
+}
+
+/// The tasks and events so far, and whether the end came.
+#[derive(Drop)]
+pub struct Lists {
+    version: u8,
+    set: TaskSet,
+    events: Vec<Posted>,
+    is_ended: bool,
 }
 
 impl LineMachine for Stage {
@@ -82,55 +85,108 @@ impl LineMachine for Stage {
     // What a line lists is put into the lists where they are, as there are many such lines.
     fn after(&mut self, alloc: Global, fields: &[&[u8]]) -> Result<(), InputKind> {
         match self {
-            Stage::HeaderExpected => {
-                let version = read_header(fields)?;
-                *self = Stage::ProcessorsExpected { version };
-                Ok(())
-            }
+            Stage::HeaderExpected => self.after_header(fields),
             Stage::ProcessorsExpected { version } => {
-                *self = start(alloc, *version, fields)?;
-                Ok(())
+                let version = *version;
+                self.after_processors(alloc, version, fields)
             }
-            Stage::Listed {
-                version,
-                set,
-                events,
-                is_ended,
-            } => {
-                if *is_ended {
-                    Err(InputKind::AfterEnd)
-                } else if is_end(fields) {
-                    *is_ended = true;
-                    Ok(())
-                } else if is_for_task(events, fields) {
-                    add_task(*version, set, fields)
-                } else {
-                    list_event(*version, set, events, fields)
-                }
-            }
+            Stage::Listed(lists) => lists.after(fields),
         }
     }
 
     fn at_end(self) -> Result<Input, InputKind> {
         match self {
-            Stage::Listed {
-                version,
-                set,
-                events,
-                is_ended: true,
-            } => Ok(Input::new(version, set, events)),
+            Stage::Listed(lists) => lists.into_input(),
             _ => Err(InputKind::NoEnd),
         }
     }
 }
 
-/// Reads the header.
-fn read_header(fields: &[&[u8]]) -> Result<u8, InputKind>
-    ensures read { IfOk result (λ version. Says HeaderExpected (texts fields.now)
-        (ProcessorsExpected version)) }
-    ensures refused { IfErr result (IsFieldsFault HeaderExpected (texts fields.now)) }
-{
-    read_version(fields).ok_or(InputKind::BadHeader)
+impl Stage {
+    /// Goes on to the next stage.
+    fn go_on(&mut self, next: Stage)
+        ensures { self.new ≡ next }
+    {
+        *self = next;
+    }
+
+    /// Goes on by the header.
+    fn after_header(&mut self, fields: &[&[u8]]) -> Result<(), InputKind>
+        ensures read { OnOk result (Says HeaderExpected (texts fields.now) (progress_of self.new)) }
+        ensures refused { IfErr result (λ kind. IsOutOfMemory kind
+            ⊎ IsFieldsFault HeaderExpected (texts fields.now) kind) }
+    {
+        match read_version(fields) {
+            Some(version) => {
+                self.go_on(Stage::ProcessorsExpected { version });
+                Ok(())
+            }
+            None => Err(InputKind::BadHeader),
+        }
+    }
+
+    /// Goes on by the number of processors.
+    fn after_processors(
+        &mut self,
+        alloc: Global,
+        version: u8,
+        fields: &[&[u8]],
+    ) -> Result<(), InputKind>
+        ensures read { OnOk result (Says (ProcessorsExpected version) (texts fields.now)
+            (progress_of self.new)) }
+        ensures refused { IfErr result (λ kind. IsOutOfMemory kind
+            ⊎ IsFieldsFault (ProcessorsExpected version) (texts fields.now) kind) }
+    {
+        match start(alloc, version, fields) {
+            Ok(lists) => {
+                self.go_on(Stage::Listed(lists));
+                Ok(())
+            }
+            Err(kind) => Err(kind),
+        }
+    }
+}
+
+impl Lists {
+    /// Goes on by a line that is not skipped, by its fields.
+    fn after(&mut self, fields: &[&[u8]]) -> Result<(), InputKind>
+        requires { IsExpected (progress_of_lists self.old) }
+        ensures read { OnOk result (Says (progress_of_lists self.old) (texts fields.now)
+            (progress_of_lists self.new)) }
+        ensures refused { IfErr result (λ kind. IsOutOfMemory kind
+            ⊎ IsFieldsFault (progress_of_lists self.old) (texts fields.now) kind) }
+    {
+        if self.is_ended {
+            Err(InputKind::AfterEnd)
+        } else if is_end(fields) {
+            self.is_ended = true;
+            Ok(())
+        } else if is_for_task(&self.events, fields) {
+            add_task(self.version, &mut self.set, fields)
+        } else {
+            list_event(self.version, &self.set, &mut self.events, fields)
+        }
+    }
+
+    /// The input, where the end came.
+    fn into_input(self) -> Result<Input, InputKind>
+        requires { IsExpected (progress_of_lists self) }
+        ensures { MatchResult result
+            (λ input. IsEndOutcome (progress_of_lists self) (Leads input))
+            (λ kind. IsEndOutcome (progress_of_lists self) (Fails kind)) }
+    {
+        let Lists {
+            version,
+            set,
+            events,
+            is_ended,
+        } = self;
+        if is_ended {
+            Ok(Input::new(version, set, events))
+        } else {
+            Err(InputKind::NoEnd)
+        }
+    }
 }
 
 /// Which version a header says.
@@ -165,20 +221,20 @@ fn read_processors(fields: &[&[u8]]) -> Option<u8>
 
 /// Nothing is listed yet, on as many processors as a line says. Room is made for all events that there may be, so that
 /// none is moved later.
-fn start(alloc: Global, version: u8, fields: &[&[u8]]) -> Result<Stage, InputKind>
-    ensures read { IfOk result (λ next. Says (ProcessorsExpected version) (texts fields.now)
-        (progress_of next)) }
+fn start(alloc: Global, version: u8, fields: &[&[u8]]) -> Result<Lists, InputKind>
+    ensures read { IfOk result (λ lists. Says (ProcessorsExpected version) (texts fields.now)
+        (progress_of_lists lists)) }
     ensures refused { IfErr result (λ kind. IsOutOfMemory kind
         ⊎ IsFieldsFault (ProcessorsExpected version) (texts fields.now) kind) }
 {
     let Some(processors) = read_processors(fields) else {
         return Err(InputKind::BadProcessors);
     };
-    let set = TaskSet::new(alloc, processors)?;
     let Ok(events) = Vec::with_capacity(alloc, MAX_EVENTS) else {
         return Err(InputKind::OutOfMemory);
     };
-    Ok(Stage::Listed {
+    let set = TaskSet::new(alloc, processors)?;
+    Ok(Lists {
         version,
         set,
         events,
