@@ -10,3 +10,4 @@ pub mod Passes
 pub mod Prefixes
 pub mod Sending
 pub mod Turns
+pub mod Waiting

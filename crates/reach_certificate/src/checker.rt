@@ -2,7 +2,7 @@
 ghost use Rattle.std.specs.Prelude.{◌≡◌, ℕ, ◌<◌, map, Err, IsOk, IfOk, IfErr, OnOk, OnErr, slice_get, Some};
 ghost use Rattle.std.specs.List.{range_with_len};
 ghost use Rattle.task_set.specs.Context.{fresh_context};
-ghost use Rattle.link_state.specs.State.{State, start_of, task_count};
+ghost use Rattle.link_state.specs.State.{State, IsState, start_of, task_count};
 ghost use Rattle.link_state.specs.Step.{IsEventFor, SchedulerStep};
 ghost use Rattle.link_state.specs.History.{effect_of};
 ghost use Rattle.reach_certificate.specs.Checker.{IsChecker};
@@ -52,10 +52,8 @@ impl Checker {
             ≡ map fresh_context (range_with_len 0 (task_count (start_of set.now)))) }
         ensures valid { IfOk result IsChecker }
     {
-        let links = Links::new(alloc, set)?;
-        prove!(links.processors() <= 64);
-        let contexts = Contexts::new(alloc, &links)?;
         let saved = Links::new(alloc, set)?;
+        let (links, contexts) = before_any(alloc, set)?;
         Ok(Checker {
             links,
             saved,
@@ -109,4 +107,18 @@ impl Checker {
     {
         self.contexts.of(t)
     }
+}
+
+/// The links before any entry, with a fresh context for each task.
+fn before_any(alloc: Global, set: &TaskSet) -> Result<(Links, Contexts), OutOfMemory>
+    ensures links { IfOk result (λ made. made.0 ≡ start_of set.now) }
+    ensures state { IfOk result (λ made. IsState made.0) }
+    ensures each { IfOk result (λ made. made.1.each
+        ≡ map fresh_context (range_with_len 0 (task_count made.0))) }
+    ensures held { IfOk result (λ made. made.1.held ≡ made.0.on) }
+{
+    let links = Links::new(alloc, set)?;
+    prove!(links.processors() <= 64);
+    let contexts = Contexts::new(alloc, &links)?;
+    Ok((links, contexts))
 }

@@ -22,9 +22,10 @@ use Rattle.schedule_text.specs.declared.fault.TextKind.TheVariants.{Short, After
 use Rattle.schedule_text.specs.declared.fault.TextFault.{TextFault}
 use Rattle.schedule_text.specs.declared.stage.Stage.{Stage}
 use Rattle.schedule_text.specs.declared.stage.Stage.TheVariants as stages
+use Rattle.schedule_text.specs.declared.stage.Listing.{Listing}
 use Rattle.schedule_text.specs.declared.stage.Listing.TheVariants as listings
 use Rattle.schedule_text.specs.declared.stage.Reached.TheVariants.{End}
-use Rattle.schedule_text.specs.Reading.{progress_of, progress_after, IsAnswerTo, Leads, LeadsTasks, LeadsEntries, LeadsContexts}
+use Rattle.schedule_text.specs.Reading.{progress_of_list, progress_of, progress_after_lists, progress_after, IsAnswerTo, Leads, LeadsTasks, LeadsEntries, LeadsContexts}
 
 -- ---- more of a list
 
@@ -116,13 +117,19 @@ no_tasks m range = record {
   priorities = All-nil (λ (task : TaskData). task.priority < 2 ^ 32);
 }
 
+-- a list that goes on expects a line
+unended_list : (list : Listing) (version : ℕ) (set : SetData) (entries : List Entry) (contexts : List Context)
+    → IsUnended (progress_of_list list version set entries contexts)
+unended_list listings.Tasks version set entries contexts = tt
+unended_list (listings.Entries count) version set entries contexts = tt
+unended_list listings.Contexts version set entries contexts = tt
+
 -- a stage expects a line
 pub unended : (stage : Stage) → IsUnended (progress_of stage)
 unended stages.HeaderExpected = tt
 unended (stages.ProcessorsExpected version) = tt
-unended (stages.Listed version set entries contexts listings.Tasks) = tt
-unended (stages.Listed version set entries contexts (listings.Entries count)) = tt
-unended (stages.Listed version set entries contexts listings.Contexts) = tt
+unended (stages.Listed lists) =
+    unended_list lists.list lists.version lists.set lists.entries.items lists.contexts.items
 
 -- a line leads to a prefix
 pub leads_prefix : (expected : Progress) (text : List ℕ) (next : Progress) → IsPrefix expected
@@ -221,14 +228,10 @@ never_start (Ended version set entries contexts) text step = step
 -- a last line leads to a whole schedule
 pub leads_whole : (expected : Progress) (text : List ℕ) (next : Stage) → IsPrefix expected
     → Leads expected text (progress_after End next) → IsWholePrefix (progress_after End next)
-leads_whole expected text (stages.Listed version set entries contexts listings.Contexts) prefix step =
-    leads_prefix expected text (Ended version set entries.items contexts.items) prefix step
+leads_whole expected text (stages.Listed lists) prefix step =
+    leads_prefix expected text (progress_after_lists End lists) prefix step
 leads_whole expected text stages.HeaderExpected prefix step = never_start expected text step
 leads_whole expected text (stages.ProcessorsExpected version) prefix step = never_start expected text step
-leads_whole expected text (stages.Listed version set entries contexts listings.Tasks) prefix step =
-    never_start expected text step
-leads_whole expected text (stages.Listed version set entries contexts (listings.Entries count)) prefix step =
-    never_start expected text step
 
 -- ---- what was read
 

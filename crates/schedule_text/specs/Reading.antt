@@ -15,7 +15,9 @@ use Rattle.schedule_text.specs.declared.fault.TextKind.{TextKind}
 use Rattle.schedule_text.specs.declared.fault.TextKind.TheVariants.{OutOfMemory}
 use Rattle.schedule_text.specs.declared.stage.Stage.{Stage}
 use Rattle.schedule_text.specs.declared.stage.Stage.TheVariants as stage
+use Rattle.schedule_text.specs.declared.stage.Listing.{Listing}
 use Rattle.schedule_text.specs.declared.stage.Listing.TheVariants as listing
+use Rattle.schedule_text.specs.declared.stage.Lists.{Lists}
 use Rattle.schedule_text.specs.declared.stage.Reached.{Reached}
 use Rattle.schedule_text.specs.declared.stage.Reached.TheVariants as reached
 
@@ -25,21 +27,35 @@ IsOutOfMemory kind = kind ≡ OutOfMemory
 
 -- ---- stages
 
+-- what is expected where a list goes on
+abbrev pub progress_of_list : Listing → ℕ → SetData → List Entry → List Context → Progress
+progress_of_list listing.Tasks version set entries contexts = TasksExpected version set
+progress_of_list (listing.Entries count) version set entries contexts =
+    EntriesExpected version set count entries
+progress_of_list listing.Contexts version set entries contexts =
+    ContextsExpected version set entries contexts
+
+-- what is expected where the lists are these
+abbrev pub progress_of_lists : Lists → Progress
+progress_of_lists lists =
+    progress_of_list lists.list lists.version lists.set lists.entries.items lists.contexts.items
+
 -- what is expected at a stage of the reader
 abbrev pub progress_of : Stage → Progress
 progress_of stage.HeaderExpected = HeaderExpected
 progress_of (stage.ProcessorsExpected version) = ProcessorsExpected version
-progress_of (stage.Listed version set entries contexts listing.Tasks) = TasksExpected version set
-progress_of (stage.Listed version set entries contexts (listing.Entries count)) =
-    EntriesExpected version set count entries.items
-progress_of (stage.Listed version set entries contexts listing.Contexts) =
-    ContextsExpected version set entries.items contexts.items
+progress_of (stage.Listed lists) = progress_of_lists lists
 
--- what is expected after a line that more follow, and after the last one; the end comes after contexts alone
+-- what is expected after a line of the lists that more follow, and after the last one
+abbrev pub progress_after_lists : Reached → Lists → Progress
+progress_after_lists reached.Expected lists = progress_of_lists lists
+progress_after_lists reached.End lists =
+    Ended lists.version lists.set lists.entries.items lists.contexts.items
+
+-- what is expected after a line that more follow, and after the last one; the end comes after lists alone
 abbrev pub progress_after : Reached → Stage → Progress
 progress_after reached.Expected next = progress_of next
-progress_after reached.End (stage.Listed version set entries contexts listing.Contexts) =
-    Ended version set entries.items contexts.items
+progress_after reached.End (stage.Listed lists) = progress_after_lists reached.End lists
 progress_after reached.End _ = HeaderExpected
 
 -- what is expected after the line of a task, or after the line that says how many entries there are

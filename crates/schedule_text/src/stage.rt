@@ -1,12 +1,13 @@
 //! What was read so far, and what is expected.
-ghost use Rattle.std.specs.Prelude.{◌≡◌, ◌≢◌, ℕ, ◌<◌, ◌⊎◌, List, [], codes, length, IfOk, IfErr, OnOk, MatchResult};
+ghost use Rattle.std.specs.Prelude.{◌≡◌, ◌≢◌, ℕ, ◌<◌, ◌≤◌, ◌⊎◌, List, [], codes, length, IfOk, IfErr, OnOk, MatchResult};
 ghost use Rattle.task_set.specs.TaskSet.{SetData};
 ghost use Rattle.scheduler_reply.specs.declared.reply.Entry.{Entry};
 ghost use Rattle.schedule_text.specs.ScheduleFault.{IsLineFault};
 ghost use Rattle.schedule_text.specs.LineForms.{IsCountForm};
 ghost use Rattle.schedule_text.specs.Prefix.{whole, IsPrefix, IsWholePrefix, HeaderExpected, ProcessorsExpected, TasksExpected, EntriesExpected, ContextsExpected};
-ghost use Rattle.schedule_text.specs.Reading.{progress_of, progress_after, progress_after_task, Leads, IsOutOfMemory};
+ghost use Rattle.schedule_text.specs.Reading.{progress_of, progress_of_lists, progress_after, progress_after_lists, progress_after_task, Leads, IsOutOfMemory};
 ghost use Rattle.schedule_text.specs.declared.fault.TextKind.TheVariants.{BadLine};
+ghost use Rattle.schedule_text.specs.declared.stage.Listing.TheVariants.{Tasks, Entries, Contexts};
 
 use crate::entry::add_entry;
 use crate::fault::TextKind;
@@ -26,18 +27,20 @@ pub enum Stage {
     HeaderExpected,
 
     /// The number of processors is expected, in a version of the format.
-    ProcessorsExpected {
-        version: u8,
-    },
+    ProcessorsExpected { version: u8 },
 
-    /// One of the lists goes on. Those that come after it are not looked at before they begin.
-    Listed {
-        version: u8,
-        set: TaskSet,
-        entries: Vec<Entry>,
-        contexts: Vec<Context>,
-        list: Listing,
-    },
+    /// One of the lists goes on.
+    Listed(Lists),
+}
+
+/// The lists so far. Those that come after the one that goes on are not looked at before they begin.
+#[derive(Drop)]
+pub struct Lists {
+    version: u8,
+    set: TaskSet,
+    entries: Vec<Entry>,
+    contexts: Vec<Context>,
+    list: Listing,
 }
 
 /// Which list goes on.
@@ -89,40 +92,15 @@ impl Stage {
                 start(self, alloc, version, text, room)?;
                 Ok(Reached::Expected)
             }
-            Stage::Listed {
-                version,
-                set,
-                entries,
-                contexts,
-                list,
-            } => match *list {
-                Listing::Tasks => {
-                    if let Some(count) = read_task(set, text, room)? {
-                        entries.clear();
-                        *list = Listing::Entries { count };
-                    }
-                    Ok(Reached::Expected)
-                }
-                Listing::Entries { count } => {
-                    if (entries.len() as u64) < count {
-                        list_entry(*version, set, entries, text, room)?;
-                    } else {
-                        judge_count(alloc, set, text)?;
-                        contexts.clear();
-                        *list = Listing::Contexts;
-                    }
-                    Ok(Reached::Expected)
-                }
-                Listing::Contexts => {
-                    if contexts.len() < set.len() as usize {
-                        list_context(set, contexts, text, room)?;
-                        Ok(Reached::Expected)
-                    } else {
-                        judge_end(text)
-                    }
-                }
-            },
+            Stage::Listed(lists) => lists.after_line(alloc, text, room),
         }
+    }
+
+    /// Goes on to the next stage.
+    fn go_on(&mut self, next: Stage)
+        ensures { self.new ≡ next }
+    {
+        *self = next;
     }
 
     /// The whole schedule, where the end came.
@@ -131,14 +109,108 @@ impl Stage {
         ensures { progress_after Reached.End self ≡ whole result }
     {
         match self {
-            Stage::Listed {
-                version,
-                set,
-                entries,
-                contexts,
-                list: Listing::Contexts,
-            } => Schedule::new(version, set, entries, contexts),
+            Stage::Listed(
+                Lists {
+                    version,
+                    set,
+                    entries,
+                    contexts,
+                    ..
+                },
+            ) => Schedule::new(version, set, entries, contexts),
             _ => unreachable!(),
+        }
+    }
+}
+
+impl Lists {
+    /// Goes on by a line of the list that goes on.
+    fn after_line<'a>(
+        &mut self,
+        alloc: Global,
+        text: &'a [u8],
+        room: &mut Vec<&'a [u8]>,
+    ) -> Result<Reached, TextKind>
+        requires { IsPrefix (progress_of_lists self.old) }
+        ensures read { IfOk result (λ reached. Leads (progress_of_lists self.old) text.now
+            (progress_after_lists reached self.new)) }
+        ensures refused { IfErr result (λ kind. IsOutOfMemory kind
+            ⊎ IsLineFault (progress_of_lists self.old) text.now kind) }
+    {
+        match self.list {
+            Listing::Tasks => self.task_line(text, room),
+            Listing::Entries { count } => self.entry_line(alloc, count, text, room),
+            Listing::Contexts => self.context_line(text, room),
+        }
+    }
+
+    /// Goes on by a task, or by how many entries there are.
+    fn task_line<'a>(
+        &mut self,
+        text: &'a [u8],
+        room: &mut Vec<&'a [u8]>,
+    ) -> Result<Reached, TextKind>
+        requires { self.old.list ≡ Tasks }
+        ensures read { IfOk result (λ reached.
+            Leads (TasksExpected self.old.version self.old.set) text.now
+            (progress_after_lists reached self.new)) }
+        ensures refused { IfErr result (λ kind. IsOutOfMemory kind
+            ⊎ IsLineFault (TasksExpected self.old.version self.old.set) text.now kind) }
+    {
+        if let Some(count) = read_task(&mut self.set, text, room)? {
+            self.entries.clear();
+            self.list = Listing::Entries { count };
+        }
+        Ok(Reached::Expected)
+    }
+
+    /// Goes on by an entry, or by how many contexts there are.
+    fn entry_line<'a>(
+        &mut self,
+        alloc: Global,
+        count: u64,
+        text: &'a [u8],
+        room: &mut Vec<&'a [u8]>,
+    ) -> Result<Reached, TextKind>
+        requires goes { self.old.list ≡ Entries count }
+        requires few { length self.old.entries.items ≤ count }
+        ensures read { IfOk result (λ reached.
+            Leads (EntriesExpected self.old.version self.old.set count self.old.entries.items)
+            text.now (progress_after_lists reached self.new)) }
+        ensures refused { IfErr result (λ kind. IsOutOfMemory kind
+            ⊎ IsLineFault (EntriesExpected self.old.version self.old.set count
+            self.old.entries.items) text.now kind) }
+    {
+        if (self.entries.len() as u64) < count {
+            list_entry(self.version, &self.set, &mut self.entries, text, room)?;
+        } else {
+            judge_count(alloc, &self.set, text)?;
+            self.contexts.clear();
+            self.list = Listing::Contexts;
+        }
+        Ok(Reached::Expected)
+    }
+
+    /// Goes on by a context, or by the end.
+    fn context_line<'a>(
+        &mut self,
+        text: &'a [u8],
+        room: &mut Vec<&'a [u8]>,
+    ) -> Result<Reached, TextKind>
+        requires goes { self.old.list ≡ Contexts }
+        requires few { length self.old.contexts.items ≤ length self.old.set.tasks }
+        ensures read { IfOk result (λ reached. Leads (ContextsExpected self.old.version self.old.set
+            self.old.entries.items self.old.contexts.items) text.now
+            (progress_after_lists reached self.new)) }
+        ensures refused { IfErr result (λ kind. IsOutOfMemory kind
+            ⊎ IsLineFault (ContextsExpected self.old.version self.old.set self.old.entries.items
+            self.old.contexts.items) text.now kind) }
+    {
+        if self.contexts.len() < self.set.len() as usize {
+            list_context(&self.set, &mut self.contexts, text, room)?;
+            Ok(Reached::Expected)
+        } else {
+            judge_end(text)
         }
     }
 }
@@ -157,9 +229,8 @@ fn read_header<'a>(
     let (first, last) = (FIRST_VERSION as u64, LAST_VERSION as u64);
     match number_after(fields, "schedule", first, last) {
         Some(version) => {
-            *stage = Stage::ProcessorsExpected {
-                version: version as u8,
-            };
+            let version = version as u8;
+            stage.go_on(Stage::ProcessorsExpected { version });
             Ok(())
         }
         None => Err(TextKind::BadLine),
@@ -184,13 +255,13 @@ fn start<'a>(
         return Err(TextKind::BadLine);
     };
     let set = TaskSet::new(alloc, processors as u8)?;
-    *stage = Stage::Listed {
+    stage.go_on(Stage::Listed(Lists {
         version,
         set,
         entries: Vec::new(alloc),
         contexts: Vec::new(alloc),
         list: Listing::Tasks,
-    };
+    }));
     Ok(())
 }
 

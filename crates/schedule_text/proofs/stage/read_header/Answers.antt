@@ -1,12 +1,13 @@
-use Rattle.std.proofs.Common.{inr, refl}
+use Rattle.std.proofs.Common.{inr, ap}
 use Rattle.line_machine.specs.Fields.{texts}
+use Rattle.schedule_text.specs.Reading.{progress_of}
 use Rattle.schedule_text.proofs.Stages.{header_none, header_read}
 use Rattle.schedule_text.proofs.stage.read_header.Goals as goal
 
 pub returns-in-Some-clause-read : goal.returns-in-Some-clause-read
 returns-in-Some-clause-read c = (
   c.in-Some.version,
-  refl,
+  ap progress_of c.go_on.ensures,
   header_read (texts c.in_ok-fields.fields.now) c.args.text.now c.in-Some.version c.in_ok-fields.ensures c.in-Some.ensures,
 )
 

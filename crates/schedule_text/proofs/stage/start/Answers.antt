@@ -1,6 +1,7 @@
-use Rattle.std.proofs.Common.{inr, ap}
+use Rattle.std.proofs.Common.{inr, ap, ◌∙◌}
 use Rattle.line_machine.specs.Fields.{texts}
 use Rattle.schedule_text.specs.Prefix.{TasksExpected}
+use Rattle.schedule_text.specs.Reading.{progress_of}
 use Rattle.schedule_text.proofs.Stages.{processors_none, processors_read}
 use Rattle.schedule_text.proofs.stage.start.Goals as goal
 
@@ -12,7 +13,7 @@ returns-in_default-clause-refused c =
 pub returns-clause-read : goal.returns-clause-read
 returns-clause-read c = (
   c.in-Some.processors,
-  ap (TasksExpected c.args.version) c.in_ok-set.ensures,
+  ap progress_of c.go_on.ensures ∙ ap (TasksExpected c.args.version) c.in_ok-set.ensures,
   processors_read (texts c.in_ok-fields.fields.now)
       c.args.text.now c.in-Some.processors c.in_ok-fields.ensures
       c.in-Some.ensures,
