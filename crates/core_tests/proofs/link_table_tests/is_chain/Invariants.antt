@@ -1,6 +1,0 @@
-use Rattle.std.proofs.Common.{◌-◌, get_or, take}
-use Rattle.link_state.specs.Chain.{IsChainOf}
-use Rattle.core_tests.proofs.link_table_tests.is_chain.Given as goal
-
-abbrev pub invariant-loop-i : goal.invariant-loop-i
-invariant-loop-i l = IsChainOf l.links l.t (take l.i l.chain) (get_or l.chain (l.i - 1) 0)
