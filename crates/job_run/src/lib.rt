@@ -8,8 +8,3 @@ mod jobs;
 pub mod laws;
 
 pub use jobs::jobs_text;
-
-#[cfg(test)]
-mod generated_tests;
-#[cfg(test)]
-mod tests;

@@ -5,7 +5,5 @@
 #![tactic(auto)]
 
 mod run;
-#[cfg(test)]
-mod tests;
 
 pub use run::nested_text;

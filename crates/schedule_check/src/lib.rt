@@ -6,7 +6,5 @@
 #![tactic(auto)]
 
 mod check;
-#[cfg(test)]
-mod tests;
 
 pub use check::checked_text;

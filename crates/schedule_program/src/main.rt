@@ -2,19 +2,6 @@
 //! standard output.
 #![tactic(auto)]
 
-#[cfg(test)]
-mod change_tests;
-#[cfg(test)]
-mod further_tests;
-#[cfg(test)]
-mod generated_tests;
-#[cfg(test)]
-mod hostile_tests;
-#[cfg(test)]
-mod tests;
-#[cfg(test)]
-mod thread_tests;
-
 use commands::run;
 use processor_seat::OpenGate;
 use program_status::{Status, report};

@@ -5,14 +5,8 @@
 #![tactic(auto)]
 
 mod comparing;
-#[cfg(test)]
-mod comparing_tests;
 pub mod comparison;
 pub mod laws;
-#[cfg(test)]
-mod plain;
-#[cfg(test)]
-mod tests;
 
 pub use comparing::compare;
 pub use comparison::Comparison;

@@ -1,15 +1,67 @@
-//! Runs on threads: that streams and workers go on beside each other, and inputs on several streams.
-use crate::tests::{expect_schedule, expect_valid, replay, replay_with, sink_of, source_of};
-use processor_seat::Gate;
+//! Whole runs with gates: that streams and workers go on beside each other, and that the gate is called.
+ghost use Rattle.std.specs.Prelude.{◌<◌};
+
+use commands::run;
+use processor_seat::{Gate, OpenGate};
 use program_status::Status;
-use std::alloc::Global;
+use shift_io::{MemSink, MemSource};
+use std::alloc::{AllocError, Global};
 use std::process::Abort;
 use std::sync::Wait;
 use std::sync::atomic::{AtomicBool, AtomicU64, Ordering};
 use std::test::Fail;
 use std::thread::Threads;
 use std::{str, thread};
-use worked_histories::{History, all_histories, event_and_reply};
+
+/// These words, each owned.
+fn owned(alloc: Global, words: &[&str]) -> Result<Vec<String>, AllocError> {
+    let mut owned = Vec::new(alloc);
+    for word in words {
+        owned.push(String::from_str(alloc, word)?)?;
+    }
+    Ok(owned)
+}
+
+/// A source of these bytes, which does not fail.
+fn source_of(alloc: Global, bytes: &[u8]) -> Result<MemSource, AllocError> {
+    let bytes = Vec::from_slice(alloc, bytes)?;
+    Ok(MemSource::new(bytes, 4096, Vec::new(alloc)))
+}
+
+/// A sink with room for 4,096 bytes, which does not fail.
+fn new_sink(alloc: Global) -> Result<MemSink, AllocError> {
+    let room = vec![in alloc; 0u8; 4096]?;
+    Ok(MemSink::new(room, 4096, Vec::new(alloc)))
+}
+
+/// What a call with this gate puts for these bytes; it is done.
+fn put_with<R: Threads + Wait + Sync + Abort, G: Gate + Sync>(
+    rt: &R,
+    alloc: Global,
+    words: &[&str],
+    input: &[u8],
+    gate: &G,
+) -> Result<MemSink, Fail> {
+    let words = owned(alloc, words)?;
+    let mut source = source_of(alloc, input)?;
+    let mut sink = new_sink(alloc)?;
+    let status = run(rt, alloc, &words, &mut source, &mut sink, gate);
+    assert!(rt; status == Status::Done, "{status}");
+    Ok(sink)
+}
+
+/// `run` writes this schedule for this input, with this gate.
+fn expect_with_gate<R: Threads + Wait + Sync + Abort, G: Gate + Sync>(
+    rt: &R,
+    alloc: Global,
+    input: &str,
+    schedule: &str,
+    gate: &G,
+) -> Result<(), Fail> {
+    let put = put_with(rt, alloc, &["run"], input.as_bytes(), gate)?;
+    assert_eq!(rt; str::from_utf8(put.bytes()), Ok(schedule));
+    Ok(())
+}
 
 /// How often a gate looks before it lets a thread go on all the same.
 const MOST_LOOKS: u32 = 20_000_000;
@@ -86,22 +138,6 @@ impl Gate for WorkerGate {
     }
 }
 
-/// `run` writes this schedule for this input, with this gate.
-fn expect_with_gate<R: Threads + Wait + Sync + Abort, G: Gate + Sync>(
-    rt: &R,
-    alloc: Global,
-    input: &str,
-    schedule: &str,
-    gate: &G,
-) -> Result<(), Fail> {
-    let source = source_of(alloc, input.as_bytes(), 4096, &[])?;
-    let sink = sink_of(alloc, 4096, 4096, &[])?;
-    let (status, put) = replay_with(rt, alloc, &["run"], source, sink, gate)?;
-    assert_eq!(rt; status, Status::Done);
-    assert_eq!(rt; str::from_utf8(&put), Ok(schedule));
-    Ok(())
-}
-
 static TWO_STREAMS: &str =
     "apa 1\nprocessors 2\ntask a 1 0-1\ntask b 2 0\n0 arrive a\n0 tick 1\n1 arrive b\nend\n";
 
@@ -144,104 +180,6 @@ fn workers_run_beside_each_other(rt: HostRuntime) -> Result<(), Fail> {
     Ok(())
 }
 
-static ONE_EVENT: &str = "apa 1\nprocessors 64\ntask a 5 0\n0 arrive a\nend\n";
-
-static SCHEDULE_OF_ONE_EVENT: &str =
-    "schedule 1\nprocessors 64\ntask a 5 0\nhistory 1\n0 arrive a placed 0\n\
-contexts 1\na units 0 stints 1 moves 0 last 0 trail 0\nend\n";
-
-#[test]
-fn sixty_four_workers_for_one_event(rt: HostRuntime) -> Result<(), Fail> {
-    expect_schedule(&rt, rt.alloc(), ONE_EVENT, SCHEDULE_OF_ONE_EVENT)
-}
-
-/// Whether the entries of a stream in a schedule are of the lines of this stream in an input, each once, in their order.
-/// Lines of events begin with their stream in both.
-fn is_in_order(input: &str, schedule: &str, stream: &str) -> bool {
-    let mut entries = schedule.lines().filter(|line| line.starts_with(stream));
-    for event in input.lines() {
-        if event.starts_with(stream) {
-            let Some(entry) = entries.next() else {
-                return false;
-            };
-            if !entry.starts_with(event) {
-                return false;
-            }
-        }
-    }
-    entries.next().is_none()
-}
-
-/// The entries of each of so many streams in a schedule are those of an input, in their order.
-fn expect_in_order(
-    rt: &impl Abort,
-    alloc: Global,
-    input: &str,
-    schedule: &str,
-    streams: u32,
-) -> Result<(), Fail> {
-    for stream in 0..streams {
-        let own = format!(in alloc; "{stream} ")?;
-        assert!(rt;
-            is_in_order(input, schedule, &own),
-            "stream {stream} of {input:?}"
-        );
-    }
-    Ok(())
-}
-
-/// `run` writes a valid schedule with so many entries for an input, those of each stream in their order.
-pub(crate) fn expect_run_on_streams<R: Threads + Wait + Sync + Abort>(
-    rt: &R,
-    alloc: Global,
-    input: &str,
-    count: usize,
-    streams: u32,
-) -> Result<(), Fail> {
-    let (status, put) = replay(rt, alloc, &["run"], input.as_bytes())?;
-    assert_eq!(rt; status, Status::Done, "at {input:?}");
-    expect_valid(rt, alloc, &put, count)?;
-    expect_in_order(
-        rt,
-        alloc,
-        input,
-        str::from_utf8(&put).unwrap_or(""),
-        streams,
-    )
-}
-
-/// The input of a history, with its events on three streams in turn.
-fn on_three_streams(alloc: Global, history: &History) -> Result<String, Fail> {
-    let mut input = format!(in alloc; "apa {}\n{}", history.version, history.head)?;
-    let mut stream = 0u32;
-    for entry in history.entries.lines() {
-        let (event, _reply) = event_and_reply(entry);
-        let rest = event.strip_prefix("0").unwrap_or("");
-        writeln!(input, "{stream}{rest}")?;
-        stream = if stream < 2 { stream + 1 } else { 0 };
-    }
-    writeln!(input, "end")?;
-    Ok(input)
-}
-
-/// `run` of a history on three streams writes a valid schedule.
-pub(crate) fn expect_on_three_streams<R: Threads + Wait + Sync + Abort>(
-    rt: &R,
-    alloc: Global,
-    history: &History,
-) -> Result<(), Fail> {
-    let input = on_three_streams(alloc, history)?;
-    expect_run_on_streams(rt, alloc, &input, history.count(), 3)
-}
-
-#[test]
-fn worked_histories_on_three_streams(rt: HostRuntime) -> Result<(), Fail> {
-    for history in all_histories() {
-        expect_on_three_streams(&rt, rt.alloc(), history)?;
-    }
-    Ok(())
-}
-
 /// It counts the calls before and after posts.
 #[derive(Drop)]
 struct PostGate {
@@ -259,27 +197,13 @@ impl Gate for PostGate {
     }
 }
 
-/// `large` of ten events is done with this gate.
-fn expect_large<R: Threads + Wait + Sync + Abort, G: Gate + Sync>(
-    rt: &R,
-    alloc: Global,
-    gate: &G,
-) -> Result<(), Fail> {
-    let source = source_of(alloc, b"", 4096, &[])?;
-    let sink = sink_of(alloc, 4096, 4096, &[])?;
-    let words = ["large", "7", "2", "3", "10"];
-    let (status, _put) = replay_with(rt, alloc, &words, source, sink, gate)?;
-    assert_eq!(rt; status, Status::Done);
-    Ok(())
-}
-
 #[test]
 fn large_calls_the_gate_at_each_post(rt: HostRuntime) -> Result<(), Fail> {
     let gate = PostGate {
         before: AtomicU64::new(0),
         after: AtomicU64::new(0),
     };
-    expect_large(&rt, rt.alloc(), &gate)?;
+    let _put = put_with(&rt, rt.alloc(), &["large", "7", "2", "3", "10"], b"", &gate)?;
     assert_eq!(rt; gate.before.load(Ordering::SeqCst), 10);
     assert_eq!(rt; gate.after.load(Ordering::SeqCst), 10);
     Ok(())
@@ -302,50 +226,77 @@ impl Gate for SlowGate {
     }
 }
 
-/// What `run` writes for an input of 29 events with a slow gate, which is called before and after each post.
+/// Two clusters of four processors: 29 events on three streams in turn.
+static ON_THREE_STREAMS: &str = "\
+apa 1\nprocessors 8\ntask irq0 1 0\ntask irq4 2 4\ntask audio 5 0-1\ntask ctl 6 0-3\ntask net 8 4-5\n\
+task video 10 0-3\ntask disk 12 4-7\ntask ui 15 0-7\ntask log 20 0-7\ntask sync 22 2-3\ntask batch 30 0-7\n\
+task idle_scan 40 4-7\n0 arrive audio\n1 arrive ctl\n2 arrive irq0\n0 tick 100\n1 arrive video\n\
+2 arrive net\n0 arrive irq4\n1 arrive ui\n2 arrive disk\n0 tick 250\n1 arrive sync\n2 arrive batch\n\
+0 arrive log\n1 depart audio\n2 tick 50\n0 arrive audio\n1 depart disk\n2 depart ctl\n0 depart irq4\n\
+1 arrive disk\n2 tick 75\n0 arrive irq4\n1 tick 40\n2 depart net\n0 arrive idle_scan\n1 depart batch\n\
+2 arrive ui\n0 tick 200\n1 depart ctl\nend\n";
+
+/// What `run` writes with a slow gate, which is called before and after each of the 29 posts.
 fn put_slowly<R: Threads + Wait + Sync + Abort>(
     rt: &R,
     alloc: Global,
-    input: &str,
     pace: u64,
-) -> Result<Vec<u8>, Fail> {
+) -> Result<MemSink, Fail> {
     let calls = AtomicU64::new(0);
     let gate = SlowGate { pace, calls };
-    let source = source_of(alloc, input.as_bytes(), 4096, &[])?;
-    let sink = sink_of(alloc, 4096, 4096, &[])?;
-    let (status, put) = replay_with(rt, alloc, &["run"], source, sink, &gate)?;
+    let put = put_with(rt, alloc, &["run"], ON_THREE_STREAMS.as_bytes(), &gate)?;
     let calls = gate.calls.load(Ordering::SeqCst);
-    assert!(rt; status == Status::Done && calls >= 58, "at the pace {pace}");
+    assert!(rt; calls >= 58, "at the pace {pace}");
     Ok(put)
 }
 
-/// `run` of 29 events on three streams with a slow gate writes a valid schedule, with each stream in its order.
+/// It is a valid schedule.
+fn expect_valid<R: Threads + Wait + Sync + Abort>(
+    rt: &R,
+    alloc: Global,
+    schedule: &[u8],
+) -> Result<(), Fail> {
+    let put = put_with(rt, alloc, &["check"], schedule, &OpenGate)?;
+    assert_eq!(rt; str::from_utf8(put.bytes()), Ok("valid 29\n"));
+    Ok(())
+}
+
+/// Whether the entries of a stream in a schedule are of the lines of this stream in the input, each once, in their order.
+/// Lines of events begin with their stream in both.
+fn is_in_order(schedule: &str, stream: &str) -> bool {
+    let mut entries = schedule.lines().filter(|line| line.starts_with(stream));
+    for event in ON_THREE_STREAMS.lines() {
+        if event.starts_with(stream) {
+            let Some(entry) = entries.next() else {
+                return false;
+            };
+            if !entry.starts_with(event) {
+                return false;
+            }
+        }
+    }
+    entries.next().is_none()
+}
+
+/// The schedule with a slow gate is valid, with each stream in its order.
 fn expect_slow<R: Threads + Wait + Sync + Abort>(
     rt: &R,
     alloc: Global,
-    input: &str,
     pace: u64,
 ) -> Result<(), Fail> {
-    let put = put_slowly(rt, alloc, input, pace)?;
-    expect_valid(rt, alloc, &put, 29)?;
-    expect_in_order(rt, alloc, input, str::from_utf8(&put).unwrap_or(""), 3)
-}
-
-/// The two clusters on three streams.
-fn two_clusters_on_three_streams(rt: &impl Abort, alloc: Global) -> Result<String, Fail> {
-    for history in all_histories() {
-        if history.name == "two_clusters" {
-            return on_three_streams(alloc, history);
-        }
+    let put = put_slowly(rt, alloc, pace)?;
+    expect_valid(rt, alloc, put.bytes())?;
+    let schedule = str::from_utf8(put.bytes()).unwrap_or("");
+    for stream in ["0 ", "1 ", "2 "] {
+        assert!(rt; is_in_order(schedule, stream), "{stream}at the pace {pace}");
     }
-    panic!(rt; "there are no two clusters")
+    Ok(())
 }
 
 #[test]
 fn slow_gates(rt: HostRuntime) -> Result<(), Fail> {
-    let input = two_clusters_on_three_streams(&rt, rt.alloc())?;
     for pace in 0..20 {
-        expect_slow(&rt, rt.alloc(), &input, pace)?;
+        expect_slow(&rt, rt.alloc(), pace)?;
     }
     Ok(())
 }
