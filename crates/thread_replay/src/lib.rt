@@ -17,5 +17,7 @@ mod streams;
 pub mod workers;
 
 pub use driving::drive;
-pub use on_threads::{Replayed, Threaded, close_core, flags, replay, settle_replay};
+pub use on_threads::{
+    Replayed, Threaded, close_core, flags, flags_and_hands, replay, settle_replay,
+};
 pub use streams::post_next;

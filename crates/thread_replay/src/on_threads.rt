@@ -1,7 +1,7 @@
 //! The replay of events on threads: a worker for each processor, and a thread for each stream that has events.
 ghost use Rattle.std.specs.Prelude.{◌≡◌, ◌≤◌, [], All, Bool, true, length, map, vec_capacity, IfOk};
 ghost use Rattle.event_history.specs.Boards.{AreAll, AreEyesOf, AreFor, Grown, IsMade};
-ghost use Rattle.event_history.specs.Closing.{AllTell};
+ghost use Rattle.event_history.specs.Closing.{AllTell, AreSendersOf, IsCoreOf};
 ghost use Rattle.thread_replay.specs.Driving.{IsDone, seat_of};
 ghost use Rattle.thread_replay.specs.Places.{AllFrom};
 ghost use Rattle.thread_replay.specs.Replayed.{HaveAllStints, IsReplayOf};
@@ -12,12 +12,14 @@ ghost use Rattle.thread_replay.specs.Threading.{AreThreaded, CanRun};
 use crate::driving::drive;
 use crate::ends::end_all;
 use crate::flushing::flush_all;
+use crate::streams::Stream;
+use crate::workers::Worker;
 use crate::{streams, workers};
 use affinity_mask::OutOfMemory;
 use context_slots::{Hand, Slots};
 use event_history::laws::board_is_made;
 use event_history::{Board, Pass};
-use order_queues::Queue;
+use order_queues::{Queue, Sender};
 use processor_seat::{Gate, Processor};
 use sched_core::Core;
 use std::alloc::Global;
@@ -102,6 +104,38 @@ fn close_by_last<R: Wait, G: Gate>(
     }
 }
 
+/// Room for the threads and for what they leave.
+#[derive(Drop)]
+struct Rooms<'s> {
+    started: Vec<Worker<'s>>,
+    left: Vec<Processor>,
+    posting: Vec<Stream<'s>>,
+    posted: Vec<Pass>,
+    stopped: Vec<Processor>,
+}
+
+/// Room for so many workers and streams.
+fn make_rooms<'s>(alloc: Global, workers: usize, streams: usize) -> Result<Rooms<'s>, OutOfMemory>
+    ensures started { IfOk result (λ rooms. (rooms.started.items ≡ [])
+        × (workers ≤ vec_capacity rooms.started)) }
+    ensures left { IfOk result (λ rooms. (rooms.left.items ≡ [])
+        × (workers ≤ vec_capacity rooms.left)) }
+    ensures posting { IfOk result (λ rooms. (rooms.posting.items ≡ [])
+        × (streams ≤ vec_capacity rooms.posting)) }
+    ensures posted { IfOk result (λ rooms. (rooms.posted.items ≡ [])
+        × (streams ≤ vec_capacity rooms.posted)) }
+    ensures stopped { IfOk result (λ rooms. (rooms.stopped.items ≡ [])
+        × (workers ≤ vec_capacity rooms.stopped)) }
+{
+    Ok(Rooms {
+        started: Vec::with_capacity(alloc, workers)?,
+        left: Vec::with_capacity(alloc, workers)?,
+        posting: Vec::with_capacity(alloc, streams)?,
+        posted: Vec::with_capacity(alloc, streams)?,
+        stopped: Vec::with_capacity(alloc, workers)?,
+    })
+}
+
 /// Starts all threads, closes the core once the streams are joined, and joins the workers. The streams are started first:
 /// they post while the workers are started, and none of them waits for a worker. All memory of the joins is taken before
 /// the first start, since a worker that was started waits for its `Stop`.
@@ -122,11 +156,13 @@ fn run_threads<'s, E, R: Threads + Wait + Sync, G: Gate + Sync>(
     requires flags { length refused.now ≡ length queues.now }
     ensures { IfOk result (AreThreaded board.entry.now events.entry.now queues.entry.now slots.entry.now) }
 {
-    let started = Vec::with_capacity(alloc, queues.len())?;
-    let left = Vec::with_capacity(alloc, queues.len())?;
-    let posting = Vec::with_capacity(alloc, passes.len())?;
-    let posted = Vec::with_capacity(alloc, passes.len())?;
-    let stopped = Vec::with_capacity(alloc, queues.len())?;
+    let Rooms {
+        started,
+        left,
+        posting,
+        posted,
+        stopped,
+    } = make_rooms(alloc, queues.len(), passes.len())?;
     let posting = streams::start_all(scope, rt, board, queues, events, gate, passes, posting);
     let (started, mut left) = workers::start_all(
         scope, rt, queues, slots, gate, refused, processors, started, left,
@@ -193,6 +229,31 @@ pub fn flags(alloc: Global, count: usize) -> Result<Vec<AtomicBool>, OutOfMemory
     Ok(flags)
 }
 
+/// As many flags that are not raised, and room for as many hands.
+pub fn flags_and_hands(
+    alloc: Global,
+    count: usize,
+) -> Result<(Vec<AtomicBool>, Vec<Hand>), OutOfMemory>
+    ensures flags { IfOk result (λ made. length made.0.items ≡ count) }
+    ensures hands { IfOk result (λ made. (made.1.items ≡ []) × (count ≤ vec_capacity made.1)) }
+{
+    let hands = Vec::with_capacity(alloc, count)?;
+    let flags = flags(alloc, count)?;
+    Ok((flags, hands))
+}
+
+/// The core and the senders of a board, once all its passes are back.
+fn closed(board: Board, passes: Vec<Pass>) -> Result<(Core, Vec<Sender>), OutOfMemory>
+    requires { AreAll board passes.items }
+    ensures closed { IfOk result (λ back. IsCoreOf board passes.items back.0) }
+    ensures senders { IfOk result (λ back. AreSendersOf board back.0 back.1.items) }
+{
+    match board.close(passes) {
+        Ok(back) => Ok(back),
+        Err(_unfinished) => Err(OutOfMemory),
+    }
+}
+
 /// Closes the board once all threads are joined, and settles the queues. `hands` is an empty list with room for a hand for
 /// each processor, so no memory is taken. Out of memory comes where an event could not be posted.
 pub fn settle_replay(
@@ -217,9 +278,9 @@ pub fn settle_replay(
         whole,
         processors,
     } = done;
-    let (core, senders) = match board.close(passes) {
+    let (core, senders) = match closed(board, passes) {
         Ok(parts) => parts,
-        Err(_unfinished) => return Err(OutOfMemory),
+        Err(none) => return Err(none),
     };
     let hands = end_all(slots, &core, queues, senders, processors, hands);
     if !whole {
@@ -254,8 +315,7 @@ pub fn replay<R: Threads + Wait + Sync, G: Gate + Sync>(
     ensures hands { IfOk result (λ done. HaveAllStints slots.now done.core.history done.hands.items) }
 {
     board_is_made(&board);
-    let refused = flags(alloc, queues.len())?;
-    let hands = Vec::with_capacity(alloc, queues.len())?;
+    let (refused, hands) = flags_and_hands(alloc, queues.len())?;
     let done = in_threads(
         rt, alloc, &board, &queues, slots, events, &refused, gate, passes, processors,
     )?;

@@ -7,8 +7,8 @@ use Rattle.thread_replay.specs.Streams.{IsStreamedAt}
 use Rattle.thread_replay.proofs.Merging.{all_passes, merged, saw_closed}
 use Rattle.thread_replay.proofs.on_threads.settle_replay.Goals as goal
 
-pub close-requires : goal.close-requires
-close-requires c =
+pub closed-requires : goal.closed-requires
+closed-requires c =
     let done = c.requires.threaded in
     all_passes c.args.board c.args.events.now c.args.done.whole c.args.done.passes.items done.callers done.streamed
 
