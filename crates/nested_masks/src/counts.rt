@@ -68,9 +68,9 @@ impl Counts {
         if let Some((one, other)) = first_crossing(&masks) {
             return Err(NestedFault::Crossing { one, other });
         }
+        let (ready, linked) = nobody_stands(alloc, count)?;
         let nodes = NodeCounts::new(alloc, &masks)?;
         let (waiting, held_tasks) = nobody_listed(alloc, set, nodes.len())?;
-        let (ready, linked) = nobody_stands(alloc, count)?;
         Ok(Counts {
             processors: set.processors(),
             masks,
