@@ -30,8 +30,20 @@ fn write_on(text: &mut String, line: &str, stream: u32) -> Result<bool, AllocErr
 
 /// Whether the entries of each stream in a schedule are the events of that stream in an input, each once, in their order.
 pub fn is_in_order(alloc: Global, input: &[u8], schedule: &[u8]) -> Result<bool, AllocError> {
-    let input = str::from_utf8(input).unwrap_or("");
-    let schedule = str::from_utf8(schedule).unwrap_or("");
+    match str::from_utf8(input) {
+        Ok(input) => is_in_order_of(alloc, input, schedule),
+        Err(_) => Ok(false),
+    }
+}
+
+fn is_in_order_of(alloc: Global, input: &str, schedule: &[u8]) -> Result<bool, AllocError> {
+    match str::from_utf8(schedule) {
+        Ok(schedule) => are_streams_in_order(alloc, input, schedule),
+        Err(_) => Ok(false),
+    }
+}
+
+fn are_streams_in_order(alloc: Global, input: &str, schedule: &str) -> Result<bool, AllocError> {
     for stream in 0u32..16 {
         let own = format!(in alloc; "{stream} ")?;
         if !is_stream_in_order(input, schedule, &own) {

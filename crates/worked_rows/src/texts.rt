@@ -71,10 +71,13 @@ fn append_lines(alloc: Global, text: &mut Vec<u8>, words: &str) -> Result<(), Li
 }
 
 fn append_numbered(text: &mut Vec<u8>, line: &str, number: &str) -> Result<(), AllocError> {
-    let mut before = "";
+    let mut is_first = true;
     for piece in line.split('%') {
-        append_with(text, before, piece)?;
-        before = number;
+        if !is_first {
+            text.extend_from_slice(number.as_bytes())?;
+        }
+        text.extend_from_slice(piece.as_bytes())?;
+        is_first = false;
     }
     append_with(text, "", "\n")
 }
