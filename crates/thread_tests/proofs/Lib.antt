@@ -1,1 +1,3 @@
 mod Crews
+mod Feeds
+mod Trials

@@ -26,11 +26,9 @@ struct Bench {
     first: Pass,
     second: Pass,
     queues: Vec<Queue>,
-    receivers: (Receiver, Receiver),
     ghost tasks: { (length board.set.tasks ≡ 2) × (board.set.processors ≡ 2) },
     ghost passes: { AreAll board (first ∷ second ∷ []) },
     ghost lanes: { queues.items ≡ board.queues },
-    ghost ends: { queues.items ≡ receivers.0.queue ∷ receivers.1.queue ∷ [] },
 }
 
 /// A board of two callers, with their passes.
@@ -84,14 +82,13 @@ impl Bench {
     fn over(alloc: Global, set: &TaskSet) -> Result<Bench, Fail>
         requires { (length set.now.tasks ≡ 2) × (set.now.processors ≡ 2) }
     {
-        let (queues, senders, receivers) = two_queues(alloc)?;
+        let (queues, senders, _receivers) = two_queues(alloc)?;
         let (board, first, second) = board_of_two(alloc, set, senders, queues.as_slice())?;
         Ok(Bench {
             board,
             first,
             second,
             queues,
-            receivers,
         })
     }
 
@@ -130,11 +127,6 @@ impl Bench {
             .flush(rt, &mut self.first, self.queues.as_slice())
     }
 
-    /// The next order of the first processor.
-    fn next<R: Wait>(&mut self, rt: &R) -> Option<Order> {
-        self.receivers.0.next(rt, &self.queues[0])
-    }
-
     /// How many entries there are, as the second pass copies them, and the reply of the last one, unless memory is out.
     fn copied<R: Wait>(&mut self, rt: &R, alloc: Global) -> Option<(usize, Option<Reply>)> {
         let mut entries = Vec::new(alloc);
@@ -157,7 +149,6 @@ impl Bench {
             first,
             second,
             queues: _,
-            receivers: _,
         } = self;
         core_of(rt, alloc, board, first, second)
     }
@@ -251,57 +242,6 @@ fn board_by_calls(rt: HostRuntime) -> Result<(), Fail> {
     Ok(())
 }
 
-/// How many orders come out of the first queue, of at most 1,000.
-fn received<R: Wait>(rt: &R, bench: &mut Bench) -> u32 {
-    let mut count = 0u32;
-    for _ in 0..1000 {
-        if bench.next(rt).is_some() {
-            count = count.saturating_add(1);
-        }
-    }
-    count
-}
-
-/// Posts an event with the first pass, and asserts that it was.
-fn is_posted<R: Wait + Abort>(rt: &R, bench: &mut Bench, event: Event)
-    requires { IsOfSystem 2 2 event }
-{
-    assert!(rt; bench.post(rt, event).is_ok());
-}
-
-/// The first task arrives, and 300 ticks are posted.
-fn ticks<R: Wait + Abort>(rt: &R, bench: &mut Bench) {
-    is_posted(rt, bench, Event::Arrive(0));
-    for _ in 0..300 {
-        is_posted(rt, bench, Event::Tick(1));
-    }
-}
-
-/// So many orders come out of the first queue.
-fn gives<R: Wait + Abort>(rt: &R, bench: &mut Bench, orders: u32) {
-    assert_eq!(rt; received(rt, bench), orders);
-}
-
-/// All orders come out of the first queue: those that had room, and then those that were owed.
-fn flushes<R: Wait + Abort>(rt: &R, bench: &mut Bench) {
-    owes(rt, bench, 45);
-    bench.finish(rt);
-    owes(rt, bench, 47);
-    gives(rt, bench, 256);
-    owes(rt, bench, 0);
-    gives(rt, bench, 47);
-}
-
-// Processor 0 gets a Take and 300 Runs, and at the close a Release and a Stop, and processor 1 a Stop. A queue has room
-// for 256 orders: of 301 there are 45 left, and after the close 2 more.
-#[test]
-fn owed_orders_wait_for_room(rt: HostRuntime) -> Result<(), Fail> {
-    let mut bench = Bench::new(&rt, rt.alloc())?;
-    ticks(&rt, &mut bench);
-    flushes(&rt, &mut bench);
-    closes(&rt, rt.alloc(), bench, 301)
-}
-
 /// Posts one event with a pass, and hands the pass back.
 fn post_with<R: Wait>(
     rt: &R,
@@ -366,7 +306,6 @@ fn post_at_once<R: Threads + Wait + Sync>(
         first,
         second,
         queues,
-        receivers,
     } = bench;
     let ((first, of_first), (second, of_second)) = both_post(rt, &board, first, one, second, other);
     let bench = Bench {
@@ -374,7 +313,6 @@ fn post_at_once<R: Threads + Wait + Sync>(
         first,
         second,
         queues,
-        receivers,
     };
     (bench, of_first, of_second)
 }

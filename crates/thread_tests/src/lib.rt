@@ -1,13 +1,27 @@
-//! Tests by the public calls of event_history, thread_replay and thread_schedule, and of whole runs with gates. It has nothing else.
+//! Tests by the public calls of the crates with threads. It has nothing else.
 #![tactic(auto)]
 
 #[cfg(test)]
 mod board_tests;
 #[cfg(test)]
+mod ends;
+#[cfg(test)]
 mod owed_orders;
+#[cfg(test)]
+mod picture_tests;
+#[cfg(test)]
+mod processor_tests;
+#[cfg(test)]
+mod queue_tests;
+#[cfg(test)]
+mod replay_tests;
 #[cfg(test)]
 mod runs;
 #[cfg(test)]
 mod schedule_tests;
+#[cfg(test)]
+mod slot_tests;
+#[cfg(test)]
+mod text_tests;
 #[cfg(test)]
 mod two_processors;

@@ -8,7 +8,9 @@ ghost use Rattle.thread_replay.specs.Driving.{IsDone};
 ghost use Rattle.thread_replay.specs.Seats.{IsSeated};
 ghost use Rattle.thread_tests.specs.Fitting.{are_for-prop};
 
-use crate::two_processors::{list_of_two, two_queues, two_tasks};
+use crate::two_processors::{
+    are_contexts, context, contexts_of_two, list_of_two, two_hands, two_queues, two_tasks,
+};
 use affinity_mask::OutOfMemory;
 use context_slots::{Hand, Slots};
 use event_history::{Board, Pass};
@@ -36,19 +38,6 @@ struct Bench {
     ghost lanes: { queues.items ≡ board.queues },
     ghost made_for: { AreFor slots.set queues.items } by { are_for-prop slots.set queues.items },
     ghost seated: { IsSeated queues.items slots first × IsSeated queues.items slots second },
-}
-
-/// Slots for two processors, with their hands.
-fn two_hands(alloc: Global, set: &TaskSet) -> Result<(Slots, Hand, Hand), OutOfMemory>
-    requires { set.now.processors ≡ 2 }
-    ensures slots { IfOk result (λ made. made.0.set ≡ set.now) }
-    ensures hands { IfOk result (λ made. (made.1 ≡ new_hand made.0.id 0)
-        × (made.2 ≡ new_hand made.0.id 1)) }
-{
-    let (slots, mut hands) = Slots::new(alloc, set)?;
-    let hand_1 = hands.pop().unwrap();
-    let hand_0 = hands.pop().unwrap();
-    Ok((slots, hand_0, hand_1))
 }
 
 /// A processor that did nothing yet, with the receiving end of the queue at its number.
@@ -141,28 +130,6 @@ fn hand_of<R: Abort + Wait>(
     }
     let (hand, _receiver) = processor.finish();
     hand
-}
-
-/// The contexts in the end, of two hands that hold nothing.
-fn contexts_of_two(
-    rt: &impl Abort,
-    alloc: Global,
-    slots: Slots,
-    first: Hand,
-    second: Hand,
-) -> Result<Vec<Context>, Fail>
-    requires processors { slots.set.processors ≡ 2 }
-    requires first { (first.slots ≡ slots.id) × (first.holds ≡ None) }
-    requires second { (second.slots ≡ slots.id) × (second.holds ≡ None) }
-{
-    assert!(rt; first.number() == 0 && second.number() == 1);
-    let mut hands = Vec::new(alloc);
-    hands.push(first)?;
-    hands.push(second)?;
-    match slots.close(alloc, hands) {
-        Ok(contexts) => Ok(contexts),
-        Err(_unclosed) => Err(Fail::new("out of memory")),
-    }
 }
 
 /// The last two of a list of processors, in their order.
@@ -352,29 +319,6 @@ fn fill<R: Wait + Abort>(rt: &R, bench: &mut Bench) {
     owes(rt, bench, 47);
 }
 
-/// One task ran for 300 units, and the other one not at all.
-fn are_expected(contexts: &[Context]) -> bool {
-    let b = Context {
-        task: 1,
-        units: 0,
-        stints: 0,
-        moves: 0,
-        last: None,
-        trail: 1,
-    };
-    match contexts {
-        [a, other] => {
-            a.task == 0
-                && a.units == 300
-                && a.stints == 1
-                && a.moves == 0
-                && a.last == Some(0)
-                && *other == b
-        }
-        _ => false,
-    }
-}
-
 /// The first processor steps through the orders that are in its queue, and then through those that were owed.
 fn steps_to_stop<R: Wait + Abort>(rt: &R, bench: &mut Bench) {
     obeys(rt, bench, 256, Step::Empty);
@@ -383,10 +327,11 @@ fn steps_to_stop<R: Wait + Abort>(rt: &R, bench: &mut Bench) {
     assert_eq!(rt; bench.step_second(rt), Step::Stopped);
 }
 
-/// Asserts that the contexts in the end are the expected ones.
+/// One task ran for 300 units, one at a time, and the other one not at all.
 fn ends_as_expected<R: Wait + Abort>(rt: &R, alloc: Global, bench: Bench) -> Result<(), Fail> {
-    let contexts = bench.contexts(rt, alloc)?;
-    assert!(rt; are_expected(&contexts));
+    let made = bench.contexts(rt, alloc)?;
+    let a = context(0, 300, 1, 0, Some(0), 13480592892487708928);
+    are_contexts(rt, &made, a, context(1, 0, 0, 0, None, 1));
     Ok(())
 }
 

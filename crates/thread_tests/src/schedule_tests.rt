@@ -1,7 +1,7 @@
 //! A schedule of two events, by calls.
 ghost use Rattle.std.specs.Prelude.{◌≡◌, length};
 
-use crate::two_processors::two_tasks;
+use crate::two_processors::{are_contexts, context, two_tasks};
 use affinity_mask::OutOfMemory;
 use processor_seat::OpenGate;
 use std::alloc::Global;
@@ -9,35 +9,16 @@ use std::process::Abort;
 use std::sync::Wait;
 use std::test::Fail;
 use std::thread::Threads;
-use task_set::{Context, Event, TaskSet};
+use task_set::{Event, TaskSet};
 use thread_schedule::{Schedule, schedule_of};
 use trace_reader::Posted;
 
-/// The contexts where the second task may run where the first one is, and the first one moves aside.
-static CONTEXTS: [Context; 2] = [
-    Context {
-        task: 0,
-        units: 0,
-        stints: 2,
-        moves: 1,
-        last: Some(1),
-        trail: 0,
-    },
-    Context {
-        task: 1,
-        units: 0,
-        stints: 1,
-        moves: 0,
-        last: Some(0),
-        trail: 1,
-    },
-];
-
-/// Asserts that the schedule has two entries and is closed, with these contexts.
+/// The schedule has two entries and is closed. The second task runs where the first one was, which moved aside.
 fn is_expected(rt: &impl Abort, made: &Schedule) {
     assert_eq!(rt; made.core.history().len(), 2);
     assert!(rt; made.core.is_closed());
-    assert_eq!(rt; made.contexts.as_slice(), CONTEXTS.as_slice());
+    let a = context(0, 0, 2, 1, Some(1), 0);
+    are_contexts(rt, &made.contexts, a, context(1, 0, 1, 0, Some(0), 1));
 }
 
 /// The schedule of the arrivals of two tasks.

@@ -1,13 +1,15 @@
-//! Two tasks on two processors, and the queues of these.
-ghost use Rattle.std.specs.Prelude.{◌≡◌, ◌∷◌, [], IfOk, length, map};
+//! Two tasks on two processors, with the queues and the hands of these, and their contexts.
+ghost use Rattle.std.specs.Prelude.{◌≡◌, ◌∷◌, [], IfOk, None, length, map};
 ghost use Rattle.order_queues.specs.Ends.{new_receiver, new_sender};
+ghost use Rattle.context_slots.specs.Hands.{AreAll, new_hand};
 
 use affinity_mask::{OutOfMemory, ProcSet};
+use context_slots::{Hand, Slots};
 use order_queues::{Queue, Receiver, Sender};
 use std::alloc::Global;
 use std::process::Abort;
 use std::test::Fail;
-use task_set::TaskSet;
+use task_set::{Context, TaskSet};
 
 /// Adds a task that may run on both processors, and a less urgent one that may run on the first alone.
 fn add_both(set: &mut TaskSet) -> Result<(), Fail> {
@@ -88,4 +90,70 @@ fn in_lists(
     let queues = list_of_two(alloc, first.0, second.0)?;
     let senders = list_of_two(alloc, first.1, second.1)?;
     Ok((queues, senders, (first.2, second.2)))
+}
+
+/// Slots for two processors, with their hands.
+pub(crate) fn two_hands(alloc: Global, set: &TaskSet) -> Result<(Slots, Hand, Hand), OutOfMemory>
+    requires { set.now.processors ≡ 2 }
+    ensures slots { IfOk result (λ made. made.0.set ≡ set.now) }
+    ensures hands { IfOk result (λ made. (made.1 ≡ new_hand made.0.id 0)
+        × (made.2 ≡ new_hand made.0.id 1)) }
+{
+    let (slots, mut hands) = Slots::new(alloc, set)?;
+    let hand_1 = hands.pop().unwrap();
+    let hand_0 = hands.pop().unwrap();
+    Ok((slots, hand_0, hand_1))
+}
+
+/// The contexts in the end, where all hands come back.
+pub(crate) fn contexts(alloc: Global, slots: Slots, hands: Vec<Hand>) -> Result<Vec<Context>, Fail>
+    requires { AreAll slots hands.items }
+{
+    match slots.close(alloc, hands) {
+        Ok(contexts) => Ok(contexts),
+        Err(_unclosed) => Err(Fail::new("out of memory")),
+    }
+}
+
+/// The contexts in the end, of two hands that hold nothing.
+pub(crate) fn contexts_of_two(
+    rt: &impl Abort,
+    alloc: Global,
+    slots: Slots,
+    hand_0: Hand,
+    hand_1: Hand,
+) -> Result<Vec<Context>, Fail>
+    requires processors { slots.set.processors ≡ 2 }
+    requires hand_0 { (hand_0.slots ≡ slots.id) × (hand_0.holds ≡ None) }
+    requires hand_1 { (hand_1.slots ≡ slots.id) × (hand_1.holds ≡ None) }
+{
+    assert!(rt; hand_0.number() == 0 && hand_1.number() == 1);
+    let mut hands = Vec::new(alloc);
+    hands.push(hand_0)?;
+    hands.push(hand_1)?;
+    contexts(alloc, slots, hands)
+}
+
+/// The context of a task, by the numbers of its line.
+pub(crate) fn context(
+    task: u32,
+    units: u64,
+    stints: u64,
+    moves: u64,
+    last: Option<u8>,
+    trail: u64,
+) -> Context {
+    Context {
+        task,
+        units,
+        stints,
+        moves,
+        last,
+        trail,
+    }
+}
+
+/// These are the contexts of the two tasks.
+pub(crate) fn are_contexts(rt: &impl Abort, contexts: &[Context], a: Context, b: Context) {
+    assert_eq!(rt; contexts, [a, b].as_slice());
 }
