@@ -1,4 +1,4 @@
--- No chain of shifts would bring a waiting task in.
+-- No chain of shifts would bring a waiting task in without displacing a more urgent one.
 use Rattle.std.specs.Prelude.{ℕ, ◌≤◌, List, length}
 use Rattle.task_set.specs.TaskSet.{SetData}
 use Rattle.scheduler_reply.specs.declared.reply.Entry.{Entry}

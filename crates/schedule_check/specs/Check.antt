@@ -16,7 +16,8 @@ abbrev pub valid_text : ℕ → List ℕ
 valid_text count = line (codes "valid " ++ canonical_number count)
 
 -- from the bytes of a valid schedule to the bytes written: after every entry the linked tasks are the best placeable set of
--- the ready ones, and no chain of shifts would bring a waiting task in, whoever made the schedule
+-- the ready ones, and no chain of shifts would bring a waiting task in without displacing a more urgent one, whoever made the
+-- schedule
 pub record IsCheckOf (read put : List ℕ) : Type 0 where
   pub schedule : ScheduleData
   pub is_text : IsTextOf read schedule

@@ -1,6 +1,6 @@
 -- What a replay of an input is: the bytes read are the text of one input, and the bytes written are the schedule text of one
 -- history, which is a legal merge of its events, keeps the best set linked after every entry, so that no chain of shifts would
--- bring a waiting task in, and gives the contexts that are printed.
+-- bring a waiting task in without displacing a more urgent one, and gives the contexts that are printed.
 use Rattle.link_state.specs.Dispatch.{contexts_of}
 use Rattle.std.specs.Prelude.{◌≡◌, ℕ, List}
 use Rattle.task_set.specs.TaskSet.{SetData}

@@ -21,7 +21,8 @@ InvalidIsUnique = (schedule : ScheduleData) → IsSchedule schedule → (number 
 abbrev pub ValidIsBest : Type 0
 ValidIsBest = (schedule : ScheduleData) → IsSchedule schedule → IsValid schedule → IsBestThroughout schedule.set schedule.entries
 
--- after every entry of a valid schedule, and before the first, no chain of shifts would bring a waiting task in
+-- after every entry of a valid schedule, and before the first, no chain of shifts would bring a waiting task in without displacing a
+-- more urgent one
 abbrev pub ValidHasNoImprovingChain : Type 0
 ValidHasNoImprovingChain = (schedule : ScheduleData) → IsSchedule schedule → IsValid schedule → HasNoImprovingChainThroughout schedule.set schedule.entries
 

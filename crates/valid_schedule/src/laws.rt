@@ -17,7 +17,7 @@ pub fn valid_is_best()
     ensures { ValidIsBest }
 {}
 
-/// After every entry of a valid schedule no chain of shifts would bring a waiting task in.
+/// After every entry of a valid schedule no chain of shifts would bring a waiting task in without displacing a more urgent one.
 pub fn valid_has_no_improving_chain()
     ensures { ValidHasNoImprovingChain }
 {}
