@@ -2,7 +2,7 @@
 //! standard output.
 #![tactic(auto)]
 
-use commands::run;
+use command_line::run;
 use processor_seat::OpenGate;
 use program_status::{Status, report};
 use shift_io::{StdSink, StdSource};

@@ -1,7 +1,7 @@
 //! Whole runs with gates: that streams and workers go on beside each other, and that the gate is called.
 ghost use Rattle.std.specs.Prelude.{◌<◌};
 
-use commands::run;
+use command_line::run;
 use processor_seat::{Gate, OpenGate};
 use program_status::Status;
 use shift_io::{MemSink, MemSource};

@@ -2,7 +2,7 @@
 use crate::case::{Case, Deed, Stage};
 use crate::put::{write_answer, write_put};
 use crate::streams::{is_in_order, spread};
-use commands::run;
+use command_line::run;
 use processor_seat::OpenGate;
 use program_status::Status;
 use shift_io::{MemSink, MemSource};

@@ -1,8 +1,8 @@
 use Rattle.std.proofs.Common.{◌≡◌, [], ◌∷◌, map}
 use Rattle.std.specs.Prelude.{string_bytes}
 use Rattle.std.specs.declared.alloc.Global.{Global}
-use Rattle.commands.proofs.CommandBytes.{unsized_words, unwatched_words, two_words, five_words}
-use Rattle.commands.proofs.words.command_of.Goals as goal
+use Rattle.command_line.proofs.CommandBytes.{unsized_words, unwatched_words, two_words, five_words}
+use Rattle.command_line.proofs.words.command_of.Goals as goal
 
 pub returns-in_default-sizes_of : goal.returns-in_default-sizes_of
 returns-in_default-sizes_of c =

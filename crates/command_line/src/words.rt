@@ -1,8 +1,8 @@
 //! The words of a call, and the command that they mean.
 ghost use Rattle.std.specs.Prelude.{◌≡◌, ℕ, [], ◌∷◌, MatchOption, map, string_bytes, codes};
-ghost use Rattle.commands.specs.declared.words.Command.{Command};
+ghost use Rattle.command_line.specs.declared.words.Command.{Command};
 ghost use Rattle.generated_run.specs.declared.sizes.Sizes.{Sizes};
-ghost use Rattle.commands.specs.Command.{IsCommand, AreSizes};
+ghost use Rattle.command_line.specs.Command.{IsCommand, AreSizes};
 ghost use Rattle.text_fields.specs.Number.{IsNumberWithin};
 
 use generated_run::Sizes;

@@ -9,9 +9,9 @@ use Rattle.program_status.specs.Reading.{byte_limit}
 use Rattle.program_status.proofs.ReadBytes.{read_is_reported, not_longer}
 use Rattle.generated_run.specs.Sizes.{AreWithin}
 use Rattle.generated_run.specs.declared.sizes.Sizes.{Sizes}
-use Rattle.commands.specs.Command.{IsCommand, IsSized, IsWatch, AreSizes, IsBounded, IsToRead, Reads, ReadsNothing}
-use Rattle.commands.specs.declared.words.Command.{Command}
-use Rattle.commands.specs.declared.words.Command.TheVariants.{Run, Check, Weak, Nested, Jobs, Watch, Make, Large}
+use Rattle.command_line.specs.Command.{IsCommand, IsSized, IsWatch, AreSizes, IsBounded, IsToRead, Reads, ReadsNothing}
+use Rattle.command_line.specs.declared.words.Command.{Command}
+use Rattle.command_line.specs.declared.words.Command.TheVariants.{Run, Check, Weak, Nested, Jobs, Watch, Make, Large}
 
 -- what a command read is what it was to read
 pub read_is_expected : (command : Command) (left after : Option (List ℕ)) (read taken : List ℕ) → IsToRead command left read → Reads command left after taken → taken ≡ read

@@ -2,8 +2,8 @@ use Rattle.std.proofs.Common.{◌≡◌, ℕ, Vec, Err, inr, ap}
 use Rattle.std.specs.declared.alloc.Global.{Global}
 use Rattle.std.specs.Prelude.{IsOk}
 use Rattle.shift_io.specs.declared.whole.ReadAllFault.{ReadAllFault}
-use Rattle.commands.proofs.CommandBytes.{one_command, read_is_expected, never_too_long}
-use Rattle.commands.proofs.call.run.Goals as goal
+use Rattle.command_line.proofs.CommandBytes.{one_command, read_is_expected, never_too_long}
+use Rattle.command_line.proofs.call.run.Goals as goal
 
 -- a failure is no answer
 never_ok : (fault : ReadAllFault) → IsOk {T = Vec ℕ Global} (Err fault) → ⊥

@@ -9,8 +9,8 @@ ghost use Rattle.program_status.specs.declared.status.Status.{Status};
 ghost use Rattle.program_status.specs.Answers.{Answers};
 ghost use Rattle.program_status.specs.Reading.{byte_limit};
 ghost use Rattle.program_status.specs.Status.{BeforePut};
-ghost use Rattle.commands.specs.declared.words.Command.{Command};
-ghost use Rattle.commands.specs.Command.{IsCommand, IsBounded, Reads, ReadsNothing, IsToRead, Makes, Accepts, Refuses, ReadsAndMakes, ReadsRefused};
+ghost use Rattle.command_line.specs.declared.words.Command.{Command};
+ghost use Rattle.command_line.specs.Command.{IsCommand, IsBounded, Reads, ReadsNothing, IsToRead, Makes, Accepts, Refuses, ReadsAndMakes, ReadsRefused};
 
 use crate::words::{Command, command_of};
 use generated_run::{made_text, summary_of};
