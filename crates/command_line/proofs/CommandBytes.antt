@@ -5,10 +5,10 @@ use Rattle.std.specs.declared.alloc.Global.{Global}
 use Rattle.affinity_mask.specs.Number.{number_value}
 use Rattle.text_fields.specs.Number.{IsNumberWithin}
 use Rattle.shift_io.specs.Stream.{TakesExactly}
-use Rattle.program_status.specs.Reading.{byte_limit}
-use Rattle.program_status.proofs.ReadBytes.{read_is_reported, not_longer}
-use Rattle.generated_run.specs.Sizes.{AreWithin}
-use Rattle.generated_run.specs.declared.sizes.Sizes.{Sizes}
+use Rattle.commands.specs.Reading.{byte_limit}
+use Rattle.commands.proofs.ReadBytes.{read_is_reported, not_longer}
+use Rattle.commands.specs.Sizes.{AreWithin}
+use Rattle.commands.specs.declared.sizes.Sizes.{Sizes}
 use Rattle.command_line.specs.Command.{IsCommand, IsSized, IsWatch, AreSizes, IsBounded, IsToRead, Reads, ReadsNothing}
 use Rattle.command_line.specs.declared.words.Command.{Command}
 use Rattle.command_line.specs.declared.words.Command.TheVariants.{Run, Check, Weak, Nested, Jobs, Watch, Make, Large}

@@ -1,19 +1,19 @@
 -- The commands: the words that they are, what they read, what they make of it, and what they refuse, each with one answer.
 use Rattle.std.specs.Prelude.{◌≡◌, ℕ, ◌≤◌, List, [], ◌∷◌, codes, Option}
 use Rattle.text_fields.specs.Number.{IsNumberWithin}
-use Rattle.program_status.specs.Reading.{ReadsAll, IsReported}
-use Rattle.program_status.specs.Refusal.{IsAccepted, IsAnsweredInput, RefusesInput}
-use Rattle.program_status.specs.declared.status.Status.{Status}
-use Rattle.valid_schedule.specs.Valid.{IsValidText}
-use Rattle.schedule_check.specs.Check.{IsCheckOf, RefusesCheck}
-use Rattle.schedule_run.specs.Run.{IsRunOf}
-use Rattle.weak_run.specs.Weak.{IsWeakOf}
-use Rattle.watch_run.specs.Watch.{IsWatchOf}
-use Rattle.nested_run.specs.NestedRun.{IsNestedOf, AcceptsNested, RefusesNested}
-use Rattle.job_run.specs.JobsRun.{IsJobsOf, AcceptsJobs, RefusesJobs}
-use Rattle.generated_run.specs.Generating.{IsMakeOf, IsLargeOf}
-use Rattle.generated_run.specs.Sizes.{AreWithin}
-use Rattle.generated_run.specs.declared.sizes.Sizes.{Sizes}
+use Rattle.commands.specs.Reading.{ReadsAll, IsReported}
+use Rattle.commands.specs.Refusal.{IsAccepted, IsAnsweredInput, RefusesInput}
+use Rattle.commands.specs.declared.status.Status.{Status}
+use Rattle.commands.specs.Valid.{IsValidText}
+use Rattle.commands.specs.Check.{IsCheckOf, RefusesCheck}
+use Rattle.commands.specs.Run.{IsRunOf}
+use Rattle.commands.specs.Weak.{IsWeakOf}
+use Rattle.commands.specs.Watch.{IsWatchOf}
+use Rattle.commands.specs.NestedRun.{IsNestedOf, AcceptsNested, RefusesNested}
+use Rattle.commands.specs.JobsRun.{IsJobsOf, AcceptsJobs, RefusesJobs}
+use Rattle.commands.specs.Generating.{IsMakeOf, IsLargeOf}
+use Rattle.commands.specs.Sizes.{AreWithin}
+use Rattle.commands.specs.declared.sizes.Sizes.{Sizes}
 use Rattle.command_line.specs.declared.words.Command.{Command}
 use Rattle.command_line.specs.declared.words.Command.TheVariants.{Run, Check, Weak, Nested, Jobs, Watch, Make, Large}
 

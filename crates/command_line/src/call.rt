@@ -5,27 +5,23 @@ ghost use Rattle.shift_io.specs.declared.whole.ReadAllFault.{ReadAllFault};
 ghost use Rattle.shift_io.specs.declared.whole.ReadAllFault.TheVariants as fault;
 ghost use Rattle.shift_io.specs.Causes.{Rose};
 ghost use Rattle.shift_io.specs.Stream.{TakesAtMost, TakesExactly, AppendsPrefix};
-ghost use Rattle.program_status.specs.declared.status.Status.{Status};
-ghost use Rattle.program_status.specs.Answers.{Answers};
-ghost use Rattle.program_status.specs.Reading.{byte_limit};
-ghost use Rattle.program_status.specs.Status.{BeforePut};
+ghost use Rattle.commands.specs.declared.status.Status.{Status};
+ghost use Rattle.commands.specs.Answers.{Answers};
+ghost use Rattle.commands.specs.Reading.{byte_limit};
+ghost use Rattle.commands.specs.Status.{BeforePut};
 ghost use Rattle.command_line.specs.declared.words.Command.{Command};
 ghost use Rattle.command_line.specs.Command.{IsCommand, IsBounded, Reads, ReadsNothing, IsToRead, Makes, Accepts, Refuses, ReadsAndMakes, ReadsRefused};
 
 use crate::words::{Command, command_of};
-use generated_run::{made_text, summary_of};
-use job_run::jobs_text;
-use nested_run::nested_text;
+use commands::{
+    MAX_BYTES, Status, checked_text, jobs_text, made_text, nested_text, replayed_text, summary_of,
+    watched_text, weak_text,
+};
 use processor_seat::Gate;
-use program_status::{MAX_BYTES, Status};
-use schedule_check::checked_text;
-use schedule_run::replayed_text;
 use shift_io::{ReadAllFault, Sink, Source, put_all, read_all};
 use std::alloc::Global;
 use std::sync::Wait;
 use std::thread::Threads;
-use watch_run::watched_text;
-use weak_run::weak_text;
 
 /// Does what the words say. `run` reads the source to its end as an input text, replays its events on threads, a worker
 /// for each processor and a thread for each stream that has events, and writes the schedule text into the sink. The

@@ -1,15 +1,14 @@
 //! The words of a call, and the command that they mean.
 ghost use Rattle.std.specs.Prelude.{◌≡◌, ℕ, [], ◌∷◌, MatchOption, map, string_bytes, codes};
 ghost use Rattle.command_line.specs.declared.words.Command.{Command};
-ghost use Rattle.generated_run.specs.declared.sizes.Sizes.{Sizes};
+ghost use Rattle.commands.specs.declared.sizes.Sizes.{Sizes};
 ghost use Rattle.command_line.specs.Command.{IsCommand, AreSizes};
 ghost use Rattle.text_fields.specs.Number.{IsNumberWithin};
 
-use generated_run::Sizes;
+use commands::{MAX_OBSERVERS, Sizes};
 use task_set::MAX_TASKS;
 use text_fields::limits::{MAX_EVENTS, MAX_PROCESSORS};
 use text_fields::read_number;
-use watch_run::MAX_OBSERVERS;
 
 /// What the program can do.
 #[derive(Clone, Copy, Debug, PartialEq, Eq)]

@@ -3,8 +3,8 @@
 #![tactic(auto)]
 
 use command_line::run;
+use commands::{Status, report};
 use processor_seat::OpenGate;
-use program_status::{Status, report};
 use shift_io::{StdSink, StdSource};
 use std::process::ExitCode;
 use std::rt::Env;

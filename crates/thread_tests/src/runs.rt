@@ -2,8 +2,8 @@
 ghost use Rattle.std.specs.Prelude.{◌<◌};
 
 use command_line::run;
+use commands::Status;
 use processor_seat::{Gate, OpenGate};
-use program_status::Status;
 use shift_io::{MemSink, MemSource};
 use std::alloc::{AllocError, Global};
 use std::process::Abort;

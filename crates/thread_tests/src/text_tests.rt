@@ -1,6 +1,7 @@
 //! The whole text of a run with observers, and what no clause says: that observers read beside the posts.
 ghost use Rattle.std.specs.Prelude.{◌<◌, ◌≤◌};
 
+use commands::watched_text;
 use processor_seat::Gate;
 use std::alloc::{AllocError, Global};
 use std::process::Abort;
@@ -9,7 +10,6 @@ use std::sync::atomic::{AtomicBool, AtomicU64, Ordering};
 use std::test::Fail;
 use std::thread::Threads;
 use std::{str, thread};
-use watch_run::watched_text;
 
 /// Two tasks: the second one may run where the first one is, and the first one moves aside.
 static TWO_TASKS: &str =

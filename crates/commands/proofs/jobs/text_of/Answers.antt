@@ -1,0 +1,8 @@
+use Rattle.commands.proofs.jobs.text_of.Goals as goal
+
+pub returns : goal.returns
+returns c = record {
+  history = _;
+  runs = c.in_ok-run.ensures.runs;
+  text = c.in_ok-text.ensures;
+}

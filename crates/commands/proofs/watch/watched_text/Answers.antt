@@ -1,0 +1,34 @@
+use Rattle.std.proofs.lemmas.Result.{err_from_is_err_and}
+use Rattle.commands.proofs.Answered.{answers_fault, answers_memory}
+use Rattle.commands.proofs.RunIsValid.{run_of_replay}
+use Rattle.commands.proofs.watch.watched_text.Goals as goal
+
+pub returns-in_err-input : goal.returns-in_err-input
+returns-in_err-input g c =
+    let p = err_from_is_err_and c.from_residual.result c.from_residual.ensures.1 in
+    rw (p.1, p.2) (answers_fault c.args.bytes.now c.in_err-input.field-0.0 c.in_err-input.ensures.accepts c.in_err-input.ensures.refused c.in_err-input.ensures.refuses)
+
+pub returns-in_err-text : goal.returns-in_err-text
+returns-in_err-text g c =
+    let p = err_from_is_err_and c.from_residual-in_err-text.result c.from_residual-in_err-text.ensures.1 in
+    rw (p.1, p.2) answers_memory
+
+pub returns : goal.returns
+returns g c =
+    let input = c.in_ok-input.input in
+    let made = c.in_ok-text.ensures in
+    let replay = made.replayed in
+    let run = run_of_replay c.args.bytes.now made.schedule input.version input.set input.events replay.core replay.printed c.in_ok-input.ensures.input replay.replay replay.contexts replay.text in
+    record {
+      makes = record {
+        schedule = made.schedule;
+        run = run.0;
+        readings = made.readings;
+        each_observer = made.each_observer;
+        each_reading = rw (run.1, run.2) made.each_reading;
+        text = made.text;
+      };
+      refused = tt;
+      accepts = λ accepted. tt;
+      refuses = λ expected why. c.in_ok-input.ensures.refuses why.number why.cause.cause why.cause.refused;
+    }

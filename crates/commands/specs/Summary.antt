@@ -1,0 +1,45 @@
+-- A schedule in numbers, and the six lines that report it.
+use Rattle.std.specs.Prelude.{ℕ, ◌%◌, ◌^◌, Bool, true, false, List, ◌++◌, length, codes, count_by, sum_by}
+use Rattle.affinity_mask.specs.Number.{canonical_number}
+use Rattle.task_set.specs.declared.context.Context.{Context}
+use Rattle.scheduler_reply.specs.declared.reply.Entry.{Entry}
+use Rattle.scheduler_reply.specs.declared.reply.Reply.{Reply}
+use Rattle.scheduler_reply.specs.declared.reply.Reply.TheVariants.{Displaced, Waits}
+use Rattle.text_fields.specs.LineText.{line}
+use Rattle.commands.specs.declared.sizes.Sizes.{Sizes}
+
+-- the reply put a running task back among the waiting ones
+abbrev pub displaces : Reply → Bool
+displaces (Displaced chain out reach) = true
+displaces _ = false
+
+-- the task that arrived waits
+abbrev pub makes_wait : Reply → Bool
+makes_wait (Waits reach) = true
+makes_wait _ = false
+
+-- how many entries have a reply that passes a test
+abbrev pub replies_of : (Reply → Bool) → List Entry → ℕ
+replies_of test history = count_by (λ (entry : Entry). test entry.reply) history
+
+-- the moves of all tasks, which may exceed 2^64
+abbrev pub moves_of : List Context → ℕ
+moves_of contexts = sum_by (λ (context : Context). context.moves) contexts
+
+-- the sum of all trails, modulo 2^64
+abbrev pub trails_of : List Context → ℕ
+trails_of contexts = sum_by (λ (context : Context). context.trail) contexts % 2 ^ 64
+
+-- the four numbers of an input, in canonical form
+abbrev pub sizes_text : Sizes → List ℕ
+sizes_text sizes = canonical_number sizes.number ++ codes " " ++ canonical_number sizes.processors ++ codes " " ++ canonical_number sizes.tasks ++ codes " " ++ canonical_number sizes.events
+
+-- the six lines
+abbrev pub summary_text : Sizes → List Entry → List Context → List ℕ
+summary_text sizes history contexts =
+    line (codes "large " ++ sizes_text sizes)
+    ++ line (codes "entries " ++ canonical_number (length history))
+    ++ line (codes "displaced " ++ canonical_number (replies_of displaces history))
+    ++ line (codes "waits " ++ canonical_number (replies_of makes_wait history))
+    ++ line (codes "moves " ++ canonical_number (moves_of contexts))
+    ++ line (codes "trails " ++ canonical_number (trails_of contexts))

@@ -1,0 +1,28 @@
+//! The commands, each from the bytes that it reads to the bytes that it writes: [`replayed_text`] for `run`, [`checked_text`]
+//! for `check`, and so on. [`Status`] says how a call ended, and [`report`] tells it.
+#![tactic(auto)]
+
+mod check;
+mod generate;
+mod jobs;
+pub mod laws;
+mod nested;
+mod observers;
+mod replay;
+mod reporting;
+mod sizes;
+mod status;
+mod summary;
+mod watch;
+mod weak;
+
+pub use check::checked_text;
+pub use generate::{made_text, summary_of};
+pub use jobs::jobs_text;
+pub use nested::nested_text;
+pub use replay::{replayed_text, text_of_replay};
+pub use reporting::{exit_status, report};
+pub use sizes::Sizes;
+pub use status::{MAX_BYTES, Status};
+pub use watch::{MAX_OBSERVERS, watched_text};
+pub use weak::weak_text;

@@ -1,8 +1,0 @@
-use Rattle.job_run.proofs.jobs.text_of.Goals as goal
-
-pub returns : goal.returns
-returns c = record {
-  history = _;
-  runs = c.in_ok-run.ensures.runs;
-  text = c.in_ok-text.ensures;
-}

@@ -1,5 +1,0 @@
-use Rattle.job_run.proofs.OneText as once
-use Rattle.job_run.proofs.laws.bytes_have_one_text.Goals as goal
-
-pub returns : goal.returns
-returns c = once.bytes_have_one_text

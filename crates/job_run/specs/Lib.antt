@@ -1,2 +1,0 @@
-pub mod JobsRun
-pub mod Laws

@@ -1,3 +1,0 @@
-mod CheckedText
-mod Compared
-mod Following

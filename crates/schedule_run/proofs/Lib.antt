@@ -1,4 +1,0 @@
-mod Headline
-mod InputNumbers
-mod OneText
-pub mod RunIsValid

@@ -1,2 +1,0 @@
-pub mod LegalSchedules
-pub mod OneVerdict

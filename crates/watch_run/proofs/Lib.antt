@@ -1,3 +1,0 @@
-mod Readings
-mod Snapshots
-mod Written

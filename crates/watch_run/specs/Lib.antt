@@ -1,3 +1,0 @@
-pub mod Shown
-pub mod Watch
-pub mod WatchText
