@@ -1,3 +1,4 @@
 mod Crews
 mod Feeds
+mod SlotExamples
 mod Trials
