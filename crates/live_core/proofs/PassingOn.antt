@@ -1,5 +1,5 @@
 -- Occupants that are passed on along a chain, from its end on.
-use Rattle.std.proofs.Common.{◌≡◌, ◌≢◌, ℕ, zero, suc, ◌+◌, ◌-◌, ◌<◌, ◌≤◌, List, [], ◌∷◌, length, get_or, set, drop, Option, Some, None, refl, sym, ap, subst, ◌∙◌, inl, inr, ◌⊎◌, arith, eq-eqb, ne_eqb, get_or-set_same, get_or-set_other, length-set, drop-cons}
+use Rattle.std.proofs.Common.{◌≡◌, ◌≢◌, ℕ, zero, suc, ◌+◌, ◌-◌, ◌<◌, List, [], ◌∷◌, length, get_or, set, drop, Option, Some, None, refl, sym, ap, subst, ◌∙◌, inl, inr, ◌⊎◌, arith, eq-eqb, ne_eqb, get_or-set_same, get_or-set_other, length-set, drop-cons}
 use Rattle.std.proofs.lemmas.Bool.{cases_eq}
 use Rattle.std.proofs.lemmas.List.{drop_all, ext_get_or, get_or-drop, length-drop}
 use Rattle.link_state.specs.Chain.{IsSimple}
@@ -145,7 +145,7 @@ passes_nothing on guest (x ∷ rest) after passes none = absurd (omega arith)
 
 -- the places after a stop at the last processor, and after the turns
 module _ (on stopped now : List (Option ℕ)) (chain : List ℕ) (some : 0 < length chain) (can : CanPassOn on chain)
-  (stop : stopped ≡ set on (get_or chain (length chain - 1) 0) None) (turns : (p : ℕ) → occupant_at now p ≡ occupant_passed stopped None chain p) where
+    (stop : stopped ≡ set on (get_or chain (length chain - 1) 0) None) (turns : (p : ℕ) → occupant_at now p ≡ occupant_passed stopped None chain p) where
   pub turned : (p : ℕ) → occupant_at now p ≡ occupant_passed on None chain p
   turned p =
       turns p ∙ ap (λ (o : List (Option ℕ)). occupant_passed o None chain p) stop

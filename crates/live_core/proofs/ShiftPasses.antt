@@ -1,6 +1,5 @@
 -- What the scheduler's shifts do, as occupants that are passed on.
-use Rattle.std.proofs.Common.{◌≡◌, ◌≢◌, ℕ, zero, suc, ◌+◌, ◌<◌, ◌≤◌, List, [], ◌∷◌, length, get_or, set, map, reverse, Option, Some, None, true, false, refl, sym, ap, subst, ◌∙◌, inl, inr, ◌⊎◌, IsTrue, arith, get_or-set_same}
-use Rattle.std.specs.List.{range_with_len}
+use Rattle.std.proofs.Common.{◌≡◌, ◌≢◌, ℕ, zero, suc, ◌+◌, ◌<◌, ◌≤◌, List, [], ◌∷◌, length, get_or, reverse, Option, Some, None, true, false, refl, sym, ap, subst, ◌∙◌, inl, inr, ◌⊎◌, arith, get_or-set_same}
 use Rattle.std.proofs.lemmas.Bool.{cases_eq, false≢true}
 use Rattle.std.proofs.lemmas.List.{length-reverse}
 use Rattle.std.proofs.lemmas.List.FromFn.{get_or-map-range_with_len, length-map-range_with_len}
@@ -9,7 +8,7 @@ use Rattle.scheduler_reply.specs.declared.reply.Came.{Came}
 use Rattle.scheduler_reply.specs.declared.reply.Came.TheVariants.{Placed, Displaced, Waits}
 use Rattle.scheduler_reply.specs.declared.reply.Gone.{Gone}
 use Rattle.scheduler_reply.specs.Reply.{came_chain}
-use Rattle.link_state.specs.State.{State, IsState, IsWaiting, task_on, task_count, is_ready, state_with_ready, state_after_leaving}
+use Rattle.link_state.specs.State.{State, IsState, task_on, task_count, is_ready, state_with_ready, state_after_leaving}
 use Rattle.link_state.specs.Chain.{IsWalk, IsChainOf, IsSimple, occupant_after_shift, state_after_shift}
 use Rattle.link_state.specs.Step.{Comes, Fills, EnterStep}
 use Rattle.link_state.proofs.Ends.{least_chain_to_idle, least_chain_to_task, least_back_chain}
@@ -21,7 +20,7 @@ use Rattle.link_state.proofs.Readiness.{IsState-state_with_ready}
 use Rattle.link_state.proofs.Simple.{IsSimple-reverse}
 use Rattle.link_state.proofs.Steps.{IsChainOf-state_with_ready}
 use Rattle.live_core.specs.Moves.{occupant_at, IsNowhere}
-use Rattle.live_core.specs.MoveData.{CanPassOn, Passes, occupant_passed}
+use Rattle.live_core.specs.MoveData.{Passes, occupant_passed}
 use Rattle.live_core.proofs.PassingOn.{passed-first, passed-later}
 
 -- the occupants are those of a state but for one processor, which has nobody in the state
@@ -169,8 +168,8 @@ AreOn-left s ok t place linked = record {
   count = ok.on_count;
   there = λ p u on. (task_on-state_after_leaving s t p u on).0;
   same = λ p ne. same_occupant (task_on s p) (task_on (state_after_leaving s t) p)
-    (λ u on. task_on-stays s t p u on (λ e. ne (ok.once p place t (rw e at on) linked)))
-    (λ u on. (task_on-state_after_leaving s t p u on).0);
+      (λ u on. task_on-stays s t p u on (λ e. ne (ok.once p place t (rw e at on) linked)))
+      (λ u on. (task_on-state_after_leaving s t p u on).0);
 }
 
 -- it stops

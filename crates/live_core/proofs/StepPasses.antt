@@ -1,7 +1,6 @@
 -- What each event with its reply does, as occupants that are passed on.
-use Rattle.std.proofs.Common.{◌≡◌, ℕ, ◌<◌, List, [], ◌∷◌, reverse, Option, Some, None, true, false, refl, sym, ap, subst, ◌∙◌, inl, inr, ◌⊎◌}
+use Rattle.std.proofs.Common.{◌≡◌, ℕ, ◌<◌, List, reverse, Option, Some, None, true, false, refl, sym, ap, subst, ◌∙◌, inl, inr}
 use Rattle.std.proofs.lemmas.Bool.{false≢true}
-use Rattle.affinity_mask.specs.ProcSet.{has}
 use Rattle.task_set.specs.TaskSet.{IsMask}
 use Rattle.task_set.specs.declared.event.Event.{Event}
 use Rattle.task_set.specs.declared.event.Event.TheVariants.{Arrive, Depart, Tick, Affinity, Offline, Online}
@@ -17,7 +16,6 @@ use Rattle.link_state.proofs.Changes.{IsState-state_with_online}
 use Rattle.link_state.proofs.Linked.{linked_number}
 use Rattle.link_state.proofs.Masks.{effective_mask_online}
 use Rattle.link_state.proofs.Steps.{has_left, IsState-remasked, IsState-moved, absent_moved}
-use Rattle.live_core.specs.Moves.{occupant_at}
 use Rattle.live_core.specs.MoveData.{Passes, PassesTwice, OfflinePasses, LeadsTo, entered_by, moved_of}
 use Rattle.live_core.proofs.ShiftPasses.{AreOn-itself, nothing_passes, come_passes, fill_passes, leaver_stops, left_passes}
 
@@ -44,18 +42,22 @@ affinity_passes : (s : State) → IsState s → (t mask : ℕ) → t < task_coun
 affinity_passes s ok t mask number fits reply new (inl absent) = rw (absent.answer, absent.masked) (s.on, nothing_passes s.on None, nothing_passes s.on (Some t))
 affinity_passes s ok t mask number fits reply new (inr remasks) =
     let left = has_left s ok t mask remasks.gone remasks.between number fits remasks.leaves in
-    rw remasks.answer
-    (remasks.between.on, leave_passes s ok t remasks.gone remasks.came remasks.between remasks.leaves,
-    come_passes (state_with_mask remasks.between t mask) (IsState-remasked s t mask remasks.between left) t left.number left.absent remasks.came new remasks.comes)
+    rw remasks.answer (
+      remasks.between.on,
+      leave_passes s ok t remasks.gone remasks.came remasks.between remasks.leaves,
+      come_passes (state_with_mask remasks.between t mask) (IsState-remasked s t mask remasks.between left) t left.number left.absent remasks.came new remasks.comes,
+    )
 
 offline_passes : (s : State) → IsState s → (p : ℕ) (reply : Reply) (new : State) → OfflineStep s p reply new → OfflinePasses s.on p (moved_of reply) new.on
 offline_passes s ok p reply new (inl again) = rw (again.answer, again.same) refl
 offline_passes s ok p reply new (inr (inl idle)) = rw (idle.answer, idle.off) refl
 offline_passes s ok p reply new (inr (inr occupied)) =
     let t = occupied.moved.task in
-    rw occupied.answer
-    ((state_after_leaving s t).on, leaver_stops s ok t p occupied.occupied,
-    come_passes (state_with_offline (state_after_leaving s t) p) (IsState-moved s ok p t occupied.occupied) t (linked_number s p t ok occupied.occupied) (absent_moved s ok p t occupied.occupied) occupied.moved.came new occupied.comes)
+    rw occupied.answer (
+      (state_after_leaving s t).on,
+      leaver_stops s ok t p occupied.occupied,
+      come_passes (state_with_offline (state_after_leaving s t) p) (IsState-moved s ok p t occupied.occupied) t (linked_number s p t ok occupied.occupied) (absent_moved s ok p t occupied.occupied) occupied.moved.came new occupied.comes,
+    )
 
 online_passes : (s : State) → IsState s → (p : ℕ) → p < s.processors → (reply : Reply) (new : State) → OnlineStep s p reply new → Passes s.on (entered_by reply) (reverse (filling_chain reply)) new.on
 online_passes s ok p number reply new (inl again) = rw (again.answer, again.same) (nothing_passes s.on None)

@@ -1,4 +1,4 @@
-use Rattle.std.proofs.Common.{◌≡◌, ℕ, List, Option, refl, sym, subst}
+use Rattle.std.proofs.Common.{ℕ, List, Option, refl, sym, subst}
 use Rattle.link_state.proofs.Steps.{step_keeps_state}
 use Rattle.certificate_laws.proofs.Best.{linked_is_best, linked_is_largest}
 use Rattle.certificate_laws.proofs.Improved.{no_improving_chain}
@@ -6,20 +6,21 @@ use Rattle.certificate_laws.proofs.Kept.{step_keeps_certificates}
 use Rattle.certificate_laws.proofs.Ranked.{linked_is_as_urgent}
 use Rattle.live_core.specs.Live.{LiveData}
 use Rattle.live_core.specs.Moves.{Replays}
-use Rattle.live_core.specs.MoveData.{LeadsTo}
 use Rattle.live_core.proofs.live.LiveCore.apply.Goals as goal
 
 pub follow-requires : goal.follow-requires
 follow-requires c =
-    let reply = c.reply_to-self-inside in
-    (reply.new.links.on, record {
-      old = c.self.inside.links;
-      new = reply.new.links;
-      state = c.self.invariant.state;
-      before = sym c.self.invariant.occupants;
-      step = reply.ensures;
-      links = refl;
-    })
+    let reply = c.reply_to-self-inside in (
+      reply.new.links.on,
+      record {
+        old = c.self.inside.links;
+        new = reply.new.links;
+        state = c.self.invariant.state;
+        before = sym c.self.invariant.occupants;
+        step = reply.ensures;
+        links = refl;
+      },
+    )
 
 pub returns-clause-valid : goal.returns-clause-valid
 returns-clause-valid c =

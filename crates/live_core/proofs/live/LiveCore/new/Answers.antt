@@ -1,4 +1,4 @@
-use Rattle.std.proofs.Common.{◌≡◌, ℕ, ◌≤◌, Option, None, length, replicate, sym, ap, subst, ◌∙◌, arith}
+use Rattle.std.proofs.Common.{ℕ, Option, None, length, replicate, sym, ap, subst, ◌∙◌, arith}
 use Rattle.link_state.specs.State.{State, IsState}
 use Rattle.link_state.proofs.Start.{IsState-start}
 use Rattle.certificate_laws.specs.Certified.{HasCertificates}

@@ -1,7 +1,7 @@
-use Rattle.std.proofs.Common.{◌≡◌, ℕ, suc, ◌+◌, ◌-◌, ◌<◌, List, Option, length, sym, ap, ◌∙◌, arith}
+use Rattle.std.proofs.Common.{◌≡◌, ℕ, ◌+◌, ◌-◌, List, Option, length, ap, ◌∙◌, arith}
 use Rattle.live_core.specs.Moves.{occupant_at}
 use Rattle.live_core.proofs.Replaying.{DoesMore-then, DoesMore-length}
-use Rattle.live_core.proofs.PassingOn.{IsTurn, advance_turn, advance_begins}
+use Rattle.live_core.proofs.PassingOn.{advance_turn}
 use Rattle.live_core.proofs.moves.MoveList.advance.Goals as goal
 
 pub shift-requires-clause-from : goal.shift-requires-clause-from

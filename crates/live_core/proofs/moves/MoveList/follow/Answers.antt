@@ -1,5 +1,5 @@
-use Rattle.std.proofs.Common.{◌≡◌, List, Option, ℕ, ◌∙◌, sym, subst, ap}
-use Rattle.live_core.specs.MoveData.{MoveData, LeadsTo}
+use Rattle.std.proofs.Common.{ap}
+use Rattle.live_core.specs.MoveData.{MoveData}
 use Rattle.live_core.proofs.Replaying.{DoesMore-replays}
 use Rattle.live_core.proofs.moves.MoveList.follow.Goals as goal
 

@@ -1,6 +1,6 @@
-use Rattle.std.proofs.Common.{◌≡◌, List, Option, ℕ, Some, None, refl, sym, subst, arith}
+use Rattle.std.proofs.Common.{Option, refl, sym, subst, arith}
 use Rattle.scheduler_reply.specs.declared.reply.Moved.{Moved}
-use Rattle.live_core.specs.MoveData.{OfflinePasses, moved_of}
+use Rattle.live_core.specs.MoveData.{OfflinePasses}
 use Rattle.live_core.proofs.Replaying.{DoesMore-nothing, DoesMore-fewer}
 use Rattle.live_core.proofs.StepPasses.{Passes-same}
 use Rattle.live_core.proofs.moves.MoveList.go_offline.Goals as goal

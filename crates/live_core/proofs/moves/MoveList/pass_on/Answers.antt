@@ -1,4 +1,4 @@
-use Rattle.std.proofs.Common.{◌≡◌, ℕ, ◌+◌, ◌-◌, ◌<◌, List, [], Option, Some, None, length, get_or, set, refl, sym, ap, ◌∙◌, arith, eqb-true}
+use Rattle.std.proofs.Common.{ℕ, ◌-◌, ◌<◌, List, Option, Some, length, get_or, refl, sym, ap, ◌∙◌, arith, eqb-true}
 use Rattle.live_core.specs.Moves.{occupant_at}
 use Rattle.live_core.specs.MoveData.{DoesMore, occupant_passed}
 use Rattle.live_core.proofs.Replaying.{DoesMore-then, DoesMore-length}

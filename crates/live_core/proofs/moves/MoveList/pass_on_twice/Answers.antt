@@ -1,4 +1,4 @@
-use Rattle.std.proofs.Common.{◌≡◌, [], length, ap, refl, arith}
+use Rattle.std.proofs.Common.{length, ap, refl, arith}
 use Rattle.live_core.proofs.Replaying.{DoesMore-then, DoesMore-count}
 use Rattle.live_core.proofs.StepPasses.{Passes-same}
 use Rattle.live_core.proofs.moves.MoveList.pass_on_twice.Goals as goal
