@@ -1,7 +1,7 @@
 #!/usr/bin/env python3
 """Writes the proofs of the exports of apa_c, crates/apa_c/proofs/apa_*/Proof.antt, but for that of apa_init.
 
-    python3 c/walks.py       at the top of the repository; then `rt fmt` in crates/apa_c
+    python3 c/walks.py       at the top of the repository; then `rt fmt` and `rt check` in crates/apa_c
 
 Each of these exports has a pointer and numbers for parameters, casts the pointer, and calls one function of `table` with a &mut:
 so their proofs differ in names, in the widths of numbers, and in the relation that holds afterwards.
@@ -21,13 +21,13 @@ def walk(f, g, ints, res, rel):
     lets=''.join(f'    let {n} = {acc("a",i+1)} in let {n}-fits = {acc("are",i+1)}.1 in\n' for i,(n,_) in enumerate(ints))
     vint=' ∷ '.join([f'vint w{b} {n}' for n,b in ints]+['[]'])
     T=[]
-    T.append(f'''use Rattle.std.proofs.Common.{{◌≡◌, ℕ, List, [], ◌∷◌, ◌++◌, refl, {', '.join(f'w{b}' for b in ws)}, MutBor}}
+    T.append(f'''use Rattle.std.proofs.Common.{{ℕ, List, [], ◌∷◌, ◌++◌, refl, {', '.join(f'w{b}' for b in ws)}, MutBor}}
 use Rattle.std.proofs.raw_atomic.Walks.{{proved}}
 use base.Fraction.{{full_share}}
 use base.Logic.{{id⊢}}
 use base.Fml.{{ftrue, flft, flent, fex}}
 use mir.Syntax.{{named}}
-use mir.Val.{{Val, vint, vptr}}
+use mir.Val.{{{'vint, ' if ints else ''}vptr}}
 use contract.Monad.{{fact}}
 use contract.Running.{{tables}}
 use prog.Wp.{{WpFn}}
@@ -39,13 +39,13 @@ use types.SemTy.{{Body}}
 use denote.Builtin.{{{', '.join(f'u{b}' for b in ws)}}}
 use denote.Exit.{{yes}}
 use denote.Laws.{{Is, shows}}
-use denote.Plain.{{uint_Makes, uint_vals, uint_Tells, uint_Lawful}}
+use denote.Plain.{{{'uint_Makes, uint_vals, uint_Tells, ' if ints else ''}uint_Lawful}}
 use denote.Memory.{{mem}}
 use denote.RawPtr.{{Ptr, RawPtr, block_ptr, in_a_block, rawptr_vals, rawptr_Tells}}
 use denote.Ref.{{MutRef}}
 use denote.Lend.{{lends_ref, ref_back}}
 use denote.Signature.{{plain}}
-use denote.Steps.{{nothing, owned, heard, peeks}}
+use denote.Steps.{{nothing, {'owned, ' if ints else ''}heard, peeks}}
 use denote.Triple.Call.{{calls_at}}
 use denote.Triple.Clauses.{{lasts}}
 use denote.Triple.Entry.{{on_entry}}

@@ -1,10 +1,10 @@
-use Rattle.std.proofs.Common.{◌≡◌, ℕ, List, [], ◌∷◌, ◌++◌, refl, w64, MutBor}
+use Rattle.std.proofs.Common.{ℕ, List, [], ◌∷◌, ◌++◌, refl, w64, MutBor}
 use Rattle.std.proofs.raw_atomic.Walks.{proved}
 use base.Fraction.{full_share}
 use base.Logic.{id⊢}
 use base.Fml.{ftrue, flft, flent, fex}
 use mir.Syntax.{named}
-use mir.Val.{Val, vint, vptr}
+use mir.Val.{vptr}
 use contract.Monad.{fact}
 use contract.Running.{tables}
 use prog.Wp.{WpFn}
@@ -16,13 +16,13 @@ use types.SemTy.{Body}
 use denote.Builtin.{u64}
 use denote.Exit.{yes}
 use denote.Laws.{Is, shows}
-use denote.Plain.{uint_Makes, uint_vals, uint_Tells, uint_Lawful}
+use denote.Plain.{uint_Lawful}
 use denote.Memory.{mem}
 use denote.RawPtr.{Ptr, RawPtr, block_ptr, in_a_block, rawptr_vals, rawptr_Tells}
 use denote.Ref.{MutRef}
 use denote.Lend.{lends_ref, ref_back}
 use denote.Signature.{plain}
-use denote.Steps.{nothing, owned, heard, peeks}
+use denote.Steps.{nothing, heard, peeks}
 use denote.Triple.Call.{calls_at}
 use denote.Triple.Clauses.{lasts}
 use denote.Triple.Entry.{on_entry}
