@@ -31,6 +31,20 @@ impl ProcSet {
         ProcSet { bits: 0 }
     }
 
+    /// The set of the processors at whose places a word has a one, from the lowest place on.
+    pub fn of_bits(bits: u64) -> ProcSet
+        ensures { result ≡ bits }
+    {
+        ProcSet { bits }
+    }
+
+    /// The word that has a one at the place of each processor of the set, from the lowest place on.
+    pub fn bits(&self) -> u64
+        ensures { result ≡ self.now }
+    {
+        self.bits
+    }
+
     /// The set of one processor.
     pub fn one(p: u8) -> ProcSet
         requires { p < 64 }

@@ -17,7 +17,7 @@ use link_table::{Entry, Links, Reply};
 use std::alloc::Global;
 use std::marker::Model;
 use task_set::{Event, Order, TaskSet};
-use task_shift::{affinity, arrive, depart, offline, online};
+use task_shift::reply_to;
 
 /// A history has at most so many entries.
 pub const MAX_ENTRIES: usize = 20_000;
@@ -227,21 +227,5 @@ impl Core {
         ensures valid { IsCore self.now }
     {
         self.rows[p as usize].orders()
-    }
-}
-
-/// The scheduler's reply to an event, which the links follow. Each case returns by itself: a reply is long, and what cases
-/// join in is copied.
-fn reply_to(links: &mut Links, event: &Event) -> Reply
-    requires { IsEventFor links.old event.now }
-    ensures { SchedulerStep links.old event.now result links.new }
-{
-    match event {
-        Event::Arrive(t) => return arrive(links, *t),
-        Event::Depart(t) => return depart(links, *t),
-        Event::Tick(_) => return Reply::Ticked,
-        Event::Affinity { task, mask } => return affinity(links, *task, *mask),
-        Event::Offline(p) => return offline(links, *p),
-        Event::Online(p) => return online(links, *p),
     }
 }

@@ -1,0 +1,49 @@
+//! Rows that were worked by hand; c/examples/rows.c has more.
+
+use apa::{Draft, Fault, Happened, Move};
+
+#[test]
+fn a_departure_a_mask_and_a_processor() {
+    let mut draft = Draft::new(2).unwrap();
+    for (priority, mask) in [(1, 1), (2, 3), (3, 2), (5, 1)] {
+        draft.add_task(priority, mask).unwrap();
+    }
+    let mut scheduler = draft.start().unwrap();
+    assert_eq!(scheduler.arrive(0), Ok(Happened::Placed));
+    assert_eq!(scheduler.arrive(1), Ok(Happened::Placed));
+    assert_eq!(scheduler.arrive(2), Ok(Happened::Waits));
+    assert_eq!(scheduler.reached(), 3);
+    assert_eq!(scheduler.depart(0), Ok(Happened::Freed));
+    let moves: Vec<Move> = scheduler.moves().collect();
+    assert_eq!(
+        moves,
+        [
+            Move { task: 0, from: Some(0), to: None },
+            Move { task: 1, from: Some(1), to: Some(0) },
+            Move { task: 2, from: None, to: Some(1) },
+        ]
+    );
+    assert_eq!(scheduler.on(0), Some(1));
+    assert_eq!(scheduler.of(3), None);
+    assert_eq!(scheduler.set_mask(1, 4), Err(Fault::BadMask));
+    assert_eq!(scheduler.offline(0), Ok(Happened::Off));
+    assert_eq!(scheduler.online(2), Err(Fault::NoProcessor));
+}
+
+#[test]
+fn refusals_of_a_draft() {
+    assert_eq!(Draft::new(65).err(), Some(Fault::NoProcessor));
+    let mut draft = Draft::new(1).unwrap();
+    assert_eq!(draft.add_task(5, 1), Ok(0));
+    assert_eq!(draft.add_task(5, 1), Err(Fault::SamePriority));
+    assert_eq!(draft.add_task(6, 2), Err(Fault::BadMask));
+}
+
+#[test]
+fn it_goes_from_thread_to_thread() {
+    let mut draft = Draft::new(1).unwrap();
+    draft.add_task(1, 1).unwrap();
+    let mut scheduler = draft.start().unwrap();
+    let came = std::thread::spawn(move || scheduler.arrive(0)).join().unwrap();
+    assert_eq!(came, Ok(Happened::Placed));
+}

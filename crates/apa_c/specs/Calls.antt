@@ -1,0 +1,184 @@
+-- What each call does. A call that is refused answers the number of its fault, comes only with the cause of it, and
+-- changes nothing. Any other call that is not a question does what it says.
+use Rattle.std.specs.Prelude.{◌≡◌, ℕ, ◌<◌, ◌≤◌, ◌⊎◌, Result, Ok, Err, List, [], length, slice_get, Option, Some, None, false}
+use Rattle.task_set.specs.TaskSet.{SetData, IsMask}
+use Rattle.task_set.specs.Refusal.{AddsTask, IsPriorityOf, new_task}
+use Rattle.task_set.specs.declared.event.Event.{Event}
+use Rattle.task_set.specs.declared.event.Event.TheVariants.{Arrive, Depart, Tick, Affinity, Offline, Online}
+use Rattle.link_state.specs.State.{State, start_of, task_on, task_count, is_linked}
+use Rattle.link_state.specs.Step.{IsEventFor, SchedulerStep}
+use Rattle.certificate_laws.specs.Certified.{HasCertificates}
+use Rattle.certificate_laws.specs.Improving.{HasNoImprovingChain}
+use Rattle.certificate_laws.specs.Laws.{LinkedIsBest, LinkedIsLargest, LinkedIsAsUrgent}
+use Rattle.live_core.specs.Live.{LiveData}
+use Rattle.live_core.specs.Moves.{Replays}
+use Rattle.live_core.specs.declared.moves.Move.{Move}
+use Rattle.apa_c.specs.Stages.{nothing, number_of, answer_of, set_of, task_of, from_of, to_of}
+use Rattle.apa_c.specs.declared.table.Apa.{Apa}
+use Rattle.apa_c.specs.declared.table.Stage.{Stage}
+use Rattle.apa_c.specs.declared.table.Stage.TheVariants.{Empty, Draft, Running}
+
+-- the scheduler runs, with this state, or it does not
+abbrev pub running_of : Stage → Option LiveData
+running_of (Running live) = Some live
+running_of Empty = None
+running_of (Draft set) = None
+
+-- tasks are being added to this set, or they are not
+abbrev pub draft_of : Stage → Option SetData
+draft_of (Draft set) = Some set
+draft_of Empty = None
+draft_of (Running live) = None
+
+-- a closed scheduler was made
+abbrev pub Made : Apa → Type 0
+Made new = new.stage ≡ Empty
+
+-- the call does not come at this stage
+abbrev pub IsNotNow : Apa → ℕ → Apa → Type 0
+IsNotNow old result new = (result ≡ 2) × (new ≡ old)
+
+-- memory was refused
+abbrev pub IsShort : Apa → ℕ → Apa → Type 0
+IsShort old result new = (result ≡ 1) × (new ≡ old)
+
+-- the mask is empty, or has a processor that there is not
+abbrev pub IsBadMask : ℕ → ℕ → Type 0
+IsBadMask processors mask = ¬ IsMask processors mask
+
+-- ---- opening
+abbrev pub OpenedAt : Stage → Apa → ℕ → ℕ → Apa → Type 0
+OpenedAt (Draft set) old processors result new = IsNotNow old result new
+OpenedAt (Running live) old processors result new = IsNotNow old result new
+OpenedAt Empty old processors result new =
+    ((result ≡ 3) × (new ≡ old) × ((processors ≡ 0) ⊎ (64 < processors)))
+    ⊎ (IsShort old result new ⊎ ((result ≡ 0) × (new.stage ≡ Draft (record { processors = processors; tasks = [] }))))
+
+-- a closed scheduler takes a number of processors, and has no tasks then
+abbrev pub Opened : Apa → ℕ → ℕ → Apa → Type 0
+Opened old processors result new = OpenedAt old.stage old processors result new
+
+-- ---- adding tasks
+-- why a task is not added; the last fault is of the name under which it is stored
+abbrev pub IsAddFault : SetData → ℕ → ℕ → ℕ → Type 0
+IsAddFault set priority mask result =
+    (result ≡ 1) ⊎ (((result ≡ 7) × (length set.tasks ≡ 1024)) ⊎ (((result ≡ 6) × ((t : ℕ) × IsPriorityOf set t priority))
+    ⊎ (((result ≡ 5) × IsBadMask set.processors mask) ⊎ (result ≡ 9))))
+
+-- the task stands last in the set then, or the set stays
+abbrev pub AddsTo : SetData → ℕ → ℕ → ℕ → SetData → Type 0
+AddsTo old priority mask result new =
+    ((result ≡ 0) × ((name : List ℕ) × AddsTask old new (new_task name priority mask) (length old.tasks))) ⊎ ((new ≡ old) × IsAddFault old priority mask result)
+
+abbrev pub AddedAt : Stage → Apa → ℕ → ℕ → ℕ → Apa → Type 0
+AddedAt Empty old priority mask result new = IsNotNow old result new
+AddedAt (Running live) old priority mask result new = IsNotNow old result new
+AddedAt (Draft set) old priority mask result new = (after : SetData) × (new.stage ≡ Draft after) × AddsTo set priority mask result after
+
+-- one task more of this priority and exactly this mask
+abbrev pub Added : Apa → ℕ → ℕ → ℕ → Apa → Type 0
+Added old priority mask result new = AddedAt old.stage old priority mask result new
+
+-- ---- starting
+abbrev pub StartedAt : Stage → Apa → ℕ → Apa → Type 0
+StartedAt Empty old result new = IsNotNow old result new
+StartedAt (Running live) old result new = IsNotNow old result new
+StartedAt (Draft set) old result new = IsShort old result new ⊎ ((result ≡ 0) × ((live : LiveData) × (new.stage ≡ Running live) × (live.links ≡ start_of set) × (live.moves ≡ [])))
+
+-- every task is absent then
+abbrev pub Started : Apa → ℕ → Apa → Type 0
+Started old result new = StartedAt old.stage old result new
+
+-- ---- events
+-- the event of a kind, a number and a mask
+abbrev pub IsEventOf : ℕ → ℕ → ℕ → Event → Type 0
+IsEventOf kind number mask (Arrive t) = (kind ≡ 0) × (t ≡ number)
+IsEventOf kind number mask (Depart t) = (kind ≡ 1) × (t ≡ number)
+IsEventOf kind number mask (Tick units) = ⊥
+IsEventOf kind number mask (Affinity t X) = (kind ≡ 2) × (t ≡ number) × (X ≡ mask)
+IsEventOf kind number mask (Offline p) = (kind ≡ 3) × (p ≡ number)
+IsEventOf kind number mask (Online p) = (kind ≡ 4) × (p ≡ number)
+
+-- why there is no such event
+abbrev pub IsEventFault : State → ℕ → ℕ → ℕ → ℕ → Type 0
+IsEventFault s kind number mask result =
+    ((result ≡ 8) × (4 < kind)) ⊎ (((result ≡ 4) × (kind ≤ 2) × (task_count s ≤ number)) ⊎ (((result ≡ 5) × (kind ≡ 2) × IsBadMask s.processors mask)
+    ⊎ ((result ≡ 3) × (3 ≤ kind) × (kind ≤ 4) × (s.processors ≤ number))))
+
+-- an event of the links, or a fault
+abbrev pub IsEventHere : State → ℕ → ℕ → ℕ → Result Event ℕ → Type 0
+IsEventHere s kind number mask (Ok event) = IsEventFor s event × IsEventOf kind number mask event
+IsEventHere s kind number mask (Err fault) = IsEventFault s kind number mask fault
+
+-- the scheduler's step was taken, its moves lead from the old links to the new ones, and the linked tasks are the best
+-- placeable set of the ready ones
+pub record Steps (old : LiveData) (kind number mask result : ℕ) (new : LiveData) : Type 0 where
+  pub event : Event
+  pub event_is : IsEventOf kind number mask event
+  pub event_for : IsEventFor old.links event
+  pub answer : result ≡ answer_of new.last
+  pub step : SchedulerStep old.links event new.last new.links
+  pub moves : Replays old.links.on new.moves new.links.on
+  pub few : length new.moves ≤ 130
+  pub certified : HasCertificates new.links
+  pub unimprovable : HasNoImprovingChain new.links
+  pub best : LinkedIsBest new.links
+  pub largest : LinkedIsLargest new.links
+  pub rank_by_rank : LinkedIsAsUrgent new.links
+
+abbrev pub AppliedAt : Stage → Apa → ℕ → ℕ → ℕ → ℕ → Apa → Type 0
+AppliedAt Empty old kind number mask result new = IsNotNow old result new
+AppliedAt (Draft set) old kind number mask result new = IsNotNow old result new
+AppliedAt (Running live) old kind number mask result new =
+    ((new ≡ old) × IsEventFault live.links kind number mask result) ⊎ ((after : LiveData) × (new.stage ≡ Running after) × Steps live kind number mask result after)
+
+-- an event was applied, or is refused
+abbrev pub Applied : Apa → ℕ → ℕ → ℕ → ℕ → Apa → Type 0
+Applied old kind number mask result new = AppliedAt old.stage old kind number mask result new
+
+-- ---- closing
+abbrev pub Closed : Apa → ℕ → Apa → Type 0
+Closed old result new = (result ≡ 0) × (new.stage ≡ Empty)
+
+-- ---- questions, which change nothing
+-- who is on a processor, while the scheduler runs
+abbrev pub task_at : Option LiveData → ℕ → ℕ
+task_at None p = nothing
+task_at (Some live) p = number_of (task_on live.links p)
+
+abbrev pub OnAnswer : Apa → ℕ → ℕ → Apa → Type 0
+OnAnswer old p result new = (new ≡ old) × (result ≡ task_at (running_of old.stage) p)
+
+-- the processor that a task is on
+abbrev pub IsPlaceAt : Option LiveData → ℕ → ℕ → Type 0
+IsPlaceAt None t result = result ≡ nothing
+IsPlaceAt (Some live) t result = ((result ≡ nothing) × (is_linked live.links t ≡ false)) ⊎ (task_on live.links result ≡ Some t)
+
+abbrev pub OfAnswer : Apa → ℕ → ℕ → Apa → Type 0
+OfAnswer old t result new = (new ≡ old) × IsPlaceAt (running_of old.stage) t result
+
+-- the moves of the last event
+abbrev pub moves_of : Option LiveData → List Move
+moves_of None = []
+moves_of (Some live) = live.moves
+
+abbrev pub CountAnswer : Apa → ℕ → Apa → Type 0
+CountAnswer old result new = (new ≡ old) × (result ≡ length (moves_of (running_of old.stage)))
+
+-- one of them
+abbrev pub TaskAnswer : Apa → ℕ → ℕ → Apa → Type 0
+TaskAnswer old i result new = (new ≡ old) × (result ≡ task_of (slice_get (moves_of (running_of old.stage)) i))
+
+abbrev pub FromAnswer : Apa → ℕ → ℕ → Apa → Type 0
+FromAnswer old i result new = (new ≡ old) × (result ≡ from_of (slice_get (moves_of (running_of old.stage)) i))
+
+abbrev pub ToAnswer : Apa → ℕ → ℕ → Apa → Type 0
+ToAnswer old i result new = (new ≡ old) × (result ≡ to_of (slice_get (moves_of (running_of old.stage)) i))
+
+-- the set of the last reply
+abbrev pub set_at : Option LiveData → ℕ
+set_at None = 0
+set_at (Some live) = set_of live.last
+
+abbrev pub SetAnswer : Apa → ℕ → Apa → Type 0
+SetAnswer old result new = (new ≡ old) × (result ≡ set_at (running_of old.stage))

@@ -1,0 +1,70 @@
+-- What lies behind a pointer, as numbers: how far a scheduler is, what a reply is as an answer, and what a move is.
+use Rattle.std.specs.Prelude.{ℕ, Option, Some, None}
+use Rattle.scheduler_reply.specs.declared.reply.Came.{Came}
+use Rattle.scheduler_reply.specs.declared.reply.Came.TheVariants as came
+use Rattle.scheduler_reply.specs.declared.reply.Reply.{Reply}
+use Rattle.scheduler_reply.specs.declared.reply.Reply.TheVariants.{Placed, Displaced, Waits, Freed, Left, Ticked, AlreadyReady, NotReady, Masked, Remasked, AlreadyOff, AlreadyOn, Off, On}
+use Rattle.live_core.specs.declared.moves.Move.{Move}
+use Rattle.live_core.specs.declared.moves.Move.TheVariants.{Start, Shift, Stop}
+
+-- no task, no processor, or no move
+abbrev pub nothing : ℕ
+nothing = 4294967295
+
+-- the number that is there, or nothing
+abbrev pub number_of : Option ℕ → ℕ
+number_of None = nothing
+number_of (Some n) = n
+
+-- the answer that says what the scheduler did
+abbrev pub answer_of : Reply → ℕ
+answer_of (Placed chain) = 16
+answer_of (Displaced chain out reach) = 17
+answer_of (Waits reach) = 18
+answer_of (Freed entered chain back) = 19
+answer_of Left = 20
+answer_of Ticked = 21
+answer_of AlreadyReady = 22
+answer_of NotReady = 23
+answer_of Masked = 24
+answer_of (Remasked _ came) = 25
+answer_of AlreadyOff = 26
+answer_of AlreadyOn = 27
+answer_of (Off moved) = 28
+answer_of (On parts) = 29
+
+-- the set that justifies what a task came to; there is none where it was placed
+abbrev pub came_set : Came → ℕ
+came_set (came.Placed chain) = 0
+came_set (came.Displaced chain out reach) = reach
+came_set (came.Waits reach) = reach
+
+-- the set that justifies a reply; of a change of a mask it is that of the return
+abbrev pub set_of : Reply → ℕ
+set_of (Displaced chain out reach) = reach
+set_of (Waits reach) = reach
+set_of (Freed entered chain back) = back
+set_of (Remasked _ came) = came_set came
+set_of (On parts) = parts.back
+set_of _ = 0
+
+-- the task of a move
+abbrev pub task_of : Option Move → ℕ
+task_of None = nothing
+task_of (Some (Start task to)) = task
+task_of (Some (Shift task from to)) = task
+task_of (Some (Stop task from)) = task
+
+-- the processor that it leaves
+abbrev pub from_of : Option Move → ℕ
+from_of None = nothing
+from_of (Some (Start task to)) = nothing
+from_of (Some (Shift task from to)) = from
+from_of (Some (Stop task from)) = from
+
+-- the processor that it goes to
+abbrev pub to_of : Option Move → ℕ
+to_of None = nothing
+to_of (Some (Start task to)) = to
+to_of (Some (Shift task from to)) = to
+to_of (Some (Stop task from)) = nothing

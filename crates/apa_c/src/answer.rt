@@ -1,0 +1,119 @@
+//! The numbers that calls answer.
+ghost use Rattle.std.specs.Prelude.{◌≡◌};
+ghost use Rattle.apa_c.specs.Stages.{answer_of, set_of, came_set, task_of, from_of, to_of};
+
+use link_table::{Came, Reply};
+use live_core::Move;
+
+/// Done.
+pub const DONE: u32 = 0;
+
+/// The memory that the call needs was refused.
+pub const NO_MEMORY: u32 = 1;
+
+/// The call does not come at this stage.
+pub const NOT_NOW: u32 = 2;
+
+/// There is no such processor, or a number of processors that cannot be.
+pub const NO_PROCESSOR: u32 = 3;
+
+/// There is no such task.
+pub const NO_TASK: u32 = 4;
+
+/// A mask is empty, or has a processor that there is not.
+pub const BAD_MASK: u32 = 5;
+
+/// Another task has the priority.
+pub const SAME_PRIORITY: u32 = 6;
+
+/// There are 1,024 tasks.
+pub const TOO_MANY: u32 = 7;
+
+/// There is no such kind of event.
+pub const NO_EVENT: u32 = 8;
+
+/// The name that the task is stored under was refused.
+pub const NO_NAME: u32 = 9;
+
+/// No task, no processor, or no move.
+pub const NOTHING: u32 = 4294967295;
+
+/// What the scheduler did.
+pub fn answer_of(reply: &Reply) -> u32
+    ensures { result ≡ answer_of reply.now }
+{
+    match reply {
+        Reply::Placed { .. } => 16,
+        Reply::Displaced { .. } => 17,
+        Reply::Waits { .. } => 18,
+        Reply::Freed { .. } => 19,
+        Reply::Left => 20,
+        Reply::Ticked => 21,
+        Reply::AlreadyReady => 22,
+        Reply::NotReady => 23,
+        Reply::Masked => 24,
+        Reply::Remasked { .. } => 25,
+        Reply::AlreadyOff => 26,
+        Reply::AlreadyOn => 27,
+        Reply::Off { .. } => 28,
+        Reply::On { .. } => 29,
+    }
+}
+
+/// The set of processors that justifies a reply, as bits.
+pub fn set_of(reply: &Reply) -> u64
+    ensures { result ≡ set_of reply.now }
+{
+    match reply {
+        Reply::Displaced { reach, .. } => reach.bits(),
+        Reply::Waits { reach } => reach.bits(),
+        Reply::Freed { back, .. } => back.bits(),
+        Reply::Remasked { came, .. } => came_set(came),
+        Reply::On { parts } => parts.back.bits(),
+        _ => 0,
+    }
+}
+
+/// The set of processors that justifies what a task came to.
+fn came_set(came: &Came) -> u64
+    ensures { result ≡ came_set came.now }
+{
+    match came {
+        Came::Displaced { reach, .. } => reach.bits(),
+        Came::Waits { reach } => reach.bits(),
+        Came::Placed { .. } => 0,
+    }
+}
+
+/// The task of a move.
+pub fn task_of(step: &Move) -> u32
+    ensures { result ≡ task_of (Some step.now) }
+{
+    match step {
+        Move::Start { task, .. } => *task,
+        Move::Shift { task, .. } => *task,
+        Move::Stop { task, .. } => *task,
+    }
+}
+
+/// The processor that the task of a move leaves.
+pub fn from_of(step: &Move) -> u32
+    ensures { result ≡ from_of (Some step.now) }
+{
+    match step {
+        Move::Start { .. } => NOTHING,
+        Move::Shift { from, .. } => *from as u32,
+        Move::Stop { from, .. } => *from as u32,
+    }
+}
+
+/// The processor that the task of a move goes to.
+pub fn to_of(step: &Move) -> u32
+    ensures { result ≡ to_of (Some step.now) }
+{
+    match step {
+        Move::Start { to, .. } => *to as u32,
+        Move::Shift { to, .. } => *to as u32,
+        Move::Stop { .. } => NOTHING,
+    }
+}

@@ -1,0 +1,156 @@
+//! The scheduler for programs in C and other languages: each export finds its [`Apa`](table::Apa) behind a pointer that
+//! the caller keeps, and takes and answers numbers alone.
+//!
+//! The pointer is the caller's word: its room is as `apa_size` says, `apa_init` has made it, and no other call is on it.
+//! All other numbers may be wrong, and are answered by a fault. What each call does stands on its export.
+#![tactic(auto)]
+
+mod answer;
+mod table;
+
+ghost use Rattle.std.specs.Borrow.{sem};
+ghost use Rattle.apa_c.specs.Handle.{apa_at, apa_after, apa_room};
+ghost use Rattle.apa_c.specs.Calls.{Made, Opened, Added, Started, Applied, Closed, OnAnswer, OfAnswer, CountAnswer, TaskAnswer, FromAnswer, ToAnswer, SetAnswer};
+
+use std::alloc::Global;
+use table::Apa;
+
+/// How many bytes a scheduler takes, besides what it asks the heap for.
+#[unsafe(no_mangle)]
+pub extern "C" fn apa_size() -> usize {
+    may_change_thread::<Apa>();
+    std::mem::size_of::<Apa>()
+}
+
+/// A value of the type may go from thread to thread.
+fn may_change_thread<T: Send>() {}
+
+/// Makes a scheduler that is closed in room of `apa_size` bytes, aligned as for any value.
+#[unsafe(no_mangle)]
+pub unsafe extern "C" fn apa_init(at: *mut u8, alloc: Global)
+    requires* { sem 𝓛 (apa_room at) }
+    ensures* { sem 𝓛 (apa_after at Made) }
+{
+    (at as *mut Apa).write(table::empty(alloc));
+}
+
+/// Takes a number of processors, from 1 to 64. Tasks can be added then.
+#[unsafe(no_mangle)]
+pub unsafe extern "C" fn apa_open(at: *mut u8, processors: u32) -> u32
+    ghost value: { Apa }
+    requires* { sem 𝓛 (apa_at at value) }
+    ensures* { sem 𝓛 (apa_after at (Opened value processors result)) }
+{
+    table::open(&mut *(at as *mut Apa), processors)
+}
+
+/// One task more, whose number is how many tasks there were. A lower number is a more urgent priority, and no two are
+/// equal. Processor p is in the mask where its bit p is one.
+#[unsafe(no_mangle)]
+pub unsafe extern "C" fn apa_add_task(at: *mut u8, priority: u32, mask: u64) -> u32
+    ghost value: { Apa }
+    requires* { sem 𝓛 (apa_at at value) }
+    ensures* { sem 𝓛 (apa_after at (Added value priority mask result)) }
+{
+    table::add_task(&mut *(at as *mut Apa), priority, mask)
+}
+
+/// The tasks are complete, and each is absent. From now on no call but `apa_close` takes or gives memory.
+#[unsafe(no_mangle)]
+pub unsafe extern "C" fn apa_start(at: *mut u8) -> u32
+    ghost value: { Apa }
+    requires* { sem 𝓛 (apa_at at value) }
+    ensures* { sem 𝓛 (apa_after at (Started value result)) }
+{
+    table::start(&mut *(at as *mut Apa))
+}
+
+/// An event happens: its kind, its task or its processor, and the mask where it changes one.
+#[unsafe(no_mangle)]
+pub unsafe extern "C" fn apa_apply(at: *mut u8, kind: u32, number: u32, mask: u64) -> u32
+    ghost value: { Apa }
+    requires* { sem 𝓛 (apa_at at value) }
+    ensures* { sem 𝓛 (apa_after at (Applied value kind number mask result)) }
+{
+    table::apply(&mut *(at as *mut Apa), kind, number, mask)
+}
+
+/// Gives all memory back. `apa_open` may follow.
+#[unsafe(no_mangle)]
+pub unsafe extern "C" fn apa_close(at: *mut u8) -> u32
+    ghost value: { Apa }
+    requires* { sem 𝓛 (apa_at at value) }
+    ensures* { sem 𝓛 (apa_after at (Closed value result)) }
+{
+    table::close(&mut *(at as *mut Apa))
+}
+
+/// The task that is on a processor.
+#[unsafe(no_mangle)]
+pub unsafe extern "C" fn apa_on(at: *mut u8, place: u32) -> u32
+    ghost value: { Apa }
+    requires* { sem 𝓛 (apa_at at value) }
+    ensures* { sem 𝓛 (apa_after at (OnAnswer value place result)) }
+{
+    table::on(&mut *(at as *mut Apa), place)
+}
+
+/// The processor that a task is on.
+#[unsafe(no_mangle)]
+pub unsafe extern "C" fn apa_of(at: *mut u8, task: u32) -> u32
+    ghost value: { Apa }
+    requires* { sem 𝓛 (apa_at at value) }
+    ensures* { sem 𝓛 (apa_after at (OfAnswer value task result)) }
+{
+    table::of(&mut *(at as *mut Apa), task)
+}
+
+/// How many moves the last event asks for.
+#[unsafe(no_mangle)]
+pub unsafe extern "C" fn apa_moves(at: *mut u8) -> u32
+    ghost value: { Apa }
+    requires* { sem 𝓛 (apa_at at value) }
+    ensures* { sem 𝓛 (apa_after at (CountAnswer value result)) }
+{
+    table::moves(&mut *(at as *mut Apa))
+}
+
+/// The task of a move of the last event.
+#[unsafe(no_mangle)]
+pub unsafe extern "C" fn apa_move_task(at: *mut u8, i: u32) -> u32
+    ghost value: { Apa }
+    requires* { sem 𝓛 (apa_at at value) }
+    ensures* { sem 𝓛 (apa_after at (TaskAnswer value i result)) }
+{
+    table::move_task(&mut *(at as *mut Apa), i)
+}
+
+/// The processor that the task of a move leaves. There is none where it starts.
+#[unsafe(no_mangle)]
+pub unsafe extern "C" fn apa_move_from(at: *mut u8, i: u32) -> u32
+    ghost value: { Apa }
+    requires* { sem 𝓛 (apa_at at value) }
+    ensures* { sem 𝓛 (apa_after at (FromAnswer value i result)) }
+{
+    table::move_from(&mut *(at as *mut Apa), i)
+}
+
+/// The processor that the task of a move goes to. There is none where it stops.
+#[unsafe(no_mangle)]
+pub unsafe extern "C" fn apa_move_to(at: *mut u8, i: u32) -> u32
+    ghost value: { Apa }
+    requires* { sem 𝓛 (apa_at at value) }
+    ensures* { sem 𝓛 (apa_after at (ToAnswer value i result)) }
+{
+    table::move_to(&mut *(at as *mut Apa), i)
+}
+
+/// The set of processors that the last reply carries, as bits.
+#[unsafe(no_mangle)]
+pub unsafe extern "C" fn apa_reached(at: *mut u8) -> u64
+    ghost value: { Apa }
+    requires* { sem 𝓛 (apa_at at value) }
+    ensures* { sem 𝓛 (apa_after at (SetAnswer value result)) }
+{
+    table::reached(&mut *(at as *mut Apa))
+}

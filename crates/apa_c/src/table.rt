@@ -1,0 +1,278 @@
+//! What lies behind the pointer.
+ghost use Rattle.std.specs.Prelude.{◌≡◌, ℕ, ◌<◌, ◌≤◌, MatchOption, slice_get};
+ghost use Rattle.task_set.specs.TaskSet.{IsMask};
+ghost use Rattle.apa_c.specs.Calls.{Opened, Added, AddsTo, Started, Applied, IsEventHere, IsBadMask, Closed, OnAnswer, OfAnswer, CountAnswer, TaskAnswer, FromAnswer, ToAnswer, SetAnswer, moves_of, running_of};
+
+use crate::answer::{
+    BAD_MASK, DONE, NO_EVENT, NO_MEMORY, NO_NAME, NO_PROCESSOR, NO_TASK, NOT_NOW, NOTHING,
+    SAME_PRIORITY, TOO_MANY, answer_of, from_of, set_of, task_of, to_of,
+};
+use affinity_mask::ProcSet;
+use live_core::{LiveCore, Move};
+use std::alloc::Global;
+use task_set::{Event, TaskFault, TaskSet};
+
+/// How far a scheduler is.
+#[derive(Drop)]
+pub enum Stage {
+    /// It holds no memory.
+    Empty,
+
+    /// Its tasks are being added.
+    Draft(TaskSet),
+
+    /// Events happen.
+    Running(LiveCore),
+}
+
+/// A scheduler, and where it takes its memory.
+#[derive(Drop)]
+pub struct Apa {
+    pub alloc: Global,
+    pub stage: Stage,
+}
+
+/// A scheduler that is closed.
+pub fn empty(alloc: Global) -> Apa
+    ensures { result.stage ≡ Stage.Empty }
+{
+    Apa {
+        alloc,
+        stage: Stage::Empty,
+    }
+}
+
+/// Takes a number of processors, and no tasks yet.
+pub fn open(apa: &mut Apa, processors: u32) -> u32
+    ensures { Opened apa.old processors result apa.new }
+{
+    let Stage::Empty = &apa.stage else {
+        return NOT_NOW;
+    };
+    if processors < 1 || processors > 64 {
+        return NO_PROCESSOR;
+    }
+    match TaskSet::new(apa.alloc, processors as u8) {
+        Ok(set) => {
+            apa.stage = Stage::Draft(set);
+            DONE
+        }
+        Err(_) => NO_MEMORY,
+    }
+}
+
+/// One task more, whose number is how many there were.
+pub fn add_task(apa: &mut Apa, priority: u32, mask: u64) -> u32
+    ensures { Added apa.old priority mask result apa.new }
+{
+    let alloc = apa.alloc;
+    let Stage::Draft(set) = &mut apa.stage else {
+        return NOT_NOW;
+    };
+    add_to(alloc, set, priority, mask)
+}
+
+/// One task more in a set, or a fault.
+fn add_to(alloc: Global, set: &mut TaskSet, priority: u32, mask: u64) -> u32
+    ensures { AddsTo set.old priority mask result set.new }
+{
+    let Ok(name) = format!(in alloc; "t{}", set.len()) else {
+        return NO_MEMORY;
+    };
+    match set.add(&name, priority, ProcSet::of_bits(mask)) {
+        Ok(_) => DONE,
+        Err(TaskFault::OutOfMemory) => NO_MEMORY,
+        Err(TaskFault::SamePriority(_)) => SAME_PRIORITY,
+        Err(TaskFault::Many) => TOO_MANY,
+        Err(TaskFault::EmptyMask) => BAD_MASK,
+        Err(TaskFault::OutsideMask(_)) => BAD_MASK,
+        Err(TaskFault::BadName) => NO_NAME,
+        Err(TaskFault::SameName(_)) => NO_NAME,
+    }
+}
+
+/// The tasks are complete: from now on events happen.
+pub fn start(apa: &mut Apa) -> u32
+    ensures { Started apa.old result apa.new }
+{
+    let Stage::Draft(set) = &apa.stage else {
+        return NOT_NOW;
+    };
+    match LiveCore::new(apa.alloc, set) {
+        Ok(live) => {
+            apa.stage = Stage::Running(live);
+            DONE
+        }
+        Err(_) => NO_MEMORY,
+    }
+}
+
+/// An event happens.
+pub fn apply(apa: &mut Apa, kind: u32, number: u32, mask: u64) -> u32
+    ensures { Applied apa.old kind number mask result apa.new }
+{
+    let Stage::Running(live) = &mut apa.stage else {
+        return NOT_NOW;
+    };
+    match event_of(live, kind, number, mask) {
+        Ok(event) => {
+            live.apply(event);
+            answer_of(live.last())
+        }
+        Err(fault) => fault,
+    }
+}
+
+/// Gives all memory back.
+pub fn close(apa: &mut Apa) -> u32
+    ensures { Closed apa.old result apa.new }
+{
+    apa.stage = Stage::Empty;
+    DONE
+}
+
+/// The task that is on a processor.
+pub fn on(apa: &mut Apa, p: u32) -> u32
+    ensures { OnAnswer apa.old p result apa.new }
+{
+    let Stage::Running(live) = &apa.stage else {
+        return NOTHING;
+    };
+    if p >= live.links().processors() as u32 {
+        return NOTHING;
+    }
+    match live.links().on(p as u8) {
+        Some(t) => t,
+        None => NOTHING,
+    }
+}
+
+/// The processor that a task is on.
+pub fn of(apa: &mut Apa, t: u32) -> u32
+    ensures { OfAnswer apa.old t result apa.new }
+{
+    let Stage::Running(live) = &apa.stage else {
+        return NOTHING;
+    };
+    if t >= live.links().len() {
+        return NOTHING;
+    }
+    match live.links().of(t) {
+        Some(p) => p as u32,
+        None => NOTHING,
+    }
+}
+
+/// How many moves the last event asks for.
+pub fn moves(apa: &mut Apa) -> u32
+    ensures { CountAnswer apa.old result apa.new }
+{
+    match &apa.stage {
+        Stage::Running(live) => live.moves().len() as u32,
+        _ => 0,
+    }
+}
+
+/// The task of a move.
+pub fn move_task(apa: &mut Apa, i: u32) -> u32
+    ensures { TaskAnswer apa.old i result apa.new }
+{
+    match move_at(&apa.stage, i) {
+        Some(step) => task_of(&step),
+        None => NOTHING,
+    }
+}
+
+/// The processor that the task of a move leaves.
+pub fn move_from(apa: &mut Apa, i: u32) -> u32
+    ensures { FromAnswer apa.old i result apa.new }
+{
+    match move_at(&apa.stage, i) {
+        Some(step) => from_of(&step),
+        None => NOTHING,
+    }
+}
+
+/// The processor that the task of a move goes to.
+pub fn move_to(apa: &mut Apa, i: u32) -> u32
+    ensures { ToAnswer apa.old i result apa.new }
+{
+    match move_at(&apa.stage, i) {
+        Some(step) => to_of(&step),
+        None => NOTHING,
+    }
+}
+
+/// A move of the last event.
+fn move_at(stage: &Stage, i: u32) -> Option<Move>
+    ensures { result ≡ slice_get (moves_of (running_of stage.now)) i }
+{
+    match stage {
+        Stage::Running(live) => live.moves().get(i as usize).copied(),
+        _ => None,
+    }
+}
+
+/// The set of processors that the last reply carries, as bits.
+pub fn reached(apa: &mut Apa) -> u64
+    ensures { SetAnswer apa.old result apa.new }
+{
+    match &apa.stage {
+        Stage::Running(live) => set_of(live.last()),
+        _ => 0,
+    }
+}
+
+/// The event of this kind, or the fault that there is none.
+fn event_of(live: &LiveCore, kind: u32, number: u32, mask: u64) -> Result<Event, u32>
+    ensures { IsEventHere live.now.links kind number mask result }
+{
+    if kind > 4 {
+        return Err(NO_EVENT);
+    }
+    if kind > 2 {
+        return processor_event(live, kind, number);
+    }
+    if number >= live.links().len() {
+        return Err(NO_TASK);
+    }
+    if kind == 0 {
+        return Ok(Event::Arrive(number));
+    }
+    if kind == 1 {
+        return Ok(Event::Depart(number));
+    }
+    match mask_of(live.links().processors(), mask) {
+        Some(mask) => Ok(Event::Affinity { task: number, mask }),
+        None => Err(BAD_MASK),
+    }
+}
+
+/// The event of a processor, or the fault that there is none.
+fn processor_event(live: &LiveCore, kind: u32, number: u32) -> Result<Event, u32>
+    requires { (2 < kind) × (kind ≤ 4) }
+    ensures { (mask : ℕ) → IsEventHere live.now.links kind number mask result }
+{
+    if number >= live.links().processors() as u32 {
+        return Err(NO_PROCESSOR);
+    }
+    if kind == 3 {
+        return Ok(Event::Offline(number as u8));
+    }
+    Ok(Event::Online(number as u8))
+}
+
+/// The mask of these bits, where it is one of so many processors.
+fn mask_of(processors: u8, bits: u64) -> Option<ProcSet>
+    requires { processors ≤ 64 }
+    ensures { MatchOption result (IsBadMask processors bits) (λ mask. (mask ≡ bits) × IsMask processors bits) }
+{
+    let mask = ProcSet::of_bits(bits);
+    if mask.is_empty() {
+        return None;
+    }
+    if !mask.within(&ProcSet::first(processors)) {
+        return None;
+    }
+    Some(mask)
+}

@@ -1,0 +1,4 @@
+pub mod Replaying
+pub mod PassingOn
+pub mod ShiftPasses
+pub mod StepPasses

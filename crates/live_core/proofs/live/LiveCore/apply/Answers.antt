@@ -1,0 +1,77 @@
+use Rattle.std.proofs.Common.{ℕ, List, Option, refl, sym, subst}
+use Rattle.link_state.proofs.Steps.{step_keeps_state}
+use Rattle.certificate_laws.proofs.Best.{linked_is_best, linked_is_largest}
+use Rattle.certificate_laws.proofs.Improved.{no_improving_chain}
+use Rattle.certificate_laws.proofs.Kept.{step_keeps_certificates}
+use Rattle.certificate_laws.proofs.Ranked.{linked_is_as_urgent}
+use Rattle.live_core.specs.Live.{LiveData}
+use Rattle.live_core.specs.Moves.{Replays}
+use Rattle.live_core.proofs.live.LiveCore.apply.Goals as goal
+
+pub follow-requires : goal.follow-requires
+follow-requires c =
+    let reply = c.reply_to-self-inside in (
+      reply.new.links.on,
+      record {
+        old = c.self.inside.links;
+        new = reply.new.links;
+        state = c.self.invariant.state;
+        before = sym c.self.invariant.occupants;
+        step = reply.ensures;
+        links = refl;
+      },
+    )
+
+pub returns-clause-valid : goal.returns-clause-valid
+returns-clause-valid c =
+    let reply = c.reply_to-self-inside in
+    step_keeps_state c.self.inside.links c.args.event reply.result reply.new.links c.self.invariant.state reply.ensures
+
+pub returns-clause-certified : goal.returns-clause-certified
+returns-clause-certified c =
+    let reply = c.reply_to-self-inside in
+    step_keeps_certificates c.self.inside.links c.args.event reply.result reply.new.links c.self.invariant.state c.self.invariant.certificates reply.ensures
+
+pub invariant_of-self : goal.invariant_of-self
+invariant_of-self c =
+    let reply = c.reply_to-self-inside in
+    record {
+      state = returns-clause-valid c;
+      certificates = returns-clause-certified c;
+      occupants = c.follow.ensures.occupants reply.new.links.on record {
+        old = c.self.inside.links;
+        new = reply.new.links;
+        state = c.self.invariant.state;
+        before = sym c.self.invariant.occupants;
+        step = reply.ensures;
+        links = refl;
+      };
+      few = c.follow.ensures.few;
+    }
+
+pub returns-clause-moves : goal.returns-clause-moves
+returns-clause-moves c =
+    let reply = c.reply_to-self-inside in
+    let same = c.follow.ensures.occupants reply.new.links.on record {
+      old = c.self.inside.links;
+      new = reply.new.links;
+      state = c.self.invariant.state;
+      before = sym c.self.invariant.occupants;
+      step = reply.ensures;
+      links = refl;
+    } in
+    subst (λ (d : LiveData). Replays d.links.on c.follow.new.self.moves reply.new.links.on) c.self.view_is
+    (subst (λ (on : List (Option ℕ)). Replays on c.follow.new.self.moves reply.new.links.on) c.self.invariant.occupants
+    (subst (λ (on : List (Option ℕ)). Replays c.self.inside.moves.occupants c.follow.new.self.moves on) same c.follow.ensures.moves))
+
+pub returns-clause-unimprovable : goal.returns-clause-unimprovable
+returns-clause-unimprovable c = no_improving_chain c.reply_to-self-inside.new.links (returns-clause-certified c)
+
+pub returns-clause-best : goal.returns-clause-best
+returns-clause-best c = linked_is_best c.reply_to-self-inside.new.links (returns-clause-valid c) (returns-clause-certified c)
+
+pub returns-clause-largest : goal.returns-clause-largest
+returns-clause-largest c = linked_is_largest c.reply_to-self-inside.new.links (returns-clause-valid c) (returns-clause-certified c)
+
+pub returns-clause-rank_by_rank : goal.returns-clause-rank_by_rank
+returns-clause-rank_by_rank c = linked_is_as_urgent c.reply_to-self-inside.new.links (returns-clause-valid c) (returns-clause-certified c)

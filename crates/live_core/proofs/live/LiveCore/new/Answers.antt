@@ -1,0 +1,18 @@
+use Rattle.std.proofs.Common.{ℕ, Option, None, length, replicate, sym, ap, subst, ◌∙◌, arith}
+use Rattle.link_state.specs.State.{State, IsState}
+use Rattle.link_state.proofs.Start.{IsState-start}
+use Rattle.certificate_laws.specs.Certified.{HasCertificates}
+use Rattle.certificate_laws.proofs.Kept.{HasCertificates-start}
+use Rattle.live_core.specs.MoveData.{MoveData}
+use Rattle.live_core.proofs.live.LiveCore.new.Goals as goal
+
+pub invariant_of-result : goal.invariant_of-result
+invariant_of-result c = record {
+  state = subst IsState (sym c.in_ok-links.ensures) (IsState-start c.args.set.now c.processors-processors.ensures.valid);
+  certificates = subst HasCertificates (sym c.in_ok-links.ensures) (HasCertificates-start c.args.set.now);
+  occupants =
+      ap (λ (moves : MoveData). moves.occupants) c.in_ok-moves.ensures
+      ∙ ap (λ (n : ℕ). replicate {A = Option ℕ} n None) c.processors-processors.ensures.value
+      ∙ sym (ap (λ (s : State). s.on) c.in_ok-links.ensures);
+  few = (let none = ap (λ (moves : MoveData). length moves.moves) c.in_ok-moves.ensures in omega arith);
+}

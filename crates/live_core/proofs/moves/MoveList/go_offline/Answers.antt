@@ -1,0 +1,23 @@
+use Rattle.std.proofs.Common.{Option, refl, sym, subst, arith}
+use Rattle.scheduler_reply.specs.declared.reply.Moved.{Moved}
+use Rattle.live_core.specs.MoveData.{OfflinePasses}
+use Rattle.live_core.proofs.Replaying.{DoesMore-nothing, DoesMore-fewer}
+use Rattle.live_core.proofs.StepPasses.{Passes-same}
+use Rattle.live_core.proofs.moves.MoveList.go_offline.Goals as goal
+
+pub pass_on_twice-requires-clause-can : goal.pass_on_twice-requires-clause-can
+pass_on_twice-requires-clause-can c =
+    let twice = subst (λ (m : Option Moved). OfflinePasses c.args.self.now.occupants c.args.p m c.requires.can.0) (sym c.in-Some.ensures) c.requires.can.1 in
+    (c.requires.can.0, (twice.0, twice.1, Passes-same _ _ _ _ _ _ _ refl refl c.chain-two.ensures.value twice.2))
+
+pub returns-in-Some-clause-occupants : goal.returns-in-Some-clause-occupants
+returns-in-Some-clause-occupants c = λ after passes.
+    let twice = subst (λ (m : Option Moved). OfflinePasses c.args.self.now.occupants c.args.p m after) (sym c.in-Some.ensures) passes in
+    c.pass_on_twice.ensures.occupants after (twice.0, twice.1, Passes-same _ _ _ _ _ _ _ refl refl c.chain-two.ensures.value twice.2)
+
+pub returns-in_default-clause-more : goal.returns-in_default-clause-more
+returns-in_default-clause-more c = DoesMore-fewer 0 130 c.args.self.now c.args.self.now (omega arith) (DoesMore-nothing c.args.self.now)
+
+pub returns-in_default-clause-occupants : goal.returns-in_default-clause-occupants
+returns-in_default-clause-occupants c = λ after passes.
+    subst (λ (m : Option Moved). OfflinePasses c.args.self.now.occupants c.args.p m after) (sym c.in_default.ensures) passes

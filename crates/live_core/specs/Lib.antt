@@ -1,0 +1,5 @@
+pub mod Live
+pub mod LiveView
+pub mod MoveData
+pub mod MoveView
+pub mod Moves

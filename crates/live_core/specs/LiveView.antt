@@ -1,0 +1,17 @@
+-- What contracts see of a scheduler without a history, and what it keeps.
+use Rattle.std.specs.Prelude.{◌≡◌, ◌≤◌, length}
+use Rattle.link_state.specs.State.{IsState}
+use Rattle.certificate_laws.specs.Certified.{HasCertificates}
+use Rattle.live_core.specs.Live.{LiveData}
+use Rattle.live_core.specs.declared.live.LiveCore.TheInside.{Inside}
+
+-- the parts that are stored
+abbrev pub live_view : Inside → LiveData
+live_view a = record { links = a.links; last = a.last; moves = a.moves.moves }
+
+-- the links are a placement of ready tasks, each waiting task has a certificate, and the moves led to these links
+pub record IsKept (a : Inside) : Type 0 where
+  pub state : IsState a.links
+  pub certificates : HasCertificates a.links
+  pub occupants : a.moves.occupants ≡ a.links.on
+  pub few : length a.moves.moves ≤ 130

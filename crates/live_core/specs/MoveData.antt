@@ -1,0 +1,75 @@
+-- The list of moves as it grows. Occupants are passed on along a chain of processors: each goes on the next processor,
+-- and a guest on the first.
+use Rattle.std.specs.Prelude.{◌≡◌, ℕ, ◌+◌, ◌<◌, ◌≤◌, List, [], ◌∷◌, ◌++◌, length, slice_index, Option, Some, None, if◌then◌else◌, ◌==◌}
+use Rattle.std.specs.Option.{ForSome}
+use Rattle.task_set.specs.declared.event.Event.{Event}
+use Rattle.scheduler_reply.specs.declared.reply.Reply.{Reply}
+use Rattle.scheduler_reply.specs.declared.reply.Reply.TheVariants.{Freed, Remasked, Off, On}
+use Rattle.scheduler_reply.specs.declared.reply.Moved.{Moved}
+use Rattle.scheduler_reply.specs.Reply.{came_chain}
+use Rattle.link_state.specs.State.{State, IsState}
+use Rattle.link_state.specs.Chain.{IsSimple}
+use Rattle.link_state.specs.Step.{SchedulerStep}
+use Rattle.live_core.specs.Moves.{Replays, occupant_at, IsNowhere}
+use Rattle.live_core.specs.declared.moves.Move.{Move}
+
+-- the occupants, and the moves that led to them
+pub record MoveData : Type 0 where
+  pub occupants : List (Option ℕ)
+  pub moves : List Move
+
+-- at most so many moves were added, which lead from the old occupants to the new ones
+pub record DoesMore (most : ℕ) (old new : MoveData) : Type 0 where
+  pub more : List Move
+  pub added : new.moves ≡ old.moves ++ more
+  pub few : length more ≤ most
+  pub replays : Replays old.occupants more new.occupants
+
+-- each processor of the chain is there, none stands twice, and each but the last has somebody
+pub record CanPassOn (occupants : List (Option ℕ)) (chain : List ℕ) : Type 0 where
+  pub simple : IsSimple chain
+  pub below : (i : ℕ) → i < length chain → slice_index chain i < length occupants
+  pub somebody : (i : ℕ) → i + 1 < length chain → (u : ℕ) × (occupant_at occupants (slice_index chain i) ≡ Some u)
+
+-- who is on p once the guest goes on the first processor of the chain, and each occupant on the next one
+abbrev pub occupant_passed : List (Option ℕ) → Option ℕ → List ℕ → ℕ → Option ℕ
+occupant_passed occupants guest [] p = occupant_at occupants p
+occupant_passed occupants guest (q ∷ rest) p = if p == q then guest else occupant_passed occupants (occupant_at occupants q) rest p
+
+-- the occupants can be passed on along the chain, which leads to those after it
+pub record Passes (occupants : List (Option ℕ)) (guest : Option ℕ) (chain : List ℕ) (after : List (Option ℕ)) : Type 0 where
+  pub can : CanPassOn occupants chain
+  pub nowhere : 0 < length chain → ForSome guest (IsNowhere occupants)
+  pub fits : length chain ≤ 64
+  pub count : length after ≡ length occupants
+  pub passed : (p : ℕ) → p < length occupants → occupant_at after p ≡ occupant_passed occupants guest chain p
+
+-- the task that a reply lets in where a processor was left
+abbrev pub entered_by : Reply → Option ℕ
+entered_by (Freed entered chain back) = entered
+entered_by (Remasked (Some gone) came) = gone.entered
+entered_by (On parts) = parts.entered
+entered_by _ = None
+
+-- the task that had to leave a processor that went off line
+abbrev pub moved_of : Reply → Option Moved
+moved_of (Off moved) = moved
+moved_of _ = None
+
+-- the occupants can be passed on along one chain, and then along another, which leads to those after both
+abbrev pub PassesTwice : List (Option ℕ) → Option ℕ → List ℕ → Option ℕ → List ℕ → List (Option ℕ) → Type 0
+PassesTwice occupants first one second two after = (between : List (Option ℕ)) × Passes occupants first one between × Passes between second two after
+
+-- p goes off line, and its task, if it has one, comes back
+abbrev pub OfflinePasses : List (Option ℕ) → ℕ → Option Moved → List (Option ℕ) → Type 0
+OfflinePasses occupants p None after = occupants ≡ after
+OfflinePasses occupants p (Some moved) after = PassesTwice occupants None (p ∷ []) (Some moved.task) (came_chain moved.came) after
+
+-- the event with this reply leads from links with these occupants to links with those after it
+pub record LeadsTo (occupants : List (Option ℕ)) (event : Event) (reply : Reply) (after : List (Option ℕ)) : Type 0 where
+  pub old : State
+  pub new : State
+  pub state : IsState old
+  pub before : old.on ≡ occupants
+  pub step : SchedulerStep old event reply new
+  pub links : new.on ≡ after

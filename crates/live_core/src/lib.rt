@@ -1,0 +1,13 @@
+//! The scheduler for a program that runs for long: who is linked where, the last reply, and what the last event asks for.
+//!
+//! [`LiveCore`] takes one event at a time. Each is the scheduler's step, after which the linked tasks are the best
+//! placeable set of the ready ones. [`LiveCore::moves`] says how to get there from the links before, a [`Move`] at a time,
+//! so that before each move nobody is on the processor that its task goes to. No history is kept, any number of events
+//! may come, and no memory is taken after [`LiveCore::new`].
+#![tactic(auto)]
+
+mod live;
+mod moves;
+
+pub use live::LiveCore;
+pub use moves::Move;
