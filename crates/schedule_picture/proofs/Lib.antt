@@ -1,0 +1,4 @@
+mod Following
+mod Histories
+mod Looking
+mod Places

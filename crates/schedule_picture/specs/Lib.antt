@@ -1,0 +1,5 @@
+pub mod History
+pub mod Spans
+pub mod Track
+pub mod TrackView
+pub mod Tracks
