@@ -1,0 +1,39 @@
+-- The places of an axis, made entry by entry.
+use Rattle.std.proofs.Common.{◌≡◌, ℕ, ◌+◌, ◌*◌, ◌-◌, ◌<◌, ◌≤◌, List, [], ◌∷◌, ◌++◌, length, take, get_or, map, refl, sym, ap, ◌∙◌, arith}
+use Rattle.std.specs.List.{range_with_len, sum_by}
+use Rattle.std.proofs.lemmas.List.{take_all}
+use Rattle.std.proofs.lemmas.List.Sums.{sum_by_more}
+use Rattle.std.proofs.lemmas.List.FromFn.{map-range_with_len_more}
+use Rattle.task_set.specs.Event.{HasUnits}
+use Rattle.task_set.specs.declared.event.Event.{Event}
+use Rattle.task_set.specs.declared.event.Event.TheVariants.{Arrive, Depart, Tick, Affinity, Offline, Online}
+use Rattle.scheduler_reply.specs.declared.reply.Entry.{Entry}
+use Rattle.schedule_picture.specs.Picture.{units_of, moment, moments_of, columns_of}
+
+pub units_few : (event : Event) → HasUnits event → units_of event ≤ 1000000
+units_few (Arrive t) has = omega arith
+units_few (Depart t) has = omega arith
+units_few (Tick units) has = has.1
+units_few (Affinity t mask) has = omega arith
+units_few (Offline p) has = omega arith
+units_few (Online p) has = omega arith
+
+-- one more moment
+pub moments_more : (entries : List Entry) (n now : ℕ) (places next : List ℕ) → now ≡ moment entries n → places ≡ map (moment entries) (range_with_len 0 n) → next ≡ places ++ now ∷ [] → next ≡ map (moment entries) (range_with_len 0 (n + 1))
+moments_more entries n now places next is before after =
+    after ∙ ap (λ (ps : List ℕ). ps ++ now ∷ []) before ∙ ap (λ (m : ℕ). map (moment entries) (range_with_len 0 n) ++ m ∷ []) is
+    ∙ sym (map-range_with_len_more (moment entries) 0 n n (omega arith))
+
+pub moment_more : (entries : List Entry) (n now : ℕ) (entry : Entry) → n < length entries → entry ≡ get_or entries n entry → now ≡ moment entries n → now + units_of entry.event ≡ moment entries (n + 1)
+moment_more entries n now entry lt read is =
+    ap (λ (m : ℕ). m + units_of entry.event) is ∙ ap (λ (e : Entry). moment entries n + units_of e.event) read
+    ∙ sym (sum_by_more (λ (e : Entry). units_of e.event) entries n entry lt)
+
+-- after the last entry no time passes
+pub moment_end : (entries : List Entry) (n : ℕ) → length entries ≤ n → moment entries n ≡ moment entries (n + 1)
+moment_end entries n whole =
+    ap (λ (es : List Entry). sum_by (λ (e : Entry). units_of e.event) es) (take_all n entries whole ∙ sym (take_all (n + 1) entries (omega arith)))
+
+pub columns_more : (n : ℕ) (places next : List ℕ) → places ≡ map (λ n. n - 1) (range_with_len 0 n) → next ≡ places ++ (n - 1) ∷ [] → next ≡ map (λ n. n - 1) (range_with_len 0 (n + 1))
+columns_more n places next before after =
+    after ∙ ap (λ (ps : List ℕ). ps ++ (n - 1) ∷ []) before ∙ sym (map-range_with_len_more (λ (n : ℕ). n - 1) 0 n n (omega arith))

@@ -1,0 +1,29 @@
+//! Pictures of schedules: what each processor and each task did.
+//!
+//! [`tracks_of`] follows the entries of a schedule once. Each [`Track`] has the spans of one processor or one task, each that
+//! there is, once, in order. [`picture_text`] draws a window of them as SVG, over units of time or with a column for each
+//! entry.
+#![tactic(auto)]
+
+mod around;
+mod assembly;
+pub mod axis;
+mod colours;
+mod follow;
+mod groups;
+mod listing;
+mod page;
+mod picture;
+mod sheet;
+pub mod span;
+pub mod track;
+pub mod tracks;
+pub mod window;
+
+pub use axis::Axis;
+pub use follow::tracks_of;
+pub use picture::picture_text;
+pub use span::{Seen, Span};
+pub use track::Track;
+pub use tracks::Tracks;
+pub use window::Window;
