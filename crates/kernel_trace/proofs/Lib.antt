@@ -1,0 +1,7 @@
+mod Positions
+mod FieldCuts
+mod FieldLists
+mod LinesRead
+mod DigitValues
+pub mod Courses
+pub mod Decided
