@@ -22,7 +22,7 @@ use Rattle.kernel_trace.proofs.Positions.{position_some}
 tick_posted : (s : SetData) (units : ℕ) → 1 ≤ units → units ≤ 1000000 → IsPostedOf s (on_first_stream (Tick units))
 tick_posted s units least most = record { stream = lit< tt; event = (tt, (least, most)) }
 
-last_some : (units : ℕ) → (units ≡ 0 → ⊥) → last_tick units ≡ on_first_stream (Tick units) ∷ []
+pub last_some : (units : ℕ) → (units ≡ 0 → ⊥) → last_tick units ≡ on_first_stream (Tick units) ∷ []
 last_some units some = ap (λ (b : Bool). if b then [] else on_first_stream (Tick units) ∷ []) (ne_eqb units 0 some)
 
 last_posted : (s : SetData) (units : ℕ) → units < 1000000 → All (IsPostedOf s) (last_tick units)

@@ -5,3 +5,4 @@ mod LinesRead
 mod DigitValues
 pub mod Courses
 pub mod Decided
+mod Imports

@@ -1,4 +1,5 @@
 pub mod Course
+pub mod Import
 pub mod Laws
 pub mod Reading
 pub mod Stamp
