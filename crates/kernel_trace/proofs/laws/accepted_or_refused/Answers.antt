@@ -1,0 +1,7 @@
+use Rattle.line_machine.specs.Lines.{lines_of}
+use Rattle.line_machine.proofs.TextLaws.{always_one}
+use Rattle.kernel_trace.proofs.Decided.{trace_machine}
+use Rattle.kernel_trace.proofs.laws.accepted_or_refused.Goals as goal
+
+pub returns : goal.returns
+returns c = always_one trace_machine lines_of

@@ -1,0 +1,7 @@
+use Rattle.line_machine.specs.Lines.{lines_of}
+use Rattle.line_machine.proofs.TextLaws.{never_both}
+use Rattle.kernel_trace.proofs.Decided.{trace_machine}
+use Rattle.kernel_trace.proofs.laws.input_has_no_fault.Goals as goal
+
+pub returns : goal.returns
+returns c = never_both trace_machine lines_of

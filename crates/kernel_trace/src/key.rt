@@ -1,0 +1,54 @@
+//! Fields with a key, as `pid=101`.
+ghost use Rattle.std.specs.Prelude.{◌≡◌, ◌≤◌, true, false, length, MatchOption};
+ghost use Rattle.std.specs.Str.{bytes_eq};
+ghost use Rattle.kernel_trace.specs.TraceLine.{begins, after_key, is_keyed, id_after};
+
+use crate::digits::is_number_text;
+
+/// What stands for a number that is greater than each thread id.
+const NO_ID: u64 = 4_194_305;
+
+/// Whether a field is this text.
+pub fn is_text(field: &[u8], text: &str) -> bool
+    ensures { result ≡ bytes_eq field.now text.now }
+{
+    field == text.as_bytes()
+}
+
+/// Whether a field begins with a key.
+pub fn begins_with(field: &[u8], key: &str) -> bool
+    ensures { result ≡ begins key.now field.now }
+{
+    field.starts_with(key.as_bytes())
+}
+
+/// What stands after a key, or as many bytes.
+pub fn behind<'a>(field: &'a [u8], key: &str) -> &'a [u8]
+    ensures { result.now ≡ after_key key.now field.now }
+{
+    match field.get(key.len()..) {
+        Some(rest) => rest,
+        None => &[],
+    }
+}
+
+#[tactic(auto, unfolding(crate::specs::TraceLine::is_keyed))]
+/// Whether a field is a key and digits.
+pub fn is_keyed(field: &[u8], key: &str) -> bool
+    ensures { result ≡ is_keyed key.now field.now }
+{
+    begins_with(field, key) && is_number_text(behind(field, key))
+}
+
+/// The thread id of a field with a key.
+pub fn id_of(field: &[u8], key: &str) -> u32
+    requires { is_keyed key.now field.now ≡ true }
+    ensures { result ≡ id_after key.now field.now }
+{
+    let digits = behind(field, key);
+    let mut id: u64 = 0;
+    for digit in digits {
+        id = (id * 10 + (*digit - b'0') as u64).min(NO_ID);
+    }
+    id as u32
+}

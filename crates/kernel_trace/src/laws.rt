@@ -1,0 +1,30 @@
+//! What holds of the texts of traces, whatever program reads them. Each law is the contract of a function that does nothing: a
+//! caller in a proof gets the law by its clause.
+ghost use Rattle.kernel_trace.specs.Import.{ReadyAsMentioned};
+ghost use Rattle.kernel_trace.specs.Laws.{TextHasOneInput, TextHasOneFault, InputHasNoFault, AcceptedOrRefused};
+
+/// A text is that of at most one input.
+pub fn text_has_one_input()
+    ensures { TextHasOneInput }
+{}
+
+/// A text is refused with at most one line and one kind.
+pub fn text_has_one_fault()
+    ensures { TextHasOneFault }
+{}
+
+/// No text is both that of an input and refused.
+pub fn input_has_no_fault()
+    ensures { InputHasNoFault }
+{}
+
+/// Each text is that of an input, or is refused.
+pub fn accepted_or_refused()
+    ensures { AcceptedOrRefused }
+{}
+
+/// After the events of some lines of a trace the ready tasks are those whose last mention is in, and each event changes its
+/// task.
+pub fn ready_tasks_are_those_mentioned_as_in()
+    ensures { ReadyAsMentioned }
+{}

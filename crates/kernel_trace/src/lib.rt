@@ -1,0 +1,21 @@
+//! Traces of the Linux scheduler, which become inputs.
+//!
+//! [`read_trace`] reads a head, with tasks and their thread ids, and after it the lines that `ftrace` or `trace-cmd` printed. The
+//! input has an arrival or a departure where a line changes whether a task is ready, and ticks for the time between. Any other
+//! text is refused with the first line that has a fault, and the kind of the fault.
+#![tactic(auto)]
+
+pub mod change;
+pub mod course;
+mod digits;
+pub mod event;
+pub mod fault;
+mod fields;
+mod key;
+pub mod laws;
+pub mod read;
+mod stage;
+pub mod stamp;
+
+pub use fault::{TraceFault, TraceKind};
+pub use read::read_trace;
