@@ -1,7 +1,7 @@
 -- The definitions on one example, worked by hand. Two processors; a may run on both, b on 1 alone, and c, the least urgent, on both.
 -- They arrive as c, a, b. So c takes processor 0 and a processor 1, and then a moves aside for b, and c waits.
 use Rattle.std.proofs.Common.{◌≡◌, ℕ, zero, suc, ◌<◌, ◌≤◌, Bool, true, false, List, [], ◌∷◌, map, Some, None, refl, sym, ap, ◌∙◌, IsTrue, arith, eqb-true}
-use Rattle.std.specs.Prelude.{All}
+use Rattle.std.specs.Prelude.{All, length}
 use Rattle.std.proofs.lemmas.Bool.{ltb-true, false≢true}
 use Rattle.std.proofs.lemmas.List.Elements.{All-nil, All-cons}
 use Rattle.std.proofs.lemmas.Option.{same_Some}
@@ -9,7 +9,7 @@ use Rattle.affinity_mask.specs.ProcSet.{has, all_below, intersection, passing_be
 use Rattle.affinity_mask.proofs.Sets.{has-all_below}
 use Rattle.task_set.specs.TaskSet.{SetData, TaskData}
 use Rattle.task_set.specs.declared.event.Event.{Event}
-use Rattle.task_set.specs.declared.event.Event.TheVariants.{Arrive, Tick, Affinity}
+use Rattle.task_set.specs.declared.event.Event.TheVariants.{Arrive, Tick, Affinity, Offline}
 use Rattle.task_set.specs.declared.order.Order.{Order}
 use Rattle.task_set.specs.declared.order.Order.TheVariants.{Release, Take, Run, Stop}
 use Rattle.scheduler_reply.specs.declared.reply.Reply.{Reply}
@@ -28,8 +28,8 @@ use Rattle.scheduling_laws.specs.Faces.{IsCertifiedByReach}
 use Rattle.scheduling_laws.specs.Going.{IsRun, times_taken, times_released, CanBeObeyed}
 use Rattle.scheduling_laws.specs.InReach.{IsWorkConserving, HasNoInversion}
 use Rattle.scheduling_laws.specs.Isolation.{IsUrgent, IsSameTask, AgreeUpTo}
-use Rattle.scheduling_laws.specs.Merges.{HaveStreams}
-use Rattle.scheduling_laws.specs.OneEnd.{is_of_task, is_of_processor, events_that, events_by}
+use Rattle.scheduling_laws.specs.Merges.{HaveStreams, HaveSameTasksLinked}
+use Rattle.scheduling_laws.specs.OneEnd.{is_of_task, is_of_processor, events_that, events_by, HaveSameEvents, HaveCallers}
 use Rattle.scheduling_laws.specs.ShiftCounts.{shifts_of, most_shifts}
 use Rattle.scheduling_laws.specs.Sustained.{AsksNoMore, AsksNoMoreUpTo}
 use Rattle.scheduling_laws.specs.Urgency.{urgent_of}
@@ -154,6 +154,38 @@ two_streams = record { tasks = of_task; processors = of_processor }
         (All-cons (λ (event : Posted). is_of_processor p event.event ≡ true → event.stream ≡ 0) (posted 0 (Arrive 0)) [] (λ is. absurd (false≢true is))
         (All-nil (λ (event : Posted). is_of_processor p event.event ≡ true → event.stream ≡ 0)))
 
+-- ---- an arrival of c and processor 0 off line, in either order; the replies differ
+abbrev arrival_first : List Entry
+arrival_first = entry (Arrive 2) (Placed (0 ∷ [])) ∷ entry (Offline 0) Ticked ∷ []
+
+abbrev processor_first : List Entry
+processor_first = entry (Offline 0) Ticked ∷ entry (Arrive 2) (Placed (1 ∷ [])) ∷ []
+
+same_events : HaveSameEvents arrival_first processor_first
+same_events = record { of_task = λ t. refl; of_processor = λ p. refl }
+
+-- with c a second time there is one event more of c
+counted_twice : HaveSameEvents arrival_first (entry (Arrive 2) Ticked ∷ processor_first) → suc zero ≡ suc (suc zero)
+counted_twice same = ap length (same.of_task 2)
+
+one_more_event : HaveSameEvents arrival_first (entry (Arrive 2) Ticked ∷ processor_first) → ⊥
+one_more_event same = omega (arith, counted_twice same)
+
+one_caller : HaveCallers (λ t. 0) (λ p. 0) arrival_first
+one_caller = record { tasks = of_task; processors = of_processor }
+  where
+    of_task : (t : ℕ) → All (λ (e : Entry). is_of_task t e.event ≡ true → e.caller ≡ 0) arrival_first
+    of_task t =
+        All-cons (λ (e : Entry). is_of_task t e.event ≡ true → e.caller ≡ 0) (entry (Arrive 2) (Placed (0 ∷ []))) (entry (Offline 0) Ticked ∷ []) (λ is. refl)
+        (All-cons (λ (e : Entry). is_of_task t e.event ≡ true → e.caller ≡ 0) (entry (Offline 0) Ticked) [] (λ is. refl)
+        (All-nil (λ (e : Entry). is_of_task t e.event ≡ true → e.caller ≡ 0)))
+
+    of_processor : (p : ℕ) → All (λ (e : Entry). is_of_processor p e.event ≡ true → e.caller ≡ 0) arrival_first
+    of_processor p =
+        All-cons (λ (e : Entry). is_of_processor p e.event ≡ true → e.caller ≡ 0) (entry (Arrive 2) (Placed (0 ∷ []))) (entry (Offline 0) Ticked ∷ []) (λ is. refl)
+        (All-cons (λ (e : Entry). is_of_processor p e.event ≡ true → e.caller ≡ 0) (entry (Offline 0) Ticked) [] (λ is. refl)
+        (All-nil (λ (e : Entry). is_of_processor p e.event ≡ true → e.caller ≡ 0)))
+
 -- ---- obeying: processor 0 takes c and releases it, and then takes a, once processor 1 has released it
 abbrev orders : ℕ → List Order
 orders p = closed_orders_of (start_of three_tasks) moved_aside p
@@ -270,3 +302,13 @@ asks_no_more = record { processors = refl; horizon = refl; urgent = λ t. is_urg
     each zero lt = record { priority = refl; mask = refl; offset = refl; period = refl; cost = omega arith }
     each (suc zero) lt = record { priority = refl; mask = refl; offset = refl; period = refl; cost = omega arith }
     each (suc (suc t)) lt = absurd (omega arith)
+
+-- ---- a on 0 and b on 1, or each one further, where 0 is idle: the same tasks are linked, to other processors
+abbrev placed_so : State
+placed_so = record (state_at three_tasks moved_aside 3) { on = Some 0 ∷ Some 1 ∷ [] }
+
+same_linked : HaveSameTasksLinked placed_so (record placed_so { on = None ∷ Some 0 ∷ Some 1 ∷ [] })
+same_linked = record { ready = λ t. refl; linked = λ t. refl }
+
+without_b : HaveSameTasksLinked placed_so (record placed_so { on = Some 0 ∷ None ∷ [] }) → ⊥
+without_b same = absurd (false≢true (sym (same.linked 1)))
