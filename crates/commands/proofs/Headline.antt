@@ -11,7 +11,7 @@ use Rattle.trace_reader.specs.declared.posted.Posted.{Posted}
 use Rattle.trace_reader.specs.InputText.{IsInputText}
 use Rattle.schedule_text.specs.ScheduleText.{schedule_text}
 use Rattle.link_state.specs.Dispatch.{contexts_of}
-use Rattle.thread_replay.specs.Replayed.{IsReplayOf}
+use Rattle.replay.specs.Replayed.{IsReplayOf}
 use Rattle.commands.specs.Run.{Replays}
 
 pub headline : (read put : List ℕ) (version : ℕ) (set : SetData) (events : List Posted) (core : CoreData) (printed : List Context) → IsInputText version read set events → IsReplayOf set events core → printed ≡ contexts_of set core.history → put ≡ schedule_text version set core.history printed

@@ -12,13 +12,13 @@ use Rattle.trace_reader.specs.declared.posted.Posted.{Posted}
 use Rattle.trace_reader.specs.CanonicalText.{canonical_input_text}
 use Rattle.trace_reader.specs.InputText.{IsInputText}
 use Rattle.generated_input.proofs.OneInput.{one_input}
-use Rattle.thread_replay.specs.Merge.{posted_of}
+use Rattle.replay.specs.Merge.{posted_of}
 use Rattle.link_state.specs.Dispatch.{contexts_of}
-use Rattle.thread_replay.specs.Replayed.{IsReplayOf}
+use Rattle.replay.specs.Replayed.{IsReplayOf}
 use Rattle.commands.specs.Generating.{IsInputOf, WritesInput, IsMakeOf, Summarizes, IsLargeOf, Schedules}
 use Rattle.commands.specs.Summary.{summary_text}
 use Rattle.commands.specs.declared.sizes.Sizes.{Sizes}
-use Rattle.merge_laws.proofs.OneStream.{merge_in_order}
+use Rattle.replay.proofs.OneStream.{merge_in_order}
 
 -- ---- `make`
 one_input_text : (sizes : Sizes) (put other : List ℕ) → WritesInput sizes put → WritesInput sizes other → other ≡ put

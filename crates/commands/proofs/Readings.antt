@@ -11,8 +11,8 @@ use Rattle.link_state.specs.History.{IsLegal, state_at}
 use Rattle.link_state.proofs.Histories.{IsState-state_at}
 use Rattle.schedule_board.specs.declared.picture.Picture.{Picture}
 use Rattle.schedule_board.specs.Pictures.{IsPictureOf, task_at}
-use Rattle.watched_replay.specs.declared.sighting.Sighting.{Sighting}
-use Rattle.watched_replay.specs.Sightings.{IsSightingOf}
+use Rattle.replay.specs.declared.sighting.Sighting.{Sighting}
+use Rattle.replay.specs.Sightings.{IsSightingOf}
 use Rattle.commands.specs.Shown.{snapshot_of, reading_of}
 use Rattle.commands.specs.Watch.{IsOccupiedSet, IsSnapshotOf, IsReadingOf}
 use Rattle.commands.proofs.Snapshots.{has-set_below}

@@ -5,13 +5,13 @@ use Rattle.link_state.specs.Dispatch.{contexts_of}
 use Rattle.sched_core.specs.CoreData.{CoreData}
 use Rattle.schedule_text.specs.ScheduleText.{schedule_text}
 use Rattle.task_set.specs.TaskSet.{SetData}
-use Rattle.thread_replay.specs.Replayed.{IsReplayOf}
+use Rattle.replay.specs.Replayed.{IsReplayOf}
 use Rattle.trace_reader.specs.InputText.{IsInputText}
 use Rattle.commands.proofs.Headline.{headline}
 use Rattle.task_set.specs.declared.context.Context.{Context}
 use Rattle.trace_reader.specs.declared.posted.Posted.{Posted}
 use Rattle.schedule_text.specs.Schedule.{IsSchedule}
-use Rattle.merge_laws.proofs.MergedCounts.{merge_length, merge_posted}
+use Rattle.replay.proofs.MergedCounts.{merge_length, merge_posted}
 use Rattle.commands.specs.ScheduleLaws.{IsWritableHistory}
 use Rattle.commands.proofs.LegalSchedules.{legal_is_valid}
 use Rattle.commands.specs.Run.{Replays, IsRunOf}

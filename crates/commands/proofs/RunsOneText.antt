@@ -8,8 +8,8 @@ use Rattle.history_laws.proofs.StepHistories.{legal_history_is_unique}
 use Rattle.schedule_text.specs.ScheduleText.{schedule_text}
 use Rattle.trace_reader.specs.declared.posted.Posted.{Posted}
 use Rattle.trace_reader.proofs.Texts.{text_has_one_input}
-use Rattle.thread_replay.specs.Merge.{IsMerge, IsOnOneStream}
-use Rattle.merge_laws.proofs.OneStream.{callers_same, events_same, pairs_same}
+use Rattle.replay.specs.Merge.{IsMerge, IsOnOneStream}
+use Rattle.replay.proofs.OneStream.{callers_same, events_same, pairs_same}
 use Rattle.commands.specs.Run.{Replays}
 
 -- the text of a version, a task set and a history, with the contexts that it gives

@@ -3,7 +3,7 @@ use Rattle.std.proofs.Common.{◌≡◌, ℕ, ◌+◌, ◌<◌, List, [], ◌∷
 use Rattle.std.specs.Prelude.{codes}
 use Rattle.std.proofs.lemmas.List.{take_more, map-append, length-map}
 use Rattle.std.proofs.lemmas.Grind.{flat_map-append}
-use Rattle.watched_replay.specs.declared.sighting.Sighting.{Sighting}
+use Rattle.replay.specs.declared.sighting.Sighting.{Sighting}
 use Rattle.commands.specs.Shown.{reading_of}
 use Rattle.std.specs.List.{flat_map, enumerate_from}
 use Rattle.text_fields.specs.LineText.{line}

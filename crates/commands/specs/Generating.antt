@@ -9,7 +9,7 @@ use Rattle.trace_reader.specs.declared.posted.Posted.{Posted}
 use Rattle.trace_reader.specs.CanonicalText.{canonical_input_text}
 use Rattle.trace_reader.specs.InputText.{IsInputText}
 use Rattle.generated_input.specs.Generated.{IsGeneratedInput}
-use Rattle.thread_replay.specs.Merge.{posted_of}
+use Rattle.replay.specs.Merge.{posted_of}
 use Rattle.commands.specs.Summary.{summary_text}
 use Rattle.commands.specs.declared.sizes.Sizes.{Sizes}
 

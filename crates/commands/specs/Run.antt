@@ -12,8 +12,8 @@ use Rattle.trace_reader.specs.declared.posted.Posted.{Posted}
 use Rattle.trace_reader.specs.InputText.{IsInputText}
 use Rattle.commands.specs.Valid.{IsTextOf, IsValid}
 use Rattle.sched_core.specs.CoreData.{CoreData}
-use Rattle.thread_replay.specs.Merge.{IsMerge, IsOnOneStream}
-use Rattle.thread_replay.specs.Replayed.{IsReplayOf}
+use Rattle.replay.specs.Merge.{IsMerge, IsOnOneStream}
+use Rattle.replay.specs.Replayed.{IsReplayOf}
 use Rattle.schedule_text.specs.Schedule.{ScheduleData}
 use Rattle.schedule_text.specs.ScheduleText.{schedule_text}
 

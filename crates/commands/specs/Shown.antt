@@ -3,7 +3,7 @@ use Rattle.std.specs.Prelude.{ℕ, zero, suc, Bool, is_some, if◌then◌else◌
 use Rattle.affinity_mask.specs.ProcSet.{empty, with_member}
 use Rattle.schedule_board.specs.declared.picture.Picture.{Picture}
 use Rattle.schedule_board.specs.Pictures.{task_at}
-use Rattle.watched_replay.specs.declared.sighting.Sighting.{Sighting}
+use Rattle.replay.specs.declared.sighting.Sighting.{Sighting}
 use Rattle.commands.specs.WatchText.{Snapshot, Reading}
 
 -- the set of the numbers below n that pass a test

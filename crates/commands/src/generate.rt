@@ -8,10 +8,10 @@ use crate::summary::write_summary;
 use affinity_mask::OutOfMemory;
 use generated_input::make_input;
 use processor_seat::Gate;
+use replay::schedule_of;
 use std::alloc::Global;
 use std::sync::Wait;
 use std::thread::Threads;
-use thread_schedule::schedule_of;
 use trace_reader::{Input, write_input};
 
 /// The text of the input of these numbers. Refused only where memory is out.

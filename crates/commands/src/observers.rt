@@ -6,9 +6,9 @@ ghost use Rattle.commands.specs.WatchText.{snapshot_text, observer_line, observe
 ghost use Rattle.commands.specs.Shown.{snapshot_of, reading_of};
 
 use affinity_mask::{OutOfMemory, ProcSet};
+use replay::Sighting;
 use schedule_board::Picture;
 use text_fields::write_number;
-use watched_replay::Sighting;
 
 /// Appends how many observers there are, a line for each of them, and the end. Refused only when out of memory.
 pub(crate) fn write_observers(text: &mut Vec<u8>, sightings: &[Sighting]) -> Result<(), OutOfMemory>

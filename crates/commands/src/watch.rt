@@ -7,15 +7,15 @@ ghost use Rattle.commands.specs.Watch.{IsWatchOf, IsTextOfWatch};
 ghost use Rattle.commands.specs.WatchText.{observers_text};
 
 use crate::observers::write_observers;
-use crate::replay::text_of_replay;
+use crate::run::text_of_replay;
 use crate::status::Status;
 use affinity_mask::OutOfMemory;
 use processor_seat::Gate;
+use replay::{Sighting, watched_schedule_of};
 use std::alloc::Global;
 use std::sync::Wait;
 use std::thread::Threads;
 use trace_reader::{Input, read_input};
-use watched_replay::{Sighting, watched_schedule_of};
 
 /// The most observers.
 pub const MAX_OBSERVERS: u32 = 8;

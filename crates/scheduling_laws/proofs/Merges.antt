@@ -2,8 +2,8 @@
 use Rattle.std.proofs.Common.{◌≡◌, ℕ, true, List, sym, ◌∙◌}
 use Rattle.scheduler_reply.specs.declared.reply.Entry.{Entry}
 use Rattle.trace_reader.specs.declared.posted.Posted.{Posted}
-use Rattle.thread_replay.specs.Merge.{IsMerge}
-use Rattle.merge_laws.proofs.MergedCounts.{merge_posted}
+use Rattle.replay.specs.Merge.{IsMerge}
+use Rattle.replay.proofs.MergedCounts.{merge_posted}
 use Rattle.scheduling_laws.specs.Merges.{HaveStreams, MergesHaveOneEnd}
 use Rattle.scheduling_laws.specs.OneEnd.{is_of_task, is_of_processor, HaveCallers}
 use Rattle.scheduling_laws.proofs.OneEnd.{same_events_have_one_end, callers_give_same_events}

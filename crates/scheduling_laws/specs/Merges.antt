@@ -5,7 +5,7 @@ use Rattle.scheduler_reply.specs.declared.reply.Entry.{Entry}
 use Rattle.link_state.specs.State.{State, start_of, is_ready, is_linked}
 use Rattle.link_state.specs.History.{IsLegal, state_after}
 use Rattle.trace_reader.specs.declared.posted.Posted.{Posted}
-use Rattle.thread_replay.specs.Merge.{IsMerge}
+use Rattle.replay.specs.Merge.{IsMerge}
 use Rattle.scheduling_laws.specs.OneEnd.{is_of_task, is_of_processor}
 
 -- all events of each task are on its stream, and all of each processor

@@ -4,8 +4,8 @@ ghost use Rattle.task_set.specs.Event.{IsOfSystem};
 ghost use Rattle.order_queues.specs.Ends.{new_receiver, new_sender};
 ghost use Rattle.context_slots.specs.Hands.{new_hand};
 ghost use Rattle.event_history.specs.Boards.{AreEyesOf, AreFor};
-ghost use Rattle.thread_replay.specs.Driving.{IsDone};
-ghost use Rattle.thread_replay.specs.Seats.{IsSeated};
+ghost use Rattle.replay.specs.Driving.{IsDone};
+ghost use Rattle.replay.specs.Seats.{IsSeated};
 ghost use Rattle.thread_tests.specs.Fitting.{are_for-prop};
 
 use crate::two_processors::{
@@ -16,12 +16,12 @@ use context_slots::{Hand, Slots};
 use event_history::{Board, Pass};
 use order_queues::{Queue, Receiver, Sender};
 use processor_seat::{OpenGate, Processor, Step};
+use replay::drive;
 use std::alloc::Global;
 use std::process::Abort;
 use std::sync::Wait;
 use std::test::Fail;
 use task_set::{Context, Event, TaskSet};
-use thread_replay::drive;
 
 /// A board of one caller over two processors that have no threads.
 struct Bench {

@@ -4,6 +4,7 @@ ghost use Rattle.std.specs.Prelude.{◌≡◌, ◌≤◌, length};
 use crate::two_processors::{are_contexts, context, two_tasks};
 use affinity_mask::OutOfMemory;
 use processor_seat::{Gate, OpenGate};
+use replay::{Sighting, Watched, watched_schedule_of};
 use std::alloc::Global;
 use std::process::Abort;
 use std::sync::Wait;
@@ -13,7 +14,6 @@ use std::test::Fail;
 use std::thread::Threads;
 use task_set::{Event, TaskSet};
 use trace_reader::Posted;
-use watched_replay::{Sighting, Watched, watched_schedule_of};
 
 /// Two tasks arrive, each on a stream of its own: the second one may run where the first one is, which moves aside.
 fn watch_two<R: Threads + Wait + Sync, G: Gate + Sync>(

@@ -4,13 +4,13 @@ ghost use Rattle.std.specs.Prelude.{◌≡◌, length};
 use crate::two_processors::{are_contexts, context, two_tasks};
 use affinity_mask::OutOfMemory;
 use processor_seat::OpenGate;
+use replay::{Schedule, schedule_of};
 use std::alloc::Global;
 use std::process::Abort;
 use std::sync::Wait;
 use std::test::Fail;
 use std::thread::Threads;
 use task_set::{Event, TaskSet};
-use thread_schedule::{Schedule, schedule_of};
 use trace_reader::Posted;
 
 /// The schedule has two entries and is closed. The second task runs where the first one was, which moved aside.

@@ -1,4 +1,4 @@
-use Rattle.merge_laws.proofs.ContextLists.{contexts_count}
+use Rattle.replay.proofs.ContextLists.{contexts_count}
 use Rattle.commands.proofs.MadeTexts.{is_large_of}
 use Rattle.commands.proofs.generate.summary_over.Goals as goal
 

@@ -1,6 +1,6 @@
 use Rattle.std.specs.Prelude.{[]}
 use Rattle.schedule_board.specs.declared.picture.Picture.{Picture}
-use Rattle.watched_replay.specs.declared.sighting.Sighting.{Sighting}
+use Rattle.replay.specs.declared.sighting.Sighting.{Sighting}
 use Rattle.commands.proofs.Written.{lines_written}
 use Rattle.commands.proofs.observers.write_lines.Goals as goal
 

@@ -1,6 +1,6 @@
 use Rattle.std.proofs.Common.{Some}
 use Rattle.std.proofs.lemmas.List.Elements.{All-pop}
-use Rattle.thread_replay.specs.Driving.{IsDone}
+use Rattle.replay.specs.Driving.{IsDone}
 use Rattle.thread_tests.proofs.owed_orders.last_two.Goals as goal
 
 pub returns-clause-first : goal.returns-clause-first

@@ -1,6 +1,6 @@
 use Rattle.std.proofs.Common.{◌≡◌, ap, ◌∙◌, slice_get, Some}
 use Rattle.order_queues.specs.Ends.{QueueData}
-use Rattle.thread_replay.proofs.Seating.{queue_read, tasks_at}
+use Rattle.replay.proofs.Seating.{queue_read, tasks_at}
 use Rattle.thread_tests.proofs.owed_orders.queue_of.Goals as goal
 
 pub returns-clause-made_for : goal.returns-clause-made_for

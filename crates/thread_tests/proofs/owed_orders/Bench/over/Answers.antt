@@ -2,7 +2,7 @@ use Rattle.std.proofs.Common.{◌≡◌, List, length, sym, ap, ◌∙◌, subst
 use Rattle.task_set.specs.TaskSet.{SetData}
 use Rattle.order_queues.specs.Ends.{QueueData}
 use Rattle.event_history.specs.Boards.{AreFor}
-use Rattle.thread_replay.specs.Seats.{IsSeated}
+use Rattle.replay.specs.Seats.{IsSeated}
 use Rattle.thread_tests.proofs.owed_orders.Bench.over.Goals as goal
 
 pub invariant_of-result : goal.invariant_of-result

@@ -1,3 +1,0 @@
-pub mod ContextLists
-pub mod MergedCounts
-pub mod OneStream

@@ -1,5 +1,0 @@
-use Rattle.merge_laws.proofs.MergedCounts.{merge_length}
-use Rattle.merge_laws.proofs.laws.merge_has_each_event.Goals as goal
-
-pub returns : goal.returns
-returns c = merge_length

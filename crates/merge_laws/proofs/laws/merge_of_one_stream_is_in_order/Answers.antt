@@ -1,5 +1,0 @@
-use Rattle.merge_laws.proofs.OneStream.{merge_in_order}
-use Rattle.merge_laws.proofs.laws.merge_of_one_stream_is_in_order.Goals as goal
-
-pub returns : goal.returns
-returns c = merge_in_order

@@ -1,0 +1,18 @@
+use Rattle.std.proofs.Common.{◌≡◌, ℕ, ◌+◌, ◌≤◌, length}
+use Rattle.std.specs.Vec.{vec_capacity}
+use Rattle.replay.specs.Crew.{IsCrew}
+use Rattle.replay.specs.Places.{AllFrom}
+use Rattle.replay.specs.Seats.{IsSeatedAt, IsIdleAt}
+use Rattle.replay.proofs.workers.start_all.Given as goal
+
+abbrev pub invariant-loop-processor : goal.invariant-loop-processor
+invariant-loop-processor g l = record {
+  count : length l.processors.items + length l.workers.items ≡ length l.queues;
+  few : length l.left.items ≤ length l.workers.items;
+  idle : AllFrom (IsIdleAt l.queues l.slots) 0 l.processors.items;
+  room : (length l.queues ≤ vec_capacity l.workers) × (length l.queues ≤ vec_capacity l.left);
+  crew : IsCrew (λ n h. (h.promise.queues.now ≡ l.queues) × (h.promise.slots.now ≡ l.slots) × (h.promise.number ≡ n)) (IsSeatedAt l.queues l.slots) (length l.processors.items) l.workers.items l.left.items;
+}
+
+abbrev pub decreases-loop-processor : goal.decreases-loop-processor
+decreases-loop-processor g l = length l.processors.items

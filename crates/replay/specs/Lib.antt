@@ -1,0 +1,13 @@
+pub mod Crew
+pub mod Driving
+pub mod Joining
+pub mod Merge
+pub mod MergeLaws
+pub mod Passes
+pub mod Places
+pub mod Replayed
+pub mod Seats
+pub mod Sightings
+pub mod Streams
+pub mod Threading
+pub mod Watches

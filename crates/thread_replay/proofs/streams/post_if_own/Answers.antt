@@ -1,7 +1,0 @@
-use Rattle.std.proofs.Common.{◌∙◌}
-use Rattle.thread_replay.proofs.Posting.{adds_here, pass_stays}
-use Rattle.thread_replay.proofs.streams.post_if_own.Goals as goal
-
-pub returns-clause-pass : goal.returns-clause-pass
-returns-clause-pass g c =
-    pass_stays c.args.board.now c.args.pass.now.caller c.args.pass.now c.post_next.new.pass c.requires.pass c.post_next.ensures.grown c.post_next.ensures.eyes

@@ -1,2 +1,0 @@
-pub mod NewParts
-pub mod Carrying

@@ -1,5 +1,0 @@
-use Rattle.thread_schedule.proofs.NewParts.{new_unused}
-use Rattle.thread_schedule.proofs.making.beginning_of.Goals as goal
-
-pub returns-clause-unused : goal.returns-clause-unused
-returns-clause-unused c = new_unused _ _ 0 c.in-Ok.made.1.items c.in-Ok.ensures.passes.1

@@ -1,4 +1,0 @@
-pub mod Joining
-pub mod Passes
-pub mod Sightings
-pub mod Watches
