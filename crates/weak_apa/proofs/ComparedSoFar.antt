@@ -14,13 +14,13 @@ use Rattle.std.specs.Prelude.{codes}
 use Rattle.trace_reader.specs.declared.posted.Posted.{Posted}
 use Rattle.trace_reader.specs.Input.{InputData, IsInput}
 use Rattle.sched_core.specs.CoreData.{CoreData, IsCore, Applied, entry_of}
-use Rattle.weak_step.specs.Stable.{IsWeaklyStable}
-use Rattle.weak_step.specs.Step.{WeakStep, Follows, without_links}
+use Rattle.weak_apa.specs.Stable.{IsWeaklyStable}
+use Rattle.weak_apa.specs.Step.{WeakStep, Follows, without_links}
 use Rattle.weak_apa.specs.Compared.{Compares, IsNoBetter, IsWeakRun, states_after, EachBeside}
 use Rattle.weak_apa.specs.WeakText.{comparison_line, weak_heading, IsWeakTextOf}
 use Rattle.weak_apa.specs.declared.comparison.Comparison.{Comparison}
-use Rattle.weak_step.proofs.Alike.{alike_then}
-use Rattle.weak_step.proofs.Followed.{strong_step_follows}
+use Rattle.weak_apa.proofs.Alike.{alike_then}
+use Rattle.weak_apa.proofs.Followed.{strong_step_follows}
 use Rattle.weak_apa.proofs.NoBetter.{no_better}
 
 -- ---- one more

@@ -10,8 +10,8 @@ use Rattle.link_state.specs.Placement.{IsPlaceable, IsSubset, IsBetter}
 use Rattle.link_state.proofs.Linked.{place_in, task_on-linked}
 use Rattle.certificate_laws.specs.Certified.{HasCertificates}
 use Rattle.certificate_laws.proofs.Best.{linked_is_best, linked_is_largest}
-use Rattle.weak_step.specs.Stable.{IsWeaklyStable}
-use Rattle.weak_step.specs.Step.{without_links}
+use Rattle.weak_apa.specs.Stable.{IsWeaklyStable}
+use Rattle.weak_apa.specs.Step.{without_links}
 use Rattle.weak_apa.specs.Compared.{Compares, IsNoBetter, IsFirstApart, linked_count}
 use Rattle.weak_apa.specs.declared.comparison.Comparison.{Comparison}
 

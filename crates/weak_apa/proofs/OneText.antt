@@ -11,7 +11,7 @@ use Rattle.link_state.proofs.Linked.{place_in, task_on-linked, linked_number}
 use Rattle.link_state.proofs.Start.{IsState-start}
 use Rattle.link_state.proofs.Steps.{step_keeps_state}
 use Rattle.link_state.proofs.Unique.{step_is_unique}
-use Rattle.weak_step.proofs.Unique.{weak_step_is_unique, weak_step_keeps_state}
+use Rattle.weak_apa.proofs.Unique.{weak_step_is_unique, weak_step_keeps_state}
 use Rattle.weak_apa.specs.Compared.{Compares, IsNoBetter, IsFirstApart, IsWeakRun, IsFoundOf, EachBeside, states_after}
 use Rattle.weak_apa.specs.Laws.{EventsHaveOneText}
 use Rattle.weak_apa.specs.WeakText.{weak_text}

@@ -9,8 +9,8 @@ use Rattle.link_state.specs.Placement.{IsBetter}
 use Rattle.link_state.specs.History.{IsLegal, effect_of}
 use Rattle.certificate_laws.specs.Laws.{LinkedIsBest}
 use Rattle.certificate_laws.specs.Ranks.{tasks_of}
-use Rattle.weak_step.specs.Stable.{IsWeaklyStable}
-use Rattle.weak_step.specs.Step.{WeakStep}
+use Rattle.weak_apa.specs.Stable.{IsWeaklyStable}
+use Rattle.weak_apa.specs.Step.{WeakStep}
 use Rattle.weak_apa.specs.declared.comparison.Comparison.{Comparison}
 
 -- how many tasks are linked

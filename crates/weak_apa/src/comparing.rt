@@ -7,12 +7,12 @@ ghost use Rattle.weak_apa.specs.Start.{new_core};
 ghost use Rattle.weak_apa.specs.WeakText.{IsWeakTextOf, weak_heading};
 
 use crate::comparison::Comparison;
+use crate::weak::Weak;
 use affinity_mask::OutOfMemory;
 use sched_core::{Core, CoreFault};
 use std::alloc::Global;
 use text_fields::write_number;
 use trace_reader::{Input, Posted};
-use weak_step::Weak;
 
 /// The text that compares what the weak and the strong scheduler do at the events of an input, in the order of their
 /// lines. Refused only where memory runs out.

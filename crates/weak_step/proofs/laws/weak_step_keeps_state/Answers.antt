@@ -1,5 +1,0 @@
-use Rattle.weak_step.proofs.Unique as unique
-use Rattle.weak_step.proofs.laws.weak_step_keeps_state.Goals as goal
-
-pub returns : goal.returns
-returns c = unique.weak_step_keeps_state
