@@ -1,10 +1,10 @@
 -- What is read is the text of one input, and its jobs have one text.
 use Rattle.std.proofs.Common.{sym, ap, ◌∙◌, subst}
-use Rattle.job_text.specs.JobInput.{JobInputData}
-use Rattle.job_text.proofs.Decided.{text_has_one_input, text_is_of_valid_input}
-use Rattle.job_laws.specs.Driven.{RunsJobs}
-use Rattle.job_laws.specs.JobsText.{jobs_text}
-use Rattle.job_laws.proofs.OneRun.{input_has_one_text}
+use Rattle.job_release.specs.JobInput.{JobInputData}
+use Rattle.job_release.proofs.Decided.{text_has_one_input, text_is_of_valid_input}
+use Rattle.job_release.specs.Driven.{RunsJobs}
+use Rattle.job_release.specs.JobsText.{jobs_text}
+use Rattle.job_release.proofs.OneRun.{input_has_one_text}
 use Rattle.commands.specs.JobsLaws.{JobsTextIsUnique}
 
 pub jobs_text_is_unique : JobsTextIsUnique

@@ -1,11 +1,11 @@
 -- Why there is no text: the bytes are refused, or memory was.
 use Rattle.std.proofs.Common.{◌≡◌, ℕ, ◌⊎◌, List, Option, None, Some, Err, refl, ap, inl, inr}
-use Rattle.job_text.specs.JobFault.{kind_number}
-use Rattle.job_text.specs.JobInput.{JobInputData}
-use Rattle.job_text.specs.JobText.{IsJobText, IsJobRefused}
-use Rattle.job_text.specs.declared.fault.JobFault.{JobFault}
-use Rattle.job_text.specs.declared.fault.JobKind.{JobKind}
-use Rattle.job_text.specs.declared.fault.JobKind.TheVariants as kind
+use Rattle.job_release.specs.JobFault.{kind_number}
+use Rattle.job_release.specs.JobInput.{JobInputData}
+use Rattle.job_release.specs.JobText.{IsJobText, IsJobRefused}
+use Rattle.job_release.specs.declared.fault.JobFault.{JobFault}
+use Rattle.job_release.specs.declared.fault.JobKind.{JobKind}
+use Rattle.job_release.specs.declared.fault.JobKind.TheVariants as kind
 use Rattle.commands.specs.Answers.{Answers}
 use Rattle.commands.specs.Status.{status_of_number}
 use Rattle.commands.specs.declared.status.Status.{Status}

@@ -1,13 +1,13 @@
 -- From the bytes of an input of periodic jobs to those of their finishes and responses.
 use Rattle.std.specs.Prelude.{◌≡◌, ℕ, List, Some}
 use Rattle.scheduler_reply.specs.declared.reply.Entry.{Entry}
-use Rattle.job_text.specs.JobFault.{kind_number}
-use Rattle.job_text.specs.JobInput.{JobInputData}
-use Rattle.job_text.specs.JobText.{IsJobText, IsJobRefused}
-use Rattle.job_text.specs.declared.fault.JobFault.{JobFault}
-use Rattle.job_text.specs.declared.fault.JobKind.{JobKind}
-use Rattle.job_laws.specs.Driven.{RunsJobs}
-use Rattle.job_laws.specs.JobsText.{jobs_text}
+use Rattle.job_release.specs.JobFault.{kind_number}
+use Rattle.job_release.specs.JobInput.{JobInputData}
+use Rattle.job_release.specs.JobText.{IsJobText, IsJobRefused}
+use Rattle.job_release.specs.declared.fault.JobFault.{JobFault}
+use Rattle.job_release.specs.declared.fault.JobKind.{JobKind}
+use Rattle.job_release.specs.Driven.{RunsJobs}
+use Rattle.job_release.specs.JobsText.{jobs_text}
 use Rattle.commands.specs.Refusal.{IsAnsweredInput}
 use Rattle.commands.specs.Status.{status_of_number}
 use Rattle.commands.specs.declared.status.Status.{Status}

@@ -5,8 +5,7 @@ ghost use Rattle.commands.specs.JobsRun.{AcceptsJobs, IsJobsOf, IsTextOfRun, Ref
 
 use crate::status::Status;
 use affinity_mask::OutOfMemory;
-use job_release::{drive_jobs, write_jobs};
-use job_text::{JobFault, JobInput, read_jobs};
+use job_release::{JobFault, JobInput, drive_jobs, read_jobs, write_jobs};
 use std::alloc::Global;
 
 /// The finishes and responses of the jobs of the input that these bytes are, or the status that says why there are none.

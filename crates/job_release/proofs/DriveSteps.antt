@@ -13,15 +13,15 @@ use Rattle.scheduler_reply.specs.declared.reply.Entry.{Entry}
 use Rattle.link_state.specs.State.{State, task_count, is_ready}
 use Rattle.link_state.proofs.SameTasks.{same_tasks-step, same_count}
 use Rattle.sched_core.specs.CoreData.{CoreData, IsCore, Applied, entry_of}
-use Rattle.job_text.specs.Jobs.{release_of, job_count, total_jobs}
-use Rattle.job_text.specs.declared.input.JobTask.{JobTask}
-use Rattle.job_text.proofs.Released.{released_at_least}
-use Rattle.job_laws.specs.Driven.{IsJobEvent}
+use Rattle.job_release.specs.Jobs.{release_of, job_count, total_jobs}
+use Rattle.job_release.specs.declared.input.JobTask.{JobTask}
+use Rattle.job_release.proofs.Released.{released_at_least}
+use Rattle.job_release.specs.Driven.{IsJobEvent}
 use Rattle.job_release.specs.Driving.{IsDriving, IsRowAt, Mark, grown, settled, supplied, row_at, work_of, jobs_of, done_of, goal_of, HasCost, HasWork}
-use Rattle.job_laws.specs.Moments.{elapsed, units_of, state_at}
+use Rattle.job_release.specs.Moments.{elapsed, units_of, state_at}
 use Rattle.job_release.specs.declared.row.JobRow.{JobRow}
-use Rattle.job_laws.proofs.Moments.{elapsed_push, state_before}
-use Rattle.job_laws.proofs.Readied.{ready_arrived, ready_beside_arrived, ready_departed, ready_beside_departed}
+use Rattle.job_release.proofs.Moments.{elapsed_push, state_before}
+use Rattle.job_release.proofs.Readied.{ready_arrived, ready_beside_arrived, ready_departed, ready_beside_departed}
 use Rattle.job_release.proofs.RowSteps.{Agree, row_kept}
 use Rattle.job_release.proofs.RowChanges.{row_not_settled, row_settled, row_not_supplied, row_supplied}
 use Rattle.job_release.proofs.WorkSums.{sum_within, total_of_rows, count_within_total, work_most}

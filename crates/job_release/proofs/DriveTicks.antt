@@ -8,13 +8,13 @@ use Rattle.link_state.specs.State.{State, IsState, task_count, is_ready, is_link
 use Rattle.link_state.specs.History.{state_after}
 use Rattle.link_state.proofs.Linked.{task_on-linked, place_in}
 use Rattle.sched_core.specs.CoreData.{CoreData, IsCore, Applied, entry_of}
-use Rattle.job_text.specs.Jobs.{release_of}
-use Rattle.job_text.specs.declared.input.JobTask.{JobTask}
-use Rattle.job_laws.specs.Driven.{IsJobEvent}
+use Rattle.job_release.specs.Jobs.{release_of}
+use Rattle.job_release.specs.declared.input.JobTask.{JobTask}
+use Rattle.job_release.specs.Driven.{IsJobEvent}
 use Rattle.job_release.specs.Driving.{IsDriving, IsRowAt, grown, supplied, row_at, work_of, jobs_of, done_of, goal_of, IsNextMoment, IsDueAt, RowsRun, RowRuns}
-use Rattle.job_laws.specs.Moments.{elapsed, state_at}
+use Rattle.job_release.specs.Moments.{elapsed, state_at}
 use Rattle.job_release.specs.declared.row.JobRow.{JobRow}
-use Rattle.job_laws.proofs.Moments.{elapsed_push, state_from, state_with_tick}
+use Rattle.job_release.proofs.Moments.{elapsed_push, state_from, state_with_tick}
 use Rattle.job_release.proofs.RowSteps.{Agree, row_kept, row_ran}
 use Rattle.job_release.proofs.WorkSums.{sum_of_less, sum_of_one_less, work_least, work_without, work_with_release, work_with_finish}
 

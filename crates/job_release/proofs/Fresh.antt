@@ -6,11 +6,11 @@ use Rattle.std.proofs.lemmas.List.{get_or_append_left, get_or_at}
 use Rattle.link_state.specs.State.{State, start_of, task_count, is_ready}
 use Rattle.link_state.proofs.Start.{none_ready}
 use Rattle.sched_core.specs.CoreData.{CoreData, IsCore}
-use Rattle.job_text.specs.JobInput.{JobInputData, IsJobInput, IsJobTask, job_at, no_job}
-use Rattle.job_text.specs.declared.input.JobTask.{JobTask}
+use Rattle.job_release.specs.JobInput.{JobInputData, IsJobInput, IsJobTask, job_at, no_job}
+use Rattle.job_release.specs.declared.input.JobTask.{JobTask}
 use Rattle.job_release.specs.Driving.{AreFresh, IsFresh, IsRowAt, IsDriving, jobs_of, row_at, settled}
 use Rattle.job_release.specs.declared.row.JobRow.{JobRow}
-use Rattle.job_laws.proofs.Moments.{no_service}
+use Rattle.job_release.proofs.Moments.{no_service}
 
 -- ---- the list of rows
 pub fresh_none : (jobs : List JobTask) (rows : List JobRow) → rows ≡ [] → AreFresh jobs 0 rows

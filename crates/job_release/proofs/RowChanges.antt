@@ -5,9 +5,9 @@ use Rattle.std.proofs.lemmas.Bool.{cases_lt}
 use Rattle.std.proofs.lemmas.List.{get_or_append_left, get_or_at}
 use Rattle.scheduler_reply.specs.declared.reply.Entry.{Entry}
 use Rattle.link_state.specs.State.{State}
-use Rattle.job_text.specs.Jobs.{release_of}
+use Rattle.job_release.specs.Jobs.{release_of}
 use Rattle.job_release.specs.Driving.{IsRowAt, done_of, goal_of, HasWork, HasCost, grown, settled, supplied}
-use Rattle.job_laws.specs.Moments.{IsFinish}
+use Rattle.job_release.specs.Moments.{IsFinish}
 use Rattle.job_release.specs.declared.row.JobRow.{JobRow}
 
 module _ (start : State) (history : List Entry) (flag : Bool) (moment t : ℕ) (row : JobRow) where

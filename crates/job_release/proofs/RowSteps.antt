@@ -4,13 +4,13 @@ use Rattle.std.proofs.Math.Nat.{mul-le-mul_right}
 use Rattle.std.proofs.lemmas.Bool.{cases_Bool, cases_lt}
 use Rattle.scheduler_reply.specs.declared.reply.Entry.{Entry}
 use Rattle.link_state.specs.State.{State, is_ready, is_linked}
-use Rattle.job_text.specs.Jobs.{released_by}
-use Rattle.job_text.proofs.Released.{released_is}
-use Rattle.job_laws.specs.Driven.{IsReadyWhileWorkIsLeft, GetsNoMore}
+use Rattle.job_release.specs.Jobs.{released_by}
+use Rattle.job_release.proofs.Released.{released_is}
+use Rattle.job_release.specs.Driven.{IsReadyWhileWorkIsLeft, GetsNoMore}
 use Rattle.job_release.specs.Driving.{IsRowAt, Mark, done_of, goal_of, HasWork, grown, supplied, IsNotAfter, RowRuns}
-use Rattle.job_laws.specs.Moments.{state_at, service_of, IsFinish}
+use Rattle.job_release.specs.Moments.{state_at, service_of, IsFinish}
 use Rattle.job_release.specs.declared.row.JobRow.{JobRow}
-use Rattle.job_laws.proofs.Moments.{same_service, service_while}
+use Rattle.job_release.proofs.Moments.{same_service, service_while}
 
 -- ---- a history grows
 -- both histories give the same states below the moment

@@ -8,15 +8,15 @@ use Rattle.link_state.specs.State.{State, start_of, is_ready}
 use Rattle.link_state.specs.History.{IsLegal, IsLegalFrom}
 use Rattle.certificate_laws.proofs.Kept.{legal_is_best}
 use Rattle.sched_core.specs.CoreData.{CoreData}
-use Rattle.job_text.specs.JobInput.{JobInputData, job_at, no_job}
-use Rattle.job_text.specs.declared.input.JobTask.{JobTask}
-use Rattle.job_text.proofs.Released.{released_is}
-use Rattle.job_laws.specs.Driven.{RunsJobs, RunsTheBest, IsReadyWhileWorkIsLeft, GetsNoMore}
+use Rattle.job_release.specs.JobInput.{JobInputData, job_at, no_job}
+use Rattle.job_release.specs.declared.input.JobTask.{JobTask}
+use Rattle.job_release.proofs.Released.{released_is}
+use Rattle.job_release.specs.Driven.{RunsJobs, RunsTheBest, IsReadyWhileWorkIsLeft, GetsNoMore}
 use Rattle.job_release.specs.Driving.{IsDriving, IsRowAt, Mark, settled, jobs_of, row_at, done_of, goal_of}
-use Rattle.job_laws.specs.Moments.{service_of, IsFinish}
+use Rattle.job_release.specs.Moments.{service_of, IsFinish}
 use Rattle.job_release.specs.RunView.{RowIsKept}
 use Rattle.job_release.specs.declared.row.JobRow.{JobRow}
-use Rattle.job_laws.proofs.Moments.{state_by_entries}
+use Rattle.job_release.proofs.Moments.{state_by_entries}
 
 -- ---- the row of a task at the end
 pub row_at_end : (core : CoreData) (start : State) (horizon t : ℕ) (row : JobRow) → core.start ≡ start → IsRowAt start core.history (is_ready core.links t) horizon (settled horizon) t row → RowIsKept core horizon t row

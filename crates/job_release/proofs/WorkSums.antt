@@ -1,7 +1,7 @@
 -- Sums over rows, and how many entries they account for.
 use Rattle.std.proofs.Common.{◌≡◌, ◌≢◌, ℕ, zero, suc, ◌+◌, ◌*◌, ◌<◌, ◌≤◌, Bool, true, false, List, [], ◌∷◌, length, get_or, sum_by, ◌==◌, if◌then◌else◌, refl, sym, ap, ◌∙◌, arith, eq-eqb, ne_eqb}
 use Rattle.std.proofs.lemmas.List.Sums.{sum_by-cons, get_or-le-sum_by}
-use Rattle.job_text.specs.Jobs.{release_of, job_count, total_jobs}
+use Rattle.job_release.specs.Jobs.{release_of, job_count, total_jobs}
 use Rattle.job_release.specs.Driving.{work_of, done_of, goal_of, jobs_of}
 use Rattle.job_release.specs.declared.row.JobRow.{JobRow}
 

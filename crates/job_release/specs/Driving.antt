@@ -4,11 +4,11 @@ use Rattle.std.specs.Prelude.{◌≡◌, ℕ, ◌+◌, ◌*◌, ◌<◌, ◌≤�
 use Rattle.scheduler_reply.specs.declared.reply.Entry.{Entry}
 use Rattle.link_state.specs.State.{State, start_of, task_count, is_ready, is_linked}
 use Rattle.sched_core.specs.CoreData.{CoreData, IsCore}
-use Rattle.job_text.specs.Jobs.{release_of, total_jobs}
-use Rattle.job_text.specs.JobInput.{JobInputData, IsJobTask, job_at}
-use Rattle.job_text.specs.declared.input.JobTask.{JobTask}
-use Rattle.job_laws.specs.Driven.{IsJobEvent, IsReadyWhileWorkIsLeft, GetsNoMore}
-use Rattle.job_laws.specs.Moments.{elapsed, service_of, IsFinish}
+use Rattle.job_release.specs.Jobs.{release_of, total_jobs}
+use Rattle.job_release.specs.JobInput.{JobInputData, IsJobTask, job_at}
+use Rattle.job_release.specs.declared.input.JobTask.{JobTask}
+use Rattle.job_release.specs.Driven.{IsJobEvent, IsReadyWhileWorkIsLeft, GetsNoMore}
+use Rattle.job_release.specs.Moments.{elapsed, service_of, IsFinish}
 use Rattle.job_release.specs.declared.driver.Driver.{Driver}
 use Rattle.job_release.specs.declared.row.JobRow.{JobRow}
 

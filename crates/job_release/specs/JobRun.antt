@@ -2,9 +2,9 @@
 use Rattle.std.specs.Prelude.{◌≡◌, ℕ, List}
 use Rattle.link_state.specs.State.{start_of}
 use Rattle.sched_core.specs.CoreData.{CoreData, IsCore}
-use Rattle.job_text.specs.JobInput.{JobInputData}
-use Rattle.job_text.specs.declared.input.JobTask.{JobTask}
-use Rattle.job_laws.specs.Driven.{RunsJobs}
+use Rattle.job_release.specs.JobInput.{JobInputData}
+use Rattle.job_release.specs.declared.input.JobTask.{JobTask}
+use Rattle.job_release.specs.Driven.{RunsJobs}
 
 -- what contracts see of a run
 pub record JobRunData : Type 0 where

@@ -1,3 +1,13 @@
+pub mod Driven
 pub mod Driving
+pub mod JobFault
+pub mod JobInput
 pub mod JobRun
+pub mod JobText
+pub mod Jobs
+pub mod JobsText
+pub mod Laws
+pub mod Moments
+pub mod Reading
 pub mod RunView
+pub mod TextLaws

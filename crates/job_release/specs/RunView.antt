@@ -1,10 +1,10 @@
 -- What contracts see of a run, and what its stored parts keep.
 use Rattle.std.specs.Prelude.{◌≡◌, ℕ, ◌<◌, ◌≤◌, length, get_or}
 use Rattle.sched_core.specs.CoreData.{CoreData, IsCore}
-use Rattle.job_text.specs.Jobs.{job_count}
+use Rattle.job_release.specs.Jobs.{job_count}
 use Rattle.job_release.specs.Driving.{IsRow, done_of, jobs_of, row_at}
 use Rattle.job_release.specs.JobRun.{JobRunData}
-use Rattle.job_laws.specs.Moments.{IsFinish, IsUnfinished}
+use Rattle.job_release.specs.Moments.{IsFinish, IsUnfinished}
 use Rattle.job_release.specs.declared.row.JobRow.{JobRow}
 use Rattle.job_release.specs.declared.run.JobRun.TheInside.{Inside}
 

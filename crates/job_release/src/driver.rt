@@ -6,9 +6,9 @@ ghost use Rattle.sched_core.specs.CoreData.{IsCore, Applied, max_entries};
 ghost use Rattle.job_release.specs.Driving.{AreFresh, Begins, Drives, IsAt, IsDriving, IsEarlier, IsNextMoment, RowsRun, row_at, grown, settled, supplied, jobs_of};
 ghost use Rattle.job_release.specs.declared.row.JobRow.{JobRow};
 
+use crate::input::JobInput;
 use crate::row::JobRow;
 use affinity_mask::OutOfMemory;
-use job_text::JobInput;
 use link_table::Links;
 use sched_core::{Core, CoreFault};
 use std::alloc::Global;

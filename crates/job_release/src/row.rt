@@ -1,9 +1,9 @@
 //! The jobs of a task while they are driven.
 ghost use Rattle.std.specs.Prelude.{◌≡◌, ◌<◌, ◌≤◌, ◌+◌, ◌*◌, ◌↔◌, ◌⊎◌, IsTrue, true, length};
-ghost use Rattle.job_text.specs.Jobs.{release_of};
+ghost use Rattle.job_release.specs.Jobs.{release_of};
 ghost use Rattle.job_release.specs.Driving.{IsRow, IsFresh, done_of, goal_of, HasWork, HasCost, IsNotAfter, IsDueAt};
 
-use job_text::JobTask;
+use crate::input::JobTask;
 use std::alloc::Global;
 
 /// The jobs of a task so far.

@@ -1,15 +1,15 @@
 //! Runs of periodic jobs.
 ghost use Rattle.std.specs.Prelude.{◌≡◌, ◌<◌, ℕ, IfOk, length, MatchOption};
-ghost use Rattle.job_text.specs.Jobs.{job_count};
-ghost use Rattle.job_text.specs.JobInput.{job_at};
+ghost use Rattle.job_release.specs.Jobs.{job_count};
+ghost use Rattle.job_release.specs.JobInput.{job_at};
 ghost use Rattle.job_release.specs.Driving.{IsAt, settled, jobs_of};
 ghost use Rattle.job_release.specs.JobRun.{IsRunOf, IsRun};
-ghost use Rattle.job_laws.specs.Moments.{IsFinish, IsUnfinished};
+ghost use Rattle.job_release.specs.Moments.{IsFinish, IsUnfinished};
 
 use crate::driver::Driver;
+use crate::input::JobInput;
 use crate::row::JobRow;
 use affinity_mask::OutOfMemory;
-use job_text::JobInput;
 use sched_core::Core;
 use std::alloc::Global;
 use std::marker::Model;
@@ -79,7 +79,7 @@ impl JobRun {
     }
 
     /// When job k of a task is finished, if it is by the horizon. In a run of an input that is at least the cost after its
-    /// release: [`finish_follows_release`](job_laws::laws::finish_follows_release).
+    /// release: [`finish_follows_release`](crate::laws::finish_follows_release).
     pub fn finish(&self, t: u32, k: u32) -> Option<u32>
         requires task { t < length self.now.jobs }
         requires job { k < job_count self.now.horizon (job_at self.now.jobs t) }

@@ -2,11 +2,11 @@
 ghost use Rattle.std.specs.Prelude.{◌≡◌, ◌<◌, ◌≤◌, ◌++◌, IfOk, OnOk, IfSome, length};
 ghost use Rattle.std.specs.List.{flat_map, range_with_len};
 ghost use Rattle.job_release.specs.JobRun.{IsRunOf};
-ghost use Rattle.job_laws.specs.JobsText.{jobs_text, job_line, lines_of_task, response_text};
+ghost use Rattle.job_release.specs.JobsText.{jobs_text, job_line, lines_of_task, response_text};
 
+use crate::input::JobInput;
 use crate::run::JobRun;
 use affinity_mask::OutOfMemory;
-use job_text::JobInput;
 use std::alloc::Global;
 use text_fields::write_number;
 

@@ -22,8 +22,8 @@ use Rattle.link_state.specs.Placement.{TaskTest, IsSubset, IsPlaceable}
 use Rattle.link_state.specs.Dispatch.{closed_orders_of}
 use Rattle.link_state.proofs.Paths.{Reaches-online}
 use Rattle.trace_reader.specs.declared.posted.Posted.{Posted}
-use Rattle.job_text.specs.JobInput.{JobInputData}
-use Rattle.job_text.specs.declared.input.JobTask.{JobTask}
+use Rattle.job_release.specs.JobInput.{JobInputData}
+use Rattle.job_release.specs.declared.input.JobTask.{JobTask}
 use Rattle.scheduling_laws.specs.Faces.{IsCertifiedByReach}
 use Rattle.scheduling_laws.specs.Going.{IsRun, times_taken, times_released, CanBeObeyed}
 use Rattle.scheduling_laws.specs.InReach.{IsWorkConserving, HasNoInversion}

@@ -10,14 +10,14 @@ use Rattle.link_state.specs.State.{start_of, task_count, is_ready, is_linked}
 use Rattle.link_state.specs.Placement.{TaskTest, IsBest}
 use Rattle.link_state.proofs.BestOnce.{best_is_unique}
 use Rattle.certificate_laws.proofs.Counts.{count_below-more, count_below-same}
-use Rattle.job_text.specs.Jobs.{released_by}
-use Rattle.job_text.specs.JobInput.{JobInputData, IsJobInput, job_at}
-use Rattle.job_text.specs.declared.input.JobTask.{JobTask}
-use Rattle.job_laws.specs.Driven.{RunsJobs}
-use Rattle.job_laws.specs.JobsText.{first_upto}
-use Rattle.job_laws.specs.Moments.{state_at, service_of}
-use Rattle.job_laws.proofs.Moments.{no_service}
-use Rattle.job_laws.proofs.OneRun.{same_answer, best_at_start, none_beyond, same_first}
+use Rattle.job_release.specs.Jobs.{released_by}
+use Rattle.job_release.specs.JobInput.{JobInputData, IsJobInput, job_at}
+use Rattle.job_release.specs.declared.input.JobTask.{JobTask}
+use Rattle.job_release.specs.Driven.{RunsJobs}
+use Rattle.job_release.specs.JobsText.{first_upto}
+use Rattle.job_release.specs.Moments.{state_at, service_of}
+use Rattle.job_release.proofs.Moments.{no_service}
+use Rattle.job_release.proofs.OneRun.{same_answer, best_at_start, none_beyond, same_first}
 use Rattle.scheduling_laws.specs.Urgency.{urgent_of}
 use Rattle.scheduling_laws.specs.Isolation.{IsUrgent, AgreeUpTo, UrgentServiceIsIsolated, UrgentFinishIsIsolated}
 use Rattle.scheduling_laws.proofs.BestElsewhere.{IsSameOn, IsBest-on}

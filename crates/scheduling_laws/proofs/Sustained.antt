@@ -13,12 +13,12 @@ use Rattle.link_state.proofs.Start.{IsState-start}
 use Rattle.link_state.proofs.Least.{Decided}
 use Rattle.certificate_laws.proofs.Counts.{count_below-more, count_below-same}
 use Rattle.certificate_laws.proofs.FirstFound.{first_below}
-use Rattle.job_text.specs.Jobs.{released_by}
-use Rattle.job_text.specs.JobInput.{JobInputData, IsJobInput, job_at}
-use Rattle.job_text.specs.declared.input.JobTask.{JobTask}
-use Rattle.job_laws.specs.Driven.{RunsJobs}
-use Rattle.job_laws.specs.Moments.{state_at, service_of}
-use Rattle.job_laws.proofs.Moments.{no_service}
+use Rattle.job_release.specs.Jobs.{released_by}
+use Rattle.job_release.specs.JobInput.{JobInputData, IsJobInput, job_at}
+use Rattle.job_release.specs.declared.input.JobTask.{JobTask}
+use Rattle.job_release.specs.Driven.{RunsJobs}
+use Rattle.job_release.specs.Moments.{state_at, service_of}
+use Rattle.job_release.proofs.Moments.{no_service}
 use Rattle.scheduling_laws.specs.Isolation.{IsUrgent}
 use Rattle.scheduling_laws.specs.Sustained.{AsksNoMoreUpTo, ShorterJobsKeepUp, ShorterJobsFinishNoLater}
 use Rattle.scheduling_laws.proofs.Isolation.{urgent_ready, urgent_linked, ready_is_urgent, urgent_best}

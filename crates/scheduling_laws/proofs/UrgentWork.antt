@@ -9,7 +9,7 @@ use Rattle.certificate_laws.specs.Certified.{HasCertificates}
 use Rattle.certificate_laws.specs.Laws.{HoldsThroughout}
 use Rattle.certificate_laws.proofs.Fullness.{linked_keeps_up}
 use Rattle.certificate_laws.proofs.Kept.{legal_is_certified}
-use Rattle.job_laws.specs.Moments.{units_of}
+use Rattle.job_release.specs.Moments.{units_of}
 use Rattle.scheduling_laws.specs.UrgentWork.{IsChoice, urgent_work, LinkedDoesMostWork}
 
 linked_does_most : (bound : ℕ) (s : State) (history : List Entry) (chosen : ℕ → TaskTest) → HoldsThroughout (λ s. IsState s × HasCertificates s) s history → IsChoice s history chosen

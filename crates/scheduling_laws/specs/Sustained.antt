@@ -2,9 +2,9 @@
 use Rattle.std.specs.Prelude.{◌≡◌, ℕ, ◌*◌, ◌≤◌, List}
 use Rattle.scheduler_reply.specs.declared.reply.Entry.{Entry}
 use Rattle.link_state.specs.State.{start_of, priority_of, mask_of}
-use Rattle.job_text.specs.JobInput.{JobInputData, IsJobInput, job_at}
-use Rattle.job_laws.specs.Driven.{RunsJobs}
-use Rattle.job_laws.specs.Moments.{service_of, IsFinish}
+use Rattle.job_release.specs.JobInput.{JobInputData, IsJobInput, job_at}
+use Rattle.job_release.specs.Driven.{RunsJobs}
+use Rattle.job_release.specs.Moments.{service_of, IsFinish}
 use Rattle.scheduling_laws.specs.Isolation.{IsUrgent}
 
 -- t has the same priority and the same mask in both inputs, and its jobs are released at the same moments; in the other input

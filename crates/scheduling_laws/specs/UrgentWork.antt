@@ -8,7 +8,7 @@ use Rattle.link_state.specs.State.{State, start_of, is_ready}
 use Rattle.link_state.specs.History.{IsLegal, effect_of, state_after, linked_after}
 use Rattle.link_state.specs.Placement.{TaskTest, IsSubset, IsPlaceable}
 use Rattle.certificate_laws.specs.Ranks.{tasks_within}
-use Rattle.job_laws.specs.Moments.{units_of}
+use Rattle.job_release.specs.Moments.{units_of}
 
 -- after n entries the tasks `chosen n` are ready, and can be placed
 abbrev pub IsChoice : State → List Entry → (ℕ → TaskTest) → Type 0

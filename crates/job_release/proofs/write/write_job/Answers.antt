@@ -1,4 +1,4 @@
-use Rattle.job_laws.proofs.JobsWritten.{job_written}
+use Rattle.job_release.proofs.JobsWritten.{job_written}
 use Rattle.job_release.proofs.write.write_job.Goals as goal
 
 pub returns : goal.returns

@@ -1,4 +1,4 @@
-use Rattle.job_laws.proofs.JobsWritten.{text_written}
+use Rattle.job_release.proofs.JobsWritten.{text_written}
 use Rattle.job_release.proofs.write.write_jobs.Goals as goal
 
 pub returns : goal.returns

@@ -2,12 +2,12 @@ use Rattle.std.proofs.Common.{◌≡◌, ◌≤◌, ℕ, IfSome, refl, sym, ap, 
 use Rattle.link_state.specs.State.{start_of}
 use Rattle.text_fields.specs.EventText.{name_of}
 use Rattle.text_fields.proofs.NamedTasks.{named_task}
-use Rattle.job_text.specs.Jobs.{release_of}
-use Rattle.job_text.specs.JobInput.{job_at}
-use Rattle.job_text.specs.declared.input.JobTask.{JobTask}
-use Rattle.job_laws.specs.JobsText.{line_of_job, finish_of}
-use Rattle.job_laws.proofs.Finishes.{released_before_finish}
-use Rattle.job_laws.proofs.JobsWritten.{pieces_more, finish_is}
+use Rattle.job_release.specs.Jobs.{release_of}
+use Rattle.job_release.specs.JobInput.{job_at}
+use Rattle.job_release.specs.declared.input.JobTask.{JobTask}
+use Rattle.job_release.specs.JobsText.{line_of_job, finish_of}
+use Rattle.job_release.proofs.Finishes.{released_before_finish}
+use Rattle.job_release.proofs.JobsWritten.{pieces_more, finish_is}
 use Rattle.job_release.proofs.write.write_task.Goals as goal
 
 pub loop-k-preserved : goal.loop-k-preserved

@@ -1,8 +1,8 @@
 use Rattle.std.proofs.Common.{◌≡◌, ◌++◌}
 use Rattle.std.specs.List.{flat_map, range_with_len}
-use Rattle.job_text.specs.Jobs.{job_count}
-use Rattle.job_text.specs.JobInput.{job_at}
-use Rattle.job_laws.specs.JobsText.{line_of_job}
+use Rattle.job_release.specs.Jobs.{job_count}
+use Rattle.job_release.specs.JobInput.{job_at}
+use Rattle.job_release.specs.JobsText.{line_of_job}
 use Rattle.job_release.proofs.write.write_task.Given as goal
 
 abbrev pub invariant-loop-k : goal.invariant-loop-k

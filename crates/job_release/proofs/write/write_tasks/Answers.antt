@@ -1,6 +1,6 @@
 use Rattle.std.proofs.Common.{refl}
-use Rattle.job_laws.specs.JobsText.{lines_of_task}
-use Rattle.job_laws.proofs.JobsWritten.{pieces_more}
+use Rattle.job_release.specs.JobsText.{lines_of_task}
+use Rattle.job_release.proofs.JobsWritten.{pieces_more}
 use Rattle.job_release.proofs.write.write_tasks.Goals as goal
 
 pub loop-t-preserved : goal.loop-t-preserved

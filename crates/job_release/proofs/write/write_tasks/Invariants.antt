@@ -1,6 +1,6 @@
 use Rattle.std.proofs.Common.{◌≡◌, ◌++◌, length}
 use Rattle.std.specs.List.{flat_map, range_with_len}
-use Rattle.job_laws.specs.JobsText.{lines_of_task}
+use Rattle.job_release.specs.JobsText.{lines_of_task}
 use Rattle.job_release.proofs.write.write_tasks.Given as goal
 
 abbrev pub invariant-loop-t : goal.invariant-loop-t

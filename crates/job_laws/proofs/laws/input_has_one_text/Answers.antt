@@ -1,8 +1,0 @@
-use Rattle.job_laws.proofs.OneRun.{input_has_one_service, input_has_one_text}
-use Rattle.job_laws.proofs.laws.input_has_one_text.Goals as goal
-
-pub returns-clause-service : goal.returns-clause-service
-returns-clause-service c = input_has_one_service
-
-pub returns-clause-text : goal.returns-clause-text
-returns-clause-text c = input_has_one_text

@@ -1,4 +1,0 @@
-pub mod Driven
-pub mod JobsText
-pub mod Laws
-pub mod Moments
