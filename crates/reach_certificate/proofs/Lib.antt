@@ -1,5 +1,7 @@
 pub mod Accepted
+pub mod Admissions
 pub mod Alone
+pub mod BestFound
 pub mod CatchingUp
 pub mod ChainEnds
 pub mod ChainPlaces
@@ -13,9 +15,12 @@ pub mod Entering
 pub mod Feeders
 pub mod Fitting
 pub mod Following
+pub mod Greedy
 pub mod Judgements
+pub mod MostUrgent
 pub mod Online
 pub mod PartDefects
 pub mod PartJudgements
 pub mod Returning
+pub mod Searches
 pub mod Seen

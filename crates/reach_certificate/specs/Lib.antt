@@ -1,3 +1,5 @@
+pub mod Admission
+pub mod Best
 pub mod CaughtUp
 pub mod Checker
 pub mod CheckerView
@@ -5,5 +7,7 @@ pub mod Contexts
 pub mod ContextsView
 pub mod Defect
 pub mod DefectLaws
+pub mod Histories
 pub mod Judging
 pub mod Returning
+pub mod Search

@@ -3,8 +3,7 @@ ghost use Rattle.std.specs.Prelude.{◌<◌, IsTrue, All};
 
 use crate::stated::{set_of, state_of, tasks_of};
 use link_table::Links;
-use placement_laws::{all_certified, best_set};
-use reach_certificate::is_certificate;
+use reach_certificate::{all_certified, best_set, is_certificate};
 use std::alloc::Global;
 use std::process::Abort;
 use std::test::Fail;

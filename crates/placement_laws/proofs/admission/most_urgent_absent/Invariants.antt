@@ -1,5 +1,0 @@
-use Rattle.placement_laws.proofs.MostUrgent.{IsFoundOf}
-use Rattle.placement_laws.proofs.admission.most_urgent_absent.Given as goal
-
-abbrev pub invariant-loop-t : goal.invariant-loop-t
-invariant-loop-t l = IsFoundOf l.links l.tasks l.t-index l.found

@@ -1,5 +1,0 @@
-use Rattle.certificate_laws.proofs.Kept.{passing_is_certified}
-use Rattle.placement_laws.proofs.laws.passing_history_has_certificates.Goals as goal
-
-pub returns : goal.returns
-returns c = passing_is_certified

@@ -1,4 +1,0 @@
-pub mod Admission
-pub mod Best
-pub mod Histories
-pub mod Search
