@@ -39,7 +39,7 @@ full_posted set (suc count) =
     All-cons (IsPostedOf set) (on_first_stream (Tick 1000000)) (replicate count (on_first_stream (Tick 1000000)))
     (tick_posted set 1000000 (lit≤ tt) (lit≤ tt)) (full_posted set count)
 
-million : 0 < 1000000
+pub million : 0 < 1000000
 million = lit< tt
 
 pub ticks_posted : (set : SetData) (units : ℕ) → All (IsPostedOf set) (ticks units)
@@ -141,7 +141,7 @@ pub written_first : (c : CourseData) → IsCourse c → AreOfVersion 1 (written 
 written_first c is = All-append IsOfFirst c.events (ticks (passed c)) is.of_version (ticks_first (passed c))
 
 -- what a mention leads to, by whether it agrees with what is known
-abbrev step_by : Bool → CourseData → Mention → CourseData
+abbrev pub step_by : Bool → CourseData → Mention → CourseData
 step_by b c m =
     if b
     then record c { standings = set c.standings m.task (standing_after m.is_in) }

@@ -138,13 +138,13 @@ fields_decided (Listed c) fields valid = listed c fields valid.0.valid
 fields_decided (Tracing c) fields valid = only _
 
 -- ---- what a line leads to is valid
-same_next : (one two : Progress) → ◌≡◌ {A = LineOutcome} (Leads one) (Leads two) → one ≡ two
+pub same_next : (one two : Progress) → ◌≡◌ {A = LineOutcome} (Leads one) (Leads two) → one ≡ two
 same_next one two e = cc
 
 lead_valid : (next found : Progress) → ◌≡◌ {A = LineOutcome} (Leads next) (Leads found) → IsValid found → IsValid next
 lead_valid next found e valid = subst IsValid (sym (same_next next found e)) valid
 
-fails_not_leads : {A : Type 0} (next : Progress) (kind : TraceKind) → ◌≡◌ {A = LineOutcome} (Leads next) (Fails kind) → A
+pub fails_not_leads : {A : Type 0} (next : Progress) (kind : TraceKind) → ◌≡◌ {A = LineOutcome} (Leads next) (Fails kind) → A
 fails_not_leads next kind e = cc
 
 abbrev IsOfFirst : Posted → Type 0
@@ -250,7 +250,7 @@ mentions_keep c (m ∷ ms) is tasks =
     mentions_keep (after_mention c m) ms first.0
     (subst (λ (s : SetData). AreTasks (length s.tasks) ms) (sym first.1) (All-tail (λ (m : Mention). m.task < length c.set.tasks) m ms tasks))
 
-not_above : (a b : ℕ) → nat_lt a b ≡ false → b ≤ a
+pub not_above : (a b : ℕ) → nat_lt a b ≡ false → b ≤ a
 not_above a b fails = elim (cases_lt a b) [
   | inl below ↦ absurd (true≢false (sym (lt-ltb a b below) ∙ fails))
   | inr from ↦ from
@@ -313,7 +313,7 @@ head_machine = record {
 head_lines : IsMachine HeaderExpected IsValid (IsLineOutcome 4096 true trace_kind IsHeadOutcome) IsEndOutcome
 head_lines = lines_machine 4096 true trace_kind head_machine
 
-line_valid : (expected : Progress) (line : List ℕ) (next : Progress) → IsValid expected → IsLine expected line (Leads next) → IsValid next
+pub line_valid : (expected : Progress) (line : List ℕ) (next : Progress) → IsValid expected → IsLine expected line (Leads next) → IsValid next
 line_valid HeaderExpected line next valid comes = head_lines.keeps HeaderExpected line next valid comes
 line_valid ProcessorsExpected line next valid comes = head_lines.keeps ProcessorsExpected line next valid comes
 line_valid (Listed c) line next valid comes = head_lines.keeps (Listed c) line next valid comes

@@ -1,16 +1,14 @@
 -- What is known after some lines of a trace, in the words of the trace.
-use Rattle.std.proofs.Common.{◌≡◌, ◌≢◌, ℕ, zero, suc, ◌+◌, ◌-◌, ◌*◌, ◌/◌, ◌%◌, ◌<◌, ◌≤◌, ◌⊎◌, ◌==◌, Bool, true, false, nat_eq, nat_lt, List, [], ◌∷◌, ◌++◌, length, get_or, set, take, fold, Option, None, Some, refl, sym, ap, ◌∙◌, subst, inl, inr, arith, append_assoc, append-nil, length-append, length-set, eq-eqb, ne_eqb, add-zero}
-use Rattle.std.specs.Prelude.{All, replicate, if◌then◌else◌}
-use Rattle.std.proofs.lemmas.Bool.{cases_Bool, cases_eq}
+use Rattle.std.proofs.Common.{◌≡◌, ℕ, zero, suc, ◌+◌, ◌*◌, ◌/◌, ◌%◌, ◌<◌, ◌==◌, Bool, true, false, List, [], ◌∷◌, ◌++◌, length, set, fold, Option, Some, refl, sym, ap, ◌∙◌, subst, inl, inr, arith, append_assoc, append-nil, length-set, eq-eqb, ne_eqb, add-zero}
+use Rattle.std.specs.Prelude.{replicate, if◌then◌else◌}
+use Rattle.std.proofs.lemmas.Bool.{cases_eq}
 use Rattle.std.proofs.lemmas.List.Elements.{All-head, All-tail}
 use Rattle.std.proofs.lemmas.List.{get_or-set_same, get_or-set_other}
 use Rattle.std.proofs.lemmas.Nat.{div-add-mod'}
-use Rattle.task_set.specs.TaskSet.{SetData}
-use Rattle.task_set.specs.declared.event.Event.{Event}
 use Rattle.task_set.specs.declared.event.Event.TheVariants.{Arrive, Depart, Tick}
 use Rattle.trace_reader.specs.declared.posted.Posted.{Posted}
-use Rattle.kernel_trace.specs.Course.{CourseData, WindowData, mentions, is_in_window, is_backward, on_first_stream, last_tick, ticks, between, passed, written, event_of, after_mention, after_mentions, agrees, is_ready, standing_of, standing_after}
-use Rattle.kernel_trace.specs.Import.{mention_says, is_last_in, event_says, is_ready_after, Changes, AllChange, units_of, all_units, ReadyAsMentioned, after_said, course_after, mentions_said, mentions_in, IsHead}
+use Rattle.kernel_trace.specs.Course.{CourseData, WindowData, mentions, is_in_window, on_first_stream, last_tick, ticks, passed, written, event_of, after_mention, after_mentions, agrees, is_ready, standing_of, standing_after}
+use Rattle.kernel_trace.specs.Import.{mention_says, is_last_in, event_says, is_ready_after, Changes, AllChange, all_units, ReadyAsMentioned, after_said, course_after, mentions_said, mentions_in, IsHead}
 use Rattle.line_machine.specs.Lines.{fields_of}
 use Rattle.kernel_trace.specs.TraceLine.{Said, Nothing, LostEvents, Malformed, Happened, said_by}
 use Rattle.kernel_trace.specs.declared.change.Change.{Change}
@@ -18,7 +16,7 @@ use Rattle.kernel_trace.proofs.Courses.{mentions_tasks, last_some}
 use Rattle.kernel_trace.specs.Reading.{AreTasks}
 use Rattle.kernel_trace.specs.declared.change.Mention.{Mention}
 use Rattle.kernel_trace.specs.declared.change.Standing.{Standing}
-use Rattle.kernel_trace.specs.declared.change.Standing.TheVariants.{Unmentioned, Ready, Absent}
+use Rattle.kernel_trace.specs.declared.change.Standing.TheVariants.{Unmentioned}
 
 -- ---- folds over two lists
 pub fold_append : {A B : Type 0} (f : B → A → B) (b : B) (xs ys : List A) → fold f b (xs ++ ys) ≡ fold f (fold f b xs) ys
@@ -50,7 +48,7 @@ written_says : (t : ℕ) (c : CourseData) → is_ready_after t (written c) ≡ i
 written_says t c = fold_append (posted_says t) false c.events (ticks (passed c)) ∙ ticks_say t (passed c) (is_ready_after t c.events)
 
 -- ---- units
-units_append : (xs ys : List Posted) → all_units (xs ++ ys) ≡ all_units xs + all_units ys
+pub units_append : (xs ys : List Posted) → all_units (xs ++ ys) ≡ all_units xs + all_units ys
 units_append [] ys = omega arith
 units_append (x ∷ xs) ys = omega (arith, units_append xs ys)
 
@@ -75,7 +73,7 @@ ticks_units units =
       div-add-mod' units 1000000,
     )
 
-written_units : (c : CourseData) → all_units (written c) ≡ all_units c.events + passed c
+pub written_units : (c : CourseData) → all_units (written c) ≡ all_units c.events + passed c
 written_units c = units_append c.events (ticks (passed c)) ∙ ap (λ (n : ℕ). all_units c.events + n) (ticks_units (passed c))
 
 -- ---- events that change something
@@ -101,7 +99,7 @@ change_ticks before units =
     (change_full before (units / 1000000))
     (change_last (before ++ replicate (units / 1000000) (on_first_stream (Tick 1000000))) (units % 1000000))
 
-change_written : (c : CourseData) → AllChange [] c.events → AllChange [] (written c)
+pub change_written : (c : CourseData) → AllChange [] c.events → AllChange [] (written c)
 change_written c all = change_append [] c.events (ticks (passed c)) all (change_ticks c.events (passed c))
 
 -- ---- what a mention says
@@ -143,10 +141,10 @@ agreed false true e = cc
 agreed false false e = refl
 
 -- what events and mentions say beside what is known
-record Tells (c : CourseData) (ms : List Mention) : Type 0 where
-  ready : (t : ℕ) → is_ready_after t c.events ≡ is_ready (standing_of c.standings t)
-  said : (t : ℕ) → is_last_in t ms ≡ is_ready (standing_of c.standings t)
-  changing : AllChange [] c.events
+pub record Tells (c : CourseData) (ms : List Mention) : Type 0 where
+  pub ready : (t : ℕ) → is_ready_after t c.events ≡ is_ready (standing_of c.standings t)
+  pub said : (t : ℕ) → is_last_in t ms ≡ is_ready (standing_of c.standings t)
+  pub changing : AllChange [] c.events
 
 -- a mention of a task that it finds so changes nothing
 same_mention : (before is_in : Bool) (task t : ℕ) → (task ≡ t → before ≡ is_in) → before ≡ mentioned task is_in before t
@@ -169,7 +167,7 @@ module _ (c : CourseData) (ms : List Mention) (m : Mention) (tells : Tells c ms)
       ∙ ap (λ (before : Bool). mentioned m.task m.is_in before t) (tells.said t)
       ∙ sym (standing_mentions c.standings m t within)
 
-  step_tells : (b : Bool) → agrees (is_ready (standing_of c.standings m.task)) m.is_in ≡ b
+  pub step_tells : (b : Bool) → agrees (is_ready (standing_of c.standings m.task)) m.is_in ≡ b
       → Tells (if b
       then record c { standings = set c.standings m.task (standing_after m.is_in) }
       else record c {
@@ -202,7 +200,7 @@ module _ (c : CourseData) (ms : List Mention) (m : Mention) (tells : Tells c ms)
   mention_tells = step_tells (agrees (is_ready (standing_of c.standings m.task)) m.is_in) refl
 
 -- ---- the mentions of a line, one after another
-step_length : (b : Bool) (c : CourseData) (m : Mention) → length (if b
+pub step_length : (b : Bool) (c : CourseData) (m : Mention) → length (if b
     then record c { standings = set c.standings m.task (standing_after m.is_in) }
     else record c {
       standings = set c.standings m.task (standing_after m.is_in);
@@ -222,10 +220,11 @@ mentions_tell c ms (m ∷ more) tells tasks =
     subst (Tells (after_mentions c (m ∷ more))) (append_assoc ms (m ∷ []) more) rest
 
 -- what stays over a line
-record Stays (c d : CourseData) : Type 0 where
-  ids : d.ids ≡ c.ids
-  window : d.window ≡ c.window
-  standings : length d.standings ≡ length c.standings
+pub record Stays (c d : CourseData) : Type 0 where
+  pub set : d.set ≡ c.set
+  pub ids : d.ids ≡ c.ids
+  pub window : d.window ≡ c.window
+  pub standings : length d.standings ≡ length c.standings
 
 step_stays : (b : Bool) (c : CourseData) (m : Mention) → Stays c (if b
     then record c { standings = set c.standings m.task (standing_after m.is_in) }
@@ -234,25 +233,25 @@ step_stays : (b : Bool) (c : CourseData) (m : Mention) → Stays c (if b
       clock = c.used;
       events = written c ++ on_first_stream (event_of m) ∷ [];
     })
-step_stays true c m = record { ids = refl; window = refl; standings = length-set c.standings m.task (standing_after m.is_in) }
-step_stays false c m = record { ids = refl; window = refl; standings = length-set c.standings m.task (standing_after m.is_in) }
+step_stays true c m = record { set = refl; ids = refl; window = refl; standings = length-set c.standings m.task (standing_after m.is_in) }
+step_stays false c m = record { set = refl; ids = refl; window = refl; standings = length-set c.standings m.task (standing_after m.is_in) }
 
 mentions_stay : (c d : CourseData) (ms : List Mention) → Stays c d → Stays c (after_mentions d ms)
 mentions_stay c d [] stays = stays
 mentions_stay c d (m ∷ ms) stays =
     let next = step_stays (agrees (is_ready (standing_of d.standings m.task)) m.is_in) d m in
     mentions_stay c (after_mention d m) ms
-    (record { ids = next.ids ∙ stays.ids; window = next.window ∙ stays.window; standings = next.standings ∙ stays.standings })
+    (record { set = next.set ∙ stays.set; ids = next.ids ∙ stays.ids; window = next.window ∙ stays.window; standings = next.standings ∙ stays.standings })
 
 -- ---- lines, one after another
 -- what holds over a line: the mentions are told, and the tasks stay the same
-record Follows (head c : CourseData) (ms : List Mention) : Type 0 where
-  tells : Tells c ms
-  stays : Stays head c
+pub record Follows (head c : CourseData) (ms : List Mention) : Type 0 where
+  pub tells : Tells c ms
+  pub stays : Stays head c
 
 module _ (head : CourseData) (one_each : length head.standings ≡ length head.ids) where
   -- the tasks of mentions are among those that are known
-  known_tasks : (c : CourseData) (change : Change) → Stays head c → AreTasks (length c.standings) (mentions c.ids change)
+  pub known_tasks : (c : CourseData) (change : Change) → Stays head c → AreTasks (length c.standings) (mentions c.ids change)
   known_tasks c change stays =
       let same : length c.ids ≡ length c.standings = ap length stays.ids ∙ sym one_each ∙ sym stays.standings in
       subst (λ (n : ℕ). AreTasks n (mentions c.ids change)) same (mentions_tasks c.ids change)
@@ -266,7 +265,7 @@ module _ (head : CourseData) (one_each : length head.standings ≡ length head.i
       let tells = follows.tells in
       let stays = follows.stays in
       let tells_now : Tells now ms = record { ready = tells.ready; said = tells.said; changing = tells.changing } in
-      let stays_now : Stays head now = record { ids = stays.ids; window = stays.window; standings = stays.standings } in
+      let stays_now : Stays head now = record { set = stays.set; ids = stays.ids; window = stays.window; standings = stays.standings } in
       record {
         tells = mentions_tell now ms (mentions c.ids change) tells_now (known_tasks c change stays);
         stays = mentions_stay head now (mentions c.ids change) stays_now;
@@ -278,13 +277,13 @@ module _ (head : CourseData) (one_each : length head.standings ≡ length head.i
       let tells_now : Tells later ms = record { ready = tells.ready; said = tells.said; changing = tells.changing } in
       record {
         tells = subst (Tells later) (sym (append-nil ms)) tells_now;
-        stays = record { ids = stays.ids; window = stays.window; standings = stays.standings };
+        stays = record { set = stays.set; ids = stays.ids; window = stays.window; standings = stays.standings };
       }
 
   unchanged : (c : CourseData) (ms : List Mention) → Follows head c ms → Follows head c (ms ++ [])
   unchanged c ms follows = subst (Follows head c) (sym (append-nil ms)) follows
 
-  said_follows : (c : CourseData) (ms : List Mention) (said : Said) → Follows head c ms
+  pub said_follows : (c : CourseData) (ms : List Mention) (said : Said) → Follows head c ms
       → Follows head (after_said c said) (ms ++ mentions_said head.ids head.window said)
   said_follows c ms Nothing follows = unchanged c ms follows
   said_follows c ms LostEvents follows = unchanged c ms follows
@@ -295,7 +294,7 @@ module _ (head : CourseData) (one_each : length head.standings ≡ length head.i
       subst (λ (window : Option WindowData). P head.ids window) stays.window
       (subst (λ (ids : List ℕ). P ids c.window) stays.ids (timed_follows (is_in_window c.window time) c ms time change follows))
 
-  lines_follow : (c : CourseData) (ms : List Mention) (lines : List (List ℕ)) → Follows head c ms
+  pub lines_follow : (c : CourseData) (ms : List Mention) (lines : List (List ℕ)) → Follows head c ms
       → Follows head (course_after c lines) (ms ++ mentions_in head.ids head.window lines)
   lines_follow c ms [] follows = unchanged c ms follows
   lines_follow c ms (line ∷ rest) follows =
@@ -305,14 +304,14 @@ module _ (head : CourseData) (one_each : length head.standings ≡ length head.i
       (lines_follow (after_said c said) (ms ++ mentions_said head.ids head.window said) rest first)
 
   -- from a head on
-  head_follows : IsHead head → Follows head head []
+  pub head_follows : IsHead head → Follows head head []
   head_follows is = record {
     tells = record {
       ready = λ t. (ap (is_ready_after t) is.no_events ∙ sym (ap is_ready (is.unmentioned t)));
       said = λ t. sym (ap is_ready (is.unmentioned t));
       changing = subst (AllChange []) (sym is.no_events) tt;
     };
-    stays = record { ids = refl; window = refl; standings = refl };
+    stays = record { set = refl; ids = refl; window = refl; standings = refl };
   }
 
   trace_follows : IsHead head → (lines : List (List ℕ)) → Tells (course_after head lines) (mentions_in head.ids head.window lines)

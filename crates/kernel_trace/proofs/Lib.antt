@@ -5,4 +5,5 @@ mod LinesRead
 mod DigitValues
 pub mod Courses
 pub mod Decided
-mod Imports
+pub mod Imports
+pub mod Imported

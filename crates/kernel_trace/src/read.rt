@@ -2,6 +2,7 @@
 ghost use Rattle.std.specs.Prelude.{◌≡◌, ◌⊎◌, ℕ, IfOk, IfErr, MatchResult};
 ghost use Rattle.trace_reader.specs.Input.{InputData};
 ghost use Rattle.kernel_trace.specs.TraceText.{HeaderExpected, IsTraceText, IsTraceRefused};
+ghost use Rattle.kernel_trace.specs.Import.{IsImport};
 ghost use Rattle.kernel_trace.specs.Reading.{progress_of, IsOutOfMemory};
 ghost use Rattle.kernel_trace.specs.declared.fault.TraceKind.{TraceKind};
 
@@ -16,6 +17,7 @@ pub fn read_trace(alloc: Global, bytes: &[u8]) -> Result<Input, TraceFault>
     ensures input { IfOk result (IsTraceText bytes.now) }
     ensures refused { IfErr result (λ fault. IsOutOfMemory fault.kind
         ⊎ IsTraceRefused bytes.now fault.line fault.kind) }
+    ensures import { IfOk result (IsImport bytes.now) }
 
     // Only `OutOfMemory` comes in place of the expected answer.
     ensures accepts { (input : InputData) → IsTraceText bytes.now input

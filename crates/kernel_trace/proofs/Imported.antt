@@ -1,0 +1,720 @@
+-- The input of the text of a trace is the import of that trace.
+use Rattle.std.proofs.Common.{◌≡◌, ℕ, zero, suc, ◌+◌, ◌/◌, ◌%◌, ◌<◌, ◌≤◌, Bool, true, false, nat_lt, List, [], ◌∷◌, ◌++◌, length, get_or, take, drop, Option, None, Some, refl, sym, ap, ◌∙◌, subst, inl, inr, arith, append_assoc, append-nil, lit<, lit≤}
+use Rattle.std.specs.Prelude.{All, replicate, if◌then◌else◌}
+use Rattle.std.specs.Option.{option_or}
+use Rattle.std.proofs.lemmas.Bool.{cases_eq}
+use Rattle.std.proofs.lemmas.List.{map-append, take-append-drop}
+use Rattle.std.proofs.lemmas.List.Elements.{All-nil, All-cons, All-append, All-push, All-head, All-tail, All-weaker}
+use Rattle.std.proofs.lemmas.Nat.{div-add-mod', le-div}
+use Rattle.std.proofs.Math.Nat.{mod-lt}
+use Rattle.task_set.specs.Event.{HasUnits}
+use Rattle.task_set.specs.declared.event.Event.TheVariants.{Arrive, Depart, Tick}
+use Rattle.trace_reader.specs.Input.{InputData}
+use Rattle.trace_reader.specs.declared.posted.Posted.{Posted}
+use Rattle.line_machine.specs.LineRule.{IsLineOutcome}
+use Rattle.line_machine.specs.Lines.{lines_of, fields_of}
+use Rattle.line_machine.specs.Machine.{Outcome, Leads, Fails, Answer, IsText, Refuses, answer_at_end, IsAnswer, Leading}
+use Rattle.kernel_trace.specs.Course.{CourseData, WindowData, mentions, is_unseen, is_backward, is_in_window, on_first_stream, last_tick, ticks, between, passed, written, event_of, after_mention, after_mentions, agrees, is_ready, standing_of}
+use Rattle.kernel_trace.specs.Import.{after_said, course_after, mentions_said, AllChange, all_units, ReadyChange, ready_changes, changes_said, changes_in, changes_made, times_of, time_said, used_times, first_time, last_time, Lasts, told_by, all_told, IsHead, IsWrittenBy, IsImport, ImportIsFaithful}
+use Rattle.kernel_trace.specs.Reading.{AreTasks, IsCourse, IsValid}
+use Rattle.kernel_trace.specs.TraceFault.{trace_kind}
+use Rattle.kernel_trace.specs.TraceLine.{Said, Nothing, LostEvents, Malformed, Happened, said_by}
+use Rattle.kernel_trace.specs.TraceText.{TaskLine, events_line, window_of, Progress, HeaderExpected, ProcessorsExpected, Listed, Tracing, LineOutcome, without_tasks, with_listed, IsAddOutcome, window_outcome, IsListedOutcome, IsHeadOutcome, counted_outcome, used_outcome, timed_outcome, said_outcome, IsLine, input_of, IsEndOutcome}
+use Rattle.kernel_trace.specs.declared.change.Change.{Change}
+use Rattle.kernel_trace.specs.declared.change.Mention.{Mention}
+use Rattle.kernel_trace.specs.declared.change.Standing.{Standing}
+use Rattle.kernel_trace.specs.declared.change.Standing.TheVariants.{Unmentioned}
+use Rattle.kernel_trace.specs.declared.fault.TraceKind.{TraceKind}
+use Rattle.kernel_trace.specs.declared.fault.TraceKind.TheVariants.{BadHeader, BadProcessors, BadMask, TaskRefused, SamePid, BadWindow, Backward, Lost, BadForm, Unseen, ManyEvents, NoEvents}
+use Rattle.line_machine.specs.declared.kind.LineKind.TheVariants.{BadByte, LongLine}
+use Rattle.kernel_trace.proofs.Courses.{step_by, last_some, million}
+use Rattle.kernel_trace.proofs.Decided.{same_next, fails_not_leads, not_above, line_valid}
+use Rattle.kernel_trace.proofs.Imports.{fold_append, units_append, written_units, change_written, Tells, step_tells, step_length, Follows, known_tasks, said_follows, lines_follow, head_follows}
+
+-- ---- the lines of the head
+-- what is known while the head is read
+abbrev Begun : Progress → Type 0
+Begun HeaderExpected = Unit {0}
+Begun ProcessorsExpected = Unit {0}
+Begun (Listed c) = IsHead c
+Begun (Tracing c) = ⊥
+
+-- what a line of the head leads to: more of the head, or the trace, after the line `events`
+abbrev Goes : Progress → List (List ℕ) → Progress → Type 0
+Goes p fields HeaderExpected = Unit {0}
+Goes p fields ProcessorsExpected = Unit {0}
+Goes p fields (Listed c) = IsHead c
+Goes p fields (Tracing c) = (p ≡ Listed c) × (fields ≡ events_line)
+
+goes_to : (p : Progress) (fields : List (List ℕ)) (next found : Progress)
+    → ◌≡◌ {A = LineOutcome} (Leads next) (Leads found) → Goes p fields found → Goes p fields next
+goes_to p fields next found e goes = subst (Goes p fields) (sym (same_next next found e)) goes
+
+none_more : (standings : List Standing) (t : ℕ) → get_or (standings ++ Unmentioned ∷ []) t Unmentioned ≡ get_or standings t Unmentioned
+none_more [] zero = refl
+none_more [] (suc t) = refl
+none_more (s ∷ standings) zero = refl
+none_more (s ∷ standings) (suc t) = none_more standings t
+
+head_more : (c : CourseData) (line : TaskLine) (mask : ℕ) → IsHead c → IsHead (with_listed c line mask)
+head_more c line mask is = record {
+  no_line = is.no_line;
+  no_event = is.no_event;
+  no_used = is.no_used;
+  no_events = is.no_events;
+  unmentioned = λ t. (none_more c.standings t ∙ is.unmentioned t);
+}
+
+head_window : (c : CourseData) (window : Option WindowData) → IsHead c → IsHead (record c { window = window })
+head_window c window is = record {
+  no_line = is.no_line;
+  no_event = is.no_event;
+  no_used = is.no_used;
+  no_events = is.no_events;
+  unmentioned = is.unmentioned;
+}
+
+module _ (c : CourseData) (fields : List (List ℕ)) (next : Progress) (is : IsHead c) where
+  id_goes : (b : Bool) (line : TaskLine) (mask : ℕ)
+      → ◌≡◌ {A = LineOutcome} (Leads next) (if b then Fails SamePid else Leads (Listed (with_listed c line mask))) → Goes (Listed c) fields next
+  id_goes true line mask e = fails_not_leads next SamePid e
+  id_goes false line mask e = goes_to (Listed c) fields next (Listed (with_listed c line mask)) e (head_more c line mask is)
+
+  add_goes : (line : TaskLine) (mask : ℕ) → IsAddOutcome c line mask (Leads next) → Goes (Listed c) fields next
+  add_goes line mask (inr refused) = fails_not_leads next (TaskRefused refused.0) refused.2
+  add_goes line mask (inl (can, e)) = id_goes _ line mask e
+
+  window_goes : (before window : Option WindowData) → ◌≡◌ {A = LineOutcome} (Leads next) (window_outcome c before window)
+      → Goes (Listed c) fields next
+  window_goes None (Some window) e = goes_to (Listed c) fields next (Listed (record c { window = Some window })) e (head_window c (Some window) is)
+  window_goes None None e = fails_not_leads next BadWindow e
+  window_goes (Some before) window e = fails_not_leads next BadWindow e
+
+  listed_goes : IsListedOutcome c fields (Leads next) → Goes (Listed c) fields next
+  listed_goes (inl (task, inl (line, form, inr bad))) = fails_not_leads next (BadMask bad.0) bad.2
+  listed_goes (inl (task, inl (line, form, inl good))) = add_goes line good.0 good.2
+  listed_goes (inl (task, inr none)) = fails_not_leads next _ none.1
+  listed_goes (inr (other, inl (window, e))) = window_goes c.window (window_of fields) e
+  listed_goes (inr (other, inr (neither, inl events))) = goes_to (Listed c) fields next (Tracing c) events.1 (refl, events.0)
+  listed_goes (inr (other, inr (neither, inr none))) = fails_not_leads next _ none.1
+
+none_without : (m : ℕ) → IsHead (without_tasks m)
+none_without m = record { no_line = refl; no_event = refl; no_used = refl; no_events = refl; unmentioned = λ t. refl }
+
+fields_go : (p : Progress) (fields : List (List ℕ)) (next : Progress) → Begun p → IsHeadOutcome p fields (Leads next) → Goes p fields next
+fields_go HeaderExpected fields next begun (inl found) = goes_to HeaderExpected fields next ProcessorsExpected found.2 tt
+fields_go HeaderExpected fields next begun (inr none) = fails_not_leads next BadHeader none.1
+fields_go ProcessorsExpected fields next begun (inl found) =
+    goes_to ProcessorsExpected fields next (Listed (without_tasks found.0)) found.2 (none_without found.0)
+fields_go ProcessorsExpected fields next begun (inr none) = fails_not_leads next BadProcessors none.1
+fields_go (Listed c) fields next begun comes = listed_goes c fields next begun comes
+fields_go (Tracing c) fields next begun comes = absurd begun
+
+begun_goes : (p : Progress) (fields : List (List ℕ)) → Begun p → Goes p fields p
+begun_goes HeaderExpected fields begun = tt
+begun_goes ProcessorsExpected fields begun = tt
+begun_goes (Listed c) fields begun = begun
+begun_goes (Tracing c) fields begun = absurd begun
+
+read_goes : (p : Progress) (line : List ℕ) (next : Progress) → Begun p
+    → IsLineOutcome 4096 true trace_kind IsHeadOutcome p line (Leads next) → Goes p (fields_of line) next
+read_goes p line next begun (inl bad) = fails_not_leads next (trace_kind BadByte) bad.1
+read_goes p line next begun (inr (inl long)) = fails_not_leads next (trace_kind LongLine) long.2
+read_goes p line next begun (inr (inr (inl skipped))) = goes_to p (fields_of line) next p skipped.2 (begun_goes p (fields_of line) begun)
+read_goes p line next begun (inr (inr (inr says))) = fields_go p (fields_of line) next begun says.2
+
+line_goes : (p : Progress) (line : List ℕ) (next : Progress) → Begun p → IsLine p line (Leads next) → Goes p (fields_of line) next
+line_goes HeaderExpected line next begun comes = read_goes HeaderExpected line next begun comes
+line_goes ProcessorsExpected line next begun comes = read_goes ProcessorsExpected line next begun comes
+line_goes (Listed c) line next begun comes = read_goes (Listed c) line next begun comes
+line_goes (Tracing c) line next begun comes = absurd begun
+
+abbrev IsRest : ℕ → Progress → List (List ℕ) → InputData → Type 0
+IsRest number p lines input = IsAnswer IsLine IsEndOutcome number p lines (IsText input)
+
+-- the lines of a head, the line `events`, and the lines of a trace
+record Split (p : Progress) (lines : List (List ℕ)) (input : InputData) : Type 0 where
+  heading : List (List ℕ)
+  opening : List ℕ
+  rest : List (List ℕ)
+  head : CourseData
+  number : ℕ
+  order : lines ≡ heading ++ opening ∷ rest
+  heads : Leading IsLine p heading (Listed head)
+  opens : fields_of opening ≡ events_line
+  is_head : IsHead head
+  valid : IsCourse head
+  answer : IsRest number (Tracing head) rest input
+
+text_not_refused : {A : Type 0} (input : InputData) (number : ℕ) (kind : TraceKind)
+    → ◌≡◌ {A = Answer InputData TraceKind} (IsText input) (Refuses number kind) → A
+text_not_refused input number kind e = cc
+
+no_end : {A : Type 0} (p : Progress) (number : ℕ) (input : InputData) (last : Outcome InputData TraceKind) → Begun p → IsEndOutcome p last
+    → ◌≡◌ {A = Answer InputData TraceKind} (IsText input) (answer_at_end number last) → A
+no_end HeaderExpected number input last begun ends e = text_not_refused input number NoEvents (e ∙ ap (answer_at_end number) ends)
+no_end ProcessorsExpected number input last begun ends e = text_not_refused input number NoEvents (e ∙ ap (answer_at_end number) ends)
+no_end (Listed c) number input last begun ends e = text_not_refused input number NoEvents (e ∙ ap (answer_at_end number) ends)
+no_end (Tracing c) number input last begun ends e = absurd begun
+
+module _ (p : Progress) (line : List ℕ) (rest : List (List ℕ)) (input : InputData) (number : ℕ) (begun : Begun p) where
+  more_head : (next : Progress) → IsLine p line (Leads next) → Split next rest input → Split p (line ∷ rest) input
+  more_head next comes split = record {
+    heading = line ∷ split.heading;
+    opening = split.opening;
+    rest = split.rest;
+    head = split.head;
+    number = split.number;
+    order = ap (λ (more : List (List ℕ)). line ∷ more) split.order;
+    heads = (next, comes, split.heads);
+    opens = split.opens;
+    is_head = split.is_head;
+    valid = split.valid;
+    answer = split.answer;
+  }
+
+  split_next : (next : Progress) → IsLine p line (Leads next) → Goes p (fields_of line) next → IsValid next → IsRest (number + 1) next rest input
+      → (Begun next → Split next rest input) → Split p (line ∷ rest) input
+  split_next HeaderExpected comes goes valid answer later = more_head HeaderExpected comes (later tt)
+  split_next ProcessorsExpected comes goes valid answer later = more_head ProcessorsExpected comes (later tt)
+  split_next (Listed c) comes goes valid answer later = more_head (Listed c) comes (later goes)
+  split_next (Tracing c) comes goes valid answer later = record {
+    heading = [];
+    opening = line;
+    rest = rest;
+    head = c;
+    number = number + 1;
+    order = refl;
+    heads = goes.0;
+    opens = goes.1;
+    is_head = subst Begun goes.0 begun;
+    valid = valid.0;
+    answer = answer;
+  }
+
+head_split : (number : ℕ) (p : Progress) (lines : List (List ℕ)) (input : InputData)
+    → Begun p → IsValid p → IsRest number p lines input → Split p lines input
+head_split number p [] input begun valid (last, ends, e) = no_end p number input last begun ends e
+head_split number p (line ∷ rest) input begun valid (inl (kind, comes, e)) = text_not_refused input number kind e
+head_split number p (line ∷ rest) input begun valid (inr (next, comes, answer)) =
+    let valid_next : IsValid next = line_valid p line next valid comes in
+    split_next p line rest input number begun next comes (line_goes p line next begun comes) valid_next answer
+    (λ more. head_split (number + 1) next rest input more valid_next answer)
+
+-- ---- the lines of the trace lead on
+-- one time is at most another, where there is one
+abbrev AtMost : Option ℕ → Option ℕ → Type 0
+AtMost None later = Unit {0}
+AtMost (Some time) None = ⊥
+AtMost (Some time) (Some later) = time ≤ later
+
+most_over : (one two three : Option ℕ) → AtMost one two → AtMost two three → AtMost one three
+most_over None two three first second = tt
+most_over (Some one) None three first second = absurd first
+most_over (Some one) (Some two) None first second = absurd second
+most_over (Some one) (Some two) (Some three) first second = omega arith
+
+most_same : (time : Option ℕ) → AtMost time time
+most_same None = tt
+most_same (Some time) = omega arith
+
+-- a line of the scheduler is not before the last one
+abbrev Forward : CourseData → Said → Type 0
+Forward c Nothing = Unit {0}
+Forward c LostEvents = Unit {0}
+Forward c Malformed = Unit {0}
+Forward c (Happened time change) = AtMost c.last (Some time)
+
+not_backward : (last : Option ℕ) (time : ℕ) → is_backward last time ≡ false → AtMost last (Some time)
+not_backward None time e = tt
+not_backward (Some last) time e = not_above time last e
+
+counted_leads : (b : Bool) (c : CourseData) (next : Progress)
+    → ◌≡◌ {A = LineOutcome} (Leads next) (if b then Fails ManyEvents else Leads (Tracing c)) → next ≡ Tracing c
+counted_leads true c next e = fails_not_leads next ManyEvents e
+counted_leads false c next e = same_next next (Tracing c) e
+
+used_leads : (b : Bool) (c : CourseData) (next : Progress)
+    → ◌≡◌ {A = LineOutcome} (Leads next) (if b then Fails Unseen else counted_outcome c) → next ≡ Tracing c
+used_leads true c next e = fails_not_leads next Unseen e
+used_leads false c next e = counted_leads (nat_lt 20000 (length (written c))) c next e
+
+timed_leads : (b : Bool) (c : CourseData) (time : ℕ) (change : Change) (next : Progress)
+    → ◌≡◌ {A = LineOutcome} (Leads next) (if b
+    then used_outcome (record c { last = Some time; used = Some time }) change
+    else Leads (Tracing (record c { last = Some time })))
+    → next ≡ Tracing (if b then after_mentions (record c { last = Some time; used = Some time }) (mentions c.ids change) else record c { last = Some time })
+timed_leads true c time change next e =
+    used_leads (is_unseen c.standings c.ids change) (after_mentions (record c { last = Some time; used = Some time }) (mentions c.ids change)) next e
+timed_leads false c time change next e = same_next next (Tracing (record c { last = Some time })) e
+
+said_leads : (c : CourseData) (said : Said) (next : Progress) → ◌≡◌ {A = LineOutcome} (Leads next) (said_outcome c said)
+    → (next ≡ Tracing (after_said c said)) × Forward c said
+said_leads c Nothing next e = (same_next next (Tracing c) e, tt)
+said_leads c LostEvents next e = fails_not_leads next Lost e
+said_leads c Malformed next e = fails_not_leads next BadForm e
+said_leads c (Happened time change) next e = by (is_backward c.last time) refl e
+  where
+    by : (b : Bool) → is_backward c.last time ≡ b → ◌≡◌ {A = LineOutcome} (Leads next) (if b then Fails Backward else timed_outcome c time change)
+        → (next ≡ Tracing (after_said c (Happened time change))) × Forward c (Happened time change)
+    by true is e = fails_not_leads next Backward e
+    by false is e = (timed_leads (is_in_window c.window time) c time change next e, not_backward c.last time is)
+
+-- no line is before the one before it
+abbrev AllForward : CourseData → List (List ℕ) → Type 0
+AllForward c [] = Unit {0}
+AllForward c (line ∷ rest) = Forward c (said_by (fields_of line)) × AllForward (after_said c (said_by (fields_of line))) rest
+
+text_input : (c : CourseData) (input : InputData) (number : ℕ) (last : Outcome InputData TraceKind) → last ≡ Leads (input_of c)
+    → ◌≡◌ {A = Answer InputData TraceKind} (IsText input) (answer_at_end number last) → input ≡ input_of c
+text_input c input number last ends e = same (e ∙ ap (answer_at_end number) ends)
+  where
+    same : ◌≡◌ {A = Answer InputData TraceKind} (IsText input) (IsText (input_of c)) → input ≡ input_of c
+    same e = cc
+
+trace_leads : (number : ℕ) (c : CourseData) (lines : List (List ℕ)) (input : InputData) → IsRest number (Tracing c) lines input
+    → AllForward c lines × (input ≡ input_of (course_after c lines))
+trace_leads number c [] input (last, ends, e) = (tt, text_input c input number last ends e)
+trace_leads number c (line ∷ rest) input (inl (kind, comes, e)) = text_not_refused input number kind e
+trace_leads number c (line ∷ rest) input (inr (next, comes, answer)) =
+    let said : Said = said_by (fields_of line) in
+    let leads = said_leads c said next comes in
+    let later = trace_leads (number + 1) (after_said c said) rest input (subst (λ (p : Progress). IsRest (number + 1) p rest input) leads.0 answer) in
+    ((leads.1, later.0), later.1)
+
+-- the first lines of some lines
+forward_first : (c : CourseData) (first rest : List (List ℕ)) → AllForward c (first ++ rest) → AllForward c first
+forward_first c [] rest all = tt
+forward_first c (line ∷ first) rest all = (all.0, forward_first (after_said c (said_by (fields_of line))) first rest all.1)
+
+-- ---- times
+last_append : (times : List ℕ) (time : ℕ) → last_time (times ++ time ∷ []) ≡ Some time
+last_append [] time = refl
+last_append (first ∷ times) time = ap (λ (last : Option ℕ). option_or last (Some first)) (last_append times time)
+
+whole_less : (one two : ℕ) → one ≤ two → one / 1000 ≤ two / 1000
+whole_less one two most =
+    let parts = div-add-mod' one 1000 in
+    le-div (one / 1000) two 1000 (lit< tt) (omega (arith, parts, most))
+
+lasts_some : (first clock : ℕ) (used : Option ℕ) (units : ℕ) → Lasts (Some first) (Some clock) units → AtMost (Some clock) used
+    → Lasts (Some first) used (units + between (Some clock) used)
+lasts_some first clock None units lasts most = absurd most
+lasts_some first clock (Some used) units lasts most = let whole = whole_less clock used most in omega (arith, lasts, whole)
+
+lasts_more : (times : List ℕ) (used : Option ℕ) (units : ℕ) → Lasts (first_time times) (last_time times) units → AtMost (last_time times) used
+    → Lasts (first_time times) used (units + between (last_time times) used)
+lasts_more [] used units lasts most = omega (arith, lasts)
+lasts_more (time ∷ times) used units lasts most = by (last_time times) lasts most
+  where
+    by : (last : Option ℕ) → Lasts (Some time) (option_or last (Some time)) units → AtMost (option_or last (Some time)) used
+        → Lasts (Some time) used (units + between (option_or last (Some time)) used)
+    by None lasts most = lasts_some time time used units lasts most
+    by (Some last) lasts most = lasts_some time last used units lasts most
+
+lasts_next : (times : List ℕ) (time units : ℕ) → Lasts (first_time times) (last_time times) units → AtMost (last_time times) (Some time)
+    → Lasts (first_time (times ++ time ∷ [])) (Some time) (units + between (last_time times) (Some time))
+lasts_next [] time units lasts most = omega (arith, lasts)
+lasts_next (first ∷ times) time units lasts most = lasts_more (first ∷ times) (Some time) units lasts most
+
+-- ---- ticks
+abbrev IsAlone : Posted → Type 0
+IsAlone posted = (posted.stream ≡ 0) × HasUnits posted.event
+
+alone_full : (count : ℕ) → All IsAlone (replicate count (on_first_stream (Tick 1000000)))
+alone_full zero = All-nil IsAlone
+alone_full (suc count) =
+    All-cons IsAlone (on_first_stream (Tick 1000000)) (replicate count (on_first_stream (Tick 1000000))) (refl, (lit≤ tt, lit≤ tt)) (alone_full count)
+
+alone_last : (units : ℕ) → units < 1000000 → All IsAlone (last_tick units)
+alone_last units below = elim (cases_eq units 0) [
+  | inl none ↦ subst (λ (n : ℕ). All IsAlone (last_tick n)) (sym none) (All-nil IsAlone)
+  | inr some ↦
+      subst (All IsAlone) (sym (last_some units some))
+      (All-cons IsAlone (on_first_stream (Tick units)) [] (refl, (omega (arith, some), omega arith)) (All-nil IsAlone))
+]
+
+alone_ticks : (units : ℕ) → All IsAlone (ticks units)
+unfolding ticks
+alone_ticks units =
+    All-append IsAlone (replicate (units / 1000000) (on_first_stream (Tick 1000000))) (last_tick (units % 1000000))
+    (alone_full (units / 1000000)) (alone_last (units % 1000000) (mod-lt units million))
+
+told_append : (xs ys : List Posted) → all_told (xs ++ ys) ≡ all_told xs ++ all_told ys
+told_append [] ys = refl
+told_append (x ∷ xs) ys =
+    ap (λ (more : List Mention). told_by x.event ++ more) (told_append xs ys) ∙ sym (append_assoc (told_by x.event) (all_told xs) (all_told ys))
+
+told_full : (count : ℕ) → all_told (replicate count (on_first_stream (Tick 1000000))) ≡ []
+told_full zero = refl
+told_full (suc count) = told_full count
+
+told_last : (units : ℕ) → all_told (last_tick units) ≡ []
+told_last units = elim (cases_eq units 0) [
+  | inl none ↦ ap (λ (n : ℕ). all_told (last_tick n)) none
+  | inr some ↦ ap all_told (last_some units some)
+]
+
+told_ticks : (units : ℕ) → all_told (ticks units) ≡ []
+unfolding ticks
+told_ticks units =
+    told_append (replicate (units / 1000000) (on_first_stream (Tick 1000000))) (last_tick (units % 1000000))
+    ∙ ap (λ (more : List Mention). all_told (replicate (units / 1000000) (on_first_stream (Tick 1000000))) ++ more) (told_last (units % 1000000))
+    ∙ append-nil (all_told (replicate (units / 1000000) (on_first_stream (Tick 1000000))))
+    ∙ told_full (units / 1000000)
+
+told_written : (c : CourseData) → all_told (written c) ≡ all_told c.events
+told_written c =
+    told_append c.events (ticks (passed c))
+    ∙ ap (λ (more : List Mention). all_told c.events ++ more) (told_ticks (passed c))
+    ∙ append-nil (all_told c.events)
+
+told_event : (m : Mention) → told_by (event_of m) ≡ m ∷ []
+told_event m = by m.is_in
+  where
+    by : (b : Bool) → told_by (if b then Arrive m.task else Depart m.task) ≡ record { task = m.task; is_in = b } ∷ []
+    by true = refl
+    by false = refl
+
+units_event : (m : Mention) → all_units (on_first_stream (event_of m) ∷ []) ≡ 0
+units_event m = by m.is_in
+  where
+    by : (b : Bool) → all_units (on_first_stream (if b then Arrive m.task else Depart m.task) ∷ []) ≡ 0
+    by true = refl
+    by false = refl
+
+event_alone : (m : Mention) → IsAlone (on_first_stream (event_of m))
+event_alone m = by m.is_in
+  where
+    by : (b : Bool) → IsAlone (on_first_stream (if b then Arrive m.task else Depart m.task))
+    by true = (refl, tt)
+    by false = (refl, tt)
+
+-- ---- what is known beside the changes and the times of the used lines
+record Timed (c : CourseData) (changes : List ReadyChange) (times : List ℕ) : Type 0 where
+  told : all_told c.events ≡ changes_made changes
+  clock : c.clock ≡ last_time (times_of changes)
+  used : c.used ≡ last_time times
+  lasts : Lasts (first_time (times_of changes)) (last_time (times_of changes)) (all_units c.events)
+  since : AtMost c.clock c.used
+  before : AtMost c.used c.last
+  alone : All IsAlone c.events
+
+module _ (c : CourseData) (m : Mention) (changes : List ReadyChange) (times : List ℕ) (time : ℕ)
+    (now : c.used ≡ Some time) (timed : Timed c changes times) where
+  abbrev the_change : ReadyChange
+  the_change = record { time = time; mention = m }
+
+  times_more : times_of (changes ++ the_change ∷ []) ≡ times_of changes ++ time ∷ []
+  times_more = map-append (λ (change : ReadyChange). change.time) changes (the_change ∷ [])
+
+  passed_is : passed c ≡ between (last_time (times_of changes)) (Some time)
+  passed_is = ap (λ (clock : Option ℕ). between clock c.used) timed.clock ∙ ap (between (last_time (times_of changes))) now
+
+  units_more : all_units (written c ++ on_first_stream (event_of m) ∷ []) ≡ all_units c.events + between (last_time (times_of changes)) (Some time)
+  units_more =
+      let parts = units_append (written c) (on_first_stream (event_of m) ∷ []) in
+      let whole = written_units c in
+      let event = units_event m in
+      let some = passed_is in
+      omega (arith, parts, whole, event, some)
+
+  lasts_then : Lasts (first_time (times_of (changes ++ the_change ∷ []))) (last_time (times_of (changes ++ the_change ∷ [])))
+      (all_units (written c ++ on_first_stream (event_of m) ∷ []))
+  lasts_then =
+      let since : AtMost (last_time (times_of changes)) (Some time) =
+      subst (λ (clock : Option ℕ). AtMost clock (Some time)) timed.clock (subst (AtMost c.clock) now timed.since) in
+      let next = lasts_next (times_of changes) time (all_units c.events) timed.lasts since in
+      let P : List ℕ → Option ℕ → ℕ → Type 0 = λ all last units. Lasts (first_time all) last units in
+      subst (λ (units : ℕ). P (times_of (changes ++ the_change ∷ [])) (last_time (times_of (changes ++ the_change ∷ []))) units) (sym units_more)
+      (subst (λ (all : List ℕ). P all (last_time all) (all_units c.events + between (last_time (times_of changes)) (Some time))) (sym times_more)
+      (subst (λ (last : Option ℕ). P (times_of changes ++ time ∷ []) last (all_units c.events + between (last_time (times_of changes)) (Some time)))
+      (sym (last_append (times_of changes) time)) next))
+
+  told_then : all_told (written c ++ on_first_stream (event_of m) ∷ []) ≡ changes_made (changes ++ the_change ∷ [])
+  told_then =
+      told_append (written c) (on_first_stream (event_of m) ∷ [])
+      ∙ ap (λ (more : List Mention). more ++ all_told (on_first_stream (event_of m) ∷ [])) (told_written c ∙ timed.told)
+      ∙ ap (λ (more : List Mention). changes_made changes ++ more) (append-nil (told_by (event_of m)) ∙ told_event m)
+      ∙ sym (map-append (λ (change : ReadyChange). change.mention) changes (the_change ∷ []))
+
+  step_timed : (b : Bool) → Timed (step_by b c m) (if b then changes else changes ++ the_change ∷ []) times
+  step_timed true = record {
+    told = timed.told;
+    clock = timed.clock;
+    used = timed.used;
+    lasts = timed.lasts;
+    since = timed.since;
+    before = timed.before;
+    alone = timed.alone;
+  }
+  step_timed false = record {
+    told = told_then;
+    clock = now ∙ sym (last_append (times_of changes) time) ∙ ap last_time (sym times_more);
+    used = timed.used;
+    lasts = lasts_then;
+    since = most_same c.used;
+    before = timed.before;
+    alone =
+        All-push IsAlone (written c) (on_first_stream (event_of m))
+        (All-append IsAlone c.events (ticks (passed c)) timed.alone (alone_ticks (passed c))) (event_alone m);
+  }
+
+-- ---- the mentions of a line, one after another
+module _ (c : CourseData) (ms : List Mention) (m : Mention) (more : List Mention) (changes : List ReadyChange) (times : List ℕ) (time : ℕ)
+    (now : c.used ≡ Some time) (tells : Tells c ms) (within : m.task < length c.standings) (tasks : AreTasks (length c.standings) more)
+    (timed : Timed c changes times)
+    (later : (d : CourseData) (found : List ReadyChange) → d.used ≡ Some time → Tells d (ms ++ m ∷ []) → AreTasks (length d.standings) more
+    → Timed d found times → Timed (after_mentions d more) (found ++ ready_changes time (ms ++ m ∷ []) more) times) where
+  tasks_then : (b : Bool) → AreTasks (length (step_by b c m).standings) more
+  tasks_then b = subst (λ (n : ℕ). AreTasks n more) (sym (step_length b c m)) tasks
+
+  first_timed : (b : Bool) → agrees (is_ready (standing_of c.standings m.task)) m.is_in ≡ b
+      → Timed (after_mentions (step_by b c m) more)
+      (changes ++ (if b
+      then ready_changes time (ms ++ m ∷ []) more
+      else record { time = time; mention = m } ∷ ready_changes time (ms ++ m ∷ []) more)) times
+  first_timed true same =
+      later (step_by true c m) changes now (step_tells c ms m tells within true same) (tasks_then true) (step_timed c m changes times time now timed true)
+  first_timed false other =
+      let change : ReadyChange = record { time = time; mention = m } in
+      let next = ready_changes time (ms ++ m ∷ []) more in
+      subst (λ (all : List ReadyChange). Timed (after_mentions (step_by false c m) more) all times) (append_assoc changes (change ∷ []) next)
+      (later (step_by false c m) (changes ++ change ∷ []) now (step_tells c ms m tells within false other) (tasks_then false)
+      (step_timed c m changes times time now timed false))
+
+  by_mentions : Timed (after_mentions c (m ∷ more)) (changes ++ ready_changes time ms (m ∷ more)) times
+  by_mentions =
+      let next = ready_changes time (ms ++ m ∷ []) more in
+      let found : Bool → List ReadyChange = λ before. if agrees before m.is_in then next else record { time = time; mention = m } ∷ next in
+      subst (λ (before : Bool). Timed (after_mentions c (m ∷ more)) (changes ++ found before) times) (sym (tells.said m.task))
+      (first_timed (agrees (is_ready (standing_of c.standings m.task)) m.is_in) refl)
+
+mentions_timed : (c : CourseData) (ms more : List Mention) (changes : List ReadyChange) (times : List ℕ) (time : ℕ)
+    → c.used ≡ Some time → Tells c ms → AreTasks (length c.standings) more → Timed c changes times
+    → Timed (after_mentions c more) (changes ++ ready_changes time ms more) times
+mentions_timed c ms [] changes times time now tells tasks timed = subst (λ (all : List ReadyChange). Timed c all times) (sym (append-nil changes)) timed
+mentions_timed c ms (m ∷ more) changes times time now tells tasks timed =
+    by_mentions c ms m more changes times time now tells (All-head (λ (m : Mention). m.task < length c.standings) m more tasks)
+    (All-tail (λ (m : Mention). m.task < length c.standings) m more tasks) timed
+    (λ d found is tells tasks timed. mentions_timed d (ms ++ m ∷ []) more found times time is tells tasks timed)
+
+-- ---- lines, one after another
+module _ (head : CourseData) (one_each : length head.standings ≡ length head.ids) where
+  timed_line : (b : Bool) (c : CourseData) (ms : List Mention) (changes : List ReadyChange) (times : List ℕ) (time : ℕ) (change : Change)
+      → Follows head c ms → AtMost c.last (Some time) → Timed c changes times
+      → Timed (if b then after_mentions (record c { last = Some time; used = Some time }) (mentions c.ids change) else record c { last = Some time })
+      (changes ++ ready_changes time ms (if b then mentions c.ids change else [])) (times ++ (if b then time ∷ [] else []))
+  timed_line true c ms changes times time change follows forward timed =
+      let now : CourseData = record c { last = Some time; used = Some time } in
+      let tells = follows.tells in
+      let tells_now : Tells now ms = record { ready = tells.ready; said = tells.said; changing = tells.changing } in
+      let timed_now : Timed now changes (times ++ time ∷ []) = record {
+        told = timed.told;
+        clock = timed.clock;
+        used = sym (last_append times time);
+        lasts = timed.lasts;
+        since = most_over c.clock c.used (Some time) timed.since (most_over c.used c.last (Some time) timed.before forward);
+        before = most_same (Some time);
+        alone = timed.alone;
+      } in
+      mentions_timed now ms (mentions c.ids change) changes (times ++ time ∷ []) time refl tells_now
+      (known_tasks head one_each c change follows.stays) timed_now
+  timed_line false c ms changes times time change follows forward timed =
+      let later : CourseData = record c { last = Some time } in
+      let timed_now : Timed later changes times = record {
+        told = timed.told;
+        clock = timed.clock;
+        used = timed.used;
+        lasts = timed.lasts;
+        since = timed.since;
+        before = most_over c.used c.last (Some time) timed.before forward;
+        alone = timed.alone;
+      } in
+      subst (λ (all : List ReadyChange). Timed later all (times ++ [])) (sym (append-nil changes))
+      (subst (λ (all : List ℕ). Timed later changes all) (sym (append-nil times)) timed_now)
+
+  same_timed : (c : CourseData) (changes : List ReadyChange) (times : List ℕ) → Timed c changes times → Timed c (changes ++ []) (times ++ [])
+  same_timed c changes times timed =
+      subst (λ (all : List ReadyChange). Timed c all (times ++ [])) (sym (append-nil changes))
+      (subst (λ (all : List ℕ). Timed c changes all) (sym (append-nil times)) timed)
+
+  said_timed : (c : CourseData) (ms : List Mention) (changes : List ReadyChange) (times : List ℕ) (said : Said)
+      → Follows head c ms → Forward c said → Timed c changes times
+      → Timed (after_said c said) (changes ++ changes_said head.ids head.window ms said) (times ++ time_said head.window said)
+  said_timed c ms changes times Nothing follows forward timed = same_timed c changes times timed
+  said_timed c ms changes times LostEvents follows forward timed = same_timed c changes times timed
+  said_timed c ms changes times Malformed follows forward timed = same_timed c changes times timed
+  said_timed c ms changes times (Happened time change) follows forward timed =
+      let stays = follows.stays in
+      let said : Said = Happened time change in
+      let P : List ℕ → Option WindowData → Type 0 =
+      λ ids window. Timed (after_said c said) (changes ++ changes_said ids window ms said) (times ++ time_said window said) in
+      subst (λ (window : Option WindowData). P head.ids window) stays.window
+      (subst (λ (ids : List ℕ). P ids c.window) stays.ids (timed_line (is_in_window c.window time) c ms changes times time change follows forward timed))
+
+  lines_timed : (c : CourseData) (ms : List Mention) (changes : List ReadyChange) (times : List ℕ) (lines : List (List ℕ))
+      → Follows head c ms → AllForward c lines → Timed c changes times
+      → Timed (course_after c lines) (changes ++ changes_in head.ids head.window ms lines) (times ++ used_times head.window lines)
+  lines_timed c ms changes times [] follows forward timed = same_timed c changes times timed
+  lines_timed c ms changes times (line ∷ rest) follows forward timed =
+      let said : Said = said_by (fields_of line) in
+      let made = changes_said head.ids head.window ms said in
+      let used = time_said head.window said in
+      let later = ms ++ mentions_said head.ids head.window said in
+      let next = lines_timed (after_said c said) later (changes ++ made) (times ++ used) rest
+      (said_follows head one_each c ms said follows) forward.1 (said_timed c ms changes times said follows forward.0 timed) in
+      subst (λ (all : List ReadyChange). Timed (course_after c (line ∷ rest)) all (times ++ (used ++ used_times head.window rest)))
+      (append_assoc changes made (changes_in head.ids head.window later rest))
+      (subst (Timed (course_after c (line ∷ rest)) ((changes ++ made) ++ changes_in head.ids head.window later rest))
+      (append_assoc times used (used_times head.window rest)) next)
+
+  head_timed : IsHead head → Timed head [] []
+  head_timed is = record {
+    told = ap all_told is.no_events;
+    clock = is.no_event;
+    used = is.no_used;
+    lasts = ap all_units is.no_events;
+    since = subst (λ (clock : Option ℕ). AtMost clock head.used) (sym is.no_event) tt;
+    before = subst (λ (used : Option ℕ). AtMost used head.last) (sym is.no_used) tt;
+    alone = subst (All IsAlone) (sym is.no_events) (All-nil IsAlone);
+  }
+
+  trace_timed : IsHead head → (lines : List (List ℕ)) → AllForward head lines
+      → Timed (course_after head lines) (changes_in head.ids head.window [] lines) (used_times head.window lines)
+  trace_timed is lines forward = lines_timed head [] [] [] lines (head_follows head one_each is) forward (head_timed is)
+
+-- ---- events only come after others
+abbrev Extends : CourseData → CourseData → Type 0
+Extends c d = (more : List Posted) × (d.events ≡ c.events ++ more)
+
+extends_over : (c d e : CourseData) → Extends c d → Extends d e → Extends c e
+extends_over c d e one two =
+    (one.0 ++ two.0, two.1 ∙ ap (λ (events : List Posted). events ++ two.0) one.1 ∙ append_assoc c.events one.0 two.0)
+
+step_extends : (b : Bool) (c : CourseData) (m : Mention) → Extends c (step_by b c m)
+step_extends true c m = ([], sym (append-nil c.events))
+step_extends false c m =
+    (ticks (passed c) ++ on_first_stream (event_of m) ∷ [], append_assoc c.events (ticks (passed c)) (on_first_stream (event_of m) ∷ []))
+
+mentions_extend : (c : CourseData) (ms : List Mention) → Extends c (after_mentions c ms)
+mentions_extend c [] = ([], sym (append-nil c.events))
+mentions_extend c (m ∷ ms) =
+    extends_over c (after_mention c m) (after_mentions c (m ∷ ms))
+    (step_extends (agrees (is_ready (standing_of c.standings m.task)) m.is_in) c m) (mentions_extend (after_mention c m) ms)
+
+said_extends : (c : CourseData) (said : Said) → Extends c (after_said c said)
+said_extends c Nothing = ([], sym (append-nil c.events))
+said_extends c LostEvents = ([], sym (append-nil c.events))
+said_extends c Malformed = ([], sym (append-nil c.events))
+said_extends c (Happened time change) = by (is_in_window c.window time)
+  where
+    by : (b : Bool) → Extends c (if b
+        then after_mentions (record c { last = Some time; used = Some time }) (mentions c.ids change)
+        else record c { last = Some time })
+    by true = mentions_extend (record c { last = Some time; used = Some time }) (mentions c.ids change)
+    by false = ([], sym (append-nil c.events))
+
+lines_extend : (c : CourseData) (lines : List (List ℕ)) → Extends c (course_after c lines)
+lines_extend c [] = ([], sym (append-nil c.events))
+lines_extend c (line ∷ rest) =
+    let said : Said = said_by (fields_of line) in
+    extends_over c (after_said c said) (course_after c (line ∷ rest)) (said_extends c said) (lines_extend (after_said c said) rest)
+
+-- ---- the import
+module _ (head : CourseData) (one_each : length head.standings ≡ length head.ids) (is : IsHead head) where
+  -- the first lines have written the first events
+  first_written : (first rest : List (List ℕ)) → AllForward head (first ++ rest)
+      → IsWrittenBy head.ids head.window first (written (course_after head (first ++ rest)))
+  first_written first rest forward =
+      let c : CourseData = course_after head first in
+      let all = lines_follow head one_each head [] first (head_follows head one_each is) in
+      let tells = all.tells in
+      let timed = trace_timed head one_each is first (forward_first head first rest forward) in
+      let whole : course_after head (first ++ rest) ≡ course_after c rest =
+      fold_append (λ (known : CourseData) (line : List ℕ). after_said known (said_by (fields_of line))) head first rest in
+      let more = lines_extend c rest in
+      let last = ticks (passed (course_after c rest)) in
+      record {
+        events = c.events;
+        later = more.0 ++ last;
+        order = ap written whole ∙ ap (λ (events : List Posted). events ++ last) more.1 ∙ append_assoc c.events more.0 last;
+        changes = timed.told;
+        ready = λ t. (tells.ready t ∙ sym (tells.said t));
+        time = timed.lasts;
+      }
+
+  each_written : (lines : List (List ℕ)) → AllForward head lines → (n : ℕ)
+      → IsWrittenBy head.ids head.window (take n lines) (written (course_after head lines))
+  each_written lines forward n =
+      let whole = take-append-drop n lines in
+      subst (λ (all : List (List ℕ)). IsWrittenBy head.ids head.window (take n lines) (written (course_after head all))) whole
+      (first_written (take n lines) (drop n lines) (subst (AllForward head) (sym whole) forward))
+
+  whole_lasts : (lines : List (List ℕ)) → AllForward head lines
+      → (let times = times_of (changes_in head.ids head.window [] lines) in
+      Lasts (first_time times) (last_time (used_times head.window lines)) (all_units (written (course_after head lines))))
+  whole_lasts lines forward =
+      let c : CourseData = course_after head lines in
+      let timed = trace_timed head one_each is lines forward in
+      let times = times_of (changes_in head.ids head.window [] lines) in
+      let since : AtMost (last_time times) c.used = subst (λ (clock : Option ℕ). AtMost clock c.used) timed.clock timed.since in
+      let lasts = lasts_more times c.used (all_units c.events) timed.lasts since in
+      let passes : passed c ≡ between (last_time times) c.used = ap (λ (clock : Option ℕ). between clock c.used) timed.clock in
+      let units : all_units (written c) ≡ all_units c.events + between (last_time times) c.used =
+      written_units c ∙ ap (λ (n : ℕ). all_units c.events + n) passes in
+      subst (λ (used : Option ℕ). Lasts (first_time times) used (all_units (written c))) timed.used
+      (subst (λ (n : ℕ). Lasts (first_time times) c.used n) (sym units) lasts)
+
+  written_alone : (lines : List (List ℕ)) → AllForward head lines → All IsAlone (written (course_after head lines))
+  written_alone lines forward =
+      let c : CourseData = course_after head lines in
+      let timed = trace_timed head one_each is lines forward in
+      All-append IsAlone c.events (ticks (passed c)) timed.alone (alone_ticks (passed c))
+
+  all_change : (lines : List (List ℕ)) → AllChange [] (written (course_after head lines))
+  all_change lines =
+      let all = lines_follow head one_each head [] lines (head_follows head one_each is) in
+      let tells = all.tells in
+      change_written (course_after head lines) tells.changing
+
+  same_set : (lines : List (List ℕ)) → (course_after head lines).set ≡ head.set
+  same_set lines =
+      let all = lines_follow head one_each head [] lines (head_follows head one_each is) in
+      let stays = all.stays in
+      stays.set
+
+of_split : (bytes : List ℕ) (input : InputData) → Split HeaderExpected (lines_of bytes) input → IsImport bytes input
+of_split bytes input split =
+    let head : CourseData = split.head in
+    let valid = split.valid in
+    let one_each : length head.standings ≡ length head.ids = valid.standings ∙ sym valid.ids in
+    let leads = trace_leads split.number head split.rest input split.answer in
+    let forward = leads.0 in
+    let events : input.events ≡ written (course_after head split.rest) = ap (λ (input : InputData). input.events) leads.1 in
+    let alone = subst (All IsAlone) (sym events) (written_alone head one_each split.is_head split.rest forward) in
+    record {
+      heading = split.heading;
+      opening = split.opening;
+      lines = split.rest;
+      head = head;
+      order = split.order;
+      heads = split.heads;
+      opens = split.opens;
+      no_line = split.is_head;
+      version = ap (λ (input : InputData). input.version) leads.1;
+      set = ap (λ (input : InputData). input.set) leads.1 ∙ same_set head one_each split.is_head split.rest;
+      one_stream = All-weaker IsAlone (λ (posted : Posted). posted.stream ≡ 0) (λ posted alone. alone.0) input.events alone;
+      each = λ n.
+          subst (IsWrittenBy head.ids head.window (take n split.rest)) (sym events)
+          (each_written head one_each split.is_head split.rest forward n);
+      time =
+          let times = times_of (changes_in head.ids head.window [] split.rest) in
+          subst (λ (all : List Posted). Lasts (first_time times) (last_time (used_times head.window split.rest)) (all_units all)) (sym events)
+          (whole_lasts head one_each split.is_head split.rest forward);
+      changing = subst (AllChange []) (sym events) (all_change head one_each split.is_head split.rest);
+      short = All-weaker IsAlone (λ (posted : Posted). HasUnits posted.event) (λ posted alone. alone.1) input.events alone;
+    }
+
+pub import_is_faithful : ImportIsFaithful
+import_is_faithful bytes input is = of_split bytes input (head_split 1 HeaderExpected (lines_of bytes) input tt tt is)
