@@ -1,37 +1,44 @@
 -- What a command read of a source that reports its bytes, and that words mean one command.
-use Rattle.std.proofs.Common.{◌≡◌, ℕ, ◌+◌, ◌*◌, ◌<◌, ◌≤◌, ◌==◌, List, [], ◌∷◌, length, get_or, map, String, Option, if◌then◌else◌, refl, sym, ap, ◌∙◌, arith}
+use Rattle.std.proofs.Common.{◌≡◌, ℕ, ◌+◌, ◌*◌, ◌<◌, ◌≤◌, ◌==◌, ◌⊎◌, List, [], ◌∷◌, length, get_or, map, String, Option, if◌then◌else◌, refl, sym, ap, ◌∙◌, inl, inr, arith}
 use Rattle.std.specs.Prelude.{codes, string_bytes}
 use Rattle.std.specs.declared.alloc.Global.{Global}
 use Rattle.affinity_mask.specs.Number.{number_value}
 use Rattle.text_fields.specs.Number.{IsNumberWithin}
-use Rattle.shift_io.specs.Stream.{TakesExactly}
-use Rattle.commands.specs.Reading.{byte_limit}
+use Rattle.shift_io.specs.Stream.{TakesExactly, TakesAtMost}
+use Rattle.commands.specs.Reading.{text_limit, trace_limit}
 use Rattle.commands.proofs.ReadBytes.{read_is_reported, not_longer}
 use Rattle.commands.specs.Sizes.{AreWithin}
 use Rattle.commands.specs.declared.sizes.Sizes.{Sizes}
-use Rattle.command_line.specs.Command.{IsCommand, IsSized, IsWatch, AreSizes, IsBounded, IsToRead, Reads, ReadsNothing}
+use Rattle.command_line.specs.Command.{IsCommand, IsSized, IsWatch, IsWindow, IsOfWhole, IsOfPart, word_of, AreSizes, IsBounded, byte_limit, IsToRead, Reads, ReadsNothing}
+use Rattle.schedule_picture.specs.declared.axis.Axis.{Axis}
+use Rattle.schedule_picture.specs.declared.axis.Axis.TheVariants.{Time, Steps}
+use Rattle.schedule_picture.specs.declared.window.Window.{Window}
 use Rattle.command_line.specs.declared.words.Command.{Command}
-use Rattle.command_line.specs.declared.words.Command.TheVariants.{Run, Check, Weak, Nested, Jobs, Watch, Make, Large}
+use Rattle.command_line.specs.declared.words.Command.TheVariants.{Run, Check, Weak, Nested, Jobs, Watch, Import, Draw, Make, Large}
 
 -- what a command read is what it was to read
 pub read_is_expected : (command : Command) (left after : Option (List ℕ)) (read taken : List ℕ) → IsToRead command left read → Reads command left after taken → taken ≡ read
-read_is_expected Run left after read taken to_read reads = read_is_reported left after read taken to_read reads
-read_is_expected Check left after read taken to_read reads = read_is_reported left after read taken to_read reads
-read_is_expected Weak left after read taken to_read reads = read_is_reported left after read taken to_read reads
-read_is_expected Nested left after read taken to_read reads = read_is_reported left after read taken to_read reads
-read_is_expected Jobs left after read taken to_read reads = read_is_reported left after read taken to_read reads
-read_is_expected (Watch observers) left after read taken to_read reads = read_is_reported left after read taken to_read reads
+read_is_expected Run left after read taken to_read reads = read_is_reported text_limit left after read taken to_read reads
+read_is_expected Check left after read taken to_read reads = read_is_reported text_limit left after read taken to_read reads
+read_is_expected Weak left after read taken to_read reads = read_is_reported text_limit left after read taken to_read reads
+read_is_expected Nested left after read taken to_read reads = read_is_reported text_limit left after read taken to_read reads
+read_is_expected Jobs left after read taken to_read reads = read_is_reported text_limit left after read taken to_read reads
+read_is_expected (Watch observers) left after read taken to_read reads = read_is_reported text_limit left after read taken to_read reads
+read_is_expected Import left after read taken to_read reads = read_is_reported trace_limit left after read taken to_read reads
+read_is_expected (Draw axis window) left after read taken to_read reads = read_is_reported text_limit left after read taken to_read reads
 read_is_expected (Make sizes) left after read taken to_read reads = reads.1 ∙ sym to_read
 read_is_expected (Large sizes) left after read taken to_read reads = reads.1 ∙ sym to_read
 
 -- a command that reads takes no more than it is to read
-pub never_too_long : (command : Command) (left after : Option (List ℕ)) (read : List ℕ) → IsToRead command left read → (ReadsNothing command → ⊥) → TakesExactly left after (byte_limit + 1) → ⊥
-never_too_long Run left after read to_read reads longer = not_longer left after read to_read longer
-never_too_long Check left after read to_read reads longer = not_longer left after read to_read longer
-never_too_long Weak left after read to_read reads longer = not_longer left after read to_read longer
-never_too_long Nested left after read to_read reads longer = not_longer left after read to_read longer
-never_too_long Jobs left after read to_read reads longer = not_longer left after read to_read longer
-never_too_long (Watch observers) left after read to_read reads longer = not_longer left after read to_read longer
+pub never_too_long : (command : Command) (left after : Option (List ℕ)) (read : List ℕ) → IsToRead command left read → (ReadsNothing command → ⊥) → TakesExactly left after (byte_limit command + 1) → ⊥
+never_too_long Run left after read to_read reads longer = not_longer text_limit left after read to_read longer
+never_too_long Check left after read to_read reads longer = not_longer text_limit left after read to_read longer
+never_too_long Weak left after read to_read reads longer = not_longer text_limit left after read to_read longer
+never_too_long Nested left after read to_read reads longer = not_longer text_limit left after read to_read longer
+never_too_long Jobs left after read to_read reads longer = not_longer text_limit left after read to_read longer
+never_too_long (Watch observers) left after read to_read reads longer = not_longer text_limit left after read to_read longer
+never_too_long Import left after read to_read reads longer = not_longer trace_limit left after read to_read longer
+never_too_long (Draw axis window) left after read to_read reads longer = not_longer text_limit left after read to_read longer
 never_too_long (Make sizes) left after read to_read reads longer = reads tt
 never_too_long (Large sizes) left after read to_read reads longer = reads tt
 
@@ -49,6 +56,10 @@ sizes_said words = record {
   events = number_value (get_or words 4 []);
 }
 
+-- the whole, or from the value of the second word to that of the third one, whether or not they are numbers
+window_said : List (List ℕ) → Window
+window_said words = if length words == 1 then record { from = 0; to = 18446744073709551615 } else record { from = number_value (get_or words 1 []); to = number_value (get_or words 2 []) }
+
 -- the command with this mark and these values, whether or not the words mean one
 command_marked : ℕ → List (List ℕ) → Command
 command_marked first words =
@@ -57,8 +68,11 @@ command_marked first words =
     if first == mark (codes "nested") then Nested else (
     if first == mark (codes "jobs") then Jobs else (
     if first == mark (codes "watch") then Watch (number_value (get_or words 1 [])) else (
+    if first == mark (codes "import") then Import else (
+    if first == mark (codes "draw") then Draw Time (window_said words) else (
+    if first == mark (codes "steps") then Draw Steps (window_said words) else (
     if first == mark (codes "make") then Make (sizes_said words) else (
-    if first == mark (codes "large") then Large (sizes_said words) else Run))))))
+    if first == mark (codes "large") then Large (sizes_said words) else Run)))))))))
 
 -- the command that words mean, if they mean one
 command_said : List (List ℕ) → Command
@@ -75,6 +89,16 @@ sizes_are_said number processors tasks events sizes sized first = λ k. record {
   events = sized.are_events.0.1 k;
 }
 
+-- the values of two numbers are the window
+window_is_said : (from to : List ℕ) (window : Window) → IsWindow from to window → (first : List ℕ) → window_said (first ∷ from ∷ to ∷ []) ≡ window
+unfolding window_said
+window_is_said from to window is_window first = λ k. record { from = is_window.is_from.0.1 k; to = is_window.is_to.0.1 k }
+
+-- one word says the whole
+whole_is_said : (words : List (List ℕ)) (window : Window) (first : List ℕ) → IsOfWhole first words window → window_said (first ∷ []) ≡ window
+unfolding window_said
+whole_is_said words window first whole = λ k. record { from = sym whole.from_start k; to = sym whole.to_end k }
+
 -- the words of a command say it
 said_of : (words : List (List ℕ)) (command : Command) → IsCommand words command → command_said words ≡ command
 unfolding command_said command_marked mark
@@ -84,6 +108,11 @@ said_of words Weak spoken = ap command_said spoken
 said_of words Nested spoken = ap command_said spoken
 said_of words Jobs spoken = ap command_said spoken
 said_of words (Watch observers) spoken = ap command_said spoken.each_word ∙ ap Watch spoken.is_number.0.1
+said_of words Import spoken = ap command_said spoken
+said_of words (Draw Time window) (inl whole) = ap command_said whole.each_word ∙ ap (Draw Time) (whole_is_said words window (codes "draw") whole)
+said_of words (Draw Time window) (inr part) = ap command_said part.each_word ∙ ap (Draw Time) (window_is_said part.from part.to window part.is_window (codes "draw"))
+said_of words (Draw Steps window) (inl whole) = ap command_said whole.each_word ∙ ap (Draw Steps) (whole_is_said words window (codes "steps") whole)
+said_of words (Draw Steps window) (inr part) = ap command_said part.each_word ∙ ap (Draw Steps) (window_is_said part.from part.to window part.is_window (codes "steps"))
 said_of words (Make sizes) spoken = ap command_said spoken.each_word ∙ ap Make (sizes_are_said spoken.number spoken.processors spoken.tasks spoken.events sizes spoken.sized (codes "make"))
 said_of words (Large sizes) spoken = ap command_said spoken.each_word ∙ ap Large (sizes_are_said spoken.number spoken.processors spoken.tasks spoken.events sizes spoken.sized (codes "large"))
 
@@ -99,6 +128,25 @@ sized_within first words sizes sized = record {
   events = sized.sized.are_events.2;
 }
 
+-- and have its limit
+same_limit : (words : List (List ℕ)) (one other : Command) → IsCommand words one → IsCommand words other → byte_limit other ≡ byte_limit one
+same_limit words one other first second = sym (ap byte_limit (one_command words one other first second))
+
+pub too_long_said : (words : List (List ℕ)) (one other : Command) (left after : Option (List ℕ)) (most : ℕ) → IsCommand words one → IsCommand words other → most ≡ byte_limit one → TakesExactly left after (byte_limit one + 1)
+    → (most ≡ byte_limit other) × TakesExactly left after (most + 1)
+too_long_said words one other left after most first second is_limit taken = (rw (same_limit words one other first second) is_limit, rw is_limit taken)
+
+pub within_said : (words : List (List ℕ)) (one other : Command) (left after : Option (List ℕ)) → IsCommand words one → IsCommand words other → TakesAtMost left after (byte_limit one) → TakesAtMost left after (byte_limit other)
+within_said words one other left after first second taken = rw (same_limit words one other first second) taken
+
+pub takes_said : (words : List (List ℕ)) (one other : Command) (before after : ℕ) → IsCommand words one → IsCommand words other → after ≤ before + byte_limit one + 2 → after ≤ before + byte_limit other + 2
+takes_said words one other before after first second few = rw (same_limit words one other first second) few
+
+-- what is left where the first of two does not hold
+pub left_out : {A B : Type 0} → (A → ⊥) → A ⊎ B → B
+left_out none (inl a) = absurd (none a)
+left_out none (inr b) = b
+
 pub command_within : (words : List (List ℕ)) (command : Command) → IsCommand words command → IsBounded command
 command_within words Run spoken = tt
 command_within words Check spoken = tt
@@ -106,6 +154,8 @@ command_within words Weak spoken = tt
 command_within words Nested spoken = tt
 command_within words Jobs spoken = tt
 command_within words (Watch observers) spoken = (spoken.is_number.1, spoken.is_number.2)
+command_within words Import spoken = tt
+command_within words (Draw axis window) spoken = tt
 command_within words (Make sizes) spoken = sized_within _ words sizes spoken
 command_within words (Large sizes) spoken = sized_within _ words sizes spoken
 
@@ -126,6 +176,9 @@ unsized_words words first number processors tasks events five none Weak spoken =
 unsized_words words first number processors tasks events five none Nested spoken = let same = sym five ∙ spoken in cc
 unsized_words words first number processors tasks events five none Jobs spoken = let same = sym five ∙ spoken in cc
 unsized_words words first number processors tasks events five none (Watch observers) spoken = let same = sym five ∙ spoken.each_word in cc
+unsized_words words first number processors tasks events five none Import spoken = let same = sym five ∙ spoken in cc
+unsized_words words first number processors tasks events five none (Draw axis window) (inl whole) = let same = sym five ∙ whole.each_word in cc
+unsized_words words first number processors tasks events five none (Draw axis window) (inr part) = let same = sym five ∙ part.each_word in cc
 unsized_words words first number processors tasks events five none (Make sizes) spoken = no_sizes _ words number processors tasks events first five none sizes spoken
 unsized_words words first number processors tasks events five none (Large sizes) spoken = no_sizes _ words number processors tasks events first five none sizes spoken
 
@@ -140,8 +193,32 @@ unwatched_words words first number two none (Watch observers) spoken =
     let same = sym spoken.each_word ∙ two in
     let numbers : spoken.number ≡ number = cc in
     none observers (rw numbers at spoken.is_number)
+unwatched_words words first number two none Import spoken = let same = sym two ∙ spoken in cc
+unwatched_words words first number two none (Draw axis window) (inl whole) = let same = sym two ∙ whole.each_word in cc
+unwatched_words words first number two none (Draw axis window) (inr part) = let same = sym two ∙ part.each_word in cc
 unwatched_words words first number two none (Make sizes) spoken = let same = sym two ∙ spoken.each_word in cc
 unwatched_words words first number two none (Large sizes) spoken = let same = sym two ∙ spoken.each_word in cc
+
+-- three words of which the last two say no window mean no command
+no_window : (words : List (List ℕ)) (axis : Axis) (first from to : List ℕ) → words ≡ first ∷ from ∷ to ∷ [] → ((window : Window) → IsWindow from to window → ⊥) → (window : Window) → IsOfPart (word_of axis) words window → ⊥
+no_window words axis first from to three none window part =
+    let same = sym part.each_word ∙ three in
+    let begins : part.from ≡ from = cc in
+    let ends : part.to ≡ to = cc in
+    none window (rw (begins, ends) at part.is_window)
+
+pub unwindowed_words : (words : List (List ℕ)) (first from to : List ℕ) → words ≡ first ∷ from ∷ to ∷ [] → ((window : Window) → IsWindow from to window → ⊥) → (command : Command) → IsCommand words command → ⊥
+unwindowed_words words first from to three none Run spoken = let same = sym three ∙ spoken in cc
+unwindowed_words words first from to three none Check spoken = let same = sym three ∙ spoken in cc
+unwindowed_words words first from to three none Weak spoken = let same = sym three ∙ spoken in cc
+unwindowed_words words first from to three none Nested spoken = let same = sym three ∙ spoken in cc
+unwindowed_words words first from to three none Jobs spoken = let same = sym three ∙ spoken in cc
+unwindowed_words words first from to three none (Watch observers) spoken = let same = sym three ∙ spoken.each_word in cc
+unwindowed_words words first from to three none Import spoken = let same = sym three ∙ spoken in cc
+unwindowed_words words first from to three none (Draw axis window) (inl whole) = let same = sym three ∙ whole.each_word in cc
+unwindowed_words words first from to three none (Draw axis window) (inr part) = no_window words axis first from to three none window part
+unwindowed_words words first from to three none (Make sizes) spoken = let same = sym three ∙ spoken.each_word in cc
+unwindowed_words words first from to three none (Large sizes) spoken = let same = sym three ∙ spoken.each_word in cc
 
 -- two words, each by its place
 pub two_words : (words : List (String Global)) (a b : String Global) → 2 ≤ length words → length words < 3 → a ≡ get_or words 0 a → b ≡ get_or words 1 b → map (string_bytes {Z = Global}) words ≡ string_bytes a ∷ string_bytes b ∷ []
@@ -149,6 +226,14 @@ two_words (v ∷ w ∷ []) a b least most one two = rw (one, two) refl
 two_words [] a b least most one two = absurd (omega arith)
 two_words (v ∷ []) a b least most one two = absurd (omega arith)
 two_words (v ∷ w ∷ u ∷ more) a b least most one two = absurd (omega arith)
+
+-- three words, each by its place
+pub three_words : (words : List (String Global)) (a b c : String Global) → 3 ≤ length words → length words < 4 → a ≡ get_or words 0 a → b ≡ get_or words 1 b → c ≡ get_or words 2 c → map (string_bytes {Z = Global}) words ≡ string_bytes a ∷ string_bytes b ∷ string_bytes c ∷ []
+three_words (v ∷ w ∷ x ∷ []) a b c least most one two three = rw (one, two, three) refl
+three_words [] a b c least most one two three = absurd (omega arith)
+three_words (v ∷ []) a b c least most one two three = absurd (omega arith)
+three_words (v ∷ w ∷ []) a b c least most one two three = absurd (omega arith)
+three_words (v ∷ w ∷ x ∷ u ∷ more) a b c least most one two three = absurd (omega arith)
 
 -- five words, each by its place
 pub five_words : (words : List (String Global)) (a b c d e : String Global) → 5 ≤ length words → length words < 6 → a ≡ get_or words 0 a → b ≡ get_or words 1 b → c ≡ get_or words 2 c → d ≡ get_or words 3 d → e ≡ get_or words 4 e

@@ -1,7 +1,7 @@
 -- The commands: the words that they are, what they read, what they make of it, and what they refuse, each with one answer.
-use Rattle.std.specs.Prelude.{◌≡◌, ℕ, ◌≤◌, List, [], ◌∷◌, codes, Option}
+use Rattle.std.specs.Prelude.{◌≡◌, ◌⊎◌, ℕ, ◌≤◌, List, [], ◌∷◌, codes, Option}
 use Rattle.text_fields.specs.Number.{IsNumberWithin}
-use Rattle.commands.specs.Reading.{ReadsAll, IsReported}
+use Rattle.commands.specs.Reading.{text_limit, trace_limit, ReadsAll, IsReported}
 use Rattle.commands.specs.Refusal.{IsAccepted, IsAnsweredInput, RefusesInput}
 use Rattle.commands.specs.declared.status.Status.{Status}
 use Rattle.commands.specs.Valid.{IsValidText}
@@ -11,11 +11,16 @@ use Rattle.commands.specs.Weak.{IsWeakOf}
 use Rattle.commands.specs.Watch.{IsWatchOf}
 use Rattle.commands.specs.NestedRun.{IsNestedOf, AcceptsNested, RefusesNested}
 use Rattle.commands.specs.JobsRun.{IsJobsOf, AcceptsJobs, RefusesJobs}
+use Rattle.commands.specs.Import.{IsImportOf, AcceptsTrace, RefusesTrace}
+use Rattle.commands.specs.Draw.{IsDrawingOf}
 use Rattle.commands.specs.Generating.{IsMakeOf, IsLargeOf}
 use Rattle.commands.specs.Sizes.{AreWithin}
 use Rattle.commands.specs.declared.sizes.Sizes.{Sizes}
+use Rattle.schedule_picture.specs.declared.axis.Axis.{Axis}
+use Rattle.schedule_picture.specs.declared.axis.Axis.TheVariants.{Time, Steps}
+use Rattle.schedule_picture.specs.declared.window.Window.{Window}
 use Rattle.command_line.specs.declared.words.Command.{Command}
-use Rattle.command_line.specs.declared.words.Command.TheVariants.{Run, Check, Weak, Nested, Jobs, Watch, Make, Large}
+use Rattle.command_line.specs.declared.words.Command.TheVariants.{Run, Check, Weak, Nested, Jobs, Watch, Import, Draw, Make, Large}
 
 -- ---- words
 -- a number, and then how many processors, tasks and events there are; leading zeros are no fault
@@ -40,6 +45,29 @@ pub record IsWatch (words : List (List ℕ)) (observers : ℕ) : Type 0 where
   pub each_word : words ≡ codes "watch" ∷ number ∷ []
   pub is_number : IsNumberWithin 1 8 number observers
 
+-- two numbers, of which the second is no less; leading zeros are no fault
+pub record IsWindow (from to : List ℕ) (window : Window) : Type 0 where
+  pub is_from : IsNumberWithin 0 18446744073709551615 from window.from
+  pub is_to : IsNumberWithin window.from 18446744073709551615 to window.to
+
+-- a word alone, which is about the whole
+pub record IsOfWhole (first : List ℕ) (words : List (List ℕ)) (window : Window) : Type 0 where
+  pub each_word : words ≡ first ∷ []
+  pub from_start : window.from ≡ 0
+  pub to_end : window.to ≡ 18446744073709551615
+
+-- a word, and the window from one number to another
+pub record IsOfPart (first : List ℕ) (words : List (List ℕ)) (window : Window) : Type 0 where
+  pub from : List ℕ
+  pub to : List ℕ
+  pub each_word : words ≡ first ∷ from ∷ to ∷ []
+  pub is_window : IsWindow from to window
+
+-- the word for a picture over time, and for one by entries
+abbrev pub word_of : Axis → List ℕ
+word_of Time = codes "draw"
+word_of Steps = codes "steps"
+
 -- the words mean the command
 abbrev pub IsCommand : List (List ℕ) → Command → Type 0
 IsCommand words Run = words ≡ codes "run" ∷ []
@@ -48,6 +76,8 @@ IsCommand words Weak = words ≡ codes "weak" ∷ []
 IsCommand words Nested = words ≡ codes "nested" ∷ []
 IsCommand words Jobs = words ≡ codes "jobs" ∷ []
 IsCommand words (Watch observers) = IsWatch words observers
+IsCommand words Import = words ≡ codes "import" ∷ []
+IsCommand words (Draw axis window) = IsOfWhole (word_of axis) words window ⊎ IsOfPart (word_of axis) words window
 IsCommand words (Make sizes) = IsSized (codes "make") words sizes
 IsCommand words (Large sizes) = IsSized (codes "large") words sizes
 
@@ -59,29 +89,48 @@ IsBounded Weak = Unit {0}
 IsBounded Nested = Unit {0}
 IsBounded Jobs = Unit {0}
 IsBounded (Watch observers) = (1 ≤ observers) × (observers ≤ 8)
+IsBounded Import = Unit {0}
+IsBounded (Draw axis window) = Unit {0}
 IsBounded (Make sizes) = AreWithin sizes
 IsBounded (Large sizes) = AreWithin sizes
 
 -- ---- what is read
+-- the most bytes that a command reads: `import` reads long traces
+abbrev pub byte_limit : Command → ℕ
+byte_limit Run = text_limit
+byte_limit Check = text_limit
+byte_limit Weak = text_limit
+byte_limit Nested = text_limit
+byte_limit Jobs = text_limit
+byte_limit (Watch observers) = text_limit
+byte_limit Import = trace_limit
+byte_limit (Draw axis window) = text_limit
+byte_limit (Make sizes) = text_limit
+byte_limit (Large sizes) = text_limit
+
 -- what a command reads of a source; `make` and `large` read nothing
 abbrev pub Reads : Command → Option (List ℕ) → Option (List ℕ) → List ℕ → Type 0
-Reads Run old new read = ReadsAll old new read
-Reads Check old new read = ReadsAll old new read
-Reads Weak old new read = ReadsAll old new read
-Reads Nested old new read = ReadsAll old new read
-Reads Jobs old new read = ReadsAll old new read
-Reads (Watch observers) old new read = ReadsAll old new read
+Reads Run old new read = ReadsAll text_limit old new read
+Reads Check old new read = ReadsAll text_limit old new read
+Reads Weak old new read = ReadsAll text_limit old new read
+Reads Nested old new read = ReadsAll text_limit old new read
+Reads Jobs old new read = ReadsAll text_limit old new read
+Reads (Watch observers) old new read = ReadsAll text_limit old new read
+Reads Import old new read = ReadsAll trace_limit old new read
+Reads (Draw axis window) old new read = ReadsAll text_limit old new read
 Reads (Make sizes) old new read = (new ≡ old) × (read ≡ [])
 Reads (Large sizes) old new read = (new ≡ old) × (read ≡ [])
 
 -- what a command is to read of a source with this left
 abbrev pub IsToRead : Command → Option (List ℕ) → List ℕ → Type 0
-IsToRead Run left read = IsReported left read
-IsToRead Check left read = IsReported left read
-IsToRead Weak left read = IsReported left read
-IsToRead Nested left read = IsReported left read
-IsToRead Jobs left read = IsReported left read
-IsToRead (Watch observers) left read = IsReported left read
+IsToRead Run left read = IsReported text_limit left read
+IsToRead Check left read = IsReported text_limit left read
+IsToRead Weak left read = IsReported text_limit left read
+IsToRead Nested left read = IsReported text_limit left read
+IsToRead Jobs left read = IsReported text_limit left read
+IsToRead (Watch observers) left read = IsReported text_limit left read
+IsToRead Import left read = IsReported trace_limit left read
+IsToRead (Draw axis window) left read = IsReported text_limit left read
 IsToRead (Make sizes) left read = read ≡ []
 IsToRead (Large sizes) left read = read ≡ []
 
@@ -93,6 +142,8 @@ ReadsNothing Weak = ⊥
 ReadsNothing Nested = ⊥
 ReadsNothing Jobs = ⊥
 ReadsNothing (Watch observers) = ⊥
+ReadsNothing Import = ⊥
+ReadsNothing (Draw axis window) = ⊥
 ReadsNothing (Make sizes) = Unit {0}
 ReadsNothing (Large sizes) = Unit {0}
 
@@ -105,6 +156,8 @@ Makes Weak read put = IsWeakOf read put
 Makes Nested read put = IsNestedOf read put
 Makes Jobs read put = IsJobsOf read put
 Makes (Watch observers) read put = IsWatchOf observers read put
+Makes Import read put = IsImportOf read put
+Makes (Draw axis window) read put = IsDrawingOf axis window read put
 Makes (Make sizes) read put = IsMakeOf sizes put
 Makes (Large sizes) read put = IsLargeOf sizes put
 
@@ -116,6 +169,8 @@ Accepts Weak bytes = IsAccepted bytes
 Accepts Nested bytes = AcceptsNested bytes
 Accepts Jobs bytes = AcceptsJobs bytes
 Accepts (Watch observers) bytes = IsAccepted bytes
+Accepts Import bytes = AcceptsTrace bytes
+Accepts (Draw axis window) bytes = IsValidText bytes
 Accepts (Make sizes) bytes = bytes ≡ []
 Accepts (Large sizes) bytes = bytes ≡ []
 
@@ -127,6 +182,8 @@ Refuses Weak bytes status = IsAnsweredInput (RefusesInput bytes) status
 Refuses Nested bytes status = RefusesNested bytes status
 Refuses Jobs bytes status = RefusesJobs bytes status
 Refuses (Watch observers) bytes status = IsAnsweredInput (RefusesInput bytes) status
+Refuses Import bytes status = RefusesTrace bytes status
+Refuses (Draw axis window) bytes status = RefusesCheck bytes status
 Refuses (Make sizes) bytes status = ⊥
 Refuses (Large sizes) bytes status = ⊥
 

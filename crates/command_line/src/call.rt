@@ -7,15 +7,14 @@ ghost use Rattle.shift_io.specs.Causes.{Rose};
 ghost use Rattle.shift_io.specs.Stream.{TakesAtMost, TakesExactly, AppendsPrefix};
 ghost use Rattle.commands.specs.declared.status.Status.{Status};
 ghost use Rattle.commands.specs.Answers.{Answers};
-ghost use Rattle.commands.specs.Reading.{byte_limit};
 ghost use Rattle.commands.specs.Status.{BeforePut};
 ghost use Rattle.command_line.specs.declared.words.Command.{Command};
-ghost use Rattle.command_line.specs.Command.{IsCommand, IsBounded, Reads, ReadsNothing, IsToRead, Makes, Accepts, Refuses, ReadsAndMakes, ReadsRefused};
+ghost use Rattle.command_line.specs.Command.{IsCommand, IsBounded, byte_limit, Reads, ReadsNothing, IsToRead, Makes, Accepts, Refuses, ReadsAndMakes, ReadsRefused};
 
 use crate::words::{Command, command_of};
 use commands::{
-    MAX_BYTES, Status, checked_text, jobs_text, made_text, nested_text, replayed_text, summary_of,
-    watched_text, weak_text,
+    MAX_BYTES, MAX_TRACE_BYTES, Status, checked_text, drawn_text, imported_text, jobs_text,
+    made_text, nested_text, replayed_text, summary_of, watched_text, weak_text,
 };
 use processor_seat::Gate;
 use shift_io::{ReadAllFault, Sink, Source, put_all, read_all};
@@ -31,9 +30,10 @@ use std::thread::Threads;
 /// an input text of version 1 whose masks nest, and writes what counts decide. `jobs` reads a text of periodic tasks,
 /// and writes when each of their jobs ends. `watch` works as `run` does, but for the posts, which are in the order of
 /// the lines, and beside it so many observers read which processors are occupied, each on a thread of its own. It writes
-/// the schedule text, and then what they read; the gate is also called before each of their reads. `make` writes the text
-/// of the input of its four numbers, and `large` replays that input as `run` does and writes a summary; neither reads the
-/// source.
+/// the schedule text, and then what they read; the gate is also called before each of their reads. `import` reads a
+/// trace of the Linux scheduler, and writes the input that it comes to. `draw` and `steps` read what `check` reads, and of
+/// a valid schedule write a picture. `make` writes the text of the input of its four numbers, and `large` replays that
+/// input as `run` does and writes a summary; neither reads the source.
 pub fn run<R: Threads + Wait + Sync, S: Source, K: Sink, G: Gate + Sync>(
     rt: &R,
     alloc: Global,
@@ -55,10 +55,12 @@ pub fn run<R: Threads + Wait + Sync, S: Source, K: Sink, G: Gate + Sync>(
     ensures nothing_to_read { (command : Command) → IsCommand (map string_bytes words.now) command
         → ReadsNothing command → source.new ≡ source.old }
     ensures read_fault { result ≡ Status.ReadFault → Rose (S.faults source.old) (S.faults source.new) }
-    ensures too_long { result ≡ Status.TooLong →
-        TakesExactly (S.left source.old) (S.left source.new) (byte_limit + 1) }
-    ensures within { result ≢ Status.TooLong →
-        TakesAtMost (S.left source.old) (S.left source.new) byte_limit }
+    ensures too_long { (most : ℕ) → result ≡ Status.TooLong most → (command : Command)
+        → IsCommand (map string_bytes words.now) command → (most ≡ byte_limit command)
+        × TakesExactly (S.left source.old) (S.left source.new) (most + 1) }
+    ensures within { (command : Command) → IsCommand (map string_bytes words.now) command
+        → ((most : ℕ) → result ≢ Status.TooLong most)
+        → TakesAtMost (S.left source.old) (S.left source.new) (byte_limit command) }
     ensures input { (line kind : ℕ) → result ≡ Status.Input line kind
         → ReadsRefused (map string_bytes words.now) (S.left source.old) (S.left source.new) result }
     ensures version { result ≡ Status.Version
@@ -74,7 +76,8 @@ pub fn run<R: Threads + Wait + Sync, S: Source, K: Sink, G: Gate + Sync>(
         × (K.calls sink.new ≤ K.calls sink.old + length text)) }
 
     // At most two more takes than the most bytes that are read.
-    ensures takes { S.calls source.new ≤ S.calls source.old + byte_limit + 2 }
+    ensures takes { (command : Command) → IsCommand (map string_bytes words.now) command
+        → S.calls source.new ≤ S.calls source.old + byte_limit command + 2 }
 
     // Where nothing fails, the bytes alone decide, unless memory is out.
     ensures complete { (command : Command) (read : List ℕ)
@@ -96,7 +99,11 @@ pub fn run<R: Threads + Wait + Sync, S: Source, K: Sink, G: Gate + Sync>(
     let bytes = match bytes_for(alloc, command, source) {
         Ok(bytes) => bytes,
         Err(ReadAllFault::ReadFault) => return Status::ReadFault,
-        Err(ReadAllFault::TooLong) => return Status::TooLong,
+        Err(ReadAllFault::TooLong) => {
+            return Status::TooLong {
+                most: limit_of(command) as u64,
+            };
+        }
         Err(ReadAllFault::OutOfMemory) => return Status::OutOfMemory,
     };
     let text = match text_made(rt, alloc, command, &bytes, gate) {
@@ -122,10 +129,10 @@ fn bytes_for<S: Source>(
     ensures read_fault { IsErrOf result fault.ReadFault →
         Rose (S.faults source.old) (S.faults source.new) }
     ensures too_long { IsErrOf result fault.TooLong →
-        TakesExactly (S.left source.old) (S.left source.new) (byte_limit + 1) }
+        TakesExactly (S.left source.old) (S.left source.new) (byte_limit command + 1) }
     ensures within { IsErrOf result fault.TooLong
-        ⊎ TakesAtMost (S.left source.old) (S.left source.new) byte_limit }
-    ensures takes { S.calls source.new ≤ S.calls source.old + byte_limit + 2 }
+        ⊎ TakesAtMost (S.left source.old) (S.left source.new) (byte_limit command) }
+    ensures takes { S.calls source.new ≤ S.calls source.old + byte_limit command + 2 }
 {
     match command {
         Command::Make(_) | Command::Large(_) => Ok(Vec::new(alloc)),
@@ -134,7 +141,27 @@ fn bytes_for<S: Source>(
         | Command::Weak
         | Command::Nested
         | Command::Jobs
-        | Command::Watch(_) => read_all(alloc, source, MAX_BYTES),
+        | Command::Watch(_)
+        | Command::Draw(_, _) => read_all(alloc, source, MAX_BYTES),
+        Command::Import => read_all(alloc, source, MAX_TRACE_BYTES),
+    }
+}
+
+/// The most bytes that a command reads.
+fn limit_of(command: Command) -> usize
+    ensures { result ≡ byte_limit command }
+{
+    match command {
+        Command::Import => MAX_TRACE_BYTES,
+        Command::Run
+        | Command::Check
+        | Command::Weak
+        | Command::Nested
+        | Command::Jobs
+        | Command::Watch(_)
+        | Command::Draw(_, _)
+        | Command::Make(_)
+        | Command::Large(_) => MAX_BYTES,
     }
 }
 
@@ -157,6 +184,8 @@ fn text_made<R: Threads + Wait + Sync, G: Gate + Sync>(
         Command::Nested => nested_text(alloc, bytes),
         Command::Jobs => jobs_text(alloc, bytes),
         Command::Watch(observers) => watched_text(rt, alloc, bytes, observers, gate),
+        Command::Import => imported_text(alloc, bytes),
+        Command::Draw(axis, window) => drawn_text(alloc, bytes, axis, window),
         Command::Make(sizes) => {
             let text = made_text(alloc, sizes)?;
             Ok(text)

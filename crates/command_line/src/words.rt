@@ -2,10 +2,12 @@
 ghost use Rattle.std.specs.Prelude.{◌≡◌, ℕ, [], ◌∷◌, MatchOption, map, string_bytes, codes};
 ghost use Rattle.command_line.specs.declared.words.Command.{Command};
 ghost use Rattle.commands.specs.declared.sizes.Sizes.{Sizes};
-ghost use Rattle.command_line.specs.Command.{IsCommand, AreSizes};
+ghost use Rattle.schedule_picture.specs.declared.window.Window.{Window};
+ghost use Rattle.command_line.specs.Command.{IsCommand, IsWindow, AreSizes};
 ghost use Rattle.text_fields.specs.Number.{IsNumberWithin};
 
 use commands::{MAX_OBSERVERS, Sizes};
+use schedule_picture::{Axis, Window};
 use task_set::MAX_TASKS;
 use text_fields::limits::{MAX_EVENTS, MAX_PROCESSORS};
 use text_fields::read_number;
@@ -28,12 +30,22 @@ pub enum Command {
     /// The source is an input text; its events are replayed while so many observers read, and the schedule text is
     /// written, and what they read.
     Watch(u32),
+    /// The source is a trace of the Linux scheduler, and the text of the input that it comes to is written.
+    Import,
+    /// The source is a schedule text; it is checked, and a picture of this window of it is written.
+    Draw(Axis, Window),
     /// The text of the input of these numbers is written. Nothing is read.
     Make(Sizes),
     /// The events of the input of these numbers are replayed, and a summary of the schedule is written. Nothing is
     /// read.
     Large(Sizes),
 }
+
+/// The whole of a schedule: no schedule ends later.
+const WHOLE: Window = Window {
+    from: 0,
+    to: u64::MAX,
+};
 
 /// The command that the words mean, if they mean one.
 pub fn command_of(words: &[String]) -> Option<Command>
@@ -47,6 +59,9 @@ pub fn command_of(words: &[String]) -> Option<Command>
             "weak" => Some(Command::Weak),
             "nested" => Some(Command::Nested),
             "jobs" => Some(Command::Jobs),
+            "import" => Some(Command::Import),
+            "draw" => Some(Command::Draw(Axis::Time, WHOLE)),
+            "steps" => Some(Command::Draw(Axis::Steps, WHOLE)),
             _ => None,
         },
         [word, number] => {
@@ -55,6 +70,16 @@ pub fn command_of(words: &[String]) -> Option<Command>
             };
             match word.as_str() {
                 "watch" => Some(Command::Watch(observers)),
+                _ => None,
+            }
+        }
+        [word, from, to] => {
+            let Some(window) = window_of(from, to) else {
+                return None;
+            };
+            match word.as_str() {
+                "draw" => Some(Command::Draw(Axis::Time, window)),
+                "steps" => Some(Command::Draw(Axis::Steps, window)),
                 _ => None,
             }
         }
@@ -80,6 +105,16 @@ fn observers_of(number: &str) -> Option<u32>
 {
     let observers = read_number(number.as_bytes(), 1, MAX_OBSERVERS as u64)?;
     Some(observers as u32)
+}
+
+/// The window from one of these words to the other, if they are numbers, and the second is no less than the first.
+fn window_of(from: &str, to: &str) -> Option<Window>
+    ensures { MatchOption result ((window : Window) → IsWindow from.now to.now window → ⊥)
+        (IsWindow from.now to.now) }
+{
+    let from = read_number(from.as_bytes(), 0, u64::MAX)?;
+    let to = read_number(to.as_bytes(), from, u64::MAX)?;
+    Some(Window { from, to })
 }
 
 /// The numbers that these words are, if each is a number within its bounds.

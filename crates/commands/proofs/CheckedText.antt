@@ -7,6 +7,9 @@ use Rattle.schedule_text.specs.ScheduleFault.{IsScheduleRefused}
 use Rattle.schedule_text.specs.declared.fault.TextFault.{TextFault}
 use Rattle.schedule_text.specs.declared.fault.TextKind.{TextKind}
 use Rattle.schedule_text.specs.declared.fault.TextKind.TheVariants as text_kind
+use Rattle.schedule_picture.specs.Picture.{IsPicture}
+use Rattle.schedule_picture.specs.declared.axis.Axis.{Axis}
+use Rattle.schedule_picture.specs.declared.window.Window.{Window}
 use Rattle.commands.specs.Answers.{Answers}
 use Rattle.commands.specs.Status.{status_of_text_fault}
 use Rattle.commands.specs.declared.status.Status.{Status}
@@ -16,6 +19,7 @@ use Rattle.commands.specs.Valid.{IsValid, IsInvalid, IsValidText}
 use Rattle.commands.proofs.OneVerdict.{invalid_once, valid_is_not_invalid, valid_is_best, valid_has_no_improving_chain}
 use Rattle.commands.specs.Check.{IsCheckOf, RefusesCheck, valid_text}
 use Rattle.commands.specs.Checking.{IsInvalidStatus}
+use Rattle.commands.specs.Draw.{IsDrawingOf}
 
 -- ---- a schedule that is judged
 -- a valid schedule is not answered as wrong
@@ -47,9 +51,9 @@ text_refused_status : (bytes : List ℕ) (fault : TextFault) (expected : Status)
 text_refused_status bytes fault expected unread refused (inl input) = status_of_text_refused bytes expected fault input (refused input.number input.cause.cause input.cause.refused)
 text_refused_status bytes fault expected unread refused (inr invalid) = inr (memory_of_text_fault fault (unread invalid.cause.schedule invalid.cause.is_text.is_schedule invalid.cause.is_text.text))
 
-pub answers_text_fault : (bytes : List ℕ) (fault : TextFault) → IsUnread bytes fault → (fault.kind ≡ text_kind.OutOfMemory) ⊎ IsScheduleRefused bytes fault.line fault.kind
+pub answers_text_fault : {Makes : List ℕ → Type 0} (bytes : List ℕ) (fault : TextFault) → IsUnread bytes fault → (fault.kind ≡ text_kind.OutOfMemory) ⊎ IsScheduleRefused bytes fault.line fault.kind
     → ((line : ℕ) (kind : TextKind) → IsScheduleRefused bytes line kind → (fault.kind ≡ text_kind.OutOfMemory) ⊎ ((fault.line ≡ line) × (fault.kind ≡ kind)))
-    → Answers (IsCheckOf bytes) (IsValidText bytes) (RefusesCheck bytes) (Err (status_of_text_fault fault))
+    → Answers Makes (IsValidText bytes) (RefusesCheck bytes) (Err (status_of_text_fault fault))
 answers_text_fault bytes fault unread why refused =
     record {
       makes = tt;
@@ -92,20 +96,36 @@ module _ (bytes : List ℕ) (schedule : ScheduleData) (ok : IsSchedule schedule)
   invalid_refused status (inr memory) = inr memory
 
   -- the answer to a schedule that was judged is that to the bytes
-  pub answers_judged : (result : Result (Vec ℕ Global) Status) → ((line : ℕ) (kind : TextKind) → IsScheduleRefused bytes line kind → ⊥)
-      → IfOk result (λ (made : Vec ℕ Global). IsValid schedule × (made.items ≡ valid_text (length schedule.entries))) → IfErr result (λ (status : Status). IsInvalidStatus schedule status ⊎ (status ≡ OutOfMemory))
-      → Answers (IsCheckOf bytes) (IsValidText bytes) (RefusesCheck bytes) result
-  answers_judged (Ok made) unrefused valid refused =
+  answers_judged : (IsMadeOf : List ℕ → Type 0) (Makes : List ℕ → Type 0) (result : Result (Vec ℕ Global) Status) → ((put : List ℕ) → IsValid schedule → IsMadeOf put → Makes put)
+      → ((line : ℕ) (kind : TextKind) → IsScheduleRefused bytes line kind → ⊥)
+      → IfOk result (λ (made : Vec ℕ Global). IsValid schedule × IsMadeOf made.items) → IfErr result (λ (status : Status). IsInvalidStatus schedule status ⊎ (status ≡ OutOfMemory))
+      → Answers Makes (IsValidText bytes) (RefusesCheck bytes) result
+  answers_judged IsMadeOf Makes (Ok made) makes unrefused valid refused =
       record {
-        makes = is_check_of made.items valid.0 valid.1;
+        makes = makes made.items valid.0 valid.1;
         refused = tt;
         accepts = λ accepted. tt;
         refuses = λ expected. valid_unrefused expected valid.0 unrefused;
       }
-  answers_judged (Err status) unrefused valid refused =
+  answers_judged IsMadeOf Makes (Err status) makes unrefused valid refused =
       record {
         makes = tt;
         refused = invalid_refused status refused;
         accepts = λ accepted. memory_of_valid schedule status ok (subst IsValid (sym (only accepted.0 accepted.1.is_schedule accepted.1.text)) accepted.2) refused;
         refuses = λ expected. schedule_refused_status status expected unrefused (λ number defect invalid. status_of_invalid schedule status number defect ok invalid refused);
       }
+
+  -- the answer of a check
+  pub answers_checked : (result : Result (Vec ℕ Global) Status) → ((line : ℕ) (kind : TextKind) → IsScheduleRefused bytes line kind → ⊥)
+      → IfOk result (λ (made : Vec ℕ Global). IsValid schedule × (made.items ≡ valid_text (length schedule.entries))) → IfErr result (λ (status : Status). IsInvalidStatus schedule status ⊎ (status ≡ OutOfMemory))
+      → Answers (IsCheckOf bytes) (IsValidText bytes) (RefusesCheck bytes) result
+  answers_checked result = answers_judged (λ put. put ≡ valid_text (length schedule.entries)) (IsCheckOf bytes) result is_check_of
+
+  is_drawing_of : (axis : Axis) (window : Window) (put : List ℕ) → IsValid schedule → IsPicture axis schedule.set schedule.entries window put → IsDrawingOf axis window bytes put
+  is_drawing_of axis window put valid picture = record { schedule = schedule; is_text = record { is_schedule = ok; text = text }; valid = valid; picture = picture }
+
+  -- the answer of a drawing
+  pub answers_drawn : (axis : Axis) (window : Window) (result : Result (Vec ℕ Global) Status) → ((line : ℕ) (kind : TextKind) → IsScheduleRefused bytes line kind → ⊥)
+      → IfOk result (λ (made : Vec ℕ Global). IsValid schedule × IsPicture axis schedule.set schedule.entries window made.items) → IfErr result (λ (status : Status). IsInvalidStatus schedule status ⊎ (status ≡ OutOfMemory))
+      → Answers (IsDrawingOf axis window bytes) (IsValidText bytes) (RefusesCheck bytes) result
+  answers_drawn axis window result = answers_judged (IsPicture axis schedule.set schedule.entries window) (IsDrawingOf axis window bytes) result (is_drawing_of axis window)

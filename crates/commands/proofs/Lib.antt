@@ -16,5 +16,6 @@ pub mod Refusals
 pub mod RunIsValid
 pub mod RunsOneText
 pub mod Snapshots
+pub mod TraceRefusals
 pub mod WeakOneText
 pub mod Written

@@ -1,7 +1,9 @@
 pub mod Answers
 pub mod Check
 pub mod Checking
+pub mod Draw
 pub mod Generating
+pub mod Import
 pub mod JobsLaws
 pub mod JobsRun
 pub mod NestedRun

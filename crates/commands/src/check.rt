@@ -38,7 +38,7 @@ fn judged_text(alloc: Global, schedule: &Schedule) -> Result<Vec<u8>, Status>
 }
 
 /// Judges each entry of a schedule, and then each context. Refused with the first that is wrong, or where memory is out.
-fn judge(alloc: Global, schedule: &Schedule) -> Result<(), Status>
+pub(crate) fn judge(alloc: Global, schedule: &Schedule) -> Result<(), Status>
     ensures valid { OnOk result (IsValid schedule.now) }
     ensures refused { IfErr result (λ status.
         IsInvalidStatus schedule.now status ⊎ (status ≡ Status.OutOfMemory)) }

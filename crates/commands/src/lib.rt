@@ -3,7 +3,9 @@
 #![tactic(auto)]
 
 mod check;
+mod draw;
 mod generate;
+mod import;
 mod jobs;
 pub mod laws;
 mod nested;
@@ -17,12 +19,14 @@ mod watch;
 mod weak;
 
 pub use check::checked_text;
+pub use draw::drawn_text;
 pub use generate::{made_text, summary_of};
+pub use import::imported_text;
 pub use jobs::jobs_text;
 pub use nested::nested_text;
 pub use reporting::{exit_status, report};
 pub use run::{replayed_text, text_of_replay};
 pub use sizes::Sizes;
-pub use status::{MAX_BYTES, Status};
+pub use status::{MAX_BYTES, MAX_TRACE_BYTES, Status};
 pub use watch::{MAX_OBSERVERS, watched_text};
 pub use weak::weak_text;

@@ -26,7 +26,8 @@ pub fn exit_status(status: &Status) -> u8
         Status::Done => 0,
         Status::Invalid { .. } => 1,
         Status::Usage => 2,
-        Status::Input { .. } | Status::Version | Status::Crossing { .. } | Status::TooLong => 3,
+        Status::Input { .. } | Status::Version | Status::Crossing { .. } | Status::TooLong { .. } =>
+            3,
         Status::ReadFault => 4,
         Status::WriteFault => 5,
         Status::OutOfMemory => 6,

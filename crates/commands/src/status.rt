@@ -6,8 +6,11 @@ use schedule_text::TextFault;
 use std::fmt;
 use trace_reader::InputFault;
 
-/// The most bytes that a program reads.
+/// The most bytes of a text that a program reads.
 pub const MAX_BYTES: usize = 16_777_216;
+
+/// The most bytes of a recorded trace, with its head, that a program reads.
+pub const MAX_TRACE_BYTES: usize = 268_435_456;
 
 /// What became of a call of a program.
 #[derive(Clone, Copy, Debug, PartialEq, Eq)]
@@ -24,8 +27,8 @@ pub enum Status {
     Version,
     /// The masks of these two tasks meet, and neither lies within the other; the tasks count from 0.
     Crossing { one: u32, other: u32 },
-    /// There are more bytes than the program reads.
-    TooLong,
+    /// There are more bytes than these, the most that the program reads for its words.
+    TooLong { most: u64 },
     /// The source failed.
     ReadFault,
     /// The sink failed.
@@ -46,14 +49,14 @@ impl fmt::Display for Status {
             Status::Invalid { line, defect } => write!(f, "invalid: line {line}, defect {defect}"),
             Status::Usage => write!(
                 f,
-                "usage: run, check, make n p t e, large n p t e, weak, nested, jobs, watch k"
+                "usage: run, check, make n p t e, large n p t e, weak, nested, jobs, watch k, import, draw [A B], steps [A B]"
             ),
             Status::Input { line, kind } => write!(f, "input: line {line}, kind {kind}"),
             Status::Version => write!(f, "input: version 1 wanted"),
             Status::Crossing { one, other } => {
                 write!(f, "input: tasks {one} and {other} have crossing masks")
             }
-            Status::TooLong => write!(f, "input: more than 16777216 bytes"),
+            Status::TooLong { most } => write!(f, "input: more than {most} bytes"),
             Status::ReadFault => write!(f, "read fault"),
             Status::WriteFault => write!(f, "write fault"),
             Status::OutOfMemory => write!(f, "out of memory"),

@@ -1,7 +1,7 @@
 use Rattle.std.proofs.Common.{subst}
 use Rattle.std.proofs.lemmas.Result.{err_from_is_err_and}
 use Rattle.schedule_text.specs.Schedule.{IsSchedule}
-use Rattle.commands.proofs.CheckedText.{answers_judged, answers_text_fault}
+use Rattle.commands.proofs.CheckedText.{answers_checked, answers_text_fault}
 use Rattle.commands.proofs.check.checked_text.Goals as goal
 
 pub returns-in_err-schedule : goal.returns-in_err-schedule
@@ -12,5 +12,5 @@ returns-in_err-schedule c =
 pub returns : goal.returns
 returns c =
     let ok = subst IsSchedule c.schedule.view_is c.schedule.invariant in
-    answers_judged c.args.bytes.now c.in_ok-schedule.schedule ok c.in_ok-schedule.ensures.schedule c.in_ok-schedule.ensures.accepts c.judged_text.result c.in_ok-schedule.ensures.refuses
+    answers_checked c.args.bytes.now c.in_ok-schedule.schedule ok c.in_ok-schedule.ensures.schedule c.in_ok-schedule.ensures.accepts c.judged_text.result c.in_ok-schedule.ensures.refuses
     c.judged_text.ensures.reported c.judged_text.ensures.refused
