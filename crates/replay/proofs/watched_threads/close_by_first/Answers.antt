@@ -1,5 +1,5 @@
 use Rattle.replay.proofs.Passing.{first_grown}
-use Rattle.replay.proofs.threads.close_by_first.Goals as goal
+use Rattle.replay.proofs.watched_threads.close_by_first.Goals as goal
 
 pub returns-clause-grown : goal.returns-clause-grown
 returns-clause-grown g c =

@@ -5,7 +5,7 @@ use Rattle.schedule_board.specs.declared.board.Observer.{Observer}
 use Rattle.schedule_board.specs.Boards.{board_at, board_of, published, IsNewObserver}
 use Rattle.replay.proofs.Crews.{crew_seated, crew_done}
 use Rattle.replay.proofs.Passing.{begin_streamed, count_grown, own_passes, saw_grown, saw_none, some_saw, streamed_grown}
-use Rattle.replay.proofs.threads.run_threads.Goals as goal
+use Rattle.replay.proofs.watched_threads.run_threads.Goals as goal
 
 pub post_all-whole-requires-clause-passes : goal.post_all-whole-requires-clause-passes
 post_all-whole-requires-clause-passes g c = begin_streamed c.args.board.now 0 c.args.passes.items c.requires.run.all.1 c.requires.run.unused
