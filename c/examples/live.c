@@ -188,43 +188,54 @@ static uint32_t write_gone(apa *a, uint32_t i, uint32_t processor, uint32_t come
     return enters ? j + 1 : i;
 }
 
-static void write_reply(apa *a, struct event event, uint32_t answer) {
-    bool first_stops = apa_moves(a) > 0 && apa_move_to(a, 0) == APA_NONE;
+/* A reply that is one word, or NULL. */
+static const char *plain_reply(uint32_t answer) {
     switch (answer) {
-    case APA_PLACED:
-    case APA_DISPLACED:
-    case APA_WAITS: write_came(a, 0); break;
-    case APA_FREED:
+    case APA_LEFT: return "left";
+    case APA_WAS_READY: return "already";
+    case APA_WAS_ABSENT: return "absent";
+    case APA_MASKED: return "masked";
+    case APA_WAS_OFF: return "already_off";
+    case APA_WAS_ON: return "already_on";
+    default: return NULL;
+    }
+}
+
+static void write_remasked(apa *a, uint32_t t) {
+    bool was_linked = apa_moves(a) > 0 && apa_move_to(a, 0) == APA_NONE && apa_move_task(a, 0) == t;
+    fputs(was_linked ? "remasked freed " : "remasked left", entries);
+    uint32_t next = was_linked ? write_gone(a, 1, apa_move_from(a, 0), t) : 0;
+    fputs(" then ", entries);
+    write_came(a, next);
+}
+
+static void write_off(apa *a) {
+    if (apa_moves(a) == 0) {
+        fputs("off -", entries);
+        return;
+    }
+    fprintf(entries, "off w%" PRIu32 " then ", apa_move_task(a, 0));
+    write_came(a, 1);
+}
+
+static void write_reply(apa *a, struct event event, uint32_t answer) {
+    const char *plain = plain_reply(answer);
+    if (plain) {
+        fputs(plain, entries);
+    } else if (answer == APA_FREED) {
         fputs("freed ", entries);
         write_gone(a, 1, apa_move_from(a, 0), APA_NONE);
-        break;
-    case APA_LEFT: fputs("left", entries); break;
-    case APA_WAS_READY: fputs("already", entries); break;
-    case APA_WAS_ABSENT: fputs("absent", entries); break;
-    case APA_MASKED: fputs("masked", entries); break;
-    case APA_REMASKED: {
-        bool was_linked = first_stops && apa_move_task(a, 0) == event.number;
-        fputs(was_linked ? "remasked freed " : "remasked left", entries);
-        uint32_t next = was_linked ? write_gone(a, 1, apa_move_from(a, 0), event.number) : 0;
-        fputs(" then ", entries);
-        write_came(a, next);
-        break;
-    }
-    case APA_WAS_OFF: fputs("already_off", entries); break;
-    case APA_WAS_ON: fputs("already_on", entries); break;
-    case APA_OFF:
-        if (!first_stops) {
-            fputs("off -", entries);
-            break;
-        }
-        fprintf(entries, "off w%" PRIu32 " then ", apa_move_task(a, 0));
-        write_came(a, 1);
-        break;
-    case APA_ON:
+    } else if (answer == APA_ON) {
         fputs("on ", entries);
         write_gone(a, 0, event.number, APA_NONE);
-        break;
-    default: fprintf(entries, "fault %" PRIu32, answer);
+    } else if (answer == APA_REMASKED) {
+        write_remasked(a, event.number);
+    } else if (answer == APA_OFF) {
+        write_off(a);
+    } else if (answer >= 16) {
+        write_came(a, 0);
+    } else {
+        fprintf(entries, "fault %" PRIu32, answer);
     }
 }
 
