@@ -1,14 +1,13 @@
 -- The tracks of all processors and tasks follow the entries of a history.
-use Rattle.std.proofs.Common.{◌≡◌, ℕ, zero, suc, ◌+◌, ◌<◌, ◌≤◌, Bool, true, false, List, [], ◌∷◌, ◌++◌, length, take, replicate, get_or, Option, Some, None, refl, sym, ap, ◌∙◌, subst, arith, nat_lt}
-use Rattle.std.specs.Prelude.{slice_get}
+use Rattle.std.proofs.Common.{◌≡◌, ℕ, zero, suc, ◌+◌, ◌<◌, List, [], ◌∷◌, ◌++◌, length, take, replicate, get_or, Option, Some, None, refl, sym, ap, ◌∙◌, subst, arith}
+use Rattle.std.specs.Prelude.{slice_get, option_map}
 use Rattle.std.proofs.lemmas.Bool.{lt-ltb}
-use Rattle.std.proofs.lemmas.List.{take_more, take_all, length-map, length-replicate, get_or-replicate}
+use Rattle.std.proofs.lemmas.List.{take_more, length-map, length-replicate, get_or-replicate, get_or_past}
 use Rattle.std.proofs.lemmas.Option.{slice_get_within, slice_get_read, get_or_from_slice_get}
-use Rattle.affinity_mask.specs.ProcSet.{has, all_below}
 use Rattle.affinity_mask.proofs.Sets.{has-all_below}
 use Rattle.task_set.specs.TaskSet.{SetData, TaskData}
 use Rattle.scheduler_reply.specs.declared.reply.Entry.{Entry}
-use Rattle.link_state.specs.State.{State, start_of, task_count}
+use Rattle.link_state.specs.State.{State, IsState, start_of, task_count, task_on, is_ready}
 use Rattle.link_state.specs.History.{state_at, state_after, effect_of}
 use Rattle.link_state.specs.Step.{IsEventFor}
 use Rattle.link_state.proofs.Start.{none_on, none_ready}
@@ -17,12 +16,14 @@ use Rattle.link_state.proofs.SameTasks.{same_tasks-history}
 use Rattle.certificate_laws.specs.Passing.{Passes, IsPassing, IsPassingFrom}
 use Rattle.schedule_text.specs.Schedule.{ScheduleData, IsSchedule, IsScheduled}
 use Rattle.schedule_picture.specs.declared.span.Seen.{Seen}
+use Rattle.schedule_picture.specs.declared.span.Seen.TheVariants.{Task}
 use Rattle.schedule_picture.specs.declared.tracks.Tracks.{Tracks}
 use Rattle.schedule_picture.specs.Spans.{AreSpans, lane_of, absence_of, row_of, lane_at, absence_at, row_at}
-use Rattle.schedule_picture.specs.Track.{TrackData, fresh_track, spans_until, Sees}
-use Rattle.schedule_picture.specs.Tracks.{EachSees, EachEnds, AllSee, AllEnd, AreFresh, AreTracksOf}
+use Rattle.schedule_picture.specs.Track.{TrackData, fresh_track, seen_task}
+use Rattle.schedule_picture.specs.Tracks.{EachSees, EachEnds, AllSee, AllEnd, AreFresh, AreTracksOf, ShowBefore, mover_of}
 use Rattle.schedule_picture.specs.History.{HaveSpans}
 use Rattle.schedule_picture.proofs.Following.{Follows, follows_none, follows_more, follows_all}
+use Rattle.schedule_picture.proofs.Glances.{ready_but}
 
 -- each track of a list has followed n entries
 pub record EachFollows (seen : ℕ → ℕ → Option Seen) (count n : ℕ) (tracks : List TrackData) : Type 0 where
@@ -150,6 +151,27 @@ see_known set entries n entry links new seen tracks there followed effect same =
       lanes = followed.lanes.all ∙ sym counts.0;
       absences = followed.absences.all ∙ sym counts.0;
       rows = followed.rows.all ∙ sym counts.1;
+    }
+
+-- what is seen of a processor says who is on it
+seen_there : (occupant : Option ℕ) → seen_task (option_map Task occupant) ≡ occupant
+seen_there None = refl
+seen_there (Some t) = refl
+
+-- the tracks show the links before it
+pub shown_before : (set : SetData) (entries : List Entry) (n : ℕ) (entry : Entry) (links before new seen : State) (tracks : Tracks) (mover : Option ℕ) → slice_get entries n ≡ Some entry → HaveFollowed set entries n links tracks → IsState before → before ≡ links → new ≡ effect_of links entry → seen ≡ new → mover ≡ mover_of entry.event entry.reply → ShowBefore mover seen tracks.lanes.items tracks.rows.items
+shown_before set entries n entry links before new seen tracks mover there followed ok is_before effect same is =
+    let now : seen ≡ state_at set entries (n + 1) = same ∙ effect ∙ ap (λ (s : State). effect_of s entry) followed.links_there ∙ sym (state_at-more set entries n entry there) in
+    let after = same_counts set entries (n + 1) seen now in
+    let at_n = same_counts set entries n links followed.links_there in
+    let ok_links : IsState links = subst IsState is_before ok in
+    record {
+      before = links;
+      lanes_show = λ p lt.
+          ap seen_task (followed.lanes.each p (rw after.0 at lt)).current ∙ seen_there (task_on (state_at set entries n) p) ∙ ap (λ (s : State). task_on s p) (sym followed.links_there);
+      rows_show = λ t lt. (followed.rows.each t (rw followed.rows.all at lt)).current ∙ ap (λ (s : State). row_of s t) (sym followed.links_there);
+      no_more = λ p le. get_or_past links.on p None (let count = ok_links.on_count in let a = after.0 in let b = at_n.0 in omega arith);
+      ready = λ t other. ap (λ (s : State). is_ready s t) (same ∙ effect) ∙ ready_but links entry.event entry.reply t (λ e. other (is ∙ e));
     }
 
 pub followed_next : (set : SetData) (entries : List Entry) (n m : ℕ) (entry : Entry) (links new seen : State) (tracks next : Tracks) → slice_get entries n ≡ Some entry → HaveFollowed set entries n links tracks → new ≡ effect_of links entry → seen ≡ new → m ≡ n → AllSee (m + 1) seen tracks next → HaveFollowed set entries (n + 1) new next

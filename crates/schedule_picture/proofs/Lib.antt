@@ -1,5 +1,7 @@
 mod Following
+mod Glances
 mod Histories
+mod Listed
 mod Looking
 mod Moments
 mod Pictures

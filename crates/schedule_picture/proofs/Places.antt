@@ -1,14 +1,13 @@
 -- What is seen of a ready task: where it is linked, or that it waits.
-use Rattle.std.proofs.Common.{◌≡◌, ◌≢◌, ℕ, ◌<◌, ◌≤◌, Bool, true, false, List, length, get_or, Option, Some, None, refl, sym, ap, ◌∙◌, arith, inl, inr, cond, ltb}
-use Rattle.std.specs.List.{position_or_len, list_any}
+use Rattle.std.proofs.Common.{◌≡◌, ◌≢◌, ℕ, ◌<◌, true, false, length, get_or, Some, None, refl, sym, ap, ◌∙◌, arith, inl, inr}
+use Rattle.std.specs.List.{position_or_len}
 use Rattle.std.specs.Prelude.{position}
-use Rattle.std.proofs.lemmas.Bool.{cases_Bool, cases_eq, lt-ltb, le-ltb}
+use Rattle.std.proofs.lemmas.Bool.{cases_Bool, lt-ltb, le-ltb}
 use Rattle.std.proofs.lemmas.List.Sums.{position_or_len_is}
 use Rattle.link_state.specs.State.{State, IsState, task_on, is_task, is_ready, is_linked}
 use Rattle.link_state.proofs.Linked.{is_task-same, is_task-true, occupied_number, not_on}
-use Rattle.schedule_picture.specs.declared.span.Seen.{Seen}
 use Rattle.schedule_picture.specs.declared.span.Seen.TheVariants.{Processor, Waiting}
-use Rattle.schedule_picture.specs.Spans.{row_of, place_of}
+use Rattle.schedule_picture.specs.Spans.{row_of}
 
 -- a processor without the task does not pass
 not_there : (s : State) (t k : ℕ) → task_on s k ≢ Some t → is_task t (get_or s.on k None) ≡ false

@@ -1,6 +1,7 @@
 pub mod Colours
 pub mod Group
 pub mod History
+pub mod Listing
 pub mod Picture
 pub mod Spans
 pub mod Track

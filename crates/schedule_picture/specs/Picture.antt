@@ -15,6 +15,7 @@ use Rattle.schedule_picture.specs.declared.tracks.Tracks.{Tracks}
 use Rattle.schedule_picture.specs.Track.{TrackData, fresh_track}
 use Rattle.schedule_picture.specs.Spans.{AreSpans, lane_at, absence_at, row_at}
 use Rattle.schedule_picture.specs.Group.{span_of, group_head, lanes_text, rows_text}
+use Rattle.schedule_picture.specs.Listing.{IsListing}
 
 -- ---- the axis
 -- the units of an event
@@ -86,6 +87,7 @@ pub record IsPicture (axis : Axis) (set : SetData) (entries : List Entry) (windo
   pub listed : List ℕ
   pub are_tasks : All (λ t. t < length set.tasks) listed
   pub few : length listed ≤ 64
+  pub listing : IsListing (places_of axis entries) (cut_window window (end_of axis entries)) set rows listed
   pub groups : HasGroups (places_of axis entries) set (cut_window window (end_of axis entries)) absences lanes rows listed text
 
 -- the same, of tracks. Private: contracts of this crate's own functions

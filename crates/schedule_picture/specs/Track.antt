@@ -2,6 +2,7 @@
 -- have ended, and what is seen now and since which entry.
 use Rattle.std.specs.Prelude.{◌≡◌, ◌≢◌, ℕ, ◌⊎◌, List, ◌++◌, ◌∷◌, [], Option, Some, None}
 use Rattle.schedule_picture.specs.declared.span.Seen.{Seen}
+use Rattle.schedule_picture.specs.declared.span.Seen.TheVariants.{Task, OffLine, Processor, Waiting}
 use Rattle.schedule_picture.specs.declared.span.Span.{Span}
 
 pub record TrackData : Type 0 where
@@ -27,3 +28,11 @@ abbrev pub Sees : ℕ → Option Seen → TrackData → TrackData → Type 0
 Sees n seen old new =
     ((seen ≡ old.current) × (new ≡ old))
     ⊎ ((seen ≢ old.current) × (new ≡ record { current = seen; since = n; spans = spans_until old n }))
+
+-- the task that is seen on a processor, if there is one
+abbrev pub seen_task : Option Seen → Option ℕ
+seen_task (Some (Task t)) = Some t
+seen_task (Some (Processor p)) = None
+seen_task (Some OffLine) = None
+seen_task (Some Waiting) = None
+seen_task None = None

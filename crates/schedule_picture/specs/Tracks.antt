@@ -1,10 +1,14 @@
 -- The tracks of all processors and tasks. Private: contracts of this crate's own functions.
-use Rattle.std.specs.Prelude.{◌≡◌, ◌≢◌, ℕ, ◌<◌, List, length, get_or, replicate, Option}
-use Rattle.link_state.specs.State.{State}
+use Rattle.std.specs.Prelude.{◌≡◌, ◌≢◌, ℕ, ◌<◌, ◌≤◌, ◌⊎◌, List, length, get_or, replicate, Option, Some, None}
+use Rattle.task_set.specs.declared.event.Event.{Event}
+use Rattle.task_set.specs.declared.event.Event.TheVariants.{Arrive, Depart, Tick, Affinity, Offline, Online}
+use Rattle.scheduler_reply.specs.declared.reply.Reply.{Reply}
+use Rattle.scheduler_reply.specs.declared.reply.Reply.TheVariants.{Off}
+use Rattle.link_state.specs.State.{State, task_on, is_ready}
 use Rattle.schedule_picture.specs.declared.span.Seen.{Seen}
 use Rattle.schedule_picture.specs.declared.tracks.Tracks.{Tracks}
 use Rattle.schedule_picture.specs.Spans.{lane_of, absence_of, row_of}
-use Rattle.schedule_picture.specs.Track.{TrackData, fresh_track, spans_until, Sees}
+use Rattle.schedule_picture.specs.Track.{TrackData, fresh_track, spans_until, seen_task, Sees}
 
 -- each track of a list, once this is seen of it after entry n
 pub record EachSees (n : ℕ) (sight : ℕ → Option Seen) (old new : List TrackData) : Type 0 where
@@ -51,3 +55,35 @@ pub record AllEnd (until : ℕ) (old new : Tracks) : Type 0 where
   pub lanes : EachEnds until old.lanes.items new.lanes.items
   pub absences : EachEnds until old.absences.items new.absences.items
   pub rows : EachEnds until old.rows.items new.rows.items
+
+-- ---- what an entry can change of a task
+-- the task that was on a processor that went off line, if there was one
+abbrev pub moved_task : Reply → Option ℕ
+moved_task (Off (Some moved)) = Some moved.task
+moved_task reply = None
+
+-- the task that comes or goes by an entry, if there is one: that of the event, or the one that has to leave its processor
+abbrev pub mover_of : Event → Reply → Option ℕ
+mover_of (Arrive t) reply = Some t
+mover_of (Depart t) reply = Some t
+mover_of (Tick units) reply = None
+mover_of (Affinity t mask) reply = Some t
+mover_of (Offline p) reply = moved_task reply
+mover_of (Online p) reply = None
+
+-- the task that was seen last on a processor
+abbrev pub last_on : List TrackData → ℕ → Option ℕ
+last_on lanes p = seen_task (get_or lanes p fresh_track).current
+
+-- these tracks show a state from which no task comes or goes, but this one
+pub record ShowBefore (mover : Option ℕ) (s : State) (lanes rows : List TrackData) : Type 0 where
+  pub before : State
+  pub lanes_show : (p : ℕ) → p < s.processors → last_on lanes p ≡ task_on before p
+  pub rows_show : (t : ℕ) → t < length rows → (get_or rows t fresh_track).current ≡ row_of before t
+  pub no_more : (p : ℕ) → s.processors ≤ p → task_on before p ≡ None
+  pub ready : (t : ℕ) → mover ≢ Some t → is_ready s t ≡ is_ready before t
+
+-- each track of a task, once it is seen after entry n, or nothing has changed of the task and the track stays
+pub record EachSeesOrStays (n : ℕ) (s : State) (Unchanged : ℕ → Type 0) (old new : List TrackData) : Type 0 where
+  pub count : length new ≡ length old
+  pub each : (t : ℕ) (d : TrackData) → t < length old → (Unchanged t × (get_or new t d ≡ get_or old t d)) ⊎ Sees n (row_of s t) (get_or old t d) (get_or new t d)

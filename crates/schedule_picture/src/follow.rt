@@ -5,6 +5,7 @@ ghost use Rattle.certificate_laws.specs.Passing.{IsPassing};
 ghost use Rattle.schedule_picture.specs.History.{HaveSpans};
 ghost use Rattle.schedule_picture.specs.Tracks.{AreFresh, AllEnd};
 
+use crate::rows::mover_of;
 use crate::tracks::Tracks;
 use affinity_mask::OutOfMemory;
 use reach_certificate::Checker;
@@ -46,8 +47,9 @@ fn follow_entries(
     let mut n = 0;
     for entry in schedule.entries() {
         n += 1;
+        let _valid = checker.links().processors();
         match checker.accept(entry) {
-            Ok(()) => tracks.see(checker.links(), n)?,
+            Ok(()) => tracks.see(checker.links(), n, mover_of(entry))?,
             Err(_) => unreachable!(),
         }
     }

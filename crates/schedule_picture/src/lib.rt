@@ -14,6 +14,7 @@ mod groups;
 mod listing;
 mod page;
 mod picture;
+mod rows;
 mod sheet;
 pub mod span;
 pub mod track;

@@ -1,7 +1,9 @@
 //! What is drawn: the tasks, the places of the axis, and the window.
 ghost use Rattle.std.specs.Prelude.{◌≡◌, ◌<◌, ◌≤◌, slice_index, get_or};
+ghost use Rattle.task_set.specs.TaskSet.{priorities};
 ghost use Rattle.text_fields.specs.EventText.{name_of};
 ghost use Rattle.schedule_picture.specs.Group.{part_of, span_of};
+ghost use Rattle.schedule_picture.specs.Listing.{touches};
 ghost use Rattle.schedule_picture.specs.Track.{fresh_track};
 
 use crate::span::Span;
@@ -52,7 +54,9 @@ impl Sheet<'_> {
     }
 
     /// Whether a span touches the window, with a length or without.
-    pub(crate) fn touches(&self, span: Span) -> bool {
+    pub(crate) fn touches(&self, span: Span) -> bool
+        ensures { result ≡ touches self.now.places.now self.now.window span }
+    {
         self.place(span.from) <= self.window.to && self.window.from <= self.place(span.until)
     }
 
@@ -62,6 +66,17 @@ impl Sheet<'_> {
         ensures value { result ≡ span_of self.now.window }
     {
         self.window.to.saturating_sub(self.window.from).max(1)
+    }
+
+    /// The priority of a task. Of a number that is no task it is 0.
+    pub(crate) fn priority(&self, t: u32) -> u32
+        ensures { result ≡ slice_index (priorities self.now.set.now) t }
+    {
+        if t < self.set.len() {
+            self.set.priority(t)
+        } else {
+            0
+        }
     }
 
     /// The name of a task. Of a number that is no task it is empty.

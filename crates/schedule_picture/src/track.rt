@@ -1,6 +1,6 @@
 //! A track: the spans of one processor or of one task, entry by entry.
 ghost use Rattle.std.specs.Prelude.{◌≡◌, OnOk};
-ghost use Rattle.schedule_picture.specs.Track.{fresh_track, spans_until, Sees};
+ghost use Rattle.schedule_picture.specs.Track.{fresh_track, spans_until, seen_task, Sees};
 
 use crate::span::{Seen, Span};
 use affinity_mask::OutOfMemory;
@@ -59,6 +59,16 @@ impl Track {
             self.spans.push(Span { what, from, until })?;
         }
         Ok(())
+    }
+
+    /// The task that is seen now, if there is one.
+    pub(crate) fn task(&self) -> Option<u32>
+        ensures { result ≡ seen_task self.now.current }
+    {
+        match self.current {
+            Some(Seen::Task(t)) => Some(t),
+            _ => None,
+        }
     }
 
     /// The spans that have ended, in order.

@@ -1,10 +1,11 @@
 //! The tracks of all processors and tasks, which follow the links from entry to entry.
 ghost use Rattle.std.specs.Prelude.{◌≡◌, ◌<◌, replicate, vec_len, IfOk, OnOk};
 ghost use Rattle.link_state.specs.State.{task_count};
-ghost use Rattle.schedule_picture.specs.Spans.{lane_of, absence_of, row_of};
+ghost use Rattle.schedule_picture.specs.Spans.{lane_of, absence_of};
 ghost use Rattle.schedule_picture.specs.Track.{fresh_track};
-ghost use Rattle.schedule_picture.specs.Tracks.{EachSees, OneSees, AllSee, AreFresh, AreTracksOf, EachEnds, OneEnds, AllEnd};
+ghost use Rattle.schedule_picture.specs.Tracks.{EachSees, OneSees, AllSee, AreFresh, AreTracksOf, ShowBefore, EachEnds, OneEnds, AllEnd};
 
+use crate::rows::see_rows;
 use crate::span::Seen;
 use crate::track::Track;
 use affinity_mask::OutOfMemory;
@@ -34,14 +35,21 @@ impl Tracks {
         })
     }
 
-    /// Follows entry n, after which these are the links. Refused only where memory runs out.
-    pub(crate) fn see(&mut self, links: &Links, n: u32) -> Result<(), OutOfMemory>
-        requires { AreTracksOf links.now.processors (task_count links.now) self.old }
+    /// Follows entry n, which lets this task come or go, and after which these are the links. Of the tasks it looks only at
+    /// those of which the entry can change something. Refused only where memory runs out.
+    pub(crate) fn see(
+        &mut self,
+        links: &Links,
+        n: u32,
+        mover: Option<u32>,
+    ) -> Result<(), OutOfMemory>
+        requires counts { AreTracksOf links.now.processors (task_count links.now) self.old }
+        requires before { ShowBefore mover links.now self.old.lanes.items self.old.rows.items }
         ensures { OnOk result (AllSee n links.now self.old self.new) }
     {
+        see_rows(&mut self.rows, &self.lanes, links, n, mover)?;
         see_lanes(&mut self.lanes, links, n)?;
-        see_absences(&mut self.absences, links, n)?;
-        see_rows(&mut self.rows, links, n)
+        see_absences(&mut self.absences, links, n)
     }
 
     /// Ends the last span of each track before this entry. Refused only where memory runs out.
@@ -87,19 +95,13 @@ fn see_absences(absences: &mut Vec<Track>, links: &Links, n: u32) -> Result<(), 
     Ok(())
 }
 
-/// Where each task is linked after entry n, and whether it waits.
-fn see_rows(rows: &mut Vec<Track>, links: &Links, n: u32) -> Result<(), OutOfMemory>
-    requires { vec_len rows.old ≡ task_count links.now }
-    ensures { OnOk result (EachSees n (row_of links.now) rows.old.items rows.new.items) }
-{
-    for t in 0..links.len() {
-        see_one(rows, t as usize, n, row_in(links, t))?;
-    }
-    Ok(())
-}
-
 /// What one track sees after entry n.
-fn see_one(tracks: &mut Vec<Track>, x: usize, n: u32, seen: Option<Seen>) -> Result<(), OutOfMemory>
+pub(crate) fn see_one(
+    tracks: &mut Vec<Track>,
+    x: usize,
+    n: u32,
+    seen: Option<Seen>,
+) -> Result<(), OutOfMemory>
     requires { x < vec_len tracks.old }
     ensures { OnOk result (OneSees n x seen tracks.old.items tracks.new.items) }
 {
@@ -124,20 +126,6 @@ fn absence_in(links: &Links, p: u8) -> Option<Seen>
         None
     } else {
         Some(Seen::OffLine)
-    }
-}
-
-/// Where a task is linked, or that it waits.
-fn row_in(links: &Links, t: u32) -> Option<Seen>
-    requires { t < task_count links.now }
-    ensures { result ≡ row_of links.now t }
-{
-    if !links.is_ready(t) {
-        return None;
-    }
-    match links.of(t) {
-        Some(p) => Some(Seen::Processor(p)),
-        None => Some(Seen::Waiting),
     }
 }
 

@@ -1,4 +1,4 @@
-use Rattle.std.proofs.Common.{◌∙◌, ap, ◌++◌, ◌∷◌, [], List, ℕ}
+use Rattle.std.proofs.Common.{◌∙◌, ap, ◌++◌, ◌∷◌, [], ℕ}
 use Rattle.schedule_picture.proofs.Moments.{columns_more}
 use Rattle.schedule_picture.proofs.axis.columns.Goals as goal
 

@@ -1,5 +1,5 @@
-use Rattle.std.proofs.Common.{◌≡◌, ◌+◌, ◌∙◌, ap, ◌++◌, ◌∷◌, [], List, ℕ, length, arith}
-use Rattle.schedule_picture.specs.Picture.{units_of, moment}
+use Rattle.std.proofs.Common.{◌≡◌, ◌+◌, ◌∙◌, ap, ℕ, length, arith}
+use Rattle.schedule_picture.specs.Picture.{units_of}
 use Rattle.schedule_picture.proofs.Moments.{moments_more, moment_more, moment_end, units_few}
 use Rattle.schedule_picture.proofs.axis.moments.Goals as goal
 

@@ -1,6 +1,6 @@
-use Rattle.std.proofs.Common.{◌≡◌, ℕ, ◌<◌, List, length, refl, subst, arith, le_antisymm}
+use Rattle.std.proofs.Common.{◌≡◌, length, refl, arith, le_antisymm}
 use Rattle.std.proofs.lemmas.Bool.{false≢true}
-use Rattle.schedule_picture.proofs.Histories.{followed_none, entry_read, entry_known, entry_passes, see_known, followed_next, followed_end}
+use Rattle.schedule_picture.proofs.Histories.{followed_none, entry_read, entry_known, entry_passes, see_known, shown_before, followed_next, followed_end}
 use Rattle.schedule_picture.proofs.follow.follow_entries.Goals as goal
 
 pub loop-entry-init : goal.loop-entry-init
@@ -20,17 +20,23 @@ unreachable-requires c =
     (entry_passes c.args.schedule.now.set c.args.schedule.now.entries c.loop-entry.entry-index c.entry-item.result c.loop-entry.checker.links c.loop-entry.tracks c.requires.passing
     (entry_read c.args.schedule.now.entries c.entries-entry-items.result.now c.loop-entry.entry-index c.entry-item.result c.entries-entry-items.ensures.value c.loop-entry-test.true c.entry-item.is) c.loop-entry.invariant.followed))
 
-pub see-requires : goal.see-requires
-see-requires c =
-    see_known c.args.schedule.now.set c.args.schedule.now.entries c.loop-entry.entry-index c.entry-item.result c.loop-entry.checker.links c.accept.new.self.links c.links.result.now c.loop-entry.tracks
+pub see-requires-clause-counts : goal.see-requires-clause-counts
+see-requires-clause-counts c =
+    see_known c.args.schedule.now.set c.args.schedule.now.entries c.loop-entry.entry-index c.entry-item.result c.loop-entry.checker.links c.accept.new.self.links c.links-in-Ok.result.now c.loop-entry.tracks
     (entry_read c.args.schedule.now.entries c.entries-entry-items.result.now c.loop-entry.entry-index c.entry-item.result c.entries-entry-items.ensures.value c.loop-entry-test.true c.entry-item.is)
-    c.loop-entry.invariant.followed c.in-Ok.ensures.links c.links.ensures.value
+    c.loop-entry.invariant.followed c.in-Ok.ensures.links c.links-in-Ok.ensures.value
+
+pub see-requires-clause-before : goal.see-requires-clause-before
+see-requires-clause-before c =
+    shown_before c.args.schedule.now.set c.args.schedule.now.entries c.loop-entry.entry-index c.entry-item.result c.loop-entry.checker.links c.links.result.now c.accept.new.self.links c.links-in-Ok.result.now c.loop-entry.tracks c.mover_of.result
+    (entry_read c.args.schedule.now.entries c.entries-entry-items.result.now c.loop-entry.entry-index c.entry-item.result c.entries-entry-items.ensures.value c.loop-entry-test.true c.entry-item.is)
+    c.loop-entry.invariant.followed c.processors-valid.ensures.valid c.links.ensures.value c.in-Ok.ensures.links c.links-in-Ok.ensures.value c.mover_of.ensures
 
 pub loop-entry-preserved : goal.loop-entry-preserved
 loop-entry-preserved c = record {
-  followed = followed_next c.args.schedule.now.set c.args.schedule.now.entries c.loop-entry.entry-index c.loop-entry.n c.entry-item.result c.loop-entry.checker.links c.accept.new.self.links c.links.result.now c.loop-entry.tracks c.see.new.self
+  followed = followed_next c.args.schedule.now.set c.args.schedule.now.entries c.loop-entry.entry-index c.loop-entry.n c.entry-item.result c.loop-entry.checker.links c.accept.new.self.links c.links-in-Ok.result.now c.loop-entry.tracks c.see.new.self
       (entry_read c.args.schedule.now.entries c.entries-entry-items.result.now c.loop-entry.entry-index c.entry-item.result c.entries-entry-items.ensures.value c.loop-entry-test.true c.entry-item.is)
-      c.loop-entry.invariant.followed c.in-Ok.ensures.links c.links.ensures.value c.loop-entry.invariant.counted c.in_ok-see-in-Ok.ensures;
+      c.loop-entry.invariant.followed c.in-Ok.ensures.links c.links-in-Ok.ensures.value c.loop-entry.invariant.counted c.in_ok-see-in-Ok.ensures;
   counted = let counted = c.loop-entry.invariant.counted in omega arith;
 }
 
