@@ -1,4 +1,4 @@
-use Rattle.std.proofs.Common.{ℕ, refl, arith}
+use Rattle.std.proofs.Common.{refl, arith}
 use Rattle.std.proofs.lemmas.Grind.{common_steps}
 use Rattle.affinity_mask.proofs.Sets.{has-zero}
 use Rattle.apa_c.proofs.table.occupied.Goals as goal
