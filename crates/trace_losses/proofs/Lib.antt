@@ -1,0 +1,4 @@
+pub mod Stretches
+pub mod Tallies
+pub mod Books
+pub mod Watches

@@ -1,0 +1,4 @@
+pub mod Book
+pub mod Moments
+pub mod Tally
+pub mod Watch
