@@ -98,7 +98,8 @@ module _ (lost : List Bool) (units count : ℕ) (current : IsCurrent lost count)
     -- the longest stretch ends before they begin
     ends : 0 < stretch.count → stretch.first + stretch.count ≤ length lost
     ends some =
-        let last = slice_get_within lost (stretch.first + stretch.count - 1) true (longest.each (stretch.first + stretch.count - 1) (omega (arith, some)) (omega (arith, some))) in
+        let last = slice_get_within lost (stretch.first + stretch.count - 1) true
+        (longest.each (stretch.first + stretch.count - 1) (omega (arith, some)) (omega (arith, some))) in
         omega (arith, last, some)
 
     by_longer : (b : Bool) → nat_lt stretch.count (count + units) ≡ b
@@ -128,7 +129,10 @@ module _ (lost : List Bool) (units count : ℕ) (current : IsCurrent lost count)
             | inl before ↦ longest.longest first many some before
             | inr (few, later, whole) ↦ elim (cases_lt many stretch.count) [
               | inl less ↦ inl less
-              | inr full ↦ inr (omega (arith, few, full, above), (let last = ends (omega (arith, some, few, above)) in omega (arith, later, last, few, full, above)))
+              | inr full ↦ inr (
+                omega (arith, few, full, above),
+                (let last = ends (omega (arith, some, few, above)) in omega (arith, later, last, few, full, above)),
+              )
             ]
           ];
         }

@@ -40,7 +40,8 @@ map_same : (units : ℕ) (seen : Seen) → map is_lost (replicate units seen) �
 map_same zero seen = refl
 map_same (suc units) seen = ap (λ (rest : List Bool). is_lost seen ∷ rest) (map_same units seen)
 
-losses_more : (moments : List Seen) (units : ℕ) (seen : Seen) → losses (moments ++ replicate units seen) ≡ losses moments ++ replicate units (is_lost seen)
+losses_more : (moments : List Seen) (units : ℕ) (seen : Seen)
+    → losses (moments ++ replicate units seen) ≡ losses moments ++ replicate units (is_lost seen)
 losses_more moments units seen =
     map-append is_lost moments (replicate units seen) ∙ ap (λ (rest : List Bool). losses moments ++ rest) (map_same units seen)
 
@@ -74,7 +75,9 @@ tally_more moments tally units seen some is =
     let same = sym (losses_more moments units seen) in
     let after : Tally = tally_after tally units seen in
     record {
-      count = ap (λ (n : ℕ). n + units) is.count ∙ ap (λ (n : ℕ). length moments + n) (sym (length-replicate units seen)) ∙ sym (length-append moments (replicate units seen));
+      count =
+          ap (λ (n : ℕ). n + units) is.count ∙ ap (λ (n : ℕ). length moments + n) (sym (length-replicate units seen))
+          ∙ sym (length-append moments (replicate units seen));
       ready = count_more is_ready moments units tally.ready seen is.ready;
       served = count_more is_served moments units tally.served seen is.served;
       lost = count_more is_lost moments units tally.lost seen is.lost;
@@ -108,17 +111,10 @@ pub tally_is : (tally : Tally) (units : ℕ) (seen : Seen) (is_served_now is_los
     → (let found : Tally = record { moments = tally.moments + units; ready = ready; served = served; lost = lost; current = current; longest = longest } in
     tally_after tally units seen ≡ found)
 tally_is tally units seen is_served_now is_lost_now ready served lost current longest a b c d e f g =
-    let made : ℕ → ℕ → ℕ → ℕ → Stretch → Tally =
-    λ ready served lost current longest. record { moments = tally.moments + units; ready = ready; served = served; lost = lost; current = current; longest = longest } in
-    let served_is : served ≡ more (is_served seen) tally.served units = d ∙ ap (λ (b : Bool). more b tally.served units) a in
+    let served_is : served ≡ more (is_served seen) tally.served units = d ∙ ap (λ (x : Bool). more x tally.served units) a in
     let lost_is : lost ≡ more (is_lost seen) tally.lost units = e ∙ ap (λ (x : Bool). more x tally.lost units) b in
-    let current_is : current ≡ current_after (is_lost seen) tally.current units = f ∙ ap (λ (x : Bool). current_after x tally.current units) b in
-    let longest_is : longest ≡ longer tally.longest (record { first = tally.moments + units - current_after (is_lost seen) tally.current units; count = current_after (is_lost seen) tally.current units }) =
+    let now : ℕ = current_after (is_lost seen) tally.current units in
+    let current_is : current ≡ now = f ∙ ap (λ (x : Bool). current_after x tally.current units) b in
+    let longest_is : longest ≡ longer tally.longest (record { first = tally.moments + units - now; count = now }) =
     g ∙ ap (λ (n : ℕ). longer tally.longest (record { first = tally.moments + units - n; count = n })) current_is in
-    let one : made ready served lost current longest ≡ made (more (is_ready seen) tally.ready units) served lost current longest = ap (λ (n : ℕ). made n served lost current longest) c in
-    let two : made (more (is_ready seen) tally.ready units) served lost current longest ≡ made (more (is_ready seen) tally.ready units) (more (is_served seen) tally.served units) lost current longest =
-    ap (λ (n : ℕ). made (more (is_ready seen) tally.ready units) n lost current longest) served_is in
-    let three : made (more (is_ready seen) tally.ready units) (more (is_served seen) tally.served units) lost current longest
-    ≡ made (more (is_ready seen) tally.ready units) (more (is_served seen) tally.served units) (more (is_lost seen) tally.lost units) current longest =
-    ap (λ (n : ℕ). made (more (is_ready seen) tally.ready units) (more (is_served seen) tally.served units) n current longest) lost_is in
     cc

@@ -98,7 +98,8 @@ watch_more stretch moments old new seen units before done place counted all watc
     ∙ count_more is_rival (of_task t (during stretch moments)) some found.0 at (watch t found.0 found.1)
     ∙ ap (count_by is_rival) (sym whole)
 
-pub most_more : (old new : List ℕ) (seen : List Seen) (units some most done : ℕ) → some ≤ units → AreMore old new seen some done → done ≡ length old
+pub most_more : (old new : List ℕ) (seen : List Seen) (units some most done : ℕ)
+    → some ≤ units → AreMore old new seen some done → done ≡ length old
     → AreAtMost most old → AreAtMost (most + units) new
 most_more old new seen units some most done few counted all kept t count is =
     let found = came old new seen some done counted all t count is in

@@ -5,11 +5,15 @@
 #![tactic(auto)]
 
 mod book;
+mod runners;
 mod seen;
 mod tally;
+mod turn;
 mod watch;
 
 pub use book::Book;
+pub use runners::Runners;
 pub use seen::Seen;
 pub use tally::{Stretch, Tally};
+pub use turn::Turn;
 pub use watch::{Watch, most};
