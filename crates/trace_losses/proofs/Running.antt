@@ -59,7 +59,8 @@ same_value : (one other : Option ℕ) → ◌≡◌ {A = Option (Option ℕ)} (S
 same_value one other e = cc
 
 chosen : (f g : Bool) (q : ℕ) (o : Option ℕ)
-    → ◌≡◌ {A = Option (Option ℕ)} (if f then Some (Some q) else (if g then Some None else Some o)) (Some (if f then Some q else (if g then None else o)))
+    → ◌≡◌ {A = Option (Option ℕ)} (if f then Some (Some q) else (if g then Some None else Some o))
+    (Some (if f then Some q else (if g then None else o)))
 chosen true g q o = refl
 chosen false true q o = refl
 chosen false false q o = refl

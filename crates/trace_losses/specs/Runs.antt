@@ -1,7 +1,7 @@
 -- Who runs where. A line says of a switch from which task a processor goes to which one, or that a wakeup makes a task ready. A task
 -- ran on a processor up to a switch of it from this task, from the latest line before it on that is of them. So what holds between
 -- two lines is said by those after it.
-use Rattle.std.specs.Prelude.{◌≡◌, ℕ, ◌<◌, ◌≤◌, Bool, false, ◌&&◌, ◌||◌, ◌==◌, List, [], ◌∷◌, length, set, slice_get, Option, None, Some, if◌then◌else◌}
+use Rattle.std.specs.Prelude.{◌≡◌, ℕ, ◌<◌, ◌≤◌, Bool, false, ◌&&◌, ◌||◌, ◌==◌, List, [], ◌∷◌, ◌++◌, length, map, reverse, set, slice_get, Option, None, Some, if◌then◌else◌}
 use Rattle.std.specs.Option.{ForSome}
 use Rattle.trace_losses.specs.declared.turn.Turn.{Turn}
 use Rattle.trace_losses.specs.declared.turn.Turn.TheVariants.{Switch, Woken}
@@ -31,6 +31,16 @@ runs base (turn ∷ after) t p = if is_of turn t p then is_switch_from turn t p 
 abbrev pub nobody_runs : ℕ → ℕ → Bool
 nobody_runs t p = false
 
+-- the switch the other way round
+abbrev pub turned : Turn → Turn
+turned (Woken task) = Woken task
+turned (Switch processor from to) = Switch processor to from
+
+-- whether a task is on a processor after some lines, the last one first: the last of them that is of the task or the processor is a
+-- switch of the processor to it
+abbrev pub holds : List Turn → ℕ → ℕ → Bool
+holds earlier t p = runs nobody_runs (map turned earlier) t p
+
 -- of each task it is said which processor it runs on before some lines
 abbrev pub IsArmed : (ℕ → ℕ → Bool) → List Turn → List (Option ℕ) → Type 0
 IsArmed base after processors =
@@ -55,3 +65,11 @@ pub record IsStopped (old new : List (Option ℕ)) (processor done : ℕ) : Type
   pub same : length new ≡ length old
   pub stops : (t : ℕ) (on : Option ℕ) → t < done → slice_get old t ≡ Some on → slice_get new t ≡ Some (stopped on processor)
   pub waiting : (t : ℕ) → done ≤ t → slice_get new t ≡ slice_get old t
+
+-- of each task it is said which processor it is on after some lines, the last one first
+abbrev pub IsHeld : List Turn → List (Option ℕ) → Type 0
+IsHeld earlier processors = IsArmed (holds earlier) [] processors
+
+-- whether a task runs on a processor between two lines of a trace: those before, the last one first, and those after
+abbrev pub runs_between : List Turn → List Turn → ℕ → ℕ → Bool
+runs_between earlier after t p = runs (holds (reverse after ++ earlier)) after t p

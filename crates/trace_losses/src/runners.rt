@@ -1,7 +1,7 @@
 //! Who runs where, from the last line of a trace to the first.
 ghost use Rattle.std.specs.Prelude.{◌≡◌, ℕ, ◌<◌, Bool, List, [], ◌∷◌, length, vec_len, IfOk};
 ghost use Rattle.std.specs.Option.{ForSome};
-ghost use Rattle.trace_losses.specs.Runs.{IsArmed, AreTasks, IsStopped, nobody_runs, put_at, is_some_of};
+ghost use Rattle.trace_losses.specs.Runs.{IsArmed, AreTasks, IsHeld, IsStopped, nobody_runs, put_at, is_some_of};
 ghost use Rattle.trace_losses.specs.declared.turn.Turn.{Turn};
 
 use crate::turn::Turn;
@@ -17,6 +17,7 @@ impl Runners {
     /// Nobody runs.
     pub fn new(alloc: Global, tasks: usize) -> Result<Runners, AllocError>
         ensures armed { IfOk result (λ runners. IsArmed nobody_runs [] runners.processors.items) }
+        ensures held { IfOk result (λ runners. IsHeld [] runners.processors.items) }
         ensures tasks { IfOk result (λ runners. vec_len runners.processors ≡ tasks) }
     {
         let mut processors = Vec::new(alloc);
@@ -47,6 +48,16 @@ impl Runners {
                 self.put(from, Some(processor));
             }
         }
+    }
+
+    /// Goes on over a line: who is where after it, by who was where before it.
+    pub fn after(&mut self, turn: Turn)
+        requires { AreTasks (vec_len self.old.processors) turn }
+        ensures held { (earlier : List Turn) → IsHeld earlier self.old.processors.items
+            → IsHeld (turn ∷ earlier) self.new.processors.items }
+        ensures tasks { vec_len self.new.processors ≡ vec_len self.old.processors }
+    {
+        self.before(turn.turned())
     }
 
     /// Puts a task, if there is one, on a processor, or on none.

@@ -13,3 +13,26 @@ pub enum Turn {
     /// A wakeup makes the task ready.
     Woken(u32),
 }
+
+impl Turn {
+    ghost use Rattle.std.specs.Prelude.{◌≡◌};
+    ghost use Rattle.trace_losses.specs.Runs.{turned};
+
+    /// The switch the other way round.
+    pub fn turned(self) -> Turn
+        ensures { result ≡ turned self }
+    {
+        match self {
+            Turn::Woken(task) => Turn::Woken(task),
+            Turn::Switch {
+                processor,
+                from,
+                to,
+            } => Turn::Switch {
+                processor,
+                from: to,
+                to: from,
+            },
+        }
+    }
+}
