@@ -67,7 +67,12 @@ uint32_t apa_move_from(apa *, uint32_t i);                       /* APA_NONE: th
 uint32_t apa_move_to(apa *, uint32_t i);                         /* APA_NONE: the task stops */
 uint32_t apa_on(apa *, uint32_t processor);                      /* the task that is to run there */
 uint32_t apa_of(apa *, uint32_t task);                           /* the processor where it is to run */
+uint32_t apa_is_ready(apa *, uint32_t task);                     /* 1 or 0; 0 also where there is no such task */
+uint64_t apa_mask(apa *, uint32_t task);                         /* 0 where there is no such task */
+uint64_t apa_occupied(apa *);                                    /* the processors on which somebody is to run */
+uint64_t apa_on_line(apa *);                                     /* the processors on line */
 uint64_t apa_reached(apa *);                                     /* the set of the last reply: docs/LIBRARY.md */
+uint64_t apa_back(apa *);                                        /* its set of a processor that became free: there */
 uint32_t apa_close(apa *);                                       /* gives all memory back; apa_open may follow */
 
 /* ---- the same by name */

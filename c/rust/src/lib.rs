@@ -33,7 +33,12 @@ mod raw {
         pub fn apa_move_to(apa: *mut u8, i: u32) -> u32;
         pub fn apa_on(apa: *mut u8, processor: u32) -> u32;
         pub fn apa_of(apa: *mut u8, task: u32) -> u32;
+        pub fn apa_is_ready(apa: *mut u8, task: u32) -> u32;
+        pub fn apa_mask(apa: *mut u8, task: u32) -> u64;
+        pub fn apa_occupied(apa: *mut u8) -> u64;
+        pub fn apa_on_line(apa: *mut u8) -> u64;
         pub fn apa_reached(apa: *mut u8) -> u64;
+        pub fn apa_back(apa: *mut u8) -> u64;
         pub fn apa_close(apa: *mut u8) -> u32;
     }
 }
@@ -268,9 +273,35 @@ impl Scheduler {
         some(unsafe { raw::apa_of(self.room.at(), task) })
     }
 
+    /// Whether a task is ready. One that there is not is not.
+    pub fn is_ready(&self, task: u32) -> bool {
+        // SAFETY: the room holds an apa, here and below.
+        unsafe { raw::apa_is_ready(self.room.at(), task) != 0 }
+    }
+
+    /// The mask of a task, if there is such a task.
+    pub fn mask(&self, task: u32) -> Option<u64> {
+        let mask = unsafe { raw::apa_mask(self.room.at(), task) };
+        (mask != 0).then_some(mask)
+    }
+
+    /// The processors that somebody is on, as bits.
+    pub fn occupied(&self) -> u64 {
+        unsafe { raw::apa_occupied(self.room.at()) }
+    }
+
+    /// The processors on line, as bits.
+    pub fn on_line(&self) -> u64 {
+        unsafe { raw::apa_on_line(self.room.at()) }
+    }
+
     /// The set of processors that the last answer goes with, as bits.
     pub fn reached(&self) -> u64 {
-        // SAFETY: the room holds an apa.
         unsafe { raw::apa_reached(self.room.at()) }
+    }
+
+    /// Of a processor that the last event made free, the set of those from which shifts lead there, as bits.
+    pub fn back(&self) -> u64 {
+        unsafe { raw::apa_back(self.room.at()) }
     }
 }

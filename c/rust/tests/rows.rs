@@ -23,6 +23,9 @@ fn a_departure_a_mask_and_a_processor() {
             Move { task: 2, from: None, to: Some(1) },
         ]
     );
+    assert_eq!((scheduler.back(), scheduler.occupied(), scheduler.on_line()), (3, 3, 3));
+    assert_eq!((scheduler.is_ready(0), scheduler.is_ready(2), scheduler.is_ready(4)), (false, true, false));
+    assert_eq!((scheduler.mask(1), scheduler.mask(4)), (Some(3), None));
     assert_eq!(scheduler.on(0), Some(1));
     assert_eq!(scheduler.of(3), None);
     assert_eq!(scheduler.set_mask(1, 4), Err(Fault::BadMask));

@@ -1,11 +1,12 @@
 -- What each call does. A call that is refused answers the number of its fault, comes only with the cause of it, and
 -- changes nothing. Any other call that is not a question does what it says.
-use Rattle.std.specs.Prelude.{◌≡◌, ℕ, ◌<◌, ◌≤◌, ◌⊎◌, Result, Ok, Err, List, [], length, slice_get, Option, Some, None, false}
+use Rattle.std.specs.Prelude.{◌≡◌, ℕ, ◌<◌, ◌≤◌, ◌⊎◌, Result, Ok, Err, List, [], length, slice_get, Option, Some, None, Bool, false, is_some, if◌then◌else◌}
+use Rattle.affinity_mask.specs.ProcSet.{has}
 use Rattle.task_set.specs.TaskSet.{SetData, IsMask}
 use Rattle.task_set.specs.Refusal.{AddsTask, IsPriorityOf, new_task}
 use Rattle.task_set.specs.declared.event.Event.{Event}
 use Rattle.task_set.specs.declared.event.Event.TheVariants.{Arrive, Depart, Tick, Affinity, Offline, Online}
-use Rattle.link_state.specs.State.{State, start_of, task_on, task_count, is_linked}
+use Rattle.link_state.specs.State.{State, start_of, task_on, task_count, mask_of, is_ready, is_linked}
 use Rattle.link_state.specs.Step.{IsEventFor, SchedulerStep}
 use Rattle.certificate_laws.specs.Certified.{HasCertificates}
 use Rattle.certificate_laws.specs.Improving.{HasNoImprovingChain}
@@ -13,7 +14,7 @@ use Rattle.certificate_laws.specs.Laws.{LinkedIsBest, LinkedIsLargest, LinkedIsA
 use Rattle.live_core.specs.Live.{LiveData}
 use Rattle.live_core.specs.Moves.{Replays}
 use Rattle.live_core.specs.declared.moves.Move.{Move}
-use Rattle.apa_c.specs.Stages.{nothing, number_of, answer_of, set_of, task_of, from_of, to_of}
+use Rattle.apa_c.specs.Stages.{nothing, number_of, answer_of, set_of, back_of, task_of, from_of, to_of}
 use Rattle.apa_c.specs.declared.table.Apa.{Apa}
 use Rattle.apa_c.specs.declared.table.Stage.{Stage}
 use Rattle.apa_c.specs.declared.table.Stage.TheVariants.{Empty, Draft, Running}
@@ -157,6 +158,39 @@ IsPlaceAt (Some live) t result = ((result ≡ nothing) × (is_linked live.links 
 abbrev pub OfAnswer : Apa → ℕ → ℕ → Apa → Type 0
 OfAnswer old t result new = (new ≡ old) × IsPlaceAt (running_of old.stage) t result
 
+-- whether a task is ready; one that there is not never is
+abbrev pub is_ready_at : Option LiveData → ℕ → Bool
+is_ready_at None t = false
+is_ready_at (Some live) t = is_ready live.links t
+
+abbrev pub ReadyAnswer : Apa → ℕ → ℕ → Apa → Type 0
+ReadyAnswer old t result new = (new ≡ old) × (result ≡ (if is_ready_at (running_of old.stage) t then 1 else 0))
+
+-- the mask of a task; one that there is not has an empty one
+abbrev pub mask_at : Option LiveData → ℕ → ℕ
+mask_at None t = 0
+mask_at (Some live) t = mask_of live.links t
+
+abbrev pub MaskAnswer : Apa → ℕ → ℕ → Apa → Type 0
+MaskAnswer old t result new = (new ≡ old) × (result ≡ mask_at (running_of old.stage) t)
+
+-- who is on a processor, if somebody is
+abbrev pub occupant_at : Option LiveData → ℕ → Option ℕ
+occupant_at None p = None
+occupant_at (Some live) p = task_on live.links p
+
+-- the set of the processors that somebody is on
+abbrev pub OccupiedAnswer : Apa → ℕ → Apa → Type 0
+OccupiedAnswer old result new = (new ≡ old) × ((p : ℕ) → has result p ≡ is_some (occupant_at (running_of old.stage) p))
+
+-- the processors on line
+abbrev pub on_line_at : Option LiveData → ℕ
+on_line_at None = 0
+on_line_at (Some live) = live.links.online
+
+abbrev pub OnLineAnswer : Apa → ℕ → Apa → Type 0
+OnLineAnswer old result new = (new ≡ old) × (result ≡ on_line_at (running_of old.stage))
+
 -- the moves of the last event
 abbrev pub moves_of : Option LiveData → List Move
 moves_of None = []
@@ -182,3 +216,11 @@ set_at (Some live) = set_of live.last
 
 abbrev pub SetAnswer : Apa → ℕ → Apa → Type 0
 SetAnswer old result new = (new ≡ old) × (result ≡ set_at (running_of old.stage))
+
+-- the set of who came in at the last event at a processor that became free
+abbrev pub back_at : Option LiveData → ℕ
+back_at None = 0
+back_at (Some live) = back_of live.last
+
+abbrev pub BackAnswer : Apa → ℕ → Apa → Type 0
+BackAnswer old result new = (new ≡ old) × (result ≡ back_at (running_of old.stage))

@@ -39,14 +39,22 @@ came_set (came.Placed chain) = 0
 came_set (came.Displaced chain out reach) = reach
 came_set (came.Waits reach) = reach
 
--- the set that justifies a reply; of a change of a mask it is that of the return
+-- the set that justifies a reply; where a task left and came back it is that of the return
 abbrev pub set_of : Reply → ℕ
 set_of (Displaced chain out reach) = reach
 set_of (Waits reach) = reach
 set_of (Freed entered chain back) = back
 set_of (Remasked _ came) = came_set came
+set_of (Off (Some moved)) = came_set moved.came
 set_of (On parts) = parts.back
 set_of _ = 0
+
+-- the set that justifies who came in at a processor that became free; there is none where none did
+abbrev pub back_of : Reply → ℕ
+back_of (Freed entered chain back) = back
+back_of (Remasked (Some gone) came) = gone.back
+back_of (On parts) = parts.back
+back_of _ = 0
 
 -- the task of a move
 abbrev pub task_of : Option Move → ℕ

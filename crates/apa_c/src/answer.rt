@@ -1,6 +1,6 @@
 //! The numbers that calls answer.
 ghost use Rattle.std.specs.Prelude.{◌≡◌};
-ghost use Rattle.apa_c.specs.Stages.{answer_of, set_of, came_set, task_of, from_of, to_of};
+ghost use Rattle.apa_c.specs.Stages.{answer_of, set_of, back_of, came_set, task_of, from_of, to_of};
 
 use link_table::{Came, Reply};
 use live_core::Move;
@@ -69,6 +69,22 @@ pub fn set_of(reply: &Reply) -> u64
         Reply::Waits { reach } => reach.bits(),
         Reply::Freed { back, .. } => back.bits(),
         Reply::Remasked { came, .. } => came_set(came),
+        Reply::Off { moved: Some(moved) } => came_set(&moved.came),
+        Reply::On { parts } => parts.back.bits(),
+        _ => 0,
+    }
+}
+
+/// The set of processors that justifies who came in at one that became free, as bits.
+pub fn back_of(reply: &Reply) -> u64
+    ensures { result ≡ back_of reply.now }
+{
+    match reply {
+        Reply::Freed { back, .. } => back.bits(),
+        Reply::Remasked {
+            gone: Some(gone),
+            ..
+        } => gone.back.bits(),
         Reply::On { parts } => parts.back.bits(),
         _ => 0,
     }

@@ -10,7 +10,7 @@ mod table;
 
 ghost use Rattle.std.specs.Borrow.{sem};
 ghost use Rattle.apa_c.specs.Handle.{apa_at, apa_after, apa_room};
-ghost use Rattle.apa_c.specs.Calls.{Made, Opened, Added, Started, Applied, Closed, OnAnswer, OfAnswer, CountAnswer, TaskAnswer, FromAnswer, ToAnswer, SetAnswer};
+ghost use Rattle.apa_c.specs.Calls.{Made, Opened, Added, Started, Applied, Closed, OnAnswer, OfAnswer, ReadyAnswer, MaskAnswer, OccupiedAnswer, OnLineAnswer, CountAnswer, TaskAnswer, FromAnswer, ToAnswer, SetAnswer, BackAnswer};
 
 use std::alloc::Global;
 use table::Apa;
@@ -105,6 +105,46 @@ pub unsafe extern "C" fn apa_of(at: *mut u8, task: u32) -> u32
     table::of(&mut *(at as *mut Apa), task)
 }
 
+/// Whether a task is ready, linked or waiting: 1 or 0.
+#[unsafe(no_mangle)]
+pub unsafe extern "C" fn apa_is_ready(at: *mut u8, task: u32) -> u32
+    ghost value: { Apa }
+    requires* { sem 𝓛 (apa_at at value) }
+    ensures* { sem 𝓛 (apa_after at (ReadyAnswer value task result)) }
+{
+    table::is_ready(&mut *(at as *mut Apa), task)
+}
+
+/// The mask of a task, as bits.
+#[unsafe(no_mangle)]
+pub unsafe extern "C" fn apa_mask(at: *mut u8, task: u32) -> u64
+    ghost value: { Apa }
+    requires* { sem 𝓛 (apa_at at value) }
+    ensures* { sem 𝓛 (apa_after at (MaskAnswer value task result)) }
+{
+    table::mask(&mut *(at as *mut Apa), task)
+}
+
+/// The set of the processors that somebody is on, as bits.
+#[unsafe(no_mangle)]
+pub unsafe extern "C" fn apa_occupied(at: *mut u8) -> u64
+    ghost value: { Apa }
+    requires* { sem 𝓛 (apa_at at value) }
+    ensures* { sem 𝓛 (apa_after at (OccupiedAnswer value result)) }
+{
+    table::occupied(&mut *(at as *mut Apa))
+}
+
+/// The set of the processors on line, as bits.
+#[unsafe(no_mangle)]
+pub unsafe extern "C" fn apa_on_line(at: *mut u8) -> u64
+    ghost value: { Apa }
+    requires* { sem 𝓛 (apa_at at value) }
+    ensures* { sem 𝓛 (apa_after at (OnLineAnswer value result)) }
+{
+    table::on_line(&mut *(at as *mut Apa))
+}
+
 /// How many moves the last event asks for.
 #[unsafe(no_mangle)]
 pub unsafe extern "C" fn apa_moves(at: *mut u8) -> u32
@@ -153,4 +193,14 @@ pub unsafe extern "C" fn apa_reached(at: *mut u8) -> u64
     ensures* { sem 𝓛 (apa_after at (SetAnswer value result)) }
 {
     table::reached(&mut *(at as *mut Apa))
+}
+
+/// The set of processors that the last reply carries of one that became free, as bits.
+#[unsafe(no_mangle)]
+pub unsafe extern "C" fn apa_back(at: *mut u8) -> u64
+    ghost value: { Apa }
+    requires* { sem 𝓛 (apa_at at value) }
+    ensures* { sem 𝓛 (apa_after at (BackAnswer value result)) }
+{
+    table::back(&mut *(at as *mut Apa))
 }

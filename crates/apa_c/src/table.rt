@@ -1,11 +1,11 @@
 //! What lies behind the pointer.
 ghost use Rattle.std.specs.Prelude.{◌≡◌, ℕ, ◌<◌, ◌≤◌, MatchOption, slice_get};
 ghost use Rattle.task_set.specs.TaskSet.{IsMask};
-ghost use Rattle.apa_c.specs.Calls.{Opened, Added, AddsTo, Started, Applied, IsEventHere, IsBadMask, Closed, OnAnswer, OfAnswer, CountAnswer, TaskAnswer, FromAnswer, ToAnswer, SetAnswer, moves_of, running_of};
+ghost use Rattle.apa_c.specs.Calls.{Opened, Added, AddsTo, Started, Applied, IsEventHere, IsBadMask, Closed, OnAnswer, OfAnswer, ReadyAnswer, MaskAnswer, OccupiedAnswer, OnLineAnswer, CountAnswer, TaskAnswer, FromAnswer, ToAnswer, SetAnswer, BackAnswer, moves_of, running_of};
 
 use crate::answer::{
     BAD_MASK, DONE, NO_EVENT, NO_MEMORY, NO_NAME, NO_PROCESSOR, NO_TASK, NOT_NOW, NOTHING,
-    SAME_PRIORITY, TOO_MANY, answer_of, from_of, set_of, task_of, to_of,
+    SAME_PRIORITY, TOO_MANY, answer_of, back_of, from_of, set_of, task_of, to_of,
 };
 use affinity_mask::ProcSet;
 use live_core::{LiveCore, Move};
@@ -163,6 +163,52 @@ pub fn of(apa: &mut Apa, t: u32) -> u32
     }
 }
 
+/// Whether a task is ready: 1 or 0.
+pub fn is_ready(apa: &mut Apa, t: u32) -> u32
+    ensures { ReadyAnswer apa.old t result apa.new }
+{
+    let Stage::Running(live) = &apa.stage else {
+        return 0;
+    };
+    if t >= live.links().len() {
+        return 0;
+    }
+    if live.links().is_ready(t) { 1 } else { 0 }
+}
+
+/// The mask of a task, as bits.
+pub fn mask(apa: &mut Apa, t: u32) -> u64
+    ensures { MaskAnswer apa.old t result apa.new }
+{
+    let Stage::Running(live) = &apa.stage else {
+        return 0;
+    };
+    if t >= live.links().len() {
+        return 0;
+    }
+    live.links().mask(t).bits()
+}
+
+/// The processors that somebody is on, as bits.
+pub fn occupied(apa: &mut Apa) -> u64
+    ensures { OccupiedAnswer apa.old result apa.new }
+{
+    match &apa.stage {
+        Stage::Running(live) => live.links().linked().bits(),
+        _ => 0,
+    }
+}
+
+/// The processors on line, as bits.
+pub fn on_line(apa: &mut Apa) -> u64
+    ensures { OnLineAnswer apa.old result apa.new }
+{
+    match &apa.stage {
+        Stage::Running(live) => live.links().online().bits(),
+        _ => 0,
+    }
+}
+
 /// How many moves the last event asks for.
 pub fn moves(apa: &mut Apa) -> u32
     ensures { CountAnswer apa.old result apa.new }
@@ -219,6 +265,16 @@ pub fn reached(apa: &mut Apa) -> u64
 {
     match &apa.stage {
         Stage::Running(live) => set_of(live.last()),
+        _ => 0,
+    }
+}
+
+/// The set of processors that the last reply carries of one that became free, as bits.
+pub fn back(apa: &mut Apa) -> u64
+    ensures { BackAnswer apa.old result apa.new }
+{
+    match &apa.stage {
+        Stage::Running(live) => back_of(live.last()),
         _ => 0,
     }
 }

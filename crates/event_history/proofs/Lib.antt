@@ -5,6 +5,7 @@ pub mod Keeps
 pub mod Lists
 pub mod Meets
 pub mod Merging
+mod Opens
 pub mod Owes
 pub mod Passes
 pub mod Prefixes

@@ -10,6 +10,7 @@ use crate::held::Held;
 use crate::pass::Pass;
 use crate::pass_state::{PassSeat, PassState};
 use crate::view::PassView;
+use affinity_mask::OutOfMemory;
 use atomic_table::{Join, Play, Shared, Split, Table, TableRule};
 use order_queues::{Queue, Sender};
 use sched_core::Core;
@@ -119,7 +120,7 @@ ghost use Rattle.link_state.specs.History.{IsLegal};
 ghost use Rattle.order_queues.specs.Ends.{EyeData};
 ghost use Rattle.event_history.specs.Boards.{Grown, AreEyesOf, AreFor};
 ghost use Rattle.event_history.specs.Flushing.{Flushed};
-ghost use Rattle.event_history.specs.Holdings.{SentBegins, NoneSent, queues_of};
+ghost use Rattle.event_history.specs.Holdings.{SentBegins, NoneSent, queues_of, IsOneSlot, new_core, new_slots, senders_in};
 ghost use Rattle.event_history.specs.Meeting.{Counted, Told, Met};
 ghost use Rattle.event_history.specs.Posting.{Posted, Refused, SawAll, WasBusy, turn_looks};
 ghost use Rattle.event_history.specs.PassStates.{IsOfTurn, IsTurnTable, Agrees, data_at};
@@ -372,33 +373,60 @@ pub fn open(
     ensures seat { IfOk result (λ made. made.1.me ≡ (fresh 0 1, [])) }
     ensures back { IfErr result (λ back. back.items ≡ senders.items) }
 {
-    let Ok(core) = Core::new(alloc, set) else {
-        return Err(senders);
-    };
-    let Ok(core) = Box::new(alloc, core) else {
-        return Err(senders);
-    };
-    let Ok(mut slots) = Vec::with_capacity(alloc, 1) else {
-        return Err(senders);
-    };
     let about = About {
         set: Snapshot::of(set),
         senders: Snapshot::of(&senders),
         callers,
     };
-    slots.push_reserved(Some(Held::of(core, senders)));
+    let slots = held_slots(alloc, set, senders)?;
     match Table::new(alloc, &[0], slots, &about) {
         Ok(made) => Ok(made),
-        Err(refused) => {
-            let mut slots = refused.slots;
-            match slots.pop() {
-                Some(Some(held)) => {
-                    let (_core, senders) = held.parts();
-                    Err(senders)
-                }
-                _ => unreachable!(),
-            }
+        Err(refused) => Err(senders_of(refused.slots)),
+    }
+}
+
+/// The one slot of a turn word, with a new core and senders that sent nothing. Out of memory the senders come back.
+fn held_slots(
+    alloc: Global,
+    set: &TaskSet,
+    senders: Vec<Sender>,
+) -> Result<Vec<Option<Held>>, Vec<Sender>>
+    requires count { length senders.items ≡ set.now.processors }
+    requires fresh { NoneSent senders.items }
+    ensures slots { IfOk result (λ slots. slots.items ≡ new_slots set.now senders.items) }
+    ensures back { IfErr result (λ back. back.items ≡ senders.items) }
+{
+    let Ok(mut slots) = Vec::with_capacity(alloc, 1) else {
+        return Err(senders);
+    };
+    let Ok(core) = boxed_core(alloc, set) else {
+        return Err(senders);
+    };
+    slots.push_reserved(Some(Held::of(core, senders)));
+    Ok(slots)
+}
+
+/// A new core, in memory of its own. Refused only where memory runs out.
+fn boxed_core(alloc: Global, set: &TaskSet) -> Result<Box<Core>, OutOfMemory>
+    ensures { IfOk result (λ core. core.value ≡ new_core set.now) }
+{
+    let core = Core::new(alloc, set)?;
+    let core = Box::new(alloc, core)?;
+    Ok(core)
+}
+
+/// The senders of the one slot of a turn word that was not made.
+fn senders_of(slots: Vec<Option<Held>>) -> Vec<Sender>
+    requires { IsOneSlot slots.items }
+    ensures { result.items ≡ senders_in slots.items }
+{
+    let mut slots = slots;
+    match slots.pop() {
+        Some(Some(held)) => {
+            let (_core, senders) = held.parts();
+            senders
         }
+        _ => unreachable!(),
     }
 }
 

@@ -7,4 +7,5 @@ mod Moments
 mod Pictures
 mod Pieces
 mod Places
+mod Traced
 mod Written

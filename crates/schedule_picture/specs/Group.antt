@@ -25,6 +25,10 @@ last_place places window span = min (slice_index places span.until) window.to
 abbrev pub part_of : List ℕ → Window → Span → Option (ℕ × ℕ)
 part_of places window span = if nat_lt (first_place places window span) (last_place places window span) then Some (first_place places window span, last_place places window span) else None
 
+-- where a span begins and ends, if it has a length
+abbrev pub extent_of : List ℕ → Span → Option (ℕ × ℕ)
+extent_of places span = if nat_lt (slice_index places span.from) (slice_index places span.until) then Some (slice_index places span.from, slice_index places span.until) else None
+
 -- the text of a part, if there is one
 abbrev pub text_of_part : (ℕ → ℕ → List ℕ) → Option (ℕ × ℕ) → List ℕ
 text_of_part text None = []

@@ -1,3 +1,4 @@
+pub mod Chrome
 pub mod Colours
 pub mod Group
 pub mod History

@@ -2,12 +2,13 @@
 //!
 //! [`tracks_of`] follows the entries of a schedule once. Each [`Track`] has the spans of one processor or one task, each that
 //! there is, once, in order. [`picture_text`] draws a window of them as SVG, over units of time or with a column for each
-//! entry.
+//! entry. [`chrome_text`] gives the stays as a trace in Chrome's format.
 #![tactic(auto)]
 
 mod around;
 mod assembly;
 pub mod axis;
+mod chrome;
 mod colours;
 mod follow;
 mod groups;
@@ -22,6 +23,7 @@ pub mod tracks;
 pub mod window;
 
 pub use axis::Axis;
+pub use chrome::chrome_text;
 pub use follow::tracks_of;
 pub use picture::picture_text;
 pub use span::{Seen, Span};

@@ -2,7 +2,7 @@
 ghost use Rattle.std.specs.Prelude.{◌≡◌, ◌<◌, ◌≤◌, slice_index, get_or};
 ghost use Rattle.task_set.specs.TaskSet.{priorities};
 ghost use Rattle.text_fields.specs.EventText.{name_of};
-ghost use Rattle.schedule_picture.specs.Group.{part_of, span_of};
+ghost use Rattle.schedule_picture.specs.Group.{extent_of, part_of, span_of};
 ghost use Rattle.schedule_picture.specs.Listing.{touches};
 ghost use Rattle.schedule_picture.specs.Track.{fresh_track};
 
@@ -36,6 +36,19 @@ impl Sheet<'_> {
     {
         let begin = self.place(span.from).max(self.window.from);
         let end = self.place(span.until).min(self.window.to);
+        if begin < end {
+            Some((begin, end))
+        } else {
+            None
+        }
+    }
+
+    /// Where a span begins and ends on the axis, if it has a length.
+    pub(crate) fn extent(&self, span: Span) -> Option<(u64, u64)>
+        ensures { result ≡ extent_of self.now.places.now span }
+    {
+        let begin = self.place(span.from);
+        let end = self.place(span.until);
         if begin < end {
             Some((begin, end))
         } else {

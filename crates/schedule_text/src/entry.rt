@@ -2,11 +2,12 @@
 ghost use Rattle.std.specs.Prelude.{◌≡◌, ◌⊎◌, ◌∷◌, ◌++◌, [], List, ℕ, codes, IfOk, IfErr, OnOk, MatchOption};
 ghost use Rattle.scheduler_reply.specs.declared.reply.Entry.{Entry as EntryData};
 ghost use Rattle.line_machine.specs.Fields.{texts};
+ghost use Rattle.schedule_text.specs.declared.fault.TextKind.TheVariants.{BadLine};
+ghost use Rattle.schedule_text.specs.Fields.{IsProcessorField};
 ghost use Rattle.schedule_text.specs.Reading.{IsOutOfMemory};
 ghost use Rattle.schedule_text.specs.LineFields.{
   IsEventFields,
   IsEventFault,
-  IsNoFirstWord,
   IsEventThen,
   IsEntryFields,
   IsEntryFault,
@@ -17,8 +18,8 @@ use crate::field::{fault_after, known_task, mask_of, number_of, processor_of};
 use crate::reply::read_reply;
 use scheduler_reply::Entry;
 use task_set::{Event, TaskSet};
-use text_fields::is_word;
 use text_fields::limits::{LAST_VERSION, MAX_STREAM, MAX_UNITS};
+use text_fields::{EventWord, event_word, is_word_of};
 
 /// How many fields an event has that sets a mask.
 const AFFINITY_FIELDS: usize = 3;
@@ -76,7 +77,7 @@ fn event_then<'f, 'a>(fields: &'f [&'a [u8]]) -> Option<(&'f [&'a [u8]], &'f [&'
     let [word, ..] = fields else {
         return None;
     };
-    let count = if is_word(word, "affinity") {
+    let count = if is_word_of(word, EventWord::Affinity) {
         AFFINITY_FIELDS
     } else {
         EVENT_FIELDS
@@ -100,7 +101,7 @@ fn read_event(version: u8, set: &TaskSet, fields: &[&[u8]]) -> Result<Event, Tex
     let [word, name, list] = fields else {
         return Err(TextKind::BadLine);
     };
-    if version == LAST_VERSION && is_word(word, "affinity") {
+    if version == LAST_VERSION && is_word_of(word, EventWord::Affinity) {
         affinity_of(set, name, list)
     } else {
         Err(TextKind::BadLine)
@@ -114,38 +115,33 @@ fn valued_event(version: u8, set: &TaskSet, word: &[u8], value: &[u8]) -> Result
         (IsEventFields version set.now.processors (word.now ∷ value.now ∷ []) set.now) }
     ensures refused { IfErr result (IsEventFault version (word.now ∷ value.now ∷ []) set.now) }
 {
-    if is_word(word, "arrive") {
-        Ok(Event::Arrive(known_task(set, value)?))
-    } else if is_word(word, "depart") {
-        Ok(Event::Depart(known_task(set, value)?))
-    } else if is_word(word, "tick") {
-        match number_of(value, 1, MAX_UNITS) {
+    match event_word(word) {
+        Some(EventWord::Arrive) => Ok(Event::Arrive(known_task(set, value)?)),
+        Some(EventWord::Depart) => Ok(Event::Depart(known_task(set, value)?)),
+        Some(EventWord::Tick) => match number_of(value, 1, MAX_UNITS) {
             Some(units) => Ok(Event::Tick(units as u32)),
             None => Err(TextKind::BadLine),
-        }
-    } else if version == LAST_VERSION {
-        processor_event(set, word, value)
-    } else {
-        Err(TextKind::BadLine)
+        },
+        Some(EventWord::Offline) => Ok(Event::Offline(switched_processor(version, set, value)?)),
+        Some(EventWord::Online) => Ok(Event::Online(switched_processor(version, set, value)?)),
+        Some(EventWord::Affinity) => Err(TextKind::BadLine),
+        None => Err(TextKind::BadLine),
     }
 }
 
-/// The event that a processor goes off line or comes on line, by a word that is no other event's.
-fn processor_event(set: &TaskSet, word: &[u8], value: &[u8]) -> Result<Event, TextKind>
-    requires { IsNoFirstWord word.now }
-    ensures read { IfOk result
-        (IsEventFields 2 set.now.processors (word.now ∷ value.now ∷ []) set.now) }
-    ensures refused { IfErr result (IsEventFault 2 (word.now ∷ value.now ∷ []) set.now) }
+/// The processor that goes off line or comes on line, in the version that has these events.
+fn switched_processor(version: u8, set: &TaskSet, field: &[u8]) -> Result<u8, TextKind>
+    ensures read { IfOk result (λ p. (version ≡ 2)
+        × IsProcessorField set.now.processors field.now p) }
+    ensures refused { IfErr result (λ kind. (kind ≡ BadLine)
+        × ((p : ℕ) → version ≡ 2 → IsProcessorField set.now.processors field.now p → ⊥)) }
 {
-    let Some(p) = processor_of(set, value) else {
+    if version != LAST_VERSION {
         return Err(TextKind::BadLine);
-    };
-    if is_word(word, "offline") {
-        Ok(Event::Offline(p))
-    } else if is_word(word, "online") {
-        Ok(Event::Online(p))
-    } else {
-        Err(TextKind::BadLine)
+    }
+    match processor_of(set, field) {
+        Some(p) => Ok(p),
+        None => Err(TextKind::BadLine),
     }
 }
 

@@ -1,4 +1,5 @@
 pub mod EventText
+pub mod EventWord
 pub mod LineText
 pub mod Number
 pub mod Version

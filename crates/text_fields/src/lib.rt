@@ -17,4 +17,4 @@ pub use event::write_event_text;
 pub use line::{write_processors_line, write_task_line, write_task_lines};
 pub use name::{task_of, write_name};
 pub use number::{read_number, write_number};
-pub use word::is_word;
+pub use word::{EventWord, event_word, is_word, is_word_of};

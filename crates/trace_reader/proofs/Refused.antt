@@ -5,6 +5,8 @@ use Rattle.task_set.specs.TaskSet.{SetData}
 use Rattle.task_set.specs.Refusal.{new_task, IsRefusal}
 use Rattle.task_set.specs.declared.fault.TaskFault.{TaskFault}
 use Rattle.task_set.specs.declared.fault.TaskFault.TheVariants as task
+use Rattle.text_fields.specs.declared.word.EventWord.TheVariants.{Arrive, Depart, Tick, Offline, Online}
+use Rattle.text_fields.specs.EventWord.{IsNoEventWord}
 use Rattle.trace_reader.specs.declared.posted.Posted.{Posted}
 use Rattle.trace_reader.specs.declared.fault.InputKind.{InputKind}
 use Rattle.trace_reader.specs.declared.fault.InputKind.TheVariants.{BadByte, LongLine}
@@ -34,6 +36,14 @@ pub no_change_form : (version m : ℕ) (rest : List (List ℕ))
     → IsChangeForm version m rest → ⊥
 no_change_form version m rest no_pair no_mask (inl (word, value, e, form)) = no_pair word value e form
 no_change_form version m rest no_pair no_mask (inr (second, (name, list, e))) = no_mask name list second e
+
+-- a word of no event is that of no pair
+pub no_word_no_pair : (version m : ℕ) (word value : List ℕ) → IsNoEventWord word → IsPairForm version m word value → ⊥
+no_word_no_pair version m word value none (inl (inl is)) = none Arrive is
+no_word_no_pair version m word value none (inl (inr is)) = none Depart is
+no_word_no_pair version m word value none (inr (inl (is, units))) = none Tick is
+no_word_no_pair version m word value none (inr (inr (second, (inl is, p)))) = none Offline is
+no_word_no_pair version m word value none (inr (inr (second, (inr is, p)))) = none Online is
 
 -- the fault of a word and a value
 pub pair_refused : (version : ℕ) (set : SetData) (word value : List ℕ) (kind : InputKind)

@@ -1,0 +1,5 @@
+pub mod Books
+pub mod Running
+pub mod Stretches
+pub mod Tallies
+pub mod Watches

@@ -1,0 +1,14 @@
+use Rattle.std.proofs.Common.{◌∷◌, ℕ, List, Some, ap, sym, subst, ◌∙◌, Option}
+use Rattle.trace_losses.specs.Runs.{IsArmed, put_at}
+use Rattle.trace_losses.specs.declared.turn.Turn.{Turn}
+use Rattle.trace_losses.proofs.Running.{switch_armed}
+use Rattle.trace_losses.proofs.runners.Runners.before.Goals as goal
+
+pub returns-in-Switch-clause-armed : goal.returns-in-Switch-clause-armed
+returns-in-Switch-clause-armed c = λ base after armed.
+    subst (λ (turn : Turn). IsArmed base (turn ∷ after) c.put-in-Switch.new.self.processors.items) (sym c.in-Switch.is)
+    (switch_armed base after c.args.self.now.processors.items c.stop_all.new.processors.items c.put-in-Switch.new.self.processors.items
+    c.in-Switch.processor c.in-Switch.from c.in-Switch.to c.stop_all.ensures
+    (c.put-in-Switch.ensures
+    ∙ ap (λ (on : List (Option ℕ)). put_at on c.in-Switch.from (Some c.in-Switch.processor)) c.put.ensures)
+    armed)

@@ -1,0 +1,5 @@
+pub mod Book
+pub mod Moments
+pub mod Runs
+pub mod Tally
+pub mod Watch

@@ -1,0 +1,19 @@
+//! What the kernel did beside the best set: for each task how many moments it was ready, ran, and was lost.
+//!
+//! A task is lost at a moment where it is in the best set and runs nowhere. A [`Tally`] goes on by stretches of equal moments, and
+//! its numbers are those of the moments one by one: how many there are of each kind, and the longest stretch of lost moments.
+#![tactic(auto)]
+
+mod book;
+mod runners;
+mod seen;
+mod tally;
+mod turn;
+mod watch;
+
+pub use book::Book;
+pub use runners::Runners;
+pub use seen::Seen;
+pub use tally::{Stretch, Tally};
+pub use turn::Turn;
+pub use watch::{Watch, most};

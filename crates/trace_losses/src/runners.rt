@@ -1,0 +1,93 @@
+//! Who runs where, from the last line of a trace to the first.
+ghost use Rattle.std.specs.Prelude.{◌≡◌, ℕ, ◌<◌, Bool, List, [], ◌∷◌, length, vec_len, IfOk};
+ghost use Rattle.std.specs.Option.{ForSome};
+ghost use Rattle.trace_losses.specs.Runs.{IsArmed, AreTasks, IsHeld, IsStopped, nobody_runs, put_at, is_some_of};
+ghost use Rattle.trace_losses.specs.declared.turn.Turn.{Turn};
+
+use crate::turn::Turn;
+use std::alloc::{AllocError, Global};
+
+/// Of each task the processor that it runs on, if it runs.
+#[derive(Drop)]
+pub struct Runners {
+    pub processors: Vec<Option<u32>>,
+}
+
+impl Runners {
+    /// Nobody runs.
+    pub fn new(alloc: Global, tasks: usize) -> Result<Runners, AllocError>
+        ensures armed { IfOk result (λ runners. IsArmed nobody_runs [] runners.processors.items) }
+        ensures held { IfOk result (λ runners. IsHeld [] runners.processors.items) }
+        ensures tasks { IfOk result (λ runners. vec_len runners.processors ≡ tasks) }
+    {
+        let mut processors = Vec::new(alloc);
+        for task in 0..tasks {
+            processors.push(None)?;
+        }
+        Ok(Runners { processors })
+    }
+
+    /// Goes back over a line: who runs before it, by who runs after it.
+    pub fn before(&mut self, turn: Turn)
+        requires { AreTasks (vec_len self.old.processors) turn }
+        ensures armed { (base : ℕ → ℕ → Bool) (after : List Turn) → IsArmed base after self.old.processors.items
+            → IsArmed base (turn ∷ after) self.new.processors.items }
+        ensures tasks { vec_len self.new.processors ≡ vec_len self.old.processors }
+    {
+        match turn {
+            Turn::Woken(task) => {
+                self.processors[task as usize] = None;
+            }
+            Turn::Switch {
+                processor,
+                from,
+                to,
+            } => {
+                stop_all(&mut self.processors, processor);
+                self.put(to, None);
+                self.put(from, Some(processor));
+            }
+        }
+    }
+
+    /// Goes on over a line: who is where after it, by who was where before it.
+    pub fn after(&mut self, turn: Turn)
+        requires { AreTasks (vec_len self.old.processors) turn }
+        ensures held { (earlier : List Turn) → IsHeld earlier self.old.processors.items
+            → IsHeld (turn ∷ earlier) self.new.processors.items }
+        ensures tasks { vec_len self.new.processors ≡ vec_len self.old.processors }
+    {
+        self.before(turn.turned())
+    }
+
+    /// Puts a task, if there is one, on a processor, or on none.
+    fn put(&mut self, task: Option<u32>, processor: Option<u32>)
+        requires { ForSome task (λ t. t < vec_len self.old.processors) }
+        ensures { self.new.processors.items ≡ put_at self.old.processors.items task processor }
+    {
+        if let Some(task) = task {
+            self.processors[task as usize] = processor;
+        }
+    }
+}
+
+/// Whoever runs on a processor stops.
+fn stop_all(processors: &mut Vec<Option<u32>>, processor: u32)
+    ensures { IsStopped processors.old.items processors.new.items processor (length processors.old.items) }
+{
+    for t in 0..processors.len() {
+        if is_on(processors[t], processor) {
+            processors[t] = None;
+        }
+    }
+}
+
+/// Whether a task runs on a processor.
+fn is_on(on: Option<u32>, processor: u32) -> bool
+    ensures { result ≡ is_some_of on processor }
+{
+    match on {
+        Some(other) => other == processor,
+        None => false,
+    }
+}
