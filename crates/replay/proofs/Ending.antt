@@ -1,5 +1,5 @@
 -- The processors of a closed board, with their queues.
-use Rattle.std.proofs.Common.{◌≡◌, ℕ, zero, suc, ◌+◌, List, [], ◌∷◌, length, map, slice_get, Some, sym, refl, ap, ◌∙◌, subst, arith}
+use Rattle.std.proofs.Common.{◌≡◌, ℕ, suc, ◌+◌, List, [], ◌∷◌, length, map, slice_get, Some, sym, refl, ap, ◌∙◌, subst, arith}
 use Rattle.order_queues.specs.Ends.{QueueData}
 use Rattle.context_slots.specs.Hands.{SlotsData}
 use Rattle.processor_seat.specs.Stepping.{ProcessorData}

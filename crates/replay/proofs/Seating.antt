@@ -1,5 +1,5 @@
 -- Processors at their places, and their queues.
-use Rattle.std.proofs.Common.{◌≡◌, ℕ, zero, suc, Option, None, Some, option_to_list, List, [], ◌∷◌, ◌++◌, length, get_or, slice_get, sym, ap, ◌∙◌, subst}
+use Rattle.std.proofs.Common.{◌≡◌, ℕ, zero, suc, Option, None, Some, option_to_list, List, [], ◌∷◌, ◌++◌, length, get_or, slice_get, sym, ap, ◌∙◌}
 use Rattle.std.specs.List.{flat_map}
 use Rattle.task_set.specs.TaskSet.{SetData}
 use Rattle.task_set.specs.Orders.{Stint, stint_orders, has_stop}
@@ -10,8 +10,8 @@ use Rattle.context_slots.specs.Hands.{SlotsData}
 use Rattle.context_slots.specs.declared.view.OpenStint.{OpenStint}
 use Rattle.event_history.specs.Boards.{AreFor}
 use Rattle.processor_seat.specs.Obeying.{orders_under_way}
-use Rattle.processor_seat.specs.Stepping.{ProcessorData, IsInStep, stop_if}
-use Rattle.replay.specs.Seats.{IsSeated, IsSeatedAt, IsIdleAt}
+use Rattle.processor_seat.specs.Stepping.{ProcessorData, stop_if}
+use Rattle.replay.specs.Seats.{IsSeatedAt, IsIdleAt}
 
 -- the queue at a place, as it is read
 pub queue_read : (queues : List QueueData) (n : ℕ) (queue read : QueueData) → slice_get queues n ≡ Some queue → read ≡ get_or queues n read → read ≡ queue

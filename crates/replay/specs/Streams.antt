@@ -1,12 +1,11 @@
 -- Streams of events: what a pass has posted of its stream.
-use Rattle.std.specs.Prelude.{◌≡◌, ℕ, ◌<◌, ◌==◌, ◌⊎◌, Bool, true, false, List, [], ◌∷◌, ◌++◌, length, map, filter, All}
+use Rattle.std.specs.Prelude.{◌≡◌, ℕ, ◌<◌, ◌⊎◌, Bool, true, false, List, [], ◌∷◌, ◌++◌, length}
 use Rattle.task_set.specs.declared.event.Event.{Event}
 use Rattle.task_set.specs.Event.{IsOfSystem}
 use Rattle.trace_reader.specs.declared.posted.Posted.{Posted}
 use Rattle.event_history.specs.Boards.{BoardData, PassData, AreEyesOf}
 use Rattle.event_history.specs.Merging.{AreEventsAt}
 use Rattle.replay.specs.Merge.{events_of_stream}
-use Rattle.replay.specs.Places.{AllFrom}
 
 -- each event is of a task of the board's set, and on the stream of one of its callers
 pub record IsForBoard (board : BoardData) (posted : Posted) : Type 0 where

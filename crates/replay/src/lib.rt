@@ -4,6 +4,8 @@
 //! contexts. It starts a worker thread for each processor and a thread for each stream that has events. The streams post to
 //! the board; the orders go through a queue to each worker; the workers hand the contexts of the tasks to each other. What
 //! comes back is one closed core, whose legal history is a merge of the events, and the contexts that the workers carried.
+//! Its steps are for callers that have a board and slots of their own, too: [`beginning_of`] makes the parts, [`replay`] runs
+//! the threads over them, and [`carried_contexts`] closes the slots.
 //!
 //! [`watched_schedule_of`] does the same with observers beside it: its caller posts all events in their order, and publishes
 //! each entry on a board that the observers read meanwhile, each on a thread of its own, without a turn.
@@ -29,6 +31,8 @@ mod watching;
 mod workers;
 
 pub use driving::drive;
-pub use schedule::{Schedule, schedule_of};
+pub use making::{Beginning, beginning_of};
+pub use on_threads::{Replayed, replay};
+pub use schedule::{Schedule, carried_contexts, schedule_of};
 pub use sighting::Sighting;
 pub use watching::{Watched, watched_schedule_of};

@@ -1,4 +1,4 @@
-use Rattle.std.proofs.Common.{arith, ◌≡◌, ◌<◌, ℕ, List, length, length-set, sym, ◌∙◌, subst}
+use Rattle.std.proofs.Common.{arith, ◌<◌, ℕ, List, length, length-set, sym, ◌∙◌, subst}
 use Rattle.std.proofs.lemmas.List.Elements.{All-set}
 use Rattle.processor_seat.specs.Stepping.{ProcessorData}
 use Rattle.replay.specs.Driving.{IsDone, seat_of}

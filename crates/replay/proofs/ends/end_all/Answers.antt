@@ -1,9 +1,7 @@
-use Rattle.std.proofs.Common.{arith, ◌≡◌, ◌+◌, ℕ, List, [], ◌∷◌, ◌++◌, length, length-append, map, slice_get, Some, sym, ap, ◌∙◌, subst}
+use Rattle.std.proofs.Common.{arith, ◌≡◌, ◌+◌, ℕ, List, [], ◌∷◌, length, length-append, map, slice_get, sym, ap, ◌∙◌, subst}
 use Rattle.std.proofs.lemmas.List.{length-map}
-use mathlib.Core.List.{IsPrefix}
 use Rattle.order_queues.specs.Ends.{QueueData, SenderData}
 use Rattle.processor_seat.specs.Stepping.{ProcessorData}
-use Rattle.sched_core.specs.CoreData.{core_orders}
 use Rattle.replay.specs.Places.{AllFrom}
 use Rattle.replay.specs.Replayed.{HasAllStints}
 use Rattle.replay.specs.Seats.{HasStoppedAt}

@@ -1,6 +1,5 @@
 use Rattle.std.proofs.Common.{◌≡◌, ◌+◌, ◌≤◌, length, map}
 use Rattle.std.specs.Vec.{vec_capacity}
-use Rattle.order_queues.specs.Ends.{QueueData}
 use Rattle.processor_seat.specs.Stepping.{ProcessorData}
 use Rattle.event_history.specs.Holdings.{SentBegins, queues_of}
 use Rattle.replay.specs.Places.{AllFrom}

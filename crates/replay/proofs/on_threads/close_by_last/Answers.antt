@@ -1,4 +1,4 @@
-use Rattle.std.proofs.Common.{◌≡◌, ◌+◌, List, [], ◌∷◌, ◌++◌, length, sym, subst}
+use Rattle.std.proofs.Common.{◌+◌, List, length, sym, subst}
 use Rattle.event_history.specs.Boards.{PassData}
 use Rattle.replay.specs.Places.{AllFrom}
 use Rattle.replay.specs.Streams.{IsStreamedAt, SomeSawClose}

@@ -1,4 +1,4 @@
-use Rattle.std.proofs.Common.{arith, ◌≡◌, ◌+◌, ◌&&◌, ℕ, Bool, List, [], ◌∷◌, ◌++◌, length, length-append, sym, ap, ◌∙◌, subst, MatchResult}
+use Rattle.std.proofs.Common.{arith, ◌≡◌, ◌+◌, ◌&&◌, ℕ, Bool, [], ◌∷◌, length, length-append, sym, ap, ◌∙◌, subst, MatchResult}
 use Rattle.event_history.specs.Boards.{PassData}
 use Rattle.replay.specs.Places.{AllFrom}
 use Rattle.replay.specs.Streams.{IsStreamedAt}

@@ -1,5 +1,4 @@
-use Rattle.std.proofs.Common.{◌∙◌}
-use Rattle.replay.proofs.Posts.{adds_here, pass_stays}
+use Rattle.replay.proofs.Posts.{pass_stays}
 use Rattle.replay.proofs.streams.post_if_own.Goals as goal
 
 pub returns-clause-pass : goal.returns-clause-pass

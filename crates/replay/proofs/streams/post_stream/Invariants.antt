@@ -1,4 +1,4 @@
-use Rattle.std.proofs.Common.{◌≡◌, ◌<◌, take}
+use Rattle.std.proofs.Common.{◌<◌, take}
 use Rattle.event_history.specs.Merging.{AreEventsAt}
 use Rattle.replay.specs.Merge.{events_of_stream}
 use Rattle.replay.specs.Streams.{IsPassAt}

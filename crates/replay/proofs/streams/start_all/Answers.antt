@@ -1,4 +1,4 @@
-use Rattle.std.proofs.Common.{arith, ◌≡◌, ◌+◌, ◌≤◌, ℕ, List, [], ◌∷◌, ◌++◌, length, length-append, Some, sym, ap, ◌∙◌, subst, MatchResult}
+use Rattle.std.proofs.Common.{arith, ◌≡◌, ◌+◌, ℕ, List, [], ◌∷◌, length, length-append, Some, sym, ap, ◌∙◌, subst, MatchResult}
 use Rattle.std.proofs.lemmas.List.Elements.{All-pop}
 use Rattle.event_history.specs.Boards.{PassData}
 use Rattle.replay.specs.Places.{AllFrom}

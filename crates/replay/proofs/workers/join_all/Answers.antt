@@ -1,4 +1,4 @@
-use Rattle.std.proofs.Common.{arith, ◌≡◌, ◌+◌, length, ap}
+use Rattle.std.proofs.Common.{arith, length, ap}
 use Rattle.replay.specs.Seats.{HasStoppedAt}
 use Rattle.replay.proofs.Places.{AllFrom-insert}
 use Rattle.replay.proofs.workers.join_all.Goals as goal

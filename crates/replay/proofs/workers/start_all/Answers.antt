@@ -1,4 +1,4 @@
-use Rattle.std.proofs.Common.{rules, arith, ◌≡◌, ℕ, ◌+◌, List, [], ◌∷◌, ◌++◌, length, length-append, sym, ap, ◌∙◌, subst}
+use Rattle.std.proofs.Common.{arith, ◌≡◌, ◌+◌, List, [], ◌∷◌, length, length-append, ap, ◌∙◌, subst}
 use Rattle.processor_seat.specs.Stepping.{ProcessorData}
 use Rattle.replay.specs.Crew.{IsCrew}
 use Rattle.replay.specs.Places.{AllFrom}
