@@ -1,6 +1,9 @@
 pub mod Course
 pub mod Import
 pub mod Laws
+pub mod Passage
+pub mod PassageView
+pub mod Processor
 pub mod Reading
 pub mod Stamp
 pub mod StampView
