@@ -56,7 +56,7 @@ pub length_marked : (standings : List Standing) (m : Option Mention) → length 
 length_marked standings None = refl
 length_marked standings (Some m) = length-set standings m.task _
 
-marks_valid : (c : CourseData) (first second : Option Mention) → IsCourse c → IsCourse (after_marks c first second)
+pub marks_valid : (c : CourseData) (first second : Option Mention) → IsCourse c → IsCourse (after_marks c first second)
 marks_valid c first second is = record {
   valid = is.valid;
   ids = is.ids;

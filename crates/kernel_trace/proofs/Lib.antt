@@ -8,4 +8,7 @@ pub mod Courses
 pub mod Decided
 pub mod Followed
 pub mod Imports
+mod Turns
+mod Kept
 pub mod Imported
+pub mod Passed

@@ -3,6 +3,7 @@ pub mod Import
 pub mod Laws
 pub mod Passage
 pub mod PassageView
+pub mod Passages
 pub mod Processor
 pub mod Reading
 pub mod Stamp

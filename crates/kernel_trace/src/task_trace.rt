@@ -1,6 +1,7 @@
 //! What a trace says of tasks, and its reader.
 ghost use Rattle.std.specs.Prelude.{◌≡◌, ◌⊎◌, ℕ, IfOk, IfErr, MatchResult};
 ghost use Rattle.kernel_trace.specs.Passage.{TaskTraceData, nothing_followed, IsTaskTraceText, IsTaskTraceRefused};
+ghost use Rattle.kernel_trace.specs.Passages.{IsTaskTrace};
 ghost use Rattle.kernel_trace.specs.PassageView.{following_of};
 ghost use Rattle.kernel_trace.specs.Reading.{IsOutOfMemory};
 ghost use Rattle.kernel_trace.specs.declared.fault.TraceKind.{TraceKind};
@@ -69,6 +70,7 @@ pub fn read_task_trace(alloc: Global, bytes: &[u8]) -> Result<TaskTrace, TraceFa
     ensures trace { IfOk result (IsTaskTraceText bytes.now) }
     ensures refused { IfErr result (λ fault. IsOutOfMemory fault.kind
         ⊎ IsTaskTraceRefused bytes.now fault.line fault.kind) }
+    ensures passages { IfOk result (IsTaskTrace bytes.now) }
 
     // Only `OutOfMemory` comes in place of the expected answer.
     ensures accepts { (trace : TaskTraceData) → IsTaskTraceText bytes.now trace
