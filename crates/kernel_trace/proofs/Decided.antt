@@ -184,10 +184,10 @@ posted_more : (set : SetData) (task : TaskData) (posted : Posted) → IsPostedOf
 posted_more set task posted is = record { stream = is.stream; event = (about_more set task posted.event is.event.0, is.event.1) }
 
 -- other times and another window
-with_times : (c : CourseData) (last used : Option ℕ) → IsCourse c → IsCourse (record c { last = last; used = used })
+pub with_times : (c : CourseData) (last used : Option ℕ) → IsCourse c → IsCourse (record c { last = last; used = used })
 with_times c last used is = record { valid = is.valid; ids = is.ids; standings = is.standings; events = is.events; of_version = is.of_version }
 
-with_last : (c : CourseData) (last : Option ℕ) → IsCourse c → IsCourse (record c { last = last })
+pub with_last : (c : CourseData) (last : Option ℕ) → IsCourse c → IsCourse (record c { last = last })
 with_last c last is = record { valid = is.valid; ids = is.ids; standings = is.standings; events = is.events; of_version = is.of_version }
 
 with_window : (c : CourseData) (window : Option WindowData) → IsCourse c → IsCourse (record c { window = window })

@@ -110,26 +110,26 @@ places_step places text place digit is few within next =
 abbrev pub first_of : ℕ → List ℕ → ℕ → ℕ
 first_of places text place = number_value (take place (in_places places text))
 
-gap_step : (a b ahead d e : ℕ) → b ≤ a → ahead ≡ min (a - b) 30000 → d < 10 → e < 10 → e ≤ ahead * 10 + d
-    → (b * 10 + e ≤ a * 10 + d) × (min (ahead * 10 + d - e) 30000 ≡ min (a * 10 + d - (b * 10 + e)) 30000)
-gap_step a b ahead d e le is small little enough = (omega arith, omega arith)
+gap_step : (a b ahead d e most : ℕ) → 1 ≤ most → b ≤ a → ahead ≡ min (a - b) most → d < 10 → e < 10 → e ≤ ahead * 10 + d
+    → (b * 10 + e ≤ a * 10 + d) × (min (ahead * 10 + d - e) most ≡ min (a * 10 + d - (b * 10 + e)) most)
+gap_step a b ahead d e most some le is small little enough = (omega arith, omega arith)
 
-gap_stop : (a b ahead d e : ℕ) → b ≤ a → ahead ≡ min (a - b) 30000 → e < 10 → ahead * 10 + d < e → a * 10 + d < b * 10 + e
-gap_stop a b ahead d e le is small less = omega arith
+gap_stop : (a b ahead d e most : ℕ) → 1 ≤ most → b ≤ a → ahead ≡ min (a - b) most → e < 10 → ahead * 10 + d < e → a * 10 + d < b * 10 + e
+gap_stop a b ahead d e most some le is small less = omega arith
 
-module _ (earlier later : List ℕ) (places place ahead d e : ℕ) (one : is_number earlier ≡ true) (two : is_number later ≡ true)
+module _ (earlier later : List ℕ) (places place ahead d e most : ℕ) (some : 1 ≤ most) (one : is_number earlier ≡ true) (two : is_number later ≡ true)
     (fits : length earlier ≤ places) (room : length later ≤ places) (within : place < places)
     (le : first_of places earlier place ≤ first_of places later place)
-    (is : ahead ≡ min (first_of places later place - first_of places earlier place) 30000)
+    (is : ahead ≡ min (first_of places later place - first_of places earlier place) most)
     (to : d ≡ get_or (in_places places later) place 0 - 48) (from : e ≡ get_or (in_places places earlier) place 0 - 48) where
   pub goes_on : e ≤ ahead * 10 + d
       → (first_of places earlier (place + 1) ≤ first_of places later (place + 1))
-      × (min (ahead * 10 + d - e) 30000 ≡ min (first_of places later (place + 1) - first_of places earlier (place + 1)) 30000)
+      × (min (ahead * 10 + d - e) most ≡ min (first_of places later (place + 1) - first_of places earlier (place + 1)) most)
   goes_on enough =
       let a = places_step places later place d two room within to in
       let b = places_step places earlier place e one fits within from in
-      let step = gap_step (first_of places later place) (first_of places earlier place) ahead d e le is a.1 b.1 enough in
-      let P : ℕ → ℕ → Type 0 = λ x y. (y ≤ x) × (min (ahead * 10 + d - e) 30000 ≡ min (x - y) 30000) in
+      let step = gap_step (first_of places later place) (first_of places earlier place) ahead d e most some le is a.1 b.1 enough in
+      let P : ℕ → ℕ → Type 0 = λ x y. (y ≤ x) × (min (ahead * 10 + d - e) most ≡ min (x - y) most) in
       subst (λ (x : ℕ). P x (first_of places earlier (place + 1))) a.0
       (subst (P (first_of places later place * 10 + d)) b.0 step)
 
@@ -137,7 +137,7 @@ module _ (earlier later : List ℕ) (places place ahead d e : ℕ) (one : is_num
   stops less =
       let a = places_step places later place d two room within to in
       let b = places_step places earlier place e one fits within from in
-      let lt = gap_stop (first_of places later place) (first_of places earlier place) ahead d e le is b.1 less in
+      let lt = gap_stop (first_of places later place) (first_of places earlier place) ahead d e most some le is b.1 less in
       let long = places_length places later room in
       let long' = places_length places earlier fits in
       let below : number_value (in_places places later) < number_value (in_places places earlier) =
@@ -154,5 +154,5 @@ pub all_nine : (text : List ℕ) → length text ≤ 9 → number_value (take 9 
 all_nine text few = let long = nine_length text few in ap number_value (take_all 9 (to_nine text) (omega (arith, long)))
 
 -- one digit more, where great numbers are all one
-pub capped_step : (v id e r w : ℕ) → id ≡ min v 4194305 → v * 10 + e ≡ w → r ≡ min (id * 10 + e) 4194305 → r ≡ min w 4194305
-capped_step v id e r w is more next = omega arith
+pub capped_step : (v number e r w most : ℕ) → number ≡ min v most → v * 10 + e ≡ w → r ≡ min (number * 10 + e) most → r ≡ min w most
+capped_step v number e r w most is more next = omega arith

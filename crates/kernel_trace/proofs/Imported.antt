@@ -33,14 +33,14 @@ use Rattle.kernel_trace.proofs.Imports.{fold_append, units_append, written_units
 
 -- ---- the lines of the head
 -- what is known while the head is read
-abbrev Begun : Progress → Type 0
+abbrev pub Begun : Progress → Type 0
 Begun HeaderExpected = Unit {0}
 Begun ProcessorsExpected = Unit {0}
 Begun (Listed c) = IsHead c
 Begun (Tracing c) = ⊥
 
 -- what a line of the head leads to: more of the head, or the trace, after the line `events`
-abbrev Goes : Progress → List (List ℕ) → Progress → Type 0
+abbrev pub Goes : Progress → List (List ℕ) → Progress → Type 0
 Goes p fields HeaderExpected = Unit {0}
 Goes p fields ProcessorsExpected = Unit {0}
 Goes p fields (Listed c) = IsHead c
@@ -123,7 +123,7 @@ read_goes p line next begun (inr (inl long)) = fails_not_leads next (trace_kind 
 read_goes p line next begun (inr (inr (inl skipped))) = goes_to p (fields_of line) next p skipped.2 (begun_goes p (fields_of line) begun)
 read_goes p line next begun (inr (inr (inr says))) = fields_go p (fields_of line) next begun says.2
 
-line_goes : (p : Progress) (line : List ℕ) (next : Progress) → Begun p → IsLine p line (Leads next) → Goes p (fields_of line) next
+pub line_goes : (p : Progress) (line : List ℕ) (next : Progress) → Begun p → IsLine p line (Leads next) → Goes p (fields_of line) next
 line_goes HeaderExpected line next begun comes = read_goes HeaderExpected line next begun comes
 line_goes ProcessorsExpected line next begun comes = read_goes ProcessorsExpected line next begun comes
 line_goes (Listed c) line next begun comes = read_goes (Listed c) line next begun comes

@@ -103,7 +103,7 @@ pub change_written : (c : CourseData) → AllChange [] c.events → AllChange []
 change_written c all = change_append [] c.events (ticks (passed c)) all (change_ticks c.events (passed c))
 
 -- ---- what a mention says
-abbrev mentioned : ℕ → Bool → Bool → ℕ → Bool
+abbrev pub mentioned : ℕ → Bool → Bool → ℕ → Bool
 mentioned task is_in before t = if task == t then is_in else before
 
 event_mentions : (t : ℕ) (before : Bool) (m : Mention) → event_says t before (event_of m) ≡ mentioned m.task m.is_in before t
@@ -118,7 +118,7 @@ standing_is true = refl
 standing_is false = refl
 
 -- the standing of a task after a mention
-standing_mentions : (standings : List Standing) (m : Mention) (t : ℕ) → m.task < length standings
+pub standing_mentions : (standings : List Standing) (m : Mention) (t : ℕ) → m.task < length standings
     → is_ready (standing_of (set standings m.task (standing_after m.is_in)) t) ≡ mentioned m.task m.is_in (is_ready (standing_of standings t)) t
 standing_mentions standings m t within = elim (cases_eq m.task t) [
   | inl same ↦ (
@@ -134,7 +134,7 @@ standing_mentions standings m t within = elim (cases_eq m.task t) [
       ap is_ready (get_or-set_other standings m.task t (standing_after m.is_in) Unmentioned (λ e. differs (sym e))) ∙ sym chosen)
 ]
 
-agreed : (a b : Bool) → agrees a b ≡ true → a ≡ b
+pub agreed : (a b : Bool) → agrees a b ≡ true → a ≡ b
 agreed true true e = refl
 agreed true false e = cc
 agreed false true e = cc
@@ -147,7 +147,7 @@ pub record Tells (c : CourseData) (ms : List Mention) : Type 0 where
   pub changing : AllChange [] c.events
 
 -- a mention of a task that it finds so changes nothing
-same_mention : (before is_in : Bool) (task t : ℕ) → (task ≡ t → before ≡ is_in) → before ≡ mentioned task is_in before t
+pub same_mention : (before is_in : Bool) (task t : ℕ) → (task ≡ t → before ≡ is_in) → before ≡ mentioned task is_in before t
 same_mention before is_in task t same = elim (cases_eq task t) [
   | inl here ↦ same here ∙ sym (ap (λ (b : Bool). if b then is_in else before) (eq-eqb task t here))
   | inr there ↦ sym (ap (λ (b : Bool). if b then is_in else before) (ne_eqb task t there))

@@ -2,8 +2,13 @@ mod Positions
 mod FieldCuts
 mod FieldLists
 mod LinesRead
+mod HeadLines
 mod DigitValues
 pub mod Courses
 pub mod Decided
+pub mod Followed
 pub mod Imports
+mod Turns
+mod Kept
 pub mod Imported
+pub mod Passed

@@ -1,6 +1,10 @@
 pub mod Course
 pub mod Import
 pub mod Laws
+pub mod Passage
+pub mod PassageView
+pub mod Passages
+pub mod Processor
 pub mod Reading
 pub mod Stamp
 pub mod StampView

@@ -1,16 +1,21 @@
 //! What is known after some lines of a trace, and what a line of the trace adds.
-ghost use Rattle.std.specs.Prelude.{◌≡◌, ◌⊎◌, ◌<◌, ◌≤◌, ◌↔◌, ◌++◌, ◌∷◌, [], min, length, replicate, option_to_list, IsTrue, OnOk, IfOk, IfErr};
+ghost use Rattle.std.specs.Prelude.{◌≡◌, ◌⊎◌, ◌<◌, ◌≤◌, ◌↔◌, ◌++◌, ◌∷◌, [], min, not, length, set, replicate, option_to_list, IsTrue, OnOk, IfOk, IfErr};
 ghost use Rattle.std.specs.Option.{option_map};
 ghost use Rattle.task_set.specs.declared.event.Event.TheVariants.{Tick};
-ghost use Rattle.kernel_trace.specs.Course.{ticks, passed, written, event_of, on_first_stream, after_mention, after_mentions, mention_of, mentions, misses_wakeup, is_unseen, is_backward, is_in_window};
+ghost use Rattle.kernel_trace.specs.Course.{ticks, passed, written, event_of, on_first_stream, after_mention, after_mentions, mention_of, mentions, misses_wakeup, is_unseen, is_backward, is_in_window, agrees, is_ready, standing_of, standing_after};
+ghost use Rattle.kernel_trace.specs.Passage.{task_of, task_change, first_mention, second_mention, changing, marked, at_time};
+ghost use Rattle.kernel_trace.specs.Processor.{processor_of};
 ghost use Rattle.kernel_trace.specs.Reading.{course_of, mentions_view, window_view, IsCourse, IsOutOfMemory, AreTasks};
 ghost use Rattle.kernel_trace.specs.StampView.{time_of};
 ghost use Rattle.kernel_trace.specs.TraceText.{Tracing, used_outcome, timed_outcome, trace_outcome, input_of};
+ghost use Rattle.line_machine.specs.Lines.{fields_of};
 ghost use Rattle.line_machine.specs.Machine.{Leads, Fails};
 
 use crate::change::{Change, Mention, Standing};
 use crate::event::{Said, read_line};
 use crate::fault::TraceKind;
+use crate::passage::TaskChange;
+use crate::processor::read_processor;
 use crate::stamp::Stamp;
 use affinity_mask::OutOfMemory;
 use indexmap::IndexSet;
@@ -18,6 +23,9 @@ use task_set::{Event, TaskSet};
 use text_fields::limits::{FIRST_VERSION, MAX_EVENTS, MAX_UNITS};
 use trace_reader::Input;
 use trace_reader::posted::Posted;
+
+/// What stands for more microseconds since the last event. They do not fit into the ticks of an input.
+const MANY_MICROSECONDS: u64 = 20_001_000_000;
 
 /// The times between which lines are used, both included.
 #[derive(Clone, Copy)]
@@ -76,7 +84,7 @@ impl<'a> Course<'a> {
     }
 
     /// Whether a time is less than that of the last line.
-    fn is_backward(&self, stamp: &Stamp) -> bool
+    pub fn is_backward(&self, stamp: &Stamp) -> bool
         ensures { result ≡ is_backward (course_of self.now).last (time_of stamp.now) }
     {
         match self.last {
@@ -93,12 +101,24 @@ impl<'a> Course<'a> {
         ensures refused { IfErr result (λ kind. IsOutOfMemory kind
             ⊎ (timed_outcome (course_of self.old) (time_of stamp.entry) change ≡ Fails kind)) }
     {
-        self.last = Some(stamp);
-        if !is_within(&self.window, &stamp) {
-            return Ok(());
+        if self.pass_to(stamp) {
+            self.follow(change)
+        } else {
+            Ok(())
         }
-        self.used = Some(stamp);
-        self.follow(change)
+    }
+
+    /// Goes on to the time of a line, and whether the line is used.
+    pub fn pass_to(&mut self, stamp: Stamp<'a>) -> bool
+        ensures used { result ≡ is_in_window (course_of self.old).window (time_of stamp.entry) }
+        ensures course { course_of self.new ≡ at_time (course_of self.old) (time_of stamp.entry) }
+    {
+        self.last = Some(stamp);
+        let is_used = is_within(&self.window, &stamp);
+        if is_used {
+            self.used = Some(stamp);
+        }
+        is_used
     }
 
     /// Follows the change of a used line.
@@ -126,9 +146,11 @@ impl<'a> Course<'a> {
     }
 
     /// The mentions of a change.
-    fn mentions(&self, change: Change) -> Mentions
+    pub fn mentions(&self, change: Change) -> Mentions
         requires { IsCourse (course_of self.now) }
         ensures value { mentions_view result ≡ mentions (course_of self.now).ids change }
+        ensures first { result.first ≡ first_mention (course_of self.now).ids change }
+        ensures second { result.second ≡ second_mention (course_of self.now).ids change }
         ensures tasks { AreTasks (length (course_of self.now).ids) (mentions_view result) }
     {
         match change {
@@ -149,17 +171,44 @@ impl<'a> Course<'a> {
         ensures value { result ≡ mention_of (course_of self.now).ids id is_in }
         ensures task { AreTasks (length (course_of self.now).ids) (option_to_list result) }
     {
-        match self.ids.get_index_of(&id) {
-            Some(task) => Some(Mention {
-                task: task as u32,
-                is_in,
-            }),
+        match self.task(id) {
+            Some(task) => Some(Mention { task, is_in }),
             None => None,
         }
     }
 
+    /// The task of a thread, if it is one's.
+    fn task(&self, id: u32) -> Option<u32>
+        requires { IsCourse (course_of self.now) }
+        ensures { result ≡ task_of (course_of self.now).ids id }
+    {
+        match self.ids.get_index_of(&id) {
+            Some(task) => Some(task as u32),
+            None => None,
+        }
+    }
+
+    /// What a change says of tasks; nothing, where it is a switch and its line names no processor.
+    pub fn task_change(&self, change: Change, line: &[u8]) -> Option<TaskChange>
+        requires { IsCourse (course_of self.now) }
+        ensures { result ≡ task_change (course_of self.now).ids change
+            (processor_of (fields_of line.now)) }
+    {
+        match change {
+            Change::Wakeup(id) => Some(TaskChange::Wakeup(self.task(id))),
+            Change::Switch { from, to, .. } => match read_processor(line) {
+                Some(processor) => Some(TaskChange::Switch {
+                    processor,
+                    from: self.task(from),
+                    to: self.task(to),
+                }),
+                None => None,
+            },
+        }
+    }
+
     /// Whether a wakeup of a task is missing.
-    fn is_unseen(&self, change: Change, said: &Mentions) -> bool
+    pub fn is_unseen(&self, change: Change, said: &Mentions) -> bool
         requires value { mentions_view said.now ≡ mentions (course_of self.now).ids change }
         requires tasks { AreTasks (length (course_of self.now).standings) (mentions_view said.now) }
         ensures { result ≡ is_unseen (course_of self.now).standings (course_of self.now).ids change }
@@ -207,7 +256,7 @@ impl<'a> Course<'a> {
         ensures { result ≡ min (passed (course_of self.now)) 20001000000 }
     {
         match (self.clock, self.used) {
-            (Some(clock), Some(used)) => used.microseconds_since(&clock),
+            (Some(clock), Some(used)) => used.microseconds_since(&clock, MANY_MICROSECONDS),
             _ => 0,
         }
     }
@@ -234,14 +283,44 @@ impl<'a> Course<'a> {
         requires short { passed (course_of self.old) < 20001000000 }
         ensures { OnOk result (course_of self.new ≡ after_mention (course_of self.old) mention) }
     {
-        let place = mention.task as usize;
-        let was_ready = self.standings[place].is_ready();
-        self.standings[place] = Standing::after(mention.is_in);
-        if was_ready == mention.is_in {
+        if !self.mark(mention) {
             return Ok(());
         }
         self.pass_time()?;
         self.post(mention)
+    }
+
+    /// Marks what a mention says, and whether it changes that the task is ready, or is not.
+    fn mark(&mut self, mention: Mention) -> bool
+        requires { mention.task < length (course_of self.old).standings }
+        ensures changes { result ≡ not (agrees (is_ready
+            (standing_of (course_of self.old).standings mention.task)) mention.is_in) }
+        ensures course { course_of self.new ≡ record (course_of self.old) {
+          standings = set (course_of self.old).standings mention.task (standing_after mention.is_in);
+        } }
+    {
+        let place = mention.task as usize;
+        let was_ready = self.standings[place].is_ready();
+        self.standings[place] = Standing::after(mention.is_in);
+        was_ready != mention.is_in
+    }
+
+    /// Marks what a mention says, where there is one; it is answered where it changes whether the task is ready.
+    pub fn mark_changing(&mut self, mention: Option<Mention>) -> Option<Mention>
+        requires { AreTasks (length (course_of self.old).standings) (option_to_list mention) }
+        ensures changes { result ≡ changing (course_of self.old).standings mention }
+        ensures course { course_of self.new ≡ record (course_of self.old) {
+          standings = marked (course_of self.old).standings mention;
+        } }
+    {
+        let Some(mention) = mention else {
+            return None;
+        };
+        if self.mark(mention) {
+            Some(mention)
+        } else {
+            None
+        }
     }
 
     /// Writes the ticks since the last event.

@@ -6,9 +6,6 @@ ghost use Rattle.affinity_mask.specs.Number.{number_value};
 ghost use Rattle.kernel_trace.specs.Stamp.{is_number, is_point, seconds_text, fraction_text, is_fraction, to_nine, fraction_value};
 ghost use Rattle.kernel_trace.specs.Reading.{in_places};
 
-/// What stands for more seconds between two stamps.
-const MANY_SECONDS: u64 = 30_000;
-
 /// Whether a text has digits alone, and one at least.
 pub fn is_number_text(text: &[u8]) -> bool
     ensures { result ≡ is_number text.now }
@@ -84,14 +81,15 @@ fn digit_or_zero(digits: &[u8], place: usize) -> u32
     }
 }
 
-/// How many seconds one number is above another one, or `MANY_SECONDS` where they are more; None where it is less. The
-/// digits are taken from the left, as if the shorter number began with zeros.
-pub fn seconds_between(earlier: &[u8], later: &[u8]) -> Option<u64>
+/// How many seconds one number is above another one, or `most` where they are more; None where it is less. The digits are
+/// taken from the left, as if the shorter number began with zeros.
+pub fn seconds_between(earlier: &[u8], later: &[u8], most: u64) -> Option<u64>
     requires earlier { is_number earlier.now ≡ true }
     requires later { is_number later.now ≡ true }
+    requires most { (1 ≤ most) × (most ≤ 1000000000000000000) }
     ensures { MatchOption result (number_value later.now < number_value earlier.now)
         (λ seconds. (number_value earlier.now ≤ number_value later.now)
-        × (seconds ≡ min (number_value later.now - number_value earlier.now) 30000)) }
+        × (seconds ≡ min (number_value later.now - number_value earlier.now) most)) }
 {
     let places = earlier.len().max(later.len());
     let mut ahead: u64 = 0;
@@ -102,7 +100,7 @@ pub fn seconds_between(earlier: &[u8], later: &[u8]) -> Option<u64>
         if to < other {
             return None;
         }
-        ahead = (to - other).min(MANY_SECONDS);
+        ahead = (to - other).min(most);
     }
     Some(ahead)
 }

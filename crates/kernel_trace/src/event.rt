@@ -121,7 +121,7 @@ fn find_event<'a>(first: &'a [u8], rest: &'a [u8]) -> Option<SchedulerEvent<'a>>
 }
 
 /// The event of a field, the word after it, and what stands after that.
-fn event_here<'a>(field: &'a [u8], next: &[u8], after: &'a [u8]) -> Option<SchedulerEvent<'a>>
+pub fn event_here<'a>(field: &'a [u8], next: &[u8], after: &'a [u8]) -> Option<SchedulerEvent<'a>>
     ensures { MatchOption result (event_at field.now (word_of next.now) (fields_of after.now) ≡ None)
         (λ event. event_at field.now (word_of next.now) (fields_of after.now)
         ≡ Some (event_view event)) }

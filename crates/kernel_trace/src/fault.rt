@@ -49,7 +49,8 @@ pub enum TraceKind {
     /// The line of the trace tells of lost events.
     Lost,
 
-    /// The line of the trace is of the scheduler, and has not its form.
+    /// The line of the trace is of the scheduler, and has not its form; or, where passages are read, it is a switch and names no
+    /// processor.
     BadForm,
 
     /// The stamp of the line is less than that of the line of the scheduler before it.
@@ -58,7 +59,8 @@ pub enum TraceKind {
     /// A switch mentions a task that was mentioned before and is not ready: a wakeup is missing.
     Unseen,
 
-    /// The input of the lines up to this one has more than 20,000 events.
+    /// The input of the lines up to this one has more than 20,000 events; or, where passages are read, the line is 2^63
+    /// microseconds or more after the first change.
     ManyEvents,
 
     /// All lines were read, and the line `events` did not come.

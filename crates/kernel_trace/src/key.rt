@@ -1,6 +1,7 @@
 //! Fields with a key, as `pid=101`.
-ghost use Rattle.std.specs.Prelude.{◌≡◌, ◌≤◌, true, false, length, MatchOption};
+ghost use Rattle.std.specs.Prelude.{◌≡◌, ◌≤◌, min, true, false, length, MatchOption};
 ghost use Rattle.std.specs.Str.{bytes_eq};
+ghost use Rattle.affinity_mask.specs.Number.{number_value};
 ghost use Rattle.kernel_trace.specs.TraceLine.{begins, after_key, is_keyed, id_after};
 
 use crate::digits::is_number_text;
@@ -40,15 +41,25 @@ pub fn is_keyed(field: &[u8], key: &str) -> bool
     begins_with(field, key) && is_number_text(behind(field, key))
 }
 
+#[tactic(auto, unfolding(crate::specs::TraceLine::id_after))]
 /// The thread id of a field with a key.
 pub fn id_of(field: &[u8], key: &str) -> u32
     requires { is_keyed key.now field.now ≡ true }
     ensures { result ≡ id_after key.now field.now }
 {
+    number_of(field, key, NO_ID) as u32
+}
+
+/// The number of a field with a key, or `most` where it is greater.
+pub fn number_of(field: &[u8], key: &str, most: u64) -> u64
+    requires keyed { is_keyed key.now field.now ≡ true }
+    requires most { most ≤ 1000000000000000000 }
+    ensures { result ≡ min (number_value (after_key key.now field.now)) most }
+{
     let digits = behind(field, key);
-    let mut id: u64 = 0;
+    let mut number: u64 = 0;
     for digit in digits {
-        id = (id * 10 + (*digit - b'0') as u64).min(NO_ID);
+        number = (number * 10 + (*digit - b'0') as u64).min(most);
     }
-    id as u32
+    number
 }

@@ -1,6 +1,7 @@
 //! What holds of the texts of traces, whatever program reads them. Each law is the contract of a function that does nothing: a
 //! caller in a proof gets the law by its clause.
 ghost use Rattle.kernel_trace.specs.Import.{ReadyAsMentioned, ImportIsFaithful};
+ghost use Rattle.kernel_trace.specs.Passages.{PassagesAreFaithful};
 ghost use Rattle.kernel_trace.specs.Laws.{TextHasOneInput, TextHasOneFault, InputHasNoFault, AcceptedOrRefused};
 
 /// A text is that of at most one input.
@@ -32,4 +33,9 @@ pub fn ready_tasks_are_those_mentioned_as_in()
 /// The input of the text of a trace is the import of that trace.
 pub fn import_is_faithful()
     ensures { ImportIsFaithful }
+{}
+
+/// What is read of the text of a trace are its passages.
+pub fn passages_are_faithful()
+    ensures { PassagesAreFaithful }
 {}

@@ -13,9 +13,15 @@ pub mod fault;
 mod fields;
 mod key;
 pub mod laws;
+pub mod passage;
+mod processor;
 pub mod read;
 mod stage;
 pub mod stamp;
+mod task_stage;
+pub mod task_trace;
 
 pub use fault::{TraceFault, TraceKind};
+pub use passage::{Passage, TaskChange};
 pub use read::read_trace;
+pub use task_trace::{TaskTrace, read_task_trace};

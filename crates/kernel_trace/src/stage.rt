@@ -100,7 +100,7 @@ impl<'a> Stage<'a> {
     }
 
     /// Goes on by a line of the head.
-    fn after_head_line(
+    pub fn after_head_line(
         &mut self,
         alloc: Global,
         line: &'a [u8],

@@ -1,11 +1,8 @@
 //! Stamps of trace lines: when something happened.
-ghost use Rattle.std.specs.Prelude.{◌≡◌, ◌-◌, ◌<◌, ◌↔◌, min, true, false, IsTrue, MatchOption};
+ghost use Rattle.std.specs.Prelude.{◌≡◌, ◌-◌, ◌<◌, ◌≤◌, ◌↔◌, min, true, false, IsTrue, MatchOption};
 ghost use Rattle.kernel_trace.specs.Stamp.{is_number, is_stamp, nanoseconds, microsecond};
 
 use crate::digits::{cut_at_point, is_number_text, read_fraction, seconds_between};
-
-/// What stands for more microseconds between two stamps. They do not fit into the ticks of an input.
-pub const MANY_MICROSECONDS: u64 = 20_001_000_000;
 
 /// When something happened: seconds, as digits of any count, and nanoseconds. It keeps the digits, so that no stamp is too
 /// long.
@@ -40,24 +37,25 @@ impl<'a> Stamp<'a> {
     pub fn is_before(&self, other: &Stamp) -> bool
         ensures { IsTrue result ↔ (time_of self.now < time_of other.now) }
     {
-        match seconds_between(other.seconds, self.seconds) {
+        match seconds_between(other.seconds, self.seconds, 1) {
             None => true,
             Some(0) => self.nanos < other.nanos,
             Some(_) => false,
         }
     }
 
-    /// How many microseconds passed since an earlier stamp, where they are not too many for an input.
-    pub fn microseconds_since(&self, earlier: &Stamp) -> u64
+    /// How many microseconds passed since an earlier stamp, or `most` where they are more.
+    pub fn microseconds_since(&self, earlier: &Stamp, most: u64) -> u64
+        requires { most ≤ 9223372036854775808 }
         ensures { result ≡ min (microsecond (time_of self.now) - microsecond (time_of earlier.now))
-            20001000000 }
+            most }
     {
-        match seconds_between(earlier.seconds, self.seconds) {
+        match seconds_between(earlier.seconds, self.seconds, most / 1_000_000 + 2) {
             None => 0,
             Some(seconds) => {
                 let to = seconds * 1_000_000 + (self.nanos / 1000) as u64;
                 let from = (earlier.nanos / 1000) as u64;
-                to.saturating_sub(from).min(MANY_MICROSECONDS)
+                to.saturating_sub(from).min(most)
             }
         }
     }

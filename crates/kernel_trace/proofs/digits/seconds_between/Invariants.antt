@@ -8,4 +8,4 @@ abbrev pub invariant-loop-place : goal.invariant-loop-place
 invariant-loop-place l =
     let from = number_value (take l.place (in_places l.places l.earlier)) in
     let to = number_value (take l.place (in_places l.places l.later)) in
-    (from ≤ to) × (l.ahead ≡ min (to - from) 30000)
+    (from ≤ to) × (l.ahead ≡ min (to - from) l.most)

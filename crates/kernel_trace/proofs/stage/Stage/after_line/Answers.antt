@@ -1,36 +1,20 @@
-use Rattle.std.proofs.Common.{◌≡◌, ℕ, true, List, Result, Ok, Err, IfErr, refl, inl, inr}
-use Rattle.std.specs.Prelude.{OnOk}
+use Rattle.std.proofs.Common.{◌≡◌, ℕ, true, List, inl, inr}
 use Rattle.line_machine.specs.LineRule.{IsLineOutcome}
 use Rattle.line_machine.specs.Machine.{Fails}
 use Rattle.kernel_trace.specs.Course.{CourseData}
 use Rattle.kernel_trace.specs.Reading.{course_of, progress_at, IsRefusedBy}
 use Rattle.kernel_trace.specs.TraceFault.{trace_kind}
-use Rattle.kernel_trace.specs.TraceText.{LineOutcome, IsHeadOutcome, IsLine}
+use Rattle.kernel_trace.specs.TraceText.{IsHeadOutcome, IsLine}
 use Rattle.kernel_trace.specs.declared.fault.TraceKind.{TraceKind}
 use Rattle.kernel_trace.specs.declared.stage.Step.{Step}
 use Rattle.kernel_trace.specs.declared.stage.Step.TheVariants as step
+use Rattle.kernel_trace.proofs.HeadLines.{head_line, on_ok, on_err}
 use Rattle.kernel_trace.proofs.stage.Stage.after_line.Goals as goal
-
--- before the trace a line is one of the head
-head_line : (s : Step) (c : CourseData) (line : List ℕ) (outcome : LineOutcome) → (s ≡ step.Trace → ⊥)
-    → IsLineOutcome 4096 true trace_kind IsHeadOutcome (progress_at s c) line outcome → IsLine (progress_at s c) line outcome
-head_line step.Header c line outcome head comes = comes
-head_line step.Processors c line outcome head comes = comes
-head_line step.Head c line outcome head comes = comes
-head_line step.Trace c line outcome head comes = absurd (head refl)
 
 refused_line : (s : Step) (c : CourseData) (line : List ℕ) (kind : TraceKind) → (s ≡ step.Trace → ⊥)
     → IsRefusedBy (IsLineOutcome 4096 true trace_kind IsHeadOutcome (progress_at s c) line) kind → IsRefusedBy (IsLine (progress_at s c) line) kind
 refused_line s c line kind head (inl memory) = inl memory
 refused_line s c line kind head (inr comes) = inr (head_line s c line (Fails kind) head comes)
-
-on_ok : {A E : Type 0} {P Q : Type 0} (result : Result A E) → (P → Q) → OnOk result P → OnOk result Q
-on_ok (Ok value) then holds = then holds
-on_ok (Err fault) then holds = tt
-
-on_err : {A E : Type 0} {P Q : E → Type 0} (result : Result A E) → ((e : E) → P e → Q e) → IfErr result P → IfErr result Q
-on_err (Ok value) then holds = tt
-on_err (Err fault) then holds = then fault holds
 
 pub returns-in_default : goal.returns-in_default
 returns-in_default c =

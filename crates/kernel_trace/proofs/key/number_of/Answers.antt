@@ -6,9 +6,9 @@ use Rattle.affinity_mask.specs.Number.{number_value}
 use Rattle.affinity_mask.proofs.Numbers.{digit-range, value-more}
 use Rattle.text_fields.proofs.Words.{and_right}
 use Rattle.kernel_trace.specs.Stamp.{is_number}
-use Rattle.kernel_trace.specs.TraceLine.{begins, after_key, is_keyed, id_after}
+use Rattle.kernel_trace.specs.TraceLine.{begins, after_key, is_keyed}
 use Rattle.kernel_trace.proofs.DigitValues.{number_digits, capped_step}
-use Rattle.kernel_trace.proofs.key.id_of.Goals as goal
+use Rattle.kernel_trace.proofs.key.number_of.Goals as goal
 
 keyed_digits : (key field digits : List ℕ) → is_keyed key field ≡ true → digits ≡ after_key key field → AllDigits 10 digits
 unfolding is_keyed
@@ -17,20 +17,19 @@ keyed_digits key field digits keyed same =
 
 pub overflow_sub-digit : goal.overflow_sub-digit
 overflow_sub-digit c =
-    let all = keyed_digits c.args.key.now c.args.field.now c.behind-digits.result.now c.requires c.behind-digits.ensures in
+    let all = keyed_digits c.args.key.now c.args.field.now c.behind-digits.result.now c.requires.keyed c.behind-digits.ensures in
     (digit-range c.behind-digits.result.now c.loop-digit.digit-index all c.loop-digit-test.true).0
 
 pub loop-digit-preserved : goal.loop-digit-preserved
 loop-digit-preserved c =
     let digits = c.behind-digits.result.now in
     let i = c.loop-digit.digit-index in
-    let all = keyed_digits c.args.key.now c.args.field.now c.behind-digits.result.now c.requires c.behind-digits.ensures in
-    capped_step (number_value (take i digits)) c.loop-digit.id (get_or digits i 0 - 48) c.min-id.result _ c.loop-digit.invariant
-    (value-more digits i (number_value (take i digits)) all c.loop-digit-test.true refl) c.min-id.ensures
+    let all = keyed_digits c.args.key.now c.args.field.now c.behind-digits.result.now c.requires.keyed c.behind-digits.ensures in
+    capped_step (number_value (take i digits)) c.loop-digit.number (get_or digits i 0 - 48) c.min-number.result _ c.args.most c.loop-digit.invariant
+    (value-more digits i (number_value (take i digits)) all c.loop-digit-test.true refl) c.min-number.ensures
 
 pub returns : goal.returns
-unfolding id_after
 returns c =
     let digits = c.behind-digits.result.now in
     let whole : take c.loop-digit.digit-index digits ≡ digits = take_all c.loop-digit.digit-index digits (omega arith) in
-    c.loop-digit.invariant ∙ ap (λ (text : List ℕ). min (number_value text) 4194305) (whole ∙ c.behind-digits.ensures)
+    c.loop-digit.invariant ∙ ap (λ (text : List ℕ). min (number_value text) c.args.most) (whole ∙ c.behind-digits.ensures)

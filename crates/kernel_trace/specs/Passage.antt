@@ -1,0 +1,191 @@
+-- The text of a trace, read as what its used lines say of tasks. Its head is that of an input, and its lines have the same faults, but
+-- for two: a switch that names no processor has not its form, and no history is kept, so that no list of events is too long. In its
+-- place a moment is too late that is 2^63 microseconds after the first change.
+use Rattle.std.specs.Prelude.{◌≡◌, ℕ, ◌-◌, Bool, true, false, nat_eq, nat_lt, ◌||◌, is_some, List, [], ◌∷◌, ◌++◌, set, position, Option, None, Some, if◌then◌else◌}
+use Rattle.task_set.specs.TaskSet.{SetData}
+use Rattle.line_machine.specs.Lines.{lines_of, fields_of}
+use Rattle.line_machine.specs.Machine.{Outcome, Leads, Fails}
+use Rattle.line_machine.specs.Laws.{IsTextOf, IsRefused}
+use Rattle.kernel_trace.specs.Stamp.{microsecond}
+use Rattle.kernel_trace.specs.TraceLine.{Said, Nothing, LostEvents, Malformed, Happened, said_by}
+use Rattle.kernel_trace.specs.Processor.{processor_of}
+use Rattle.kernel_trace.specs.Course.{CourseData, mention_of, is_unseen, is_backward, is_in_window, agrees, is_ready, standing_of, standing_after}
+use Rattle.kernel_trace.specs.TraceText.{Progress, HeaderExpected, ProcessorsExpected, Listed, Tracing, LineOutcome, IsLine}
+use Rattle.kernel_trace.specs.declared.change.Change.{Change}
+use Rattle.kernel_trace.specs.declared.change.Change.TheVariants.{Wakeup, Switch}
+use Rattle.kernel_trace.specs.declared.change.Mention.{Mention}
+use Rattle.kernel_trace.specs.declared.change.Standing.{Standing}
+use Rattle.kernel_trace.specs.declared.passage.Passage.{Passage}
+use Rattle.kernel_trace.specs.declared.passage.TaskChange.{TaskChange}
+use Rattle.kernel_trace.specs.declared.passage.TaskChange.TheVariants as task
+use Rattle.kernel_trace.specs.declared.task_trace.TaskTrace.TheInside.{Inside}
+use Rattle.kernel_trace.specs.declared.fault.TraceKind.{TraceKind}
+use Rattle.kernel_trace.specs.declared.fault.TraceKind.TheVariants.{Lost, BadForm, Backward, Unseen, ManyEvents, NoEvents}
+
+-- ---- what a line says of tasks
+-- the task of a thread
+abbrev pub task_of : List ℕ → ℕ → Option ℕ
+task_of ids id = position (nat_eq id) ids
+
+-- what a change says of tasks, with the processor that its line names; a switch says nothing without it
+abbrev pub task_change : List ℕ → Change → Option ℕ → Option TaskChange
+task_change ids (Wakeup id) processor = Some (task.Wakeup (task_of ids id))
+task_change ids (Switch from stays to) None = None
+task_change ids (Switch from stays to) (Some processor) = Some (task.Switch processor (task_of ids from) (task_of ids to))
+
+-- the mention of the task that wakes up or leaves
+abbrev pub first_mention : List ℕ → Change → Option Mention
+first_mention ids (Wakeup id) = mention_of ids id true
+first_mention ids (Switch from stays to) = mention_of ids from stays
+
+-- the mention of the task that comes
+abbrev pub second_mention : List ℕ → Change → Option Mention
+second_mention ids (Wakeup id) = None
+second_mention ids (Switch from stays to) = mention_of ids to true
+
+-- a mention, where it changes whether its task is ready
+abbrev pub changing : List Standing → Option Mention → Option Mention
+changing standings None = None
+changing standings (Some m) = if agrees (is_ready (standing_of standings m.task)) m.is_in then None else Some m
+
+-- what the last mentions say after one more
+abbrev pub marked : List Standing → Option Mention → List Standing
+marked standings None = standings
+marked standings (Some m) = set standings m.task (standing_after m.is_in)
+
+-- ---- what is known
+-- what is expected and known of the trace, the time of the first change, in nanoseconds, and the passages so far
+pub record FollowingData : Type 0 where
+  pub progress : Progress
+  pub start : Option ℕ
+  pub passages : List Passage
+
+-- a line leads on, or has a fault of a kind
+abbrev pub FollowingOutcome : Type 0
+FollowingOutcome = Outcome FollowingData TraceKind
+
+-- nothing is read yet
+abbrev pub nothing_followed : FollowingData
+nothing_followed = record { progress = HeaderExpected; start = None; passages = [] }
+
+-- after a line at this time
+abbrev pub at_time : CourseData → ℕ → CourseData
+at_time c time =
+    if is_in_window c.window time
+    then record c { last = Some time; used = Some time }
+    else record c { last = Some time }
+
+-- after these mentions, where there are any
+abbrev pub after_marks : CourseData → Option Mention → Option Mention → CourseData
+after_marks c first second = record c { standings = marked (marked c.standings first) second }
+
+-- ---- what a line of the trace comes to
+-- the time of the first change: that of this line, where there was none before and this line has one
+abbrev pub start_after : Option ℕ → Bool → ℕ → Option ℕ
+start_after (Some start) changes time = Some start
+start_after None true time = Some time
+start_after None false time = None
+
+-- a passage more, where its moment is not too late
+abbrev pub passage_outcome : FollowingData → ℕ → Passage → FollowingOutcome
+passage_outcome f start passage =
+    if nat_lt passage.moment 9223372036854775808
+    then Leads (record f { start = Some start; passages = f.passages ++ passage ∷ [] })
+    else Fails ManyEvents
+
+-- the line is kept from the first change on
+abbrev pub kept_outcome : FollowingData → Option ℕ → ℕ → TaskChange → Option Mention → Option Mention → FollowingOutcome
+kept_outcome f None time told first second = Leads f
+kept_outcome f (Some start) time told first second =
+    passage_outcome f start (record { moment = microsecond time - microsecond start; change = told; first = first; second = second })
+
+-- the changes of the line are known
+abbrev pub changed_outcome : FollowingData → ℕ → TaskChange → Option Mention → Option Mention → FollowingOutcome
+changed_outcome f time told first second =
+    kept_outcome f (start_after f.start (is_some first || is_some second) time) time told first second
+
+-- the mentions of the line are followed
+abbrev pub marked_outcome : FollowingData → CourseData → ℕ → TaskChange → Option Mention → Option Mention → FollowingOutcome
+marked_outcome f c time told first second =
+    changed_outcome (record f { progress = Tracing (after_marks c first second) }) time told (changing c.standings first)
+    (changing (marked c.standings first) second)
+
+-- the line is used: no wakeup is missing
+abbrev pub used_outcome : FollowingData → CourseData → ℕ → Change → TaskChange → FollowingOutcome
+used_outcome f c time change told =
+    if is_unseen c.standings c.ids change
+    then Fails Unseen
+    else marked_outcome f c time told (first_mention c.ids change) (second_mention c.ids change)
+
+-- the line is not less than the one before: it is used where it is in the window
+abbrev pub timed_outcome : FollowingData → CourseData → ℕ → Change → TaskChange → FollowingOutcome
+timed_outcome f c time change told =
+    if is_in_window c.window time
+    then used_outcome f (at_time c time) time change told
+    else Leads (record f { progress = Tracing (at_time c time) })
+
+-- the line has its form
+abbrev pub told_outcome : FollowingData → CourseData → ℕ → Change → Option TaskChange → FollowingOutcome
+told_outcome f c time change None = Fails BadForm
+told_outcome f c time change (Some told) =
+    if is_backward c.last time then Fails Backward else timed_outcome f c time change told
+
+-- what a line comes to by what it says, and by the processor that it names
+abbrev pub said_outcome : FollowingData → CourseData → Said → Option ℕ → FollowingOutcome
+said_outcome f c Nothing processor = Leads f
+said_outcome f c LostEvents processor = Fails Lost
+said_outcome f c Malformed processor = Fails BadForm
+said_outcome f c (Happened time change) processor = told_outcome f c time change (task_change c.ids change processor)
+
+-- ---- what a text comes to, line by line
+-- what a line of the head comes to, by what it comes to for an input
+abbrev pub head_outcome : FollowingData → LineOutcome → FollowingOutcome
+head_outcome f (Leads next) = Leads (record f { progress = next })
+head_outcome f (Fails kind) = Fails kind
+
+-- a line of the head comes to what it comes to for an input
+abbrev pub IsOfHead : FollowingData → (LineOutcome → Type 0) → FollowingOutcome → Type 0
+IsOfHead f Comes outcome = (head : LineOutcome) × Comes head × (outcome ≡ head_outcome f head)
+
+-- what a line comes to, by what is expected
+abbrev pub IsLineAt : FollowingData → Progress → List ℕ → FollowingOutcome → Type 0
+IsLineAt f (Tracing c) line outcome = outcome ≡ said_outcome f c (said_by (fields_of line)) (processor_of (fields_of line))
+IsLineAt f HeaderExpected line outcome = IsOfHead f (IsLine HeaderExpected line) outcome
+IsLineAt f ProcessorsExpected line outcome = IsOfHead f (IsLine ProcessorsExpected line) outcome
+IsLineAt f (Listed c) line outcome = IsOfHead f (IsLine (Listed c) line) outcome
+
+abbrev pub IsFollowed : FollowingData → List ℕ → FollowingOutcome → Type 0
+IsFollowed f line outcome = IsLineAt f f.progress line outcome
+
+-- what contracts see of a trace: its tasks, and its passages
+pub record TaskTraceData : Type 0 where
+  pub set : SetData
+  pub passages : List Passage
+
+-- its stored parts
+abbrev pub task_trace_view : Inside → TaskTraceData
+task_trace_view a = record { set = a.set; passages = a.passages.items }
+
+-- what the end comes to, by what is expected: it is faultless where `events` came
+abbrev pub IsEndAt : FollowingData → Progress → Outcome TaskTraceData TraceKind → Type 0
+IsEndAt f (Tracing c) outcome = outcome ≡ Leads (record { set = c.set; passages = f.passages })
+IsEndAt f HeaderExpected outcome = outcome ≡ Fails NoEvents
+IsEndAt f ProcessorsExpected outcome = outcome ≡ Fails NoEvents
+IsEndAt f (Listed c) outcome = outcome ≡ Fails NoEvents
+
+abbrev pub IsFollowedEnd : FollowingData → Outcome TaskTraceData TraceKind → Type 0
+IsFollowedEnd f outcome = IsEndAt f f.progress outcome
+
+-- the bytes are the text of a trace of these tasks and passages
+abbrev pub IsTaskTraceText : List ℕ → TaskTraceData → Type 0
+IsTaskTraceText bytes trace = IsTextOf lines_of nothing_followed IsFollowed IsFollowedEnd bytes trace
+
+-- the bytes are refused with this line and kind
+abbrev pub IsTaskTraceRefused : List ℕ → ℕ → TraceKind → Type 0
+IsTaskTraceRefused bytes number kind = IsRefused lines_of nothing_followed IsFollowed IsFollowedEnd bytes number kind
+
+-- how many microseconds passed from the first change to the last used line
+abbrev pub span_of : List Passage → ℕ
+span_of [] = 0
+span_of (passage ∷ []) = passage.moment
+span_of (passage ∷ next ∷ rest) = span_of (next ∷ rest)

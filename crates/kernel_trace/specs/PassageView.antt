@@ -1,0 +1,33 @@
+-- What contracts see of a reader of passages. Private: the contracts of this crate's own functions.
+use Rattle.std.specs.Prelude.{◌⊎◌}
+use Rattle.std.specs.Option.{option_map}
+use Rattle.line_machine.specs.Machine.{Fails}
+use Rattle.kernel_trace.specs.Passage.{FollowingData, FollowingOutcome}
+use Rattle.kernel_trace.specs.Reading.{progress_of, IsValid, IsCourse, IsOutOfMemory}
+use Rattle.kernel_trace.specs.StampView.{time_of}
+use Rattle.kernel_trace.specs.TraceText.{Progress, HeaderExpected, ProcessorsExpected, Listed, Tracing}
+use Rattle.kernel_trace.specs.declared.fault.TraceKind.{TraceKind}
+use Rattle.kernel_trace.specs.declared.task_stage.TaskStage.{TaskStage}
+
+-- what is known
+abbrev pub following_of : TaskStage → FollowingData
+following_of stage = record {
+  progress = progress_of stage.stage;
+  start = option_map time_of stage.start;
+  passages = stage.passages.items;
+}
+
+-- what is known makes a head, or is followed by lines of a trace
+abbrev pub IsFollowing : Progress → Type 0
+IsFollowing HeaderExpected = IsValid HeaderExpected
+IsFollowing ProcessorsExpected = IsValid ProcessorsExpected
+IsFollowing (Listed c) = IsValid (Listed c)
+IsFollowing (Tracing c) = IsCourse c
+
+-- the same of all that is known
+abbrev pub CanFollow : FollowingData → Type 0
+CanFollow f = IsFollowing f.progress
+
+-- out of memory, or a fault of this outcome
+abbrev pub IsRefusedBy : (FollowingOutcome → Type 0) → TraceKind → Type 0
+IsRefusedBy Comes kind = IsOutOfMemory kind ⊎ Comes (Fails kind)

@@ -1,0 +1,144 @@
+-- What the passages of a trace are, in the words of the trace: its used lines from the first change on, with what they say of tasks and
+-- which of their mentions change whether a task is ready.
+use Rattle.std.specs.Prelude.{◌≡◌, ℕ, ◌-◌, ◌<◌, ◌≤◌, Bool, false, ◌||◌, is_some, List, [], ◌∷◌, ◌++◌, length, take, map, All, Option, None, Some, option_to_list, if◌then◌else◌}
+use Rattle.std.specs.Option.{ForSome}
+use Rattle.line_machine.specs.Lines.{lines_of, fields_of}
+use Rattle.line_machine.specs.Machine.{Leading}
+use Rattle.kernel_trace.specs.Stamp.{microsecond}
+use Rattle.kernel_trace.specs.Course.{CourseData, WindowData, agrees, is_in_window}
+use Rattle.kernel_trace.specs.Import.{mentions_said, mentions_in, is_last_in, IsHead}
+use Rattle.kernel_trace.specs.Passage.{task_change, first_mention, second_mention, TaskTraceData, IsTaskTraceText}
+use Rattle.kernel_trace.specs.Processor.{processor_of}
+use Rattle.kernel_trace.specs.TraceLine.{Said, Nothing, LostEvents, Malformed, Happened, said_by}
+use Rattle.kernel_trace.specs.TraceText.{HeaderExpected, Listed, IsLine, events_line}
+use Rattle.kernel_trace.specs.declared.change.Change.{Change}
+use Rattle.kernel_trace.specs.declared.change.Mention.{Mention}
+use Rattle.kernel_trace.specs.declared.passage.Passage.{Passage}
+use Rattle.kernel_trace.specs.declared.passage.TaskChange.{TaskChange}
+use Rattle.kernel_trace.specs.declared.passage.TaskChange.TheVariants as task
+
+-- ---- used lines
+-- a used line: when, in nanoseconds, what it says of tasks, and those of its mentions that change whether a task is ready
+pub record UsedLine : Type 0 where
+  pub time : ℕ
+  pub change : TaskChange
+  pub first : Option Mention
+  pub second : Option Mention
+
+-- a mention, where it says otherwise than the last mention of its task before
+abbrev pub turning : List Mention → Option Mention → Option Mention
+turning before None = None
+turning before (Some m) = if agrees (is_last_in m.task before) m.is_in then None else Some m
+
+-- a used line, by the mentions before it
+abbrev pub used_line : List ℕ → List Mention → ℕ → Change → TaskChange → UsedLine
+used_line ids before time change told = record {
+  time = time;
+  change = told;
+  first = turning before (first_mention ids change);
+  second = turning (before ++ option_to_list (first_mention ids change)) (second_mention ids change);
+}
+
+-- the line, where it says something of tasks
+abbrev pub used_told : List ℕ → List Mention → ℕ → Change → Option TaskChange → List UsedLine
+used_told ids before time change None = []
+used_told ids before time change (Some told) = used_line ids before time change told ∷ []
+
+-- the line, where it is used
+abbrev pub used_said : List ℕ → Option WindowData → List Mention → Said → Option ℕ → List UsedLine
+used_said ids window before Nothing processor = []
+used_said ids window before LostEvents processor = []
+used_said ids window before Malformed processor = []
+used_said ids window before (Happened time change) processor =
+    if is_in_window window time then used_told ids before time change (task_change ids change processor) else []
+
+-- the used ones of some lines, in their order; these mentions stand before them
+abbrev pub used_lines : List ℕ → Option WindowData → List Mention → List (List ℕ) → List UsedLine
+used_lines ids window before [] = []
+used_lines ids window before (line ∷ rest) =
+    let said = said_by (fields_of line) in
+    used_said ids window before said (processor_of (fields_of line))
+    ++ used_lines ids window (before ++ mentions_said ids window said) rest
+
+-- some mention changes whether a task is ready
+abbrev pub turns : UsedLine → Bool
+turns line = is_some line.first || is_some line.second
+
+-- the lines from the first one on of which some mention does
+abbrev pub from_turn : List UsedLine → List UsedLine
+from_turn [] = []
+from_turn (line ∷ rest) = if turns line then line ∷ rest else from_turn rest
+
+-- ---- passages
+-- a line, with its microseconds since a time
+abbrev pub passage_since : ℕ → UsedLine → Passage
+passage_since start line =
+    record { moment = microsecond line.time - microsecond start; change = line.change; first = line.first; second = line.second }
+
+-- the lines, with their microseconds since the first of them
+abbrev pub passages_since : List UsedLine → List Passage
+passages_since [] = []
+passages_since (line ∷ rest) = map (passage_since line.time) (line ∷ rest)
+
+-- the passages of some lines of a trace
+abbrev pub passages_in : List ℕ → Option WindowData → List (List ℕ) → List Passage
+passages_in ids window lines = passages_since (from_turn (used_lines ids window [] lines))
+
+-- the changes of some passages, in their order
+abbrev pub all_changes : List Passage → List Mention
+all_changes [] = []
+all_changes (passage ∷ rest) = option_to_list passage.first ++ option_to_list passage.second ++ all_changes rest
+
+-- each mention says otherwise than the last mention of its task before; these stand before them
+abbrev pub AllTurn : List Mention → List Mention → Type 0
+AllTurn before [] = Unit {0}
+AllTurn before (m ∷ rest) = (agrees (is_last_in m.task before) m.is_in ≡ false) × AllTurn (before ++ m ∷ []) rest
+
+-- no moment is less than the one before it
+abbrev pub NeverFall : ℕ → List Passage → Type 0
+NeverFall moment [] = Unit {0}
+NeverFall moment (passage ∷ rest) = (moment ≤ passage.moment) × NeverFall passage.moment rest
+
+-- what a line says is of the first so many tasks
+abbrev pub IsAboutTasks : ℕ → TaskChange → Type 0
+IsAboutTasks count (task.Wakeup woken) = ForSome woken (λ t. t < count)
+IsAboutTasks count (task.Switch processor from to) = ForSome from (λ t. t < count) × ForSome to (λ t. t < count)
+
+-- the passage is of the first so many tasks, and its moment is not too late
+pub record IsPassageOf (count : ℕ) (passage : Passage) : Type 0 where
+  pub change : IsAboutTasks count passage.change
+  pub first : ForSome passage.first (λ (m : Mention). m.task < count)
+  pub second : ForSome passage.second (λ (m : Mention). m.task < count)
+  pub moment : passage.moment < 9223372036854775808
+
+-- ---- the passages of a trace
+-- the first passages are those of some first lines, and after them the ready tasks are those whose last mention is in
+pub record ArePassagesOf (ids : List ℕ) (window : Option WindowData) (lines : List (List ℕ)) (all : List Passage) : Type 0 where
+  pub passages : List Passage
+  pub later : List Passage
+  pub order : all ≡ passages ++ later
+  pub exact : passages ≡ passages_in ids window lines
+  pub ready : (t : ℕ) → is_last_in t (all_changes passages) ≡ is_last_in t (mentions_in ids window lines)
+
+-- the bytes are the lines of a head, the line `events` and the lines of a trace, and the trace has the set of the head and the passages
+-- of its lines: for each number n, the first passages are those of the first n lines; no moment is less than the one before; and each
+-- change is one
+pub record IsTaskTrace (bytes : List ℕ) (trace : TaskTraceData) : Type 0 where
+  pub heading : List (List ℕ)
+  pub opening : List ℕ
+  pub lines : List (List ℕ)
+  pub head : CourseData
+  pub order : lines_of bytes ≡ heading ++ opening ∷ lines
+  pub heads : Leading IsLine HeaderExpected heading (Listed head)
+  pub opens : fields_of opening ≡ events_line
+  pub no_line : IsHead head
+  pub set : trace.set ≡ head.set
+  pub passages : trace.passages ≡ passages_in head.ids head.window lines
+  pub each : (n : ℕ) → ArePassagesOf head.ids head.window (take n lines) trace.passages
+  pub rising : NeverFall 0 trace.passages
+  pub changing : AllTurn [] (all_changes trace.passages)
+  pub of_set : All (IsPassageOf (length trace.set.tasks)) trace.passages
+
+-- what is read of a trace are its passages
+abbrev pub PassagesAreFaithful : Type 0
+PassagesAreFaithful = (bytes : List ℕ) (trace : TaskTraceData) → IsTaskTraceText bytes trace → IsTaskTrace bytes trace

@@ -1,0 +1,115 @@
+//! What a trace says of tasks, and its reader.
+ghost use Rattle.std.specs.Prelude.{◌≡◌, ◌⊎◌, ℕ, IfOk, IfErr, MatchResult};
+ghost use Rattle.kernel_trace.specs.Passage.{TaskTraceData, nothing_followed, IsTaskTraceText, IsTaskTraceRefused};
+ghost use Rattle.kernel_trace.specs.Passages.{IsTaskTrace};
+ghost use Rattle.kernel_trace.specs.PassageView.{following_of};
+ghost use Rattle.kernel_trace.specs.Reading.{IsOutOfMemory};
+ghost use Rattle.kernel_trace.specs.declared.fault.TraceKind.{TraceKind};
+
+use crate::fault::{TraceFault, TraceKind};
+use crate::fields::first_line;
+use crate::passage::Passage;
+use crate::task_stage::TaskStage;
+use std::alloc::Global;
+use std::marker::Model;
+use task_set::TaskSet;
+
+/// The tasks of a head, and the passages of a trace in their order.
+#[derive(Drop)]
+pub struct TaskTrace {
+    set: TaskSet,
+    passages: Vec<Passage>,
+}
+
+impl Model for TaskTrace {
+    ghost use Rattle.kernel_trace.specs.Passage.{TaskTraceData, task_trace_view};
+
+    ghost Value = { TaskTraceData };
+
+    ghost view = { task_trace_view };
+}
+
+impl TaskTrace {
+    ghost use Rattle.kernel_trace.specs.Passage.{span_of};
+
+    /// A trace of these parts.
+    pub fn new(set: TaskSet, passages: Vec<Passage>) -> TaskTrace
+        ensures { result ≡ record { set = set; passages = passages.items } }
+    {
+        TaskTrace { set, passages }
+    }
+
+    /// The tasks.
+    pub fn set(&self) -> &TaskSet
+        ensures { result.now ≡ self.now.set }
+    {
+        &self.set
+    }
+
+    /// The used lines, from the first one on that changes whether a task is ready.
+    pub fn passages(&self) -> &[Passage]
+        ensures { result.now ≡ self.now.passages }
+    {
+        &self.passages
+    }
+
+    /// How many microseconds passed from the first change to the last used line.
+    pub fn span(&self) -> u64
+        ensures { result ≡ span_of self.now.passages }
+    {
+        match self.passages.last() {
+            Some(passage) => passage.moment,
+            None => 0,
+        }
+    }
+}
+
+/// The passages of a trace, or the first line that has a fault, with its kind. `OutOfMemory` may come in place of either.
+/// Memory is taken for one passage of each used line.
+pub fn read_task_trace(alloc: Global, bytes: &[u8]) -> Result<TaskTrace, TraceFault>
+    ensures trace { IfOk result (IsTaskTraceText bytes.now) }
+    ensures refused { IfErr result (λ fault. IsOutOfMemory fault.kind
+        ⊎ IsTaskTraceRefused bytes.now fault.line fault.kind) }
+    ensures passages { IfOk result (IsTaskTrace bytes.now) }
+
+    // Only `OutOfMemory` comes in place of the expected answer.
+    ensures accepts { (trace : TaskTraceData) → IsTaskTraceText bytes.now trace
+        → MatchResult result (λ found. found ≡ trace) (λ fault. IsOutOfMemory fault.kind) }
+    ensures refuses { (line : ℕ) (kind : TraceKind) → IsTaskTraceRefused bytes.now line kind
+        → MatchResult result (λ trace. ⊥)
+        (λ fault. IsOutOfMemory fault.kind ⊎ ((fault.line ≡ line) × (fault.kind ≡ kind))) }
+{
+    let Ok(stage) = TaskStage::new(alloc) else {
+        return Err(TraceFault {
+            line: 1,
+            kind: TraceKind::OutOfMemory,
+        });
+    };
+    run(alloc, stage, bytes)
+}
+
+/// Goes on line by line, from the first to the last.
+fn run<'a>(alloc: Global, stage: TaskStage<'a>, bytes: &'a [u8]) -> Result<TaskTrace, TraceFault>
+    requires { following_of stage ≡ nothing_followed }
+    ensures trace { IfOk result (IsTaskTraceText bytes.now) }
+    ensures refused { IfErr result (λ fault. IsOutOfMemory fault.kind
+        ⊎ IsTaskTraceRefused bytes.now fault.line fault.kind) }
+{
+    let mut room = Vec::new(alloc);
+    let mut stage = stage;
+    let mut rest = bytes;
+    let mut line = 1;
+    while !rest.is_empty() {
+        let (text, after) = first_line(rest);
+        match stage.after_line(alloc, text, &mut room) {
+            Ok(()) => {}
+            Err(kind) => return Err(TraceFault { line, kind }),
+        }
+        rest = after;
+        line += 1;
+    }
+    match stage.at_end() {
+        Ok(trace) => Ok(trace),
+        Err(kind) => Err(TraceFault { line, kind }),
+    }
+}
