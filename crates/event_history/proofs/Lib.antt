@@ -10,5 +10,6 @@ pub mod Owes
 pub mod Passes
 pub mod Prefixes
 pub mod Sending
+pub mod Taking
 pub mod Turns
 pub mod Waiting

@@ -1,12 +1,12 @@
 -- A new turn word keeps its rule.
-use Rattle.std.proofs.Common.{rules, ◌≡◌, ℕ, ◌≤◌, List, [], ◌∷◌, refl, false, Some, None}
+use Rattle.std.proofs.Common.{rules, ◌≡◌, ℕ, ◌≤◌, List, [], ◌∷◌, refl, false}
 use lib.ListN.{get_elem?}
 use mathlib.Core.Option.{some}
 use Rattle.atomic_table.specs.Table.{opening}
 use Rattle.task_set.specs.Sum.{total}
 use Rattle.order_queues.specs.Ends.{SenderData}
 use Rattle.event_history.specs.declared.view.PassView.{PassView}
-use Rattle.event_history.specs.Holdings.{HeldData, new_core, new_slots, queues_of}
+use Rattle.event_history.specs.Holdings.{new_core, new_slots, queues_of}
 use Rattle.event_history.specs.Turn.{Setting, TurnRule, Fits, fresh, passes_of}
 
 -- the first pass fits a history without entries

@@ -1,12 +1,14 @@
 -- What a pass has seen and done, where it waited for the turn before.
-use Rattle.std.proofs.Common.{◌≡◌, ℕ, List, [], ◌∷◌, ◌++◌, sym, ap, ◌∙◌, subst, arith, append_assoc}
+use Rattle.std.proofs.Common.{◌≡◌, ℕ, List, [], ◌∷◌, ◌++◌, length, sym, ap, ◌∙◌, subst, arith, append_assoc}
 use mathlib.Core.List.{IsPrefix}
 use Rattle.task_set.specs.TaskSet.{SetData}
 use Rattle.task_set.specs.declared.event.Event.{Event}
 use Rattle.scheduler_reply.specs.declared.reply.Entry.{Entry}
 use Rattle.sched_core.specs.CoreData.{entry_of}
+use Rattle.sched_core.specs.declared.fault.CoreFault.{CoreFault}
+use Rattle.sched_core.specs.declared.fault.CoreFault.TheVariants.{Closed, Full, OutOfMemory}
 use Rattle.event_history.specs.Boards.{PassData, Grown}
-use Rattle.event_history.specs.Posting.{Posted, SawAll, TookTurn, WasBusy, turn_looks}
+use Rattle.event_history.specs.Posting.{Posted, Refused, Ended, SawAll, TookTurn, WasBusy, end_fault, post_fault, turn_looks}
 use Rattle.event_history.specs.Waiting.{Waited}
 use Rattle.event_history.specs.declared.fault.Receipt.{Receipt}
 use Rattle.event_history.proofs.Prefixes.{prefix_trans}
@@ -57,3 +59,14 @@ posted_more set a b c event receipt waited posted = record {
   was_open = sym waited.close ∙ posted.was_open;
   is_open = posted.is_open;
 }
+
+-- the looks of a turn that refused the event
+pub refused_looks : (set : SetData) (b c : PassData) (fault : CoreFault) → Refused set b (post_fault fault) c → c.looks ≡ turn_looks b.looks (length c.seen)
+refused_looks set b c Closed refused = refused.1
+refused_looks set b c Full refused = refused.1
+refused_looks set b c OutOfMemory refused = refused.1
+
+pub ended_more : (set : SetData) (a b c : PassData) (fault : CoreFault) → Waited a b → Refused set b (post_fault fault) c → Ended set a (end_fault fault) c
+ended_more set a b c Closed waited refused = (saw_more set a b c waited.mine refused.0, refused.2)
+ended_more set a b c Full waited refused = (saw_more set a b c waited.mine refused.0, refused.2, refused.3)
+ended_more set a b c OutOfMemory waited refused = (saw_more set a b c waited.mine refused.0, refused.2, refused.3)

@@ -15,6 +15,12 @@ pub record Entered (old : CoreData) (caller : ℕ) (event : Event) (new : CoreDa
   pub was_open : old.closed ≡ false
   pub is_open : new.closed ≡ false
 
+-- it was taken of a receipt of which this holds
+pub record IsTaken {A : Type 0} (of_receipt : Receipt → A) (holds_of : Receipt → Type 0) (taken : A) : Type 0 where
+  pub receipt : Receipt
+  pub is : taken ≡ of_receipt receipt
+  pub holds : holds_of receipt
+
 -- why there is no entry more
 abbrev pub HasCause : CoreData → CoreFault → Type 0
 HasCause core Closed = core.closed ≡ true

@@ -69,6 +69,12 @@ Refused set old Closed new = SawAll set old new × (new.looks ≡ turn_looks old
 Refused set old Full new = SawAll set old new × (new.looks ≡ turn_looks old.looks (length new.seen)) × (new.saw_close ≡ false) × (length new.seen ≡ max_entries)
 Refused set old OutOfMemory new = SawAll set old new × (new.looks ≡ turn_looks old.looks (length new.seen)) × (new.saw_close ≡ false) × (length new.seen < max_entries)
 
+-- the same, of a post that waits
+abbrev pub end_fault : CoreFault → EndFault
+end_fault core.Closed = End.Closed
+end_fault core.Full = End.Full
+end_fault core.OutOfMemory = End.OutOfMemory
+
 -- the same, where the turn was waited for
 abbrev pub Ended : SetData → PassData → EndFault → PassData → Type 0
 Ended set old End.Closed new = SawAll set old new × (new.saw_close ≡ true)

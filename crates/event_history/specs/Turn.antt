@@ -55,7 +55,8 @@ AllBegin (old ∷ olds) seen = IsPrefix old.0 seen × AllBegin olds seen
 -- each of the lists begins what was seen, and is the history where its view saw the close
 abbrev pub AllSaw : List Entry → Bool → List Entry → List (List Entry × Bool) → Type 0
 AllSaw history closed seen [] = Unit {0}
-AllSaw history closed seen (old ∷ olds) = IsPrefix old.0 seen × (old.1 ≡ true → (old.0 ≡ history) × (closed ≡ true)) × AllSaw history closed seen olds
+AllSaw history closed seen (old ∷ olds) =
+    IsPrefix old.0 seen × (old.1 ≡ true → (old.0 ≡ history) × (closed ≡ true)) × AllSaw history closed seen olds
 
 -- each of the passes that were taken in has the places of its caller, who is one of so many
 abbrev pub AllMine : ℕ → List Entry → List (ℕ × List ℕ) → Type 0
@@ -103,7 +104,9 @@ pub record TurnRule (of : Setting) (callers : ℕ) (s : State (Option HeldData) 
   pub one_slot : length s.homes ≡ 1
   pub count : slice_index s.words 0 / 2 ≡ length history
   pub holders : total turns s.views ≡ slice_index s.words 0 % 2
-  pub home : slice_index s.words 0 % 2 ≡ 0 → (held : HeldData) × (get_elem? s.homes 0 ≡ some (some (Some held))) × (held.core.history ≡ history) × (held.core.closed ≡ closed) × (held.core.start ≡ start_of of.set) × (queues_of held.senders ≡ of.queues)
+  pub home : slice_index s.words 0 % 2 ≡ 0
+      → (held : HeldData) × (get_elem? s.homes 0 ≡ some (some (Some held))) × (held.core.history ≡ history)
+      × (held.core.closed ≡ closed) × (held.core.start ≡ start_of of.set) × (queues_of held.senders ≡ of.queues)
   pub fits : (j : ℕ) (v : PassView) → get_elem? s.views j ≡ some v → Fits callers history closed v
   pub apart : (x : ℕ) → total (passes_of x) s.views ≤ 1
   pub few : CallersBelow callers history
@@ -145,11 +148,23 @@ takes_play of st m n m' = MatchBool (n == st.first)
 
 -- the view after a turn that left this core with an entry more
 abbrev pub after_post : PassView → CoreData → PassView
-after_post v core = record v { seen = core.history; mine = v.mine ++ (length core.history - 1) ∷ []; known = length core.history; held = None; olds = [] }
+after_post v core = record v {
+  seen = core.history;
+  mine = v.mine ++ (length core.history - 1) ∷ [];
+  known = length core.history;
+  held = None;
+  olds = [];
+}
 
 -- the view after a turn that left this core without an entry
 abbrev pub after_leave : PassView → CoreData → PassView
-after_leave v core = record v { seen = core.history; known = max v.known (length core.history); saw_close = core.closed; held = None; olds = [] }
+after_leave v core = record v {
+  seen = core.history;
+  known = max v.known (length core.history);
+  saw_close = core.closed;
+  held = None;
+  olds = [];
+}
 
 -- the entry was added, and the turn ends
 abbrev pub posts_play : Step (Option HeldData) → TurnSeat → ℕ → TurnSeat → Type 0
@@ -159,9 +174,25 @@ posts_play st m n m' = (held : HeldData) → m.1 ≡ (0, Some held) ∷ [] → m
 abbrev pub leaves_play : Step (Option HeldData) → TurnSeat → ℕ → TurnSeat → Type 0
 leaves_play st m n m' = (held : HeldData) → m.1 ≡ (0, Some held) ∷ [] → m' ≡ (after_leave m.0 held.core, [])
 
+-- what is left of a seat that was joined to another: the view of no pass, which knows nothing
+abbrev pub spent : PassView
+spent = record {
+  is_pass = false;
+  caller = 0;
+  made = 0;
+  seen = [];
+  mine = [];
+  known = 0;
+  saw_close = false;
+  looks = [];
+  held = None;
+  olds = [];
+  ended = [];
+}
+
 -- the view of a new pass
 abbrev pub fresh : ℕ → ℕ → PassView
-fresh caller made = record { is_pass = true; caller = caller; made = made; seen = []; mine = []; known = 0; saw_close = false; looks = []; held = None; olds = []; ended = [] }
+fresh caller made = record spent { is_pass = true; caller = caller; made = made }
 
 -- a pass is made: the maker counts on
 abbrev pub made_one : PassView → PassView
@@ -173,7 +204,7 @@ newcomer v = fresh v.made 0
 
 -- a note of what a pass knows
 abbrev pub note : PassView → PassView
-note v = record { is_pass = false; caller = 0; made = 0; seen = v.seen; mine = []; known = v.known; saw_close = v.saw_close; looks = []; held = None; olds = []; ended = [] }
+note v = record spent { seen = v.seen; known = v.known; saw_close = v.saw_close }
 
 -- the longer of two lists
 abbrev pub longer : List Entry → List Entry → List Entry
@@ -181,15 +212,16 @@ longer xs ys = cond (nat_lt (length xs) (length ys)) ys xs
 
 -- a pass that learns of a note
 abbrev pub informed : PassView → PassView → PassView
-informed v w = record v { seen = longer v.seen w.seen; known = max v.known w.known; saw_close = v.saw_close || w.saw_close; olds = (v.seen, v.saw_close) ∷ (w.seen, w.saw_close) ∷ v.olds }
+informed v w = record v {
+  seen = longer v.seen w.seen;
+  known = max v.known w.known;
+  saw_close = v.saw_close || w.saw_close;
+  olds = (v.seen, v.saw_close) ∷ (w.seen, w.saw_close) ∷ v.olds;
+}
 
 -- a pass that takes in another
 abbrev pub taken_in : PassView → PassView → PassView
-taken_in v w = record v { seen = longer v.seen w.seen; known = max v.known w.known; saw_close = v.saw_close || w.saw_close; olds = (v.seen, v.saw_close) ∷ (w.seen, w.saw_close) ∷ v.olds; ended = v.ended ++ (w.caller, w.mine) ∷ w.ended }
-
--- what is left of a seat that was joined to another
-abbrev pub spent : PassView
-spent = record { is_pass = false; caller = 0; made = 0; seen = []; mine = []; known = 0; saw_close = false; looks = []; held = None; olds = []; ended = [] }
+taken_in v w = record (informed v w) { ended = v.ended ++ (w.caller, w.mine) ∷ w.ended }
 
 -- between calls a pass has no turn
 pub record IsFree (m : TurnSeat) : Type 0 where

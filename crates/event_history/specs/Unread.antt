@@ -1,13 +1,12 @@
 -- Entries whose reply nobody reads: what their callers are told of them.
-use Rattle.std.specs.Prelude.{◌≡◌, ℕ, Bool, true, false}
+use Rattle.std.specs.Prelude.{◌≡◌, Bool, true, false}
 use Rattle.task_set.specs.TaskSet.{SetData}
 use Rattle.task_set.specs.declared.event.Event.{Event}
 use Rattle.scheduler_reply.specs.declared.reply.Reply.{Reply}
 use Rattle.scheduler_reply.specs.declared.reply.Reply.TheVariants.{Waits, Left, AlreadyReady, NotReady, Masked, AlreadyOff, AlreadyOn}
-use Rattle.sched_core.specs.CoreData.{CoreData}
+use Rattle.event_history.specs.declared.fault.Receipt.{Receipt}
 use Rattle.event_history.specs.declared.fault.Unread.{Unread}
 use Rattle.event_history.specs.Boards.{PassData}
-use Rattle.event_history.specs.Entering.{Entered}
 use Rattle.event_history.specs.Posting.{Posted}
 
 -- whether a reply may come with orders: it does not say that nobody ran, came to a processor or left one
@@ -21,11 +20,9 @@ may_give_orders AlreadyOff = false
 may_give_orders AlreadyOn = false
 may_give_orders _ = true
 
--- the core has one entry more, with some reply
-pub record EnteredUnread (old : CoreData) (caller : ℕ) (event : Event) (new : CoreData) (unread : Unread) : Type 0 where
-  pub reply : Reply
-  pub entered : Entered old caller event new record { place = unread.place; reply = reply }
-  pub orders : unread.gives_orders ≡ may_give_orders reply
+-- what the caller of an entry takes that does not read its reply
+abbrev pub unread_of : Receipt → Unread
+unread_of receipt = record { place = receipt.place; gives_orders = may_give_orders receipt.reply }
 
 -- the entry was posted, with some reply
 pub record PostedUnread (set : SetData) (old : PassData) (event : Event) (unread : Unread) (new : PassData) : Type 0 where

@@ -1,17 +1,16 @@
 //! The board that the callers share, and the calls that they make with their passes.
-ghost use Rattle.std.specs.Prelude.{◌≡◌, ◌≤◌, length, map, true, IfOk, IfErr, OnOk, MatchResult};
-ghost use Rattle.task_set.specs.Event.{IsOfSystem};
+ghost use Rattle.std.specs.Prelude.{◌≡◌, ◌≤◌, length, map, true, IfOk, IfErr, OnOk};
 ghost use Rattle.order_queues.specs.Ends.{new_eye, new_sender};
 ghost use Rattle.event_history.specs.Boards.{AreNew, AreAll, AreEyesOf, AreFor, Grown, IsMade};
 ghost use Rattle.event_history.specs.Holdings.{queues_of};
 ghost use Rattle.event_history.specs.Gathering.{AreRows};
 ghost use Rattle.event_history.specs.Meeting.{Counted, Met};
-ghost use Rattle.event_history.specs.Posting.{Posted, Refused, Ended, SawAll, TookTurn, WasBusy, turn_looks};
+ghost use Rattle.event_history.specs.Posting.{SawAll, TookTurn, WasBusy, turn_looks};
 ghost use Rattle.event_history.specs.Flushing.{Flushed};
 ghost use Rattle.event_history.specs.Closing.{IsCoreOf, AreSendersOf};
 
 use crate::eyes::Eyes;
-use crate::fault::{EndFault, PostFault, Receipt, Unfinished, Unmade};
+use crate::fault::{Unfinished, Unmade};
 use crate::held::Held;
 use crate::pass::Pass;
 use crate::pass_state::PassState;
@@ -25,10 +24,10 @@ use sched_core::Core;
 use std::alloc::Global;
 use std::marker::{Brand, Model};
 use std::sync::Wait;
-use task_set::{Event, TaskSet};
+use task_set::TaskSet;
 
 mod history;
-mod unread;
+mod posting;
 
 /// One history of events, which callers extend by turns. Each call is made with a pass of this board.
 #[derive(Drop)]
@@ -110,21 +109,6 @@ impl Board {
         let _table = &self.table;
     }
 
-    /// One try to post an event: it takes a turn if it finds the turn free, and never waits. All memory is taken before
-    /// anything changes.
-    pub fn try_post(&self, pass: &mut Pass, event: Event) -> Result<Receipt, PostFault>
-        requires board { pass.old.board ≡ self.now.id }
-        requires of_task { IsOfSystem self.now.set.processors (length self.now.set.tasks) event }
-        ensures grown { Grown pass.old pass.new }
-        ensures eyes { pass.new.eyes ≡ pass.old.eyes }
-        ensures posted { IfOk result
-            (λ receipt. Posted self.now.set pass.old event receipt pass.new
-            × (pass.new.looks ≡ turn_looks pass.old.looks receipt.place)) }
-        ensures refused { IfErr result (λ fault. Refused self.now.set pass.old fault pass.new) }
-    {
-        turn::post_once::<Brand>(&self.table.shared, &mut pass.state, event)
-    }
-
     /// How many entries the history had at one moment of this call, by one load. Takes no turn and no memory.
     pub fn count(&self, pass: &mut Pass) -> u64
         requires board { pass.old.board ≡ self.now.id }
@@ -141,33 +125,6 @@ impl Board {
         ensures met { Met one.old other.old one.new other.new }
     {
         turn::meet(&self.table.shared, &mut one.state, &mut other.state);
-    }
-
-    /// Posts an event, by as many tries as it takes to find the turn free.
-    pub fn post<R: Wait>(&self, rt: &R, pass: &mut Pass, event: Event) -> Result<Receipt, EndFault>
-        requires board { pass.old.board ≡ self.now.id }
-        requires of_task { IsOfSystem self.now.set.processors (length self.now.set.tasks) event }
-        ensures grown { Grown pass.old pass.new }
-        ensures eyes { pass.new.eyes ≡ pass.old.eyes }
-        ensures posted { IfOk result
-            (λ receipt. Posted self.now.set pass.old event receipt pass.new) }
-        ensures refused { IfErr result (λ fault. Ended self.now.set pass.old fault pass.new) }
-        ensures turn { MatchResult result
-            (λ receipt. TookTurn pass.old pass.new receipt.place)
-            (λ _. TookTurn pass.old pass.new (length pass.new.seen)) }
-    {
-        // Each try takes a copy of it.
-        let event = &event;
-        for _ in rt.forever() {
-            match self.try_post(pass, *event) {
-                Ok(receipt) => return Ok(receipt),
-                Err(PostFault::Busy { found }) => turn::wait(&self.table.shared, rt, found),
-                Err(PostFault::Closed) => return Err(EndFault::Closed),
-                Err(PostFault::Full) => return Err(EndFault::Full),
-                Err(PostFault::OutOfMemory) => return Err(EndFault::OutOfMemory),
-            }
-        }
-        unreachable!()
     }
 
     /// One try to close the core. Where the turn is busy, the word that showed it is the Err.

@@ -70,6 +70,20 @@ pub enum EndFault {
     OutOfMemory,
 }
 
+impl From<CoreFault> for EndFault {
+    ghost use Rattle.event_history.specs.Posting.{end_fault};
+
+    ghost from_gives = { λ fault made. made ≡ end_fault fault };
+
+    fn from(fault: CoreFault) -> EndFault {
+        match fault {
+            CoreFault::Closed => EndFault::Closed,
+            CoreFault::Full => EndFault::Full,
+            CoreFault::OutOfMemory => EndFault::OutOfMemory,
+        }
+    }
+}
+
 /// A board was not made: out of memory. The senders come back.
 #[derive(Drop)]
 pub struct Unmade {

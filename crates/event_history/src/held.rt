@@ -5,15 +5,13 @@ ghost use Rattle.link_state.specs.State.{task_count, start_of};
 ghost use Rattle.order_queues.specs.Ends.{EyeData};
 ghost use Rattle.sched_core.specs.CoreData.{IsCore, core_orders};
 ghost use Rattle.event_history.specs.Boards.{AreEyesOf};
-ghost use Rattle.event_history.specs.Entering.{Entered, IsNoEntry};
+ghost use Rattle.event_history.specs.Entering.{Entered, IsNoEntry, IsTaken};
 ghost use Rattle.event_history.specs.Flushing.{EyesFlushed};
 ghost use Rattle.event_history.specs.Holdings.{SentBegins, queues_of};
 ghost use Rattle.event_history.specs.Owing.{AllMaySend};
-ghost use Rattle.event_history.specs.Unread.{EnteredUnread};
 
-use crate::entering::enter_unread;
+use crate::entering::{Taken, enter};
 use crate::eyes::Eyes;
-use crate::fault::{Receipt, Unread};
 use crate::owed::send_all;
 use link_table::Entry;
 use order_queues::{Queue, Sender};
@@ -75,24 +73,15 @@ impl Held {
         self.core.is_closed()
     }
 
-    /// One entry more in the core, with a copy of its reply.
-    pub fn enter(&mut self, caller: u32, event: Event) -> Result<Receipt, CoreFault>
+    /// One entry more in the core, and what its caller takes of it.
+    pub fn enter<T: Taken>(&mut self, caller: u32, event: Event) -> Result<T, CoreFault>
         requires { IsEventFor self.old.core.start event }
         ensures senders { self.new.senders ≡ self.old.senders }
-        ensures entered { IfOk result (Entered self.old.core caller event self.new.core) }
+        ensures entered { IfOk result
+            (IsTaken T.of_receipt (Entered self.old.core caller event self.new.core)) }
         ensures refused { IfErr result (IsNoEntry self.old.core self.new.core) }
     {
         enter(&mut self.core, caller, event)
-    }
-
-    /// One entry more in the core, whose reply nobody reads.
-    pub fn enter_unread(&mut self, caller: u32, event: Event) -> Result<Unread, CoreFault>
-        requires { IsEventFor self.old.core.start event }
-        ensures senders { self.new.senders ≡ self.old.senders }
-        ensures entered { IfOk result (EnteredUnread self.old.core caller event self.new.core) }
-        ensures refused { IfErr result (IsNoEntry self.old.core self.new.core) }
-    {
-        enter_unread(&mut self.core, caller, event)
     }
 
     /// Closes the core.
@@ -125,19 +114,4 @@ impl Held {
         let Held { core, senders } = self;
         (Box::into_inner(core), senders)
     }
-}
-
-/// One entry more in the core, with a copy of its reply.
-fn enter(core: &mut Core, caller: u32, event: Event) -> Result<Receipt, CoreFault>
-    requires { IsEventFor core.old.start event }
-    ensures entered { IfOk result (Entered core.old caller event core.new) }
-    ensures refused { IfErr result (IsNoEntry core.old core.new) }
-{
-    let place = core.history().len();
-    core.apply(caller, event)?;
-    let reply = core.history()[place].reply.copy();
-    Ok(Receipt {
-        place: place as u64,
-        reply,
-    })
 }

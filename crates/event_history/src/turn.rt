@@ -4,8 +4,8 @@ ghost use Rattle.task_set.specs.TaskSet.{IsTaskSet};
 ghost use Rattle.task_set.specs.Event.{IsOfSystem};
 ghost use Rattle.event_history.specs.Turn.{Setting, setting_of, TurnRule, fresh, loads_play, takes_play, posts_play, leaves_play, made_one, newcomer, note, informed, taken_in, spent};
 
+use crate::entering::Taken;
 use crate::eyes::Eyes;
-use crate::fault::{PostFault, Receipt};
 use crate::held::Held;
 use crate::pass::Pass;
 use crate::pass_state::{PassSeat, PassState};
@@ -13,7 +13,7 @@ use crate::view::PassView;
 use affinity_mask::OutOfMemory;
 use atomic_table::{Join, Play, Shared, Split, Table, TableRule};
 use order_queues::{Queue, Sender};
-use sched_core::Core;
+use sched_core::{Core, CoreFault};
 use std::alloc::Global;
 use std::marker::{Brand, PhantomData};
 use std::snapshot::Snapshot;
@@ -119,10 +119,11 @@ impl Join<PassView> for Gathers {
 ghost use Rattle.link_state.specs.History.{IsLegal};
 ghost use Rattle.order_queues.specs.Ends.{EyeData};
 ghost use Rattle.event_history.specs.Boards.{Grown, AreEyesOf, AreFor};
+ghost use Rattle.event_history.specs.Entering.{IsTaken};
 ghost use Rattle.event_history.specs.Flushing.{Flushed};
 ghost use Rattle.event_history.specs.Holdings.{SentBegins, NoneSent, queues_of, IsOneSlot, new_core, new_slots, senders_in};
 ghost use Rattle.event_history.specs.Meeting.{Counted, Told, Met};
-ghost use Rattle.event_history.specs.Posting.{Posted, Refused, SawAll, WasBusy, turn_looks};
+ghost use Rattle.event_history.specs.Posting.{Posted, Refused, SawAll, WasBusy, post_fault, turn_looks};
 ghost use Rattle.event_history.specs.PassStates.{IsOfTurn, IsTurnTable, Agrees, data_at};
 ghost use Rattle.link_state.specs.State.{start_of};
 ghost use Rattle.event_history.specs.Gathering.{IsIn, AllIn, AllOf, IsGathering};
@@ -196,40 +197,43 @@ pub fn wait<R: Wait>(turn: &Turn, rt: &R, found: u64)
     }
 }
 
-/// One try at the turn, to post an event.
-pub fn post_once<J: Over>(
+/// One try at the turn, to post an event. Where it is busy, the word that showed it is the outer Err.
+pub fn post_once<J: Over, T: Taken>(
     turn: &Turn,
     state: &mut PassState,
     event: Event,
-) -> Result<Receipt, PostFault>
+) -> Result<Result<T, CoreFault>, u64>
     requires setting { J.setting ≡ setting_of turn.now.key }
     requires table { IsOfTurn turn.now.table_id state.old }
     requires free { IsFree state.old.seat.me × Agrees state.old }
-    requires of_task { IsOfSystem turn.now.key.set.value.processors (length turn.now.key.set.value.tasks) event }
+    requires of_task { IsOfSystem
+        turn.now.key.set.value.processors (length turn.now.key.set.value.tasks) event }
     ensures same { (state.new.seat.table_id ≡ state.old.seat.table_id)
         × (state.new.eyes ≡ state.old.eyes) × Agrees state.new × IsFree state.new.seat.me }
     ensures grown { Grown (data_at turn.now.table_id state.old)
         (data_at turn.now.table_id state.new) }
-    ensures posted { IfOk result
-        (λ receipt. Posted turn.now.key.set.value
-        (data_at turn.now.table_id state.old) event receipt (data_at turn.now.table_id state.new)
-        × (state.new.seat.me.0.looks ≡ turn_looks state.old.seat.me.0.looks receipt.place)) }
-    ensures refused { IfErr result
-        (λ fault. Refused turn.now.key.set.value (data_at turn.now.table_id state.old) fault
+    ensures busy { IfErr result (WasBusy (data_at turn.now.table_id state.old)
         (data_at turn.now.table_id state.new)) }
+    ensures posted { IfOk result (λ answer. IfOk answer (IsTaken T.of_receipt
+        (λ receipt. Posted turn.now.key.set.value (data_at turn.now.table_id state.old) event
+        receipt (data_at turn.now.table_id state.new)
+        × (state.new.seat.me.0.looks ≡ turn_looks state.old.seat.me.0.looks receipt.place)))) }
+    ensures refused { IfOk result (λ answer. IfErr answer
+        (λ fault. Refused turn.now.key.set.value (data_at turn.now.table_id state.old)
+        (post_fault fault) (data_at turn.now.table_id state.new))) }
 {
     let mut held = match begin::<J>(turn, state) {
         Ok(held) => held,
-        Err(found) => return Err(PostFault::Busy { found }),
+        Err(found) => return Err(found),
     };
-    match held.enter(state.caller, event) {
-        Ok(receipt) => {
+    match held.enter::<T>(state.caller, event) {
+        Ok(taken) => {
             record_entry(turn, state, held);
-            Ok(receipt)
+            Ok(Ok(taken))
         }
         Err(fault) => {
             leave(turn, state, held);
-            Err(PostFault::from(fault))
+            Ok(Err(fault))
         }
     }
 }
