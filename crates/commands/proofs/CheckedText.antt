@@ -7,6 +7,7 @@ use Rattle.schedule_text.specs.ScheduleFault.{IsScheduleRefused}
 use Rattle.schedule_text.specs.declared.fault.TextFault.{TextFault}
 use Rattle.schedule_text.specs.declared.fault.TextKind.{TextKind}
 use Rattle.schedule_text.specs.declared.fault.TextKind.TheVariants as text_kind
+use Rattle.schedule_picture.specs.Chrome.{IsChrome}
 use Rattle.schedule_picture.specs.Picture.{IsPicture}
 use Rattle.schedule_picture.specs.declared.axis.Axis.{Axis}
 use Rattle.schedule_picture.specs.declared.window.Window.{Window}
@@ -19,6 +20,7 @@ use Rattle.commands.specs.Valid.{IsValid, IsInvalid, IsValidText}
 use Rattle.commands.proofs.OneVerdict.{invalid_once, valid_is_not_invalid, valid_is_best, valid_has_no_improving_chain}
 use Rattle.commands.specs.Check.{IsCheckOf, RefusesCheck, valid_text}
 use Rattle.commands.specs.Checking.{IsInvalidStatus}
+use Rattle.commands.specs.Chrome.{IsChromeOf}
 use Rattle.commands.specs.Draw.{IsDrawingOf}
 
 -- ---- a schedule that is judged
@@ -129,3 +131,12 @@ module _ (bytes : List ℕ) (schedule : ScheduleData) (ok : IsSchedule schedule)
       → IfOk result (λ (made : Vec ℕ Global). IsValid schedule × IsPicture axis schedule.set schedule.entries window made.items) → IfErr result (λ (status : Status). IsInvalidStatus schedule status ⊎ (status ≡ OutOfMemory))
       → Answers (IsDrawingOf axis window bytes) (IsValidText bytes) (RefusesCheck bytes) result
   answers_drawn axis window result = answers_judged (IsPicture axis schedule.set schedule.entries window) (IsDrawingOf axis window bytes) result (is_drawing_of axis window)
+
+  is_chrome_of : (put : List ℕ) → IsValid schedule → IsChrome schedule.set schedule.entries put → IsChromeOf bytes put
+  is_chrome_of put valid chrome = record { schedule = schedule; is_text = record { is_schedule = ok; text = text }; valid = valid; chrome = chrome }
+
+  -- the answer of a trace
+  pub answers_traced : (result : Result (Vec ℕ Global) Status) → ((line : ℕ) (kind : TextKind) → IsScheduleRefused bytes line kind → ⊥)
+      → IfOk result (λ (made : Vec ℕ Global). IsValid schedule × IsChrome schedule.set schedule.entries made.items) → IfErr result (λ (status : Status). IsInvalidStatus schedule status ⊎ (status ≡ OutOfMemory))
+      → Answers (IsChromeOf bytes) (IsValidText bytes) (RefusesCheck bytes) result
+  answers_traced result = answers_judged (IsChrome schedule.set schedule.entries) (IsChromeOf bytes) result is_chrome_of

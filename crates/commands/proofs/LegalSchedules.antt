@@ -1,13 +1,12 @@
 -- A legal history of posted entries is that of a valid schedule: its replies pass, they name tasks of the set and processors
 -- below 64, and the contexts that it gives have numbers of the format. So it can be written, and its text can be read.
-use Rattle.std.proofs.Common.{◌≡◌, ℕ, zero, suc, ◌+◌, ◌*◌, ◌-◌, ◌%◌, ◌^◌, ◌<◌, ◌≤◌, ◌&&◌, not, List, [], ◌∷◌, length, get_or, map, All, Option, Some, None, IfSome, IsTrue, refl, sym, ◌∙◌, subst, arith}
+use Rattle.std.proofs.Common.{◌≡◌, ℕ, zero, suc, ◌+◌, ◌*◌, ◌-◌, ◌%◌, ◌^◌, ◌<◌, ◌≤◌, ◌&&◌, not, List, [], ◌∷◌, length, map, All, IfSome, refl, ◌∙◌, arith}
 use Rattle.std.specs.Prelude.{slice_get}
 use Rattle.std.specs.List.{range_with_len}
 use Rattle.std.proofs.lemmas.Bool.{lt-ltb}
 use Rattle.std.proofs.lemmas.List.{length-map}
 use Rattle.std.proofs.lemmas.List.Elements.{All-nil, All-cons, All-head, All-tail, All-append, All-filter, All-weaker}
 use Rattle.std.proofs.lemmas.List.FromFn.{length-range_with_len, get_or-range_with_len, length-map-range_with_len, get_or-map-range_with_len}
-use Rattle.affinity_mask.specs.ProcSet.{has}
 use Rattle.affinity_mask.proofs.Sets.{has-all_below}
 use Rattle.task_set.specs.TaskSet.{TaskData, SetData}
 use Rattle.task_set.specs.declared.event.Event.{Event}
@@ -17,7 +16,7 @@ use Rattle.scheduler_reply.specs.declared.reply.Entry.{Entry}
 use Rattle.scheduler_reply.specs.Reply.{chains_of, sets_of}
 use Rattle.link_state.specs.State.{State, IsState, task_count, task_on, is_task, start_of}
 use Rattle.link_state.specs.Step.{SchedulerStep}
-use Rattle.link_state.specs.History.{IsLegal, IsLegalFrom, effect_of}
+use Rattle.link_state.specs.History.{IsLegalFrom, effect_of}
 use Rattle.link_state.specs.Dispatch.{context_of, processors_of, runs_of, taken_between, trail_after, trail_multiplier}
 use Rattle.link_state.proofs.SameTasks.{same_tasks-effect, same_count}
 use Rattle.link_state.proofs.Start.{IsState-start}
@@ -25,10 +24,10 @@ use Rattle.link_state.proofs.StepParts.{IsListOn, IsSetOn, step_is_on}
 use Rattle.link_state.proofs.Steps.{step_keeps_state}
 use Rattle.link_state.proofs.Versions.{legal_has_version}
 use Rattle.text_fields.specs.EventText.{IsAboutSet}
-use Rattle.schedule_text.specs.Schedule.{IsProcessorList, IsOfProcessors, HasProcessors, IsContextOf, AreInOrder, IsScheduleSet, IsSchedule}
+use Rattle.schedule_text.specs.Schedule.{IsProcessorList, IsOfProcessors, HasProcessors, IsContextOf, AreInOrder, IsSchedule}
 use Rattle.order_laws.proofs.LegalNames.{legal_names}
 use Rattle.certificate_laws.proofs.Kept.{legal_passes}
-use Rattle.commands.specs.ScheduleLaws.{IsPostedEntry, IsWritableHistory}
+use Rattle.commands.specs.ScheduleLaws.{IsWritableHistory}
 use Rattle.commands.specs.Valid.{IsValid, schedule_of}
 
 -- ---- the chain and the sets of a reply

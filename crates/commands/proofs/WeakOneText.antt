@@ -1,5 +1,5 @@
 -- The bytes are the text of one input, and its events have one text.
-use Rattle.std.proofs.Common.{ℕ, List, sym, subst}
+use Rattle.std.proofs.Common.{List, subst}
 use Rattle.task_set.specs.TaskSet.{SetData}
 use Rattle.trace_reader.specs.declared.posted.Posted.{Posted}
 use Rattle.trace_reader.proofs.Texts.{text_has_one_input}

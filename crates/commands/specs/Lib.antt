@@ -1,6 +1,7 @@
 pub mod Answers
 pub mod Check
 pub mod Checking
+pub mod Chrome
 pub mod Draw
 pub mod Generating
 pub mod Import

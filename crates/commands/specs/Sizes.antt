@@ -1,5 +1,5 @@
 -- The numbers that an input is made from.
-use Rattle.std.specs.Prelude.{ℕ, ◌≤◌}
+use Rattle.std.specs.Prelude.{◌≤◌}
 use Rattle.commands.specs.declared.sizes.Sizes.{Sizes}
 
 -- numbers of which there is an input

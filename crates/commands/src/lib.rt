@@ -3,6 +3,7 @@
 #![tactic(auto)]
 
 mod check;
+mod chrome;
 mod draw;
 mod generate;
 mod import;
@@ -19,6 +20,7 @@ mod watch;
 mod weak;
 
 pub use check::checked_text;
+pub use chrome::chrome_trace;
 pub use draw::drawn_text;
 pub use generate::{made_text, summary_of};
 pub use import::imported_text;
