@@ -3,6 +3,7 @@ mod FieldCuts
 mod FieldLists
 mod LinesRead
 mod HeadLines
+mod LossLines
 mod DigitValues
 pub mod Courses
 pub mod Decided

@@ -1,6 +1,7 @@
 pub mod Course
 pub mod Import
 pub mod Laws
+pub mod LossText
 pub mod Passage
 pub mod PassageView
 pub mod Passages

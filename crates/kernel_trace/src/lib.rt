@@ -1,8 +1,9 @@
-//! Traces of the Linux scheduler, which become inputs.
+//! Traces of the Linux scheduler, which become inputs, or passages of tasks.
 //!
 //! [`read_trace`] reads a head, with tasks and their thread ids, and after it the lines that `ftrace` or `trace-cmd` printed. The
 //! input has an arrival or a departure where a line changes whether a task is ready, and ticks for the time between. Any other
-//! text is refused with the first line that has a fault, and the kind of the fault.
+//! text is refused with the first line that has a fault, and the kind of the fault. [`read_task_trace`] reads the same text, and keeps
+//! of each used line what it says of tasks. [`write_losses`] writes what was counted of them.
 #![tactic(auto)]
 
 pub mod change;
@@ -13,6 +14,7 @@ pub mod fault;
 mod fields;
 mod key;
 pub mod laws;
+pub mod loss_text;
 pub mod passage;
 mod processor;
 pub mod read;
@@ -22,6 +24,7 @@ mod task_stage;
 pub mod task_trace;
 
 pub use fault::{TraceFault, TraceKind};
+pub use loss_text::{LossRow, write_losses};
 pub use passage::{Passage, TaskChange};
 pub use read::read_trace;
 pub use task_trace::{TaskTrace, read_task_trace};
