@@ -182,9 +182,9 @@ pub fn leave(turn: &Turn, state: &mut PassState, held: Held)
     state.saw_close = closed;
 }
 
-/// Parks the calling thread where the word found says that somebody has the turn, unless the word is another one by then, but
-/// not for long: nobody wakes it, since a wake would cost each turn more than the turn itself. It may return at once, or for
-/// no reason, so the caller tries again.
+/// Parks the calling thread where the word found says that somebody has the turn, unless the word is another one by
+/// then, but not for long: nobody wakes it, since a wake would cost each turn more than the turn itself. It may return
+/// at once, or for no reason, so the caller tries again.
 pub fn wait<R: Wait>(turn: &Turn, rt: &R, found: u64)
     requires { IsTurnTable turn.now.table_id }
 {
@@ -256,7 +256,8 @@ pub fn close_once<J: Over>(turn: &Turn, state: &mut PassState) -> Result<(), u64
     ensures mine { state.new.seat.me.0.mine ≡ state.old.seat.me.0.mine }
     ensures busy { IfErr result (WasBusy (data_at turn.now.table_id state.old)
         (data_at turn.now.table_id state.new)) }
-    ensures closed { OnOk result (SawAll turn.now.key.set.value (data_at turn.now.table_id state.old)
+    ensures closed { OnOk result
+        (SawAll turn.now.key.set.value (data_at turn.now.table_id state.old)
         (data_at turn.now.table_id state.new) × (state.new.seat.me.0.saw_close ≡ true)) }
     ensures turn { OnOk result (state.new.seat.me.0.looks
         ≡ turn_looks state.old.seat.me.0.looks (length state.new.seat.me.0.seen)) }
@@ -291,7 +292,8 @@ pub fn flush_once<J: Over, R: Wait>(
         (data_at turn.now.table_id state.new) }
     ensures mine { state.new.seat.me.0.mine ≡ state.old.seat.me.0.mine }
     ensures busy { IfErr result (λ found. (state.new.eyes ≡ state.old.eyes)
-        × WasBusy (data_at turn.now.table_id state.old) (data_at turn.now.table_id state.new) found) }
+        × WasBusy (data_at turn.now.table_id state.old)
+        (data_at turn.now.table_id state.new) found) }
     ensures flushed { IfOk result
         (λ owed. SawAll turn.now.key.set.value (data_at turn.now.table_id state.old)
         (data_at turn.now.table_id state.new)
@@ -448,7 +450,8 @@ fn end_held(table: TurnTable, last: PassState) -> Held
     requires last { IsGathering last.seat.me }
     requires all { (x : ℕ) → x < table.shared.key.callers → 1 ≤ passes_of x last.seat.me.0 }
     ensures over { IsOver (setting_of table.shared.key) result }
-    ensures fits { Fits table.shared.key.callers result.core.history result.core.closed last.seat.me.0 }
+    ensures fits { Fits
+        table.shared.key.callers result.core.history result.core.closed last.seat.me.0 }
     ensures callers { CallersBelow table.shared.key.callers result.core.history }
 {
     let mut closed = table.close_with(last.seat);
