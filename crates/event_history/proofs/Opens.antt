@@ -17,7 +17,8 @@ first_fits callers least j v at = search rules
 first_alone : (x : ℕ) → total (passes_of x) (fresh 0 1 ∷ []) ≤ 1
 first_alone x = search rules
 
-pub opens_lem : (of : Setting) (callers : ℕ) (senders : List SenderData) → 1 ≤ callers → queues_of senders ≡ of.queues → TurnRule of callers (opening (0 ∷ []) (new_slots of.set senders) (fresh 0 1))
+pub opens_lem : (of : Setting) (callers : ℕ) (senders : List SenderData) → 1 ≤ callers → queues_of senders ≡ of.queues
+    → TurnRule of callers (opening (0 ∷ []) (new_slots of.set senders) (fresh 0 1))
 opens_lem of callers senders least queues = record {
   history = [];
   closed = false;

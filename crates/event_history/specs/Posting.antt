@@ -18,7 +18,8 @@ use Rattle.event_history.specs.Boards.{PassData}
 -- the looks of a call that found the turn busy: the load found an odd word, or found an even one, and the exchange
 -- another
 abbrev pub BusyLooks : List ℕ → List ℕ → ℕ → Type 0
-BusyLooks before after found = ((after ≡ before ++ found ∷ []) × (found % 2 ≡ 1)) ⊎ ((word : ℕ) × (after ≡ before ++ word ∷ found ∷ []) × (word % 2 ≡ 0) × (found ≢ word))
+BusyLooks before after found =
+    ((after ≡ before ++ found ∷ []) × (found % 2 ≡ 1)) ⊎ ((word : ℕ) × (after ≡ before ++ word ∷ found ∷ []) × (word % 2 ≡ 0) × (found ≢ word))
 
 -- the looks of a call that had the turn, at so many entries
 abbrev pub turn_looks : List ℕ → ℕ → List ℕ
@@ -65,9 +66,12 @@ post_fault core.OutOfMemory = OutOfMemory
 -- open with room and without memory
 abbrev pub Refused : SetData → PassData → PostFault → PassData → Type 0
 Refused set old (Busy found) new = WasBusy old new found
-Refused set old Closed new = SawAll set old new × (new.looks ≡ turn_looks old.looks (length new.seen)) × (new.saw_close ≡ true)
-Refused set old Full new = SawAll set old new × (new.looks ≡ turn_looks old.looks (length new.seen)) × (new.saw_close ≡ false) × (length new.seen ≡ max_entries)
-Refused set old OutOfMemory new = SawAll set old new × (new.looks ≡ turn_looks old.looks (length new.seen)) × (new.saw_close ≡ false) × (length new.seen < max_entries)
+Refused set old Closed new =
+    SawAll set old new × (new.looks ≡ turn_looks old.looks (length new.seen)) × (new.saw_close ≡ true)
+Refused set old Full new =
+    SawAll set old new × (new.looks ≡ turn_looks old.looks (length new.seen)) × (new.saw_close ≡ false) × (length new.seen ≡ max_entries)
+Refused set old OutOfMemory new =
+    SawAll set old new × (new.looks ≡ turn_looks old.looks (length new.seen)) × (new.saw_close ≡ false) × (length new.seen < max_entries)
 
 -- the same, of a post that waits
 abbrev pub end_fault : CoreFault → EndFault

@@ -146,25 +146,19 @@ takes_play of st m n m' = MatchBool (n == st.first)
     ((held : HeldData) × (m' ≡ (with_turn m.0 n held.core, (0, Some held) ∷ [])) × GoesOn of m.0 n held)
     (m' ≡ (looked m.0 n, m.1))
 
+-- the view after a turn, whose core has this history
+abbrev pub after_turn : PassView → List Entry → PassView
+after_turn v history = record v { seen = history; held = None; olds = [] }
+
 -- the view after a turn that left this core with an entry more
 abbrev pub after_post : PassView → CoreData → PassView
-after_post v core = record v {
-  seen = core.history;
-  mine = v.mine ++ (length core.history - 1) ∷ [];
-  known = length core.history;
-  held = None;
-  olds = [];
-}
+after_post v core =
+    let n = length core.history in record (after_turn v core.history) { mine = v.mine ++ (n - 1) ∷ []; known = n }
 
 -- the view after a turn that left this core without an entry
 abbrev pub after_leave : PassView → CoreData → PassView
-after_leave v core = record v {
-  seen = core.history;
-  known = max v.known (length core.history);
-  saw_close = core.closed;
-  held = None;
-  olds = [];
-}
+after_leave v core =
+    record (after_turn v core.history) { known = max v.known (length core.history); saw_close = core.closed }
 
 -- the entry was added, and the turn ends
 abbrev pub posts_play : Step (Option HeldData) → TurnSeat → ℕ → TurnSeat → Type 0

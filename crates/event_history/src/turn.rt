@@ -1,10 +1,8 @@
 //! The turn word: its rule, the kinds of step that change it, and the calls that are made of these steps.
 ghost use Rattle.std.specs.Prelude.{◌≡◌, ℕ, ◌+◌, ◌<◌, ◌≤◌, [], length, map, IfOk, IfErr, OnOk, true};
 ghost use Rattle.task_set.specs.TaskSet.{IsTaskSet};
-ghost use Rattle.task_set.specs.Event.{IsOfSystem};
 ghost use Rattle.event_history.specs.Turn.{Setting, setting_of, TurnRule, fresh, loads_play, takes_play, posts_play, leaves_play, made_one, newcomer, note, informed, taken_in, spent};
 
-use crate::entering::Taken;
 use crate::eyes::Eyes;
 use crate::held::Held;
 use crate::pass::Pass;
@@ -13,13 +11,13 @@ use crate::view::PassView;
 use affinity_mask::OutOfMemory;
 use atomic_table::{Join, Play, Shared, Split, Table, TableRule};
 use order_queues::{Queue, Sender};
-use sched_core::{Core, CoreFault};
+use sched_core::Core;
 use std::alloc::Global;
 use std::marker::{Brand, PhantomData};
 use std::snapshot::Snapshot;
 use std::sync::Wait;
 use std::time::Duration;
-use task_set::{Event, TaskSet};
+use task_set::TaskSet;
 
 /// What a turn word is told once: the set of its core, the senders as they were at first, and how many callers there
 /// are.
@@ -119,11 +117,10 @@ impl Join<PassView> for Gathers {
 ghost use Rattle.link_state.specs.History.{IsLegal};
 ghost use Rattle.order_queues.specs.Ends.{EyeData};
 ghost use Rattle.event_history.specs.Boards.{Grown, AreEyesOf, AreFor};
-ghost use Rattle.event_history.specs.Entering.{IsTaken};
 ghost use Rattle.event_history.specs.Flushing.{Flushed};
 ghost use Rattle.event_history.specs.Holdings.{SentBegins, NoneSent, queues_of, IsOneSlot, new_core, new_slots, senders_in};
 ghost use Rattle.event_history.specs.Meeting.{Counted, Told, Met};
-ghost use Rattle.event_history.specs.Posting.{Posted, Refused, SawAll, WasBusy, post_fault, turn_looks};
+ghost use Rattle.event_history.specs.Posting.{SawAll, WasBusy, turn_looks};
 ghost use Rattle.event_history.specs.PassStates.{IsOfTurn, IsTurnTable, Agrees, data_at};
 ghost use Rattle.link_state.specs.State.{start_of};
 ghost use Rattle.event_history.specs.Gathering.{IsIn, AllIn, AllOf, IsGathering};
@@ -185,56 +182,15 @@ pub fn leave(turn: &Turn, state: &mut PassState, held: Held)
     state.saw_close = closed;
 }
 
-/// Parks the calling thread where the word found says that somebody has the turn, unless the word is another one by then, but
-/// not for long: nobody wakes it, since a wake would cost each turn more than the turn itself. It may return at once, or for
-/// no reason, so the caller tries again.
+/// Parks the calling thread where the word found says that somebody has the turn, unless the word is another one by
+/// then, but not for long: nobody wakes it, since a wake would cost each turn more than the turn itself. It may return
+/// at once, or for no reason, so the caller tries again.
 pub fn wait<R: Wait>(turn: &Turn, rt: &R, found: u64)
     requires { IsTurnTable turn.now.table_id }
 {
     if found % 2 == 1 {
         let low = (found & 0xffff_ffff) as u32;
         turn.park_timeout(rt, 0, low, Duration::from_micros(LONGEST_WAIT));
-    }
-}
-
-/// One try at the turn, to post an event. Where it is busy, the word that showed it is the outer Err.
-pub fn post_once<J: Over, T: Taken>(
-    turn: &Turn,
-    state: &mut PassState,
-    event: Event,
-) -> Result<Result<T, CoreFault>, u64>
-    requires setting { J.setting ≡ setting_of turn.now.key }
-    requires table { IsOfTurn turn.now.table_id state.old }
-    requires free { IsFree state.old.seat.me × Agrees state.old }
-    requires of_task { IsOfSystem
-        turn.now.key.set.value.processors (length turn.now.key.set.value.tasks) event }
-    ensures same { (state.new.seat.table_id ≡ state.old.seat.table_id)
-        × (state.new.eyes ≡ state.old.eyes) × Agrees state.new × IsFree state.new.seat.me }
-    ensures grown { Grown (data_at turn.now.table_id state.old)
-        (data_at turn.now.table_id state.new) }
-    ensures busy { IfErr result (WasBusy (data_at turn.now.table_id state.old)
-        (data_at turn.now.table_id state.new)) }
-    ensures posted { IfOk result (λ answer. IfOk answer (IsTaken T.of_receipt
-        (λ receipt. Posted turn.now.key.set.value (data_at turn.now.table_id state.old) event
-        receipt (data_at turn.now.table_id state.new)
-        × (state.new.seat.me.0.looks ≡ turn_looks state.old.seat.me.0.looks receipt.place)))) }
-    ensures refused { IfOk result (λ answer. IfErr answer
-        (λ fault. Refused turn.now.key.set.value (data_at turn.now.table_id state.old)
-        (post_fault fault) (data_at turn.now.table_id state.new))) }
-{
-    let mut held = match begin::<J>(turn, state) {
-        Ok(held) => held,
-        Err(found) => return Err(found),
-    };
-    match held.enter::<T>(state.caller, event) {
-        Ok(taken) => {
-            record_entry(turn, state, held);
-            Ok(Ok(taken))
-        }
-        Err(fault) => {
-            leave(turn, state, held);
-            Ok(Err(fault))
-        }
     }
 }
 
@@ -300,7 +256,8 @@ pub fn close_once<J: Over>(turn: &Turn, state: &mut PassState) -> Result<(), u64
     ensures mine { state.new.seat.me.0.mine ≡ state.old.seat.me.0.mine }
     ensures busy { IfErr result (WasBusy (data_at turn.now.table_id state.old)
         (data_at turn.now.table_id state.new)) }
-    ensures closed { OnOk result (SawAll turn.now.key.set.value (data_at turn.now.table_id state.old)
+    ensures closed { OnOk result
+        (SawAll turn.now.key.set.value (data_at turn.now.table_id state.old)
         (data_at turn.now.table_id state.new) × (state.new.seat.me.0.saw_close ≡ true)) }
     ensures turn { OnOk result (state.new.seat.me.0.looks
         ≡ turn_looks state.old.seat.me.0.looks (length state.new.seat.me.0.seen)) }
@@ -335,7 +292,8 @@ pub fn flush_once<J: Over, R: Wait>(
         (data_at turn.now.table_id state.new) }
     ensures mine { state.new.seat.me.0.mine ≡ state.old.seat.me.0.mine }
     ensures busy { IfErr result (λ found. (state.new.eyes ≡ state.old.eyes)
-        × WasBusy (data_at turn.now.table_id state.old) (data_at turn.now.table_id state.new) found) }
+        × WasBusy (data_at turn.now.table_id state.old)
+        (data_at turn.now.table_id state.new) found) }
     ensures flushed { IfOk result
         (λ owed. SawAll turn.now.key.set.value (data_at turn.now.table_id state.old)
         (data_at turn.now.table_id state.new)
@@ -492,7 +450,8 @@ fn end_held(table: TurnTable, last: PassState) -> Held
     requires last { IsGathering last.seat.me }
     requires all { (x : ℕ) → x < table.shared.key.callers → 1 ≤ passes_of x last.seat.me.0 }
     ensures over { IsOver (setting_of table.shared.key) result }
-    ensures fits { Fits table.shared.key.callers result.core.history result.core.closed last.seat.me.0 }
+    ensures fits { Fits
+        table.shared.key.callers result.core.history result.core.closed last.seat.me.0 }
     ensures callers { CallersBelow table.shared.key.callers result.core.history }
 {
     let mut closed = table.close_with(last.seat);

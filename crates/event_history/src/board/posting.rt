@@ -10,7 +10,7 @@ use super::Board;
 use crate::entering::Taken;
 use crate::fault::{EndFault, PostFault, Receipt, Unread};
 use crate::pass::Pass;
-use crate::turn;
+use crate::turn::{Over, begin, leave, record_entry, wait};
 use sched_core::CoreFault;
 use std::marker::Brand;
 use std::sync::Wait;
@@ -29,7 +29,7 @@ impl Board {
             × (pass.new.looks ≡ turn_looks pass.old.looks receipt.place)) }
         ensures refused { IfErr result (λ fault. Refused self.now.set pass.old fault pass.new) }
     {
-        match self.try_post_as::<Receipt>(pass, event) {
+        match self.try_post_as::<Brand, Receipt>(pass, event) {
             Ok(Ok(receipt)) => Ok(receipt),
             Ok(Err(fault)) => Err(PostFault::from(fault)),
             Err(found) => Err(PostFault::Busy { found }),
@@ -74,11 +74,12 @@ impl Board {
     }
 
     /// One try to post an event. Where the turn is busy, the word that showed it is the outer Err.
-    fn try_post_as<T: Taken>(
+    fn try_post_as<J: Over, T: Taken>(
         &self,
         pass: &mut Pass,
         event: Event,
     ) -> Result<Result<T, CoreFault>, u64>
+        requires setting { J.setting ≡ record { set = self.now.set; queues = self.now.queues } }
         requires board { pass.old.board ≡ self.now.id }
         requires of_task { IsOfSystem self.now.set.processors (length self.now.set.tasks) event }
         ensures grown { Grown pass.old pass.new }
@@ -90,7 +91,22 @@ impl Board {
         ensures refused { IfOk result (λ answer. IfErr answer
             (λ fault. Refused self.now.set pass.old (post_fault fault) pass.new)) }
     {
-        turn::post_once::<Brand, T>(&self.table.shared, &mut pass.state, event)
+        let turn = &self.table.shared;
+        let state = &mut pass.state;
+        let mut held = match begin::<J>(turn, state) {
+            Ok(held) => held,
+            Err(found) => return Err(found),
+        };
+        match held.enter::<T>(state.caller, event) {
+            Ok(taken) => {
+                record_entry(turn, state, held);
+                Ok(Ok(taken))
+            }
+            Err(fault) => {
+                leave(turn, state, held);
+                Ok(Err(fault))
+            }
+        }
     }
 
     /// Posts an event, by as many tries as it takes to find the turn free, for what the caller takes of its entry.
@@ -114,10 +130,10 @@ impl Board {
         // Each try takes a copy of it.
         let event = &event;
         for _ in rt.forever() {
-            match self.try_post_as::<T>(pass, *event) {
+            match self.try_post_as::<Brand, T>(pass, *event) {
                 Ok(Ok(taken)) => return Ok(taken),
                 Ok(Err(fault)) => return Err(EndFault::from(fault)),
-                Err(found) => turn::wait(&self.table.shared, rt, found),
+                Err(found) => wait(&self.table.shared, rt, found),
             }
         }
         unreachable!()
