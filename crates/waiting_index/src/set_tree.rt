@@ -1,5 +1,6 @@
 //! Sets in a row, with a tree of unions over them.
-ghost use Rattle.std.specs.Prelude.{◌≡◌, ℕ, ◌<◌, ◌≤◌, set, length, get_or, IfOk, MatchOption};
+ghost use Rattle.std.specs.Prelude.{◌≡◌, ℕ, ◌+◌, ◌<◌, ◌≤◌, set, length, get_or, IfOk, MatchOption};
+ghost use Rattle.std.specs.List.{swap};
 ghost use Rattle.affinity_mask.specs.ProcSet.{empty};
 ghost use Rattle.waiting_index.specs.SetTree.{IsWidthFor, IsMetByNone, IsFirstMeeting};
 
@@ -63,6 +64,25 @@ impl SetTree {
             }
             self.nodes[k] = sum;
         }
+    }
+
+    /// The set at a place of the row and the next one change places.
+    pub(crate) fn swap_with_next(&mut self, r: usize)
+        requires { r + 1 < length self.old }
+        ensures { self.new ≡ swap self.old r (r + 1) }
+    {
+        let first = self.at(r);
+        let next = self.at(r + 1);
+        self.write(r, next);
+        self.write(r + 1, first);
+    }
+
+    /// The set at a place of the row.
+    fn at(&self, r: usize) -> ProcSet
+        requires { r < length self.now }
+        ensures { result ≡ get_or self.now r empty }
+    {
+        self.nodes[self.width + r]
     }
 
     /// The place of the first set of the row that meets this one.
