@@ -25,7 +25,6 @@ IsMostUrgentFrom r order = (k : ℕ) (d : Ranked) → r < k → k < length order
 -- the entries stand in another order, with new ranks, and each task has the set that it had
 pub record Reordered (old : List Ranked) (old_ranks old_sets : List ℕ) (new : List Ranked) (ranks sets : List ℕ) : Type 0 where
   pub entries : IsPermutation old new
-  pub order_count : length new ≡ length old
   pub inverse : IsInverse new ranks
   pub row_count : length sets ≡ length old_sets
   pub kept : (t : ℕ) → t < length old → get_or sets (get_or ranks t 0) empty ≡ get_or old_sets (get_or old_ranks t 0) empty
