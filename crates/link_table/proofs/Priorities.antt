@@ -32,7 +32,7 @@ module _ (s : State) (ps : List ℕ) (count : length ps ≡ task_count s) where
 module _ (s : State) (t : ℕ) (number : t < task_count s) where
   -- ---- t has another priority, which was free
   module _ (priority : ℕ) (free : IsFreeFor s t priority) where
-    given : List ℕ
+    abbrev pub given : List ℕ
     given = set s.priorities t priority
 
     at_t : get_or given t 0 ≡ priority
@@ -58,17 +58,17 @@ module _ (s : State) (t : ℕ) (number : t < task_count s) where
 
   -- ---- t and u exchange theirs
   module _ (u : ℕ) (number_u : u < task_count s) where
-    first : List ℕ
+    abbrev pub first : List ℕ
     first = set s.priorities t (priority_of s u)
 
-    after : List ℕ
+    abbrev pub after : List ℕ
     after = set first u (priority_of s t)
 
     pub after_count : length after ≡ task_count s
     after_count = length-set first u (priority_of s t) ∙ length-set s.priorities t (priority_of s u)
 
     -- whose priority each task has then
-    origin : ℕ → ℕ → Type 0
+    abbrev pub origin : ℕ → ℕ → Type 0
     origin x y = (y < task_count s) × (get_or after x 0 ≡ priority_of s y)
 
     from_u : origin u t
@@ -89,18 +89,18 @@ module _ (s : State) (t : ℕ) (number : t < task_count s) where
         same : (a b : ℕ) → origin x a → origin y b → a ≡ b
         same a b = same_origin ok x y a b e
 
-        at : (z w a : ℕ) → z ≡ w → origin w a → origin z a
-        at z w a is from = rw is from
+        along : (z w a : ℕ) → z ≡ w → origin w a → origin z a
+        along z w a is from = rw is from
 
         go : (x ≡ u) ⊎ (x ≢ u) → (x ≡ t) ⊎ (x ≢ t) → (y ≡ u) ⊎ (y ≢ u) → (y ≡ t) ⊎ (y ≢ t) → x ≡ y
         go (inl x_u) _ (inl y_u) _ = x_u ∙ sym y_u
-        go (inl x_u) _ (inr y_not_u) (inl y_t) = let apart : t ≢ u = λ f. y_not_u (y_t ∙ f) in x_u ∙ sym (same t u (at x u t x_u from_u) (at y t u y_t (from_t apart))) ∙ sym y_t
-        go (inl x_u) _ (inr y_not_u) (inr y_not_t) = absurd (y_not_t (sym (same t y (at x u t x_u from_u) (from_other y known_y y_not_u y_not_t))))
-        go (inr x_not_u) (inl x_t) (inl y_u) _ = let apart : t ≢ u = λ f. x_not_u (x_t ∙ f) in x_t ∙ sym (same u t (at x t u x_t (from_t apart)) (at y u t y_u from_u)) ∙ sym y_u
+        go (inl x_u) _ (inr y_not_u) (inl y_t) = let apart : t ≢ u = λ f. y_not_u (y_t ∙ f) in x_u ∙ sym (same t u (along x u t x_u from_u) (along y t u y_t (from_t apart))) ∙ sym y_t
+        go (inl x_u) _ (inr y_not_u) (inr y_not_t) = absurd (y_not_t (sym (same t y (along x u t x_u from_u) (from_other y known_y y_not_u y_not_t))))
+        go (inr x_not_u) (inl x_t) (inl y_u) _ = let apart : t ≢ u = λ f. x_not_u (x_t ∙ f) in x_t ∙ sym (same u t (along x t u x_t (from_t apart)) (along y u t y_u from_u)) ∙ sym y_u
         go (inr x_not_u) (inl x_t) (inr y_not_u) (inl y_t) = x_t ∙ sym y_t
-        go (inr x_not_u) (inl x_t) (inr y_not_u) (inr y_not_t) = let apart : t ≢ u = λ f. x_not_u (x_t ∙ f) in absurd (y_not_u (sym (same u y (at x t u x_t (from_t apart)) (from_other y known_y y_not_u y_not_t))))
-        go (inr x_not_u) (inr x_not_t) (inl y_u) _ = absurd (x_not_t (same x t (from_other x known_x x_not_u x_not_t) (at y u t y_u from_u)))
-        go (inr x_not_u) (inr x_not_t) (inr y_not_u) (inl y_t) = let apart : t ≢ u = λ f. y_not_u (y_t ∙ f) in absurd (x_not_u (same x u (from_other x known_x x_not_u x_not_t) (at y t u y_t (from_t apart))))
+        go (inr x_not_u) (inl x_t) (inr y_not_u) (inr y_not_t) = let apart : t ≢ u = λ f. x_not_u (x_t ∙ f) in absurd (y_not_u (sym (same u y (along x t u x_t (from_t apart)) (from_other y known_y y_not_u y_not_t))))
+        go (inr x_not_u) (inr x_not_t) (inl y_u) _ = absurd (x_not_t (same x t (from_other x known_x x_not_u x_not_t) (along y u t y_u from_u)))
+        go (inr x_not_u) (inr x_not_t) (inr y_not_u) (inl y_t) = let apart : t ≢ u = λ f. y_not_u (y_t ∙ f) in absurd (x_not_u (same x u (from_other x known_x x_not_u x_not_t) (along y t u y_t (from_t apart))))
         go (inr x_not_u) (inr x_not_t) (inr y_not_u) (inr y_not_t) = same x y (from_other x known_x x_not_u x_not_t) (from_other y known_y y_not_u y_not_t)
 
     pub IsState-state_with_exchange : IsState s → IsState (state_with_exchange s t u)

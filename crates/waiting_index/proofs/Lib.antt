@@ -1,6 +1,6 @@
 pub mod Found
 pub mod NewPriority
 pub mod Ranks
-pub mod Reordering
+pub mod Steps
 pub mod Trees
 pub mod Urgent

@@ -60,5 +60,5 @@ fn swap_with_next(order: &mut [Ranked], ranks: &mut [u32], sets: &mut SetTree, r
     order.swap(r, r + 1);
     ranks[order[r].task as usize] = r as u32;
     ranks[order[r + 1].task as usize] = (r + 1) as u32;
-    sets.swap_with_next(r);
+    sets.swap(r, r + 1);
 }

@@ -1,5 +1,5 @@
 //! Sets in a row, with a tree of unions over them.
-ghost use Rattle.std.specs.Prelude.{◌≡◌, ℕ, ◌+◌, ◌<◌, ◌≤◌, set, length, get_or, IfOk, MatchOption};
+ghost use Rattle.std.specs.Prelude.{◌≡◌, ℕ, ◌<◌, ◌≤◌, set, length, get_or, IfOk, MatchOption};
 ghost use Rattle.std.specs.List.{swap};
 ghost use Rattle.affinity_mask.specs.ProcSet.{empty};
 ghost use Rattle.waiting_index.specs.SetTree.{IsWidthFor, IsMetByNone, IsFirstMeeting};
@@ -66,15 +66,16 @@ impl SetTree {
         }
     }
 
-    /// The set at a place of the row and the next one change places.
-    pub(crate) fn swap_with_next(&mut self, r: usize)
-        requires { r + 1 < length self.old }
-        ensures { self.new ≡ swap self.old r (r + 1) }
+    /// The sets at two places of the row change places.
+    pub(crate) fn swap(&mut self, r: usize, other: usize)
+        requires place { r < length self.old }
+        requires other { other < length self.old }
+        ensures { self.new ≡ swap self.old r other }
     {
         let first = self.at(r);
-        let next = self.at(r + 1);
-        self.write(r, next);
-        self.write(r + 1, first);
+        let second = self.at(other);
+        self.write(r, second);
+        self.write(other, first);
     }
 
     /// The set at a place of the row.

@@ -2,8 +2,8 @@
 use Rattle.std.proofs.Common.{◌≡◌, ◌≢◌, ℕ, ◌+◌, ◌-◌, ◌<◌, ◌≤◌, List, length, get_or, set, refl, sym, ap, ◌∙◌, subst, inl, inr, arith, length-set, get_or-set_same, get_or-set_other}
 use Rattle.std.specs.List.{swap}
 use Rattle.std.specs.List.Sorted.{IsPermutation, IsNonDecreasingBy}
-use Rattle.std.proofs.lemmas.Bool.{cases_eq, cases_lt}
-use Rattle.std.proofs.lemmas.List.{get_or_default, get_or_past}
+use Rattle.std.proofs.lemmas.Bool.{cases_eq}
+use Rattle.std.proofs.lemmas.List.{get_or_default}
 use Rattle.std.proofs.lemmas.List.Edits.{Swapped, swapped_from_swap, length-swap}
 use Rattle.std.proofs.lemmas.List.Sorted.{IsPermutation-swap, IsPermutation-trans, IsPermutation-refl, length_permutation}
 use Rattle.affinity_mask.specs.ProcSet.{empty}
@@ -21,62 +21,62 @@ module _ (order : List Ranked) (r : ℕ) (next : r + 1 < length order) where
   exchanged : {X : Type 0} (xs : List X) (d : X) → length order ≤ length xs → Swapped (λ i. get_or xs i d) (λ i. get_or (swap xs r (r + 1)) i d) r (r + 1)
   exchanged xs d row = swapped_from_swap xs (swap xs r (r + 1)) r (r + 1) d (omega arith) (omega arith) refl
 
-  abbrev pub at : (k : ℕ) → Ranked
-  at k = get_or order k nobody
+  abbrev pub entry_at : (k : ℕ) → Ranked
+  entry_at k = get_or order k nobody
 
   abbrev pub then : List Ranked
   then = swap order r (r + 1)
 
-  task_at : (k : ℕ) (d : Ranked) → k < length order → (get_or order k d).task ≡ (at k).task
+  task_at : (k : ℕ) (d : Ranked) → k < length order → (get_or order k d).task ≡ (entry_at k).task
   task_at k d fits = ap (λ (e : Ranked). e.task) (get_or_default order k d nobody fits)
 
-  here : (d : Ranked) → (get_or then r d).task ≡ (at (r + 1)).task
+  here : (d : Ranked) → (get_or then r d).task ≡ (entry_at (r + 1)).task
   here d = ap (λ (e : Ranked). e.task) (exchanged order d (omega arith)).0 ∙ task_at (r + 1) d next
 
-  there : (d : Ranked) → (get_or then (r + 1) d).task ≡ (at r).task
+  there : (d : Ranked) → (get_or then (r + 1) d).task ≡ (entry_at r).task
   there d = ap (λ (e : Ranked). e.task) (exchanged order d (omega arith)).1 ∙ task_at r d (omega arith)
 
   module _ (ranks sets : List ℕ) (ok : IsInverse order ranks) (row : length order ≤ length sets) where
     -- the ranks then
     abbrev pub ranks_then : List ℕ
-    ranks_then = set (set ranks (at (r + 1)).task r) (at r).task (r + 1)
+    ranks_then = set (set ranks (entry_at (r + 1)).task r) (entry_at r).task (r + 1)
 
-    first_rank : get_or ranks (at r).task 0 ≡ r
+    first_rank : get_or ranks (entry_at r).task 0 ≡ r
     first_rank = ok.placed r nobody (omega arith)
 
-    second_rank : get_or ranks (at (r + 1)).task 0 ≡ r + 1
+    second_rank : get_or ranks (entry_at (r + 1)).task 0 ≡ r + 1
     second_rank = ok.placed (r + 1) nobody next
 
-    apart : (at (r + 1)).task ≢ (at r).task
+    apart : (entry_at (r + 1)).task ≢ (entry_at r).task
     apart e = let same = ap (λ n. get_or ranks n 0) e in omega (arith, same, first_rank, second_rank)
 
-    second_then : get_or ranks_then (at (r + 1)).task 0 ≡ r
+    second_then : get_or ranks_then (entry_at (r + 1)).task 0 ≡ r
     second_then =
         let fits = ok.numbers (r + 1) nobody next in
-        get_or-set_other (set ranks (at (r + 1)).task r) (at r).task (at (r + 1)).task (r + 1) 0 apart ∙ get_or-set_same ranks (at (r + 1)).task r 0 (omega (arith, fits, ok.count))
+        get_or-set_other (set ranks (entry_at (r + 1)).task r) (entry_at r).task (entry_at (r + 1)).task (r + 1) 0 apart ∙ get_or-set_same ranks (entry_at (r + 1)).task r 0 (omega (arith, fits, ok.count))
 
-    first_then : get_or ranks_then (at r).task 0 ≡ r + 1
+    first_then : get_or ranks_then (entry_at r).task 0 ≡ r + 1
     first_then =
         let fits = ok.numbers r nobody (omega arith) in
-        get_or-set_same (set ranks (at (r + 1)).task r) (at r).task (r + 1) 0 (omega (arith, fits, ok.count, length-set ranks (at (r + 1)).task r))
+        get_or-set_same (set ranks (entry_at (r + 1)).task r) (entry_at r).task (r + 1) 0 (omega (arith, fits, ok.count, length-set ranks (entry_at (r + 1)).task r))
 
-    other_then : (t : ℕ) → t ≢ (at r).task → t ≢ (at (r + 1)).task → get_or ranks_then t 0 ≡ get_or ranks t 0
-    other_then t first second = get_or-set_other (set ranks (at (r + 1)).task r) (at r).task t (r + 1) 0 first ∙ get_or-set_other ranks (at (r + 1)).task t r 0 second
+    other_then : (t : ℕ) → t ≢ (entry_at r).task → t ≢ (entry_at (r + 1)).task → get_or ranks_then t 0 ≡ get_or ranks t 0
+    other_then t first second = get_or-set_other (set ranks (entry_at (r + 1)).task r) (entry_at r).task t (r + 1) 0 first ∙ get_or-set_other ranks (entry_at (r + 1)).task t r 0 second
 
     -- another task stands at another place
-    not_first : (t : ℕ) → t < length order → t ≢ (at r).task → get_or ranks t 0 ≢ r
-    not_first t lt other e = other (sym (ok.stands t nobody lt) ∙ ap (λ n. (at n).task) e)
+    not_first : (t : ℕ) → t < length order → t ≢ (entry_at r).task → get_or ranks t 0 ≢ r
+    not_first t lt other e = other (sym (ok.stands t nobody lt) ∙ ap (λ n. (entry_at n).task) e)
 
-    not_second : (t : ℕ) → t < length order → t ≢ (at (r + 1)).task → get_or ranks t 0 ≢ r + 1
-    not_second t lt other e = other (sym (ok.stands t nobody lt) ∙ ap (λ n. (at n).task) e)
+    not_second : (t : ℕ) → t < length order → t ≢ (entry_at (r + 1)).task → get_or ranks t 0 ≢ r + 1
+    not_second t lt other e = other (sym (ok.stands t nobody lt) ∙ ap (λ n. (entry_at n).task) e)
 
     -- where each task stands then: at r + 1, at r, or where it stood
-    by_place : (P : ℕ → ℕ → ℕ → Type 0) → P (at r).task r (r + 1) → P (at (r + 1)).task (r + 1) r
+    by_place : (P : ℕ → ℕ → ℕ → Type 0) → P (entry_at r).task r (r + 1) → P (entry_at (r + 1)).task (r + 1) r
         → ((t : ℕ) → t < length order → get_or ranks t 0 ≢ r → get_or ranks t 0 ≢ r + 1 → P t (get_or ranks t 0) (get_or ranks t 0))
         → (t : ℕ) → t < length order → P t (get_or ranks t 0) (get_or ranks_then t 0)
-    by_place P first second others t lt = elim (cases_eq t (at r).task) [
+    by_place P first second others t lt = elim (cases_eq t (entry_at r).task) [
       | inl e ↦ rw (e, first_rank, first_then) first
-      | inr not_r ↦ elim (cases_eq t (at (r + 1)).task) [
+      | inr not_r ↦ elim (cases_eq t (entry_at (r + 1)).task) [
         | inl e ↦ rw (e, second_rank, second_then) second
         | inr not_next ↦ rw (other_then t not_r not_next) (others t lt (not_first t lt not_r) (not_second t lt not_next))
       ]
@@ -120,7 +120,7 @@ module _ (order : List Ranked) (r : ℕ) (next : r + 1 < length order) where
       entries = IsPermutation-swap order then r (r + 1) (omega arith) next refl;
       inverse = record {
         few = omega (arith, same, ok.few);
-        count = length-set (set ranks (at (r + 1)).task r) (at r).task (r + 1) ∙ length-set ranks (at (r + 1)).task r ∙ ok.count ∙ sym same;
+        count = length-set (set ranks (entry_at (r + 1)).task r) (entry_at r).task (r + 1) ∙ length-set ranks (entry_at (r + 1)).task r ∙ ok.count ∙ sym same;
         numbers = λ k d lt. rw same (numbers_then k d (rw same at lt));
         placed = placed_then;
         within = λ t lt. rw same (within_then t (rw same at lt));
@@ -163,8 +163,17 @@ Reordered-trans order ranks sets order' ranks' sets' order'' ranks'' sets'' firs
 
 -- ---- the place is found
 module _ (order : List Ranked) (r : ℕ) where
-  priority_at : ℕ → Ranked → ℕ
+  abbrev pub priority_at : ℕ → Ranked → ℕ
   priority_at k d = (get_or order k d).priority
+
+  same_priority : (k : ℕ) (d : Ranked) → k < length order → priority_at k d ≡ priority_at k nobody
+  same_priority k d fits = ap (λ (e : Ranked). e.priority) (get_or_default order k d nobody fits)
+
+  le_at : (j k : ℕ) → j < length order → k < length order → priority_at j nobody ≤ priority_at k nobody → (d : Ranked) → priority_at j d ≤ priority_at k d
+  le_at j k fits_j fits_k le d = rw (same_priority j d fits_j, same_priority k d fits_k) le
+
+  less_at : (j k : ℕ) → j < length order → k < length order → priority_at j nobody < priority_at k nobody → (d : Ranked) → priority_at j d < priority_at k d
+  less_at j k fits_j fits_k less d = rw (same_priority j d fits_j, same_priority k d fits_k) less
 
   module _ (next : r + 1 < length order) where
     moved_at : (k : ℕ) (d : Ranked) → k ≢ r → k ≢ r + 1 → (get_or (swap order r (r + 1)) k d).priority ≡ priority_at k d
@@ -207,33 +216,32 @@ module _ (order : List Ranked) (r : ℕ) where
         ]
 
     -- and it is more urgent than what stands after it there, where it was so before
-    pub IsMostUrgentFrom-earlier : IsMostUrgentFrom (r + 1) order → ((d : Ranked) → priority_at (r + 1) d < priority_at r d) → IsMostUrgentFrom r (swap order r (r + 1))
+    pub IsMostUrgentFrom-earlier : IsMostUrgentFrom (r + 1) order → priority_at (r + 1) nobody < priority_at r nobody → IsMostUrgentFrom r (swap order r (r + 1))
     IsMostUrgentFrom-earlier most less k d later lt =
         let fits : k < length order = omega (arith, lt, length-swap order r (r + 1)) in
-        let below = less d in
+        let below = less_at (r + 1) r next (omega arith) less d in
         elim (cases_eq k (r + 1)) [
           | inl e ↦ rw (e, moved_here d, moved_there d) (omega arith)
           | inr other ↦ rw (moved_here d, moved_at k d (λ f. omega arith) other) (most k d (omega arith) fits)
         ]
 
   -- nothing after a place is more urgent, if the next one is not
-  pub IsMostUrgentFrom-next : IsNonDecreasingBut r order → (r + 1 < length order → (d : Ranked) → priority_at r d ≤ priority_at (r + 1) d) → IsMostUrgentFrom r order
-  IsMostUrgentFrom-next up le k d later lt =
-      let first = le (omega arith) d in
+  pub IsMostUrgentFrom-next : r + 1 < length order → IsNonDecreasingBut r order → priority_at r nobody ≤ priority_at (r + 1) nobody → IsMostUrgentFrom r order
+  IsMostUrgentFrom-next next up le k d later lt =
+      let first = le_at r (r + 1) (omega arith) next le d in
       let rises = up (r + 1) k d (omega arith) lt (λ f. omega arith) (λ f. omega arith) in
       omega arith
 
   -- the order is whole again once nothing before the place is less urgent, and nothing after it more
-  pub IsNonDecreasingBy-found : IsNonDecreasingBut r order → IsMostUrgentFrom r order → (0 < r → (k : ℕ) → k + 1 ≡ r → (d : Ranked) → priority_at k d ≤ priority_at r d)
+  pub IsNonDecreasingBy-found : IsNonDecreasingBut r order → IsMostUrgentFrom r order → 0 < r → r < length order → priority_at (r - 1) nobody ≤ priority_at r nobody
       → IsNonDecreasingBy (λ (entry : Ranked). entry.priority) order
-  IsNonDecreasingBy-found up most before j k d le lt = elim (cases_eq j k) [
+  IsNonDecreasingBy-found up most late fits before j k d le lt = elim (cases_eq j k) [
     | inl e ↦ rw e (omega arith)
     | inr apart ↦ elim (cases_eq j r) [
       | inl e ↦ rw e (most k d (omega arith) lt)
       | inr not_j ↦ elim (cases_eq k r) [
         | inl e ↦
-            let back : r - 1 + 1 ≡ r = omega arith in
-            let last = before (omega arith) (r - 1) back d in
+            let last = le_at (r - 1) r (omega arith) fits before d in
             let rises = up j (r - 1) d (omega arith) (omega arith) not_j (λ f. omega arith) in
             rw e (omega (arith, last, rises))
         | inr not_k ↦ up j k d le lt not_j not_k
