@@ -8,8 +8,26 @@ ghost use Rattle.waiting_index.specs.Reordering.{IsInverse, IsNonDecreasingBut, 
 use crate::ranked::Ranked;
 use crate::set_tree::SetTree;
 
+/// The task at a rank moves to its place, where all others stand in order.
+pub(crate) fn move_to_place(
+    order: &mut [Ranked],
+    ranks: &mut [u32],
+    sets: &mut SetTree,
+    rank: usize,
+)
+    requires rank { rank < length order.old }
+    requires inverse { IsInverse order.old ranks.old }
+    requires row { length order.old ≤ length sets.old }
+    requires sorted { IsNonDecreasingBut rank order.old }
+    ensures sorted { IsNonDecreasingBy (λ (entry : Ranked). entry.priority) order.new }
+    ensures moved { Reordered order.old ranks.old sets.old order.new ranks.new sets.new }
+{
+    let rank = move_later(order, ranks, sets, rank);
+    move_earlier(order, ranks, sets, rank);
+}
+
 /// The task at a rank moves later, past each task that is more urgent. Answers its rank then.
-pub(crate) fn move_later(
+fn move_later(
     order: &mut [Ranked],
     ranks: &mut [u32],
     sets: &mut SetTree,
@@ -33,7 +51,7 @@ pub(crate) fn move_later(
 }
 
 /// The task at a rank moves earlier, past each task that is less urgent. Those after it are not more urgent.
-pub(crate) fn move_earlier(order: &mut [Ranked], ranks: &mut [u32], sets: &mut SetTree, rank: usize)
+fn move_earlier(order: &mut [Ranked], ranks: &mut [u32], sets: &mut SetTree, rank: usize)
     requires rank { rank < length order.old }
     requires inverse { IsInverse order.old ranks.old }
     requires row { length order.old ≤ length sets.old }

@@ -8,7 +8,7 @@ ghost use Rattle.waiting_index.specs.WaitingTasks.{AreRanks};
 ghost use Rattle.waiting_index.specs.declared.ranked.Ranked.{Ranked};
 
 use crate::ranked::Ranked;
-use crate::reordering::{move_earlier, move_later};
+use crate::reordering::move_to_place;
 use crate::set_tree::SetTree;
 use affinity_mask::{OutOfMemory, ProcSet};
 use std::alloc::Global;
@@ -100,9 +100,8 @@ impl WaitingTasks {
     {
         let rank = self.ranks[t as usize] as usize;
         self.by_task[t as usize] = priority;
-        self.order[rank].priority = priority;
-        let rank = move_later(&mut self.order, &mut self.ranks, &mut self.sets, rank);
-        move_earlier(&mut self.order, &mut self.ranks, &mut self.sets, rank);
+        self.order[rank] = Ranked { priority, task: t };
+        move_to_place(&mut self.order, &mut self.ranks, &mut self.sets, rank);
     }
 
     /// A task waits for these processors then, or for none.
