@@ -1,3 +1,4 @@
 pub mod Layout
 pub mod LinksView
 pub mod PlacesView
+pub mod Priorities

@@ -35,6 +35,8 @@ impl Model for Links {
 impl Links {
     ghost use Rattle.task_set.specs.TaskSet.{IsMask};
     ghost use Rattle.link_state.specs.State.{State, IsState, HasSameTasks, task_count, priority_of, mask_of, is_ready, is_linked, effective_mask, task_on, IsIdle, IsWaiting, start_of, state_with_ready, state_with_absent, state_with_mask, state_with_online, state_with_offline, state_with_idle, state_after_leaving};
+    ghost use Rattle.waiting_index.specs.WaitingTasks.{IsNobodyWith, IsTaskWith};
+    ghost use Rattle.link_table.specs.Priorities.{IsFreeFor, state_with_priority, state_with_exchange};
     ghost use Rattle.link_state.specs.Step.{IsNobodyInto, IsMostUrgentInto};
     ghost use Rattle.link_state.specs.Chain.{CanShift, IsChainOf, IsSimple, Shifted, task_put_out};
 
@@ -90,6 +92,15 @@ impl Links {
         ensures { result ≡ priority_of self.now t }
     {
         self.waiting.priority(t)
+    }
+
+    /// The task that has a priority, if there is one.
+    pub fn task_with(&self, priority: u32) -> Option<u32>
+        ensures test { MatchOption result (IsNobodyWith self.now.priorities priority)
+            (IsTaskWith self.now.priorities priority) }
+        ensures valid { IsState self.now }
+    {
+        self.waiting.task_with(priority)
     }
 
     /// The affinity mask of a task.
@@ -220,6 +231,29 @@ impl Links {
         ensures valid { IsState self.new }
     {
         self.places.set_mask(t, mask);
+    }
+
+    /// Sets the priority of a task, ready or not, to one that no other task has. No memory is taken.
+    pub fn set_priority(&mut self, t: u32, priority: u32)
+        requires number { t < task_count self.old }
+        requires free { IsFreeFor self.old t priority }
+        ensures priority { self.new ≡ state_with_priority self.old t priority }
+        ensures valid { IsState self.new }
+    {
+        self.waiting.set_priority(t, priority);
+    }
+
+    /// Two tasks, ready or not, exchange their priorities. No memory is taken.
+    pub fn exchange_priorities(&mut self, t: u32, u: u32)
+        requires number { t < task_count self.old }
+        requires other { u < task_count self.old }
+        ensures exchange { self.new ≡ state_with_exchange self.old t u }
+        ensures valid { IsState self.new }
+    {
+        let priority = self.waiting.priority(t);
+        let other = self.waiting.priority(u);
+        self.waiting.set_priority(t, other);
+        self.waiting.set_priority(u, priority);
     }
 
     /// Puts a processor to which nobody is linked on line, or takes it off line.

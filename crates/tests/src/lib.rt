@@ -16,6 +16,8 @@ mod mask_tests;
 #[cfg(test)]
 mod plain;
 #[cfg(test)]
+mod priority_tests;
+#[cfg(test)]
 mod search_tests;
 #[cfg(test)]
 mod stated;

@@ -42,7 +42,7 @@ module _ (ps : List ℕ) (order : List Ranked) (ranks sets : List ℕ) (ok : IsR
   rank_read t r lt at = get_or_read ranks t r (let count = ok.ranks_count in omega arith) at 0
 
   -- two tasks have two ranks
-  rank_apart : (t u : ℕ) → t < length ps → u < length ps → get_or ranks t 0 ≡ get_or ranks u 0 → t ≡ u
+  pub rank_apart : (t u : ℕ) → t < length ps → u < length ps → get_or ranks t 0 ≡ get_or ranks u 0 → t ≡ u
   rank_apart t u lt lu e =
       let d = entry_of ps t in
       ap (λ (x : Ranked). x.task) (sym (entry_at_rank t d lt) ∙ ap (λ n. get_or order n d) e ∙ entry_at_rank u d lu)

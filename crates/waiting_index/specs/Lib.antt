@@ -1,3 +1,4 @@
+pub mod Reordering
 pub mod SetTree
 pub mod UrgencyOrder
 pub mod WaitingTasks

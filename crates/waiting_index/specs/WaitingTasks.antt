@@ -8,6 +8,15 @@ use Rattle.waiting_index.specs.UrgencyOrder.{IsUrgencyOrder}
 use Rattle.waiting_index.specs.declared.ranked.Ranked.{Ranked}
 use Rattle.waiting_index.specs.declared.waiting_tasks.WaitingTasks.TheInside.{Inside}
 
+-- no task has the priority
+abbrev pub IsNobodyWith : List ℕ → ℕ → Type 0
+IsNobodyWith priorities priority = (t : ℕ) → t < length priorities → get_or priorities t 0 ≡ priority → ⊥
+
+-- t has the priority
+pub record IsTaskWith (priorities : List ℕ) (priority t : ℕ) : Type 0 where
+  pub number : t < length priorities
+  pub has_it : get_or priorities t 0 ≡ priority
+
 -- by task: its priority, and the processors that it waits for, which are none where it does not wait
 pub record Waiting : Type 0 where
   pub priorities : List ℕ

@@ -1,5 +1,6 @@
 //! Sets in a row, with a tree of unions over them.
 ghost use Rattle.std.specs.Prelude.{◌≡◌, ℕ, ◌<◌, ◌≤◌, set, length, get_or, IfOk, MatchOption};
+ghost use Rattle.std.specs.List.{swap};
 ghost use Rattle.affinity_mask.specs.ProcSet.{empty};
 ghost use Rattle.waiting_index.specs.SetTree.{IsWidthFor, IsMetByNone, IsFirstMeeting};
 
@@ -63,6 +64,26 @@ impl SetTree {
             }
             self.nodes[k] = sum;
         }
+    }
+
+    /// The sets at two places of the row change places.
+    pub(crate) fn swap(&mut self, r: usize, other: usize)
+        requires place { r < length self.old }
+        requires other { other < length self.old }
+        ensures { self.new ≡ swap self.old r other }
+    {
+        let first = self.at(r);
+        let second = self.at(other);
+        self.write(r, second);
+        self.write(other, first);
+    }
+
+    /// The set at a place of the row.
+    fn at(&self, r: usize) -> ProcSet
+        requires { r < length self.now }
+        ensures { result ≡ get_or self.now r empty }
+    {
+        self.nodes[self.width + r]
     }
 
     /// The place of the first set of the row that meets this one.

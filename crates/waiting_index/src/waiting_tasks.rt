@@ -8,12 +8,13 @@ ghost use Rattle.waiting_index.specs.WaitingTasks.{AreRanks};
 ghost use Rattle.waiting_index.specs.declared.ranked.Ranked.{Ranked};
 
 use crate::ranked::Ranked;
+use crate::reordering::move_to_place;
 use crate::set_tree::SetTree;
 use affinity_mask::{OutOfMemory, ProcSet};
 use std::alloc::Global;
 use std::marker::Model;
 
-/// The priority of each task, which never changes, and the processors that each waiting task waits for.
+/// The priority of each task, and the processors that each waiting task waits for.
 #[derive(Drop)]
 pub struct WaitingTasks {
     by_task: Vec<u32>,
@@ -41,7 +42,7 @@ impl Model for WaitingTasks {
 }
 
 impl WaitingTasks {
-    ghost use Rattle.waiting_index.specs.WaitingTasks.{Waiting, IsNobodyFor, IsFirstFor, exchanged};
+    ghost use Rattle.waiting_index.specs.WaitingTasks.{Waiting, IsNobodyFor, IsFirstFor, IsNobodyWith, IsTaskWith, exchanged};
 
     /// Tasks with these priorities, by their numbers. Nobody waits.
     pub fn new(alloc: Global, by_task: Vec<u32>) -> Result<WaitingTasks, OutOfMemory>
@@ -76,6 +77,31 @@ impl WaitingTasks {
         ensures { result ≡ slice_index self.now.priorities t }
     {
         self.by_task[t as usize]
+    }
+
+    /// A task that has this priority, if there is one.
+    pub fn task_with(&self, priority: u32) -> Option<u32>
+        ensures { MatchOption result (IsNobodyWith self.now.priorities priority)
+            (IsTaskWith self.now.priorities priority) }
+    {
+        match self
+            .order
+            .binary_search_by_key(&priority, |entry| entry.priority)
+        {
+            Ok(rank) => Some(self.order[rank].task),
+            Err(_) => None,
+        }
+    }
+
+    /// A task has this priority then, waiting or not. No memory is taken.
+    pub fn set_priority(&mut self, t: u32, priority: u32)
+        requires { t < length self.old.priorities }
+        ensures { self.new ≡ record self.old { priorities = set self.old.priorities t priority } }
+    {
+        let rank = self.ranks[t as usize] as usize;
+        self.by_task[t as usize] = priority;
+        self.order[rank] = Ranked { priority, task: t };
+        move_to_place(&mut self.order, &mut self.ranks, &mut self.sets, rank);
     }
 
     /// A task waits for these processors then, or for none.
