@@ -1,5 +1,5 @@
 -- The input of the text of a trace is the import of that trace.
-use Rattle.std.proofs.Common.{◌≡◌, ℕ, zero, suc, ◌+◌, ◌/◌, ◌%◌, ◌<◌, ◌≤◌, Bool, true, false, nat_lt, List, [], ◌∷◌, ◌++◌, length, get_or, take, drop, Option, None, Some, refl, sym, ap, ◌∙◌, subst, inl, inr, arith, append_assoc, append-nil, lit<, lit≤}
+use Rattle.std.proofs.Common.{◌≡◌, ℕ, zero, suc, ◌+◌, ◌/◌, ◌%◌, ◌<◌, ◌≤◌, Bool, true, false, nat_lt, List, [], ◌∷◌, ◌++◌, length, take, drop, Option, None, Some, refl, sym, ap, ◌∙◌, subst, inl, inr, arith, append_assoc, append-nil, lit<, lit≤}
 use Rattle.std.specs.Prelude.{All, replicate, if◌then◌else◌}
 use Rattle.std.specs.Option.{option_or}
 use Rattle.std.proofs.lemmas.Bool.{cases_eq}
@@ -11,195 +11,42 @@ use Rattle.task_set.specs.Event.{HasUnits}
 use Rattle.task_set.specs.declared.event.Event.TheVariants.{Arrive, Depart, Tick}
 use Rattle.trace_reader.specs.Input.{InputData}
 use Rattle.trace_reader.specs.declared.posted.Posted.{Posted}
-use Rattle.line_machine.specs.LineRule.{IsLineOutcome}
 use Rattle.line_machine.specs.Lines.{lines_of, fields_of}
-use Rattle.line_machine.specs.Machine.{Outcome, Leads, Fails, Answer, IsText, Refuses, answer_at_end, IsAnswer, Leading}
+use Rattle.line_machine.specs.Machine.{Outcome, Leads, Fails, Answer, IsText, Refuses, answer_at_end, IsAnswer}
 use Rattle.kernel_trace.specs.Course.{CourseData, WindowData, mentions, is_unseen, is_backward, is_in_window, on_first_stream, last_tick, ticks, between, passed, written, event_of, after_mention, after_mentions, agrees, is_ready, standing_of}
 use Rattle.kernel_trace.specs.Import.{after_said, course_after, mentions_said, AllChange, all_units, ReadyChange, ready_changes, changes_said, changes_in, changes_made, times_of, time_said, used_times, first_time, last_time, Lasts, told_by, all_told, IsHead, IsWrittenBy, IsImport, ImportIsFaithful}
-use Rattle.kernel_trace.specs.Reading.{AreTasks, IsCourse, IsValid}
-use Rattle.kernel_trace.specs.TraceFault.{trace_kind}
+use Rattle.kernel_trace.specs.Reading.{AreTasks}
 use Rattle.kernel_trace.specs.TraceLine.{Said, Nothing, LostEvents, Malformed, Happened, said_by}
-use Rattle.kernel_trace.specs.TraceText.{TaskLine, events_line, window_of, Progress, HeaderExpected, ProcessorsExpected, Listed, Tracing, LineOutcome, without_tasks, with_listed, IsAddOutcome, window_outcome, IsListedOutcome, IsHeadOutcome, counted_outcome, used_outcome, timed_outcome, said_outcome, IsLine, input_of, IsEndOutcome}
+use Rattle.kernel_trace.specs.TraceText.{Progress, HeaderExpected, ProcessorsExpected, Listed, Tracing, LineOutcome, counted_outcome, used_outcome, timed_outcome, said_outcome, IsLine, input_of, IsEndOutcome}
 use Rattle.kernel_trace.specs.declared.change.Change.{Change}
 use Rattle.kernel_trace.specs.declared.change.Mention.{Mention}
-use Rattle.kernel_trace.specs.declared.change.Standing.{Standing}
-use Rattle.kernel_trace.specs.declared.change.Standing.TheVariants.{Unmentioned}
 use Rattle.kernel_trace.specs.declared.fault.TraceKind.{TraceKind}
-use Rattle.kernel_trace.specs.declared.fault.TraceKind.TheVariants.{BadHeader, BadProcessors, BadMask, TaskRefused, SamePid, BadWindow, Backward, Lost, BadForm, Unseen, ManyEvents, NoEvents}
-use Rattle.line_machine.specs.declared.kind.LineKind.TheVariants.{BadByte, LongLine}
+use Rattle.kernel_trace.specs.declared.fault.TraceKind.TheVariants.{Backward, Lost, BadForm, Unseen, ManyEvents, NoEvents}
 use Rattle.kernel_trace.proofs.Courses.{step_by, last_some, million}
-use Rattle.kernel_trace.proofs.Decided.{same_next, fails_not_leads, not_above, line_valid}
+use Rattle.kernel_trace.proofs.Decided.{same_next, fails_not_leads, not_above}
+use Rattle.kernel_trace.proofs.HeadSplit.{Begun, Split, LedOn, head_split}
 use Rattle.kernel_trace.proofs.Imports.{fold_append, units_append, written_units, change_written, Tells, step_tells, step_length, Follows, known_tasks, said_follows, lines_follow, head_follows}
 
--- ---- the lines of the head
--- what is known while the head is read
-abbrev pub Begun : Progress → Type 0
-Begun HeaderExpected = Unit {0}
-Begun ProcessorsExpected = Unit {0}
-Begun (Listed c) = IsHead c
-Begun (Tracing c) = ⊥
-
--- what a line of the head leads to: more of the head, or the trace, after the line `events`
-abbrev pub Goes : Progress → List (List ℕ) → Progress → Type 0
-Goes p fields HeaderExpected = Unit {0}
-Goes p fields ProcessorsExpected = Unit {0}
-Goes p fields (Listed c) = IsHead c
-Goes p fields (Tracing c) = (p ≡ Listed c) × (fields ≡ events_line)
-
-goes_to : (p : Progress) (fields : List (List ℕ)) (next found : Progress)
-    → ◌≡◌ {A = LineOutcome} (Leads next) (Leads found) → Goes p fields found → Goes p fields next
-goes_to p fields next found e goes = subst (Goes p fields) (sym (same_next next found e)) goes
-
-none_more : (standings : List Standing) (t : ℕ) → get_or (standings ++ Unmentioned ∷ []) t Unmentioned ≡ get_or standings t Unmentioned
-none_more [] zero = refl
-none_more [] (suc t) = refl
-none_more (s ∷ standings) zero = refl
-none_more (s ∷ standings) (suc t) = none_more standings t
-
-head_more : (c : CourseData) (line : TaskLine) (mask : ℕ) → IsHead c → IsHead (with_listed c line mask)
-head_more c line mask is = record {
-  no_line = is.no_line;
-  no_event = is.no_event;
-  no_used = is.no_used;
-  no_events = is.no_events;
-  unmentioned = λ t. (none_more c.standings t ∙ is.unmentioned t);
-}
-
-head_window : (c : CourseData) (window : Option WindowData) → IsHead c → IsHead (record c { window = window })
-head_window c window is = record {
-  no_line = is.no_line;
-  no_event = is.no_event;
-  no_used = is.no_used;
-  no_events = is.no_events;
-  unmentioned = is.unmentioned;
-}
-
-module _ (c : CourseData) (fields : List (List ℕ)) (next : Progress) (is : IsHead c) where
-  id_goes : (b : Bool) (line : TaskLine) (mask : ℕ)
-      → ◌≡◌ {A = LineOutcome} (Leads next) (if b then Fails SamePid else Leads (Listed (with_listed c line mask))) → Goes (Listed c) fields next
-  id_goes true line mask e = fails_not_leads next SamePid e
-  id_goes false line mask e = goes_to (Listed c) fields next (Listed (with_listed c line mask)) e (head_more c line mask is)
-
-  add_goes : (line : TaskLine) (mask : ℕ) → IsAddOutcome c line mask (Leads next) → Goes (Listed c) fields next
-  add_goes line mask (inr refused) = fails_not_leads next (TaskRefused refused.0) refused.2
-  add_goes line mask (inl (can, e)) = id_goes _ line mask e
-
-  window_goes : (before window : Option WindowData) → ◌≡◌ {A = LineOutcome} (Leads next) (window_outcome c before window)
-      → Goes (Listed c) fields next
-  window_goes None (Some window) e = goes_to (Listed c) fields next (Listed (record c { window = Some window })) e (head_window c (Some window) is)
-  window_goes None None e = fails_not_leads next BadWindow e
-  window_goes (Some before) window e = fails_not_leads next BadWindow e
-
-  listed_goes : IsListedOutcome c fields (Leads next) → Goes (Listed c) fields next
-  listed_goes (inl (task, inl (line, form, inr bad))) = fails_not_leads next (BadMask bad.0) bad.2
-  listed_goes (inl (task, inl (line, form, inl good))) = add_goes line good.0 good.2
-  listed_goes (inl (task, inr none)) = fails_not_leads next _ none.1
-  listed_goes (inr (other, inl (window, e))) = window_goes c.window (window_of fields) e
-  listed_goes (inr (other, inr (neither, inl events))) = goes_to (Listed c) fields next (Tracing c) events.1 (refl, events.0)
-  listed_goes (inr (other, inr (neither, inr none))) = fails_not_leads next _ none.1
-
-none_without : (m : ℕ) → IsHead (without_tasks m)
-none_without m = record { no_line = refl; no_event = refl; no_used = refl; no_events = refl; unmentioned = λ t. refl }
-
-fields_go : (p : Progress) (fields : List (List ℕ)) (next : Progress) → Begun p → IsHeadOutcome p fields (Leads next) → Goes p fields next
-fields_go HeaderExpected fields next begun (inl found) = goes_to HeaderExpected fields next ProcessorsExpected found.2 tt
-fields_go HeaderExpected fields next begun (inr none) = fails_not_leads next BadHeader none.1
-fields_go ProcessorsExpected fields next begun (inl found) =
-    goes_to ProcessorsExpected fields next (Listed (without_tasks found.0)) found.2 (none_without found.0)
-fields_go ProcessorsExpected fields next begun (inr none) = fails_not_leads next BadProcessors none.1
-fields_go (Listed c) fields next begun comes = listed_goes c fields next begun comes
-fields_go (Tracing c) fields next begun comes = absurd begun
-
-begun_goes : (p : Progress) (fields : List (List ℕ)) → Begun p → Goes p fields p
-begun_goes HeaderExpected fields begun = tt
-begun_goes ProcessorsExpected fields begun = tt
-begun_goes (Listed c) fields begun = begun
-begun_goes (Tracing c) fields begun = absurd begun
-
-read_goes : (p : Progress) (line : List ℕ) (next : Progress) → Begun p
-    → IsLineOutcome 4096 true trace_kind IsHeadOutcome p line (Leads next) → Goes p (fields_of line) next
-read_goes p line next begun (inl bad) = fails_not_leads next (trace_kind BadByte) bad.1
-read_goes p line next begun (inr (inl long)) = fails_not_leads next (trace_kind LongLine) long.2
-read_goes p line next begun (inr (inr (inl skipped))) = goes_to p (fields_of line) next p skipped.2 (begun_goes p (fields_of line) begun)
-read_goes p line next begun (inr (inr (inr says))) = fields_go p (fields_of line) next begun says.2
-
-pub line_goes : (p : Progress) (line : List ℕ) (next : Progress) → Begun p → IsLine p line (Leads next) → Goes p (fields_of line) next
-line_goes HeaderExpected line next begun comes = read_goes HeaderExpected line next begun comes
-line_goes ProcessorsExpected line next begun comes = read_goes ProcessorsExpected line next begun comes
-line_goes (Listed c) line next begun comes = read_goes (Listed c) line next begun comes
-line_goes (Tracing c) line next begun comes = absurd begun
-
-abbrev IsRest : ℕ → Progress → List (List ℕ) → InputData → Type 0
-IsRest number p lines input = IsAnswer IsLine IsEndOutcome number p lines (IsText input)
-
--- the lines of a head, the line `events`, and the lines of a trace
-record Split (p : Progress) (lines : List (List ℕ)) (input : InputData) : Type 0 where
-  heading : List (List ℕ)
-  opening : List ℕ
-  rest : List (List ℕ)
-  head : CourseData
-  number : ℕ
-  order : lines ≡ heading ++ opening ∷ rest
-  heads : Leading IsLine p heading (Listed head)
-  opens : fields_of opening ≡ events_line
-  is_head : IsHead head
-  valid : IsCourse head
-  answer : IsRest number (Tracing head) rest input
+-- ---- the head
+-- the answer to some lines is this input
+abbrev IsRest : InputData → ℕ → Progress → List (List ℕ) → Type 0
+IsRest input number p lines = IsAnswer IsLine IsEndOutcome number p lines (IsText input)
 
 text_not_refused : {A : Type 0} (input : InputData) (number : ℕ) (kind : TraceKind)
     → ◌≡◌ {A = Answer InputData TraceKind} (IsText input) (Refuses number kind) → A
 text_not_refused input number kind e = cc
 
-no_end : {A : Type 0} (p : Progress) (number : ℕ) (input : InputData) (last : Outcome InputData TraceKind) → Begun p → IsEndOutcome p last
-    → ◌≡◌ {A = Answer InputData TraceKind} (IsText input) (answer_at_end number last) → A
-no_end HeaderExpected number input last begun ends e = text_not_refused input number NoEvents (e ∙ ap (answer_at_end number) ends)
-no_end ProcessorsExpected number input last begun ends e = text_not_refused input number NoEvents (e ∙ ap (answer_at_end number) ends)
-no_end (Listed c) number input last begun ends e = text_not_refused input number NoEvents (e ∙ ap (answer_at_end number) ends)
-no_end (Tracing c) number input last begun ends e = absurd begun
+module _ (input : InputData) where
+  no_end : (number : ℕ) (p : Progress) → Begun p → IsRest input number p [] → ⊥
+  no_end number HeaderExpected begun (last, ends, e) = text_not_refused input number NoEvents (e ∙ ap (answer_at_end number) ends)
+  no_end number ProcessorsExpected begun (last, ends, e) = text_not_refused input number NoEvents (e ∙ ap (answer_at_end number) ends)
+  no_end number (Listed c) begun (last, ends, e) = text_not_refused input number NoEvents (e ∙ ap (answer_at_end number) ends)
+  no_end number (Tracing c) begun follows = absurd begun
 
-module _ (p : Progress) (line : List ℕ) (rest : List (List ℕ)) (input : InputData) (number : ℕ) (begun : Begun p) where
-  more_head : (next : Progress) → IsLine p line (Leads next) → Split next rest input → Split p (line ∷ rest) input
-  more_head next comes split = record {
-    heading = line ∷ split.heading;
-    opening = split.opening;
-    rest = split.rest;
-    head = split.head;
-    number = split.number;
-    order = ap (λ (more : List (List ℕ)). line ∷ more) split.order;
-    heads = (next, comes, split.heads);
-    opens = split.opens;
-    is_head = split.is_head;
-    valid = split.valid;
-    answer = split.answer;
-  }
-
-  split_next : (next : Progress) → IsLine p line (Leads next) → Goes p (fields_of line) next → IsValid next → IsRest (number + 1) next rest input
-      → (Begun next → Split next rest input) → Split p (line ∷ rest) input
-  split_next HeaderExpected comes goes valid answer later = more_head HeaderExpected comes (later tt)
-  split_next ProcessorsExpected comes goes valid answer later = more_head ProcessorsExpected comes (later tt)
-  split_next (Listed c) comes goes valid answer later = more_head (Listed c) comes (later goes)
-  split_next (Tracing c) comes goes valid answer later = record {
-    heading = [];
-    opening = line;
-    rest = rest;
-    head = c;
-    number = number + 1;
-    order = refl;
-    heads = goes.0;
-    opens = goes.1;
-    is_head = subst Begun goes.0 begun;
-    valid = valid.0;
-    answer = answer;
-  }
-
-head_split : (number : ℕ) (p : Progress) (lines : List (List ℕ)) (input : InputData)
-    → Begun p → IsValid p → IsRest number p lines input → Split p lines input
-head_split number p [] input begun valid (last, ends, e) = no_end p number input last begun ends e
-head_split number p (line ∷ rest) input begun valid (inl (kind, comes, e)) = text_not_refused input number kind e
-head_split number p (line ∷ rest) input begun valid (inr (next, comes, answer)) =
-    let valid_next : IsValid next = line_valid p line next valid comes in
-    split_next p line rest input number begun next comes (line_goes p line next begun comes) valid_next answer
-    (λ more. head_split (number + 1) next rest input more valid_next answer)
+  line_leads : (number : ℕ) (p : Progress) (line : List ℕ) (rest : List (List ℕ)) → Begun p → IsRest input number p (line ∷ rest)
+      → LedOn (IsRest input) number p line rest
+  line_leads number p line rest begun (inl (kind, comes, e)) = text_not_refused input number kind e
+  line_leads number p line rest begun (inr led) = led
 
 -- ---- the lines of the trace lead on
 -- one time is at most another, where there is one
@@ -272,14 +119,14 @@ text_input c input number last ends e = same (e ∙ ap (answer_at_end number) en
     same : ◌≡◌ {A = Answer InputData TraceKind} (IsText input) (IsText (input_of c)) → input ≡ input_of c
     same e = cc
 
-trace_leads : (number : ℕ) (c : CourseData) (lines : List (List ℕ)) (input : InputData) → IsRest number (Tracing c) lines input
+trace_leads : (number : ℕ) (c : CourseData) (lines : List (List ℕ)) (input : InputData) → IsRest input number (Tracing c) lines
     → AllForward c lines × (input ≡ input_of (course_after c lines))
 trace_leads number c [] input (last, ends, e) = (tt, text_input c input number last ends e)
 trace_leads number c (line ∷ rest) input (inl (kind, comes, e)) = text_not_refused input number kind e
 trace_leads number c (line ∷ rest) input (inr (next, comes, answer)) =
     let said : Said = said_by (fields_of line) in
     let leads = said_leads c said next comes in
-    let later = trace_leads (number + 1) (after_said c said) rest input (subst (λ (p : Progress). IsRest (number + 1) p rest input) leads.0 answer) in
+    let later = trace_leads (number + 1) (after_said c said) rest input (subst (λ (p : Progress). IsRest input (number + 1) p rest) leads.0 answer) in
     ((leads.1, later.0), later.1)
 
 -- the first lines of some lines
@@ -684,7 +531,7 @@ module _ (head : CourseData) (one_each : length head.standings ≡ length head.i
       let stays = all.stays in
       stays.set
 
-of_split : (bytes : List ℕ) (input : InputData) → Split HeaderExpected (lines_of bytes) input → IsImport bytes input
+of_split : (bytes : List ℕ) (input : InputData) → Split (IsRest input) HeaderExpected (lines_of bytes) → IsImport bytes input
 of_split bytes input split =
     let head : CourseData = split.head in
     let valid = split.valid in
@@ -717,4 +564,4 @@ of_split bytes input split =
     }
 
 pub import_is_faithful : ImportIsFaithful
-import_is_faithful bytes input is = of_split bytes input (head_split 1 HeaderExpected (lines_of bytes) input tt tt is)
+import_is_faithful bytes input is = of_split bytes input (head_split (IsRest input) (no_end input) (line_leads input) 1 HeaderExpected (lines_of bytes) tt tt is)

@@ -9,6 +9,7 @@ pub mod Courses
 pub mod Decided
 pub mod Followed
 pub mod Imports
+mod HeadSplit
 mod Turns
 mod Kept
 pub mod Imported

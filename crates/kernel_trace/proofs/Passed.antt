@@ -3,22 +3,21 @@ use Rattle.std.proofs.Common.{◌≡◌, ℕ, zero, suc, ◌+◌, List, [], ◌�
 use Rattle.std.specs.Prelude.{All}
 use Rattle.std.proofs.lemmas.List.Elements.{All-nil}
 use Rattle.line_machine.specs.Lines.{lines_of, fields_of}
-use Rattle.line_machine.specs.Machine.{Outcome, Leads, Answer, IsText, Refuses, answer_at_end, IsAnswer, Leading}
+use Rattle.line_machine.specs.Machine.{Outcome, Leads, Answer, IsText, Refuses, answer_at_end, IsAnswer}
 use Rattle.kernel_trace.specs.Course.{CourseData, is_ready}
 use Rattle.kernel_trace.specs.Import.{mentions_said, mentions_in, is_last_in, IsHead}
 use Rattle.kernel_trace.specs.Passage.{FollowingData, TaskTraceData, IsFollowed, IsFollowedEnd, IsLineAt, IsEndAt, IsOfHead}
 use Rattle.kernel_trace.specs.Passages.{UsedLine, used_said, used_lines, from_turn, passages_since, all_changes, NeverFall, AllTurn, IsPassageOf, IsTaskTrace, PassagesAreFaithful}
 use Rattle.kernel_trace.specs.Processor.{processor_of}
-use Rattle.kernel_trace.specs.Reading.{IsCourse, IsValid}
+use Rattle.kernel_trace.specs.Reading.{IsCourse}
 use Rattle.kernel_trace.specs.TraceLine.{Said as SaidData, said_by}
-use Rattle.kernel_trace.specs.TraceText.{Progress, HeaderExpected, ProcessorsExpected, Listed, Tracing, IsLine, events_line}
+use Rattle.kernel_trace.specs.TraceText.{Progress, HeaderExpected, ProcessorsExpected, Listed, Tracing, IsLine}
 use Rattle.kernel_trace.specs.declared.change.Mention.{Mention}
 use Rattle.kernel_trace.specs.declared.fault.TraceKind.{TraceKind}
 use Rattle.kernel_trace.specs.declared.fault.TraceKind.TheVariants.{NoEvents}
 use Rattle.kernel_trace.specs.declared.passage.Passage.{Passage}
-use Rattle.kernel_trace.proofs.Decided.{line_valid}
 use Rattle.kernel_trace.proofs.Followed.{head_leads}
-use Rattle.kernel_trace.proofs.Imported.{Begun, Goes, line_goes}
+use Rattle.kernel_trace.proofs.HeadSplit.{Begun, Split, LedOn, head_split}
 use Rattle.kernel_trace.proofs.Kept.{Kept, Stepped, said_steps}
 
 abbrev IsRest : ℕ → FollowingData → List (List ℕ) → TaskTraceData → Type 0
@@ -149,93 +148,43 @@ module _ (head : CourseData) (trace : TaskTraceData) where
     of_set = All-nil (IsPassageOf (length head.set.tasks));
   }
 
--- ---- the lines of the head
+-- ---- the head
 abbrev at_head : Progress → FollowingData
 at_head p = record { progress = p; start = None; passages = [] }
 
--- the lines of a head, the line `events`, and the lines of a trace
-record Split (p : Progress) (lines : List (List ℕ)) (trace : TaskTraceData) : Type 0 where
-  heading : List (List ℕ)
-  opening : List ℕ
-  rest : List (List ℕ)
-  head : CourseData
-  number : ℕ
-  order : lines ≡ heading ++ opening ∷ rest
-  heads : Leading IsLine p heading (Listed head)
-  opens : fields_of opening ≡ events_line
-  is_head : IsHead head
-  valid : IsCourse head
-  answer : IsRest number (at_head (Tracing head)) rest trace
+-- the answer to some lines after a head that leads so far is this trace
+abbrev IsHeaded : TaskTraceData → ℕ → Progress → List (List ℕ) → Type 0
+IsHeaded trace number p lines = IsRest number (at_head p) lines trace
 
-no_end : {A : Type 0} (p : Progress) (number : ℕ) (trace : TaskTraceData) (last : Outcome TaskTraceData TraceKind) → Begun p → IsEndAt (at_head p) p last
-    → ◌≡◌ {A = Answer TaskTraceData TraceKind} (IsText trace) (answer_at_end number last) → A
-no_end HeaderExpected number trace last begun ends e = refused_text trace number NoEvents (e ∙ ap (answer_at_end number) ends)
-no_end ProcessorsExpected number trace last begun ends e = refused_text trace number NoEvents (e ∙ ap (answer_at_end number) ends)
-no_end (Listed c) number trace last begun ends e = refused_text trace number NoEvents (e ∙ ap (answer_at_end number) ends)
-no_end (Tracing c) number trace last begun ends e = absurd begun
+module _ (trace : TaskTraceData) where
+  no_end : (number : ℕ) (p : Progress) → Begun p → IsHeaded trace number p [] → ⊥
+  no_end number HeaderExpected begun (last, ends, e) = refused_text trace number NoEvents (e ∙ ap (answer_at_end number) ends)
+  no_end number ProcessorsExpected begun (last, ends, e) = refused_text trace number NoEvents (e ∙ ap (answer_at_end number) ends)
+  no_end number (Listed c) begun (last, ends, e) = refused_text trace number NoEvents (e ∙ ap (answer_at_end number) ends)
+  no_end number (Tracing c) begun follows = absurd begun
 
--- a line of the head leads on as for an input
-goes_on : (p : Progress) (line : List ℕ) (next : FollowingData) → Begun p → IsFollowed (at_head p) line (Leads next)
-    → (to : Progress) × IsLine p line (Leads to) × (next ≡ at_head to)
-goes_on p line next begun comes = by p begun comes
-  where
-    of_head : (q : Progress) → IsOfHead (at_head q) (IsLine q line) (Leads next) → (to : Progress) × IsLine q line (Leads to) × (next ≡ at_head to)
-    of_head q (head, comes, e) = let leads = head_leads (at_head q) next head e in (leads.0, subst (IsLine q line) leads.1 comes, leads.2)
+  -- a line of the head leads on as for an input
+  of_head : (p : Progress) (line : List ℕ) (next : FollowingData) → IsOfHead (at_head p) (IsLine p line) (Leads next)
+      → (to : Progress) × IsLine p line (Leads to) × (next ≡ at_head to)
+  of_head p line next (head, comes, e) =
+      let leads = head_leads (at_head p) next head e in (leads.0, subst (IsLine p line) leads.1 comes, leads.2)
 
-    by : (q : Progress) → Begun q → IsFollowed (at_head q) line (Leads next) → (to : Progress) × IsLine q line (Leads to) × (next ≡ at_head to)
-    by HeaderExpected begun comes = of_head HeaderExpected comes
-    by ProcessorsExpected begun comes = of_head ProcessorsExpected comes
-    by (Listed c) begun comes = of_head (Listed c) comes
-    by (Tracing c) begun comes = absurd begun
+  followed_head : (p : Progress) (line : List ℕ) (next : FollowingData) → Begun p → IsFollowed (at_head p) line (Leads next)
+      → (to : Progress) × IsLine p line (Leads to) × (next ≡ at_head to)
+  followed_head HeaderExpected line next begun comes = of_head HeaderExpected line next comes
+  followed_head ProcessorsExpected line next begun comes = of_head ProcessorsExpected line next comes
+  followed_head (Listed c) line next begun comes = of_head (Listed c) line next comes
+  followed_head (Tracing c) line next begun comes = absurd begun
 
-module _ (p : Progress) (line : List ℕ) (rest : List (List ℕ)) (trace : TaskTraceData) (number : ℕ) (begun : Begun p) where
-  more_head : (to : Progress) → IsLine p line (Leads to) → Split to rest trace → Split p (line ∷ rest) trace
-  more_head to comes split = record {
-    heading = line ∷ split.heading;
-    opening = split.opening;
-    rest = split.rest;
-    head = split.head;
-    number = split.number;
-    order = ap (λ (more : List (List ℕ)). line ∷ more) split.order;
-    heads = (to, comes, split.heads);
-    opens = split.opens;
-    is_head = split.is_head;
-    valid = split.valid;
-    answer = split.answer;
-  }
-
-  split_next : (to : Progress) → IsLine p line (Leads to) → Goes p (fields_of line) to → IsValid to → IsRest (number + 1) (at_head to) rest trace
-      → (Begun to → Split to rest trace) → Split p (line ∷ rest) trace
-  split_next HeaderExpected comes goes valid answer later = more_head HeaderExpected comes (later tt)
-  split_next ProcessorsExpected comes goes valid answer later = more_head ProcessorsExpected comes (later tt)
-  split_next (Listed c) comes goes valid answer later = more_head (Listed c) comes (later goes)
-  split_next (Tracing c) comes goes valid answer later = record {
-    heading = [];
-    opening = line;
-    rest = rest;
-    head = c;
-    number = number + 1;
-    order = refl;
-    heads = goes.0;
-    opens = goes.1;
-    is_head = subst Begun goes.0 begun;
-    valid = valid.0;
-    answer = answer;
-  }
-
-head_split : (number : ℕ) (p : Progress) (lines : List (List ℕ)) (trace : TaskTraceData)
-    → Begun p → IsValid p → IsRest number (at_head p) lines trace → Split p lines trace
-head_split number p [] trace begun valid (last, ends, e) = no_end p number trace last begun ends e
-head_split number p (line ∷ rest) trace begun valid (inl (kind, comes, e)) = refused_text trace number kind e
-head_split number p (line ∷ rest) trace begun valid (inr (next, comes, answer)) =
-    let goes = goes_on p line next begun comes in
-    let valid_next : IsValid goes.0 = line_valid p line goes.0 valid goes.1 in
-    let later : IsRest (number + 1) (at_head goes.0) rest trace = subst (λ (f : FollowingData). IsRest (number + 1) f rest trace) goes.2 answer in
-    split_next p line rest trace number begun goes.0 goes.1 (line_goes p line goes.0 begun goes.1) valid_next later
-    (λ more. head_split (number + 1) goes.0 rest trace more valid_next later)
+  line_leads : (number : ℕ) (p : Progress) (line : List ℕ) (rest : List (List ℕ)) → Begun p → IsHeaded trace number p (line ∷ rest)
+      → LedOn (IsHeaded trace) number p line rest
+  line_leads number p line rest begun (inl (kind, comes, e)) = refused_text trace number kind e
+  line_leads number p line rest begun (inr (next, comes, answer)) =
+      let to = followed_head p line next begun comes in
+      (to.0, to.1, subst (λ (f : FollowingData). IsRest (number + 1) f rest trace) to.2 answer)
 
 -- ---- the trace
-of_split : (bytes : List ℕ) (trace : TaskTraceData) → Split HeaderExpected (lines_of bytes) trace → IsTaskTrace bytes trace
+of_split : (bytes : List ℕ) (trace : TaskTraceData) → Split (IsHeaded trace) HeaderExpected (lines_of bytes) → IsTaskTrace bytes trace
 of_split bytes trace split =
     let head : CourseData = split.head in
     let start = head_kept head trace split.is_head split.valid in
@@ -265,4 +214,4 @@ of_split bytes trace split =
     }
 
 pub passages_are_faithful : PassagesAreFaithful
-passages_are_faithful bytes trace is = of_split bytes trace (head_split 1 HeaderExpected (lines_of bytes) trace tt tt is)
+passages_are_faithful bytes trace is = of_split bytes trace (head_split (IsHeaded trace) (no_end trace) (line_leads trace) 1 HeaderExpected (lines_of bytes) tt tt is)
