@@ -17,7 +17,7 @@ use Rattle.certificate_laws.proofs.KeptByChanges.{kept_by_mask}
 use Rattle.certificate_laws.proofs.Ranked.{linked_is_as_urgent}
 use Rattle.live_core.specs.Live.{LiveData}
 use Rattle.live_core.specs.Optimal.{IsOptimal}
-use Rattle.live_core.specs.Slots.{is_in_use, AreFreeAbsent, GetsPriority, IsEventInUse}
+use Rattle.live_core.specs.Slots.{AreFreeAbsent, IsEventInUse}
 
 -- ---- certificates
 -- all that is proved of links follows from certificates
