@@ -11,7 +11,12 @@
  * Every other number may be wrong: a call that cannot use one answers a fault and changes nothing.
  *
  * At most 64 processors and 1,024 tasks. Of two priorities the lower number is the more urgent. No two tasks have one
- * priority: priority * 1024 + task makes equal ones distinct. Bit p of a mask is processor p. */
+ * priority: priority * 1024 + task makes equal ones distinct, and of equal ones the lower task goes first then; where tasks
+ * come and go, a count that each new one raises serves in place of task. Bit p of a mask is processor p.
+ *
+ * Tasks that come and go: apa_start_with_slots makes free slots beside the tasks. apa_admit gives one to a new task, whose
+ * number is that of the slot, and apa_retire makes it free again. There is no task of a free slot: an event of one answers
+ * APA_NO_TASK, and apa_mask answers 0. */
 #ifndef APA_H
 #define APA_H
 #include <stddef.h>
@@ -25,19 +30,22 @@ typedef struct apa apa; /* never defined: a pointer to room that the caller owns
 
 #define APA_NONE 4294967295u /* no task, no processor, no move */
 #define APA_MOST_MOVES 130   /* of one event: two chains of at most 64 processors, and a stop before each */
+#define APA_SLOT 1024u       /* apa_admit answers APA_SLOT and the number of the new task, or a fault, which is less than 16 */
 
 enum apa_answer {
     APA_DONE = 0,
-    /* 1 to 9: a fault, and nothing has changed */
+    /* 1 to 15: a fault, and nothing has changed */
     APA_NO_MEMORY = 1,     /* memory was refused */
     APA_NOT_NOW = 2,       /* the call does not come at this stage */
     APA_NO_PROCESSOR = 3,  /* no such processor, or no number of processors */
-    APA_NO_TASK = 4,       /* no such task */
+    APA_NO_TASK = 4,       /* no such task: no slot has the number, or the slot is free */
     APA_BAD_MASK = 5,      /* an empty mask, or one with a processor that there is not */
     APA_SAME_PRIORITY = 6, /* another task has the priority */
     APA_TOO_MANY = 7,      /* there are 1,024 tasks */
     APA_NO_EVENT = 8,      /* no such kind of event */
     APA_NO_NAME = 9,       /* the name under which a task is stored was refused: never seen */
+    APA_STILL_READY = 10,  /* the task is ready: it has to depart first */
+    APA_NO_SLOT = 11,      /* no slot is free */
     /* 16 to 29: an event was applied */
     APA_PLACED = 16,    /* the task runs; others may have moved */
     APA_DISPLACED = 17, /* the task runs, and a less urgent one waits now */
@@ -61,6 +69,9 @@ uint32_t apa_open(apa *, uint32_t processors);                   /* 1 to 64 */
 uint32_t apa_add_task(apa *, uint32_t priority, uint64_t mask);  /* its number is how many tasks there were */
 uint32_t apa_start(apa *);                                       /* the tasks are complete, and each is absent */
 uint32_t apa_apply(apa *, uint32_t kind, uint32_t number, uint64_t mask);
+uint32_t apa_admit(apa *, uint32_t priority, uint64_t mask);     /* APA_SLOT and the number of a new task, which is absent */
+uint32_t apa_retire(apa *, uint32_t task);                       /* an absent task goes: its slot is free */
+uint32_t apa_set_priority(apa *, uint32_t task, uint32_t priority); /* of an absent task; no link and no move changes */
 uint32_t apa_moves(apa *);                                       /* of the last event: 0 to APA_MOST_MOVES */
 uint32_t apa_move_task(apa *, uint32_t i);
 uint32_t apa_move_from(apa *, uint32_t i);                       /* APA_NONE: the task starts */
@@ -90,6 +101,20 @@ typedef struct {
 static inline apa_move apa_get_move(apa *a, uint32_t i) {
     apa_move move = {apa_move_task(a, i), apa_move_from(a, i), apa_move_to(a, i)};
     return move;
+}
+
+/* apa_start with so many free slots beside the tasks that were added, at most 1,024 in all. A free slot is a task that has
+ * retired. After a fault only apa_close may follow: some of the slots may stand among the tasks. */
+static inline uint32_t apa_start_with_slots(apa *a, uint32_t slots) {
+    uint32_t priority = 4294967295u, task = 0, answer;
+    for (uint32_t i = 0; i < slots; i++) {
+        while ((answer = apa_add_task(a, priority--, 1)) == APA_SAME_PRIORITY) continue;
+        if (answer != APA_DONE) return answer;
+    }
+    if ((answer = apa_start(a)) != APA_DONE) return answer;
+    while (apa_mask(a, task)) task++;
+    while (slots--) apa_retire(a, --task);
+    return APA_DONE;
 }
 
 /* NULL where memory is refused, or the number of processors is not 1 to 64 */

@@ -1,4 +1,4 @@
-/* Each allocation is refused in turn: apa_new, apa_add_task and apa_start answer, and no block is lost.
+/* Each allocation is refused in turn: apa_new, apa_add_task and apa_start_with_slots answer, and no block is lost.
  * It is linked with --wrap=malloc,--wrap=realloc,--wrap=free. */
 #include "../apa.h"
 
@@ -37,11 +37,12 @@ static int try_all(apa *a) {
         if (answer == APA_NO_MEMORY) return 0;
         if (answer != APA_DONE) return -1;
     }
-    uint32_t answer = apa_start(a);
+    uint32_t answer = apa_start_with_slots(a, 3);
     if (answer == APA_NO_MEMORY) return apa_arrive(a, 0) == APA_NOT_NOW ? 0 : -1;
     if (answer != APA_DONE) return -1;
     for (uint32_t t = 0; t < TASKS; t++)
         if (apa_arrive(a, t) < 16) return -1;
+    if (apa_admit(a, TASKS, 1) < APA_SLOT) return -1;
     return 1;
 }
 

@@ -1,5 +1,6 @@
-/* Many events of all kinds, some of them senseless, on 64 processors and 1,024 tasks. No memory is asked for after apa_start, the
- * moves never put two tasks on one processor, and they end where apa_on and apa_of say.
+/* Many events of all kinds, some of them senseless, on 64 processors and 1,024 tasks, which come and go and get other priorities. No
+ * memory is asked for after apa_start, the moves never put two tasks on one processor, and they end where apa_on and apa_of say. A
+ * slot in use is never given, and each fault has its cause.
  *     soak [EVENTS]
  * It is linked with --wrap=malloc,--wrap=realloc. */
 #include "../apa.h"
@@ -60,20 +61,95 @@ static const char *compare(apa *a, const uint32_t *on) {
     return NULL;
 }
 
+/* What is known of the slots: which are in use, and the priorities of the tasks in them. */
+static unsigned char in_use[TASKS];
+static uint32_t priorities[TASKS];
+
+static int is_task(uint32_t t) { return t < TASKS && in_use[t]; }
+
+/* Whether a task in use, but for this one, has the priority. */
+static int is_taken(uint32_t priority, uint32_t but) {
+    for (uint32_t t = 0; t < TASKS; t++)
+        if (t != but && in_use[t] && priorities[t] == priority) return 1;
+    return 0;
+}
+
+static int is_full(void) {
+    for (uint32_t t = 0; t < TASKS; t++)
+        if (!in_use[t]) return 0;
+    return 1;
+}
+
+/* The fault of a call that wants an absent task has its cause. */
+static const char *judge_presence(apa *a, uint32_t t, uint32_t answer) {
+    if (answer == APA_NO_TASK) return is_task(t) ? "there is such a task" : NULL;
+    if (answer == APA_STILL_READY) return is_task(t) && apa_is_ready(a, t) ? NULL : "the task is not ready";
+    return "no such fault";
+}
+
+static const char *admit(apa *a) {
+    uint32_t priority = TASKS * (uint32_t)draw(100) + (uint32_t)draw(TASKS);
+    uint64_t mask = draw(32) ? draw_range() : 0;
+    uint32_t answer = apa_admit(a, priority, mask);
+    if (answer == APA_BAD_MASK) return mask ? "the mask is not bad" : NULL;
+    if (answer == APA_SAME_PRIORITY) return is_taken(priority, APA_NONE) ? NULL : "no task has the priority";
+    if (answer == APA_NO_SLOT) return is_full() ? NULL : "a slot is free";
+    if (answer < APA_SLOT || answer >= APA_SLOT + TASKS) return "admit: another answer";
+    uint32_t t = answer - APA_SLOT;
+    if (in_use[t]) return "a slot was given twice";
+    if (!mask || is_taken(priority, APA_NONE)) return "admitted without a mask, or with the priority of another";
+    if (apa_mask(a, t) != mask || apa_is_ready(a, t)) return "another mask, or ready from the start";
+    in_use[t] = 1;
+    priorities[t] = priority;
+    return NULL;
+}
+
+static const char *retire(apa *a) {
+    uint32_t t = (uint32_t)draw(TASKS + 6), answer = apa_retire(a, t);
+    if (answer != APA_DONE) return judge_presence(a, t, answer);
+    if (!is_task(t) || apa_is_ready(a, t) || apa_mask(a, t)) return "it had to stay, or it is still there";
+    in_use[t] = 0;
+    return NULL;
+}
+
+static const char *set_priority(apa *a) {
+    uint32_t t = (uint32_t)draw(TASKS + 6), priority = TASKS * (uint32_t)draw(100) + (uint32_t)draw(TASKS);
+    uint32_t answer = apa_set_priority(a, t, priority);
+    if (answer == APA_SAME_PRIORITY) return is_taken(priority, t) ? NULL : "no other task has the priority";
+    if (answer != APA_DONE) return judge_presence(a, t, answer);
+    if (!is_task(t) || apa_is_ready(a, t) || is_taken(priority, t)) return "the priority had to stay";
+    priorities[t] = priority;
+    return NULL;
+}
+
+static const char *come_or_go(apa *a) {
+    uint64_t r = draw(3);
+    return r == 0 ? admit(a) : r == 1 ? retire(a) : set_priority(a);
+}
+
 int main(int argc, char **argv) {
     unsigned long events = argc > 1 ? strtoul(argv[1], NULL, 10) : 10000000, moves = 0, faults = 0;
     uint32_t on[PROCESSORS], most = 0;
     for (int p = 0; p < PROCESSORS; p++) on[p] = APA_NONE;
     apa *a = apa_new(PROCESSORS);
-    for (uint32_t t = 0; t < TASKS; t++)
-        if (apa_add_task(a, TASKS * (uint32_t)draw(1000) + t, draw_range())) return 2;
+    for (uint32_t t = 0; t < TASKS; t++) {
+        in_use[t] = 1;
+        priorities[t] = TASKS * (uint32_t)draw(100) + t;
+        if (apa_add_task(a, priorities[t], draw_range())) return 2;
+    }
     if (apa_start(a)) return 2;
     unsigned long before = asked;
     for (unsigned long i = 0; i < events; i++) {
         uint64_t r = draw(100);
         uint32_t kind = r < 45 ? 0 : r < 90 ? 1 : r < 95 ? 2 : r < 96 ? 3 : r < 99 ? 4 : (uint32_t)draw(300);
         uint32_t number = (uint32_t)draw(kind <= 2 ? TASKS + 6 : PROCESSORS + 2);
+        const char *fault = i % 4 == 3 ? come_or_go(a) : NULL;
         uint32_t answer = apa_apply(a, kind, number, draw(16) ? draw_range() : 0);
+        if (!fault && kind <= 2 && (answer == APA_NO_TASK) == is_task(number)) fault = "there is such a task, or there is none";
+        if (fault) {
+            printf("FAILED event %lu: %s\n", i, fault);
+            return 1;
+        }
         if (answer < 16) {
             faults++;
             continue;
@@ -81,7 +157,7 @@ int main(int argc, char **argv) {
         uint32_t count = apa_moves(a);
         moves += count;
         if (count > most) most = count;
-        const char *fault = follow(a, on);
+        fault = follow(a, on);
         if (!fault && i % 16 == 0) fault = compare(a, on);
         if (fault) {
             printf("FAILED event %lu: %s\n", i, fault);

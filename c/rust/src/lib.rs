@@ -27,6 +27,9 @@ mod raw {
         pub fn apa_add_task(apa: *mut u8, priority: u32, mask: u64) -> u32;
         pub fn apa_start(apa: *mut u8) -> u32;
         pub fn apa_apply(apa: *mut u8, kind: u32, number: u32, mask: u64) -> u32;
+        pub fn apa_admit(apa: *mut u8, priority: u32, mask: u64) -> u32;
+        pub fn apa_retire(apa: *mut u8, task: u32) -> u32;
+        pub fn apa_set_priority(apa: *mut u8, task: u32, priority: u32) -> u32;
         pub fn apa_moves(apa: *mut u8) -> u32;
         pub fn apa_move_task(apa: *mut u8, i: u32) -> u32;
         pub fn apa_move_from(apa: *mut u8, i: u32) -> u32;
@@ -55,6 +58,8 @@ pub enum Fault {
     TooMany,
     NoEvent,
     NoName,
+    StillReady,
+    NoSlot,
 }
 
 impl fmt::Display for Fault {
@@ -69,6 +74,8 @@ impl fmt::Display for Fault {
             Fault::TooMany => "there are 1,024 tasks",
             Fault::NoEvent => "there is no such kind of event",
             Fault::NoName => "the name under which the task is stored was refused",
+            Fault::StillReady => "the task is ready, and has to depart first",
+            Fault::NoSlot => "no slot is free",
         })
     }
 }
@@ -101,6 +108,9 @@ pub struct Move {
     pub to: Option<u32>,
 }
 
+/// What `apa_admit` answers more than the number of the task.
+const SLOT: u32 = 1024;
+
 /// The number that stands for no task and no processor.
 const NONE: u32 = u32::MAX;
 
@@ -118,6 +128,8 @@ fn fault(answer: u32) -> Fault {
         6 => Fault::SamePriority,
         7 => Fault::TooMany,
         8 => Fault::NoEvent,
+        10 => Fault::StillReady,
+        11 => Fault::NoSlot,
         _ => Fault::NoName,
     }
 }
@@ -215,6 +227,22 @@ impl Draft {
         done(unsafe { raw::apa_start(self.room.at()) })?;
         Ok(Scheduler { room: self.room })
     }
+
+    /// The same, with so many free slots beside the tasks, at most 1,024 in all, for tasks that come later.
+    pub fn start_with_slots(mut self, slots: u32) -> Result<Scheduler, Fault> {
+        let first = self.tasks;
+        let mut priority = u32::MAX;
+        while self.tasks - first < slots {
+            match self.add_task(priority, 1) {
+                Ok(_) | Err(Fault::SamePriority) => priority -= 1,
+                Err(fault) => return Err(fault),
+            }
+        }
+        let last = self.tasks;
+        let mut scheduler = self.start()?;
+        (first..last).try_for_each(|task| scheduler.retire(task))?;
+        Ok(scheduler)
+    }
 }
 
 /// A scheduler that takes events. No call takes memory.
@@ -246,6 +274,25 @@ impl Scheduler {
 
     pub fn online(&mut self, processor: u32) -> Result<Happened, Fault> {
         self.apply(4, processor, 0)
+    }
+
+    /// A task comes, which is absent; its number is answered. It has one of the free slots.
+    pub fn admit(&mut self, priority: u32, mask: u64) -> Result<u32, Fault> {
+        // SAFETY: the room holds an apa.
+        let answer = unsafe { raw::apa_admit(self.room.at(), priority, mask) };
+        answer.checked_sub(SLOT).ok_or_else(|| fault(answer))
+    }
+
+    /// An absent task goes. Its slot is free.
+    pub fn retire(&mut self, task: u32) -> Result<(), Fault> {
+        // SAFETY: the room holds an apa.
+        done(unsafe { raw::apa_retire(self.room.at(), task) })
+    }
+
+    /// Sets the priority of an absent task.
+    pub fn set_priority(&mut self, task: u32, priority: u32) -> Result<(), Fault> {
+        // SAFETY: the room holds an apa.
+        done(unsafe { raw::apa_set_priority(self.room.at(), task, priority) })
     }
 
     /// The moves of the last event, in their order. Whoever does them one by one never has two tasks on one processor.

@@ -43,6 +43,29 @@ fn refusals_of_a_draft() {
 }
 
 #[test]
+fn tasks_that_come_and_go() {
+    let mut draft = Draft::new(1).unwrap();
+    draft.add_task(u32::MAX, 1).unwrap();
+    let mut scheduler = draft.start_with_slots(2).unwrap();
+    assert_eq!(scheduler.arrive(1), Err(Fault::NoTask));
+    assert_eq!(scheduler.admit(u32::MAX, 1), Err(Fault::SamePriority));
+    assert_eq!(scheduler.admit(3, 2), Err(Fault::BadMask));
+    let first = scheduler.admit(3, 1).unwrap();
+    let second = scheduler.admit(4, 1).unwrap();
+    assert!((first, second) == (1, 2) || (first, second) == (2, 1));
+    assert_eq!(scheduler.admit(5, 1), Err(Fault::NoSlot));
+    assert_eq!(scheduler.arrive(first), Ok(Happened::Placed));
+    assert_eq!(scheduler.retire(first), Err(Fault::StillReady));
+    assert_eq!(scheduler.set_priority(second, 3), Err(Fault::SamePriority));
+    assert_eq!(scheduler.set_priority(second, 2), Ok(()));
+    assert_eq!(scheduler.arrive(second), Ok(Happened::Displaced));
+    assert_eq!(scheduler.depart(first), Ok(Happened::Left));
+    assert_eq!(scheduler.retire(first), Ok(()));
+    assert_eq!((scheduler.mask(first), scheduler.mask(second)), (None, Some(1)));
+    assert_eq!(Draft::new(1).unwrap().start_with_slots(1025).err(), Some(Fault::TooMany));
+}
+
+#[test]
 fn it_goes_from_thread_to_thread() {
     let mut draft = Draft::new(1).unwrap();
     draft.add_task(1, 1).unwrap();

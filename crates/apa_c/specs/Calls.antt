@@ -1,6 +1,6 @@
 -- What each call does. A call that is refused answers the number of its fault, comes only with the cause of it, and
 -- changes nothing. Any other call that is not a question does what it says.
-use Rattle.std.specs.Prelude.{◌≡◌, ℕ, ◌<◌, ◌≤◌, ◌⊎◌, Result, Ok, Err, List, [], length, slice_get, Option, Some, None, Bool, false, is_some, if◌then◌else◌}
+use Rattle.std.specs.Prelude.{◌≡◌, ◌≢◌, ℕ, ◌+◌, ◌<◌, ◌≤◌, ◌⊎◌, Result, Ok, Err, List, [], length, replicate, slice_get, Option, Some, None, Bool, true, false, is_some, if◌then◌else◌}
 use Rattle.affinity_mask.specs.ProcSet.{has}
 use Rattle.task_set.specs.TaskSet.{SetData, IsMask}
 use Rattle.task_set.specs.Refusal.{AddsTask, IsPriorityOf, new_task}
@@ -13,6 +13,8 @@ use Rattle.certificate_laws.specs.Improving.{HasNoImprovingChain}
 use Rattle.certificate_laws.specs.Laws.{LinkedIsBest, LinkedIsLargest, LinkedIsAsUrgent}
 use Rattle.live_core.specs.Live.{LiveData}
 use Rattle.live_core.specs.Moves.{Replays}
+use Rattle.live_core.specs.Optimal.{IsOptimal}
+use Rattle.live_core.specs.Slots.{is_in_use, IsEventInUse, AreAllInUse, IsInUseWith, Admits, GetsPriority, data_with_free}
 use Rattle.live_core.specs.declared.moves.Move.{Move}
 use Rattle.apa_c.specs.Stages.{nothing, number_of, answer_of, set_of, back_of, task_of, from_of, to_of}
 use Rattle.apa_c.specs.declared.table.Apa.{Apa}
@@ -84,9 +86,9 @@ Added old priority mask result new = AddedAt old.stage old priority mask result 
 abbrev pub StartedAt : Stage → Apa → ℕ → Apa → Type 0
 StartedAt Empty old result new = IsNotNow old result new
 StartedAt (Running live) old result new = IsNotNow old result new
-StartedAt (Draft set) old result new = IsShort old result new ⊎ ((result ≡ 0) × ((live : LiveData) × (new.stage ≡ Running live) × (live.links ≡ start_of set) × (live.moves ≡ [])))
+StartedAt (Draft set) old result new = IsShort old result new ⊎ ((result ≡ 0) × ((live : LiveData) × (new.stage ≡ Running live) × (live.links ≡ start_of set) × (live.moves ≡ []) × (live.in_use ≡ replicate (length set.tasks) true)))
 
--- every task is absent then
+-- every task is absent then, and its slot is in use
 abbrev pub Started : Apa → ℕ → Apa → Type 0
 Started old result new = StartedAt old.stage old result new
 
@@ -100,16 +102,16 @@ IsEventOf kind number mask (Affinity t X) = (kind ≡ 2) × (t ≡ number) × (X
 IsEventOf kind number mask (Offline p) = (kind ≡ 3) × (p ≡ number)
 IsEventOf kind number mask (Online p) = (kind ≡ 4) × (p ≡ number)
 
--- why there is no such event
-abbrev pub IsEventFault : State → ℕ → ℕ → ℕ → ℕ → Type 0
-IsEventFault s kind number mask result =
-    ((result ≡ 8) × (4 < kind)) ⊎ (((result ≡ 4) × (kind ≤ 2) × (task_count s ≤ number)) ⊎ (((result ≡ 5) × (kind ≡ 2) × IsBadMask s.processors mask)
-    ⊎ ((result ≡ 3) × (3 ≤ kind) × (kind ≤ 4) × (s.processors ≤ number))))
+-- why there is no such event; there is no task of a number where no slot has it, and where the slot is free
+abbrev pub IsEventFault : LiveData → ℕ → ℕ → ℕ → ℕ → Type 0
+IsEventFault live kind number mask result =
+    ((result ≡ 8) × (4 < kind)) ⊎ (((result ≡ 4) × (kind ≤ 2) × (is_in_use live number ≡ false)) ⊎ (((result ≡ 5) × (kind ≡ 2) × IsBadMask live.links.processors mask)
+    ⊎ ((result ≡ 3) × (3 ≤ kind) × (kind ≤ 4) × (live.links.processors ≤ number))))
 
--- an event of the links, or a fault
-abbrev pub IsEventHere : State → ℕ → ℕ → ℕ → Result Event ℕ → Type 0
-IsEventHere s kind number mask (Ok event) = IsEventFor s event × IsEventOf kind number mask event
-IsEventHere s kind number mask (Err fault) = IsEventFault s kind number mask fault
+-- an event of the links and of a task in use, or a fault
+abbrev pub IsEventHere : LiveData → ℕ → ℕ → ℕ → Result Event ℕ → Type 0
+IsEventHere live kind number mask (Ok event) = IsEventFor live.links event × IsEventInUse live event × IsEventOf kind number mask event
+IsEventHere live kind number mask (Err fault) = IsEventFault live kind number mask fault
 
 -- the scheduler's step was taken, its moves lead from the old links to the new ones, and the linked tasks are the best
 -- placeable set of the ready ones
@@ -117,6 +119,7 @@ pub record Steps (old : LiveData) (kind number mask result : ℕ) (new : LiveDat
   pub event : Event
   pub event_is : IsEventOf kind number mask event
   pub event_for : IsEventFor old.links event
+  pub event_in_use : IsEventInUse old event
   pub answer : result ≡ answer_of new.last
   pub step : SchedulerStep old.links event new.last new.links
   pub moves : Replays old.links.on new.moves new.links.on
@@ -126,16 +129,83 @@ pub record Steps (old : LiveData) (kind number mask result : ℕ) (new : LiveDat
   pub best : LinkedIsBest new.links
   pub largest : LinkedIsLargest new.links
   pub rank_by_rank : LinkedIsAsUrgent new.links
+  pub slots : new.in_use ≡ old.in_use
 
 abbrev pub AppliedAt : Stage → Apa → ℕ → ℕ → ℕ → ℕ → Apa → Type 0
 AppliedAt Empty old kind number mask result new = IsNotNow old result new
 AppliedAt (Draft set) old kind number mask result new = IsNotNow old result new
 AppliedAt (Running live) old kind number mask result new =
-    ((new ≡ old) × IsEventFault live.links kind number mask result) ⊎ ((after : LiveData) × (new.stage ≡ Running after) × Steps live kind number mask result after)
+    ((new ≡ old) × IsEventFault live kind number mask result) ⊎ ((after : LiveData) × (new.stage ≡ Running after) × Steps live kind number mask result after)
 
 -- an event was applied, or is refused
 abbrev pub Applied : Apa → ℕ → ℕ → ℕ → ℕ → Apa → Type 0
 Applied old kind number mask result new = AppliedAt old.stage old kind number mask result new
+
+-- ---- tasks that come and go
+-- why a task is not admitted
+abbrev pub IsAdmissionFault : LiveData → ℕ → ℕ → ℕ → Type 0
+IsAdmissionFault live priority mask result =
+    ((result ≡ 5) × IsBadMask live.links.processors mask) ⊎ (((result ≡ 6) × ((u : ℕ) × IsInUseWith live priority u)) ⊎ ((result ≡ 11) × AreAllInUse live.in_use))
+
+-- a task was admitted, whose number is that of a slot that was free; the answer is 1,024 more
+pub record IsAdmission (old : LiveData) (priority mask result : ℕ) (new : LiveData) : Type 0 where
+  pub task : ℕ
+  pub answer : result ≡ 1024 + task
+  pub admits : Admits old priority mask task new
+  pub lawful : IsMask old.links.processors mask
+  pub optimal : IsOptimal new.links
+
+-- the task is there then, or nothing has changed
+abbrev pub AdmitsTo : LiveData → ℕ → ℕ → ℕ → LiveData → Type 0
+AdmitsTo old priority mask result new = IsAdmission old priority mask result new ⊎ ((new ≡ old) × IsAdmissionFault old priority mask result)
+
+abbrev pub AdmittedAt : Stage → Apa → ℕ → ℕ → ℕ → Apa → Type 0
+AdmittedAt Empty old priority mask result new = IsNotNow old result new
+AdmittedAt (Draft set) old priority mask result new = IsNotNow old result new
+AdmittedAt (Running live) old priority mask result new = (after : LiveData) × (new.stage ≡ Running after) × AdmitsTo live priority mask result after
+
+-- a task comes: a free slot is in use with this priority and exactly this mask
+abbrev pub Admitted : Apa → ℕ → ℕ → ℕ → Apa → Type 0
+Admitted old priority mask result new = AdmittedAt old.stage old priority mask result new
+
+-- why a task does not retire, and does not get a priority: there is none of this number, or it is ready
+abbrev pub IsPresenceFault : LiveData → ℕ → ℕ → Type 0
+IsPresenceFault live t result = ((result ≡ 4) × (is_in_use live t ≡ false)) ⊎ ((result ≡ 10) × (is_in_use live t ≡ true) × (is_ready live.links t ≡ true))
+
+-- a task in use that is absent
+pub record IsAbsent (live : LiveData) (t : ℕ) : Type 0 where
+  pub in_use : is_in_use live t ≡ true
+  pub absent : is_ready live.links t ≡ false
+
+-- the slot of the task is free then, or nothing has changed
+abbrev pub RetiresFrom : LiveData → ℕ → ℕ → LiveData → Type 0
+RetiresFrom old t result new = ((result ≡ 0) × IsAbsent old t × (new ≡ data_with_free old t) × IsOptimal new.links) ⊎ ((new ≡ old) × IsPresenceFault old t result)
+
+abbrev pub RetiredAt : Stage → Apa → ℕ → ℕ → Apa → Type 0
+RetiredAt Empty old t result new = IsNotNow old result new
+RetiredAt (Draft set) old t result new = IsNotNow old result new
+RetiredAt (Running live) old t result new = (after : LiveData) × (new.stage ≡ Running after) × RetiresFrom live t result after
+
+-- an absent task goes
+abbrev pub Retired : Apa → ℕ → ℕ → Apa → Type 0
+Retired old t result new = RetiredAt old.stage old t result new
+
+-- why a task does not get a priority
+abbrev pub IsReorderFault : LiveData → ℕ → ℕ → ℕ → Type 0
+IsReorderFault live t priority result = IsPresenceFault live t result ⊎ ((result ≡ 6) × ((u : ℕ) × IsInUseWith live priority u × (u ≢ t)))
+
+-- the task has the priority then, or nothing has changed
+abbrev pub Reorders : LiveData → ℕ → ℕ → ℕ → LiveData → Type 0
+Reorders old t priority result new = ((result ≡ 0) × IsAbsent old t × GetsPriority old t priority new × IsOptimal new.links) ⊎ ((new ≡ old) × IsReorderFault old t priority result)
+
+abbrev pub ReorderedAt : Stage → Apa → ℕ → ℕ → ℕ → Apa → Type 0
+ReorderedAt Empty old t priority result new = IsNotNow old result new
+ReorderedAt (Draft set) old t priority result new = IsNotNow old result new
+ReorderedAt (Running live) old t priority result new = (after : LiveData) × (new.stage ≡ Running after) × Reorders live t priority result after
+
+-- an absent task gets another priority
+abbrev pub Reordered : Apa → ℕ → ℕ → ℕ → Apa → Type 0
+Reordered old t priority result new = ReorderedAt old.stage old t priority result new
 
 -- ---- closing
 abbrev pub Closed : Apa → ℕ → Apa → Type 0
@@ -169,7 +239,7 @@ ReadyAnswer old t result new = (new ≡ old) × (result ≡ (if is_ready_at (run
 -- the mask of a task; one that there is not has an empty one
 abbrev pub mask_at : Option LiveData → ℕ → ℕ
 mask_at None t = 0
-mask_at (Some live) t = mask_of live.links t
+mask_at (Some live) t = if is_in_use live t then mask_of live.links t else 0
 
 abbrev pub MaskAnswer : Apa → ℕ → ℕ → Apa → Type 0
 MaskAnswer old t result new = (new ≡ old) × (result ≡ mask_at (running_of old.stage) t)

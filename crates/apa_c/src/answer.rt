@@ -17,7 +17,7 @@ pub const NOT_NOW: u32 = 2;
 /// There is no such processor, or a number of processors that cannot be.
 pub const NO_PROCESSOR: u32 = 3;
 
-/// There is no such task.
+/// There is no such task: no slot has the number, or the slot is free.
 pub const NO_TASK: u32 = 4;
 
 /// A mask is empty, or has a processor that there is not.
@@ -34,6 +34,15 @@ pub const NO_EVENT: u32 = 8;
 
 /// The name that the task is stored under was refused.
 pub const NO_NAME: u32 = 9;
+
+/// The task is ready, and has to depart first.
+pub const STILL_READY: u32 = 10;
+
+/// No slot is free.
+pub const NO_SLOT: u32 = 11;
+
+/// An admission is answered by so much more than the number of the task, which tells it from a fault.
+pub const FIRST_SLOT: u32 = 1024;
 
 /// No task, no processor, or no move.
 pub const NOTHING: u32 = 4294967295;

@@ -10,7 +10,7 @@ mod table;
 
 ghost use Rattle.std.specs.Borrow.{sem};
 ghost use Rattle.apa_c.specs.Handle.{apa_at, apa_after, apa_room};
-ghost use Rattle.apa_c.specs.Calls.{Made, Opened, Added, Started, Applied, Closed, OnAnswer, OfAnswer, ReadyAnswer, MaskAnswer, OccupiedAnswer, OnLineAnswer, CountAnswer, TaskAnswer, FromAnswer, ToAnswer, SetAnswer, BackAnswer};
+ghost use Rattle.apa_c.specs.Calls.{Made, Opened, Added, Started, Applied, Admitted, Retired, Reordered, Closed, OnAnswer, OfAnswer, ReadyAnswer, MaskAnswer, OccupiedAnswer, OnLineAnswer, CountAnswer, TaskAnswer, FromAnswer, ToAnswer, SetAnswer, BackAnswer};
 
 use std::alloc::Global;
 use table::Apa;
@@ -73,6 +73,37 @@ pub unsafe extern "C" fn apa_apply(at: *mut u8, kind: u32, number: u32, mask: u6
     ensures* { sem 𝓛 (apa_after at (Applied value kind number mask result)) }
 {
     table::apply(&mut *(at as *mut Apa), kind, number, mask)
+}
+
+/// A task comes, which is absent: a free slot is in use, with this priority and this mask. The answer is 1,024 more than its
+/// number, or a fault.
+#[unsafe(no_mangle)]
+pub unsafe extern "C" fn apa_admit(at: *mut u8, priority: u32, mask: u64) -> u32
+    ghost value: { Apa }
+    requires* { sem 𝓛 (apa_at at value) }
+    ensures* { sem 𝓛 (apa_after at (Admitted value priority mask result)) }
+{
+    table::admit(&mut *(at as *mut Apa), priority, mask)
+}
+
+/// An absent task goes, and its slot is free.
+#[unsafe(no_mangle)]
+pub unsafe extern "C" fn apa_retire(at: *mut u8, task: u32) -> u32
+    ghost value: { Apa }
+    requires* { sem 𝓛 (apa_at at value) }
+    ensures* { sem 𝓛 (apa_after at (Retired value task result)) }
+{
+    table::retire(&mut *(at as *mut Apa), task)
+}
+
+/// An absent task gets another priority, which no other task has.
+#[unsafe(no_mangle)]
+pub unsafe extern "C" fn apa_set_priority(at: *mut u8, task: u32, priority: u32) -> u32
+    ghost value: { Apa }
+    requires* { sem 𝓛 (apa_at at value) }
+    ensures* { sem 𝓛 (apa_after at (Reordered value task priority result)) }
+{
+    table::set_priority(&mut *(at as *mut Apa), task, priority)
 }
 
 /// Gives all memory back. `apa_open` may follow.

@@ -1,14 +1,15 @@
 //! What lies behind the pointer.
 ghost use Rattle.std.specs.Prelude.{◌≡◌, ℕ, ◌<◌, ◌≤◌, MatchOption, slice_get};
 ghost use Rattle.task_set.specs.TaskSet.{IsMask};
-ghost use Rattle.apa_c.specs.Calls.{Opened, Added, AddsTo, Started, Applied, IsEventHere, IsBadMask, Closed, OnAnswer, OfAnswer, ReadyAnswer, MaskAnswer, OccupiedAnswer, OnLineAnswer, CountAnswer, TaskAnswer, FromAnswer, ToAnswer, SetAnswer, BackAnswer, moves_of, running_of};
+ghost use Rattle.apa_c.specs.Calls.{Opened, Added, AddsTo, Started, Applied, IsEventHere, IsBadMask, Admitted, AdmitsTo, Retired, RetiresFrom, Reordered, Reorders, IsAbsent, IsPresenceFault, Closed, OnAnswer, OfAnswer, ReadyAnswer, MaskAnswer, OccupiedAnswer, OnLineAnswer, CountAnswer, TaskAnswer, FromAnswer, ToAnswer, SetAnswer, BackAnswer, moves_of, running_of};
 
 use crate::answer::{
-    BAD_MASK, DONE, NO_EVENT, NO_MEMORY, NO_NAME, NO_PROCESSOR, NO_TASK, NOT_NOW, NOTHING,
-    SAME_PRIORITY, TOO_MANY, answer_of, back_of, from_of, set_of, task_of, to_of,
+    BAD_MASK, DONE, FIRST_SLOT, NO_EVENT, NO_MEMORY, NO_NAME, NO_PROCESSOR, NO_SLOT, NO_TASK,
+    NOT_NOW, NOTHING, SAME_PRIORITY, STILL_READY, TOO_MANY, answer_of, back_of, from_of, set_of,
+    task_of, to_of,
 };
 use affinity_mask::ProcSet;
-use live_core::{LiveCore, Move};
+use live_core::{LiveCore, Move, SlotFault};
 use std::alloc::Global;
 use task_set::{Event, TaskFault, TaskSet};
 
@@ -123,6 +124,87 @@ pub fn apply(apa: &mut Apa, kind: u32, number: u32, mask: u64) -> u32
     }
 }
 
+/// A task comes, in a free slot.
+pub fn admit(apa: &mut Apa, priority: u32, mask: u64) -> u32
+    ensures { Admitted apa.old priority mask result apa.new }
+{
+    let Stage::Running(live) = &mut apa.stage else {
+        return NOT_NOW;
+    };
+    admit_to(live, priority, mask)
+}
+
+/// A task comes, or a fault.
+fn admit_to(live: &mut LiveCore, priority: u32, mask: u64) -> u32
+    ensures { AdmitsTo live.old priority mask result live.new }
+{
+    let Some(mask) = mask_of(live.links().processors(), mask) else {
+        return BAD_MASK;
+    };
+    match live.admit(priority, mask) {
+        Ok(t) => FIRST_SLOT + t,
+        Err(SlotFault::NoSlot) => NO_SLOT,
+        Err(SlotFault::SamePriority(_)) => SAME_PRIORITY,
+    }
+}
+
+/// An absent task goes, and its slot is free.
+pub fn retire(apa: &mut Apa, t: u32) -> u32
+    ensures { Retired apa.old t result apa.new }
+{
+    let Stage::Running(live) = &mut apa.stage else {
+        return NOT_NOW;
+    };
+    retire_from(live, t)
+}
+
+/// An absent task goes, or a fault.
+fn retire_from(live: &mut LiveCore, t: u32) -> u32
+    ensures { RetiresFrom live.old t result live.new }
+{
+    if let Some(fault) = presence_fault(live, t) {
+        return fault;
+    }
+    live.retire(t);
+    DONE
+}
+
+/// An absent task gets another priority.
+pub fn set_priority(apa: &mut Apa, t: u32, priority: u32) -> u32
+    ensures { Reordered apa.old t priority result apa.new }
+{
+    let Stage::Running(live) = &mut apa.stage else {
+        return NOT_NOW;
+    };
+    reorder(live, t, priority)
+}
+
+/// An absent task gets another priority, or a fault.
+fn reorder(live: &mut LiveCore, t: u32, priority: u32) -> u32
+    ensures { Reorders live.old t priority result live.new }
+{
+    if let Some(fault) = presence_fault(live, t) {
+        return fault;
+    }
+    match live.set_priority(t, priority) {
+        Ok(()) => DONE,
+        Err(_) => SAME_PRIORITY,
+    }
+}
+
+/// Why a call of an absent task is refused, if there is no such one.
+fn presence_fault(live: &LiveCore, t: u32) -> Option<u32>
+    ensures { MatchOption result (IsAbsent live.now t) (IsPresenceFault live.now t) }
+{
+    if !live.is_in_use(t) {
+        return Some(NO_TASK);
+    }
+    if live.links().is_ready(t) {
+        return Some(STILL_READY);
+    }
+    None
+}
+
 /// Gives all memory back.
 pub fn close(apa: &mut Apa) -> u32
     ensures { Closed apa.old result apa.new }
@@ -183,7 +265,7 @@ pub fn mask(apa: &mut Apa, t: u32) -> u64
     let Stage::Running(live) = &apa.stage else {
         return 0;
     };
-    if t >= live.links().len() {
+    if !live.is_in_use(t) {
         return 0;
     }
     live.links().mask(t).bits()
@@ -281,7 +363,7 @@ pub fn back(apa: &mut Apa) -> u64
 
 /// The event of this kind, or the fault that there is none.
 fn event_of(live: &LiveCore, kind: u32, number: u32, mask: u64) -> Result<Event, u32>
-    ensures { IsEventHere live.now.links kind number mask result }
+    ensures { IsEventHere live.now kind number mask result }
 {
     if kind > 4 {
         return Err(NO_EVENT);
@@ -289,7 +371,7 @@ fn event_of(live: &LiveCore, kind: u32, number: u32, mask: u64) -> Result<Event,
     if kind > 2 {
         return processor_event(live, kind, number);
     }
-    if number >= live.links().len() {
+    if !live.is_in_use(number) {
         return Err(NO_TASK);
     }
     if kind == 0 {
@@ -307,7 +389,7 @@ fn event_of(live: &LiveCore, kind: u32, number: u32, mask: u64) -> Result<Event,
 /// The event of a processor, or the fault that there is none.
 fn processor_event(live: &LiveCore, kind: u32, number: u32) -> Result<Event, u32>
     requires { (2 < kind) × (kind ≤ 4) }
-    ensures { (mask : ℕ) → IsEventHere live.now.links kind number mask result }
+    ensures { (mask : ℕ) → IsEventHere live.now kind number mask result }
 {
     if number >= live.links().processors() as u32 {
         return Err(NO_PROCESSOR);

@@ -2,3 +2,4 @@ pub mod Replaying
 pub mod PassingOn
 pub mod ShiftPasses
 pub mod StepPasses
+pub mod ComingAndGoing

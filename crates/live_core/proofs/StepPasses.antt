@@ -1,5 +1,5 @@
 -- What each event with its reply does, as occupants that are passed on.
-use Rattle.std.proofs.Common.{◌≡◌, ℕ, ◌<◌, List, reverse, Option, Some, None, true, false, refl, sym, ap, subst, ◌∙◌, inl, inr}
+use Rattle.std.proofs.Common.{◌≡◌, ℕ, ◌<◌, List, reverse, Option, Some, None, refl, sym, ap, subst, ◌∙◌, inl, inr}
 use Rattle.std.proofs.lemmas.Bool.{false≢true}
 use Rattle.task_set.specs.TaskSet.{IsMask}
 use Rattle.task_set.specs.declared.event.Event.{Event}

@@ -3,3 +3,5 @@ pub mod LiveView
 pub mod MoveData
 pub mod MoveView
 pub mod Moves
+pub mod Optimal
+pub mod Slots

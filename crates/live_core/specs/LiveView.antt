@@ -1,17 +1,21 @@
 -- What contracts see of a scheduler without a history, and what it keeps.
 use Rattle.std.specs.Prelude.{◌≡◌, ◌≤◌, length}
-use Rattle.link_state.specs.State.{IsState}
+use Rattle.link_state.specs.State.{IsState, task_count}
 use Rattle.certificate_laws.specs.Certified.{HasCertificates}
 use Rattle.live_core.specs.Live.{LiveData}
+use Rattle.live_core.specs.Slots.{AreFreeAbsent}
 use Rattle.live_core.specs.declared.live.LiveCore.TheInside.{Inside}
 
 -- the parts that are stored
 abbrev pub live_view : Inside → LiveData
-live_view a = record { links = a.links; last = a.last; moves = a.moves.moves }
+live_view a = record { links = a.links; last = a.last; moves = a.moves.moves; in_use = a.in_use.items }
 
--- the links are a placement of ready tasks, each waiting task has a certificate, and the moves led to these links
+-- the links are a placement of ready tasks, each waiting task has a certificate, the moves led to these links, and each task
+-- has a slot, which is in use where the task is ready
 pub record IsKept (a : Inside) : Type 0 where
   pub state : IsState a.links
   pub certificates : HasCertificates a.links
   pub occupants : a.moves.occupants ≡ a.links.on
   pub few : length a.moves.moves ≤ 130
+  pub slots : length a.in_use.items ≡ task_count a.links
+  pub free_absent : AreFreeAbsent a.links a.in_use.items

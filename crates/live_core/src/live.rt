@@ -1,14 +1,19 @@
 //! The scheduler without a history.
-ghost use Rattle.std.specs.Prelude.{◌≡◌, ◌≤◌, [], IfOk, length};
-ghost use Rattle.link_state.specs.State.{IsState, start_of};
+ghost use Rattle.std.specs.Prelude.{◌≡◌, ◌≢◌, ◌<◌, ◌≤◌, [], true, false, length, replicate, IsTrue, IfOk, IfErr, OnOk, OnErr};
+ghost use Rattle.task_set.specs.TaskSet.{IsMask};
+ghost use Rattle.link_state.specs.State.{IsState, start_of, is_ready, task_count, priority_of};
+ghost use Rattle.link_table.specs.Priorities.{IsFreeFor};
 ghost use Rattle.link_state.specs.Step.{IsEventFor, SchedulerStep};
 ghost use Rattle.certificate_laws.specs.Certified.{HasCertificates};
 ghost use Rattle.certificate_laws.specs.Improving.{HasNoImprovingChain};
 ghost use Rattle.certificate_laws.specs.Laws.{LinkedIsBest, LinkedIsLargest, LinkedIsAsUrgent};
 ghost use Rattle.live_core.specs.Moves.{Replays};
+ghost use Rattle.live_core.specs.Optimal.{IsOptimal};
+ghost use Rattle.live_core.specs.Slots.{is_in_use, IsEventInUse, AreFreeAbsent, IsSlotFor, Admits, IsAdmitFault, GetsPriority, IsPriorityFault, data_with_free};
 
 use crate::moves::{Move, MoveList};
-use affinity_mask::OutOfMemory;
+use crate::slots::{SlotFault, first_free, slots_in_use};
+use affinity_mask::{OutOfMemory, ProcSet};
 use link_table::{Links, Reply};
 use std::alloc::Global;
 use std::marker::Model;
@@ -21,6 +26,9 @@ pub struct LiveCore {
     links: Links,
     last: Reply,
     moves: MoveList,
+
+    /// By task: whether its slot is in use.
+    in_use: Vec<bool>,
 }
 
 impl Model for LiveCore {
@@ -36,27 +44,31 @@ impl Model for LiveCore {
 }
 
 impl LiveCore {
-    /// Every task of the set is absent, and every processor is idle. Refused only where memory runs out.
+    /// Every task of the set is absent, and its slot is in use; every processor is idle. Refused only where memory runs out.
     pub fn new(alloc: Global, set: &TaskSet) -> Result<LiveCore, OutOfMemory>
         ensures { IfOk result (λ core. core ≡ record {
           links = start_of set.now;
           last = Reply.Ticked;
           moves = [];
+          in_use = replicate (length set.now.tasks) true;
         }) }
     {
         let processors = set.processors();
+        let in_use = slots_in_use(alloc, set.len())?;
         let links = Links::new(alloc, set)?;
         let moves = MoveList::new(alloc, processors)?;
         Ok(LiveCore {
             links,
             last: Reply::Ticked,
             moves,
+            in_use,
         })
     }
 
     /// Applies an event, for which no memory is taken. The reply and the moves stay until the next event.
     pub fn apply(&mut self, event: Event)
-        requires { IsEventFor self.old.links event }
+        requires event { IsEventFor self.old.links event }
+        requires in_use { IsEventInUse self.old event }
         ensures step { SchedulerStep self.old.links event self.new.last self.new.links }
         ensures moves { Replays self.old.links.on self.new.moves self.new.links.on }
         ensures few { length self.new.moves ≤ 130 }
@@ -66,9 +78,129 @@ impl LiveCore {
         ensures largest { LinkedIsLargest self.new.links }
         ensures rank_by_rank { LinkedIsAsUrgent self.new.links }
         ensures valid { IsState self.new.links }
+        ensures slots { self.new.in_use ≡ self.old.in_use }
     {
         self.last = reply_to(&mut self.links, &event);
         self.moves.follow(&event, &self.last);
+    }
+
+    /// Admits a task, which is absent then: a free slot is in use, with this priority and this mask. The answer is its number.
+    pub fn admit(&mut self, priority: u32, mask: ProcSet) -> Result<u32, SlotFault>
+        requires { IsMask self.old.links.processors mask }
+        ensures admitted { IfOk result (λ t. Admits self.old priority mask t self.new) }
+        ensures number { IfOk result (λ t. t < 1024) }
+        ensures same { OnErr result (self.new ≡ self.old) }
+        ensures refused { IfErr result (IsAdmitFault self.old priority) }
+        ensures optimal { IsOptimal self.new.links }
+        ensures free { AreFreeAbsent self.new.links self.new.in_use }
+    {
+        let _kept = &self.links;
+        match self.slot_for(priority) {
+            Ok(t) => {
+                self.occupy(t, priority, mask);
+                Ok(t)
+            }
+            Err(fault) => Err(fault),
+        }
+    }
+
+    /// The free slot that has the priority, else the first one, where no task in use has the priority.
+    fn slot_for(&self, priority: u32) -> Result<u32, SlotFault>
+        ensures slot { IfOk result (IsSlotFor self.now priority) }
+        ensures fault { IfErr result (IsAdmitFault self.now priority) }
+    {
+        if let Some(t) = self.links.task_with(priority) {
+            return if self.in_use[t as usize] {
+                Err(SlotFault::SamePriority(t))
+            } else {
+                Ok(t)
+            };
+        }
+        match first_free(&self.in_use) {
+            Some(t) => Ok(t),
+            None => Err(SlotFault::NoSlot),
+        }
+    }
+
+    /// A free slot is in use, with this priority and this mask.
+    fn occupy(&mut self, t: u32, priority: u32, mask: ProcSet)
+        requires slot { IsSlotFor self.old priority t }
+        requires mask { IsMask self.old.links.processors mask }
+        ensures admitted { Admits self.old priority mask t self.new }
+        ensures number { t < 1024 }
+        ensures optimal { IsOptimal self.new.links }
+        ensures free { AreFreeAbsent self.new.links self.new.in_use }
+    {
+        self.links.set_priority(t, priority);
+        self.links.set_mask(t, mask);
+        self.in_use[t as usize] = true;
+    }
+
+    /// An absent task retires: its slot is free.
+    pub fn retire(&mut self, t: u32)
+        requires in_use { is_in_use self.old t ≡ true }
+        requires absent { is_ready self.old.links t ≡ false }
+        ensures retired { self.new ≡ data_with_free self.old t }
+        ensures optimal { IsOptimal self.new.links }
+        ensures free { AreFreeAbsent self.new.links self.new.in_use }
+    {
+        self.in_use[t as usize] = false;
+    }
+
+    /// Sets the priority of an absent task. A free slot that has it gets the old one.
+    pub fn set_priority(&mut self, t: u32, priority: u32) -> Result<(), SlotFault>
+        requires in_use { is_in_use self.old t ≡ true }
+        requires absent { is_ready self.old.links t ≡ false }
+        ensures done { OnOk result (GetsPriority self.old t priority self.new) }
+        ensures same { OnErr result (self.new ≡ self.old) }
+        ensures refused { IfErr result (IsPriorityFault self.old t priority) }
+        ensures optimal { IsOptimal self.new.links }
+    {
+        if let Some(u) = self.links.task_with(priority) {
+            if u != t {
+                return self.take_priority(t, u);
+            }
+        }
+        self.write_priority(t, priority);
+        Ok(())
+    }
+
+    /// An absent task in use gets the priority of another slot, and gives it its own, if the slot is free.
+    fn take_priority(&mut self, t: u32, u: u32) -> Result<(), SlotFault>
+        requires in_use { is_in_use self.old t ≡ true }
+        requires absent { is_ready self.old.links t ≡ false }
+        requires number { u < task_count self.old.links }
+        requires other { u ≢ t }
+        ensures done { OnOk result (GetsPriority self.old t (priority_of self.old.links u) self.new) }
+        ensures same { OnErr result (self.new ≡ self.old) }
+        ensures refused { IfErr result (IsPriorityFault self.old t (priority_of self.old.links u)) }
+        ensures optimal { IsOptimal self.new.links }
+    {
+        if self.in_use[u as usize] {
+            return Err(SlotFault::SamePriority(u));
+        }
+        self.links.exchange_priorities(t, u);
+        Ok(())
+    }
+
+    /// An absent task gets a priority that no other slot has.
+    fn write_priority(&mut self, t: u32, priority: u32)
+        requires in_use { is_in_use self.old t ≡ true }
+        requires absent { is_ready self.old.links t ≡ false }
+        requires is_new { IsFreeFor self.old.links t priority }
+        ensures done { GetsPriority self.old t priority self.new }
+        ensures optimal { IsOptimal self.new.links }
+    {
+        self.links.set_priority(t, priority);
+    }
+
+    /// Whether there is a slot of this number, and it is in use.
+    pub fn is_in_use(&self, t: u32) -> bool
+        ensures value { result ≡ is_in_use self.now t }
+        ensures number { IsTrue result → t < task_count self.now.links }
+        ensures free { AreFreeAbsent self.now.links self.now.in_use }
+    {
+        (t as usize) < self.in_use.len() && self.in_use[t as usize]
     }
 
     /// The moves of the last event, in their order. There are none before the first event.

@@ -1,11 +1,15 @@
-use Rattle.std.proofs.Common.{ℕ, List, Option, refl, sym, subst}
+use Rattle.std.proofs.Common.{ℕ, List, Option, refl, sym, subst, ◌∙◌}
+use Rattle.link_state.proofs.SameTasks.{same_count, same_tasks-step}
 use Rattle.link_state.proofs.Steps.{step_keeps_state}
 use Rattle.certificate_laws.proofs.Best.{linked_is_best, linked_is_largest}
 use Rattle.certificate_laws.proofs.Improved.{no_improving_chain}
 use Rattle.certificate_laws.proofs.Kept.{step_keeps_certificates}
 use Rattle.certificate_laws.proofs.Ranked.{linked_is_as_urgent}
 use Rattle.live_core.specs.Live.{LiveData}
+use Rattle.live_core.specs.LiveView.{live_view}
 use Rattle.live_core.specs.Moves.{Replays}
+use Rattle.live_core.specs.Slots.{IsEventInUse}
+use Rattle.live_core.proofs.ComingAndGoing.{free_absent_after_step}
 use Rattle.live_core.proofs.live.LiveCore.apply.Goals as goal
 
 pub follow-requires : goal.follow-requires
@@ -47,6 +51,10 @@ invariant_of-self c =
         links = refl;
       };
       few = c.follow.ensures.few;
+      slots = c.self.invariant.slots ∙ sym (same_count c.self.inside.links reply.new.links (same_tasks-step c.self.inside.links c.args.event reply.result reply.new.links reply.ensures));
+      free_absent =
+          free_absent_after_step (live_view c.self.inside) c.args.event reply.result reply.new.links c.self.invariant.state
+          (subst (λ (d : LiveData). IsEventInUse d c.args.event) (sym c.self.view_is) c.requires.in_use) reply.ensures c.self.invariant.free_absent;
     }
 
 pub returns-clause-moves : goal.returns-clause-moves

@@ -1,6 +1,8 @@
-use Rattle.std.proofs.Common.{ℕ, Option, None, length, replicate, sym, ap, subst, ◌∙◌, arith}
-use Rattle.link_state.specs.State.{State, IsState}
-use Rattle.link_state.proofs.Start.{IsState-start}
+use Rattle.std.proofs.Common.{ℕ, List, Bool, Option, None, length, replicate, sym, ap, subst, ◌∙◌, arith}
+use Rattle.std.proofs.lemmas.List.{length-map, length-replicate}
+use Rattle.task_set.specs.TaskSet.{TaskData}
+use Rattle.link_state.specs.State.{State, IsState, task_count, is_ready}
+use Rattle.link_state.proofs.Start.{IsState-start, none_ready}
 use Rattle.certificate_laws.specs.Certified.{HasCertificates}
 use Rattle.certificate_laws.proofs.Kept.{HasCertificates-start}
 use Rattle.live_core.specs.MoveData.{MoveData}
@@ -15,4 +17,11 @@ invariant_of-result c = record {
       ∙ ap (λ (n : ℕ). replicate {A = Option ℕ} n None) c.processors-processors.ensures.value
       ∙ sym (ap (λ (s : State). s.on) c.in_ok-links.ensures);
   few = (let none = ap (λ (moves : MoveData). length moves.moves) c.in_ok-moves.ensures in omega arith);
+  slots =
+      ap (λ (in_use : List Bool). length in_use) c.in_ok-in_use.ensures
+      ∙ length-replicate _ _
+      ∙ c.len.ensures.value
+      ∙ sym (length-map c.args.set.now.tasks (λ (task : TaskData). task.priority))
+      ∙ sym (ap task_count c.in_ok-links.ensures);
+  free_absent = λ t free. ap (λ (s : State). is_ready s t) c.in_ok-links.ensures ∙ none_ready (length c.args.set.now.tasks) t;
 }
