@@ -3,12 +3,12 @@ _apa() {
     local word=${COMP_WORDS[COMP_CWORD]} command=${COMP_WORDS[1]-} files=''
     COMPREPLY=()
     if [ "$COMP_CWORD" -eq 1 ]; then
-        mapfile -t COMPREPLY < <(compgen -W 'run check weak nested jobs watch draw steps import tasks make large prove install version help' -- "$word")
+        mapfile -t COMPREPLY < <(compgen -W 'run check weak nested jobs watch draw steps chrome import tasks make large prove install version help' -- "$word")
         return
     fi
     case $COMP_CWORD:$command in
     2:run | 2:weak | 2:nested | 3:watch) files='apa' ;;
-    2:check | 2:draw | 2:steps) files='schedule' ;;
+    2:check | 2:draw | 2:steps | 2:chrome) files='schedule' ;;
     2:import) files='tasks' ;;
     3:import) files='trace' ;;
     *:tasks) mapfile -t COMPREPLY < <(cd /proc && compgen -G "${word}[0-9]*") ;;

@@ -12,7 +12,7 @@ DEFAULT = os.path.normpath(os.path.join(os.path.dirname(os.path.abspath(__file__
 STATUS_LINES = {
     0: re.compile(rb''),
     1: re.compile(rb'invalid: line (\d+), defect ([1-5])\n'),
-    2: re.compile(rb'usage: run, check, make n p t e, large n p t e, weak, nested, jobs, watch k, import, draw \[A B\], steps \[A B\]\n'),
+    2: re.compile(rb'usage: run, check, make n p t e, large n p t e, weak, nested, jobs, watch k, import, draw \[A B\], steps \[A B\], chrome\n'),
     3: re.compile(rb'input: line (\d+), kind (\d+)\n|input: more than 16777216 bytes\n'),
     4: re.compile(rb'read fault\n'),
     5: re.compile(rb'write fault\n'),
