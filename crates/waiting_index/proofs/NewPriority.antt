@@ -1,8 +1,8 @@
 -- Another priority is written at a task, and then the task moves to its place in the order.
-use Rattle.std.proofs.Common.{◌≡◌, ◌≢◌, ℕ, ◌<◌, ◌≤◌, List, length, get_or, set, map, All, Contains, refl, sym, ap, ◌∙◌, subst, inl, inr, arith, length-set, get_or-set_same, get_or-set_other}
+use Rattle.std.proofs.Common.{◌≡◌, ◌≢◌, ℕ, ◌<◌, List, length, get_or, set, refl, sym, ap, ◌∙◌, inl, inr, arith, length-set, get_or-set_same, get_or-set_other}
 use Rattle.std.specs.List.Sorted.{IsNonDecreasingBy}
-use Rattle.std.proofs.lemmas.Bool.{cases_eq, cases_lt}
-use Rattle.std.proofs.lemmas.List.{get_or_default, get_or-map, length-map, ext_get_or}
+use Rattle.std.proofs.lemmas.Bool.{cases_eq}
+use Rattle.std.proofs.lemmas.List.{get_or-map, length-map, ext_get_or}
 use Rattle.std.proofs.lemmas.List.Elements.{All-get_or, All-from_get_or}
 use Rattle.std.proofs.lemmas.List.Sorted.{length_permutation}
 use Rattle.affinity_mask.specs.ProcSet.{empty}
@@ -72,13 +72,16 @@ module _ (ps : List ℕ) (order : List Ranked) (ranks sets : List ℕ) (ok : IsR
           let not_t : task ≢ t = λ e. other (sym (ok.placed k entry within) ∙ ap rank e) in
           rw (written_there k entry other) (rw (length-set ps t priority) is.0, is.1 ∙ sym (get_or-set_other ps t task priority 0 not_t))
     ]);
-    each = λ u lt. (let known : u < length ps = omega (arith, lt, length-set ps t priority) in
-      (rank u, omega (arith, rank_fits ps order ranks sets ok u known, same_count, ok.order_count), elim (cases_eq u t) [
+    each = λ u lt. (let known : u < length ps = omega (arith, lt, length-set ps t priority) in (
+      rank u,
+      omega (arith, rank_fits ps order ranks sets ok u known, same_count, ok.order_count),
+      elim (cases_eq u t) [
         | inl e ↦ rw (e, written_here (entry_of (set ps t priority) t), get_or-set_same ps t priority 0 number) refl
         | inr other ↦
             rw (written_there (rank u) (entry_of (set ps t priority) u) (λ e. other (rank_apart ps order ranks sets ok u t known number e)), get_or-set_other ps t u priority 0 other)
             (entry_at_rank ps order ranks sets ok u (record { priority = get_or ps u 0; task = u }) known)
-      ]));
+      ],
+    ));
   }
 
   module _ (new : List Ranked) (new_ranks new_sets : List ℕ) (moved : Reordered written ranks sets new new_ranks new_sets) where

@@ -27,12 +27,7 @@ pub(crate) fn move_to_place(
 }
 
 /// The task at a rank moves later, past each task that is more urgent. Answers its rank then.
-fn move_later(
-    order: &mut [Ranked],
-    ranks: &mut [u32],
-    sets: &mut SetTree,
-    rank: usize,
-) -> usize
+fn move_later(order: &mut [Ranked], ranks: &mut [u32], sets: &mut SetTree, rank: usize) -> usize
     requires rank { rank < length order.old }
     requires inverse { IsInverse order.old ranks.old }
     requires row { length order.old ≤ length sets.old }

@@ -1,4 +1,4 @@
-use Rattle.std.proofs.Common.{◌≡◌, ℕ, ◌+◌, ◌-◌, ◌<◌, length, get_or, sym, subst, arith}
+use Rattle.std.proofs.Common.{◌≡◌, ℕ, ◌+◌, ◌-◌, ◌<◌, length, get_or, subst, arith}
 use Rattle.waiting_index.specs.Reordering.{IsNonDecreasingBut, IsMostUrgentFrom}
 use Rattle.waiting_index.proofs.Steps.{nobody, Reordered-trans, IsNonDecreasingBut-earlier, IsMostUrgentFrom-earlier, IsNonDecreasingBy-found}
 use Rattle.waiting_index.proofs.reordering.move_earlier.Goals as goal

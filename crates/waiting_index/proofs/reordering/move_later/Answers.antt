@@ -1,4 +1,4 @@
-use Rattle.std.proofs.Common.{length, arith}
+use Rattle.std.proofs.Common.{arith}
 use Rattle.waiting_index.proofs.Steps.{Reordered-trans, IsNonDecreasingBut-later, IsMostUrgentFrom-next}
 use Rattle.waiting_index.proofs.reordering.move_later.Goals as goal
 

@@ -1,5 +1,3 @@
-use Rattle.std.proofs.Common.{length, arith}
-use Rattle.std.proofs.lemmas.List.Sorted.{length_permutation}
 use Rattle.waiting_index.proofs.Steps.{Reordered-trans}
 use Rattle.waiting_index.proofs.reordering.move_to_place.Goals as goal
 

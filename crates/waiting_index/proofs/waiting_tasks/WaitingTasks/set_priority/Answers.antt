@@ -1,10 +1,10 @@
-use Rattle.std.proofs.Common.{◌≡◌, ◌<◌, length, get_or, set, sym, ap, ◌∙◌, subst, arith, length-set}
+use Rattle.std.proofs.Common.{◌<◌, length, set, sym, ap, ◌∙◌, subst, arith, length-set}
 use Rattle.std.specs.Vec.{with_item}
 use Rattle.std.proofs.lemmas.List.{with_items_is}
 use Rattle.waiting_index.specs.WaitingTasks.{Waiting}
 use Rattle.waiting_index.specs.declared.ranked.Ranked.{Ranked}
 use Rattle.waiting_index.proofs.Ranks.{rank_fits, rank_read}
-use Rattle.waiting_index.proofs.NewPriority.{written, entry, IsInverse-written, IsNonDecreasingBut-written, IsRanking-reordered, by_task_of-reordered}
+use Rattle.waiting_index.proofs.NewPriority.{IsInverse-written, IsRanking-reordered, by_task_of-reordered}
 use Rattle.waiting_index.proofs.waiting_tasks.WaitingTasks.set_priority.Goals as goal
 
 pub index_mut-requires-2 : goal.index_mut-requires-2

@@ -1,4 +1,4 @@
-use Rattle.std.proofs.Common.{rules, ◌<◌, length, sym, subst, arith, ap, ◌∙◌}
+use Rattle.std.proofs.Common.{rules, ◌<◌, length, sym, subst}
 use Rattle.std.proofs.lemmas.List.Sorted.{answers_always}
 use Rattle.waiting_index.specs.declared.ranked.Ranked.{Ranked}
 use Rattle.waiting_index.specs.WaitingTasks.{Waiting, IsNobodyWith, IsTaskWith}
