@@ -12,8 +12,8 @@ DEFAULT = os.path.normpath(os.path.join(os.path.dirname(os.path.abspath(__file__
 STATUS_LINES = {
     0: re.compile(rb''),
     1: re.compile(rb'invalid: line (\d+), defect ([1-5])\n'),
-    2: re.compile(rb'usage: run, check, make n p t e, large n p t e, weak, nested, jobs, watch k, import, draw \[A B\], steps \[A B\], chrome\n'),
-    3: re.compile(rb'input: line (\d+), kind (\d+)\n|input: more than 16777216 bytes\n'),
+    2: re.compile(rb'usage: run, check, make n p t e, large n p t e, weak, nested, jobs, watch k, import, draw \[A B\], steps \[A B\], chrome, lost\n'),
+    3: re.compile(rb'input: line (\d+), kind (\d+)\n|input: more than (?:16777216|268435456) bytes\n'),
     4: re.compile(rb'read fault\n'),
     5: re.compile(rb'write fault\n'),
     6: re.compile(rb'out of memory\n'),
@@ -21,6 +21,7 @@ STATUS_LINES = {
 
 INPUT_KINDS = range(1, 14)
 SCHEDULE_KINDS = range(21, 26)
+TRACE_KINDS = (*range(1, 9), 10, 12, *range(16, 22))
 
 
 class Hang(Exception):
@@ -124,7 +125,7 @@ def judged(words, answer):
         raise Wrong(f'{answer.line!r}, and {len(answer.output)} bytes were written')
     if answer.status in (1, 3) and said[1]:
         answer.place, answer.number = int(said[1]), int(said[2])
-        kinds = {'run': INPUT_KINDS, 'check': SCHEDULE_KINDS}.get(words[0], ())
+        kinds = {'run': INPUT_KINDS, 'check': SCHEDULE_KINDS, 'import': TRACE_KINDS, 'lost': TRACE_KINDS}.get(words[0], ())
         if answer.status == 3 and answer.number not in kinds or answer.status == 1 and words[0] != 'check':
             raise Wrong(f'{words[0]} answered {answer.line!r}')
     return answer
