@@ -4,12 +4,12 @@ use link_table::Links;
 use std::process::Abort;
 use std::test::Fail;
 
-/// A task and its new priority, and whom processor 0, processor 1 and both together get then.
-static CHANGES: [(u32, u32, [Option<u32>; 3]); 4] = [
-    (4, 5, [Some(4), Some(4), Some(4)]),
-    (1, 45, [Some(4), Some(4), Some(4)]),
-    (4, 70, [Some(2), Some(2), Some(2)]),
-    (2, 44, [Some(2), Some(3), Some(3)]),
+/// A task and its new priority, and the tasks that processor 0, processor 1 and both together get then.
+static CHANGES: [(u32, u32, [u32; 3]); 4] = [
+    (4, 5, [4, 4, 4]),
+    (1, 45, [4, 4, 4]),
+    (4, 70, [2, 2, 2]),
+    (2, 44, [2, 3, 3]),
 ];
 
 /// The most urgent tasks that wait for processor 0, for processor 1 and for one of both.
@@ -36,9 +36,10 @@ fn exchange(rt: &impl Abort, links: &mut Links, t: u32, u: u32) {
 
 /// The changes, one after the other.
 fn change_all(rt: &impl Abort, links: &mut Links) {
-    for (t, priority, first) in &CHANGES {
+    for (t, priority, [zero, one, both]) in &CHANGES {
         set_priority(rt, links, *t, *priority);
-        assert_eq!(rt; first_in(rt, links), *first, "task {t}");
+        let first = [Some(*zero), Some(*one), Some(*both)];
+        assert_eq!(rt; first_in(rt, links), first, "task {t}");
     }
 }
 
