@@ -1,5 +1,6 @@
 pub mod Appended
 pub mod Books
+pub mod InUse
 pub mod Passed
 pub mod Placed
 pub mod Rivals

@@ -1,12 +1,14 @@
 -- Rows. A row is a stretch of moments at which the same is seen. Private: the contracts of this crate's own functions.
-use Rattle.std.specs.Prelude.{◌≡◌, ℕ, ◌-◌, ◌<◌, ◌↔◌, Bool, false, List, [], ◌∷◌, ◌++◌, length, drop, reverse, replicate, get_or, slice_get, Some, IsTrue, Vec, if◌then◌else◌}
+use Rattle.std.specs.Prelude.{◌≡◌, ℕ, ◌-◌, ◌<◌, ◌↔◌, Bool, true, false, List, [], ◌∷◌, ◌++◌, length, drop, reverse, replicate, get_or, slice_get, Some, IsTrue, Vec, if◌then◌else◌}
 use Rattle.std.specs.declared.alloc.Global.{Global}
 use Rattle.task_set.specs.TaskSet.{SetData}
 use Rattle.task_set.specs.declared.event.Event.{Event}
 use Rattle.task_set.specs.declared.event.Event.TheVariants.{Arrive, Depart}
-use Rattle.link_state.specs.State.{State, IsState, HasSameTasks, HasSameMasks, start_of, is_ready, is_linked}
+use Rattle.link_state.specs.State.{State, IsState, HasSameTasks, HasSameMasks, start_of, task_count, is_ready, is_linked}
 use Rattle.link_state.specs.Placement.{TaskTest}
 use Rattle.certificate_laws.specs.Laws.{LinkedIsBest}
+use Rattle.live_core.specs.Live.{LiveData}
+use Rattle.live_core.specs.Slots.{is_in_use}
 use Rattle.trace_losses.specs.Passages.{AreSeen, seen_of, turns_of}
 use Rattle.trace_losses.specs.Runs.{holds, runs}
 use Rattle.trace_losses.specs.declared.passage.Passage.{Passage}
@@ -53,6 +55,10 @@ pub record IsPlaced (set : SetData) (is_in : TaskTest) (links : State) : Type 0 
   pub masks : HasSameMasks (start_of set) links
   pub ready : (t : ℕ) → is_ready links t ≡ is_in t
   pub best : LinkedIsBest links
+
+-- the slot of each task is in use
+abbrev pub AllInUse : LiveData → Type 0
+AllInUse core = (t : ℕ) → t < task_count core.links → is_in_use core t ≡ true
 
 -- what is seen of a task by the links, and by who runs
 abbrev pub seen_by : State → List Bool → ℕ → Seen

@@ -4,7 +4,7 @@ ghost use Rattle.task_set.specs.TaskSet.{SetData};
 ghost use Rattle.link_state.specs.State.{IsState, HasSameTasks, task_count, start_of};
 ghost use Rattle.link_state.specs.Placement.{TaskTest};
 ghost use Rattle.trace_losses.specs.Passages.{ArePassages, IsMentionOf, ready_by, ready_after, span_of};
-ghost use Rattle.trace_losses.specs.Rows.{moments_of, AreRows, AreRunning, AreRowsUpTo, IsPlaced, IsSeenBy, event_of};
+ghost use Rattle.trace_losses.specs.Rows.{moments_of, AllInUse, AreRows, AreRunning, AreRowsUpTo, IsPlaced, IsSeenBy, event_of};
 ghost use Rattle.trace_losses.specs.declared.passage.Passage.{Passage};
 
 use crate::passage::{Passage, Readiness};
@@ -51,6 +51,7 @@ fn fill(
     requires each { length running.now ≡ length passages.now }
     requires running { AreRunning passages.now (length set.now.tasks) running.now }
     requires begin { core.old.links ≡ start_of set.now }
+    requires used { AllInUse core.old }
     ensures { IfOk result (λ rows.
         AreRowsUpTo set.now passages.now (span_of passages.now) rows.items) }
 {
@@ -96,11 +97,13 @@ fn seen_by(alloc: Global, links: &Links, running: &[bool]) -> Result<Vec<Seen>, 
 
 /// The tasks of a passage become ready or absent.
 fn enter(core: &mut LiveCore, passage: Passage)
+    requires used { AllInUse core.old }
     requires first { IsMentionOf (task_count core.old.links) passage.first }
     requires second { IsMentionOf (task_count core.old.links) passage.second }
     ensures placed { (set : SetData) (earlier : List Passage)
         → IsPlaced set (ready_after earlier) core.old.links
         → IsPlaced set (ready_after (passage ∷ earlier)) core.new.links }
+    ensures used { AllInUse core.new }
 {
     follow(core, passage.first);
     follow(core, passage.second);
@@ -108,10 +111,12 @@ fn enter(core: &mut LiveCore, passage: Passage)
 
 /// The task of a mention, if there is one, becomes ready or absent.
 fn follow(core: &mut LiveCore, mention: Option<Readiness>)
-    requires { IsMentionOf (task_count core.old.links) mention }
+    requires used { AllInUse core.old }
+    requires number { IsMentionOf (task_count core.old.links) mention }
     ensures placed { (set : SetData) (before : TaskTest) → IsPlaced set before core.old.links
         → IsPlaced set (λ t. ready_by mention t (before t)) core.new.links }
     ensures tasks { HasSameTasks core.old.links core.new.links }
+    ensures used { AllInUse core.new }
 {
     if let Some(mention) = mention {
         core.apply(event_of(mention));

@@ -13,6 +13,7 @@ use Rattle.trace_losses.proofs.row.fill.Goals as goal
 
 pub loop-i-init : goal.loop-i-init
 loop-i-init c = record {
+  used = c.requires.used;
   placed = subst (IsPlaced c.args.set.now (ready_after [])) (sym c.requires.begin) (placed_at_first c.args.set.now c.len-valid.ensures.valid);
   rows = no_rows c.args.set.now c.args.passages.now c.new-rows.result.items c.requires.passages c.new-rows.ensures.items;
 }
@@ -94,6 +95,7 @@ loop-i-preserved c =
     (subst (λ (n : ℕ). AreRows n c.add.new.rows.items) long c.in_ok-add.ensures.rows) c.in_ok-add.ensures.moments (omega (arith, first, second, later)) in
     let same : i ≡ i + 1 - 1 = omega arith in
     record {
+      used = c.enter.ensures.used;
       placed = subst (λ (n : ℕ). IsPlaced c.args.set.now (ready_after (reverse (take n passages))) links) same placed;
       rows = subst (λ (n : ℕ). AreRowsUpTo c.args.set.now passages (moment_at passages n) c.add.new.rows.items) same rows;
     }
