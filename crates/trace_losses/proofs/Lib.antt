@@ -1,5 +1,12 @@
+pub mod Appended
 pub mod Books
+pub mod Passed
+pub mod Placed
+pub mod Rivals
+pub mod RowMoments
 pub mod Running
+pub mod RunningTasks
+pub mod SeenRows
 pub mod Stretches
 pub mod Tallies
 pub mod Watches

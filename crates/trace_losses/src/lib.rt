@@ -1,10 +1,15 @@
 //! What the kernel did beside the best set: for each task how many moments it was ready, ran, and was lost.
 //!
-//! A task is lost at a moment where it is in the best set and runs nowhere. A [`Tally`] goes on by stretches of equal moments, and
-//! its numbers are those of the moments one by one: how many there are of each kind, and the longest stretch of lost moments.
+//! A task is lost at a moment where it is in the best set and runs nowhere. [`losses_of`] says of each task of a trace how long it
+//! was lost, and who ran meanwhile. A [`Tally`] goes on by stretches of equal moments, and its numbers are those of the moments one
+//! by one: how many there are of each kind, and the longest stretch of lost moments.
 #![tactic(auto)]
 
+mod backward;
 mod book;
+mod loss;
+mod passage;
+mod row;
 mod runners;
 mod seen;
 mod tally;
@@ -12,6 +17,8 @@ mod turn;
 mod watch;
 
 pub use book::Book;
+pub use loss::{Loss, Losses, losses_of};
+pub use passage::{Passage, Readiness};
 pub use runners::Runners;
 pub use seen::Seen;
 pub use tally::{Stretch, Tally};

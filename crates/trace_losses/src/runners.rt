@@ -1,9 +1,12 @@
 //! Who runs where, from the last line of a trace to the first.
-ghost use Rattle.std.specs.Prelude.{◌≡◌, ℕ, ◌<◌, Bool, List, [], ◌∷◌, length, vec_len, IfOk};
-ghost use Rattle.std.specs.Option.{ForSome};
+ghost use Rattle.std.specs.Prelude.{◌≡◌, ℕ, ◌<◌, Bool, List, [], ◌∷◌, length, map, vec_len, IfOk};
+ghost use Rattle.std.specs.Option.{ForSome, is_some};
+ghost use Rattle.trace_losses.specs.Passages.{turns_of};
 ghost use Rattle.trace_losses.specs.Runs.{IsArmed, AreTasks, IsHeld, IsStopped, nobody_runs, put_at, is_some_of};
+ghost use Rattle.trace_losses.specs.declared.passage.Passage.{Passage};
 ghost use Rattle.trace_losses.specs.declared.turn.Turn.{Turn};
 
+use crate::passage::Passage;
 use crate::turn::Turn;
 use std::alloc::{AllocError, Global};
 
@@ -58,6 +61,39 @@ impl Runners {
         ensures tasks { vec_len self.new.processors ≡ vec_len self.old.processors }
     {
         self.before(turn.turned())
+    }
+
+    /// Goes on over a passage.
+    pub(crate) fn pass(&mut self, passage: Passage)
+        requires { ForSome passage.turn (AreTasks (vec_len self.old.processors)) }
+        ensures held { (earlier : List Passage)
+            → IsHeld (turns_of earlier) self.old.processors.items
+            → IsHeld (turns_of (passage ∷ earlier)) self.new.processors.items }
+        ensures tasks { vec_len self.new.processors ≡ vec_len self.old.processors }
+    {
+        if let Some(turn) = passage.turn {
+            self.after(turn);
+        }
+    }
+
+    /// Goes back over a passage.
+    pub(crate) fn pass_back(&mut self, passage: Passage)
+        requires { ForSome passage.turn (AreTasks (vec_len self.old.processors)) }
+        ensures armed { (base : ℕ → ℕ → Bool) (after : List Passage)
+            → IsArmed base (turns_of after) self.old.processors.items
+            → IsArmed base (turns_of (passage ∷ after)) self.new.processors.items }
+        ensures tasks { vec_len self.new.processors ≡ vec_len self.old.processors }
+    {
+        if let Some(turn) = passage.turn {
+            self.before(turn);
+        }
+    }
+
+    /// Of each task whether it runs.
+    pub(crate) fn running(&self, alloc: Global) -> Result<Vec<bool>, AllocError>
+        ensures { IfOk result (λ running. running.items ≡ map is_some self.now.processors.items) }
+    {
+        self.processors.iter().map(|on| on.is_some()).collect(alloc)
     }
 
     /// Puts a task, if there is one, on a processor, or on none.

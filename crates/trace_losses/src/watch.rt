@@ -110,6 +110,9 @@ fn count_all(counts: &mut Vec<u64>, units: u64, seen: &[Seen])
     requires room { (t : ℕ) (count : ℕ) → slice_get counts.old.items t ≡ Some count → count + units < 2 ^ 64 }
     ensures { AreMore counts.old.items counts.new.items seen.now units (length seen.now) }
 {
+    if units == 0 {
+        return;
+    }
     for (t, at) in seen.iter().enumerate() {
         if at.runs && !at.best {
             counts[t] += units;

@@ -1,0 +1,51 @@
+-- Who runs before the last passages.
+use Rattle.std.proofs.Common.{◌≡◌, ℕ, ◌+◌, ◌-◌, ◌<◌, Bool, false, List, ◌∷◌, length, map, drop, get_or, Option, Some, None, refl, sym, ap, ◌∙◌, subst, arith, eq-eqb, IsTrue, Vec}
+use Rattle.std.specs.Prelude.{◌↔◌}
+use Rattle.std.specs.Option.{is_some}
+use Rattle.std.specs.declared.alloc.Global.{Global}
+use Rattle.std.proofs.lemmas.Bool.{false≢true}
+use Rattle.std.proofs.lemmas.List.{drop_more, get_or-map, length-map}
+use Rattle.std.proofs.lemmas.Option.{slice_get-get_or, slice_get_read}
+use Rattle.trace_losses.specs.Passages.{turns_of}
+use Rattle.trace_losses.specs.Rows.{IsRunning, AreRunning, held_at_end}
+use Rattle.trace_losses.specs.Runs.{is_some_of, runs, IsArmed}
+use Rattle.trace_losses.specs.declared.passage.Passage.{Passage}
+
+-- a task runs somewhere where it is said on which processor it runs
+on_some : (on : Option ℕ) (F : ℕ → Bool) → ((p : ℕ) → is_some_of on p ≡ F p) → IsTrue (is_some on) ↔ ((p : ℕ) × IsTrue (F p))
+on_some None F same = (λ e. absurd (false≢true e), λ (p, runs). absurd (false≢true (same p ∙ runs)))
+on_some (Some q) F same = (λ e. (q, sym (same q) ∙ eq-eqb q q refl), λ found. refl)
+
+pub running_is : (base : ℕ → ℕ → Bool) (after : List Passage) (on : List (Option ℕ)) (running : List Bool)
+    → running ≡ map is_some on → IsArmed base (turns_of after) on → IsRunning base after (length on) running
+running_is base after on running is armed = record {
+  count = ap length is ∙ length-map on is_some;
+  each = λ t below.
+      (let o : Option ℕ = get_or on t None in
+      let there : get_or running t false ≡ is_some o = ap (λ (all : List Bool). get_or all t false) is ∙ get_or-map is_some on t None false below in
+      subst (λ (b : Bool). IsTrue b ↔ ((p : ℕ) × IsTrue (runs base (turns_of after) t p))) (sym there)
+      (on_some o (λ (p : ℕ). runs base (turns_of after) t p) (λ p. armed t o p (slice_get-get_or on t None below))));
+}
+
+-- one passage back
+pub back_one : (base : ℕ → ℕ → Bool) (passages : List Passage) (i : ℕ) (d : Passage) (on : List (Option ℕ)) → i < length passages
+    → IsArmed base (turns_of (get_or passages (length passages - 1 - i) d ∷ drop (length passages - i) passages)) on
+    → IsArmed base (turns_of (drop (length passages - (i + 1)) passages)) on
+back_one base passages i d on below armed =
+    let k : ℕ = length passages - 1 - i in
+    let here : length passages - (i + 1) ≡ k = omega arith in
+    let next : k + 1 ≡ length passages - i = omega (arith, below) in
+    let all : drop (length passages - (i + 1)) passages ≡ get_or passages k d ∷ drop (length passages - i) passages =
+    ap (λ (n : ℕ). drop n passages) here ∙ drop_more passages k d (omega (arith, below))
+    ∙ ap (λ (n : ℕ). get_or passages k d ∷ drop n passages) next in
+    subst (λ (after : List Passage). IsArmed base (turns_of after) on) (sym all) armed
+
+-- who runs before the passages from the i-th on
+pub running_there : (passages : List Passage) (tasks : ℕ) (lists : List (Vec Bool Global)) (i : ℕ) (row : Vec Bool Global)
+    → AreRunning passages tasks lists → length lists ≡ length passages → 0 < i → i < length passages
+    → row ≡ get_or lists (length passages - i) row → IsRunning (held_at_end passages) (drop i passages) tasks row.items
+running_there passages tasks lists i row are each some below is =
+    let k : ℕ = length passages - i in
+    let place : length passages - k ≡ i = omega (arith, below) in
+    subst (λ (n : ℕ). IsRunning (held_at_end passages) (drop n passages) tasks row.items) place
+    (are k row (slice_get_read lists (length passages) k row (sym each) (omega (arith, some, below)) is))

@@ -1,0 +1,17 @@
+use Rattle.std.proofs.Common.{Option, refl, sym, subst}
+use Rattle.task_set.specs.declared.event.Event.{Event}
+use Rattle.link_state.specs.Step.{SchedulerStep}
+use Rattle.trace_losses.specs.Passages.{ready_by}
+use Rattle.trace_losses.specs.Rows.{IsPlaced}
+use Rattle.trace_losses.specs.declared.passage.Readiness.{Readiness}
+use Rattle.trace_losses.proofs.Placed.{placed_by}
+use Rattle.trace_losses.proofs.row.follow.Goals as goal
+
+pub returns-in-Some-clause-placed : goal.returns-in-Some-clause-placed
+returns-in-Some-clause-placed c = λ task_set before placed.
+    (let old = c.args.core.now.links in
+    let new = c.apply.new.self.links in
+    let step = subst (λ (event : Event). SchedulerStep old event c.apply.new.self.last new) c.event_of.ensures c.apply.ensures.step in
+    subst (λ (mention : Option Readiness). IsPlaced task_set (λ t. ready_by mention t (before t)) new) (sym c.in-Some.is)
+    (placed_by c.in-Some.mention task_set before old c.apply.new.self.last new c.in-Some.mention.is_in refl step c.apply.ensures.valid c.apply.ensures.best
+    placed))

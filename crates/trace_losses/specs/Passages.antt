@@ -1,0 +1,88 @@
+-- Passages. A passage is what a used line of a trace says: at its moment a processor goes from one task to another, or a task wakes up,
+-- and then up to two tasks become ready or absent. At each moment some of the passages have come, and the others come later. Those that
+-- have come are listed from the last one to the first.
+use Rattle.std.specs.Prelude.{◌≡◌, ℕ, ◌-◌, ◌<◌, ◌≤◌, ◌↔◌, Bool, false, ◌==◌, List, [], ◌∷◌, length, map, take, drop, reverse, get_or, slice_get, Option, None, Some, IsTrue, if◌then◌else◌}
+use Rattle.std.specs.Option.{ForSome}
+use Rattle.task_set.specs.TaskSet.{SetData}
+use Rattle.link_state.specs.State.{start_of}
+use Rattle.link_state.specs.Placement.{TaskTest, IsBest}
+use Rattle.trace_losses.specs.Book.{nothing_seen}
+use Rattle.trace_losses.specs.Runs.{AreTasks, runs_between}
+use Rattle.trace_losses.specs.declared.passage.Passage.{Passage}
+use Rattle.trace_losses.specs.declared.passage.Readiness.{Readiness}
+use Rattle.trace_losses.specs.declared.seen.Seen.{Seen}
+use Rattle.trace_losses.specs.declared.turn.Turn.{Turn}
+
+-- whether a task is ready after a mention, if there is one, by whether it was before it
+abbrev pub ready_by : Option Readiness → ℕ → Bool → Bool
+ready_by None t before = before
+ready_by (Some mention) t before = if mention.task == t then mention.is_in else before
+
+-- whether a task is ready after some passages, the last one first; at first nobody is
+abbrev pub ready_after : List Passage → TaskTest
+ready_after [] t = false
+ready_after (passage ∷ earlier) t = ready_by passage.second t (ready_by passage.first t (ready_after earlier t))
+
+-- the turns with one more before them, if there is one
+abbrev pub with_turn : Option Turn → List Turn → List Turn
+with_turn None turns = turns
+with_turn (Some turn) turns = turn ∷ turns
+
+-- what some passages say of who runs where
+abbrev pub turns_of : List Passage → List Turn
+turns_of [] = []
+turns_of (passage ∷ rest) = with_turn passage.turn (turns_of rest)
+
+-- the mention, if there is one, is of one of so many tasks
+abbrev pub IsMentionOf : ℕ → Option Readiness → Type 0
+IsMentionOf tasks mention = ForSome mention (λ (m : Readiness). m.task < tasks)
+
+-- the passage is of so many tasks
+pub record IsPassageOf (tasks : ℕ) (passage : Passage) : Type 0 where
+  pub turn : ForSome passage.turn (AreTasks tasks)
+  pub first : IsMentionOf tasks passage.first
+  pub second : IsMentionOf tasks passage.second
+
+-- the passages are of so many tasks, the first one is at moment 0, and no moment is before an earlier one
+pub record ArePassages (tasks : ℕ) (passages : List Passage) : Type 0 where
+  pub each : (k : ℕ) (passage : Passage) → slice_get passages k ≡ Some passage → IsPassageOf tasks passage
+  pub begin : (passage : Passage) → slice_get passages 0 ≡ Some passage → passage.moment ≡ 0
+  pub in_order : (k l : ℕ) (one other : Passage) → k ≤ l → slice_get passages k ≡ Some one → slice_get passages l ≡ Some other
+      → one.moment ≤ other.moment
+
+-- the moment of the last passage; 0 where there is none
+abbrev pub span_of : List Passage → ℕ
+span_of passages = get_or (map (λ (passage : Passage). passage.moment) passages) (length passages - 1) 0
+
+-- the first n passages have come at the moment x, and the others come later
+pub record IsCut (passages : List Passage) (x n : ℕ) : Type 0 where
+  pub within : n ≤ length passages
+  pub come : (k : ℕ) (passage : Passage) → k < n → slice_get passages k ≡ Some passage → passage.moment ≤ x
+  pub later : (k : ℕ) (passage : Passage) → n ≤ k → slice_get passages k ≡ Some passage → x < passage.moment
+
+-- what is seen of a task, where of each one it is said
+abbrev pub seen_of : List Seen → ℕ → Seen
+seen_of seen t = get_or seen t nothing_seen
+
+-- the tasks that are seen to be in the best set
+abbrev pub best_of : List Seen → TaskTest
+best_of seen t = (seen_of seen t).best
+
+-- this is seen between passages, where those before are listed from the last one on: who is ready after them, which of these are the
+-- best set that can be placed, and who runs on some processor
+pub record IsSeenBetween (set : SetData) (earlier after : List Passage) (seen : List Seen) : Type 0 where
+  pub tasks : length seen ≡ length set.tasks
+  pub ready : (t : ℕ) → t < length set.tasks → (seen_of seen t).ready ≡ ready_after earlier t
+  pub best : IsBest (start_of set) (ready_after earlier) (best_of seen)
+  pub runs : (t : ℕ) → t < length set.tasks
+      → IsTrue (seen_of seen t).runs ↔ ((p : ℕ) × IsTrue (runs_between (turns_of earlier) (turns_of after) t p))
+
+-- this is seen at the moment x
+pub record IsSeenAt (set : SetData) (passages : List Passage) (x : ℕ) (seen : List Seen) : Type 0 where
+  pub n : ℕ
+  pub cut : IsCut passages x n
+  pub between : IsSeenBetween set (reverse (take n passages)) (drop n passages) seen
+
+-- this is seen at each of these moments
+abbrev pub AreSeen : SetData → List Passage → List (List Seen) → Type 0
+AreSeen set passages moments = (x : ℕ) (seen : List Seen) → slice_get moments x ≡ Some seen → IsSeenAt set passages x seen
