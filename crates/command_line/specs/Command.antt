@@ -6,6 +6,7 @@ use Rattle.commands.specs.Refusal.{IsAccepted, IsAnsweredInput, RefusesInput}
 use Rattle.commands.specs.declared.status.Status.{Status}
 use Rattle.commands.specs.Valid.{IsValidText}
 use Rattle.commands.specs.Check.{IsCheckOf, RefusesCheck}
+use Rattle.commands.specs.Chrome.{IsChromeOf}
 use Rattle.commands.specs.Run.{IsRunOf}
 use Rattle.commands.specs.Weak.{IsWeakOf}
 use Rattle.commands.specs.Watch.{IsWatchOf}
@@ -20,7 +21,7 @@ use Rattle.schedule_picture.specs.declared.axis.Axis.{Axis}
 use Rattle.schedule_picture.specs.declared.axis.Axis.TheVariants.{Time, Steps}
 use Rattle.schedule_picture.specs.declared.window.Window.{Window}
 use Rattle.command_line.specs.declared.words.Command.{Command}
-use Rattle.command_line.specs.declared.words.Command.TheVariants.{Run, Check, Weak, Nested, Jobs, Watch, Import, Draw, Make, Large}
+use Rattle.command_line.specs.declared.words.Command.TheVariants.{Run, Check, Weak, Nested, Jobs, Watch, Import, Draw, Chrome, Make, Large}
 
 -- ---- words
 -- a number, and then how many processors, tasks and events there are; leading zeros are no fault
@@ -78,6 +79,7 @@ IsCommand words Jobs = words ≡ codes "jobs" ∷ []
 IsCommand words (Watch observers) = IsWatch words observers
 IsCommand words Import = words ≡ codes "import" ∷ []
 IsCommand words (Draw axis window) = IsOfWhole (word_of axis) words window ⊎ IsOfPart (word_of axis) words window
+IsCommand words Chrome = words ≡ codes "chrome" ∷ []
 IsCommand words (Make sizes) = IsSized (codes "make") words sizes
 IsCommand words (Large sizes) = IsSized (codes "large") words sizes
 
@@ -91,6 +93,7 @@ IsBounded Jobs = Unit {0}
 IsBounded (Watch observers) = (1 ≤ observers) × (observers ≤ 8)
 IsBounded Import = Unit {0}
 IsBounded (Draw axis window) = Unit {0}
+IsBounded Chrome = Unit {0}
 IsBounded (Make sizes) = AreWithin sizes
 IsBounded (Large sizes) = AreWithin sizes
 
@@ -105,6 +108,7 @@ byte_limit Jobs = text_limit
 byte_limit (Watch observers) = text_limit
 byte_limit Import = trace_limit
 byte_limit (Draw axis window) = text_limit
+byte_limit Chrome = text_limit
 byte_limit (Make sizes) = text_limit
 byte_limit (Large sizes) = text_limit
 
@@ -118,6 +122,7 @@ Reads Jobs old new read = ReadsAll text_limit old new read
 Reads (Watch observers) old new read = ReadsAll text_limit old new read
 Reads Import old new read = ReadsAll trace_limit old new read
 Reads (Draw axis window) old new read = ReadsAll text_limit old new read
+Reads Chrome old new read = ReadsAll text_limit old new read
 Reads (Make sizes) old new read = (new ≡ old) × (read ≡ [])
 Reads (Large sizes) old new read = (new ≡ old) × (read ≡ [])
 
@@ -131,6 +136,7 @@ IsToRead Jobs left read = IsReported text_limit left read
 IsToRead (Watch observers) left read = IsReported text_limit left read
 IsToRead Import left read = IsReported trace_limit left read
 IsToRead (Draw axis window) left read = IsReported text_limit left read
+IsToRead Chrome left read = IsReported text_limit left read
 IsToRead (Make sizes) left read = read ≡ []
 IsToRead (Large sizes) left read = read ≡ []
 
@@ -144,6 +150,7 @@ ReadsNothing Jobs = ⊥
 ReadsNothing (Watch observers) = ⊥
 ReadsNothing Import = ⊥
 ReadsNothing (Draw axis window) = ⊥
+ReadsNothing Chrome = ⊥
 ReadsNothing (Make sizes) = Unit {0}
 ReadsNothing (Large sizes) = Unit {0}
 
@@ -158,6 +165,7 @@ Makes Jobs read put = IsJobsOf read put
 Makes (Watch observers) read put = IsWatchOf observers read put
 Makes Import read put = IsImportOf read put
 Makes (Draw axis window) read put = IsDrawingOf axis window read put
+Makes Chrome read put = IsChromeOf read put
 Makes (Make sizes) read put = IsMakeOf sizes put
 Makes (Large sizes) read put = IsLargeOf sizes put
 
@@ -171,6 +179,7 @@ Accepts Jobs bytes = AcceptsJobs bytes
 Accepts (Watch observers) bytes = IsAccepted bytes
 Accepts Import bytes = AcceptsTrace bytes
 Accepts (Draw axis window) bytes = IsValidText bytes
+Accepts Chrome bytes = IsValidText bytes
 Accepts (Make sizes) bytes = bytes ≡ []
 Accepts (Large sizes) bytes = bytes ≡ []
 
@@ -184,6 +193,7 @@ Refuses Jobs bytes status = RefusesJobs bytes status
 Refuses (Watch observers) bytes status = IsAnsweredInput (RefusesInput bytes) status
 Refuses Import bytes status = RefusesTrace bytes status
 Refuses (Draw axis window) bytes status = RefusesCheck bytes status
+Refuses Chrome bytes status = RefusesCheck bytes status
 Refuses (Make sizes) bytes status = ⊥
 Refuses (Large sizes) bytes status = ⊥
 

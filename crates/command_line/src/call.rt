@@ -13,8 +13,8 @@ ghost use Rattle.command_line.specs.Command.{IsCommand, IsBounded, byte_limit, R
 
 use crate::words::{Command, command_of};
 use commands::{
-    MAX_BYTES, MAX_TRACE_BYTES, Status, checked_text, drawn_text, imported_text, jobs_text,
-    made_text, nested_text, replayed_text, summary_of, watched_text, weak_text,
+    MAX_BYTES, MAX_TRACE_BYTES, Status, checked_text, chrome_trace, drawn_text, imported_text,
+    jobs_text, made_text, nested_text, replayed_text, summary_of, watched_text, weak_text,
 };
 use processor_seat::Gate;
 use shift_io::{ReadAllFault, Sink, Source, put_all, read_all};
@@ -31,9 +31,9 @@ use std::thread::Threads;
 /// and writes when each of their jobs ends. `watch` works as `run` does, but for the posts, which are in the order of
 /// the lines, and beside it so many observers read which processors are occupied, each on a thread of its own. It writes
 /// the schedule text, and then what they read; the gate is also called before each of their reads. `import` reads a
-/// trace of the Linux scheduler, and writes the input that it comes to. `draw` and `steps` read what `check` reads, and of
-/// a valid schedule write a picture. `make` writes the text of the input of its four numbers, and `large` replays that
-/// input as `run` does and writes a summary; neither reads the source.
+/// trace of the Linux scheduler, and writes the input that it comes to. `draw`, `steps` and `chrome` read what `check`
+/// reads, and of a valid schedule write a picture, or a trace in Chrome's format. `make` writes the text of the input of
+/// its four numbers, and `large` replays that input as `run` does and writes a summary; neither reads the source.
 pub fn run<R: Threads + Wait + Sync, S: Source, K: Sink, G: Gate + Sync>(
     rt: &R,
     alloc: Global,
@@ -142,7 +142,8 @@ fn bytes_for<S: Source>(
         | Command::Nested
         | Command::Jobs
         | Command::Watch(_)
-        | Command::Draw(_, _) => read_all(alloc, source, MAX_BYTES),
+        | Command::Draw(_, _)
+        | Command::Chrome => read_all(alloc, source, MAX_BYTES),
         Command::Import => read_all(alloc, source, MAX_TRACE_BYTES),
     }
 }
@@ -160,6 +161,7 @@ fn limit_of(command: Command) -> usize
         | Command::Jobs
         | Command::Watch(_)
         | Command::Draw(_, _)
+        | Command::Chrome
         | Command::Make(_)
         | Command::Large(_) => MAX_BYTES,
     }
@@ -186,6 +188,7 @@ fn text_made<R: Threads + Wait + Sync, G: Gate + Sync>(
         Command::Watch(observers) => watched_text(rt, alloc, bytes, observers, gate),
         Command::Import => imported_text(alloc, bytes),
         Command::Draw(axis, window) => drawn_text(alloc, bytes, axis, window),
+        Command::Chrome => chrome_trace(alloc, bytes),
         Command::Make(sizes) => {
             let text = made_text(alloc, sizes)?;
             Ok(text)

@@ -34,6 +34,8 @@ pub enum Command {
     Import,
     /// The source is a schedule text; it is checked, and a picture of this window of it is written.
     Draw(Axis, Window),
+    /// The source is a schedule text; it is checked, and a trace of it in Chrome's format is written.
+    Chrome,
     /// The text of the input of these numbers is written. Nothing is read.
     Make(Sizes),
     /// The events of the input of these numbers are replayed, and a summary of the schedule is written. Nothing is
@@ -62,6 +64,7 @@ pub fn command_of(words: &[String]) -> Option<Command>
             "import" => Some(Command::Import),
             "draw" => Some(Command::Draw(Axis::Time, WHOLE)),
             "steps" => Some(Command::Draw(Axis::Steps, WHOLE)),
+            "chrome" => Some(Command::Chrome),
             _ => None,
         },
         [word, number] => {
