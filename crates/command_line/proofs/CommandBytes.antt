@@ -14,7 +14,7 @@ use Rattle.schedule_picture.specs.declared.axis.Axis.{Axis}
 use Rattle.schedule_picture.specs.declared.axis.Axis.TheVariants.{Time, Steps}
 use Rattle.schedule_picture.specs.declared.window.Window.{Window}
 use Rattle.command_line.specs.declared.words.Command.{Command}
-use Rattle.command_line.specs.declared.words.Command.TheVariants.{Run, Check, Weak, Nested, Jobs, Watch, Import, Draw, Chrome, Make, Large}
+use Rattle.command_line.specs.declared.words.Command.TheVariants.{Run, Check, Weak, Nested, Jobs, Watch, Import, Draw, Chrome, Lost, Make, Large}
 
 -- what a command read is what it was to read
 pub read_is_expected : (command : Command) (left after : Option (List ℕ)) (read taken : List ℕ) → IsToRead command left read → Reads command left after taken → taken ≡ read
@@ -27,6 +27,7 @@ read_is_expected (Watch observers) left after read taken to_read reads = read_is
 read_is_expected Import left after read taken to_read reads = read_is_reported trace_limit left after read taken to_read reads
 read_is_expected (Draw axis window) left after read taken to_read reads = read_is_reported text_limit left after read taken to_read reads
 read_is_expected Chrome left after read taken to_read reads = read_is_reported text_limit left after read taken to_read reads
+read_is_expected Lost left after read taken to_read reads = read_is_reported trace_limit left after read taken to_read reads
 read_is_expected (Make sizes) left after read taken to_read reads = reads.1 ∙ sym to_read
 read_is_expected (Large sizes) left after read taken to_read reads = reads.1 ∙ sym to_read
 
@@ -41,6 +42,7 @@ never_too_long (Watch observers) left after read to_read reads longer = not_long
 never_too_long Import left after read to_read reads longer = not_longer trace_limit left after read to_read longer
 never_too_long (Draw axis window) left after read to_read reads longer = not_longer text_limit left after read to_read longer
 never_too_long Chrome left after read to_read reads longer = not_longer text_limit left after read to_read longer
+never_too_long Lost left after read to_read reads longer = not_longer trace_limit left after read to_read longer
 never_too_long (Make sizes) left after read to_read reads longer = reads tt
 never_too_long (Large sizes) left after read to_read reads longer = reads tt
 
@@ -74,8 +76,9 @@ command_marked first words =
     if first == mark (codes "draw") then Draw Time (window_said words) else (
     if first == mark (codes "steps") then Draw Steps (window_said words) else (
     if first == mark (codes "chrome") then Chrome else (
+    if first == mark (codes "lost") then Lost else (
     if first == mark (codes "make") then Make (sizes_said words) else (
-    if first == mark (codes "large") then Large (sizes_said words) else Run))))))))))
+    if first == mark (codes "large") then Large (sizes_said words) else Run)))))))))))
 
 -- the command that words mean, if they mean one
 command_said : List (List ℕ) → Command
@@ -117,6 +120,7 @@ said_of words (Draw Time window) (inr part) = ap command_said part.each_word ∙
 said_of words (Draw Steps window) (inl whole) = ap command_said whole.each_word ∙ ap (Draw Steps) (whole_is_said words window (codes "steps") whole)
 said_of words (Draw Steps window) (inr part) = ap command_said part.each_word ∙ ap (Draw Steps) (window_is_said part.from part.to window part.is_window (codes "steps"))
 said_of words Chrome spoken = ap command_said spoken
+said_of words Lost spoken = ap command_said spoken
 said_of words (Make sizes) spoken = ap command_said spoken.each_word ∙ ap Make (sizes_are_said spoken.number spoken.processors spoken.tasks spoken.events sizes spoken.sized (codes "make"))
 said_of words (Large sizes) spoken = ap command_said spoken.each_word ∙ ap Large (sizes_are_said spoken.number spoken.processors spoken.tasks spoken.events sizes spoken.sized (codes "large"))
 
@@ -161,6 +165,7 @@ command_within words (Watch observers) spoken = (spoken.is_number.1, spoken.is_n
 command_within words Import spoken = tt
 command_within words (Draw axis window) spoken = tt
 command_within words Chrome spoken = tt
+command_within words Lost spoken = tt
 command_within words (Make sizes) spoken = sized_within _ words sizes spoken
 command_within words (Large sizes) spoken = sized_within _ words sizes spoken
 
@@ -185,6 +190,7 @@ unsized_words words first number processors tasks events five none Import spoken
 unsized_words words first number processors tasks events five none (Draw axis window) (inl whole) = let same = sym five ∙ whole.each_word in cc
 unsized_words words first number processors tasks events five none (Draw axis window) (inr part) = let same = sym five ∙ part.each_word in cc
 unsized_words words first number processors tasks events five none Chrome spoken = let same = sym five ∙ spoken in cc
+unsized_words words first number processors tasks events five none Lost spoken = let same = sym five ∙ spoken in cc
 unsized_words words first number processors tasks events five none (Make sizes) spoken = no_sizes _ words number processors tasks events first five none sizes spoken
 unsized_words words first number processors tasks events five none (Large sizes) spoken = no_sizes _ words number processors tasks events first five none sizes spoken
 
@@ -203,6 +209,7 @@ unwatched_words words first number two none Import spoken = let same = sym two �
 unwatched_words words first number two none (Draw axis window) (inl whole) = let same = sym two ∙ whole.each_word in cc
 unwatched_words words first number two none (Draw axis window) (inr part) = let same = sym two ∙ part.each_word in cc
 unwatched_words words first number two none Chrome spoken = let same = sym two ∙ spoken in cc
+unwatched_words words first number two none Lost spoken = let same = sym two ∙ spoken in cc
 unwatched_words words first number two none (Make sizes) spoken = let same = sym two ∙ spoken.each_word in cc
 unwatched_words words first number two none (Large sizes) spoken = let same = sym two ∙ spoken.each_word in cc
 
@@ -225,6 +232,7 @@ unwindowed_words words first from to three none Import spoken = let same = sym t
 unwindowed_words words first from to three none (Draw axis window) (inl whole) = let same = sym three ∙ whole.each_word in cc
 unwindowed_words words first from to three none (Draw axis window) (inr part) = no_window words axis first from to three none window part
 unwindowed_words words first from to three none Chrome spoken = let same = sym three ∙ spoken in cc
+unwindowed_words words first from to three none Lost spoken = let same = sym three ∙ spoken in cc
 unwindowed_words words first from to three none (Make sizes) spoken = let same = sym three ∙ spoken.each_word in cc
 unwindowed_words words first from to three none (Large sizes) spoken = let same = sym three ∙ spoken.each_word in cc
 

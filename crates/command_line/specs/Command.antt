@@ -14,6 +14,7 @@ use Rattle.commands.specs.NestedRun.{IsNestedOf, AcceptsNested, RefusesNested}
 use Rattle.commands.specs.JobsRun.{IsJobsOf, AcceptsJobs, RefusesJobs}
 use Rattle.commands.specs.Import.{IsImportOf, AcceptsTrace, RefusesTrace}
 use Rattle.commands.specs.Draw.{IsDrawingOf}
+use Rattle.commands.specs.Lost.{IsLossOf, AcceptsTaskTrace, RefusesTaskTrace}
 use Rattle.commands.specs.Generating.{IsMakeOf, IsLargeOf}
 use Rattle.commands.specs.Sizes.{AreWithin}
 use Rattle.commands.specs.declared.sizes.Sizes.{Sizes}
@@ -21,7 +22,7 @@ use Rattle.schedule_picture.specs.declared.axis.Axis.{Axis}
 use Rattle.schedule_picture.specs.declared.axis.Axis.TheVariants.{Time, Steps}
 use Rattle.schedule_picture.specs.declared.window.Window.{Window}
 use Rattle.command_line.specs.declared.words.Command.{Command}
-use Rattle.command_line.specs.declared.words.Command.TheVariants.{Run, Check, Weak, Nested, Jobs, Watch, Import, Draw, Chrome, Make, Large}
+use Rattle.command_line.specs.declared.words.Command.TheVariants.{Run, Check, Weak, Nested, Jobs, Watch, Import, Draw, Chrome, Lost, Make, Large}
 
 -- ---- words
 -- a number, and then how many processors, tasks and events there are; leading zeros are no fault
@@ -80,6 +81,7 @@ IsCommand words (Watch observers) = IsWatch words observers
 IsCommand words Import = words ≡ codes "import" ∷ []
 IsCommand words (Draw axis window) = IsOfWhole (word_of axis) words window ⊎ IsOfPart (word_of axis) words window
 IsCommand words Chrome = words ≡ codes "chrome" ∷ []
+IsCommand words Lost = words ≡ codes "lost" ∷ []
 IsCommand words (Make sizes) = IsSized (codes "make") words sizes
 IsCommand words (Large sizes) = IsSized (codes "large") words sizes
 
@@ -94,11 +96,12 @@ IsBounded (Watch observers) = (1 ≤ observers) × (observers ≤ 8)
 IsBounded Import = Unit {0}
 IsBounded (Draw axis window) = Unit {0}
 IsBounded Chrome = Unit {0}
+IsBounded Lost = Unit {0}
 IsBounded (Make sizes) = AreWithin sizes
 IsBounded (Large sizes) = AreWithin sizes
 
 -- ---- what is read
--- the most bytes that a command reads: `import` reads long traces
+-- the most bytes that a command reads: `import` and `lost` read long traces
 abbrev pub byte_limit : Command → ℕ
 byte_limit Run = text_limit
 byte_limit Check = text_limit
@@ -109,6 +112,7 @@ byte_limit (Watch observers) = text_limit
 byte_limit Import = trace_limit
 byte_limit (Draw axis window) = text_limit
 byte_limit Chrome = text_limit
+byte_limit Lost = trace_limit
 byte_limit (Make sizes) = text_limit
 byte_limit (Large sizes) = text_limit
 
@@ -123,6 +127,7 @@ Reads (Watch observers) old new read = ReadsAll text_limit old new read
 Reads Import old new read = ReadsAll trace_limit old new read
 Reads (Draw axis window) old new read = ReadsAll text_limit old new read
 Reads Chrome old new read = ReadsAll text_limit old new read
+Reads Lost old new read = ReadsAll trace_limit old new read
 Reads (Make sizes) old new read = (new ≡ old) × (read ≡ [])
 Reads (Large sizes) old new read = (new ≡ old) × (read ≡ [])
 
@@ -137,6 +142,7 @@ IsToRead (Watch observers) left read = IsReported text_limit left read
 IsToRead Import left read = IsReported trace_limit left read
 IsToRead (Draw axis window) left read = IsReported text_limit left read
 IsToRead Chrome left read = IsReported text_limit left read
+IsToRead Lost left read = IsReported trace_limit left read
 IsToRead (Make sizes) left read = read ≡ []
 IsToRead (Large sizes) left read = read ≡ []
 
@@ -151,6 +157,7 @@ ReadsNothing (Watch observers) = ⊥
 ReadsNothing Import = ⊥
 ReadsNothing (Draw axis window) = ⊥
 ReadsNothing Chrome = ⊥
+ReadsNothing Lost = ⊥
 ReadsNothing (Make sizes) = Unit {0}
 ReadsNothing (Large sizes) = Unit {0}
 
@@ -166,6 +173,7 @@ Makes (Watch observers) read put = IsWatchOf observers read put
 Makes Import read put = IsImportOf read put
 Makes (Draw axis window) read put = IsDrawingOf axis window read put
 Makes Chrome read put = IsChromeOf read put
+Makes Lost read put = IsLossOf read put
 Makes (Make sizes) read put = IsMakeOf sizes put
 Makes (Large sizes) read put = IsLargeOf sizes put
 
@@ -180,6 +188,7 @@ Accepts (Watch observers) bytes = IsAccepted bytes
 Accepts Import bytes = AcceptsTrace bytes
 Accepts (Draw axis window) bytes = IsValidText bytes
 Accepts Chrome bytes = IsValidText bytes
+Accepts Lost bytes = AcceptsTaskTrace bytes
 Accepts (Make sizes) bytes = bytes ≡ []
 Accepts (Large sizes) bytes = bytes ≡ []
 
@@ -194,6 +203,7 @@ Refuses (Watch observers) bytes status = IsAnsweredInput (RefusesInput bytes) st
 Refuses Import bytes status = RefusesTrace bytes status
 Refuses (Draw axis window) bytes status = RefusesCheck bytes status
 Refuses Chrome bytes status = RefusesCheck bytes status
+Refuses Lost bytes status = RefusesTaskTrace bytes status
 Refuses (Make sizes) bytes status = ⊥
 Refuses (Large sizes) bytes status = ⊥
 

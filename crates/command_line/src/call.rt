@@ -14,7 +14,8 @@ ghost use Rattle.command_line.specs.Command.{IsCommand, IsBounded, byte_limit, R
 use crate::words::{Command, command_of};
 use commands::{
     MAX_BYTES, MAX_TRACE_BYTES, Status, checked_text, chrome_trace, drawn_text, imported_text,
-    jobs_text, made_text, nested_text, replayed_text, summary_of, watched_text, weak_text,
+    jobs_text, lost_text, made_text, nested_text, replayed_text, summary_of, watched_text,
+    weak_text,
 };
 use processor_seat::Gate;
 use shift_io::{ReadAllFault, Sink, Source, put_all, read_all};
@@ -31,9 +32,10 @@ use std::thread::Threads;
 /// and writes when each of their jobs ends. `watch` works as `run` does, but for the posts, which are in the order of
 /// the lines, and beside it so many observers read which processors are occupied, each on a thread of its own. It writes
 /// the schedule text, and then what they read; the gate is also called before each of their reads. `import` reads a
-/// trace of the Linux scheduler, and writes the input that it comes to. `draw`, `steps` and `chrome` read what `check`
-/// reads, and of a valid schedule write a picture, or a trace in Chrome's format. `make` writes the text of the input of
-/// its four numbers, and `large` replays that input as `run` does and writes a summary; neither reads the source.
+/// trace of the Linux scheduler, and writes the input that it comes to, and `lost` what each of its tasks lost beside the
+/// best set. `draw`, `steps` and `chrome` read what `check` reads, and of a valid schedule write a picture, or a trace in
+/// Chrome's format. `make` writes the text of the input of its four numbers, and `large` replays that input as `run` does
+/// and writes a summary; neither reads the source.
 pub fn run<R: Threads + Wait + Sync, S: Source, K: Sink, G: Gate + Sync>(
     rt: &R,
     alloc: Global,
@@ -144,7 +146,7 @@ fn bytes_for<S: Source>(
         | Command::Watch(_)
         | Command::Draw(_, _)
         | Command::Chrome => read_all(alloc, source, MAX_BYTES),
-        Command::Import => read_all(alloc, source, MAX_TRACE_BYTES),
+        Command::Import | Command::Lost => read_all(alloc, source, MAX_TRACE_BYTES),
     }
 }
 
@@ -153,7 +155,7 @@ fn limit_of(command: Command) -> usize
     ensures { result ≡ byte_limit command }
 {
     match command {
-        Command::Import => MAX_TRACE_BYTES,
+        Command::Import | Command::Lost => MAX_TRACE_BYTES,
         Command::Run
         | Command::Check
         | Command::Weak
@@ -189,6 +191,7 @@ fn text_made<R: Threads + Wait + Sync, G: Gate + Sync>(
         Command::Import => imported_text(alloc, bytes),
         Command::Draw(axis, window) => drawn_text(alloc, bytes, axis, window),
         Command::Chrome => chrome_trace(alloc, bytes),
+        Command::Lost => lost_text(alloc, bytes),
         Command::Make(sizes) => {
             let text = made_text(alloc, sizes)?;
             Ok(text)

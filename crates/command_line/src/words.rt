@@ -36,6 +36,8 @@ pub enum Command {
     Draw(Axis, Window),
     /// The source is a schedule text; it is checked, and a trace of it in Chrome's format is written.
     Chrome,
+    /// The source is a trace of the Linux scheduler, and what each of its tasks lost is written.
+    Lost,
     /// The text of the input of these numbers is written. Nothing is read.
     Make(Sizes),
     /// The events of the input of these numbers are replayed, and a summary of the schedule is written. Nothing is
@@ -65,6 +67,7 @@ pub fn command_of(words: &[String]) -> Option<Command>
             "draw" => Some(Command::Draw(Axis::Time, WHOLE)),
             "steps" => Some(Command::Draw(Axis::Steps, WHOLE)),
             "chrome" => Some(Command::Chrome),
+            "lost" => Some(Command::Lost),
             _ => None,
         },
         [word, number] => {

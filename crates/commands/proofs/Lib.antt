@@ -7,6 +7,7 @@ pub mod InputNumbers
 pub mod JobsOneText
 pub mod JobsRefusals
 pub mod LegalSchedules
+pub mod LossRows
 pub mod MadeTexts
 pub mod NestedAnswers
 pub mod OneVerdict
@@ -16,6 +17,7 @@ pub mod Refusals
 pub mod RunIsValid
 pub mod RunsOneText
 pub mod Snapshots
+pub mod TracePassages
 pub mod TraceRefusals
 pub mod WeakOneText
 pub mod Written

@@ -25,15 +25,15 @@ pub record IsImportOf (read put : List ℕ) : Type 0 where
 abbrev pub AcceptsTrace : List ℕ → Type 0
 AcceptsTrace bytes = (input : InputData) × IsTraceText bytes input
 
--- the bytes are refused at this line, with a kind of this number
-pub record RefusesTraceText (bytes : List ℕ) (line kind : ℕ) : Type 0 where
+-- a text is refused at this line, with a kind of this number
+pub record RefusesTraceText (IsRefused : ℕ → TraceKind → Type 0) (line kind : ℕ) : Type 0 where
   pub cause : TraceKind
-  pub refused : IsTraceRefused bytes line cause
+  pub refused : IsRefused line cause
   pub number : kind_number cause ≡ Some kind
 
 -- the bytes are refused with this status
 abbrev pub RefusesTrace : List ℕ → Status → Type 0
-RefusesTrace bytes status = IsAnsweredInput (RefusesTraceText bytes) status
+RefusesTrace bytes status = IsAnsweredInput (RefusesTraceText (IsTraceRefused bytes)) status
 
 -- the status of a fault of the text
 abbrev pub status_of_trace_fault : TraceFault → Status

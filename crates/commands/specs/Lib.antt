@@ -7,6 +7,7 @@ pub mod Generating
 pub mod Import
 pub mod JobsLaws
 pub mod JobsRun
+pub mod Lost
 pub mod NestedRun
 pub mod Reading
 pub mod Refusal

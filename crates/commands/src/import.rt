@@ -22,7 +22,7 @@ pub fn imported_text(alloc: Global, bytes: &[u8]) -> Result<Vec<u8>, Status>
 }
 
 /// The status of a fault of the text.
-fn status_of(fault: TraceFault) -> Status
+pub(crate) fn status_of(fault: TraceFault) -> Status
     ensures { result ≡ status_of_trace_fault fault }
 {
     match fault.kind.number() {

@@ -1,10 +1,13 @@
 use Rattle.std.proofs.lemmas.Result.{err_from_is_err_and}
+use Rattle.kernel_trace.specs.TraceText.{IsTraceText, IsTraceRefused}
 use Rattle.commands.proofs.Answered.{answers_memory}
 use Rattle.commands.proofs.TraceRefusals.{answers_fault}
 use Rattle.commands.proofs.import.imported_text.Goals as goal
 
 pub returns-in-Err : goal.returns-in-Err
-returns-in-Err c = rw c.status_of.ensures (answers_fault c.args.bytes.now c.in-Err.fault c.in-Err.ensures.accepts c.in-Err.ensures.refused c.in-Err.ensures.refuses)
+returns-in-Err c =
+    rw c.status_of.ensures (answers_fault (IsTraceRefused c.args.bytes.now) (IsTraceText c.args.bytes.now) c.in-Err.fault
+    c.in-Err.ensures.accepts c.in-Err.ensures.refused c.in-Err.ensures.refuses)
 
 pub returns-in_err-text : goal.returns-in_err-text
 returns-in_err-text c =
