@@ -9,7 +9,7 @@ ghost use Rattle.reach_certificate.specs.Defect.{IsDefect, IsReplyDefect};
 
 use crate::change::{follow_affinity, follow_offline, follow_online};
 use crate::defect::Defect;
-use crate::parts::{come, vacate};
+use crate::parts::{come_displaced, come_placed, come_waiting, vacate};
 use link_table::{Entry, Links, Reply};
 use task_set::Event;
 
@@ -28,13 +28,10 @@ pub fn follow_entry(links: &mut Links, saved: &mut Links, entry: &Entry) -> Opti
     match entry.event {
         Event::Arrive(t) => follow_arrival(links, t, reply),
         Event::Depart(t) => follow_departure(links, t, reply),
-        Event::Tick(_) => {
-            if *reply == Reply::Ticked {
-                None
-            } else {
-                Some(Defect::WrongReply)
-            }
-        }
+        Event::Tick(_) => match reply {
+            Reply::Ticked => None,
+            _ => Some(Defect::WrongReply),
+        },
         Event::Affinity { task, mask } => follow_affinity(links, saved, task, mask, reply),
         Event::Offline(p) => follow_offline(links, saved, p, reply),
         Event::Online(p) => follow_online(links, p, reply),
@@ -50,15 +47,17 @@ fn follow_arrival(links: &mut Links, t: u32, reply: &Reply) -> Option<Defect>
     ensures refused { IfSome result (λ d. links.new ≡ links.old) }
 {
     if links.is_ready(t) {
-        if *reply == Reply::AlreadyReady {
-            return None;
-        }
-        return Some(Defect::WrongReply);
+        return match reply {
+            Reply::AlreadyReady => None,
+            _ => Some(Defect::WrongReply),
+        };
     }
-    let Some(came) = reply.came() else {
-        return Some(Defect::WrongReply);
-    };
-    come(links, t, &came)
+    match reply {
+        Reply::Placed { chain } => come_placed(links, t, chain),
+        Reply::Displaced { chain, out, reach } => come_displaced(links, t, chain, *out, *reach),
+        Reply::Waits { reach } => come_waiting(links, t, *reach),
+        _ => Some(Defect::WrongReply),
+    }
 }
 
 /// The defect of a reply to the departure of a task.
@@ -70,15 +69,15 @@ fn follow_departure(links: &mut Links, t: u32, reply: &Reply) -> Option<Defect>
     ensures refused { IfSome result (λ d. links.new ≡ links.old) }
 {
     if !links.is_ready(t) {
-        if *reply == Reply::NotReady {
-            return None;
-        }
-        return Some(Defect::WrongReply);
+        return match reply {
+            Reply::NotReady => None,
+            _ => Some(Defect::WrongReply),
+        };
     }
     if links.is_waiting(t) {
-        if *reply != Reply::Left {
+        let Reply::Left = reply else {
             return Some(Defect::WrongReply);
-        }
+        };
         links.make_absent(t);
         return None;
     }

@@ -27,10 +27,67 @@ pub fn come(links: &mut Links, t: u32, came: &Came) -> Option<Defect>
     ensures followed { IfNone result (links.new ≡ state_after_came links.old t came.now) }
     ensures refused { IfSome result (λ d. links.new ≡ links.old) }
 {
-    if let Some(defect) = came_defect(links, t, came) {
+    match came {
+        Came::Placed { chain } => come_placed(links, t, chain),
+        Came::Displaced { chain, out, reach } => come_displaced(links, t, chain, *out, *reach),
+        Came::Waits { reach } => come_waiting(links, t, *reach),
+    }
+}
+
+/// The same where it was placed.
+pub fn come_placed(links: &mut Links, t: u32, chain: &Chain) -> Option<Defect>
+    requires number { t < task_count links.old }
+    requires absent { is_ready links.old t ≡ false }
+    ensures judged { MatchOption result (PlacedPasses links.old t chain.now)
+        (IsCameDefect links.old t (came.Placed chain.now)) }
+    ensures followed { IfNone result
+        (links.new ≡ state_after_came links.old t (came.Placed chain.now)) }
+    ensures refused { IfSome result (λ d. links.new ≡ links.old) }
+{
+    if let Some(defect) = placed_defect(links, t, chain) {
         return Some(defect);
     }
-    take_in(links, t, came);
+    enter(links, t, chain);
+    None
+}
+
+/// The same where it displaced another task.
+pub fn come_displaced(
+    links: &mut Links,
+    t: u32,
+    chain: &Chain,
+    out: u32,
+    reach: ProcSet,
+) -> Option<Defect>
+    requires number { t < task_count links.old }
+    requires absent { is_ready links.old t ≡ false }
+    ensures judged { MatchOption result (DisplacedPasses links.old t chain.now out reach)
+        (IsCameDefect links.old t (came.Displaced chain.now out reach)) }
+    ensures followed { IfNone result
+        (links.new ≡ state_after_came links.old t (came.Displaced chain.now out reach)) }
+    ensures refused { IfSome result (λ d. links.new ≡ links.old) }
+{
+    if let Some(defect) = displaced_defect(links, t, chain, out, reach) {
+        return Some(defect);
+    }
+    enter(links, t, chain);
+    None
+}
+
+/// The same where it waits.
+pub fn come_waiting(links: &mut Links, t: u32, reach: ProcSet) -> Option<Defect>
+    requires number { t < task_count links.old }
+    requires absent { is_ready links.old t ≡ false }
+    ensures judged { MatchOption result (IsCertificate links.old t reach)
+        (IsCameDefect links.old t (came.Waits reach)) }
+    ensures followed { IfNone result
+        (links.new ≡ state_after_came links.old t (came.Waits reach)) }
+    ensures refused { IfSome result (λ d. links.new ≡ links.old) }
+{
+    if let Some(defect) = waits_defect(links, t, reach) {
+        return Some(defect);
+    }
+    links.make_ready(t);
     None
 }
 
@@ -54,20 +111,7 @@ pub fn vacate(links: &mut Links, t: u32, gone: &Gone) -> Option<Defect>
     None
 }
 
-/// The first part that fails of what an absent task came to.
-fn came_defect(links: &Links, t: u32, came: &Came) -> Option<Defect>
-    requires { t < task_count links.now }
-    ensures { MatchOption result (CamePasses links.now t came.now)
-        (IsCameDefect links.now t came.now) }
-{
-    match came {
-        Came::Placed { chain } => placed_defect(links, t, chain),
-        Came::Displaced { chain, out, reach } => displaced_defect(links, t, chain, *out, *reach),
-        Came::Waits { reach } => waits_defect(links, t, *reach),
-    }
-}
-
-/// The same where it was placed.
+/// The first part that fails of what an absent task came to, where it was placed.
 fn placed_defect(links: &Links, t: u32, chain: &Chain) -> Option<Defect>
     requires { t < task_count links.now }
     ensures { MatchOption result (PlacedPasses links.now t chain.now)
@@ -150,20 +194,6 @@ pub fn gone_defect(links: &Links, p: u8, gone: &Gone) -> Option<Defect>
         return Some(Defect::WrongTask(task));
     }
     None
-}
-
-/// What an absent task came to, where that passes, happens to the links.
-fn take_in(links: &mut Links, t: u32, came: &Came)
-    requires number { t < task_count links.old }
-    requires absent { is_ready links.old t ≡ false }
-    requires passes { CamePasses links.old t came.now }
-    ensures { links.new ≡ state_after_came links.old t came.now }
-{
-    match came {
-        Came::Placed { chain } => enter(links, t, chain),
-        Came::Displaced { chain, .. } => enter(links, t, chain),
-        Came::Waits { .. } => links.make_ready(t),
-    }
 }
 
 /// An absent task becomes ready, and is shifted along one of its chains.

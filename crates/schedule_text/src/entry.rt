@@ -19,7 +19,7 @@ use crate::reply::read_reply;
 use scheduler_reply::Entry;
 use task_set::{Event, TaskSet};
 use text_fields::limits::{LAST_VERSION, MAX_STREAM, MAX_UNITS};
-use text_fields::{EventWord, event_word, is_word_of};
+use text_fields::{EventWord, event_word, is_word, is_word_of};
 
 /// How many fields an event has that sets a mask.
 const AFFINITY_FIELDS: usize = 3;
@@ -68,7 +68,7 @@ pub fn add_entry(
     }
 }
 
-/// The fields of an event, and those after it.
+/// The fields of an event, and those after it. Its word is compared with the one that counts, since most are another.
 fn event_then<'f, 'a>(fields: &'f [&'a [u8]]) -> Option<(&'f [&'a [u8]], &'f [&'a [u8]])>
     ensures { MatchOption result
         ((event reply : List (List ℕ)) → IsEventThen (texts fields.now) event reply → ⊥)
@@ -77,7 +77,7 @@ fn event_then<'f, 'a>(fields: &'f [&'a [u8]]) -> Option<(&'f [&'a [u8]], &'f [&'
     let [word, ..] = fields else {
         return None;
     };
-    let count = if is_word_of(word, EventWord::Affinity) {
+    let count = if is_word(word, "affinity") {
         AFFINITY_FIELDS
     } else {
         EVENT_FIELDS

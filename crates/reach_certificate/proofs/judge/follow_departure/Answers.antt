@@ -13,6 +13,6 @@ absent_alone s ok t reply absent other (inl again) = other again.1
 absent_alone s ok t reply absent other (inr (inl waiting)) = true≢false (sym waiting.0.ready ∙ absent)
 absent_alone s ok t reply absent other (inr (inr linked)) = true≢false (sym (ok.linked_ready (place_in t s.on) t (task_on-linked s t linked.0)) ∙ absent)
 
-pub returns-then-not-is_ready-clause-judged : goal.returns-then-not-is_ready-clause-judged
-returns-then-not-is_ready-clause-judged c =
+pub returns-in_default-clause-judged : goal.returns-in_default-clause-judged
+returns-in_default-clause-judged c =
     inl (refl, absent_alone c.args.links.now c.is_ready.ensures.valid c.args.t c.args.reply.now (sym c.is_ready.ensures.value ∙ c.if-not-is_ready.true) (λ e. search rules))

@@ -3,9 +3,9 @@ use Rattle.std.proofs.lemmas.Bool.{true≢false}
 use Rattle.schedule_text.proofs.Fields.{list_refused, list_differs, list_read}
 use Rattle.schedule_text.proofs.field.list_of.Goals as goal
 
-pub returns-in_default-clause-refused : goal.returns-in_default-clause-refused
-returns-in_default-clause-refused c =
-    (refl, list_refused c.args.field.now c.in_default.field-0 c.in_default.ensures.refused)
+pub returns-in_default-read_list-clause-refused : goal.returns-in_default-read_list-clause-refused
+returns-in_default-read_list-clause-refused c =
+    (refl, list_refused c.args.field.now c.in_default-read_list.field-0 c.in_default-read_list.ensures.refused)
 
 pub returns-then-is_list-clause-read : goal.returns-then-is_list-clause-read
 returns-then-is_list-clause-read c =
