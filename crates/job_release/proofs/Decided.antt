@@ -1,11 +1,12 @@
 -- Each line comes to an outcome, and so each text is that of an input or is refused.
-use Rattle.std.proofs.Common.{◌≡◌, ℕ, ◌≤◌, ◌⊎◌, true, List, [], ◌∷◌, codes, refl, sym, ap, subst, inl, inr, arith}
-use Rattle.std.proofs.lemmas.Bool.{cases_lt}
+use Rattle.std.proofs.Common.{◌≡◌, ◌≢◌, ℕ, ◌-◌, ◌<◌, ◌≤◌, ◌⊎◌, true, List, [], ◌∷◌, codes, Option, Some, None, refl, sym, ap, subst, inl, inr, arith}
+use Rattle.std.proofs.lemmas.Bool.{cases_eq, cases_lt}
 use Rattle.affinity_mask.proofs.TextCases.{text_list_or_fault}
-use Rattle.task_set.specs.TaskSet.{IsTaskSet}
-use Rattle.task_set.specs.Refusal.{new_task}
+use Rattle.task_set.specs.TaskSet.{SetData, IsTaskSet}
+use Rattle.task_set.specs.Refusal.{new_task, IsNameOf}
 use Rattle.text_fields.specs.Number.{IsNumberWithin}
-use Rattle.text_fields.proofs.Addable.{can_add_decided}
+use Rattle.text_fields.proofs.Addable.{can_add_decided, name_decided}
+use Rattle.text_fields.proofs.NamedTasks.{same_name, name_not_new}
 use Rattle.text_fields.proofs.Decisions.{bytes_decided, number_within_decided}
 use Rattle.line_machine.specs.Choice.{IsDecided}
 use Rattle.line_machine.proofs.Choices.{only, choice, reading, judging, allowing}
@@ -16,14 +17,15 @@ use Rattle.line_machine.proofs.LineRule.{lines_machine}
 use Rattle.job_release.specs.JobFault.{job_kind}
 use Rattle.line_machine.specs.Machine.{Outcome, Leads, Fails, IsMachine}
 use Rattle.line_machine.proofs.TextLaws.{one_value, ends_valid}
-use Rattle.job_release.specs.JobInput.{JobInputData, IsJobInput}
-use Rattle.job_release.specs.JobText.{IsWorded, TaskLine, AreTimes, IsTaskForm, end_line, Progress, HeaderExpected, ProcessorsExpected, HorizonExpected, Listed, Ended, without_tasks, IsCountOutcome, IsAddOutcome, IsTaskOutcome, IsListedOutcome, IsWordedOutcome, IsOutcome, IsEndOutcome}
+use Rattle.job_release.specs.JobInput.{JobInputData, IsJobInput, total_jobs, without_tasks}
+use Rattle.job_release.specs.JobText.{IsWorded, TaskLine, AreTimes, AreTimeFields, AreTimesOf, IsTaskForm, JobLine, IsDeadline, SaysJob, IsJobForm, end_line, max_horizon, Progress, HeaderExpected, ProcessorsExpected, HorizonExpected, Listed, Ended, BeginsTask, IsForTask, IsCountOutcome, IsAddOutcome, IsTaskOutcome, IsJobOutcome, IsListedOutcome, IsWordedOutcome, IsOutcome, IsEndOutcome}
 use Rattle.job_release.specs.TextLaws.{TextHasOneInput, TextIsOfValidInput}
-use Rattle.job_release.specs.Reading.{IsValid}
+use Rattle.job_release.specs.Reading.{IsValid, IsVersion}
 use Rattle.job_release.specs.declared.fault.JobKind.{JobKind}
 use Rattle.job_release.specs.declared.fault.JobKind.TheVariants.{BadHeader, BadProcessors, BadHorizon, NoEnd}
+use Rattle.job_release.specs.declared.input.Job.{Job}
 use Rattle.job_release.specs.declared.input.JobTask.{JobTask}
-use Rattle.job_release.proofs.Outcomes.{same_worded, same_line, outcome_valid, end_once}
+use Rattle.job_release.proofs.Outcomes.{same_worded, same_line, same_job_line, outcome_valid, end_once}
 
 -- ---- the forms of lines
 worded_decided : (word : List ℕ) (least most : ℕ) (fields : List (List ℕ))
@@ -49,26 +51,67 @@ times_decided offset period cost = elim (number_within_decided 0 1000000 offset)
   ]
 ]
 
-task_form_decided : (fields : List (List ℕ)) → ((line : TaskLine) × IsTaskForm fields line) ⊎ ((line : TaskLine) → IsTaskForm fields line → ⊥)
-task_form_decided (word ∷ name ∷ priority ∷ list ∷ offset ∷ period ∷ cost ∷ []) = elim (bytes_decided word (codes "task")) [
+-- three fields, or another number of them
+other : (fields : List (List ℕ)) {job : JobTask} → AreTimeFields fields job → ((first every each : List ℕ) → fields ≡ first ∷ every ∷ each ∷ [] → ⊥) → ⊥
+other fields (first, every, each, cut, are) never = never first every each cut
+
+pub no_time_fields : (fields : List (List ℕ)) (offset period cost : List ℕ) → fields ≡ offset ∷ period ∷ cost ∷ [] → ((job : JobTask) → AreTimes offset period cost job → ⊥)
+    → (job : JobTask) → AreTimeFields fields job → ⊥
+no_time_fields fields offset period cost same none job (first, every, each, cut, are) =
+    let offsets : first ≡ offset = cc in
+    let periods : every ≡ period = cc in
+    let costs : each ≡ cost = cc in
+    none job (rw (offsets, periods, costs) at are)
+
+time_fields_decided : (fields : List (List ℕ)) → ((job : JobTask) × AreTimeFields fields job) ⊎ ((job : JobTask) → AreTimeFields fields job → ⊥)
+time_fields_decided (offset ∷ period ∷ cost ∷ []) = elim (times_decided offset period cost) [
+  | inl times ↦ inl (times.0, (offset, period, cost, refl, times.1))
+  | inr none ↦ inr (no_time_fields _ offset period cost refl none)
+]
+time_fields_decided [] = inr (λ job are. other [] are (λ first every each cut. cc))
+time_fields_decided (a ∷ []) = inr (λ job are. other (a ∷ []) are (λ first every each cut. cc))
+time_fields_decided (a ∷ b ∷ []) = inr (λ job are. other (a ∷ b ∷ []) are (λ first every each cut. cc))
+time_fields_decided (a ∷ b ∷ c ∷ d ∷ rest) = inr (λ job are. other (a ∷ b ∷ c ∷ d ∷ rest) are (λ first every each cut. cc))
+
+nothing_decided : (fields : List (List ℕ)) → (fields ≡ []) ⊎ (fields ≡ [] → ⊥)
+nothing_decided [] = inl refl
+nothing_decided (first ∷ rest) = inr (λ e. cc)
+
+pub no_times_of : (version : ℕ) (fields : List (List ℕ)) → ((job : JobTask) → version ≡ 1 → AreTimeFields fields job → ⊥) → (version ≡ 2 → fields ≡ [] → ⊥)
+    → (times : Option JobTask) → AreTimesOf version fields times → ⊥
+no_times_of version fields some none None are = none are.0 are.1
+no_times_of version fields some none (Some job) are = some job are.0 are.1
+
+times_of_decided : (version : ℕ) (fields : List (List ℕ)) → IsVersion version
+    → ((times : Option JobTask) × AreTimesOf version fields times) ⊎ ((times : Option JobTask) → AreTimesOf version fields times → ⊥)
+times_of_decided version fields within = elim (cases_eq version 1) [
+  | inl first ↦ elim (time_fields_decided fields) [
+    | inl found ↦ inl (Some found.0, (first, found.1))
+    | inr fails ↦ inr (no_times_of version fields (λ job is are. fails job are) (λ is none. omega (arith, first, is)))
+  ]
+  | inr other ↦ elim (nothing_decided fields) [
+    | inl none ↦ inl (None, (last_version version within other, none))
+    | inr some ↦ inr (no_times_of version fields (λ job is are. other is) (λ is none. some none))
+  ]
+]
+  where
+    last_version : (version : ℕ) → IsVersion version → version ≢ 1 → version ≡ 2
+    last_version version within other = let low = within.0 in let high = within.1 in grind arith
+
+task_form_decided : (version : ℕ) (fields : List (List ℕ)) → IsVersion version
+    → ((line : TaskLine) × IsTaskForm version fields line) ⊎ ((line : TaskLine) → IsTaskForm version fields line → ⊥)
+task_form_decided version (word ∷ name ∷ priority ∷ list ∷ rest) within = elim (bytes_decided word (codes "task")) [
   | inr differs ↦ inr (λ line form. let e = form.each_field in differs (cc))
   | inl same ↦ elim (number_within_decided 0 4294967295 priority) [
     | inr none ↦ inr (λ line form. let e = form.each_field in none line.priority (subst (λ (text : List ℕ). IsNumberWithin 0 4294967295 text line.priority) (cc) form.priority_is))
-    | inl urgency ↦ elim (times_decided offset period cost) [
-      | inr none ↦ inr (λ line form.
-          let e = form.each_field in
-          let offsets : form.offset ≡ offset = cc in
-          let periods : form.period ≡ period = cc in
-          let costs : form.cost ≡ cost = cc in
-          none line.job (rw (offsets, periods, costs) at form.times))
+    | inl urgency ↦ elim (times_of_decided version rest within) [
+      | inr none ↦ inr (λ line form. let e = form.each_field in none line.times (subst (λ (fields : List (List ℕ)). AreTimesOf version fields line.times) (cc) form.times))
       | inl times ↦ inl (
-        record { name = name; priority = urgency.0; list = list; job = times.0 },
+        record { name = name; priority = urgency.0; list = list; times = times.0 },
         record {
           priority = priority;
-          offset = offset;
-          period = period;
-          cost = cost;
-          each_field = ap (λ (first : List ℕ). first ∷ name ∷ priority ∷ list ∷ offset ∷ period ∷ cost ∷ []) same;
+          rest = rest;
+          each_field = ap (λ (first : List ℕ). first ∷ name ∷ priority ∷ list ∷ rest) same;
           priority_is = urgency.1;
           times = times.1;
         },
@@ -76,7 +119,83 @@ task_form_decided (word ∷ name ∷ priority ∷ list ∷ offset ∷ period ∷
     ]
   ]
 ]
-task_form_decided fields = inr (λ line form. let e = form.each_field in cc)
+task_form_decided version fields within = inr (λ line form. let e = form.each_field in cc)
+
+deadline_decided : (fields : List (List ℕ)) → ((deadline : Option ℕ) × IsDeadline fields deadline) ⊎ ((deadline : Option ℕ) → IsDeadline fields deadline → ⊥)
+deadline_decided [] = inl (None, refl)
+deadline_decided (number ∷ []) = elim (number_within_decided 1 10000000 number) [
+  | inl found ↦ inl (Some found.0, (number, refl, found.1))
+  | inr none ↦ inr (no_deadline number none)
+]
+  where
+    no_deadline : (number : List ℕ) → ((n : ℕ) → IsNumberWithin 1 10000000 number n → ⊥) → (deadline : Option ℕ) → IsDeadline (number ∷ []) deadline → ⊥
+    no_deadline number none None is = let e = is in cc
+    no_deadline number none (Some n) is = let e = is.1 in none n (subst (λ (text : List ℕ). IsNumberWithin 1 10000000 text n) (cc) is.2)
+deadline_decided (first ∷ second ∷ rest) = inr many
+  where
+    many : (deadline : Option ℕ) → IsDeadline (first ∷ second ∷ rest) deadline → ⊥
+    many None is = let e = is in cc
+    many (Some n) is = let e = is.1 in cc
+
+says_job_decided : (horizon : ℕ) (release cost : List ℕ) (rest : List (List ℕ))
+    → ((job : Job) × SaysJob horizon release cost rest job) ⊎ ((job : Job) → SaysJob horizon release cost rest job → ⊥)
+says_job_decided horizon release cost rest = elim (number_within_decided 0 (horizon - 1) release) [
+  | inr none ↦ inr (λ job says. none job.release says.release_is)
+  | inl moment ↦ elim (number_within_decided 1 10000000 cost) [
+    | inr none ↦ inr (λ job says. none job.cost says.cost_is)
+    | inl units ↦ elim (deadline_decided rest) [
+      | inr none ↦ inr (λ job says. none job.deadline says.deadline_is)
+      | inl end ↦ inl (record { release = moment.0; cost = units.0; deadline = end.0 }, record { release_is = moment.1; cost_is = units.1; deadline_is = end.1 })
+    ]
+  ]
+]
+
+job_form_decided : (horizon : ℕ) (fields : List (List ℕ)) → ((line : JobLine) × IsJobForm horizon fields line) ⊎ ((line : JobLine) → IsJobForm horizon fields line → ⊥)
+job_form_decided horizon (word ∷ name ∷ release ∷ cost ∷ rest) = elim (bytes_decided word (codes "job")) [
+  | inr differs ↦ inr (λ line form. let e = form.each_field in differs (cc))
+  | inl same ↦ elim (says_job_decided horizon release cost rest) [
+    | inr none ↦ inr (λ line form.
+        let e = form.each_field in
+        let releases : form.release ≡ release = cc in
+        let costs : form.cost ≡ cost = cc in
+        let rests : form.rest ≡ rest = cc in
+        none line.job (rw (releases, costs, rests) at form.job_is))
+    | inl job ↦ inl (
+      record { name = name; job = job.0 },
+      record {
+        release = release;
+        cost = cost;
+        rest = rest;
+        each_field = ap (λ (first : List ℕ). first ∷ name ∷ release ∷ cost ∷ rest) same;
+        job_is = job.1;
+      },
+    )
+  ]
+]
+job_form_decided horizon fields = inr (λ line form. let e = form.each_field in cc)
+
+begins_task_decided : (fields : List (List ℕ)) → BeginsTask fields ⊎ (BeginsTask fields → ⊥)
+begins_task_decided [] = inr (λ begins. let e = begins.1 in cc)
+begins_task_decided (word ∷ rest) = elim (bytes_decided word (codes "task")) [
+  | inl same ↦ inl (rest, ap (λ (first : List ℕ). first ∷ rest) same)
+  | inr differs ↦ inr (λ begins. let e = begins.1 in differs (cc))
+]
+
+for_task_decided : (input : JobInputData) (fields : List (List ℕ)) → IsForTask input fields ⊎ (IsForTask input fields → ⊥)
+for_task_decided input fields = elim (cases_eq input.version 1) [
+  | inl first ↦ inl (inl first)
+  | inr other ↦ elim (cases_eq (total_jobs input.jobs) 0) [
+    | inr some ↦ inr (not_for_task input fields other (λ none begins. some none))
+    | inl none ↦ elim (begins_task_decided fields) [
+      | inl begins ↦ inl (inr (none, begins))
+      | inr fails ↦ inr (not_for_task input fields other (λ none begins. fails begins))
+    ]
+  ]
+]
+  where
+    not_for_task : (input : JobInputData) (fields : List (List ℕ)) → input.version ≢ 1 → (total_jobs input.jobs ≡ 0 → BeginsTask fields → ⊥) → IsForTask input fields → ⊥
+    not_for_task input fields other none (inl first) = other first
+    not_for_task input fields other none (inr later) = none later.0 later.1
 
 end_decided : (fields : List (List ℕ)) → (fields ≡ end_line) ⊎ (fields ≡ end_line → ⊥)
 end_decided (word ∷ []) = elim (bytes_decided word (codes "end")) [
@@ -111,22 +230,42 @@ listed_task input line valid =
     judging (text_list_or_fault line.list) (list_text-one_set line.list) (list_text-one_fault line.list) (list_text-no_fault line.list)
     (λ mask is. added input line mask valid) (λ fault is. only _)
 
-listed : (input : JobInputData) (fields : List (List ℕ)) → IsTaskSet input.set → IsDecided (IsListedOutcome input fields)
+known_name_decided : (set : SetData) (name : List ℕ) → ((t : ℕ) × IsNameOf set t name) ⊎ ((t : ℕ) → IsNameOf set t name → ⊥)
+known_name_decided set name = elim (name_decided set name) [
+  | inl found ↦ inl found
+  | inr new ↦ inr (λ t named. name_not_new set t name name refl named new)
+]
+
+listed_job : (input : JobInputData) (line : JobLine) → IsTaskSet input.set → IsDecided (IsJobOutcome input line)
+listed_job input line valid =
+    reading (known_name_decided input.set line.name) (λ t u is also. same_name input.set valid t u line.name line.name refl is also)
+    (λ t is. choice (le_decided _ _) (λ order. choice (lt_decided _ 4000) (λ room. only _) (λ many. only _)) (λ backward. only _)) (only _)
+  where
+    lt_decided : (a b : ℕ) → (a < b) ⊎ (a < b → ⊥)
+    lt_decided a b = elim (cases_lt a b) [
+      | inl below ↦ inl below
+      | inr from ↦ inr (λ below. omega arith)
+    ]
+
+listed : (input : JobInputData) (fields : List (List ℕ)) → IsJobInput input → IsDecided (IsListedOutcome input fields)
 listed input fields valid =
     choice (end_decided fields) (λ end. only _)
-    (λ not_end. reading (task_form_decided fields) (same_line fields) (λ line is. listed_task input line valid) (only _))
+    (λ not_end. choice (for_task_decided input fields)
+    (λ task. reading (task_form_decided input.version fields valid.version) (same_line input.version fields) (λ line is. listed_task input line valid.valid) (only _))
+    (λ job. reading (job_form_decided input.horizon fields) (same_job_line input.horizon fields) (λ line is. listed_job input line valid.valid) (only _)))
 
 fields_decided : (expected : Progress) (fields : List (List ℕ)) → IsValid expected → IsDecided (IsOutcome expected fields)
-fields_decided HeaderExpected fields valid = worded (codes "jobs") 1 1 fields (λ version. ProcessorsExpected) BadHeader
-fields_decided ProcessorsExpected fields valid = worded (codes "processors") 1 64 fields HorizonExpected BadProcessors
-fields_decided (HorizonExpected m) fields valid = worded (codes "horizon") 1 1000000 fields (λ horizon. Listed (without_tasks m horizon)) BadHorizon
-fields_decided (Listed input) fields valid = listed input fields valid.valid
+fields_decided HeaderExpected fields valid = worded (codes "jobs") 1 2 fields ProcessorsExpected BadHeader
+fields_decided (ProcessorsExpected version) fields valid = worded (codes "processors") 1 64 fields (HorizonExpected version) BadProcessors
+fields_decided (HorizonExpected version m) fields valid =
+    worded (codes "horizon") 1 (max_horizon version) fields (λ horizon. Listed (without_tasks version m horizon)) BadHorizon
+fields_decided (Listed input) fields valid = listed input fields valid
 fields_decided (Ended input) fields valid = only _
 
 end_comes : (expected : Progress) → (outcome : Outcome JobInputData JobKind) × IsEndOutcome expected outcome
 end_comes HeaderExpected = (Fails NoEnd, refl)
-end_comes ProcessorsExpected = (Fails NoEnd, refl)
-end_comes (HorizonExpected m) = (Fails NoEnd, refl)
+end_comes (ProcessorsExpected version) = (Fails NoEnd, refl)
+end_comes (HorizonExpected version m) = (Fails NoEnd, refl)
 end_comes (Listed input) = (Fails NoEnd, refl)
 end_comes (Ended input) = (Leads input, refl)
 
@@ -144,8 +283,8 @@ job_machine = record {
 -- ---- the input of a text
 input_at_end : (last : Progress) (input : JobInputData) → IsValid last → IsEndOutcome last (Leads input) → IsJobInput input
 input_at_end HeaderExpected input valid e = let f : ◌≡◌ {A = Outcome JobInputData JobKind} (Leads input) (Fails NoEnd) = e in cc
-input_at_end ProcessorsExpected input valid e = let f : ◌≡◌ {A = Outcome JobInputData JobKind} (Leads input) (Fails NoEnd) = e in cc
-input_at_end (HorizonExpected m) input valid e = let f : ◌≡◌ {A = Outcome JobInputData JobKind} (Leads input) (Fails NoEnd) = e in cc
+input_at_end (ProcessorsExpected version) input valid e = let f : ◌≡◌ {A = Outcome JobInputData JobKind} (Leads input) (Fails NoEnd) = e in cc
+input_at_end (HorizonExpected version m) input valid e = let f : ◌≡◌ {A = Outcome JobInputData JobKind} (Leads input) (Fails NoEnd) = e in cc
 input_at_end (Listed other) input valid e = let f : ◌≡◌ {A = Outcome JobInputData JobKind} (Leads input) (Fails NoEnd) = e in cc
 input_at_end (Ended other) input valid e = let same : input ≡ other = cc in subst IsJobInput (sym same) valid
 

@@ -9,8 +9,8 @@ use Rattle.scheduler_reply.specs.declared.reply.Reply.{Reply}
 use Rattle.scheduler_reply.specs.declared.reply.Entry.{Entry}
 use Rattle.link_state.specs.State.{State, is_linked}
 use Rattle.link_state.specs.History.{state_after, state_after_reply, effect_of}
-use Rattle.certificate_laws.proofs.Counts.{count_below-agree, count_below-more, count_below-same, count_below-zero}
-use Rattle.job_release.specs.Moments.{is_tick, units_of, elapsed, change_by, changes_by, state_at, service_of}
+use Rattle.certificate_laws.proofs.Counts.{count_below-agree, count_below-more, count_below-same, count_below-zero, count_below-bound}
+use Rattle.job_release.specs.Moments.{is_tick, units_of, elapsed, change_by, changes_by, Timeline, state_at, service_of}
 
 abbrev units : Entry → ℕ
 units entry = units_of entry.event
@@ -85,34 +85,52 @@ pub state_from : (start : State) (history : List Entry) (x : ℕ) → elapsed hi
 state_from start history x from = all_changes start x 0 history (omega arith)
 
 -- ---- service
--- histories that agree below a moment give the same service up to it
-pub same_service : (start : State) (one other : List Entry) (t x : ℕ) → ((y : ℕ) → y < x → state_at start one y ≡ state_at start other y) → service_of start one t x ≡ service_of start other t x
-same_service start one other t x agree = count_below-agree (λ y. is_linked (state_at start one y) t) (λ y. is_linked (state_at start other y) t) x (λ y below. ap (λ (s : State). is_linked s t) (agree y below))
+-- states that agree below a moment give the same service up to it
+pub same_service : (one other : Timeline) (t x : ℕ) → ((y : ℕ) → y < x → one y ≡ other y) → service_of one t x ≡ service_of other t x
+same_service one other t x agree = count_below-agree (λ y. is_linked (one y) t) (λ y. is_linked (other y) t) x (λ y below. ap (λ (s : State). is_linked s t) (agree y below))
 
-pub no_service : (start : State) (history : List Entry) (t : ℕ) → service_of start history t 0 ≡ 0
-no_service start history t = count_below-zero (λ y. is_linked (state_at start history y) t)
+pub no_service : (states : Timeline) (t : ℕ) → service_of states t 0 ≡ 0
+no_service states t = count_below-zero (λ y. is_linked (states y) t)
 
 -- a linked task gets one unit in each moment, and any other task gets none
-pub service_while : (start : State) (history : List Entry) (t m d : ℕ) (links : State) → ((y : ℕ) → m ≤ y → state_at start history y ≡ links)
-    → service_of start history t (m + d) ≡ service_of start history t m + (if is_linked links t then d else 0)
-service_while start history t m zero links still = elim (cases_Bool (is_linked links t)) [
-  | inl linked ↦ rw linked (let none : m + 0 ≡ m = omega arith in ap (service_of start history t) none ∙ omega arith)
-  | inr not_linked ↦ rw not_linked (let none : m + 0 ≡ m = omega arith in ap (service_of start history t) none ∙ omega arith)
+pub service_while : (states : Timeline) (t m d : ℕ) (links : State) → ((y : ℕ) → m ≤ y → y < m + d → states y ≡ links)
+    → service_of states t (m + d) ≡ service_of states t m + (if is_linked links t then d else 0)
+service_while states t m zero links still = elim (cases_Bool (is_linked links t)) [
+  | inl linked ↦ rw linked (let none : m + 0 ≡ m = omega arith in ap (service_of states t) none ∙ omega arith)
+  | inr not_linked ↦ rw not_linked (let none : m + 0 ≡ m = omega arith in ap (service_of states t) none ∙ omega arith)
 ]
-service_while start history t m (suc d) links still =
-    let before = service_while start history t m d links still in
-    let here : is_linked (state_at start history (m + d)) t ≡ is_linked links t = ap (λ (s : State). is_linked s t) (still (m + d) (omega arith)) in
+service_while states t m (suc d) links still =
+    let before = service_while states t m d links (λ y from below. still y from (omega arith)) in
+    let here : is_linked (states (m + d)) t ≡ is_linked links t = ap (λ (s : State). is_linked s t) (still (m + d) (omega arith) (omega arith)) in
     let next : m + suc d ≡ suc (m + d) = omega arith in
     elim (cases_Bool (is_linked links t)) [
       | inl linked ↦ (
-          let one = count_below-more (λ y. is_linked (state_at start history y) t) (m + d) (here ∙ linked) in
+          let one = count_below-more (λ y. is_linked (states y) t) (m + d) (here ∙ linked) in
           let so_far = rw linked at before in
-          rw linked (ap (service_of start history t) next ∙ one ∙ omega (arith, so_far)))
+          rw linked (ap (service_of states t) next ∙ one ∙ omega (arith, so_far)))
       | inr not_linked ↦ (
-          let none = count_below-same (λ y. is_linked (state_at start history y) t) (m + d) (here ∙ not_linked) in
+          let none = count_below-same (λ y. is_linked (states y) t) (m + d) (here ∙ not_linked) in
           let so_far = rw not_linked at before in
-          rw not_linked (ap (service_of start history t) next ∙ none ∙ so_far))
+          rw not_linked (ap (service_of states t) next ∙ none ∙ so_far))
     ]
+
+-- a task gets one unit at most in a moment
+pub service_grows : (states : Timeline) (t x d : ℕ) → service_of states t (x + d) ≤ service_of states t x + d
+service_grows states t x zero =
+    let none : x + 0 ≡ x = omega arith in
+    let same = ap (service_of states t) none in
+    omega arith
+service_grows states t x (suc d) =
+    let before = service_grows states t x d in
+    let next : x + suc d ≡ suc (x + d) = omega arith in
+    let same = ap (service_of states t) next in
+    elim (cases_Bool (is_linked (states (x + d)) t)) [
+      | inl linked ↦ (let one = count_below-more (λ y. is_linked (states y) t) (x + d) linked in omega arith)
+      | inr not_linked ↦ (let none = count_below-same (λ y. is_linked (states y) t) (x + d) not_linked in omega arith)
+    ]
+
+pub service_within : (states : Timeline) (t x : ℕ) → service_of states t x ≤ x
+service_within states t x = count_below-bound (λ y. is_linked (states y) t) x
 
 -- ---- the state of a moment is that after some of the entries
 none_later : (x m : ℕ) (history : List Entry) → x < m → changes_by x m history ≡ []

@@ -13,7 +13,7 @@ some_row (row ∷ rows) t within = row
 module _ (links : State) (moment next earlier : ℕ) where
   sooner : (u : ℕ) (row : JobRow) → earlier ≤ next → IsNotAfter links moment next u row → IsNotAfter links moment earlier u row
   sooner u row le old = record {
-    release = (let release = old.release in omega arith);
+    release = λ within. let release = old.release within in omega arith;
     finish = λ linked. let finish = old.finish linked in omega arith;
   }
 

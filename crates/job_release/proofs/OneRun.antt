@@ -1,6 +1,6 @@
 -- The best set of each moment follows from what is ready, and what is ready from the service so far. So the service is a function of
 -- the input, and so is the text.
-use Rattle.std.proofs.Common.{◌≡◌, ℕ, zero, suc, ◌+◌, ◌*◌, ◌<◌, ◌≤◌, Bool, true, false, List, [], ◌∷◌, length, take, nat_le, Option, All, refl, sym, ap, ◌∙◌, subst, inl, inr, arith}
+use Rattle.std.proofs.Common.{◌≡◌, ℕ, zero, suc, ◌+◌, ◌<◌, ◌≤◌, Bool, true, false, List, [], ◌∷◌, length, take, nat_le, Option, All, refl, sym, ap, ◌∙◌, subst, inl, inr, arith}
 use Rattle.std.specs.List.{flat_map, range_with_len}
 use Rattle.std.proofs.lemmas.Bool.{cases_Bool, cases_lt}
 use Rattle.std.proofs.lemmas.List.{length-map}
@@ -19,13 +19,13 @@ use Rattle.link_state.proofs.SameTasks.{same_tasks-history, same_count, reply_ke
 use Rattle.link_state.proofs.Unique.{ready_number}
 use Rattle.certificate_laws.proofs.Counts.{count_below-more, count_below-same}
 use Rattle.certificate_laws.proofs.SameBest.{IsBest-same}
-use Rattle.job_release.specs.Jobs.{release_of, job_count}
-use Rattle.job_release.specs.JobInput.{JobInputData, IsJobInput, job_at}
+use Rattle.job_release.specs.Jobs.{job_at, goal_of}
+use Rattle.job_release.specs.JobInput.{JobInputData, IsJobInput, jobs_at}
 use Rattle.text_fields.specs.EventText.{name_of}
 use Rattle.job_release.specs.Driven.{RunsJobs, RunsTheBest, IsJobEvent}
 use Rattle.job_release.specs.JobsText.{first_upto, job_line, line_of_job, lines_of_task, jobs_text}
 use Rattle.job_release.specs.Laws.{InputHasOneService, InputHasOneText}
-use Rattle.job_release.specs.Moments.{changes_by, state_at, service_of}
+use Rattle.job_release.specs.Moments.{Timeline, changes_by, state_at, service_of}
 use Rattle.job_release.proofs.Moments.{no_service, state_by_entries}
 
 -- ---- what stays in a run
@@ -86,14 +86,14 @@ module _ (input : JobInputData) (valid : IsJobInput input) where
 
   module _ (one other : List Entry) (runs : RunsJobs input one) (also : RunsJobs input other) where
     -- after the same service the same tasks are ready
-    one_ready : (x : ℕ) → x < input.horizon → ((t : ℕ) → t < length input.jobs → service_of start one t x ≡ service_of start other t x)
+    one_ready : (x : ℕ) → x < input.horizon → ((t : ℕ) → t < length input.jobs → service_of (state_at start one) t x ≡ service_of (state_at start other) t x)
         → (t : ℕ) → is_ready (state_at start one x) t ≡ is_ready (state_at start other x) t
     one_ready x below same t = elim (cases_lt t (length input.jobs)) [
       | inr beyond ↦ none_beyond one runs x t beyond ∙ sym (none_beyond other also x t beyond)
       | inl number ↦ (
           let service = same t number in
-          let here = runs.ready t x number below in
-          let there = also.ready t x number below in
+          let here = runs.served.ready t x number below in
+          let there = also.served.ready t x number below in
           same_answer _ _ (λ ready. there.1 (let less = here.0 ready in omega arith)) (λ ready. here.1 (let less = there.0 ready in omega arith)))
     ]
 
@@ -114,8 +114,8 @@ module _ (input : JobInputData) (valid : IsJobInput input) where
           | inr beyond ↦ absurd (let none = none_beyond other also x u beyond in cc)
         ]
 
-    one_service : (x : ℕ) → x ≤ input.horizon → (t : ℕ) → t < length input.jobs → service_of start one t x ≡ service_of start other t x
-    one_service zero within t number = no_service start one t ∙ sym (no_service start other t)
+    one_service : (x : ℕ) → x ≤ input.horizon → (t : ℕ) → t < length input.jobs → service_of (state_at start one) t x ≡ service_of (state_at start other) t x
+    one_service zero within t number = no_service (state_at start one) t ∙ sym (no_service (state_at start other) t)
     one_service (suc x) within t number =
         let before = one_service x (omega arith) in
         let linked = one_linked x (omega arith) (one_ready x (omega arith) before) t in
@@ -139,14 +139,14 @@ same_pieces f g a zero agree = refl
 same_pieces f g a (suc n) agree =
     rw (agree a (omega arith), same_pieces f g (a + 1) n (λ k below. agree k (omega arith))) refl
 
-one_line : (input : JobInputData) (one other : List Entry) (t k : ℕ)
-    → ((x : ℕ) → x ≤ input.horizon → service_of (start_of input.set) one t x ≡ service_of (start_of input.set) other t x)
+one_line : (input : JobInputData) (one other : Timeline) (t k : ℕ)
+    → ((x : ℕ) → x ≤ input.horizon → service_of one t x ≡ service_of other t x)
     → line_of_job input one t k ≡ line_of_job input other t k
 one_line input one other t k same =
-    let job = job_at input.jobs t in
-    ap (λ (finish : Option ℕ). job_line (name_of input.set t) k (release_of job k) finish)
-    (same_first (λ x. nat_le ((k + 1) * job.cost) (service_of (start_of input.set) one t x)) (λ x. nat_le ((k + 1) * job.cost) (service_of (start_of input.set) other t x)) input.horizon
-    (λ x within. ap (nat_le ((k + 1) * job.cost)) (same x within)))
+    let jobs = jobs_at input.jobs t in
+    ap (λ (finish : Option ℕ). job_line (name_of input.set t) k (job_at jobs k).release finish)
+    (same_first (λ x. nat_le (goal_of jobs k) (service_of one t x)) (λ x. nat_le (goal_of jobs k) (service_of other t x)) input.horizon
+    (λ x within. ap (nat_le (goal_of jobs k)) (same x within)))
 
 pub input_has_one_service : InputHasOneService
 input_has_one_service input one other t x valid runs also number within = one_service input valid one other runs also x within t number
@@ -155,7 +155,9 @@ pub input_has_one_text : InputHasOneText
 unfolding jobs_text
 input_has_one_text input one other valid runs also =
     let each = valid.one_each in
-    let lines : (t : ℕ) → t < 0 + length input.set.tasks → lines_of_task input one t ≡ lines_of_task input other t =
-    λ t below. same_pieces (line_of_job input one t) (line_of_job input other t) 0 (job_count input.horizon (job_at input.jobs t))
-    (λ k counted. one_line input one other t k (λ x within. one_service input valid one other runs also x within t (omega arith))) in
-    rw (same_pieces (lines_of_task input one) (lines_of_task input other) 0 (length input.set.tasks) lines) refl
+    let first = state_at (start_of input.set) one in
+    let second = state_at (start_of input.set) other in
+    let lines : (t : ℕ) → t < 0 + length input.set.tasks → lines_of_task input first t ≡ lines_of_task input second t =
+    λ t below. same_pieces (line_of_job input first t) (line_of_job input second t) 0 (length (jobs_at input.jobs t))
+    (λ k counted. one_line input first second t k (λ x within. one_service input valid one other runs also x within t (omega arith))) in
+    rw (same_pieces (lines_of_task input first) (lines_of_task input second) 0 (length input.set.tasks) lines) refl

@@ -78,6 +78,15 @@ released_is job r x some before next =
     let most = at_most (λ k. nat_lt (release_of job k) x) r x (λ k from. not_before (release_of job k) x (let later = release_more job r k from in omega arith)) in
     omega arith
 
+-- each of so many is released before x
+pub released_below : (job : JobTask) (k x : ℕ) → k < released_before job x → release_of job k < x
+released_below job k x below = elim (cases_lt (release_of job k) x) [
+  | inl before ↦ before
+  | inr from ↦ (
+      let most = at_most (λ j. nat_lt (release_of job j) x) k x (λ j later. not_before (release_of job j) x (let more = release_more job k j later in omega arith)) in
+      absurd (omega (arith, most, below)))
+]
+
 -- the number by division
 pub released_when_divided : (job : JobTask) (x : ℕ) → 1 ≤ job.period → job.offset < x → released_before job x ≡ (x - job.offset - 1) / job.period + 1
 released_when_divided job x some after =

@@ -1,81 +1,92 @@
 -- What a driver leaves at the horizon.
-use Rattle.std.proofs.Common.{◌≡◌, ℕ, ◌+◌, ◌*◌, ◌<◌, ◌≤◌, List, [], ◌∷◌, length, get_or, sym, ap, ◌∙◌, subst, inl, inr, arith}
-use Rattle.std.proofs.Math.Nat.{mul-le-mul_right}
+use Rattle.std.proofs.Common.{◌≡◌, ℕ, suc, ◌+◌, ◌^◌, ◌<◌, ◌≤◌, Bool, List, [], ◌∷◌, length, sum_by, All, refl, sym, ap, ◌∙◌, subst, inl, inr, arith}
 use Rattle.std.proofs.lemmas.Bool.{cases_lt}
 use Rattle.std.proofs.lemmas.List.{get_or-map, length-map}
-use Rattle.task_set.specs.TaskSet.{IsTaskSet}
-use Rattle.link_state.specs.State.{State, start_of, is_ready}
-use Rattle.link_state.specs.History.{IsLegal, IsLegalFrom}
-use Rattle.certificate_laws.proofs.Kept.{legal_is_best}
-use Rattle.sched_core.specs.CoreData.{CoreData}
-use Rattle.job_release.specs.JobInput.{JobInputData, job_at, no_job}
-use Rattle.job_release.specs.declared.input.JobTask.{JobTask}
-use Rattle.job_release.proofs.Released.{released_is}
-use Rattle.job_release.specs.Driven.{RunsJobs, RunsTheBest, IsReadyWhileWorkIsLeft, GetsNoMore}
-use Rattle.job_release.specs.Driving.{IsDriving, IsRowAt, Mark, settled, jobs_of, row_at, done_of, goal_of}
-use Rattle.job_release.specs.Moments.{service_of, IsFinish}
+use Rattle.std.specs.List.{range_with_len}
+use Rattle.std.proofs.lemmas.List.Sums.{sum_by-cons, sum_by-le}
+use Rattle.job_release.specs.JobInput.{JobInputData, jobs_at}
+use Rattle.job_release.specs.declared.input.Job.{Job}
+use Rattle.job_release.specs.Driven.{ServesJobs, IsReadyWhileWorkIsLeft, GetsNoMore}
+use Rattle.job_release.specs.Driving.{DriverData, IsDriving, IsRowAt, settled, jobs_of, row_at, done_of, moves_in}
+use Rattle.job_release.specs.Moments.{Timeline, service_of}
+use Rattle.job_release.specs.Moves.{moves_of, moves_of_all}
 use Rattle.job_release.specs.RunView.{RowIsKept}
 use Rattle.job_release.specs.declared.row.JobRow.{JobRow}
-use Rattle.job_release.proofs.Moments.{state_by_entries}
+use Rattle.job_release.proofs.Demands.{asked_upto}
+use Rattle.job_release.proofs.Moves.{moves_within}
+use Rattle.job_release.proofs.NextMoments.{some_row}
+use Rattle.job_release.proofs.RowSteps.{is_short}
 
 -- ---- the row of a task at the end
-pub row_at_end : (core : CoreData) (start : State) (horizon t : ℕ) (row : JobRow) → core.start ≡ start → IsRowAt start core.history (is_ready core.links t) horizon (settled horizon) t row → RowIsKept core horizon t row
-row_at_end core start horizon t row begins at =
-    let P : State → Type 0 = λ s. RowIsKept core horizon t row in
+pub row_at_end : (states : Timeline) (horizon moment t : ℕ) (flag : Bool) (row : JobRow) → moment ≡ horizon → IsRowAt states horizon flag moment (settled moment) t row → RowIsKept states horizon t row
+row_at_end states horizon moment t flag row whole at = record {
+  finishes = λ k d below. let one = at.finishes k d below in let within = one.within in record { within = omega arith; got = one.got; least = one.least };
+  unfinished = λ k from inside x within.
+      let goals = asked_upto row.jobs.items (done_of row + 1) (k + 1) (omega arith) in
+      elim (cases_lt x moment) [
+        | inl before ↦ (let short = at.unfinished x before (omega arith) in omega (arith, goals, short))
+        | inr end ↦ (
+            let last : x ≡ moment = omega arith in
+            let service = at.service in
+            let short = is_short states horizon flag moment t (settled moment) row at (omega arith) (omega arith) in
+            let same : service_of states t x ≡ service_of states t moment = ap (service_of states t) last in
+            omega (arith, goals, same, service, short))
+      ];
+  moves = at.moves ∙ ap (moves_of states t) whole;
+}
+
+-- ---- the moments at the end
+pub serves_jobs : (input : JobInputData) (from now : DriverData) → jobs_of from.rows ≡ input.jobs → now.moment ≡ input.horizon
+    → IsDriving from now (length now.rows) (settled now.moment) (settled now.moment) → ServesJobs input now.scheduler.states
+serves_jobs input from now begins whole driving =
+    let listed : jobs_of now.rows ≡ input.jobs = driving.same_jobs ∙ begins in
+    let count : length input.jobs ≡ length now.rows = sym (ap length listed) ∙ length-map now.rows (λ (row : JobRow). row.jobs.items) in
+    let d : (t : ℕ) → t < length now.rows → JobRow = λ t within. some_row now.rows t within in
+    let jobs_are : (t : ℕ) (within : t < length now.rows) → (row_at now.rows t (d t within)).jobs.items ≡ jobs_at input.jobs t =
+    λ t within. sym (get_or-map (λ (row : JobRow). row.jobs.items) now.rows t (d t within) [] within) ∙ ap (λ (js : List (List Job)). jobs_at js t) listed in
     record {
-      sizes = at.sizes;
-      released = sym (released_is row.job row.released horizon at.sizes.job.period.0 at.due_before at.due_next);
-      finishes = λ k d below. (let Q : State → Type 0 = λ s. IsFinish s core.history t row.job.cost horizon k (get_or row.finishes.items k d) in subst Q (sym begins) (at.finishes k d below));
-      unfinished = λ k from x within.
-          let Q : State → Type 0 = λ s. service_of s core.history t x < (k + 1) * row.job.cost in
-          let goals : goal_of row ≤ (k + 1) * row.job.cost = mul-le-mul_right row.job.cost (let more : done_of row + 1 ≤ k + 1 = omega arith in more) in
-          subst Q (sym begins) (elim (cases_lt x horizon) [
-            | inl before ↦ (let short = at.unfinished x before in omega (arith, goals, short))
-            | inr end ↦ (
-                let last : x ≡ horizon = omega arith in
-                let service = at.service in
-                let high = at.high in
-                let whole : service_of start core.history t x ≡ service_of start core.history t horizon = ap (service_of start core.history t) last in
-                omega (arith, goals, whole, service, high))
-          ]);
+      ready = λ t x within below.
+          let fits : t < length now.rows = omega (arith, count) in
+          let at = driving.rows_moved t (d t fits) fits fits in
+          let P : List Job → Type 0 = λ jobs. IsReadyWhileWorkIsLeft now.scheduler.states t jobs x in
+          subst P (jobs_are t fits) (at.past x (omega arith));
+      no_more = λ t x within below.
+          let fits : t < length now.rows = omega (arith, count) in
+          let at = driving.rows_moved t (d t fits) fits fits in
+          let P : List Job → Type 0 = λ jobs. GetsNoMore now.scheduler.states t jobs x in
+          subst P (jobs_are t fits) (at.past_service x (omega arith));
+      only_ready = λ t x within below.
+          let fits : t < length now.rows = omega (arith, count) in
+          (driving.rows_moved t (d t fits) fits fits).past_linked x (omega arith);
     }
 
--- ---- the history at the end
-pub runs_jobs : (input : JobInputData) (start : State) (jobs : List JobTask) (horizon moment : ℕ) (core : CoreData) (rows : List JobRow) (n : ℕ) (mark other : Mark) → IsTaskSet input.set → start ≡ start_of input.set → jobs ≡ input.jobs → horizon ≡ input.horizon
-    → moment ≡ horizon → n ≡ length rows → IsDriving start jobs horizon moment core rows n mark other → RunsJobs input core.history
-runs_jobs input start jobs horizon moment core rows n mark other valid begins same_jobs same_horizon whole all driving =
-    let set = input.set in
-    let at_start : core.start ≡ start_of set = driving.begins ∙ begins in
-    let legal : IsLegal set core.history = (let P : State → Type 0 = λ s. IsLegalFrom s core.history in subst P at_start driving.core_valid.legal) in
-    let listed : jobs_of rows ≡ input.jobs = driving.same_jobs ∙ same_jobs in
-    let count : length input.jobs ≡ length rows = sym (ap length listed) ∙ length-map rows (λ (row : JobRow). row.job) in
-    let d : (t : ℕ) → t < length rows → JobRow = λ t within. some_row rows t within in
-    let job_is : (t : ℕ) (within : t < length rows) → (row_at rows t (d t within)).job ≡ job_at input.jobs t =
-    λ t within. sym (get_or-map (λ (row : JobRow). row.job) rows t (d t within) no_job within) ∙ ap (λ (js : List JobTask). job_at js t) listed in
-    record {
-      legal = legal;
-      events = driving.events;
-      whole = driving.at_moment ∙ whole ∙ same_horizon;
-      best = λ x below.
-          let prefix = state_by_entries (start_of set) core.history x 0 in
-          let best = legal_is_best set valid core.history legal prefix.0 prefix.1 in
-          subst RunsTheBest (sym prefix.2) best;
-      ready = λ t x within below.
-          let fits : t < length rows = omega (arith, count) in
-          let row = row_at rows t (d t fits) in
-          let at = driving.rows_moved t (d t fits) (omega arith) fits in
-          let P : State → Type 0 = λ s. IsReadyWhileWorkIsLeft s core.history t row.job x in
-          let Q : JobTask → Type 0 = λ job. IsReadyWhileWorkIsLeft (start_of set) core.history t job x in
-          subst Q (job_is t fits) (subst P begins (at.past x (omega arith)));
-      no_more = λ t x within below.
-          let fits : t < length rows = omega (arith, count) in
-          let row = row_at rows t (d t fits) in
-          let at = driving.rows_moved t (d t fits) (omega arith) fits in
-          let P : State → Type 0 = λ s. GetsNoMore s core.history t row.job x in
-          let Q : JobTask → Type 0 = λ job. GetsNoMore (start_of set) core.history t job x in
-          subst Q (job_is t fits) (subst P begins (at.past_service x (omega arith)));
-    }
+-- ---- the moves at the end
+moves_from : (states : Timeline) (horizon k : ℕ) (rows : List JobRow) → ((t : ℕ) (d : JobRow) → t < length rows → (row_at rows t d).moves ≡ moves_of states (k + t) horizon)
+    → sum_by moves_in rows ≡ sum_by (λ t. moves_of states t horizon) (range_with_len k (length rows))
+moves_from states horizon k [] each = refl
+moves_from states horizon k (row ∷ rows) each =
+    let here : row.moves ≡ moves_of states (k + 0) horizon = each 0 row (omega arith) in
+    let first : k + 0 ≡ k = omega arith in
+    let same = ap (λ (t : ℕ). moves_of states t horizon) first in
+    let rest = moves_from states horizon (k + 1) rows (λ t d within. each (suc t) d (omega arith) ∙ ap (λ (n : ℕ). moves_of states n horizon) (next t)) in
+    omega (arith, sum_by-cons moves_in row rows, sum_by-cons (λ t. moves_of states t horizon) k (range_with_len (k + 1) (length rows)), here, same, rest)
   where
-    some_row : (rows : List JobRow) (t : ℕ) → t < length rows → JobRow
-    some_row [] t within = absurd (omega arith)
-    some_row (row ∷ rest) t within = row
+    next : (t : ℕ) → k + suc t ≡ k + 1 + t
+    next t = omega arith
+
+pub moves_of_rows : (states : Timeline) (horizon : ℕ) (rows : List JobRow) → ((t : ℕ) (d : JobRow) → t < length rows → RowIsKept states horizon t (row_at rows t d))
+    → sum_by moves_in rows ≡ moves_of_all states (length (jobs_of rows)) horizon
+moves_of_rows states horizon rows kept =
+    moves_from states horizon 0 rows (λ t d within. (kept t d within).moves ∙ ap (λ (n : ℕ). moves_of states n horizon) (from_zero t))
+    ∙ ap (λ (n : ℕ). moves_of_all states n horizon) (sym (length-map rows (λ (row : JobRow). row.jobs.items)))
+  where
+    from_zero : (t : ℕ) → t ≡ 0 + t
+    from_zero t = omega arith
+
+-- they are not many
+pub moves_fit : (states : Timeline) (horizon : ℕ) (rows : List JobRow) → horizon ≤ 10000000 → length rows ≤ 1024 → ((t : ℕ) (d : JobRow) → t < length rows → RowIsKept states horizon t (row_at rows t d))
+    → sum_by moves_in rows < 2 ^ 64
+moves_fit states horizon rows within few kept =
+    let each : All (λ (row : JobRow). moves_in row ≤ 10000000) rows = λ t d inside. let moves = (kept t d inside).moves in let rarely = moves_within states t horizon in omega (arith, moves, rarely) in
+    let most = sum_by-le moves_in 10000000 rows each in
+    omega (arith, most)

@@ -5,7 +5,7 @@ use Rattle.task_set.specs.declared.fault.TaskFault.TheVariants as task
 use Rattle.line_machine.specs.declared.kind.LineKind.{LineKind}
 use Rattle.line_machine.specs.declared.kind.LineKind.TheVariants as line
 use Rattle.job_release.specs.declared.fault.JobKind.{JobKind}
-use Rattle.job_release.specs.declared.fault.JobKind.TheVariants.{BadByte, LongLine, BadHeader, BadProcessors, BadHorizon, BadTask, BadMask, TaskRefused, ManyJobs, AfterEnd, NoEnd, OutOfMemory}
+use Rattle.job_release.specs.declared.fault.JobKind.TheVariants.{BadByte, LongLine, BadHeader, BadProcessors, BadHorizon, BadTask, BadMask, TaskRefused, BadJob, UnknownTask, Backward, ManyJobs, AfterEnd, NoEnd, OutOfMemory}
 
 -- the number of a kind; out of memory has none
 abbrev pub kind_number : JobKind → Option ℕ
@@ -17,6 +17,9 @@ kind_number BadHorizon = Some 14
 kind_number BadTask = Some 5
 kind_number (BadMask fault) = Some 6
 kind_number (TaskRefused fault) = Some 7
+kind_number BadJob = Some 8
+kind_number UnknownTask = Some 9
+kind_number Backward = Some 19
 kind_number ManyJobs = Some 15
 kind_number AfterEnd = Some 11
 kind_number NoEnd = Some 12

@@ -1,15 +1,32 @@
--- Runs of periodic jobs: the horizon, the jobs of each task, and the core that ran them.
+-- Runs of jobs: the horizon, the jobs of each task, and the scheduler that ran them, or the core of the strong one.
 use Rattle.std.specs.Prelude.{◌≡◌, ℕ, List}
 use Rattle.link_state.specs.State.{start_of}
 use Rattle.sched_core.specs.CoreData.{CoreData, IsCore}
 use Rattle.job_release.specs.JobInput.{JobInputData}
-use Rattle.job_release.specs.declared.input.JobTask.{JobTask}
-use Rattle.job_release.specs.Driven.{RunsJobs}
+use Rattle.job_release.specs.declared.input.Job.{Job}
+use Rattle.job_release.specs.Driven.{RunsJobs, ServesJobs}
+use Rattle.job_release.specs.Scheduler.{SchedulerData}
 
+-- ---- any scheduler
+-- what contracts see of what a scheduler made of jobs
+pub record DrivenData (S : Type 0) : Type 0 where
+  pub horizon : ℕ
+  pub jobs : List (List Job)
+  pub scheduler : S
+
+-- the scheduler began with the tasks of the input, all moments up to its horizon have passed, and at each of them its jobs were served
+pub record IsDrivenOf {S : Type 0} (seen : S → SchedulerData) (input : JobInputData) (driven : DrivenData S) : Type 0 where
+  pub horizon : driven.horizon ≡ input.horizon
+  pub jobs : driven.jobs ≡ input.jobs
+  pub start : (seen driven.scheduler).start ≡ start_of input.set
+  pub whole : (seen driven.scheduler).elapsed ≡ input.horizon
+  pub served : ServesJobs input (seen driven.scheduler).states
+
+-- ---- the strong one
 -- what contracts see of a run
 pub record JobRunData : Type 0 where
   pub horizon : ℕ
-  pub jobs : List JobTask
+  pub jobs : List (List Job)
   pub core : CoreData
 
 -- what holds of each run

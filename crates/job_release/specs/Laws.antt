@@ -1,40 +1,42 @@
--- Laws of the histories that run the jobs of an input. They rest on nothing but the definitions that they name.
-use Rattle.std.specs.Prelude.{◌≡◌, ℕ, ◌+◌, ◌*◌, ◌<◌, ◌≤◌, List, length}
+-- Laws of schedulers that serve the jobs of an input, and of the histories that run them. They rest on nothing but the definitions that
+-- they name.
+use Rattle.std.specs.Prelude.{◌≡◌, ℕ, ◌+◌, ◌<◌, ◌≤◌, List, length}
 use Rattle.scheduler_reply.specs.declared.reply.Entry.{Entry}
-use Rattle.link_state.specs.State.{State, start_of}
-use Rattle.job_release.specs.Jobs.{release_of}
-use Rattle.job_release.specs.JobInput.{JobInputData, IsJobInput, job_at}
-use Rattle.job_release.specs.Driven.{RunsJobs}
+use Rattle.link_state.specs.State.{start_of}
+use Rattle.job_release.specs.Jobs.{job_at, goal_of}
+use Rattle.job_release.specs.JobInput.{JobInputData, IsJobInput, jobs_at}
+use Rattle.job_release.specs.declared.input.Job.{Job}
+use Rattle.job_release.specs.Driven.{RunsJobs, ServesJobs}
 use Rattle.job_release.specs.JobsText.{jobs_text}
-use Rattle.job_release.specs.Moments.{service_of, IsFinish}
+use Rattle.job_release.specs.Moments.{Timeline, state_at, service_of, IsFinish}
 
--- a job that is finished was released at least its cost before
+-- a job that is finished was released at least its cost before, where only ready tasks are linked
 abbrev pub FinishFollowsRelease : Type 0
 FinishFollowsRelease =
-    (input : JobInputData) (history : List Entry) (t k x : ℕ)
-    → IsJobInput input → RunsJobs input history → t < length input.jobs
-    → IsFinish (start_of input.set) history t (job_at input.jobs t).cost input.horizon k x
-    → release_of (job_at input.jobs t) k + (job_at input.jobs t).cost ≤ x
+    (input : JobInputData) (states : Timeline) (t k x : ℕ)
+    → IsJobInput input → ServesJobs input states → t < length input.jobs → k < length (jobs_at input.jobs t)
+    → IsFinish states t (goal_of (jobs_at input.jobs t) k) input.horizon x
+    → (job_at (jobs_at input.jobs t) k).release + (job_at (jobs_at input.jobs t) k).cost ≤ x
 
 -- at the finish of a job its task got exactly the units that this job and those before it ask for
 abbrev pub FinishedJobsRanTheirCosts : Type 0
 FinishedJobsRanTheirCosts =
-    (start : State) (history : List Entry) (t cost horizon k x : ℕ)
-    → IsFinish start history t cost horizon k x → service_of start history t x ≡ (k + 1) * cost
+    (states : Timeline) (t k horizon x : ℕ) (jobs : List Job)
+    → IsFinish states t (goal_of jobs k) horizon x → service_of states t x ≡ goal_of jobs k
 
 -- from there to the finish of the next job it got exactly the units of that one
 abbrev pub NextJobRanItsCost : Type 0
 NextJobRanItsCost =
-    (start : State) (history : List Entry) (t cost horizon k x y : ℕ)
-    → IsFinish start history t cost horizon k x → IsFinish start history t cost horizon (k + 1) y
-    → service_of start history t y ≡ service_of start history t x + cost
+    (states : Timeline) (t k horizon x y : ℕ) (jobs : List Job)
+    → k + 1 < length jobs → IsFinish states t (goal_of jobs k) horizon x → IsFinish states t (goal_of jobs (k + 1)) horizon y
+    → service_of states t y ≡ service_of states t x + (job_at jobs (k + 1)).cost
 
 -- histories that run the jobs of an input give each task the same service before each moment up to the horizon
 abbrev pub InputHasOneService : Type 0
 InputHasOneService =
     (input : JobInputData) (one other : List Entry) (t x : ℕ)
     → IsJobInput input → RunsJobs input one → RunsJobs input other → t < length input.jobs → x ≤ input.horizon
-    → service_of (start_of input.set) one t x ≡ service_of (start_of input.set) other t x
+    → service_of (state_at (start_of input.set) one) t x ≡ service_of (state_at (start_of input.set) other) t x
 
 -- and they have one text
 abbrev pub InputHasOneText : Type 0

@@ -2,12 +2,17 @@ pub mod Driven
 pub mod Driving
 pub mod JobFault
 pub mod JobInput
+pub mod JobList
 pub mod JobRun
 pub mod JobText
 pub mod Jobs
 pub mod JobsText
 pub mod Laws
 pub mod Moments
+pub mod Moves
+pub mod PeriodicLaws
 pub mod Reading
 pub mod RunView
+pub mod Scheduler
+pub mod Strong
 pub mod TextLaws

@@ -1,6 +1,6 @@
 -- Moments of a history. Time passes in ticks alone: the moment of an entry is the sum of the units of the ticks before it. What
 -- is said of a moment counts single moments, from 0 on, and knows nothing of where the ticks begin and end.
-use Rattle.std.specs.Prelude.{ℕ, ◌+◌, ◌*◌, ◌<◌, ◌≤◌, Bool, true, false, List, [], ◌∷◌, ◌++◌, length, nat_le, sum_by, if◌then◌else◌}
+use Rattle.std.specs.Prelude.{ℕ, ◌+◌, ◌<◌, ◌≤◌, Bool, true, false, List, [], ◌∷◌, ◌++◌, length, nat_le, sum_by, if◌then◌else◌}
 use Rattle.affinity_mask.specs.ProcSet.{passing_below}
 use Rattle.task_set.specs.declared.event.Event.{Event}
 use Rattle.task_set.specs.declared.event.Event.TheVariants.{Arrive, Depart, Tick, Affinity, Offline, Online}
@@ -45,17 +45,21 @@ changes_by x entry_moment (entry ∷ rest) =
 abbrev pub state_at : State → List Entry → ℕ → State
 state_at start history x = state_after start (changes_by x 0 history)
 
+-- what is linked at each moment, whatever scheduler links it
+abbrev pub Timeline : Type 0
+Timeline = ℕ → State
+
 -- the service that a task got before the moment x: the number of moments below x in whose state it is linked
-abbrev pub service_of : State → List Entry → ℕ → ℕ → ℕ
-service_of start history t x = length (passing_below (λ y. is_linked (state_at start history y) t) x)
+abbrev pub service_of : Timeline → ℕ → ℕ → ℕ
+service_of states t x = length (passing_below (λ y. is_linked (states y) t) x)
 
--- job k of a task is finished at the moment x: x is the least moment up to the horizon before which the task got the cost of k + 1
--- jobs
-pub record IsFinish (start : State) (history : List Entry) (t cost horizon k x : ℕ) : Type 0 where
+-- a job of the task t, which is finished after so many units of service, is finished at the moment x: x is the least moment up to the
+-- horizon before which the task got them
+pub record IsFinish (states : Timeline) (t goal horizon x : ℕ) : Type 0 where
   pub within : x ≤ horizon
-  pub got : (k + 1) * cost ≤ service_of start history t x
-  pub least : (y : ℕ) → y < x → service_of start history t y < (k + 1) * cost
+  pub got : goal ≤ service_of states t x
+  pub least : (y : ℕ) → y < x → service_of states t y < goal
 
--- job k of a task is not finished up to the horizon
-abbrev pub IsUnfinished : State → List Entry → ℕ → ℕ → ℕ → ℕ → Type 0
-IsUnfinished start history t cost horizon k = (x : ℕ) → x ≤ horizon → service_of start history t x < (k + 1) * cost
+-- it is not finished up to the horizon
+abbrev pub IsUnfinished : Timeline → ℕ → ℕ → ℕ → Type 0
+IsUnfinished states t goal horizon = (x : ℕ) → x ≤ horizon → service_of states t x < goal

@@ -1,4 +1,4 @@
--- Laws of the texts of periodic tasks. They rest on nothing but the definitions that they name.
+-- Laws of the texts of jobs. They rest on nothing but the definitions that they name.
 use Rattle.std.specs.Prelude.{◌≡◌, ℕ, ◌⊎◌, List}
 use Rattle.job_release.specs.JobInput.{JobInputData, IsJobInput}
 use Rattle.job_release.specs.JobText.{IsJobText, IsJobRefused}

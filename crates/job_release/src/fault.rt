@@ -1,4 +1,4 @@
-//! Why a text is not one of periodic tasks.
+//! Why a text is not one of jobs.
 ghost use Rattle.std.specs.Prelude.{◌≡◌};
 ghost use Rattle.job_release.specs.JobFault.{kind_number};
 
@@ -31,7 +31,8 @@ pub enum JobKind {
     /// The horizon is expected, and the line does not say it.
     BadHorizon,
 
-    /// A task or the end is expected, and the line is neither the end nor has the form of a task.
+    /// A task line is expected, and the line has not its form: in version 1 wherever the line is not the end, and in version
+    /// 2 where its first field is `task` and no job came yet.
     BadTask,
 
     /// The fourth field of a task line is no processor list.
@@ -40,7 +41,16 @@ pub enum JobKind {
     /// The task of a task line cannot be added. The cause is never out of memory here.
     TaskRefused(TaskFault),
 
-    /// The tasks up to this line have more than 4,000 jobs below the horizon.
+    /// In version 2 a task before the first job, a job or the end is expected, and the line is none of them.
+    BadJob,
+
+    /// No task has the name of a job line.
+    UnknownTask,
+
+    /// The job is released before the one before it of its task.
+    Backward,
+
+    /// The tasks and jobs up to this line are more than 4,000 jobs below the horizon.
     ManyJobs,
 
     /// The line stands after the end.
@@ -67,6 +77,9 @@ impl JobKind {
             JobKind::BadTask => Some(5),
             JobKind::BadMask(_) => Some(6),
             JobKind::TaskRefused(_) => Some(7),
+            JobKind::BadJob => Some(8),
+            JobKind::UnknownTask => Some(9),
+            JobKind::Backward => Some(19),
             JobKind::ManyJobs => Some(15),
             JobKind::AfterEnd => Some(11),
             JobKind::NoEnd => Some(12),

@@ -1,7 +1,8 @@
-//! What holds of the texts of periodic tasks, whatever program reads them, and of every history that runs the jobs of an
-//! input, whatever program gives it. Each law is the contract of a function that does nothing: a caller in a proof gets the
-//! law by its clause.
+//! What holds of the texts of jobs, whatever program reads them, and of every scheduler that serves the jobs of an input,
+//! whatever program it is. Each law is the contract of a function that does nothing: a caller in a proof gets the law by its
+//! clause.
 ghost use Rattle.job_release.specs.Laws.{FinishFollowsRelease, FinishedJobsRanTheirCosts, NextJobRanItsCost, InputHasOneService, InputHasOneText};
+ghost use Rattle.job_release.specs.PeriodicLaws.{PeriodicDemand, PeriodicGoals, PeriodicDueTimes};
 ghost use Rattle.job_release.specs.TextLaws.{TextHasOneInput, TextHasOneFault, InputHasNoFault, AcceptedOrRefused, TextIsOfValidInput};
 
 use crate::stage::Stage;
@@ -44,7 +45,16 @@ pub fn text_is_of_valid_input()
     ensures { TextIsOfValidInput }
 {}
 
-/// A job is finished no earlier than its cost after its release. So what a text says of its response is the plain
+/// The jobs of a periodic task ask for what its offset, its period and its cost say: at each moment below the horizon for the
+/// cost of each job that is released by then. Job k is finished after the cost of k + 1 jobs, and is due when the next one is
+/// released.
+pub fn periodic_jobs_follow_their_times()
+    ensures demand { PeriodicDemand }
+    ensures goals { PeriodicGoals }
+    ensures due { PeriodicDueTimes }
+{}
+
+/// A job is finished no earlier than its cost after its release, under whatever scheduler. So what a text says of its response is the plain
 /// difference of its finish and its release.
 pub fn finish_follows_release()
     ensures { FinishFollowsRelease }

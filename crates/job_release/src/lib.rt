@@ -1,29 +1,38 @@
-//! Periodic tasks, from their text to the text of their jobs.
+//! Jobs of tasks, from their text to the text of their finishes.
 //!
-//! [`read_jobs`] reads the text of a [`JobInput`]: a header, the number of processors, the horizon, a line for each task with
-//! the offset, the period and the cost of its jobs, and the end, with comments, blank lines and further blanks where a person
-//! puts them. Any other text is refused with the first line that has a fault, and the kind of the fault.
+//! [`read_jobs`] reads the text of a [`JobInput`]: a header with the version, the number of processors, the horizon, the tasks,
+//! and the end, with comments, blank lines and further blanks where a person puts them. In version 1 the line of a task has the
+//! offset, the period and the cost of its jobs; in version 2 each job has a line of its own after the tasks, with its release,
+//! its cost and, where it has one, its deadline. Any other text is refused with the first line that has a fault, and the kind of
+//! the fault. [`write_job_list`] writes a text of version 2.
 //!
-//! [`drive_jobs`] releases the jobs up to the horizon, and the scheduler runs them; [`write_jobs`] writes when each of them is
-//! finished.
+//! [`drive`] releases the jobs up to the horizon, and any [`JobScheduler`] runs them; [`drive_jobs`] is that with the strong
+//! scheduler, and [`write_jobs`] writes when each job is finished.
 //!
-//! The [`laws`] say that a text has one input, that a job is finished at least its cost after its release, and that all
-//! histories which run the jobs of one input give each task the same service and have one text.
+//! The [`laws`] say that a text has one input, that the jobs of a periodic task ask for what its offset, its period and its cost
+//! say, that a job is finished at least its cost after its release, and that all histories which run the jobs of one input give
+//! each task the same service and have one text.
 #![tactic(auto)]
 
 mod driver;
 pub mod fault;
 mod form;
 pub mod input;
+mod job_list;
 pub mod laws;
 pub mod read;
 mod row;
 mod run;
+pub mod scheduler;
 mod stage;
+mod strong;
 mod write;
 
 pub use fault::{JobFault, JobKind};
-pub use input::{JobInput, JobTask, MAX_JOBS, MAX_TIME};
+pub use input::{Job, JobInput, JobTask, MAX_JOBS, MAX_PERIODIC_TIME, MAX_TIME};
+pub use job_list::{ListedJob, write_job_list};
 pub use read::read_jobs;
-pub use run::{JobRun, drive_jobs};
+pub use run::{Driven, JobRun, drive, drive_jobs};
+pub use scheduler::JobScheduler;
+pub use strong::Strong;
 pub use write::write_jobs;

@@ -1,4 +1,4 @@
-//! The reader of texts of periodic tasks.
+//! The reader of texts of jobs.
 ghost use Rattle.std.specs.Prelude.{◌≡◌, ◌⊎◌, ℕ, IfOk, IfErr, MatchResult};
 ghost use Rattle.job_release.specs.JobInput.{JobInputData};
 ghost use Rattle.job_release.specs.JobText.{IsJobText, IsJobRefused};

@@ -1,23 +1,21 @@
 //! What was read so far, and what is expected.
-ghost use Rattle.std.specs.Prelude.{◌≡◌, ◌≢◌, ℕ, ◌≤◌, ◌↔◌, ◌<◌, ◌+◌, IsTrue, IfOk, IfErr, OnOk, MatchOption, All};
-ghost use Rattle.job_release.specs.Jobs.{total_jobs};
-ghost use Rattle.job_release.specs.JobInput.{IsJobInput};
-ghost use Rattle.job_release.specs.JobText.{IsWorded, IsTaskOutcome, IsListedOutcome, IsOutcome, HeaderExpected, ProcessorsExpected, HorizonExpected, Listed, end_line};
-ghost use Rattle.line_machine.specs.Machine.{Leads};
-ghost use Rattle.job_release.specs.Reading.{progress_of, line_of, IsValid, IsRefusedBy};
+ghost use Rattle.std.specs.Prelude.{◌≡◌, ◌≢◌, ◌+◌, ℕ, ◌≤◌, ◌<◌, ◌↔◌, length, IsTrue, IfOk, IfErr, IfSome, OnOk, MatchOption, MatchBool};
+ghost use Rattle.job_release.specs.JobInput.{IsJob, IsJobTask, IsJobInput, last_release, total_jobs};
+ghost use Rattle.job_release.specs.JobText.{IsWorded, IsTaskOutcome, IsTaskLineOutcome, IsJobOutcome, IsJobLineOutcome, IsListedOutcome, IsOutcome, IsForTask, BeginsTask, HeaderExpected, ProcessorsExpected, HorizonExpected, Listed, end_line, max_horizon, jobs_of_times};
+ghost use Rattle.job_release.specs.Reading.{progress_of, line_of, job_line_of, IsValid, IsVersion, IsRefusedBy};
 ghost use Rattle.line_machine.specs.Fields.{texts};
-ghost use Rattle.job_release.specs.declared.input.JobTask.{JobTask};
+ghost use Rattle.line_machine.specs.Machine.{Leads};
 
 use crate::fault::JobKind;
-use crate::form::TaskForm;
-use crate::input::{JobInput, JobTask, MAX_JOBS, MAX_TIME};
-use affinity_mask::ProcSet;
+use crate::form::{JobForm, TaskForm};
+use crate::input::{Job, JobInput, JobTask, MAX_JOBS, MAX_PERIODIC_TIME, MAX_TIME};
+use affinity_mask::{OutOfMemory, ProcSet};
 use line_machine::{LineKind, LineMachine};
 use std::alloc::Global;
 use std::str;
 use task_set::{TaskFault, TaskSet};
-use text_fields::limits::{FIRST_VERSION, MAX_PRIORITY, MAX_PROCESSORS};
-use text_fields::{is_word, read_number};
+use text_fields::limits::{FIRST_VERSION, LAST_VERSION, MAX_PROCESSORS};
+use text_fields::{is_word, read_number, task_of};
 
 /// What some lines said, and so what is expected after them.
 #[derive(Drop)]
@@ -26,27 +24,19 @@ pub enum Stage {
     HeaderExpected,
 
     /// The number of processors is expected.
-    ProcessorsExpected,
+    ProcessorsExpected { version: u8 },
 
     /// The horizon is expected.
-    HorizonExpected {
-        processors: u8,
-    },
+    HorizonExpected { version: u8, processors: u8 },
 
-    /// Tasks, then the end are expected, or the end came.
-    Listed {
-        horizon: u32,
-        set: TaskSet,
-        jobs: Vec<JobTask>,
-        is_ended: bool,
-    },
+    /// Tasks, jobs, then the end are expected, or the end came.
+    Listed { input: JobInput, is_ended: bool },
 }
 
 impl LineMachine for Stage {
     ghost use Rattle.std.specs.Prelude.{true};
     ghost use Rattle.job_release.specs.JobFault.{job_kind};
-    ghost use Rattle.job_release.specs.JobText.{Progress, HeaderExpected, IsOutcome, IsEndOutcome};
-    ghost use Rattle.job_release.specs.Reading.{progress_of, IsValid};
+    ghost use Rattle.job_release.specs.JobText.{Progress, IsEndOutcome};
 
     type Value = JobInput;
 
@@ -85,32 +75,33 @@ impl LineMachine for Stage {
     fn after(&mut self, alloc: Global, fields: &[&[u8]]) -> Result<(), JobKind> {
         match self {
             Stage::HeaderExpected => {
-                read_header(fields)?;
-                *self = Stage::ProcessorsExpected;
+                let version = read_header(fields)?;
+                *self = Stage::ProcessorsExpected { version };
                 Ok(())
             }
-            Stage::ProcessorsExpected => {
-                let processors = read_processors(fields)?;
-                *self = Stage::HorizonExpected { processors };
+            Stage::ProcessorsExpected { version } => {
+                let processors = read_processors(*version, fields)?;
+                *self = Stage::HorizonExpected {
+                    version: *version,
+                    processors,
+                };
                 Ok(())
             }
-            Stage::HorizonExpected { processors } => {
-                *self = start(alloc, *processors, fields)?;
-                Ok(())
-            }
-            Stage::Listed {
-                horizon,
-                set,
-                jobs,
-                is_ended,
+            Stage::HorizonExpected {
+                version,
+                processors,
             } => {
+                *self = start(alloc, *version, *processors, fields)?;
+                Ok(())
+            }
+            Stage::Listed { input, is_ended } => {
                 if *is_ended {
                     Err(JobKind::AfterEnd)
                 } else if is_end(fields) {
                     *is_ended = true;
                     Ok(())
                 } else {
-                    read_task(*horizon, set, jobs, fields)
+                    list_line(alloc, input, fields)
                 }
             }
         }
@@ -119,11 +110,9 @@ impl LineMachine for Stage {
     fn at_end(self) -> Result<JobInput, JobKind> {
         match self {
             Stage::Listed {
-                horizon,
-                set,
-                jobs,
+                input,
                 is_ended: true,
-            } => Ok(JobInput::new(set, horizon, jobs)),
+            } => Ok(input),
             _ => Err(JobKind::NoEnd),
         }
     }
@@ -141,23 +130,24 @@ fn read_worded(fields: &[&[u8]], word: &str, least: u64, most: u64) -> Option<u6
     }
 }
 
-/// Reads the header.
-fn read_header(fields: &[&[u8]]) -> Result<(), JobKind>
-    ensures read { OnOk result (IsOutcome HeaderExpected (texts fields.now)
-        (Leads ProcessorsExpected)) }
+/// Reads the version.
+fn read_header(fields: &[&[u8]]) -> Result<u8, JobKind>
+    ensures read { IfOk result (λ version. IsOutcome HeaderExpected (texts fields.now)
+        (Leads (ProcessorsExpected version))) }
     ensures refused { IfErr result (IsRefusedBy (IsOutcome HeaderExpected (texts fields.now))) }
 {
-    match read_worded(fields, "jobs", FIRST_VERSION as u64, FIRST_VERSION as u64) {
-        Some(_) => Ok(()),
+    match read_worded(fields, "jobs", FIRST_VERSION as u64, LAST_VERSION as u64) {
+        Some(version) => Ok(version as u8),
         None => Err(JobKind::BadHeader),
     }
 }
 
 /// Reads how many processors there are.
-fn read_processors(fields: &[&[u8]]) -> Result<u8, JobKind>
-    ensures read { IfOk result (λ processors. IsOutcome ProcessorsExpected (texts fields.now)
-        (Leads (HorizonExpected processors))) }
-    ensures refused { IfErr result (IsRefusedBy (IsOutcome ProcessorsExpected
+fn read_processors(version: u8, fields: &[&[u8]]) -> Result<u8, JobKind>
+    ensures read { IfOk result (λ processors.
+        IsOutcome (ProcessorsExpected version) (texts fields.now)
+        (Leads (HorizonExpected version processors))) }
+    ensures refused { IfErr result (IsRefusedBy (IsOutcome (ProcessorsExpected version)
         (texts fields.now))) }
 {
     match read_worded(fields, "processors", 1, MAX_PROCESSORS) {
@@ -166,50 +156,35 @@ fn read_processors(fields: &[&[u8]]) -> Result<u8, JobKind>
     }
 }
 
+/// The greatest horizon in a text of this version.
+fn most_time(version: u8) -> u64
+    ensures { result ≡ max_horizon version }
+{
+    if version == FIRST_VERSION {
+        MAX_PERIODIC_TIME
+    } else {
+        MAX_TIME
+    }
+}
+
 /// Nothing is listed yet, up to the horizon that a line says.
-fn start(alloc: Global, processors: u8, fields: &[&[u8]]) -> Result<Stage, JobKind>
-    requires { (1 ≤ processors) × (processors ≤ 64) }
-    ensures read { IfOk result (λ next. IsOutcome (HorizonExpected processors) (texts fields.now)
+fn start(alloc: Global, version: u8, processors: u8, fields: &[&[u8]]) -> Result<Stage, JobKind>
+    requires version { IsVersion version }
+    requires processors { (1 ≤ processors) × (processors ≤ 64) }
+    ensures read { IfOk result (λ next.
+        IsOutcome (HorizonExpected version processors) (texts fields.now)
         (Leads (progress_of next))) }
-    ensures refused { IfErr result (IsRefusedBy (IsOutcome (HorizonExpected processors)
+    ensures refused { IfErr result (IsRefusedBy (IsOutcome (HorizonExpected version processors)
         (texts fields.now))) }
 {
-    let Some(horizon) = read_worded(fields, "horizon", 1, MAX_TIME) else {
+    let Some(horizon) = read_worded(fields, "horizon", 1, most_time(version)) else {
         return Err(JobKind::BadHorizon);
     };
     let set = TaskSet::new(alloc, processors)?;
     Ok(Stage::Listed {
-        horizon: horizon as u32,
-        set,
-        jobs: Vec::new(alloc),
+        input: JobInput::new(version, set, horizon as u32, Vec::new(alloc)),
         is_ended: false,
     })
-}
-
-/// Reads a task, which is listed after the others.
-fn read_task(
-    horizon: u32,
-    set: &mut TaskSet,
-    jobs: &mut Vec<JobTask>,
-    fields: &[&[u8]],
-) -> Result<(), JobKind>
-    requires listed { IsJobInput (record {
-      set = set.old;
-      horizon = horizon;
-      jobs = jobs.old.items;
-    }) }
-    requires end { texts fields.now ≢ end_line }
-    ensures read { OnOk result (IsListedOutcome
-        (record { set = set.old; horizon = horizon; jobs = jobs.old.items }) (texts fields.now)
-        (Leads (Listed (record { set = set.new; horizon = horizon; jobs = jobs.new.items })))) }
-    ensures refused { IfErr result (IsRefusedBy (IsListedOutcome
-        (record { set = set.old; horizon = horizon; jobs = jobs.old.items })
-        (texts fields.now))) }
-{
-    match TaskForm::read(fields) {
-        Some(form) => list_task(horizon, set, jobs, &form),
-        None => Err(JobKind::BadTask),
-    }
 }
 
 /// Whether the line is `end` alone.
@@ -222,49 +197,140 @@ fn is_end(fields: &[&[u8]]) -> bool
     }
 }
 
+/// Lists the task or the job of a line, after the others.
+fn list_line(alloc: Global, input: &mut JobInput, fields: &[&[u8]]) -> Result<(), JobKind>
+    requires { texts fields.now ≢ end_line }
+    ensures read { OnOk result (IsListedOutcome input.old (texts fields.now)
+        (Leads (Listed input.new))) }
+    ensures refused { IfErr result (IsRefusedBy (IsListedOutcome input.old
+        (texts fields.now))) }
+{
+    if is_for_task(input, fields) {
+        list_task_line(alloc, input, fields)
+    } else {
+        list_job_line(input, fields)
+    }
+}
+
+/// Whether the line is for a task: in version 1 each is, and in version 2 one whose first field is `task`, where no job came
+/// yet.
+fn is_for_task(input: &JobInput, fields: &[&[u8]]) -> bool
+    ensures { MatchBool result
+        (IsForTask input.now (texts fields.now))
+        (IsForTask input.now (texts fields.now) → ⊥) }
+{
+    input.version() == FIRST_VERSION || (input.total() == 0 && begins_task(fields))
+}
+
+/// Whether the first field is `task`.
+fn begins_task(fields: &[&[u8]]) -> bool
+    ensures { IsTrue result ↔ BeginsTask (texts fields.now) }
+{
+    match fields {
+        [word, ..] => is_word(word, "task"),
+        [] => false,
+    }
+}
+
 /// Lists the task of a line.
-fn list_task(
-    horizon: u32,
-    set: &mut TaskSet,
-    jobs: &mut Vec<JobTask>,
-    form: &TaskForm,
-) -> Result<(), JobKind>
-    requires listed { IsJobInput (record {
-      set = set.old;
-      horizon = horizon;
-      jobs = jobs.old.items;
-    }) }
-    requires period { 1 ≤ form.now.job.period }
-    ensures read { OnOk result (IsTaskOutcome
-        (record { set = set.old; horizon = horizon; jobs = jobs.old.items }) (line_of form.now)
-        (Leads (Listed (record { set = set.new; horizon = horizon; jobs = jobs.new.items })))) }
-    ensures refused { IfErr result (IsRefusedBy (IsTaskOutcome
-        (record { set = set.old; horizon = horizon; jobs = jobs.old.items })
-        (line_of form.now))) }
+fn list_task_line(alloc: Global, input: &mut JobInput, fields: &[&[u8]]) -> Result<(), JobKind>
+    ensures read { OnOk result (IsTaskLineOutcome input.old (texts fields.now)
+        (Leads (Listed input.new))) }
+    ensures refused { IfErr result (IsRefusedBy (IsTaskLineOutcome input.old
+        (texts fields.now))) }
+{
+    match TaskForm::read(input.version(), fields) {
+        Some(form) => list_task(alloc, input, &form),
+        None => Err(JobKind::BadTask),
+    }
+}
+
+/// Lists a task with its jobs.
+fn list_task(alloc: Global, input: &mut JobInput, form: &TaskForm) -> Result<(), JobKind>
+    requires { IfSome form.now.times IsJobTask }
+    ensures read { OnOk result (IsTaskOutcome input.old (line_of form.now)
+        (Leads (Listed input.new))) }
+    ensures refused { IfErr result (IsRefusedBy (IsTaskOutcome input.old (line_of form.now))) }
 {
     let mask = ProcSet::read_list(form.list)?;
     let Ok(name) = str::from_utf8(form.name) else {
         return Err(JobKind::TaskRefused(TaskFault::BadName));
     };
-    set.add(name, form.priority, mask)?;
-    if jobs_of_all(horizon, jobs) + form.job.count(horizon) as u64 > MAX_JOBS {
+    match few_jobs(alloc, input, form.times)? {
+        Some(jobs) => {
+            input.add_task(name, form.priority, mask, jobs)?;
+            Ok(())
+        }
+        None => {
+            input.add_task(name, form.priority, mask, Vec::new(alloc))?;
+            Err(JobKind::ManyJobs)
+        }
+    }
+}
+
+/// The jobs of a task line below the horizon, or `None` where there would be too many with them.
+fn few_jobs(
+    alloc: Global,
+    input: &JobInput,
+    times: Option<JobTask>,
+) -> Result<Option<Vec<Job>>, OutOfMemory>
+    requires { IfSome times IsJobTask }
+    ensures valid { IsJobInput input.now }
+    ensures found { IfOk result (λ found. MatchOption found
+        (4000 < total_jobs input.now.jobs + length (jobs_of_times input.now.horizon times))
+        (λ jobs. (jobs.items ≡ jobs_of_times input.now.horizon times)
+        × (total_jobs input.now.jobs + length jobs.items ≤ 4000))) }
+{
+    let total = input.total();
+    let Some(task) = times else {
+        return Ok(Some(Vec::new(alloc)));
+    };
+    if total + task.count(input.horizon()) as u64 > MAX_JOBS {
+        return Ok(None);
+    }
+    Ok(Some(task.jobs(alloc, input.horizon())?))
+}
+
+/// Lists the job of a line.
+fn list_job_line(input: &mut JobInput, fields: &[&[u8]]) -> Result<(), JobKind>
+    ensures read { OnOk result (IsJobLineOutcome input.old (texts fields.now)
+        (Leads (Listed input.new))) }
+    ensures refused { IfErr result (IsRefusedBy (IsJobLineOutcome input.old
+        (texts fields.now))) }
+{
+    match JobForm::read(input.horizon(), fields) {
+        Some(form) => list_job(input, &form),
+        None => Err(JobKind::BadJob),
+    }
+}
+
+/// Lists a job, as the last one of its task.
+fn list_job(input: &mut JobInput, form: &JobForm) -> Result<(), JobKind>
+    requires { IsJob input.old.horizon form.now.job }
+    ensures read { OnOk result (IsJobOutcome input.old (job_line_of form.now)
+        (Leads (Listed input.new))) }
+    ensures refused { IfErr result (IsRefusedBy (IsJobOutcome input.old
+        (job_line_of form.now))) }
+{
+    let Some(t) = task_of(input.set(), form.name) else {
+        return Err(JobKind::UnknownTask);
+    };
+    if form.job.release < last_release_of(input.jobs(t)) {
+        return Err(JobKind::Backward);
+    }
+    if input.total() == MAX_JOBS {
         return Err(JobKind::ManyJobs);
     }
-    if jobs.push(form.job).is_err() {
-        return Err(JobKind::OutOfMemory);
-    }
+    input.add_job(t, form.job)?;
     Ok(())
 }
 
-/// How many jobs there are below the horizon.
-fn jobs_of_all(horizon: u32, jobs: &[JobTask]) -> u64
-    requires each { All (λ (job : JobTask). 1 ≤ job.period) jobs.now }
-    requires few { total_jobs horizon jobs.now ≤ 4000 }
-    ensures { result ≡ total_jobs horizon jobs.now }
+/// The release of the last job, and 0 where there is none.
+fn last_release_of(jobs: &[Job]) -> u32
+    ensures { result ≡ last_release jobs.now }
 {
-    let mut count = 0;
-    for job in jobs {
-        count += job.count(horizon) as u64;
+    match jobs.last() {
+        Some(job) => job.release,
+        None => 0,
     }
-    count
 }

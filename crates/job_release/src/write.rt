@@ -1,8 +1,10 @@
-//! The text of a run of periodic jobs.
+//! The text of a run of jobs.
 ghost use Rattle.std.specs.Prelude.{◌≡◌, ◌<◌, ◌≤◌, ◌++◌, IfOk, OnOk, IfSome, length};
 ghost use Rattle.std.specs.List.{flat_map, range_with_len};
+ghost use Rattle.link_state.specs.State.{start_of};
 ghost use Rattle.job_release.specs.JobRun.{IsRunOf};
-ghost use Rattle.job_release.specs.JobsText.{jobs_text, job_line, lines_of_task, response_text};
+ghost use Rattle.job_release.specs.JobsText.{heading_text, jobs_text, job_line, lines_of_task, response_text};
+ghost use Rattle.job_release.specs.Moments.{state_at};
 
 use crate::input::JobInput;
 use crate::run::JobRun;
@@ -16,19 +18,29 @@ pub fn write_jobs(alloc: Global, input: &JobInput, run: &JobRun) -> Result<Vec<u
     ensures { IfOk result (λ text. text.items ≡ jobs_text input.now run.now.core.history) }
 {
     let mut text = Vec::new(alloc);
-    text.extend_from_slice(b"jobs 1\nhorizon ")?;
-    write_number(&mut text, input.horizon() as u64)?;
-    text.push(b'\n')?;
+    write_heading(&mut text, input)?;
     write_tasks(&mut text, input, run)?;
     text.extend_from_slice(b"end\n")?;
     Ok(text)
+}
+
+/// Appends the header and the horizon.
+fn write_heading(text: &mut Vec<u8>, input: &JobInput) -> Result<(), OutOfMemory>
+    ensures { OnOk result (text.new.items ≡ text.old.items ++ heading_text input.now) }
+{
+    text.extend_from_slice(b"jobs ")?;
+    write_number(text, input.version() as u64)?;
+    text.extend_from_slice(b"\nhorizon ")?;
+    write_number(text, input.horizon() as u64)?;
+    text.push(b'\n')?;
+    Ok(())
 }
 
 /// Appends the jobs of all tasks.
 fn write_tasks(text: &mut Vec<u8>, input: &JobInput, run: &JobRun) -> Result<(), OutOfMemory>
     requires { IsRunOf input.now run.now }
     ensures { OnOk result (text.new.items ≡ text.old.items
-        ++ flat_map (lines_of_task input.now run.now.core.history)
+        ++ flat_map (lines_of_task input.now (state_at (start_of input.now.set) run.now.core.history))
         (range_with_len 0 (length input.now.set.tasks))) }
 {
     for t in 0..input.set().len() {
@@ -42,12 +54,12 @@ fn write_task(text: &mut Vec<u8>, input: &JobInput, run: &JobRun, t: u32) -> Res
     requires run { IsRunOf input.now run.now }
     requires task { t < length input.now.set.tasks }
     ensures { OnOk result (text.new.items ≡ text.old.items
-        ++ lines_of_task input.now run.now.core.history t) }
+        ++ lines_of_task input.now (state_at (start_of input.now.set) run.now.core.history) t) }
 {
-    let job = input.job(t);
-    for k in 0..job.count(input.horizon()) {
-        let finish = run.finish(t, k);
-        write_job(text, input.set().name(t), k, job.release(k), finish)?;
+    let jobs = input.jobs(t);
+    for k in 0..jobs.len() {
+        let finish = run.finish(t, k as u32);
+        write_job(text, input.set().name(t), k as u32, jobs[k].release, finish)?;
     }
     Ok(())
 }
@@ -57,7 +69,7 @@ fn write_job(
     text: &mut Vec<u8>,
     name: &str,
     k: u32,
-    release: u64,
+    release: u32,
     finish: Option<u32>,
 ) -> Result<(), OutOfMemory>
     requires { IfSome finish (λ x. release ≤ x) }
@@ -68,7 +80,7 @@ fn write_job(
     text.push(b' ')?;
     write_number(text, k as u64)?;
     text.push(b' ')?;
-    write_number(text, release)?;
+    write_number(text, release as u64)?;
     text.push(b' ')?;
     write_response(text, release, finish)?;
     text.push(b'\n')?;
@@ -76,7 +88,7 @@ fn write_job(
 }
 
 /// Appends the finish and the response of a job.
-fn write_response(text: &mut Vec<u8>, release: u64, finish: Option<u32>) -> Result<(), OutOfMemory>
+fn write_response(text: &mut Vec<u8>, release: u32, finish: Option<u32>) -> Result<(), OutOfMemory>
     requires { IfSome finish (λ x. release ≤ x) }
     ensures { OnOk result (text.new.items ≡ text.old.items ++ response_text release finish) }
 {
@@ -85,7 +97,7 @@ fn write_response(text: &mut Vec<u8>, release: u64, finish: Option<u32>) -> Resu
         Some(finish) => {
             write_number(text, finish as u64)?;
             text.push(b' ')?;
-            write_number(text, finish as u64 - release)?;
+            write_number(text, (finish - release) as u64)?;
         }
     }
     Ok(())

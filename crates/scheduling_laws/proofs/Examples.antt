@@ -22,8 +22,9 @@ use Rattle.link_state.specs.Placement.{TaskTest, IsSubset, IsPlaceable}
 use Rattle.link_state.specs.Dispatch.{closed_orders_of}
 use Rattle.link_state.proofs.Paths.{Reaches-online}
 use Rattle.trace_reader.specs.declared.posted.Posted.{Posted}
+use Rattle.job_release.specs.Jobs.{job_at}
 use Rattle.job_release.specs.JobInput.{JobInputData}
-use Rattle.job_release.specs.declared.input.JobTask.{JobTask}
+use Rattle.job_release.specs.declared.input.Job.{Job}
 use Rattle.scheduling_laws.specs.Faces.{IsCertifiedByReach}
 use Rattle.scheduling_laws.specs.Going.{IsRun, times_taken, times_released, CanBeObeyed}
 use Rattle.scheduling_laws.specs.InReach.{IsWorkConserving, HasNoInversion}
@@ -31,7 +32,7 @@ use Rattle.scheduling_laws.specs.Isolation.{IsUrgent, IsSameTask, AgreeUpTo}
 use Rattle.scheduling_laws.specs.Merges.{HaveStreams, HaveSameTasksLinked}
 use Rattle.scheduling_laws.specs.OneEnd.{is_of_task, is_of_processor, events_that, events_by, HaveSameEvents, HaveCallers}
 use Rattle.scheduling_laws.specs.ShiftCounts.{shifts_of, most_shifts}
-use Rattle.scheduling_laws.specs.Sustained.{AsksNoMore, AsksNoMoreUpTo}
+use Rattle.scheduling_laws.specs.Sustained.{IsNoLonger, AsksNoMore, AsksNoMoreUpTo}
 use Rattle.scheduling_laws.specs.Urgency.{urgent_of}
 use Rattle.scheduling_laws.specs.UrgentWork.{IsChoice, urgent_work}
 
@@ -266,14 +267,22 @@ unfolding has intersection all_below
 work_lost conserving = conserving 1 0 record { ready = refl; not_linked = refl } (1 ∷ 0 ∷ [], (refl, ((0, refl, refl), refl))) (refl, refl)
 
 -- ---- an input with c, and one without it, agree up to priority 2; and b's jobs are shorter in the second
-abbrev job : ℕ → JobTask
-job cost = record { offset = 0; period = 9; cost = cost }
+abbrev job : ℕ → ℕ → Job
+job release cost = record { release = release; cost = cost; deadline = Some 9 }
+
+abbrev two_jobs : ℕ → List Job
+two_jobs cost = job 0 cost ∷ job 9 cost ∷ []
 
 abbrev with_c : JobInputData
-with_c = record { set = three_tasks; horizon = 30; jobs = job 3 ∷ job 4 ∷ job 5 ∷ [] }
+with_c = record { version = 2; set = three_tasks; horizon = 30; jobs = two_jobs 3 ∷ two_jobs 4 ∷ two_jobs 5 ∷ [] }
 
 abbrev without_c : ℕ → JobInputData
-without_c cost = record { set = record { processors = 2; tasks = task 1 3 ∷ task 2 2 ∷ [] }; horizon = 30; jobs = job 3 ∷ job cost ∷ [] }
+without_c cost = record {
+  version = 2;
+  set = record { processors = 2; tasks = task 1 3 ∷ task 2 2 ∷ [] };
+  horizon = 30;
+  jobs = two_jobs 3 ∷ two_jobs cost ∷ [];
+}
 
 is_urgent_without : (cost t : ℕ) → IsUrgent with_c 2 t → IsUrgent (without_c cost) 2 t
 is_urgent_without cost zero h = (omega arith, omega arith)
@@ -290,17 +299,22 @@ agree : AgreeUpTo 2 with_c (without_c 4)
 agree = record { processors = refl; horizon = refl; urgent = λ t. (is_urgent_without 4 t, is_urgent_with 4 t); same = λ t urgent. same t (urgent.0) (urgent.1) }
   where
     same : (t : ℕ) → t < 3 → priority_of (start_of three_tasks) t ≤ 2 → IsSameTask with_c (without_c 4) t
-    same zero lt le = record { priority = refl; mask = refl; job = refl }
-    same (suc zero) lt le = record { priority = refl; mask = refl; job = refl }
+    same zero lt le = record { priority = refl; mask = refl; jobs = refl }
+    same (suc zero) lt le = record { priority = refl; mask = refl; jobs = refl }
     same (suc (suc zero)) lt le = absurd (omega arith)
     same (suc (suc (suc t))) lt le = absurd (omega arith)
 
 asks_no_more : AsksNoMoreUpTo 2 with_c (without_c 2)
 asks_no_more = record { processors = refl; horizon = refl; urgent = λ t. is_urgent_with 2 t; each = λ t urgent. each t urgent.0 }
   where
+    no_longer : (one other : ℕ) → other ≤ one → (k : ℕ) → k < 2 → IsNoLonger (job_at (two_jobs one) k) (job_at (two_jobs other) k)
+    no_longer one other le zero lt = record { release = refl; cost = le }
+    no_longer one other le (suc zero) lt = record { release = refl; cost = le }
+    no_longer one other le (suc (suc k)) lt = absurd (omega arith)
+
     each : (t : ℕ) → t < 2 → AsksNoMore with_c (without_c 2) t
-    each zero lt = record { priority = refl; mask = refl; offset = refl; period = refl; cost = omega arith }
-    each (suc zero) lt = record { priority = refl; mask = refl; offset = refl; period = refl; cost = omega arith }
+    each zero lt = record { priority = refl; mask = refl; count = refl; each = no_longer 3 3 (omega arith) }
+    each (suc zero) lt = record { priority = refl; mask = refl; count = refl; each = no_longer 4 2 (omega arith) }
     each (suc (suc t)) lt = absurd (omega arith)
 
 -- ---- a on 0 and b on 1, or each one further, where 0 is idle: the same tasks are linked, to other processors

@@ -1,6 +1,6 @@
 -- Urgent tasks are served as if there were no others: at each moment the urgent part of the best set is the best set of the
 -- urgent ready tasks, and which of them are ready follows from what they got so far.
-use Rattle.std.proofs.Common.{◌≡◌, ℕ, zero, suc, ◌+◌, ◌*◌, ◌<◌, ◌≤◌, Bool, true, ◌&&◌, List, length, nat_le, refl, sym, ap, ◌∙◌, subst, inl, inr, arith}
+use Rattle.std.proofs.Common.{◌≡◌, ℕ, zero, suc, ◌<◌, ◌≤◌, Bool, true, ◌&&◌, List, length, nat_le, refl, sym, ap, ◌∙◌, subst, inl, inr, arith}
 use Rattle.std.proofs.lemmas.Bool.{cases_Bool, cases_lt, true≢false, and_from, and_parts, le-leb, leb-true}
 use Rattle.std.proofs.lemmas.List.{length-map}
 use Rattle.std.proofs.Math.Bool.{and-true}
@@ -10,9 +10,9 @@ use Rattle.link_state.specs.State.{start_of, task_count, is_ready, is_linked}
 use Rattle.link_state.specs.Placement.{TaskTest, IsBest}
 use Rattle.link_state.proofs.BestOnce.{best_is_unique}
 use Rattle.certificate_laws.proofs.Counts.{count_below-more, count_below-same}
-use Rattle.job_release.specs.Jobs.{released_by}
-use Rattle.job_release.specs.JobInput.{JobInputData, IsJobInput, job_at}
-use Rattle.job_release.specs.declared.input.JobTask.{JobTask}
+use Rattle.job_release.specs.Jobs.{demand, goal_of}
+use Rattle.job_release.specs.JobInput.{JobInputData, IsJobInput, jobs_at}
+use Rattle.job_release.specs.declared.input.Job.{Job}
 use Rattle.job_release.specs.Driven.{RunsJobs}
 use Rattle.job_release.specs.JobsText.{first_upto}
 use Rattle.job_release.specs.Moments.{state_at, service_of}
@@ -35,7 +35,7 @@ agree-sym bound one other agree = record {
   same = λ t urgent. let same = agree.same t ((agree.urgent t).1 urgent) in record {
     priority = sym same.priority;
     mask = sym same.mask;
-    job = sym same.job;
+    jobs = sym same.jobs;
   };
 }
 
@@ -64,7 +64,7 @@ urgent_best input valid history runs bound x below =
 
 -- the urgent tasks got the same service before this moment
 abbrev SameService : ℕ → JobInputData → JobInputData → List Entry → List Entry → ℕ → Type 0
-SameService bound one other history also x = (t : ℕ) → IsUrgent one bound t → service_of (start_of one.set) history t x ≡ service_of (start_of other.set) also t x
+SameService bound one other history also x = (t : ℕ) → IsUrgent one bound t → service_of (state_at (start_of one.set) history) t x ≡ service_of (state_at (start_of other.set) also) t x
 
 module _ (bound : ℕ) (one other : JobInputData) (agree : AgreeUpTo bound one other) (valid : IsJobInput one) (history also : List Entry) (runs : RunsJobs one history) (also_runs : RunsJobs other also) where
   -- then whoever of them is ready in the one run is ready in the other
@@ -73,12 +73,12 @@ module _ (bound : ℕ) (one other : JobInputData) (agree : AgreeUpTo bound one o
       let urgent = ready_is_urgent one valid history runs bound x t h in
       let there = (agree.urgent t).0 urgent in
       let parts = and_parts (is_ready (state_at (start_of one.set) history x) t) _ h in
-      let less : service_of (start_of one.set) history t x < released_by (job_at one.jobs t) x * (job_at one.jobs t).cost = (runs.ready t x urgent.0 below).0 parts.0 in
+      let less : service_of (state_at (start_of one.set) history) t x < demand (jobs_at one.jobs t) x = (runs.served.ready t x urgent.0 below).0 parts.0 in
       let same = service t urgent in
-      let less' : service_of (start_of one.set) history t x < released_by (job_at other.jobs t) x * (job_at other.jobs t).cost =
-      subst (λ (job : JobTask). service_of (start_of one.set) history t x < released_by job x * job.cost) (agree.same t urgent).job less in
+      let less' : service_of (state_at (start_of one.set) history) t x < demand (jobs_at other.jobs t) x =
+      subst (λ (jobs : List Job). service_of (state_at (start_of one.set) history) t x < demand jobs x) (agree.same t urgent).jobs less in
       let far : x < other.horizon = (let e = agree.horizon in omega arith) in
-      and_from _ _ ((also_runs.ready t x there.0 far).1 (omega arith)) (le-leb _ _ there.1)
+      and_from _ _ ((also_runs.served.ready t x there.0 far).1 (omega arith)) (le-leb _ _ there.1)
 
 module _ (bound : ℕ) (one other : JobInputData) (agree : AgreeUpTo bound one other) (valid : IsJobInput one) (also_valid : IsJobInput other) (history also : List Entry) (runs : RunsJobs one history) (also_runs : RunsJobs other also) where
   -- the same of them are ready
@@ -115,7 +115,7 @@ module _ (bound : ℕ) (one other : JobInputData) (agree : AgreeUpTo bound one o
           omega arith
 
   same_service : (x : ℕ) → x ≤ one.horizon → SameService bound one other history also x
-  same_service zero within t urgent = no_service (start_of one.set) history t ∙ sym (no_service (start_of other.set) also t)
+  same_service zero within t urgent = no_service (state_at (start_of one.set) history) t ∙ sym (no_service (state_at (start_of other.set) also) t)
   same_service (suc x) within t urgent =
       let before = same_service x (omega arith) in
       let linked = same_linked x (omega arith) before t urgent in
@@ -135,8 +135,8 @@ urgent_service_is_isolated bound one other history also t valid also_valid agree
 
 pub urgent_finish_is_isolated : UrgentFinishIsIsolated
 urgent_finish_is_isolated bound one other history also t valid also_valid agree runs also_runs urgent k =
-    let cost = (job_at one.jobs t).cost in
-    same_first (λ x. nat_le ((k + 1) * cost) (service_of (start_of one.set) history t x)) (λ x. nat_le ((k + 1) * cost) (service_of (start_of other.set) also t x)) one.horizon
-    (λ x within. ap (nat_le ((k + 1) * cost)) (same_service bound one other agree valid also_valid history also runs also_runs x within t urgent))
-    ∙ ap (λ (n : ℕ). first_upto (λ x. nat_le ((k + 1) * n) (service_of (start_of other.set) also t x)) one.horizon) (ap (λ (job : JobTask). job.cost) (agree.same t urgent).job)
-    ∙ ap (λ (h : ℕ). first_upto (λ x. nat_le ((k + 1) * (job_at other.jobs t).cost) (service_of (start_of other.set) also t x)) h) agree.horizon
+    let goal = goal_of (jobs_at one.jobs t) k in
+    same_first (λ x. nat_le goal (service_of (state_at (start_of one.set) history) t x)) (λ x. nat_le goal (service_of (state_at (start_of other.set) also) t x)) one.horizon
+    (λ x within. ap (nat_le goal) (same_service bound one other agree valid also_valid history also runs also_runs x within t urgent))
+    ∙ ap (λ (jobs : List Job). first_upto (λ x. nat_le (goal_of jobs k) (service_of (state_at (start_of other.set) also) t x)) one.horizon) (agree.same t urgent).jobs
+    ∙ ap (λ (h : ℕ). first_upto (λ x. nat_le (goal_of (jobs_at other.jobs t) k) (service_of (state_at (start_of other.set) also) t x)) h) agree.horizon

@@ -1,20 +1,26 @@
--- Inputs of periodic tasks of which one asks for less than the other: its jobs are shorter, or some of its tasks are missing.
-use Rattle.std.specs.Prelude.{◌≡◌, ℕ, ◌*◌, ◌≤◌, List}
+-- Inputs of jobs of which one asks for less than the other: its jobs are shorter, or some of its tasks are missing.
+use Rattle.std.specs.Prelude.{◌≡◌, ℕ, ◌<◌, ◌≤◌, List, length}
 use Rattle.scheduler_reply.specs.declared.reply.Entry.{Entry}
 use Rattle.link_state.specs.State.{start_of, priority_of, mask_of}
-use Rattle.job_release.specs.JobInput.{JobInputData, IsJobInput, job_at}
+use Rattle.job_release.specs.Jobs.{job_at, goal_of}
+use Rattle.job_release.specs.JobInput.{JobInputData, IsJobInput, jobs_at}
+use Rattle.job_release.specs.declared.input.Job.{Job}
 use Rattle.job_release.specs.Driven.{RunsJobs}
-use Rattle.job_release.specs.Moments.{service_of, IsFinish}
+use Rattle.job_release.specs.Moments.{state_at, service_of, IsFinish}
 use Rattle.scheduling_laws.specs.Isolation.{IsUrgent}
 
--- t has the same priority and the same mask in both inputs, and its jobs are released at the same moments; in the other input
--- each asks for no more
+-- a job is released at the moment of another, and asks for no more
+pub record IsNoLonger (one other : Job) : Type 0 where
+  pub release : one.release ≡ other.release
+  pub cost : other.cost ≤ one.cost
+
+-- t has the same priority and the same mask in both inputs, and as many jobs; each is released at the same moment, and asks for no
+-- more in the other input. Their deadlines may differ
 pub record AsksNoMore (one other : JobInputData) (t : ℕ) : Type 0 where
   pub priority : priority_of (start_of one.set) t ≡ priority_of (start_of other.set) t
   pub mask : mask_of (start_of one.set) t ≡ mask_of (start_of other.set) t
-  pub offset : (job_at one.jobs t).offset ≡ (job_at other.jobs t).offset
-  pub period : (job_at one.jobs t).period ≡ (job_at other.jobs t).period
-  pub cost : (job_at other.jobs t).cost ≤ (job_at one.jobs t).cost
+  pub count : length (jobs_at one.jobs t) ≡ length (jobs_at other.jobs t)
+  pub each : (k : ℕ) → k < length (jobs_at one.jobs t) → IsNoLonger (job_at (jobs_at one.jobs t) k) (job_at (jobs_at other.jobs t) k)
 
 -- the inputs have the same processors and the same horizon; each task of the other one that is as urgent as the bound is a task
 -- of the one, and asks for no more
@@ -33,11 +39,12 @@ HoldsWhereLessIsAsked Law =
 
 -- a task has as many of its jobs done before each moment, whatever the less urgent tasks do
 abbrev pub ShorterJobsKeepUp : Type 0
-ShorterJobsKeepUp = HoldsWhereLessIsAsked (λ one other history also t. (j x : ℕ) → x ≤ one.horizon
-    → j * (job_at one.jobs t).cost ≤ service_of (start_of one.set) history t x → j * (job_at other.jobs t).cost ≤ service_of (start_of other.set) also t x)
+ShorterJobsKeepUp = HoldsWhereLessIsAsked (λ one other history also t. (k x : ℕ) → x ≤ one.horizon
+    → goal_of (jobs_at one.jobs t) k ≤ service_of (state_at (start_of one.set) history) t x
+    → goal_of (jobs_at other.jobs t) k ≤ service_of (state_at (start_of other.set) also) t x)
 
 -- and no job of it is finished later
 abbrev pub ShorterJobsFinishNoLater : Type 0
 ShorterJobsFinishNoLater = HoldsWhereLessIsAsked (λ one other history also t. (k x : ℕ)
-    → IsFinish (start_of one.set) history t (job_at one.jobs t).cost one.horizon k x
-    → (y : ℕ) × (y ≤ x) × IsFinish (start_of other.set) also t (job_at other.jobs t).cost other.horizon k y)
+    → IsFinish (state_at (start_of one.set) history) t (goal_of (jobs_at one.jobs t) k) one.horizon x
+    → (y : ℕ) × (y ≤ x) × IsFinish (state_at (start_of other.set) also) t (goal_of (jobs_at other.jobs t) k) other.horizon y)

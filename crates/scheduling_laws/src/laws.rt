@@ -57,9 +57,9 @@ pub fn few_tasks_are_shifted()
     ensures passing { PassingShiftsFew }
 {}
 
-// ---- periodic tasks
+// ---- jobs
 
-/// Whoever runs the jobs of periodic tasks serves each task as if there were no less urgent ones: inputs that agree on all
+/// Whoever runs the jobs of an input serves each task as if there were no less urgent ones: inputs that agree on all
 /// tasks up to a priority give each of these the same service at every moment, and finish its jobs at the same moments.
 pub fn urgent_tasks_are_isolated()
     ensures service { UrgentServiceIsIsolated }

@@ -13,11 +13,11 @@ loop-t-init c = record {
 
 pub loop-t-preserved : goal.loop-t-preserved
 loop-t-preserved c =
-    let fresh : IsFresh _ c.new.result = rw c.job.ensures.value at c.new.ensures in
+    let fresh : IsFresh _ c.in_ok-row.row = rw c.jobs.ensures.value at c.in_ok-row.ensures in
     record {
       end = c.loop-t.invariant.end;
       fresh = (let P : List JobRow → Type 0 = λ rows. AreFresh c.args.input.now.jobs (c.loop-t.t + 1) rows in
-          subst P (sym c.in_ok-push.ensures.items) (fresh_more c.args.input.now.jobs c.loop-t.t c.loop-t.rows.items c.new.result c.loop-t.invariant.fresh fresh));
+          subst P (sym c.in_ok-push.ensures.items) (fresh_more c.args.input.now.jobs c.loop-t.t c.loop-t.rows.items c.in_ok-row.row c.loop-t.invariant.fresh fresh));
     }
 
 pub returns : goal.returns

@@ -3,16 +3,17 @@ use Rattle.job_release.proofs.NextMoments.{not_after_earlier, due_earlier, some_
 use Rattle.job_release.proofs.driver.Driver.next_moment.Goals as goal
 
 pub loop-t-preserved : goal.loop-t-preserved
-loop-t-preserved c =
+loop-t-preserved g c =
     let kept = c.loop-t.invariant in
     let one = c.not_after-next.ensures in
     let d = c.args.self.now in
+    let links = (g.S.JobScheduler.seen d.scheduler).now in
     let fits : c.loop-t.t < length d.rows.items = (let end = kept.end in let below = c.loop-t-test.true in omega arith) in
     let row = some_row d.rows.items c.loop-t.t fits in
     record {
       end = kept.end;
       later = (one row).later;
       within = (let earlier = (one row).within in let before = kept.within in omega (arith, earlier, before));
-      not_after = not_after_earlier d.core.links d.moment c.loop-t.next c.not_after-next.result d.rows.items c.loop-t.t kept.not_after one;
-      due = due_earlier d.core.links d.moment c.loop-t.next c.not_after-next.result d.horizon d.rows.items c.loop-t.t kept.due one;
+      not_after = not_after_earlier links d.moment c.loop-t.next c.not_after-next.result d.rows.items c.loop-t.t kept.not_after one;
+      due = due_earlier links d.moment c.loop-t.next c.not_after-next.result d.horizon d.rows.items c.loop-t.t kept.due one;
     }

@@ -4,10 +4,12 @@ use Rattle.job_release.specs.declared.row.JobRow.{JobRow}
 use Rattle.job_release.proofs.driver.Driver.next_moment.Given as goal
 
 abbrev pub invariant-loop-t : goal.invariant-loop-t
-invariant-loop-t l = record {
-  end : l.t-end ≡ length l.self.rows.items;
-  later : l.self.moment < l.next;
-  within : l.next ≤ l.self.horizon;
-  not_after : (u : ℕ) (d : JobRow) → u < l.t → IsNotAfter l.self.core.links l.self.moment l.next u (row_at l.self.rows.items u d);
-  due : (l.next ≡ l.self.horizon) ⊎ ((u : ℕ) × (u < l.t) × ((d : JobRow) → IsDueAt l.self.core.links l.self.moment l.next u (row_at l.self.rows.items u d)));
-}
+invariant-loop-t g l =
+    let links = (g.S.JobScheduler.seen l.self.scheduler).now in
+    record {
+      end : l.t-end ≡ length l.self.rows.items;
+      later : l.self.moment < l.next;
+      within : l.next ≤ l.self.horizon;
+      not_after : (u : ℕ) (d : JobRow) → u < l.t → IsNotAfter links l.self.moment l.next u (row_at l.self.rows.items u d);
+      due : (l.next ≡ l.self.horizon) ⊎ ((u : ℕ) × (u < l.t) × ((d : JobRow) → IsDueAt links l.self.moment l.next u (row_at l.self.rows.items u d)));
+    }

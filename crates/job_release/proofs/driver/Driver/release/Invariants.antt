@@ -3,8 +3,8 @@ use Rattle.job_release.specs.Driving.{Drives, settled, supplied}
 use Rattle.job_release.proofs.driver.Driver.release.Given as goal
 
 abbrev pub invariant-loop-t : goal.invariant-loop-t
-invariant-loop-t l = record {
+invariant-loop-t g l = record {
   end : l.t-end ≡ length l.fn.self.rows.items;
   same : l.self.moment ≡ l.fn.self.moment;
-  driving : Drives l.fn.self l.self l.t (supplied l.fn.self.moment) (settled l.fn.self.moment);
+  driving : Drives g.S.JobScheduler.seen l.fn.self l.self l.t (supplied l.fn.self.moment) (settled l.fn.self.moment);
 }

@@ -1,0 +1,70 @@
+-- What an event leaves of the strong scheduler.
+use Rattle.std.proofs.Common.{◌≡◌, ℕ, ◌+◌, true, false, List, [], ◌∷◌, ◌++◌, length, All, refl, sym, ap, ◌∙◌, subst, arith, length-append}
+use Rattle.std.proofs.lemmas.List.Elements.{All-push}
+use Rattle.task_set.specs.declared.event.Event.{Event}
+use Rattle.task_set.specs.declared.event.Event.TheVariants.{Arrive, Depart, Tick}
+use Rattle.scheduler_reply.specs.declared.reply.Entry.{Entry}
+use Rattle.link_state.specs.State.{State}
+use Rattle.link_state.proofs.SameTasks.{same_tasks-step, same_count}
+use Rattle.sched_core.specs.CoreData.{CoreData, IsCore, Applied, entry_of}
+use Rattle.job_release.specs.Driven.{IsJobEvent}
+use Rattle.job_release.specs.Moments.{elapsed, units_of, state_at}
+use Rattle.job_release.specs.Scheduler.{Keeps, Readies, Passes}
+use Rattle.job_release.specs.Strong.{IsOpen, strong_seen}
+use Rattle.job_release.proofs.Moments.{elapsed_push, state_before, state_from, state_with_tick}
+use Rattle.job_release.proofs.Readied.{ready_arrived, ready_beside_arrived, ready_departed, ready_beside_departed}
+
+module _ (old new : CoreData) (before : IsCore old) (valid : IsCore new) where
+  module _ (event : Event) (applied : Applied old 0 event (length old.history) new) where
+    abbrev entry : Entry
+    entry = entry_of 0 event applied.reply
+
+    pub stays_open : IsJobEvent event → IsOpen old → IsOpen new
+    stays_open job_event opened = record {
+      not_closed = applied.closed ∙ opened.not_closed;
+      events = (let P : List Entry → Type 0 = λ history. All (λ (e : Entry). IsJobEvent e.event) history in
+          subst P (sym applied.history) (All-push (λ (e : Entry). IsJobEvent e.event) old.history entry opened.events job_event));
+    }
+
+    -- the states are those of a history with one entry more
+    states_are : (x : ℕ) (s : State) → state_at old.start (old.history ++ entry ∷ []) x ≡ s → state_at new.start new.history x ≡ s
+    states_are x s is = rw (applied.start, applied.history) is
+
+    keeps : Keeps (strong_seen old) (strong_seen new)
+    keeps =
+        let more : length new.history ≡ length old.history + 1 = ap length applied.history ∙ length-append old.history (entry ∷ []) in
+        record {
+          start = applied.start;
+          past = λ x below. states_are x _ (state_before old.start old.history entry x below);
+          room = omega (arith, more);
+          state = valid.state;
+          tasks = same_count old.links new.links (same_tasks-step old.links event applied.reply new.links applied.step);
+        }
+
+    time : elapsed new.history ≡ elapsed old.history + units_of event
+    time = ap elapsed applied.history ∙ elapsed_push old.history entry
+
+  pub arrives : (t : ℕ) → Applied old 0 (Arrive t) (length old.history) new → Readies t true (strong_seen old) (strong_seen new)
+  arrives t applied = record {
+    keeps = keeps (Arrive t) applied;
+    elapsed = time (Arrive t) applied ∙ omega arith;
+    own = ready_arrived old.links t applied.reply new.links before.state applied.step;
+    others = ready_beside_arrived old.links t applied.reply new.links before.state applied.step;
+  }
+
+  pub departs : (t : ℕ) → Applied old 0 (Depart t) (length old.history) new → Readies t false (strong_seen old) (strong_seen new)
+  departs t applied = record {
+    keeps = keeps (Depart t) applied;
+    elapsed = time (Depart t) applied ∙ omega arith;
+    own = ready_departed old.links t applied.reply new.links before.state applied.step;
+    others = ready_beside_departed old.links t applied.reply new.links before.state applied.step;
+  }
+
+  pub passes : (units : ℕ) → Applied old 0 (Tick units) (length old.history) new → Passes units (strong_seen old) (strong_seen new)
+  passes units applied = record {
+    keeps = keeps (Tick units) applied;
+    elapsed = time (Tick units) applied;
+    same = applied.step.1;
+    passed = λ x from below. states_are (Tick units) applied x old.links
+        (state_with_tick old.start old.history (entry (Tick units) applied) x refl ∙ state_from old.start old.history x from ∙ sym before.links);
+  }

@@ -1,9 +1,0 @@
-use Rattle.std.proofs.Common.{◌-◌}
-use Rattle.job_release.specs.Driving.{IsAt, settled}
-use Rattle.job_release.proofs.run.drive_jobs.Given as goal
-
-abbrev pub invariant-loop-driver : goal.invariant-loop-driver
-invariant-loop-driver l = IsAt l.initial.driver l.driver (settled l.driver.moment)
-
-abbrev pub decreases-loop-driver : goal.decreases-loop-driver
-decreases-loop-driver l = l.driver.horizon - l.driver.moment
