@@ -1,12 +1,17 @@
+pub mod Aheads
 pub mod Appended
 pub mod Books
+pub mod Counts
 pub mod InUse
+pub mod JobsWithin
+pub mod OneJobs
 pub mod Passed
 pub mod Placed
 pub mod Rivals
 pub mod RowMoments
 pub mod Running
 pub mod RunningTasks
+pub mod RunsMoment
 pub mod SeenRows
 pub mod Stretches
 pub mod Tallies

@@ -1,9 +1,9 @@
 -- Passages that have come, and those that come later.
-use Rattle.std.proofs.Common.{◌≡◌, ℕ, ◌+◌, ◌-◌, ◌<◌, ◌≤◌, List, [], ◌∷◌, ◌++◌, length, map, take, drop, get_or, Option, Some, None, refl, sym, ap, ◌∙◌, arith, append-nil}
+use Rattle.std.proofs.Common.{◌≡◌, ℕ, ◌+◌, ◌-◌, ◌<◌, ◌≤◌, List, [], ◌∷◌, ◌++◌, length, take, drop, get_or, Option, Some, None, refl, sym, ap, ◌∙◌, arith, append-nil}
 use Rattle.std.specs.Prelude.{reverse, slice_get}
 use Rattle.std.proofs.lemmas.List.{take_more, reverse-append, take-append-drop, get_or-map}
 use Rattle.std.proofs.lemmas.Option.{slice_get-get_or, slice_get_within, get_or_from_slice_get}
-use Rattle.trace_losses.specs.Passages.{with_turn, turns_of, ArePassages, IsCut}
+use Rattle.trace_losses.specs.Passages.{with_turn, turns_of, ArePassages, IsCut, moment_at}
 use Rattle.trace_losses.specs.declared.passage.Passage.{Passage}
 use Rattle.trace_losses.specs.declared.turn.Turn.{Turn}
 
@@ -47,10 +47,6 @@ abbrev pub no_passage : Passage
 no_passage = record { moment = 0; turn = None; first = None; second = None }
 
 -- ---- moments
--- the moment of a passage; 0 where there is none
-abbrev pub moment_at : List Passage → ℕ → ℕ
-moment_at passages k = get_or (map (λ (passage : Passage). passage.moment) passages) k 0
-
 pub moment_is : (passages : List Passage) (k : ℕ) (passage : Passage) → slice_get passages k ≡ Some passage → moment_at passages k ≡ passage.moment
 moment_is passages k passage is =
     get_or-map (λ (x : Passage). x.moment) passages k passage 0 (slice_get_within passages k passage is)

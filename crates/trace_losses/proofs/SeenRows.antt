@@ -11,7 +11,7 @@ use Rattle.link_state.proofs.Linked.{not_linked-from_on}
 use Rattle.link_state.proofs.Unique.{ready_number}
 use Rattle.certificate_laws.proofs.SameBest.{IsBest-same}
 use Rattle.trace_losses.specs.Book.{nothing_seen}
-use Rattle.trace_losses.specs.Passages.{ArePassages, IsSeenBetween, IsSeenAt, AreSeen, ready_after, turns_of, seen_of, best_of}
+use Rattle.trace_losses.specs.Passages.{ArePassages, IsSeenBetween, IsSeenAt, AreSeen, ready_after, turns_of, seen_of, best_of, moment_at}
 use Rattle.trace_losses.specs.Rows.{moments_of, AreRows, AreRowsUpTo, IsPlaced, IsRunning, IsSeenBy, held_at_end}
 use Rattle.trace_losses.specs.Runs.{holds, runs, runs_between}
 use Rattle.trace_losses.specs.declared.passage.Passage.{Passage}
@@ -19,7 +19,7 @@ use Rattle.trace_losses.specs.declared.row.Row.{Row}
 use Rattle.trace_losses.specs.declared.seen.Seen.{Seen}
 use Rattle.trace_losses.specs.declared.turn.Turn.{Turn}
 use Rattle.trace_losses.proofs.Appended.{each_appended, in_replicate}
-use Rattle.trace_losses.proofs.Passed.{moment_at, cut_at, turns_of_all}
+use Rattle.trace_losses.proofs.Passed.{cut_at, turns_of_all}
 
 -- no task beyond the set is linked
 none_linked : (s : State) → IsState s → (t : ℕ) → length s.priorities ≤ t → is_linked s t ≡ false

@@ -1,4 +1,6 @@
+pub mod Ahead
 pub mod Book
+pub mod Jobs
 pub mod Losses
 pub mod Moments
 pub mod Passages

@@ -50,9 +50,13 @@ pub record ArePassages (tasks : ℕ) (passages : List Passage) : Type 0 where
   pub in_order : (k l : ℕ) (one other : Passage) → k ≤ l → slice_get passages k ≡ Some one → slice_get passages l ≡ Some other
       → one.moment ≤ other.moment
 
+-- the moment of a passage; 0 where there is none
+abbrev pub moment_at : List Passage → ℕ → ℕ
+moment_at passages k = get_or (map (λ (passage : Passage). passage.moment) passages) k 0
+
 -- the moment of the last passage; 0 where there is none
 abbrev pub span_of : List Passage → ℕ
-span_of passages = get_or (map (λ (passage : Passage). passage.moment) passages) (length passages - 1) 0
+span_of passages = moment_at passages (length passages - 1)
 
 -- the first n passages have come at the moment x, and the others come later
 pub record IsCut (passages : List Passage) (x n : ℕ) : Type 0 where
@@ -68,14 +72,17 @@ seen_of seen t = get_or seen t nothing_seen
 abbrev pub best_of : List Seen → TaskTest
 best_of seen t = (seen_of seen t).best
 
+-- the task runs on some processor between passages, where those before are listed from the last one on
+abbrev pub RunsBetween : List Passage → List Passage → ℕ → Type 0
+RunsBetween earlier after t = (p : ℕ) × IsTrue (runs_between (turns_of earlier) (turns_of after) t p)
+
 -- this is seen between passages, where those before are listed from the last one on: who is ready after them, which of these are the
 -- best set that can be placed, and who runs on some processor
 pub record IsSeenBetween (set : SetData) (earlier after : List Passage) (seen : List Seen) : Type 0 where
   pub tasks : length seen ≡ length set.tasks
   pub ready : (t : ℕ) → t < length set.tasks → (seen_of seen t).ready ≡ ready_after earlier t
   pub best : IsBest (start_of set) (ready_after earlier) (best_of seen)
-  pub runs : (t : ℕ) → t < length set.tasks
-      → IsTrue (seen_of seen t).runs ↔ ((p : ℕ) × IsTrue (runs_between (turns_of earlier) (turns_of after) t p))
+  pub runs : (t : ℕ) → t < length set.tasks → IsTrue (seen_of seen t).runs ↔ RunsBetween earlier after t
 
 -- this is seen at the moment x
 pub record IsSeenAt (set : SetData) (passages : List Passage) (x : ℕ) (seen : List Seen) : Type 0 where

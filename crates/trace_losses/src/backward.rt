@@ -24,7 +24,11 @@ pub(crate) fn running_of(
 }
 
 /// Who holds a processor after all passages.
-fn held_after(alloc: Global, tasks: usize, passages: &[Passage]) -> Result<Runners, AllocError>
+pub(crate) fn held_after(
+    alloc: Global,
+    tasks: usize,
+    passages: &[Passage],
+) -> Result<Runners, AllocError>
     requires { ArePassages tasks passages.now }
     ensures held { IfOk result (λ runners.
         IsHeld (turns_of (reverse passages.now)) runners.processors.items) }

@@ -5,8 +5,10 @@
 //! by one: how many there are of each kind, and the longest stretch of lost moments.
 #![tactic(auto)]
 
+mod ahead;
 mod backward;
 mod book;
+mod job;
 mod loss;
 mod passage;
 mod row;
@@ -17,6 +19,7 @@ mod turn;
 mod watch;
 
 pub use book::Book;
+pub use job::{TraceJob, TraceJobs, jobs_of};
 pub use loss::{Loss, Losses, losses_of};
 pub use passage::{Passage, Readiness};
 pub use runners::Runners;

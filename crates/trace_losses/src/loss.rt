@@ -53,7 +53,7 @@ pub fn losses_of(alloc: Global, set: &TaskSet, passages: &[Passage]) -> Result<L
 }
 
 /// The moment of the last passage.
-fn span_of(passages: &[Passage]) -> u64
+pub(crate) fn span_of(passages: &[Passage]) -> u64
     ensures { result ≡ span_of passages.now }
 {
     if passages.is_empty() {

@@ -2,10 +2,10 @@ use Rattle.std.proofs.Common.{◌≡◌, ℕ, ◌+◌, ◌-◌, ◌<◌, Bool, L
 use Rattle.std.specs.Prelude.{reverse}
 use Rattle.std.proofs.lemmas.Option.{slice_get-get_or}
 use Rattle.link_state.specs.State.{State}
-use Rattle.trace_losses.specs.Passages.{ready_after}
+use Rattle.trace_losses.specs.Passages.{ready_after, moment_at}
 use Rattle.trace_losses.specs.Rows.{IsPlaced, IsSeenBy, AreRows, AreRowsUpTo}
 use Rattle.trace_losses.specs.declared.passage.Passage.{Passage}
-use Rattle.trace_losses.proofs.Passed.{no_passage, moment_at, next_is_later, moment_there, before_next}
+use Rattle.trace_losses.proofs.Passed.{no_passage, next_is_later, moment_there, before_next}
 use Rattle.trace_losses.proofs.Placed.{placed_at_first}
 use Rattle.trace_losses.proofs.RunningTasks.{running_there}
 use Rattle.trace_losses.proofs.SeenRows.{count_of, no_rows, row_added}

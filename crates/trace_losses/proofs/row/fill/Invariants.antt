@@ -1,8 +1,7 @@
 use Rattle.std.proofs.Common.{◌-◌, take}
 use Rattle.std.specs.Prelude.{reverse}
-use Rattle.trace_losses.specs.Passages.{ready_after}
+use Rattle.trace_losses.specs.Passages.{ready_after, moment_at}
 use Rattle.trace_losses.specs.Rows.{AllInUse, IsPlaced, AreRowsUpTo}
-use Rattle.trace_losses.proofs.Passed.{moment_at}
 use Rattle.trace_losses.proofs.row.fill.Given as goal
 
 abbrev pub invariant-loop-i : goal.invariant-loop-i
