@@ -5,7 +5,6 @@ use Rattle.std.specs.declared.alloc.Global.{Global}
 use Rattle.affinity_mask.specs.Number.{number_value}
 use Rattle.text_fields.specs.Number.{IsNumberWithin}
 use Rattle.shift_io.specs.Stream.{TakesExactly, TakesAtMost}
-use Rattle.commands.specs.Reading.{text_limit, trace_limit}
 use Rattle.commands.proofs.ReadBytes.{read_is_reported, not_longer}
 use Rattle.commands.specs.Sizes.{AreWithin}
 use Rattle.commands.specs.declared.sizes.Sizes.{Sizes}
@@ -14,37 +13,36 @@ use Rattle.schedule_picture.specs.declared.axis.Axis.{Axis}
 use Rattle.schedule_picture.specs.declared.axis.Axis.TheVariants.{Time, Steps}
 use Rattle.schedule_picture.specs.declared.window.Window.{Window}
 use Rattle.command_line.specs.declared.words.Command.{Command}
-use Rattle.command_line.specs.declared.words.Command.TheVariants.{Run, Check, Weak, Nested, Jobs, Watch, Import, Draw, Chrome, Lost, Make, Large}
+use Rattle.command_line.specs.declared.words.Command.TheVariants.{Run, Check, Weak, Nested, Jobs, WeakJobs, Watch, Import, ImportJobs, Draw, Chrome, Lost, Make, Large}
+
+-- a command reads nothing or something
+reads_or_not : (command : Command) → ReadsNothing command ⊎ (ReadsNothing command → ⊥)
+reads_or_not Run = inr (λ nothing. nothing)
+reads_or_not Check = inr (λ nothing. nothing)
+reads_or_not Weak = inr (λ nothing. nothing)
+reads_or_not Nested = inr (λ nothing. nothing)
+reads_or_not Jobs = inr (λ nothing. nothing)
+reads_or_not WeakJobs = inr (λ nothing. nothing)
+reads_or_not (Watch observers) = inr (λ nothing. nothing)
+reads_or_not Import = inr (λ nothing. nothing)
+reads_or_not ImportJobs = inr (λ nothing. nothing)
+reads_or_not (Draw axis window) = inr (λ nothing. nothing)
+reads_or_not Chrome = inr (λ nothing. nothing)
+reads_or_not Lost = inr (λ nothing. nothing)
+reads_or_not (Make sizes) = inl tt
+reads_or_not (Large sizes) = inl tt
 
 -- what a command read is what it was to read
+expected_by : (command : Command) (left after : Option (List ℕ)) (read taken : List ℕ) → IsToRead command left read → Reads command left after taken → ReadsNothing command ⊎ (ReadsNothing command → ⊥) → taken ≡ read
+expected_by command left after read taken to_read reads (inl nothing) = (reads.none nothing).1 ∙ sym (to_read.none nothing)
+expected_by command left after read taken to_read reads (inr something) = read_is_reported (byte_limit command) left after read taken (to_read.all something) (reads.all something)
+
 pub read_is_expected : (command : Command) (left after : Option (List ℕ)) (read taken : List ℕ) → IsToRead command left read → Reads command left after taken → taken ≡ read
-read_is_expected Run left after read taken to_read reads = read_is_reported text_limit left after read taken to_read reads
-read_is_expected Check left after read taken to_read reads = read_is_reported text_limit left after read taken to_read reads
-read_is_expected Weak left after read taken to_read reads = read_is_reported text_limit left after read taken to_read reads
-read_is_expected Nested left after read taken to_read reads = read_is_reported text_limit left after read taken to_read reads
-read_is_expected Jobs left after read taken to_read reads = read_is_reported text_limit left after read taken to_read reads
-read_is_expected (Watch observers) left after read taken to_read reads = read_is_reported text_limit left after read taken to_read reads
-read_is_expected Import left after read taken to_read reads = read_is_reported trace_limit left after read taken to_read reads
-read_is_expected (Draw axis window) left after read taken to_read reads = read_is_reported text_limit left after read taken to_read reads
-read_is_expected Chrome left after read taken to_read reads = read_is_reported text_limit left after read taken to_read reads
-read_is_expected Lost left after read taken to_read reads = read_is_reported trace_limit left after read taken to_read reads
-read_is_expected (Make sizes) left after read taken to_read reads = reads.1 ∙ sym to_read
-read_is_expected (Large sizes) left after read taken to_read reads = reads.1 ∙ sym to_read
+read_is_expected command left after read taken to_read reads = expected_by command left after read taken to_read reads (reads_or_not command)
 
 -- a command that reads takes no more than it is to read
 pub never_too_long : (command : Command) (left after : Option (List ℕ)) (read : List ℕ) → IsToRead command left read → (ReadsNothing command → ⊥) → TakesExactly left after (byte_limit command + 1) → ⊥
-never_too_long Run left after read to_read reads longer = not_longer text_limit left after read to_read longer
-never_too_long Check left after read to_read reads longer = not_longer text_limit left after read to_read longer
-never_too_long Weak left after read to_read reads longer = not_longer text_limit left after read to_read longer
-never_too_long Nested left after read to_read reads longer = not_longer text_limit left after read to_read longer
-never_too_long Jobs left after read to_read reads longer = not_longer text_limit left after read to_read longer
-never_too_long (Watch observers) left after read to_read reads longer = not_longer text_limit left after read to_read longer
-never_too_long Import left after read to_read reads longer = not_longer trace_limit left after read to_read longer
-never_too_long (Draw axis window) left after read to_read reads longer = not_longer text_limit left after read to_read longer
-never_too_long Chrome left after read to_read reads longer = not_longer text_limit left after read to_read longer
-never_too_long Lost left after read to_read reads longer = not_longer trace_limit left after read to_read longer
-never_too_long (Make sizes) left after read to_read reads longer = reads tt
-never_too_long (Large sizes) left after read to_read reads longer = reads tt
+never_too_long command left after read to_read something longer = not_longer (byte_limit command) left after read (to_read.all something) longer
 
 -- ---- words mean one command
 -- a mark by which the first words of the commands differ: its first letter and its length
@@ -71,14 +69,16 @@ command_marked first words =
     if first == mark (codes "weak") then Weak else (
     if first == mark (codes "nested") then Nested else (
     if first == mark (codes "jobs") then Jobs else (
+    if first == mark (codes "weakjobs") then WeakJobs else (
     if first == mark (codes "watch") then Watch (number_value (get_or words 1 [])) else (
     if first == mark (codes "import") then Import else (
+    if first == mark (codes "importjobs") then ImportJobs else (
     if first == mark (codes "draw") then Draw Time (window_said words) else (
     if first == mark (codes "steps") then Draw Steps (window_said words) else (
     if first == mark (codes "chrome") then Chrome else (
     if first == mark (codes "lost") then Lost else (
     if first == mark (codes "make") then Make (sizes_said words) else (
-    if first == mark (codes "large") then Large (sizes_said words) else Run)))))))))))
+    if first == mark (codes "large") then Large (sizes_said words) else Run)))))))))))))
 
 -- the command that words mean, if they mean one
 command_said : List (List ℕ) → Command
@@ -113,8 +113,10 @@ said_of words Check spoken = ap command_said spoken
 said_of words Weak spoken = ap command_said spoken
 said_of words Nested spoken = ap command_said spoken
 said_of words Jobs spoken = ap command_said spoken
+said_of words WeakJobs spoken = ap command_said spoken
 said_of words (Watch observers) spoken = ap command_said spoken.each_word ∙ ap Watch spoken.is_number.0.1
 said_of words Import spoken = ap command_said spoken
+said_of words ImportJobs spoken = ap command_said spoken
 said_of words (Draw Time window) (inl whole) = ap command_said whole.each_word ∙ ap (Draw Time) (whole_is_said words window (codes "draw") whole)
 said_of words (Draw Time window) (inr part) = ap command_said part.each_word ∙ ap (Draw Time) (window_is_said part.from part.to window part.is_window (codes "draw"))
 said_of words (Draw Steps window) (inl whole) = ap command_said whole.each_word ∙ ap (Draw Steps) (whole_is_said words window (codes "steps") whole)
@@ -161,8 +163,10 @@ command_within words Check spoken = tt
 command_within words Weak spoken = tt
 command_within words Nested spoken = tt
 command_within words Jobs spoken = tt
+command_within words WeakJobs spoken = tt
 command_within words (Watch observers) spoken = (spoken.is_number.1, spoken.is_number.2)
 command_within words Import spoken = tt
+command_within words ImportJobs spoken = tt
 command_within words (Draw axis window) spoken = tt
 command_within words Chrome spoken = tt
 command_within words Lost spoken = tt
@@ -185,8 +189,10 @@ unsized_words words first number processors tasks events five none Check spoken 
 unsized_words words first number processors tasks events five none Weak spoken = let same = sym five ∙ spoken in cc
 unsized_words words first number processors tasks events five none Nested spoken = let same = sym five ∙ spoken in cc
 unsized_words words first number processors tasks events five none Jobs spoken = let same = sym five ∙ spoken in cc
+unsized_words words first number processors tasks events five none WeakJobs spoken = let same = sym five ∙ spoken in cc
 unsized_words words first number processors tasks events five none (Watch observers) spoken = let same = sym five ∙ spoken.each_word in cc
 unsized_words words first number processors tasks events five none Import spoken = let same = sym five ∙ spoken in cc
+unsized_words words first number processors tasks events five none ImportJobs spoken = let same = sym five ∙ spoken in cc
 unsized_words words first number processors tasks events five none (Draw axis window) (inl whole) = let same = sym five ∙ whole.each_word in cc
 unsized_words words first number processors tasks events five none (Draw axis window) (inr part) = let same = sym five ∙ part.each_word in cc
 unsized_words words first number processors tasks events five none Chrome spoken = let same = sym five ∙ spoken in cc
@@ -201,11 +207,13 @@ unwatched_words words first number two none Check spoken = let same = sym two �
 unwatched_words words first number two none Weak spoken = let same = sym two ∙ spoken in cc
 unwatched_words words first number two none Nested spoken = let same = sym two ∙ spoken in cc
 unwatched_words words first number two none Jobs spoken = let same = sym two ∙ spoken in cc
+unwatched_words words first number two none WeakJobs spoken = let same = sym two ∙ spoken in cc
 unwatched_words words first number two none (Watch observers) spoken =
     let same = sym spoken.each_word ∙ two in
     let numbers : spoken.number ≡ number = cc in
     none observers (rw numbers at spoken.is_number)
 unwatched_words words first number two none Import spoken = let same = sym two ∙ spoken in cc
+unwatched_words words first number two none ImportJobs spoken = let same = sym two ∙ spoken in cc
 unwatched_words words first number two none (Draw axis window) (inl whole) = let same = sym two ∙ whole.each_word in cc
 unwatched_words words first number two none (Draw axis window) (inr part) = let same = sym two ∙ part.each_word in cc
 unwatched_words words first number two none Chrome spoken = let same = sym two ∙ spoken in cc
@@ -227,8 +235,10 @@ unwindowed_words words first from to three none Check spoken = let same = sym th
 unwindowed_words words first from to three none Weak spoken = let same = sym three ∙ spoken in cc
 unwindowed_words words first from to three none Nested spoken = let same = sym three ∙ spoken in cc
 unwindowed_words words first from to three none Jobs spoken = let same = sym three ∙ spoken in cc
+unwindowed_words words first from to three none WeakJobs spoken = let same = sym three ∙ spoken in cc
 unwindowed_words words first from to three none (Watch observers) spoken = let same = sym three ∙ spoken.each_word in cc
 unwindowed_words words first from to three none Import spoken = let same = sym three ∙ spoken in cc
+unwindowed_words words first from to three none ImportJobs spoken = let same = sym three ∙ spoken in cc
 unwindowed_words words first from to three none (Draw axis window) (inl whole) = let same = sym three ∙ whole.each_word in cc
 unwindowed_words words first from to three none (Draw axis window) (inr part) = no_window words axis first from to three none window part
 unwindowed_words words first from to three none Chrome spoken = let same = sym three ∙ spoken in cc

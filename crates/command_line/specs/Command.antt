@@ -12,7 +12,9 @@ use Rattle.commands.specs.Weak.{IsWeakOf}
 use Rattle.commands.specs.Watch.{IsWatchOf}
 use Rattle.commands.specs.NestedRun.{IsNestedOf, AcceptsNested, RefusesNested}
 use Rattle.commands.specs.JobsRun.{IsJobsOf, AcceptsJobs, RefusesJobs}
+use Rattle.commands.specs.WeakJobs.{IsWeakJobsOf}
 use Rattle.commands.specs.Import.{IsImportOf, AcceptsTrace, RefusesTrace}
+use Rattle.commands.specs.ImportJobs.{IsImportedJobsOf, AcceptsJobTrace, RefusesJobTrace}
 use Rattle.commands.specs.Draw.{IsDrawingOf}
 use Rattle.commands.specs.Lost.{IsLossOf, AcceptsTaskTrace, RefusesTaskTrace}
 use Rattle.commands.specs.Generating.{IsMakeOf, IsLargeOf}
@@ -22,7 +24,7 @@ use Rattle.schedule_picture.specs.declared.axis.Axis.{Axis}
 use Rattle.schedule_picture.specs.declared.axis.Axis.TheVariants.{Time, Steps}
 use Rattle.schedule_picture.specs.declared.window.Window.{Window}
 use Rattle.command_line.specs.declared.words.Command.{Command}
-use Rattle.command_line.specs.declared.words.Command.TheVariants.{Run, Check, Weak, Nested, Jobs, Watch, Import, Draw, Chrome, Lost, Make, Large}
+use Rattle.command_line.specs.declared.words.Command.TheVariants.{Run, Check, Weak, Nested, Jobs, WeakJobs, Watch, Import, ImportJobs, Draw, Chrome, Lost, Make, Large}
 
 -- ---- words
 -- a number, and then how many processors, tasks and events there are; leading zeros are no fault
@@ -77,8 +79,10 @@ IsCommand words Check = words ≡ codes "check" ∷ []
 IsCommand words Weak = words ≡ codes "weak" ∷ []
 IsCommand words Nested = words ≡ codes "nested" ∷ []
 IsCommand words Jobs = words ≡ codes "jobs" ∷ []
+IsCommand words WeakJobs = words ≡ codes "weakjobs" ∷ []
 IsCommand words (Watch observers) = IsWatch words observers
 IsCommand words Import = words ≡ codes "import" ∷ []
+IsCommand words ImportJobs = words ≡ codes "importjobs" ∷ []
 IsCommand words (Draw axis window) = IsOfWhole (word_of axis) words window ⊎ IsOfPart (word_of axis) words window
 IsCommand words Chrome = words ≡ codes "chrome" ∷ []
 IsCommand words Lost = words ≡ codes "lost" ∷ []
@@ -92,8 +96,10 @@ IsBounded Check = Unit {0}
 IsBounded Weak = Unit {0}
 IsBounded Nested = Unit {0}
 IsBounded Jobs = Unit {0}
+IsBounded WeakJobs = Unit {0}
 IsBounded (Watch observers) = (1 ≤ observers) × (observers ≤ 8)
 IsBounded Import = Unit {0}
+IsBounded ImportJobs = Unit {0}
 IsBounded (Draw axis window) = Unit {0}
 IsBounded Chrome = Unit {0}
 IsBounded Lost = Unit {0}
@@ -101,76 +107,62 @@ IsBounded (Make sizes) = AreWithin sizes
 IsBounded (Large sizes) = AreWithin sizes
 
 -- ---- what is read
--- the most bytes that a command reads: `import` and `lost` read long traces
+-- the most bytes that a command reads: `import`, `importjobs` and `lost` read long traces
 abbrev pub byte_limit : Command → ℕ
 byte_limit Run = text_limit
 byte_limit Check = text_limit
 byte_limit Weak = text_limit
 byte_limit Nested = text_limit
 byte_limit Jobs = text_limit
+byte_limit WeakJobs = text_limit
 byte_limit (Watch observers) = text_limit
 byte_limit Import = trace_limit
+byte_limit ImportJobs = trace_limit
 byte_limit (Draw axis window) = text_limit
 byte_limit Chrome = text_limit
 byte_limit Lost = trace_limit
 byte_limit (Make sizes) = text_limit
 byte_limit (Large sizes) = text_limit
 
--- what a command reads of a source; `make` and `large` read nothing
-abbrev pub Reads : Command → Option (List ℕ) → Option (List ℕ) → List ℕ → Type 0
-Reads Run old new read = ReadsAll text_limit old new read
-Reads Check old new read = ReadsAll text_limit old new read
-Reads Weak old new read = ReadsAll text_limit old new read
-Reads Nested old new read = ReadsAll text_limit old new read
-Reads Jobs old new read = ReadsAll text_limit old new read
-Reads (Watch observers) old new read = ReadsAll text_limit old new read
-Reads Import old new read = ReadsAll trace_limit old new read
-Reads (Draw axis window) old new read = ReadsAll text_limit old new read
-Reads Chrome old new read = ReadsAll text_limit old new read
-Reads Lost old new read = ReadsAll trace_limit old new read
-Reads (Make sizes) old new read = (new ≡ old) × (read ≡ [])
-Reads (Large sizes) old new read = (new ≡ old) × (read ≡ [])
-
--- what a command is to read of a source with this left
-abbrev pub IsToRead : Command → Option (List ℕ) → List ℕ → Type 0
-IsToRead Run left read = IsReported text_limit left read
-IsToRead Check left read = IsReported text_limit left read
-IsToRead Weak left read = IsReported text_limit left read
-IsToRead Nested left read = IsReported text_limit left read
-IsToRead Jobs left read = IsReported text_limit left read
-IsToRead (Watch observers) left read = IsReported text_limit left read
-IsToRead Import left read = IsReported trace_limit left read
-IsToRead (Draw axis window) left read = IsReported text_limit left read
-IsToRead Chrome left read = IsReported text_limit left read
-IsToRead Lost left read = IsReported trace_limit left read
-IsToRead (Make sizes) left read = read ≡ []
-IsToRead (Large sizes) left read = read ≡ []
-
--- the command reads nothing
+-- the command reads nothing: `make` and `large`
 abbrev pub ReadsNothing : Command → Type 0
 ReadsNothing Run = ⊥
 ReadsNothing Check = ⊥
 ReadsNothing Weak = ⊥
 ReadsNothing Nested = ⊥
 ReadsNothing Jobs = ⊥
+ReadsNothing WeakJobs = ⊥
 ReadsNothing (Watch observers) = ⊥
 ReadsNothing Import = ⊥
+ReadsNothing ImportJobs = ⊥
 ReadsNothing (Draw axis window) = ⊥
 ReadsNothing Chrome = ⊥
 ReadsNothing Lost = ⊥
 ReadsNothing (Make sizes) = Unit {0}
 ReadsNothing (Large sizes) = Unit {0}
 
+-- what a command reads of a source: nothing, or all that was left of it within its limit
+pub record Reads (command : Command) (old new : Option (List ℕ)) (read : List ℕ) : Type 0 where
+  pub none : ReadsNothing command → (new ≡ old) × (read ≡ [])
+  pub all : (ReadsNothing command → ⊥) → ReadsAll (byte_limit command) old new read
+
+-- what a command is to read of a source with this left
+pub record IsToRead (command : Command) (left : Option (List ℕ)) (read : List ℕ) : Type 0 where
+  pub none : ReadsNothing command → read ≡ []
+  pub all : (ReadsNothing command → ⊥) → IsReported (byte_limit command) left read
+
 -- ---- what is made
 -- what a command writes for the bytes that it read
-abbrev pub Makes : Command → List ℕ → List ℕ → Type 0
+unfoldable pub Makes : Command → List ℕ → List ℕ → Type 0
 Makes Run read put = IsRunOf read put
 Makes Check read put = IsCheckOf read put
 Makes Weak read put = IsWeakOf read put
 Makes Nested read put = IsNestedOf read put
 Makes Jobs read put = IsJobsOf read put
+Makes WeakJobs read put = IsWeakJobsOf read put
 Makes (Watch observers) read put = IsWatchOf observers read put
 Makes Import read put = IsImportOf read put
+Makes ImportJobs read put = IsImportedJobsOf read put
 Makes (Draw axis window) read put = IsDrawingOf axis window read put
 Makes Chrome read put = IsChromeOf read put
 Makes Lost read put = IsLossOf read put
@@ -178,14 +170,16 @@ Makes (Make sizes) read put = IsMakeOf sizes put
 Makes (Large sizes) read put = IsLargeOf sizes put
 
 -- the bytes that a command accepts: a text of the kind that it reads; or none
-abbrev pub Accepts : Command → List ℕ → Type 0
+unfoldable pub Accepts : Command → List ℕ → Type 0
 Accepts Run bytes = IsAccepted bytes
 Accepts Check bytes = IsValidText bytes
 Accepts Weak bytes = IsAccepted bytes
 Accepts Nested bytes = AcceptsNested bytes
 Accepts Jobs bytes = AcceptsJobs bytes
+Accepts WeakJobs bytes = AcceptsJobs bytes
 Accepts (Watch observers) bytes = IsAccepted bytes
 Accepts Import bytes = AcceptsTrace bytes
+Accepts ImportJobs bytes = AcceptsJobTrace bytes
 Accepts (Draw axis window) bytes = IsValidText bytes
 Accepts Chrome bytes = IsValidText bytes
 Accepts Lost bytes = AcceptsTaskTrace bytes
@@ -193,14 +187,16 @@ Accepts (Make sizes) bytes = bytes ≡ []
 Accepts (Large sizes) bytes = bytes ≡ []
 
 -- the bytes that a command refuses, each with its answer
-abbrev pub Refuses : Command → List ℕ → Status → Type 0
+unfoldable pub Refuses : Command → List ℕ → Status → Type 0
 Refuses Run bytes status = IsAnsweredInput (RefusesInput bytes) status
 Refuses Check bytes status = RefusesCheck bytes status
 Refuses Weak bytes status = IsAnsweredInput (RefusesInput bytes) status
 Refuses Nested bytes status = RefusesNested bytes status
 Refuses Jobs bytes status = RefusesJobs bytes status
+Refuses WeakJobs bytes status = RefusesJobs bytes status
 Refuses (Watch observers) bytes status = IsAnsweredInput (RefusesInput bytes) status
 Refuses Import bytes status = RefusesTrace bytes status
+Refuses ImportJobs bytes status = RefusesJobTrace bytes status
 Refuses (Draw axis window) bytes status = RefusesCheck bytes status
 Refuses Chrome bytes status = RefusesCheck bytes status
 Refuses Lost bytes status = RefusesTaskTrace bytes status

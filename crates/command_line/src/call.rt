@@ -1,5 +1,5 @@
 //! The top call: from the words and the bytes read to the bytes written.
-ghost use Rattle.std.specs.Prelude.{◌≡◌, ◌≢◌, ℕ, ◌+◌, ◌↔◌, ◌≤◌, ◌⊎◌, List, length, map, IfOk, IsErrOf, IsOk, string_bytes};
+ghost use Rattle.std.specs.Prelude.{◌≡◌, ◌≢◌, ℕ, ◌+◌, ◌↔◌, ◌≤◌, ◌⊎◌, List, false, length, map, true, IfOk, IsErrOf, IsOk, string_bytes};
 ghost use Rattle.std.specs.Io.KnownBytes.{Appends};
 ghost use Rattle.shift_io.specs.declared.whole.ReadAllFault.{ReadAllFault};
 ghost use Rattle.shift_io.specs.declared.whole.ReadAllFault.TheVariants as fault;
@@ -13,9 +13,9 @@ ghost use Rattle.command_line.specs.Command.{IsCommand, IsBounded, byte_limit, R
 
 use crate::words::{Command, command_of};
 use commands::{
-    MAX_BYTES, MAX_TRACE_BYTES, Status, checked_text, chrome_trace, drawn_text, imported_text,
-    jobs_text, lost_text, made_text, nested_text, replayed_text, summary_of, watched_text,
-    weak_text,
+    MAX_BYTES, MAX_TRACE_BYTES, Status, checked_text, chrome_trace, drawn_text, imported_jobs_text,
+    imported_text, jobs_text, lost_text, made_text, nested_text, replayed_text, summary_of,
+    watched_text, weak_jobs_text, weak_text,
 };
 use processor_seat::Gate;
 use shift_io::{ReadAllFault, Sink, Source, put_all, read_all};
@@ -28,14 +28,16 @@ use std::thread::Threads;
 /// gate is called before and after each post, and before the first try of each take. `check` reads the source as a
 /// schedule text, whoever made it, and where that is a valid schedule, writes how many entries it has. `weak` reads an
 /// input text, replays its events by the weak scheduler beside the strong one, and writes what differs. `nested` reads
-/// an input text of version 1 whose masks nest, and writes what counts decide. `jobs` reads a text of periodic tasks,
-/// and writes when each of their jobs ends. `watch` works as `run` does, but for the posts, which are in the order of
-/// the lines, and beside it so many observers read which processors are occupied, each on a thread of its own. It writes
-/// the schedule text, and then what they read; the gate is also called before each of their reads. `import` reads a
-/// trace of the Linux scheduler, and writes the input that it comes to, and `lost` what each of its tasks lost beside the
-/// best set. `draw`, `steps` and `chrome` read what `check` reads, and of a valid schedule write a picture, or a trace in
+/// an input text of version 1 whose masks nest, and writes what counts decide. `jobs` reads a text of jobs, stated one by
+/// one or periodic, and writes when each of them ends, and `weakjobs` when it ends under the weak scheduler and under the
+/// strong one. `watch` works as `run` does, but for the posts, which are in the order of the lines, and beside it so many
+/// observers read which processors are occupied, each on a thread of its own. It writes the schedule text, and then what
+/// they read; the gate is also called before each of their reads. `import` reads a trace of the Linux scheduler, and
+/// writes the input that it comes to, `importjobs` the text of the jobs that its tasks had, and `lost` what each of its
+/// tasks lost beside the best set. `draw`, `steps` and `chrome` read what `check` reads, and of a valid schedule write a picture, or a trace in
 /// Chrome's format. `make` writes the text of the input of its four numbers, and `large` replays that input as `run` does
 /// and writes a summary; neither reads the source.
+#[tactic(auto, unfolding(crate::specs::Command::Refuses))]
 pub fn run<R: Threads + Wait + Sync, S: Source, K: Sink, G: Gate + Sync>(
     rt: &R,
     alloc: Global,
@@ -136,18 +138,18 @@ fn bytes_for<S: Source>(
         ⊎ TakesAtMost (S.left source.old) (S.left source.new) (byte_limit command) }
     ensures takes { S.calls source.new ≤ S.calls source.old + byte_limit command + 2 }
 {
-    match command {
-        Command::Make(_) | Command::Large(_) => Ok(Vec::new(alloc)),
-        Command::Run
-        | Command::Check
-        | Command::Weak
-        | Command::Nested
-        | Command::Jobs
-        | Command::Watch(_)
-        | Command::Draw(_, _)
-        | Command::Chrome => read_all(alloc, source, MAX_BYTES),
-        Command::Import | Command::Lost => read_all(alloc, source, MAX_TRACE_BYTES),
+    if reads_nothing(command) {
+        return Ok(Vec::new(alloc));
     }
+    read_all(alloc, source, limit_of(command))
+}
+
+/// Whether a command reads nothing.
+fn reads_nothing(command: Command) -> bool
+    ensures nothing { result ≡ true → ReadsNothing command }
+    ensures something { result ≡ false → ReadsNothing command → ⊥ }
+{
+    matches!(command, Command::Make(_) | Command::Large(_))
 }
 
 /// The most bytes that a command reads.
@@ -155,12 +157,13 @@ fn limit_of(command: Command) -> usize
     ensures { result ≡ byte_limit command }
 {
     match command {
-        Command::Import | Command::Lost => MAX_TRACE_BYTES,
+        Command::Import | Command::ImportJobs | Command::Lost => MAX_TRACE_BYTES,
         Command::Run
         | Command::Check
         | Command::Weak
         | Command::Nested
         | Command::Jobs
+        | Command::WeakJobs
         | Command::Watch(_)
         | Command::Draw(_, _)
         | Command::Chrome
@@ -170,6 +173,7 @@ fn limit_of(command: Command) -> usize
 }
 
 /// The text that a command makes of these bytes, or the status that says why there is none.
+#[tactic(auto, unfolding(crate::specs::Command::Makes, crate::specs::Command::Accepts, crate::specs::Command::Refuses))]
 fn text_made<R: Threads + Wait + Sync, G: Gate + Sync>(
     rt: &R,
     alloc: Global,
@@ -187,8 +191,10 @@ fn text_made<R: Threads + Wait + Sync, G: Gate + Sync>(
         Command::Weak => weak_text(alloc, bytes),
         Command::Nested => nested_text(alloc, bytes),
         Command::Jobs => jobs_text(alloc, bytes),
+        Command::WeakJobs => weak_jobs_text(alloc, bytes),
         Command::Watch(observers) => watched_text(rt, alloc, bytes, observers, gate),
         Command::Import => imported_text(alloc, bytes),
+        Command::ImportJobs => imported_jobs_text(alloc, bytes),
         Command::Draw(axis, window) => drawn_text(alloc, bytes, axis, window),
         Command::Chrome => chrome_trace(alloc, bytes),
         Command::Lost => lost_text(alloc, bytes),

@@ -25,13 +25,18 @@ pub enum Command {
     /// The source is an input text of version 1 whose masks nest; its events are decided by counts, and the replies are
     /// written.
     Nested,
-    /// The source is a text of periodic tasks; their jobs are released and run, and when each job ends is written.
+    /// The source is a text of jobs; they are released and run, and when each of them ends is written.
     Jobs,
+    /// The source is a text of jobs; they are released and run by the weak scheduler and by the strong one, and when each
+    /// of them ends under either is written.
+    WeakJobs,
     /// The source is an input text; its events are replayed while so many observers read, and the schedule text is
     /// written, and what they read.
     Watch(u32),
     /// The source is a trace of the Linux scheduler, and the text of the input that it comes to is written.
     Import,
+    /// The source is a trace of the Linux scheduler, and the text of the jobs that its tasks had is written.
+    ImportJobs,
     /// The source is a schedule text; it is checked, and a picture of this window of it is written.
     Draw(Axis, Window),
     /// The source is a schedule text; it is checked, and a trace of it in Chrome's format is written.
@@ -63,7 +68,9 @@ pub fn command_of(words: &[String]) -> Option<Command>
             "weak" => Some(Command::Weak),
             "nested" => Some(Command::Nested),
             "jobs" => Some(Command::Jobs),
+            "weakjobs" => Some(Command::WeakJobs),
             "import" => Some(Command::Import),
+            "importjobs" => Some(Command::ImportJobs),
             "draw" => Some(Command::Draw(Axis::Time, WHOLE)),
             "steps" => Some(Command::Draw(Axis::Steps, WHOLE)),
             "chrome" => Some(Command::Chrome),

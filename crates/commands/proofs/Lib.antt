@@ -3,10 +3,13 @@ pub mod CheckedText
 pub mod Compared
 pub mod Following
 pub mod Headline
+pub mod ImportedJobs
 pub mod InputNumbers
 pub mod JobsOneText
 pub mod JobsRefusals
 pub mod LegalSchedules
+pub mod LineCounts
+pub mod ListedJobs
 pub mod LossRows
 pub mod MadeTexts
 pub mod NestedAnswers

@@ -5,6 +5,7 @@ pub mod Chrome
 pub mod Draw
 pub mod Generating
 pub mod Import
+pub mod ImportJobs
 pub mod JobsLaws
 pub mod JobsRun
 pub mod Lost
@@ -21,4 +22,5 @@ pub mod Valid
 pub mod Watch
 pub mod WatchText
 pub mod Weak
+pub mod WeakJobs
 pub mod WeakLaws

@@ -31,7 +31,7 @@ fn text_of(alloc: Global, input: &JobInput) -> Result<Vec<u8>, OutOfMemory>
 }
 
 /// The status of a fault of the text.
-fn status_of(fault: JobFault) -> Status
+pub(crate) fn status_of(fault: JobFault) -> Status
     ensures { result ≡ status_of_jobs_fault fault }
 {
     match fault.kind.number() {

@@ -38,7 +38,10 @@ fn text_of(alloc: Global, trace: &TaskTrace) -> Result<Vec<u8>, OutOfMemory>
 }
 
 /// The used lines, as they are counted.
-fn passages_of(alloc: Global, lines: &[passage::Passage]) -> Result<Vec<Passage>, AllocError>
+pub(crate) fn passages_of(
+    alloc: Global,
+    lines: &[passage::Passage],
+) -> Result<Vec<Passage>, AllocError>
     ensures { IfOk result (λ list. list.items ≡ passages_of lines.now) }
 {
     let mut list = Vec::new(alloc);

@@ -2,8 +2,7 @@
 //! standard output.
 #![tactic(auto)]
 
-use command_line::run;
-use commands::{Status, report};
+use command_line::{Status, report, run};
 use processor_seat::OpenGate;
 use shift_io::{StdSink, StdSource};
 use std::process::ExitCode;
