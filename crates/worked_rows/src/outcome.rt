@@ -2,8 +2,7 @@
 use crate::case::{Case, Deed, Stage};
 use crate::put::{write_answer, write_put};
 use crate::streams::{is_in_order, spread};
-use command_line::run;
-use commands::Status;
+use command_line::{Status, run};
 use processor_seat::OpenGate;
 use shift_io::{MemSink, MemSource};
 use std::alloc::{AllocError, Global};

@@ -1,5 +1,5 @@
 //! How answers and what was put are written.
-use commands::{Status, exit_status, report};
+use command_line::{Status, exit_status, report};
 use std::alloc::{AllocError, Global};
 use std::cell::RefCell;
 use std::fmt::{Display, Write};
