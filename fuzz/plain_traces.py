@@ -1,4 +1,4 @@
-"""Traces of the Linux scheduler, read plainly from docs/FORMATS.md, for the second opinion on `import` and `lost`.
+"""Traces of the Linux scheduler, read plainly from docs/FORMATS.md, for the second opinion on `import`, `lost` and `importjobs`.
 
 A head is read by the line and refused with its kind; of the trace each line is asked what it mentions, and who is ready, who is best
 and who runs is said for each stretch between two lines. Stamps are numbers of nanoseconds, moments are microseconds.
@@ -6,6 +6,7 @@ and who runs is said for each stretch between two lines. Stamps are numbers of n
 
 import re
 
+from plain_jobs import HORIZONS, MOST_JOBS
 from plain_scheduler import State, step
 from plain_texts import Fault, Text, listed, number
 from texts import MOST_EVENTS, canonical_list
@@ -52,11 +53,14 @@ class Trace(Text):
         return self.ids.index(thread) if thread in self.ids else None
 
 
+def lines_of(data):
+    lines = data.split(b'\n')
+    return lines if lines[-1] else lines[:-1]
+
+
 def read_trace(data, is_lost):
     """What the text of a trace says; a Fault where it is none. With `is_lost` as the word `lost` reads it."""
-    lines = data.split(b'\n')
-    if not lines[-1]:
-        lines.pop()
+    lines = lines_of(data)
     trace, events = Trace(), Events(is_lost)
     for place, line in enumerate(lines, 1):
         kind = head_kind(trace, line) if trace.is_head else trace_kind(trace, events, fields_of(line))
@@ -225,6 +229,10 @@ def ticks(units):
     return [b'0 tick 1000000'] * (units // 1000000) + ([b'0 tick %d' % (units % 1000000)] if units % 1000000 else [])
 
 
+def task_lines(trace):
+    return [b'task %s %d %s' % (name, priority, canonical_list(mask)) for name, (priority, mask) in zip(trace.names, trace.tasks)]
+
+
 def answer_to_import(data):
     """The status, the output, and the line and kind of a refusal; without these two where the text is too long."""
     if len(data) > MOST_TRACE_BYTES:
@@ -233,8 +241,7 @@ def answer_to_import(data):
         trace, events = read_trace(data, False)
     except Fault as fault:
         return 3, b'', (fault.line, fault.kind)
-    lines = [b'apa 1', b'processors %d' % trace.processors]
-    lines += [b'task %s %d %s' % (name, priority, canonical_list(mask)) for name, (priority, mask) in zip(trace.names, trace.tasks)]
+    lines = [b'apa 1', b'processors %d' % trace.processors, *task_lines(trace)]
     clock = 0
     for moment, _processor, _tasks, changed in events.lines:
         if changed:
@@ -322,3 +329,38 @@ def answer_to_lost(data):
         lines.append(f'{name.decode()} ready {ready} ran {ran} lost {lost} longest {count} at {"-" if first is None else first} '
                      f'while {"nobody" if most is None else trace.names[most].decode()}')
     return 0, '\n'.join(lines + ['end', '']).encode(), None
+
+
+# `importjobs`.
+
+def jobs_of(events):
+    """The stretches of readiness in which their task ran, in the order of what begins them: task, first moment, and cost."""
+    stretches, current = [], {}
+    for at, (moment, _processor, _tasks, changed) in enumerate(events.lines):
+        for task, is_in in changed:
+            if is_in:
+                current[task] = [task, moment, 0]
+                stretches.append(current[task])
+            else:
+                del current[task]
+        if at + 1 < len(events.lines):
+            for task in runs_after(events.lines, at + 1).keys() & current.keys():
+                current[task][2] += events.lines[at + 1][0] - moment
+    return [stretch for stretch in stretches if stretch[2]]
+
+
+def answer_to_importjobs(data):
+    if len(data) > MOST_TRACE_BYTES:
+        return 3, b'', None
+    try:
+        trace, events = read_trace(data, True)
+        if not 1 <= events.span() <= HORIZONS[2]:
+            raise Fault(len(lines_of(data)) + 1, 14)
+        jobs = jobs_of(events)
+        if len(jobs) > MOST_JOBS:
+            raise Fault(len(lines_of(data)) + 1, 15)
+    except Fault as fault:
+        return 3, b'', (fault.line, fault.kind)
+    lines = [b'jobs 2', b'processors %d' % trace.processors, b'horizon %d' % events.span(), *task_lines(trace)]
+    lines += [b'job %s %d %d' % (trace.names[task], release, cost) for task, release, cost in jobs]
+    return 0, b'\n'.join([*lines, b'end', b'']), None

@@ -12,7 +12,7 @@ DEFAULT = os.path.normpath(os.path.join(os.path.dirname(os.path.abspath(__file__
 STATUS_LINES = {
     0: re.compile(rb''),
     1: re.compile(rb'invalid: line (\d+), defect ([1-5])\n'),
-    2: re.compile(rb'usage: run, check, make n p t e, large n p t e, weak, nested, jobs, watch k, import, draw \[A B\], steps \[A B\], chrome, lost\n'),
+    2: re.compile(rb'usage: run, check, make n p t e, large n p t e, weak, nested, jobs, watch k, import, draw \[A B\], steps \[A B\], chrome, lost, weakjobs, importjobs\n'),
     3: re.compile(rb'input: line (\d+), kind (\d+)\n|input: more than (?:16777216|268435456) bytes\n'),
     4: re.compile(rb'read fault\n'),
     5: re.compile(rb'write fault\n'),
@@ -22,6 +22,11 @@ STATUS_LINES = {
 INPUT_KINDS = range(1, 14)
 SCHEDULE_KINDS = range(21, 26)
 TRACE_KINDS = (*range(1, 9), 10, 12, *range(16, 22))
+JOB_KINDS = (*range(1, 10), 11, 12, 14, 15, 19)
+KINDS = {
+    'run': INPUT_KINDS, 'check': SCHEDULE_KINDS, 'import': TRACE_KINDS, 'lost': TRACE_KINDS, 'importjobs': (*TRACE_KINDS, 14, 15),
+    'jobs': JOB_KINDS, 'weakjobs': JOB_KINDS,
+}
 
 
 class Hang(Exception):
@@ -125,7 +130,6 @@ def judged(words, answer):
         raise Wrong(f'{answer.line!r}, and {len(answer.output)} bytes were written')
     if answer.status in (1, 3) and said[1]:
         answer.place, answer.number = int(said[1]), int(said[2])
-        kinds = {'run': INPUT_KINDS, 'check': SCHEDULE_KINDS, 'import': TRACE_KINDS, 'lost': TRACE_KINDS}.get(words[0], ())
-        if answer.status == 3 and answer.number not in kinds or answer.status == 1 and words[0] != 'check':
+        if answer.status == 3 and answer.number not in KINDS.get(words[0], ()) or answer.status == 1 and words[0] != 'check':
             raise Wrong(f'{words[0]} answered {answer.line!r}')
     return answer

@@ -417,8 +417,10 @@ def spelled_line(chance, fields):
     fields = list(fields)
     if fields[0] == b'task':
         fields[2], fields[3] = spelled_number(chance, fields[2]), spelled_list(chance, fields[3])
-    elif fields[0] in (b'apa', b'processors'):
+    elif fields[0] in (b'apa', b'jobs', b'processors', b'horizon'):
         fields[1] = spelled_number(chance, fields[1])
+    elif fields[0] == b'job':
+        fields[2:] = [spelled_number(chance, field) for field in fields[2:]]
     elif fields[0].isdigit():
         fields[0] = spelled_number(chance, fields[0])
         if fields[1] in (b'tick', b'offline', b'online'):
