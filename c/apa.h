@@ -11,8 +11,9 @@
  * Every other number may be wrong: a call that cannot use one answers a fault and changes nothing.
  *
  * At most 64 processors and 1,024 tasks. Of two priorities the lower number is the more urgent. No two tasks have one
- * priority: priority * 1024 + task makes equal ones distinct, and of equal ones the lower task goes first then; where tasks
- * come and go, a count that each new one raises serves in place of task. Bit p of a mask is processor p.
+ * priority: priority * 1024 + task makes equal ones distinct, up to the priority 4194302, and of equal ones the lower task
+ * goes first then; where tasks come and go, admit each with 4294967295, and then set that priority. Bit p of a mask is
+ * processor p.
  *
  * Tasks that come and go: apa_start_with_slots makes free slots beside the tasks. apa_admit gives one to a new task, whose
  * number is that of the slot, and apa_retire makes it free again. There is no task of a free slot: an event of one answers

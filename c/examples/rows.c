@@ -281,6 +281,29 @@ static void refusals(void) {
     apa_free(a);
 }
 
+/* Equal priorities, where tasks come and go: each is admitted with a priority that no other has, and gets its own while it is
+ * absent. All three have the priority 7, so the lower number goes first, whoever came first. */
+static void equal_priorities(void) {
+    apa *a = apa_new(1);
+    uint32_t task[3];
+    expect("equal: start", apa_start_with_slots(a, 3), APA_DONE);
+    for (int round = 0; round < 1000; round++) {
+        for (int i = 0; i < 3; i++) {
+            task[i] = admitted(a, "equal: admit", 4294967295u, 1);
+            expect("equal: priority", apa_set_priority(a, task[i], 7 * 1024 + task[i]), APA_DONE);
+        }
+        for (int i = 2; i >= 0; i--) apa_arrive(a, task[i]);
+        expect("equal: on 0", apa_on(a, 0), 0);
+        expect("equal: of 1", apa_of(a, 1), APA_NONE);
+        expect("equal: of 2", apa_of(a, 2), APA_NONE);
+        for (int i = 0; i < 3; i++) {
+            apa_depart(a, task[i]);
+            expect("equal: retire", apa_retire(a, task[i]), APA_DONE);
+        }
+    }
+    apa_free(a);
+}
+
 int main(void) {
     two_tasks_on_two_processors();
     longest_chain();
@@ -288,6 +311,7 @@ int main(void) {
     departures_and_changes();
     tasks_that_come_and_go();
     few_slots_and_many();
+    equal_priorities();
     refusals();
     if (failed) return 1;
     puts("rows: all as expected");
