@@ -13,7 +13,8 @@ STATUS_LINES = {
     0: re.compile(rb''),
     1: re.compile(rb'invalid: line (\d+), defect ([1-5])\n'),
     2: re.compile(rb'usage: run, check, make n p t e, large n p t e, weak, nested, jobs, watch k, import, draw \[A B\], steps \[A B\], chrome, lost, weakjobs, importjobs\n'),
-    3: re.compile(rb'input: line (\d+), kind (\d+)\n|input: more than (?:16777216|268435456) bytes\n'),
+    3: re.compile(rb'input: line (\d+), kind (\d+)\n|input: more than (?:16777216|268435456) bytes\n'
+                  rb'|input: version 1 wanted\n|input: tasks \d+ and \d+ have crossing masks\n'),
     4: re.compile(rb'read fault\n'),
     5: re.compile(rb'write fault\n'),
     6: re.compile(rb'out of memory\n'),
@@ -24,9 +25,13 @@ SCHEDULE_KINDS = range(21, 26)
 TRACE_KINDS = (*range(1, 9), 10, 12, *range(16, 22))
 JOB_KINDS = (*range(1, 10), 11, 12, 14, 15, 19)
 KINDS = {
-    'run': INPUT_KINDS, 'check': SCHEDULE_KINDS, 'import': TRACE_KINDS, 'lost': TRACE_KINDS, 'importjobs': (*TRACE_KINDS, 14, 15),
-    'jobs': JOB_KINDS, 'weakjobs': JOB_KINDS,
+    'run': INPUT_KINDS, 'watch': INPUT_KINDS, 'weak': INPUT_KINDS, 'nested': INPUT_KINDS,
+    'check': SCHEDULE_KINDS, 'draw': SCHEDULE_KINDS, 'steps': SCHEDULE_KINDS, 'chrome': SCHEDULE_KINDS,
+    'import': TRACE_KINDS, 'lost': TRACE_KINDS, 'importjobs': (*TRACE_KINDS, 14, 15), 'jobs': JOB_KINDS, 'weakjobs': JOB_KINDS,
 }
+# The words that refuse a schedule with a defect, and the one that refuses by words of its own.
+JUDGES = ('check', 'draw', 'steps', 'chrome')
+NESTED_REFUSALS = (b'input: version', b'input: tasks')
 
 
 class Hang(Exception):
@@ -56,8 +61,12 @@ class Answer:
         if self.status == 2:
             return 'usage'
         if self.status == 3:
-            return f'input, kind {self.number}' if self.number else 'input, too long'
+            return f'input, kind {self.number}' if self.number else self.refusal_by_words()
         return self.line.decode().strip()
+
+    def refusal_by_words(self):
+        found = re.match(rb'input: (version|tasks)', self.line)
+        return f'input, {found[1].decode()}' if found else 'input, too long'
 
     def refusal(self):
         """The status, line and number, which two refusals share where they are one."""
@@ -128,8 +137,10 @@ def judged(words, answer):
         raise Wrong(f'exit status {answer.status} with the line {answer.line[:200]!r}')
     if answer.status and answer.output:
         raise Wrong(f'{answer.line!r}, and {len(answer.output)} bytes were written')
+    if answer.line.startswith(NESTED_REFUSALS) and words != ['nested']:
+        raise Wrong(f'{words[0]} answered {answer.line!r}')
     if answer.status in (1, 3) and said[1]:
         answer.place, answer.number = int(said[1]), int(said[2])
-        if answer.status == 3 and answer.number not in KINDS.get(words[0], ()) or answer.status == 1 and words[0] != 'check':
+        if answer.status == 3 and answer.number not in KINDS.get(words[0], ()) or answer.status == 1 and words[0] not in JUDGES:
             raise Wrong(f'{words[0]} answered {answer.line!r}')
     return answer
