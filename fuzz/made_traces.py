@@ -1,0 +1,76 @@
+"""Traces, made or cut from recorded ones, for fuzz/traces and fuzz/whatif."""
+
+import glob
+import os
+
+TOP = os.path.dirname(os.path.dirname(os.path.abspath(__file__)))
+COMMS = [b'a', b'b c', b'[001]', b'prev_pid=101', b'x ==> y', b'CPU:1', b'comm=a', b'1.0:', b'sched_switch:', b'\xc3\xbc', b'<idle>']
+STATES = [b'S', b'R', b'R+', b'D', b'X|K', b'1', b'', b'r']
+OTHERS = [b'# a remark', b'', b'CPU:2 [LOST 12 EVENTS]', b'CPU:0 [3 EVENTS DROPPED]', b'CPU:1 is off', b' a-1 [000] 1.0: irq_handler_entry: irq=1',
+          b' a-1 [000] 1.0: sched_waking: comm=a pid=101 prio=1 target_cpu=000', b'\xff\x00\x80', b'version = 6']
+PROCESSORS = [b'[000]', b'[001]', b'[3]', b'[64]', b'[4294967295]', b'[4294967296]', b'000', b'[]']
+# The last used field of a stamp, by how much it goes on from line to line.
+STEPS = [0, 0, 1, 3, 3, 999, 1000, 1001, 7000, 250000, 1000000000, 2500000001]
+
+
+def made_head(chance):
+    """A head of some tasks, their ids from 101 on."""
+    processors = chance.choice([1, 2, 2, 3, 4, 8])
+    lines = [b'trace 1', b'processors %d' % processors]
+    for t in range(chance.randint(0, 2 * processors)):
+        low = chance.randrange(processors)
+        high = chance.randrange(low, processors)
+        name, level = chance.choice([b't%d' % t, b't-%d' % t]), chance.choice([0, 1, 1, 39, 39, 98, 4194303])
+        lines.append(b'task %s %d %d-%d %d' % (name, level, low, high, 101 + t))
+    if chance.random() < 0.2:
+        lines.append(b'window 10.%03d 1%d.5' % (chance.randrange(20), chance.randrange(3)))
+    return lines + [b'events']
+
+
+def made_line(chance, nanoseconds, states):
+    """A line of a kernel that may be wrong: mostly it wakes who sleeps and switches from who runs."""
+    thread, other = (chance.choice([0, 7, 101, 101, 102, 103, 104, 105]) for _ in range(2))
+    time = b'%d.%0*d' % (nanoseconds // 10 ** 9, 9, nanoseconds % 10 ** 9)
+    processor = chance.choice(PROCESSORS[:3]) if chance.random() < 0.97 else chance.choice(PROCESSORS)
+    head = b' %s-%d %s d..2. %s: ' % (chance.choice(COMMS), thread, processor, time)
+    sleeping = [it for it in range(101, 106) if states.get(it) is not True]
+    if chance.random() < 0.4 and sleeping:
+        thread = chance.choice(sleeping)
+        states[thread] = True
+        success = chance.choice([b'', b'', b'success=1 '])
+        return head + b'sched_wakeup: comm=%s pid=%d prio=1 %starget_cpu=000' % (chance.choice(COMMS), thread, success)
+    awake = [it for it in range(101, 106) if states.get(it)]
+    if awake and chance.random() < 0.9:
+        thread = chance.choice([*awake, 0])
+        other = chance.choice([*awake, 0])
+    state = chance.choice(STATES[:4]) if chance.random() < 0.97 else chance.choice(STATES)
+    if thread in states:
+        states[thread] = state.startswith(b'R')
+    names = chance.choice(COMMS), thread, state, chance.choice(COMMS), other
+    return head + b'sched_switch: prev_comm=%s prev_pid=%d prev_prio=1 prev_state=%s ==> next_comm=%s next_pid=%d next_prio=1' % names
+
+
+def made_trace(chance):
+    lines, nanoseconds, states = made_head(chance), 10 * 10 ** 9 + chance.randrange(10 ** 6), {}
+    # Half of the traces are short enough for jobs.
+    steps, factors = chance.choice([(STEPS, [1, 1, 1000]), (STEPS[:-2], [1])])
+    for _ in range(chance.choice([0, 1, 2, 5, 10, 20, 40])):
+        nanoseconds += chance.choice(steps) * chance.choice(factors)
+        lines.append(made_line(chance, nanoseconds, states))
+        if chance.random() < 0.05:
+            lines.append(chance.choice(OTHERS[:2] + OTHERS[4:]) if chance.random() < 0.9 else chance.choice(OTHERS))
+    return b'\n'.join(lines + [b''])
+
+
+def cut(chance, text):
+    """The head of a recorded trace with a part of its lines."""
+    lines = text.split(b'\n')
+    at = lines.index(b'events') + 1
+    low = chance.randrange(at, len(lines))
+    return b'\n'.join([line for line in lines[:at] if not line.startswith(b'window')] + lines[low:low + chance.choice([3, 30, 200])] + [b''])
+
+
+def recorded_traces():
+    """The traces of the examples, each as one text."""
+    heads = sorted(glob.glob(TOP + '/examples/*.tasks'))
+    return [open(head, 'rb').read() + b'events\n' + open(head[:-5] + 'trace', 'rb').read() for head in heads]
