@@ -4,13 +4,18 @@ import glob
 import os
 
 TOP = os.path.dirname(os.path.dirname(os.path.abspath(__file__)))
-COMMS = [b'a', b'b c', b'[001]', b'prev_pid=101', b'x ==> y', b'CPU:1', b'comm=a', b'1.0:', b'sched_switch:', b'\xc3\xbc', b'<idle>']
+COMMS = [b'a', b'b c', b'[001]', b'prev_pid=101', b'x ==> y', b'CPU:1', b'comm=a', b'1.0:', b'sched_switch:', b'\xc3\xbc', b'<idle>', b'', b'"&\'', b'\x1b[2J',
+         b'10.5: sched_wakeup: comm=a', b'prev_prio=1 prev_state=S ==>', b'next_pid=102 next_prio=1', b'prev_pid=102 prev_prio=1 prev_state=R ==>', b'[000]',
+         b'CPU:0 [LOST 1 EVENTS]', b'x' * 5000, b'\r', b'\t', b'pid=103 prio=1 target_cpu=000']
 STATES = [b'S', b'R', b'R+', b'D', b'X|K', b'1', b'', b'r']
 OTHERS = [b'# a remark', b'', b'CPU:2 [LOST 12 EVENTS]', b'CPU:0 [3 EVENTS DROPPED]', b'CPU:1 is off', b' a-1 [000] 1.0: irq_handler_entry: irq=1',
           b' a-1 [000] 1.0: sched_waking: comm=a pid=101 prio=1 target_cpu=000', b'\xff\x00\x80', b'version = 6']
 PROCESSORS = [b'[000]', b'[001]', b'[3]', b'[64]', b'[4294967295]', b'[4294967296]', b'000', b'[]']
 # The last used field of a stamp, by how much it goes on from line to line.
 STEPS = [0, 0, 1, 3, 3, 999, 1000, 1001, 7000, 250000, 1000000000, 2500000001]
+# Threads that are one of the tasks if their numbers are cut to some bits; and times that are far away, to 2^63 microseconds and beyond.
+FAR_THREADS = [101 + (1 << bits) for bits in (8, 16, 22, 31, 32, 63, 64)] + [10 ** 40]
+FAR_STEPS = [10 ** 13, 2 * 10 ** 13, 10 ** 18, (1 << 63) - 1, 1 << 64, ((1 << 63) - 1) * 1000, (1 << 63) * 1000, 10 ** 40]
 
 
 def made_head(chance):
@@ -23,19 +28,31 @@ def made_head(chance):
         name, level = chance.choice([b't%d' % t, b't-%d' % t]), chance.choice([0, 1, 1, 39, 39, 98, 4194303])
         lines.append(b'task %s %d %d-%d %d' % (name, level, low, high, 101 + t))
     if chance.random() < 0.2:
-        lines.append(b'window 10.%03d 1%d.5' % (chance.randrange(20), chance.randrange(3)))
+        lines.insert(chance.randrange(2, len(lines) + 1), made_window(chance))
     return lines + [b'events']
+
+
+def made_window(chance):
+    """A window, mostly one that has some lines of the trace."""
+    if chance.random() < 0.6:
+        return b'window 10.%03d 1%d.5' % (chance.randrange(20), chance.randrange(3))
+    stamps = [b'10.0', b'10.000000', b'10.0000005', b'10.000001', b'010.5', b'0.0', b'11.999999999', b'12.0', b'99999999999999999999.9', b'9' * 60 + b'.0']
+    odd = [b'10', b'10.', b'.5', b'10.0000000000', b'-1.0', b'+1.0', b'1e1.0', b'10.0:', b'']
+    ends = [chance.choice(stamps if chance.random() < 0.95 else odd) for _ in range(2)]
+    return b' '.join([b'window', *(sorted(ends, key=lambda end: (len(end.split(b'.')[0].lstrip(b'0')), end.lstrip(b'0'))) if chance.random() < 0.9 else ends)])
 
 
 def made_line(chance, nanoseconds, states):
     """A line of a kernel that may be wrong: mostly it wakes who sleeps and switches from who runs."""
     thread, other = (chance.choice([0, 7, 101, 101, 102, 103, 104, 105]) for _ in range(2))
+    if chance.random() < 0.01:
+        thread = chance.choice(FAR_THREADS)
     time = b'%d.%0*d' % (nanoseconds // 10 ** 9, 9, nanoseconds % 10 ** 9)
     processor = chance.choice(PROCESSORS[:3]) if chance.random() < 0.97 else chance.choice(PROCESSORS)
     head = b' %s-%d %s d..2. %s: ' % (chance.choice(COMMS), thread, processor, time)
     sleeping = [it for it in range(101, 106) if states.get(it) is not True]
     if chance.random() < 0.4 and sleeping:
-        thread = chance.choice(sleeping)
+        thread = chance.choice(sleeping) if chance.random() < 0.98 else thread
         states[thread] = True
         success = chance.choice([b'', b'', b'success=1 '])
         return head + b'sched_wakeup: comm=%s pid=%d prio=1 %starget_cpu=000' % (chance.choice(COMMS), thread, success)
@@ -55,7 +72,7 @@ def made_trace(chance):
     # Half of the traces are short enough for jobs.
     steps, factors = chance.choice([(STEPS, [1, 1, 1000]), (STEPS[:-2], [1])])
     for _ in range(chance.choice([0, 1, 2, 5, 10, 20, 40])):
-        nanoseconds += chance.choice(steps) * chance.choice(factors)
+        nanoseconds += chance.choice(steps) * chance.choice(factors) if chance.random() < 0.999 else chance.choice(FAR_STEPS)
         lines.append(made_line(chance, nanoseconds, states))
         if chance.random() < 0.05:
             lines.append(chance.choice(OTHERS[:2] + OTHERS[4:]) if chance.random() < 0.9 else chance.choice(OTHERS))
