@@ -151,8 +151,8 @@ def weak_turn(state, t):
     if idle:
         state.on[min(idle)] = t
         return None
-    p = max(mask, key=lambda p: state.priorities[state.on[p]])
-    if not state.is_less_urgent(state.on[p], t):
+    p = max(mask, key=lambda p: state.priorities[state.on[p]], default=None)
+    if p is None or not state.is_less_urgent(state.on[p], t):
         return None
     t, state.on[p] = state.on[p], t
     return t
