@@ -69,9 +69,9 @@ def made_line(chance, nanoseconds, states):
 
 def made_trace(chance):
     lines, nanoseconds, states = made_head(chance), 10 * 10 ** 9 + chance.randrange(10 ** 6), {}
-    # Half of the traces are short enough for jobs.
-    steps, factors = chance.choice([(STEPS, [1, 1, 1000]), (STEPS[:-2], [1])])
-    for _ in range(chance.choice([0, 1, 2, 5, 10, 20, 40])):
+    # Most of the traces are short enough for jobs.
+    steps, factors = chance.choice([(STEPS, [1, 1, 1000]), *[(STEPS[:-2], [1])] * 3])
+    for _ in range(chance.choice([0, 1, 2, 5, 10, 20, 20, 40, 40])):
         nanoseconds += chance.choice(steps) * chance.choice(factors) if chance.random() < 0.999 else chance.choice(FAR_STEPS)
         lines.append(made_line(chance, nanoseconds, states))
         if chance.random() < 0.05:
