@@ -7,6 +7,8 @@ TOP = os.path.dirname(os.path.dirname(os.path.abspath(__file__)))
 COMMS = [b'a', b'b c', b'[001]', b'prev_pid=101', b'x ==> y', b'CPU:1', b'comm=a', b'1.0:', b'sched_switch:', b'\xc3\xbc', b'<idle>', b'', b'"&\'', b'\x1b[2J',
          b'10.5: sched_wakeup: comm=a', b'prev_prio=1 prev_state=S ==>', b'next_pid=102 next_prio=1', b'prev_pid=102 prev_prio=1 prev_state=R ==>', b'[000]',
          b'CPU:0 [LOST 1 EVENTS]', b'x' * 5000, b'\r', b'\t', b'pid=103 prio=1 target_cpu=000']
+# The first ones leave the form of a line as it is.
+PLAIN_COMMS = 11
 STATES = [b'S', b'R', b'R+', b'D', b'X|K', b'1', b'', b'r']
 OTHERS = [b'# a remark', b'', b'CPU:2 [LOST 12 EVENTS]', b'CPU:0 [3 EVENTS DROPPED]', b'CPU:1 is off', b' a-1 [000] 1.0: irq_handler_entry: irq=1',
           b' a-1 [000] 1.0: sched_waking: comm=a pid=101 prio=1 target_cpu=000', b'\xff\x00\x80', b'version = 6']
@@ -22,7 +24,7 @@ def made_head(chance):
     """A head of some tasks, their ids from 101 on."""
     processors = chance.choice([1, 2, 2, 3, 4, 8])
     lines = [b'trace 1', b'processors %d' % processors]
-    for t in range(chance.randint(0, 2 * processors)):
+    for t in range(chance.randint(1, max(5, 2 * processors)) if chance.random() < 0.95 else 0):
         low = chance.randrange(processors)
         high = chance.randrange(low, processors)
         name, level = chance.choice([b't%d' % t, b't-%d' % t]), chance.choice([0, 1, 1, 39, 39, 98, 4194303])
@@ -35,47 +37,49 @@ def made_head(chance):
 def made_window(chance):
     """A window, mostly one that has some lines of the trace."""
     if chance.random() < 0.6:
-        return b'window 10.%03d 1%d.5' % (chance.randrange(20), chance.randrange(3))
+        return b'window 10.%03d 1%d.5' % (chance.choice([0, 0, 0, 1, 10]), chance.randrange(3))
     stamps = [b'10.0', b'10.000000', b'10.0000005', b'10.000001', b'010.5', b'0.0', b'11.999999999', b'12.0', b'99999999999999999999.9', b'9' * 60 + b'.0']
     odd = [b'10', b'10.', b'.5', b'10.0000000000', b'-1.0', b'+1.0', b'1e1.0', b'10.0:', b'']
     ends = [chance.choice(stamps if chance.random() < 0.95 else odd) for _ in range(2)]
     return b' '.join([b'window', *(sorted(ends, key=lambda end: (len(end.split(b'.')[0].lstrip(b'0')), end.lstrip(b'0'))) if chance.random() < 0.9 else ends)])
 
 
-def made_line(chance, nanoseconds, states):
-    """A line of a kernel that may be wrong: mostly it wakes who sleeps and switches from who runs."""
-    thread, other = (chance.choice([0, 7, 101, 101, 102, 103, 104, 105]) for _ in range(2))
-    if chance.random() < 0.01:
-        thread = chance.choice(FAR_THREADS)
+def made_comm(chance, is_odd):
+    return chance.choice(COMMS if is_odd else COMMS[:PLAIN_COMMS])
+
+
+def made_line(chance, nanoseconds, states, is_odd):
+    """A line of a kernel that wakes who sleeps and switches from who runs; an odd one is wrong now and then."""
+    def odd(share):
+        return is_odd and chance.random() < share
+
     time = b'%d.%0*d' % (nanoseconds // 10 ** 9, 9, nanoseconds % 10 ** 9)
-    processor = chance.choice(PROCESSORS[:3]) if chance.random() < 0.97 else chance.choice(PROCESSORS)
-    head = b' %s-%d %s d..2. %s: ' % (chance.choice(COMMS), thread, processor, time)
-    sleeping = [it for it in range(101, 106) if states.get(it) is not True]
+    head = b' %s-%d %s d..2. %s: ' % (made_comm(chance, is_odd), chance.choice([0, 7, 101, 105]), chance.choice(PROCESSORS if odd(0.03) else PROCESSORS[:3]), time)
+    sleeping, awake = ([it for it in range(101, 106) if bool(states.get(it)) == is_in] for is_in in (False, True))
     if chance.random() < 0.4 and sleeping:
-        thread = chance.choice(sleeping) if chance.random() < 0.98 else thread
+        thread = chance.choice(sleeping) if not odd(0.05) else chance.choice([0, 7, 101, 102, *FAR_THREADS])
         states[thread] = True
         success = chance.choice([b'', b'', b'success=1 '])
-        return head + b'sched_wakeup: comm=%s pid=%d prio=1 %starget_cpu=000' % (chance.choice(COMMS), thread, success)
-    awake = [it for it in range(101, 106) if states.get(it)]
-    if awake and chance.random() < 0.9:
-        thread = chance.choice([*awake, 0])
-        other = chance.choice([*awake, 0])
-    state = chance.choice(STATES[:4]) if chance.random() < 0.97 else chance.choice(STATES)
+        return head + b'sched_wakeup: comm=%s pid=%d prio=1 %starget_cpu=000' % (made_comm(chance, is_odd), thread, success)
+    thread, other = (chance.choice([*awake, 0]) if not odd(0.2) else chance.choice([0, 7, *range(101, 106), *FAR_THREADS[:2]]) for _ in range(2))
+    if thread == other:
+        other = 0
+    state = chance.choice(STATES if odd(0.03) else STATES[:4])
     if thread in states:
         states[thread] = state.startswith(b'R')
-    names = chance.choice(COMMS), thread, state, chance.choice(COMMS), other
+    names = made_comm(chance, is_odd), thread, state, made_comm(chance, is_odd), other
     return head + b'sched_switch: prev_comm=%s prev_pid=%d prev_prio=1 prev_state=%s ==> next_comm=%s next_pid=%d next_prio=1' % names
 
 
 def made_trace(chance):
-    lines, nanoseconds, states = made_head(chance), 10 * 10 ** 9 + chance.randrange(10 ** 6), {}
+    lines, nanoseconds, states, is_odd = made_head(chance), 10 * 10 ** 9 + chance.randrange(10 ** 6), {}, chance.random() < 0.5
     # Most of the traces are short enough for jobs.
     steps, factors = chance.choice([(STEPS, [1, 1, 1000]), *[(STEPS[:-2], [1])] * 3])
     for _ in range(chance.choice([0, 1, 2, 5, 10, 20, 20, 40, 40])):
         nanoseconds += chance.choice(steps) * chance.choice(factors) if chance.random() < 0.999 else chance.choice(FAR_STEPS)
-        lines.append(made_line(chance, nanoseconds, states))
+        lines.append(made_line(chance, nanoseconds, states, is_odd))
         if chance.random() < 0.05:
-            lines.append(chance.choice(OTHERS[:2] + OTHERS[4:]) if chance.random() < 0.9 else chance.choice(OTHERS))
+            lines.append(chance.choice(OTHERS if is_odd and chance.random() < 0.1 else OTHERS[:2] + OTHERS[4:]))
     return b'\n'.join(lines + [b''])
 
 
