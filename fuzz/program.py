@@ -2,8 +2,11 @@
 
 import os
 import re
+import shutil
 import signal
 import sys
+
+from forks import Forks
 
 # The program of the repository, which `./apa prove` builds.
 DEFAULT = os.path.normpath(os.path.join(os.path.dirname(os.path.abspath(__file__)),
@@ -83,6 +86,10 @@ class Program:
         self.seconds = seconds
         self.starts = 0
         self.files = [os.memfd_create(name) for name in ('stdin', 'stdout', 'stderr')]
+        # A script is started anew for each run, and so is a program where there is no cc.
+        with open(path, 'rb') as file:
+            is_binary = file.read(4) == b'\x7fELF'
+        self.forks = Forks(path, self.files) if is_binary and shutil.which('cc') else None
         # A directory cannot be read, and a full device cannot be written.
         self.unread, self.full = os.open('/', os.O_RDONLY), os.open('/dev/full', os.O_WRONLY)
 
@@ -98,11 +105,20 @@ class Program:
             os.lseek(file, 0, os.SEEK_SET)
         os.pwrite(source, text, 0)
         self.starts += 1
+        if self.forks and not memory and not fault:
+            status = self.forks.run(words, self.seconds)
+            if status is None:
+                raise Hang(f'no end after {self.seconds} s')
+            return self.left(words, os.waitstatus_to_exitcode(status))
         command = [self.path, *words]
         if memory:
             command = ['/bin/sh', '-c', f'ulimit -v {memory} && exec "$0" "$@"', *command]
         actions = [(os.POSIX_SPAWN_DUP2, file, number) for number, file in enumerate(ends)]
-        status = self.wait(os.posix_spawn(command[0], command, os.environ, file_actions=actions))
+        return self.left(words, self.wait(os.posix_spawn(command[0], command, os.environ, file_actions=actions)))
+
+    def left(self, words, status):
+        """The answer that the files hold after a run."""
+        source, sink, errors = self.files
         taken = os.lseek(source, 0, os.SEEK_CUR)
         return judged(words, Answer(status, whole(sink), whole(errors), taken))
 
