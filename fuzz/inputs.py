@@ -3,7 +3,7 @@
 from texts import canonical_list
 
 # The words that the formats have, and some that mean something in XML, in JSON or to a reader of numbers; and names at their limits.
-NAMES = ['a', 'b', 't0', 'T0', '_', '_-.', 'x.y-z_9', 'end', 'task', 'units', 'nobody', 'then', 'enters', 'out', 'on', 'off', 'left',
+NAMES = ['a', 'b', 't0', 'Task', '_', '_-.', 'x.y-z_9', 'end', 'task', 'units', 'nobody', 'then', 'enters', 'out', 'on', 'off', 'left',
          'history', 'contexts', 'true', 'null', 'NaN', 'Infinity', 'svg', 'rect', 'title', 'xml', 'xmlns', 'script', 'CDATA', 'amp', 'lt',
          '__proto__', 'cpu', 'from', 'to', 'e1', 'E-9', 'u003c', 'n' * 32, 'N' + '-' * 31, '_' * 32, 'Z' + '9' * 31, 'W.' * 16]
 
