@@ -4,13 +4,16 @@ import glob
 import os
 
 TOP = os.path.dirname(os.path.dirname(os.path.abspath(__file__)))
-COMMS = [b'a', b'b c', b'[001]', b'prev_pid=101', b'x ==> y', b'CPU:1', b'comm=a', b'1.0:', b'sched_switch:', b'\xc3\xbc', b'<idle>', b'', b'"&\'', b'\x1b[2J',
-         b'10.5: sched_wakeup: comm=a', b'prev_prio=1 prev_state=S ==>', b'next_pid=102 next_prio=1', b'prev_pid=102 prev_prio=1 prev_state=R ==>', b'[000]',
+COMMS = [b'a', b'b c', b'[001]', b'prev_pid=101', b'x ==> y', b'CPU:1', b'comm=a', b'1.0:', b'sched_switch:', b'\xc3\xbc', b'<idle>', b'',
+         b'"&\'', b'\x1b[2J',
+         b'10.5: sched_wakeup: comm=a', b'prev_prio=1 prev_state=S ==>', b'next_pid=102 next_prio=1',
+         b'prev_pid=102 prev_prio=1 prev_state=R ==>', b'[000]',
          b'CPU:0 [LOST 1 EVENTS]', b'x' * 5000, b'\r', b'\t', b'pid=103 prio=1 target_cpu=000']
 # The first ones leave the form of a line as it is.
 PLAIN_COMMS = 11
 STATES = [b'S', b'R', b'R+', b'D', b'X|K', b'1', b'', b'r']
-OTHERS = [b'# a remark', b'', b'CPU:2 [LOST 12 EVENTS]', b'CPU:0 [3 EVENTS DROPPED]', b'CPU:1 is off', b' a-1 [000] 1.0: irq_handler_entry: irq=1',
+OTHERS = [b'# a remark', b'', b'CPU:2 [LOST 12 EVENTS]', b'CPU:0 [3 EVENTS DROPPED]', b'CPU:1 is off',
+          b' a-1 [000] 1.0: irq_handler_entry: irq=1',
           b' a-1 [000] 1.0: sched_waking: comm=a pid=101 prio=1 target_cpu=000', b'\xff\x00\x80', b'version = 6']
 PROCESSORS = [b'[000]', b'[001]', b'[3]', b'[64]', b'[4294967295]', b'[4294967296]', b'000', b'[]']
 # The last used field of a stamp, by how much it goes on from line to line.
@@ -38,10 +41,13 @@ def made_window(chance):
     """A window, mostly one that has some lines of the trace."""
     if chance.random() < 0.6:
         return b'window 10.%03d 1%d.5' % (chance.choice([0, 0, 0, 1, 10]), chance.randrange(3))
-    stamps = [b'10.0', b'10.000000', b'10.0000005', b'10.000001', b'010.5', b'0.0', b'11.999999999', b'12.0', b'99999999999999999999.9', b'9' * 60 + b'.0']
+    stamps = [b'10.0', b'10.000000', b'10.0000005', b'10.000001', b'010.5', b'0.0', b'11.999999999', b'12.0', b'99999999999999999999.9',
+              b'9' * 60 + b'.0']
     odd = [b'10', b'10.', b'.5', b'10.0000000000', b'-1.0', b'+1.0', b'1e1.0', b'10.0:', b'']
     ends = [chance.choice(stamps if chance.random() < 0.95 else odd) for _ in range(2)]
-    return b' '.join([b'window', *(sorted(ends, key=lambda end: (len(end.split(b'.')[0].lstrip(b'0')), end.lstrip(b'0'))) if chance.random() < 0.9 else ends)])
+    if chance.random() < 0.9:
+        ends.sort(key=lambda end: (len(end.split(b'.')[0].lstrip(b'0')), end.lstrip(b'0')))
+    return b' '.join([b'window', *ends])
 
 
 def made_comm(chance, is_odd):
@@ -54,7 +60,8 @@ def made_line(chance, nanoseconds, states, is_odd):
         return is_odd and chance.random() < share
 
     time = b'%d.%0*d' % (nanoseconds // 10 ** 9, 9, nanoseconds % 10 ** 9)
-    head = b' %s-%d %s d..2. %s: ' % (made_comm(chance, is_odd), chance.choice([0, 7, 101, 105]), chance.choice(PROCESSORS if odd(0.03) else PROCESSORS[:3]), time)
+    head = b' %s-%d %s d..2. %s: ' % (made_comm(chance, is_odd), chance.choice([0, 7, 101, 105]),
+                                      chance.choice(PROCESSORS if odd(0.03) else PROCESSORS[:3]), time)
     sleeping, awake = ([it for it in range(101, 106) if bool(states.get(it)) == is_in] for is_in in (False, True))
     if chance.random() < 0.4 and sleeping:
         thread = chance.choice(sleeping) if not odd(0.05) else chance.choice([0, 7, 101, 102, *FAR_THREADS])

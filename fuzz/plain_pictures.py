@@ -195,7 +195,8 @@ def fault_of_picture(sheet, output, colours):
         return f'{len(groups)} groups'
     wide = max(1, sheet.last - sheet.first)
     listed = sheet.listed()
-    for group, wanted, high in ((groups[0], sheet.lane_rects(), 8 * sheet.spans.processors), (groups[1], sheet.row_rects(), max(1, 8 * len(listed)))):
+    for group, wanted, high in ((groups[0], sheet.lane_rects(), 8 * sheet.spans.processors),
+                                (groups[1], sheet.row_rects(), max(1, 8 * len(listed)))):
         if group.get('viewBox') != f'{sheet.first} 0 {wide} {high}' or group.get('preserveAspectRatio') != 'none':
             return f'the view box {group.get("viewBox")}, and {sheet.first} 0 {wide} {high} is wanted'
         said = rects_of(group)
