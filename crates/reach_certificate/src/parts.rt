@@ -204,8 +204,8 @@ fn enter(links: &mut Links, t: u32, chain: &Chain)
     requires simple { IsSimple chain.now }
     ensures { links.new ≡ state_after_shift (state_with_ready links.old t) t chain.now }
 {
-    links.make_ready(t);
-    links.shift(t, chain);
+    let _valid = links.len();
+    links.enter(t, chain);
 }
 
 /// A task that is absent is linked to an idle processor: so a departure is undone.
