@@ -1,5 +1,5 @@
 -- Entries by their fields: a stream, an event and a reply.
-use Rattle.std.proofs.Common.{◌≡◌, ℕ, inl, inr, List, [], ◌∷◌, ◌++◌, length, refl, sym, ap, ◌∙◌, subst, arith}
+use Rattle.std.proofs.Common.{◌≡◌, ℕ, inl, inr, List, [], ◌∷◌, ◌++◌, length, Result, Ok, Err, OnOk, refl, sym, ap, ◌∙◌, subst, arith}
 use Rattle.affinity_mask.specs.Number.{canonical_number}
 use Rattle.task_set.specs.TaskSet.{SetData, IsTaskSet}
 use Rattle.task_set.specs.declared.event.Event.{Event}
@@ -143,3 +143,28 @@ module _ (version : ℕ) (set : SetData) (number : List ℕ) (event reply : List
     first_some = λ known. (set, known.0, set_fields set valid, known.1);
     second_some = λ known. (set, known.0, set_fields set valid, known.1);
   }
+
+-- ---- an entry that was listed
+
+-- what is said of the reply that was listed
+pub reply_listed : {U E : Type 0} (result : Result U E) (before after : List Entry) (caller : ℕ) (event : Event) (reply : Reply)
+    (Says : Reply → Type 0) → OnOk result (after ≡ before ++ record { caller = caller; event = event; reply = reply } ∷ [])
+    → Says reply
+    → OnOk result ((r : Reply) × (after ≡ before ++ record { caller = caller; event = event; reply = r } ∷ []) × Says r)
+reply_listed (Ok u) before after caller event reply Says listed says = (reply, listed, says)
+reply_listed (Err kind) before after caller event reply Says listed says = tt
+
+-- the entry of an event that was read and of a reply is that of the fields
+pub entry_listed : {U E : Type 0} (version : ℕ) (set : SetData) (number : List ℕ) (event reply fields : List (List ℕ))
+    (stream : ℕ) (e : Event) (before after : List Entry) (result : Result U E) → fields ≡ number ∷ (event ++ reply)
+    → IsNumberField 0 15 number stream → IsEventFields version set.processors event set e
+    → OnOk result ((r : Reply) × (after ≡ before ++ record { caller = stream; event = e; reply = r } ∷ [])
+    × IsReplyFields version reply set r)
+    → OnOk result ((entry : Entry) × (after ≡ before ++ entry ∷ []) × IsEntryFields version fields set entry)
+entry_listed version set number event reply fields stream e before after (Ok u) cut s f (r, listed, g) = (
+  record { caller = stream; event = e; reply = r },
+  listed,
+  subst (λ (all : List (List ℕ)). IsEntryFields version all set (record { caller = stream; event = e; reply = r })) (sym cut)
+      (entry_of_parts version set number event reply stream e r s f g),
+)
+entry_listed version set number event reply fields stream e before after (Err kind) cut s f listed = tt

@@ -16,6 +16,7 @@ mod Entries
 mod Tasks
 mod Contexts
 mod Spaces
+mod FieldCuts
 mod Bridges
 mod Stages
 mod Prefixes

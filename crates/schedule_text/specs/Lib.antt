@@ -7,3 +7,4 @@ pub mod Reading
 pub mod Schedule
 pub mod ScheduleFault
 pub mod ScheduleText
+pub mod Spacing

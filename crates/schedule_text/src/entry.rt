@@ -1,6 +1,7 @@
 //! The lines of entries.
 ghost use Rattle.std.specs.Prelude.{◌≡◌, ◌⊎◌, ◌∷◌, ◌++◌, [], List, ℕ, codes, IfOk, IfErr, OnOk, MatchOption};
 ghost use Rattle.scheduler_reply.specs.declared.reply.Entry.{Entry as EntryData};
+ghost use Rattle.scheduler_reply.specs.declared.reply.Reply.{Reply as ReplyData};
 ghost use Rattle.line_machine.specs.Fields.{texts};
 ghost use Rattle.schedule_text.specs.declared.fault.TextKind.TheVariants.{BadLine};
 ghost use Rattle.schedule_text.specs.Fields.{IsProcessorField};
@@ -9,14 +10,16 @@ ghost use Rattle.schedule_text.specs.LineFields.{
   IsEventFields,
   IsEventFault,
   IsEventThen,
+  IsReplyFields,
+  IsReplyFault,
   IsEntryFields,
   IsEntryFault,
 };
 
 use crate::fault::TextKind;
-use crate::field::{fault_after, known_task, mask_of, number_of, processor_of};
-use crate::reply::read_reply;
-use scheduler_reply::Entry;
+use crate::field::{fault_with, known_task, mask_of, number_of, processor_of};
+use crate::reply::{read_reply, waiting_reach};
+use scheduler_reply::{Entry, Reply};
 use task_set::{Event, TaskSet};
 use text_fields::limits::{LAST_VERSION, MAX_STREAM, MAX_UNITS};
 use text_fields::{EventWord, event_word, is_word, is_word_of};
@@ -27,7 +30,7 @@ const AFFINITY_FIELDS: usize = 3;
 /// How many fields any other event has.
 const EVENT_FIELDS: usize = 2;
 
-/// Lists the entry of some fields, in a version of the format. It is long, and so it is made where it is listed.
+/// Lists the entry of some fields, in a version of the format.
 pub fn add_entry(
     version: u8,
     set: &TaskSet,
@@ -50,21 +53,63 @@ pub fn add_entry(
     let Some((event, reply)) = event_then(rest) else {
         return Err(TextKind::BadLine);
     };
-    let event = read_event(version, set, event);
-    match read_reply(version, set, reply) {
-        Ok(reply) => {
-            let event = event?;
-            let entry = Entry {
-                caller: stream as u32,
-                event,
-                reply,
-            };
-            match entries.push(entry) {
-                Ok(()) => Ok(()),
-                Err(_) => Err(TextKind::OutOfMemory),
-            }
+    match read_event(version, set, event) {
+        Ok(event) => add_reply(version, set, entries, stream as u32, event, reply),
+        Err(kind) => Err(fault_with(kind, read_reply(version, set, reply))),
+    }
+}
+
+/// Lists the entry of an event and of a reply of some fields. Most replies are one of three short ones, and each of these is
+/// listed by itself: of what several come to, all the bytes of a long reply are copied.
+fn add_reply(
+    version: u8,
+    set: &TaskSet,
+    entries: &mut Vec<Entry>,
+    caller: u32,
+    event: Event,
+    fields: &[&[u8]],
+) -> Result<(), TextKind>
+    ensures read { OnOk result ((reply : ReplyData)
+        × (entries.new.items ≡ entries.old.items ++ (record { caller = caller; event = event; reply = reply; }) ∷ [])
+        × IsReplyFields version (texts fields.now) set.now reply) }
+    ensures refused { IfErr result (λ kind. IsOutOfMemory kind
+        ⊎ IsReplyFault version (texts fields.now) set.now kind) }
+{
+    if let [word] = fields {
+        if is_word(word, "left") {
+            return list(entries, caller, event, Reply::Left);
         }
-        Err(kind) => Err(fault_after(event, kind)),
+        if is_word(word, "ticked") {
+            return list(entries, caller, event, Reply::Ticked);
+        }
+    }
+    if let Some(reach) = waiting_reach(fields) {
+        return list(entries, caller, event, Reply::Waits { reach });
+    }
+    let reply = read_reply(version, set, fields)?;
+    list(entries, caller, event, reply)
+}
+
+/// Lists an entry. It is laid into its callers, where it is known how many bytes the reply has.
+#[inline(always)]
+fn list(
+    entries: &mut Vec<Entry>,
+    caller: u32,
+    event: Event,
+    reply: Reply,
+) -> Result<(), TextKind>
+    ensures listed { OnOk result (entries.new.items ≡ entries.old.items
+        ++ (record { caller = caller; event = event; reply = reply; }) ∷ []) }
+    ensures refused { IfErr result IsOutOfMemory }
+{
+    let entry = Entry {
+        caller,
+        event,
+        reply,
+    };
+    match entries.push(entry) {
+        Ok(()) => Ok(()),
+        Err(_) => Err(TextKind::OutOfMemory),
     }
 }
 

@@ -1,14 +1,14 @@
-//! The fields of a line, and what a field says.
+//! What a field says.
 ghost use Rattle.std.specs.Prelude.{◌≡◌, ◌≢◌, ℕ, codes, ◌⊎◌, ◌↔◌, ◌++◌, ◌∷◌, IsTrue, List, Contains, IfOk, IfErr, IfSome, MatchOption, MatchResult};
 ghost use Rattle.line_machine.specs.Fields.{texts};
 ghost use Rattle.schedule_text.specs.LineForms.{IsField};
-ghost use Rattle.schedule_text.specs.Fields.{spaced_fields_of, links_of, IsNumberField, IsProcessorField, IsListField, IsMaskField, IsSetField, IsChainField, AreProcessorFields, IsNumberAfter, IsSomebodyField, HasLeadingZero};
+ghost use Rattle.schedule_text.specs.Fields.{links_of, IsNumberField, IsProcessorField, IsListField, IsMaskField, IsSetField, IsChainField, AreProcessorFields, IsNumberAfter, IsSomebodyField, HasLeadingZero};
 ghost use Rattle.schedule_text.specs.LineFields.{IsNameFault, both_of, first_reported};
 ghost use Rattle.task_set.specs.Refusal.{IsNameOf};
 ghost use Rattle.schedule_text.specs.declared.fault.TextKind.TheVariants.{BadLine};
 
 use crate::fault::TextKind;
-use affinity_mask::{OutOfMemory, ProcSet};
+use affinity_mask::ProcSet;
 use line_machine::line_end;
 use scheduler_reply::Chain;
 use task_set::TaskSet;
@@ -29,20 +29,6 @@ pub fn ended_line(bytes: &[u8]) -> Option<(&[u8], &[u8])>
         Some(end) => Some((&bytes[..end], &bytes[end + 1..])),
         None => None,
     }
-}
-
-/// The fields of a line, in this room: what stands between its spaces.
-pub fn spaced_fields<'a, 'r>(
-    text: &'a [u8],
-    room: &'r mut Vec<&'a [u8]>,
-) -> Result<&'r [&'a [u8]], OutOfMemory>
-    ensures { IfOk result (λ fields. texts fields.now ≡ spaced_fields_of text.now) }
-{
-    room.clear();
-    for field in text.split(|byte| *byte == b' ') {
-        room.push(field)?;
-    }
-    Ok(room.as_slice())
 }
 
 /// Whether the bytes can stand for a name.
@@ -252,22 +238,12 @@ pub fn both<A: Drop, B: Drop>(
 }
 
 /// The fault that is reported where the first part has this one.
-fn fault_with<B: Drop>(kind: TextKind, second: Result<B, TextKind>) -> TextKind
+pub fn fault_with<B: Drop>(kind: TextKind, second: Result<B, TextKind>) -> TextKind
     ensures { MatchResult second (λ other. result ≡ kind) (λ other. result ≡ first_reported kind other) }
 {
     match second {
         Ok(_) => kind,
         Err(other) => first_reported(kind, other),
-    }
-}
-
-/// The fault that is reported where the second part has this one.
-pub fn fault_after<A: Drop>(first: Result<A, TextKind>, other: TextKind) -> TextKind
-    ensures { MatchResult first (λ one. result ≡ other) (λ kind. result ≡ first_reported kind other) }
-{
-    match first {
-        Ok(_) => other,
-        Err(kind) => first_reported(kind, other),
     }
 }
 

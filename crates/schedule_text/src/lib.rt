@@ -16,6 +16,7 @@ mod line;
 pub mod read;
 mod reply;
 pub mod schedule;
+mod spacing;
 mod stage;
 pub mod write;
 

@@ -10,7 +10,8 @@ ghost use Rattle.schedule_text.specs.Fields.{IsLastField};
 ghost use Rattle.schedule_text.specs.declared.fault.TextKind.TheVariants.{BadLine};
 
 use crate::fault::TextKind;
-use crate::field::{is_field, list_of, number_of, spaced_fields};
+use crate::field::{is_field, list_of, number_of};
+use crate::spacing::spaced_fields;
 use affinity_mask::OutOfMemory;
 use std::alloc::Global;
 use std::str;

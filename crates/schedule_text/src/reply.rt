@@ -1,7 +1,8 @@
 //! The reply of an entry.
-ghost use Rattle.std.specs.Prelude.{◌≡◌, ◌↔◌, IsTrue, ◌⊎◌, ◌∷◌, [], List, ℕ, codes, IfOk, IfErr, MatchOption, MatchResult};
+ghost use Rattle.std.specs.Prelude.{◌≡◌, ◌↔◌, IsTrue, ◌⊎◌, ◌∷◌, [], List, ℕ, codes, IfOk, IfErr, IfSome, MatchOption, MatchResult};
 ghost use Rattle.task_set.specs.TaskSet.{SetData};
 ghost use Rattle.scheduler_reply.specs.declared.reply.Came.{Came as CameData};
+ghost use Rattle.scheduler_reply.specs.declared.reply.Reply.TheVariants.{Waits};
 ghost use Rattle.scheduler_reply.specs.Reply.{reply_of_came};
 ghost use Rattle.line_machine.specs.Fields.{texts};
 ghost use Rattle.schedule_text.specs.LineFields.{
@@ -21,6 +22,7 @@ ghost use Rattle.schedule_text.specs.declared.fault.TextKind.TheVariants.{BadLin
 
 use crate::fault::TextKind;
 use crate::field::{both, chain_of, known_task, set_of, somebody_of};
+use affinity_mask::ProcSet;
 use scheduler_reply::{Came, Gone, Moved, Reply};
 use task_set::TaskSet;
 use text_fields::is_word;
@@ -29,7 +31,21 @@ use text_fields::limits::LAST_VERSION;
 /// How many fields say who came in at a processor.
 const GONE_FIELDS: usize = 5;
 
-/// The reply of some fields, in a version of the format. Like the two calls below it is laid into its one caller, since a
+/// The set of a reply that a task waits, if it is one.
+pub fn waiting_reach(fields: &[&[u8]]) -> Option<ProcSet>
+    ensures { IfSome result (λ reach. (version : ℕ) (tasks : SetData)
+        → IsReplyFields version (texts fields.now) tasks (Waits reach)) }
+{
+    let [word, value] = fields else {
+        return None;
+    };
+    if !is_word(word, "waits") {
+        return None;
+    }
+    set_of(value).ok()
+}
+
+/// The reply of some fields, in a version of the format. Like the two calls below it is laid into its callers, since a
 /// reply is long, and what a call returns is copied.
 #[inline(always)]
 pub fn read_reply(version: u8, set: &TaskSet, fields: &[&[u8]]) -> Result<Reply, TextKind>

@@ -11,9 +11,10 @@ ghost use Rattle.schedule_text.specs.declared.stage.Listing.TheVariants.{Tasks, 
 
 use crate::entry::add_entry;
 use crate::fault::TextKind;
-use crate::field::{number_after, spaced_fields};
+use crate::field::number_after;
 use crate::line::{add_task, is_numbered, read_context};
 use crate::schedule::{MAX_ENTRIES, Schedule};
+use crate::spacing::spaced_fields;
 use scheduler_reply::Entry;
 use std::alloc::Global;
 use task_set::{Context, TaskSet};

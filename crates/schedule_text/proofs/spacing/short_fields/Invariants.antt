@@ -1,6 +1,6 @@
 use Rattle.std.proofs.Common.{◌≡◌}
 use Rattle.line_machine.specs.Fields.{texts}
-use Rattle.schedule_text.proofs.field.spaced_fields.Given as goal
+use Rattle.schedule_text.proofs.spacing.short_fields.Given as goal
 
 abbrev pub invariant-loop-field : goal.invariant-loop-field
 invariant-loop-field l = texts l.room.items ≡ texts l.yielded

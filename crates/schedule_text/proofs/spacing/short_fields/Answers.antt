@@ -2,7 +2,7 @@ use Rattle.std.proofs.Common.{ap, ◌∙◌, rules, ◌==◌}
 use Rattle.std.proofs.lemmas.Iterator.Splits.{YieldsList-from_slice_split}
 use Rattle.std.proofs.lemmas.Iterator.Consumers.{YieldsList-end}
 use Rattle.line_machine.specs.Fields.{texts}
-use Rattle.schedule_text.proofs.field.spaced_fields.Goals as goal
+use Rattle.schedule_text.proofs.spacing.short_fields.Goals as goal
 
 pub returns : goal.returns
 returns c =
