@@ -48,15 +48,15 @@ cut_more text room field from space ordered within here none is cut =
     let end : from + n ≡ space = omega arith in
     let one_more : suc space ≡ space + 1 = omega arith in
     let rest : drop n (drop from text) ≡ 32 ∷ drop (space + 1) text =
-      drop-drop n from text ∙ ap (λ (k : ℕ). drop k text) end ∙ drop-cons text space 0 within
-      ∙ ap (λ (k : ℕ). get_or text space 0 ∷ drop k text) one_more ∙ ap (λ (byte : ℕ). byte ∷ drop (space + 1) text) here in
+    drop-drop n from text ∙ ap (λ (k : ℕ). drop k text) end ∙ drop-cons text space 0 within
+    ∙ ap (λ (k : ℕ). get_or text space 0 ∷ drop k text) one_more ∙ ap (λ (byte : ℕ). byte ∷ drop (space + 1) text) here in
     let whole : drop from text ≡ take n (drop from text) ++ 32 ∷ drop (space + 1) text =
-      sym (take-append-drop n (drop from text)) ∙ ap (λ (after : List ℕ). take n (drop from text) ++ after) rest in
+    sym (take-append-drop n (drop from text)) ∙ ap (λ (after : List ℕ). take n (drop from text) ++ after) rest in
     let one : spaced_fields_of (drop from text) ≡ field.now ∷ spaced_fields_of (drop (space + 1) text) =
-      ap spaced_fields_of whole
-      ∙ slice_split_at (λ byte. byte == 32) (take n (drop from text)) 32 (drop (space + 1) text)
-        (no_space_in text from n (omega arith) (subst (NoSpace text from) (sym end) none)) refl
-      ∙ ap (λ (first : List ℕ). first ∷ spaced_fields_of (drop (space + 1) text)) (sym is) in
+    ap spaced_fields_of whole
+    ∙ slice_split_at (λ byte. byte == 32) (take n (drop from text)) 32 (drop (space + 1) text)
+    (no_space_in text from n (omega arith) (subst (NoSpace text from) (sym end) none)) refl
+    ∙ ap (λ (first : List ℕ). first ∷ spaced_fields_of (drop (space + 1) text)) (sym is) in
     cut ∙ ap (λ (after : List (List ℕ)). texts room ++ after) one
     ∙ sym (append_assoc (texts room) (field.now ∷ []) (spaced_fields_of (drop (space + 1) text)))
     ∙ ap (λ (before : List (List ℕ)). before ++ spaced_fields_of (drop (space + 1) text)) (sym (map-append (λ (f : Bor (List ℕ)). f.now) room (field ∷ [])))
@@ -104,10 +104,10 @@ cut_whole text room field from at so_far end is =
     let size : from + (length text - from) ≡ length text = let within = so_far.within in omega arith in
     let all : take (length text - from) (drop from text) ≡ drop from text = take_all _ (drop from text) (omega (arith, length-drop from text)) in
     let last : spaced_fields_of (drop from text) ≡ field.now ∷ [] =
-      slice_split_none (λ byte. byte == 32) (drop from text)
-        (subst (All (λ (byte : ℕ). (byte == 32) ≡ false)) all
-          (no_space_in text from (length text - from) (omega arith) (λ q low high. so_far.none q low (omega arith))))
-      ∙ ap (λ (first : List ℕ). first ∷ []) (sym (is ∙ all)) in
+    slice_split_none (λ byte. byte == 32) (drop from text)
+    (subst (All (λ (byte : ℕ). (byte == 32) ≡ false)) all
+    (no_space_in text from (length text - from) (omega arith) (λ q low high. so_far.none q low (omega arith))))
+    ∙ ap (λ (first : List ℕ). first ∷ []) (sym (is ∙ all)) in
     map-append (λ (f : Bor (List ℕ)). f.now) room (field ∷ [])
     ∙ ap (λ (after : List (List ℕ)). texts room ++ after) (sym last) ∙ sym so_far.cut
 
@@ -142,7 +142,7 @@ pub later_spaces : (text : List ℕ) (at end bits n : ℕ) → AreSpaces text at
     → AreSpaces text (at + n) end (bits / 2 ^ n)
 later_spaces text at end bits n spaces = record {
   each = λ k set. let here = spaces.each (n + k) (sym (moved k) ∙ set) in
-    (omega (arith, here.0), ap (λ (j : ℕ). get_or text j 0) (there k) ∙ here.1);
+      (omega (arith, here.0), ap (λ (j : ℕ). get_or text j 0) (there k) ∙ here.1);
   all = λ k within space. moved k ∙ spaces.all (n + k) (omega arith) (ap (λ (j : ℕ). get_or text j 0) (sym (there k)) ∙ space);
 }
   where

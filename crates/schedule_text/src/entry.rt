@@ -70,7 +70,7 @@ fn add_reply(
     fields: &[&[u8]],
 ) -> Result<(), TextKind>
     ensures read { OnOk result ((reply : ReplyData)
-        × (entries.new.items ≡ entries.old.items ++ (record { caller = caller; event = event; reply = reply; }) ∷ [])
+        × (entries.new.items ≡ entries.old.items ++ (record { caller = caller; event = event; reply = reply }) ∷ [])
         × IsReplyFields version (texts fields.now) set.now reply) }
     ensures refused { IfErr result (λ kind. IsOutOfMemory kind
         ⊎ IsReplyFault version (texts fields.now) set.now kind) }
@@ -86,20 +86,34 @@ fn add_reply(
     if let Some(reach) = waiting_reach(fields) {
         return list(entries, caller, event, Reply::Waits { reach });
     }
+    add_long(version, set, entries, caller, event, fields)
+}
+
+/// The same of any reply. It is not laid into its caller, which would make room for a long reply at each entry.
+#[inline(never)]
+fn add_long(
+    version: u8,
+    set: &TaskSet,
+    entries: &mut Vec<Entry>,
+    caller: u32,
+    event: Event,
+    fields: &[&[u8]],
+) -> Result<(), TextKind>
+    ensures read { OnOk result ((reply : ReplyData)
+        × (entries.new.items ≡ entries.old.items ++ (record { caller = caller; event = event; reply = reply }) ∷ [])
+        × IsReplyFields version (texts fields.now) set.now reply) }
+    ensures refused { IfErr result (λ kind. IsOutOfMemory kind
+        ⊎ IsReplyFault version (texts fields.now) set.now kind) }
+{
     let reply = read_reply(version, set, fields)?;
     list(entries, caller, event, reply)
 }
 
 /// Lists an entry. It is laid into its callers, where it is known how many bytes the reply has.
 #[inline(always)]
-fn list(
-    entries: &mut Vec<Entry>,
-    caller: u32,
-    event: Event,
-    reply: Reply,
-) -> Result<(), TextKind>
+fn list(entries: &mut Vec<Entry>, caller: u32, event: Event, reply: Reply) -> Result<(), TextKind>
     ensures listed { OnOk result (entries.new.items ≡ entries.old.items
-        ++ (record { caller = caller; event = event; reply = reply; }) ∷ []) }
+        ++ (record { caller = caller; event = event; reply = reply }) ∷ []) }
     ensures refused { IfErr result IsOutOfMemory }
 {
     let entry = Entry {

@@ -44,10 +44,31 @@ pub fn number_of(field: &[u8], least: u64, most: u64) -> Option<u64>
         ((n : ℕ) → IsNumberField least most field.now n → ⊥)
         (IsNumberField least most field.now) }
 {
+    if let Some(value) = one_digit(field, least, most) {
+        return Some(value);
+    }
     if has_leading_zero(field) {
         None
     } else {
         read_number(field, least, most)
+    }
+}
+
+/// The value of a field of one digit, as most numbers are, where it is from `least` to `most`.
+fn one_digit(field: &[u8], least: u64, most: u64) -> Option<u64>
+    ensures { IfSome result (IsNumberField least most field.now) }
+{
+    let [digit] = field else {
+        return None;
+    };
+    if !digit.is_ascii_digit() {
+        return None;
+    }
+    let value = (*digit - b'0') as u64;
+    if least <= value && value <= most {
+        Some(value)
+    } else {
+        None
     }
 }
 
