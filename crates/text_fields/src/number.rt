@@ -1,6 +1,6 @@
 //! Numbers of the formats.
-ghost use Rattle.std.specs.Prelude.{◌≡◌, ℕ, ◌<◌, ◌≤◌, ◌↔◌, ◌++◌, IsTrue, OnOk, MatchOption};
-ghost use Rattle.affinity_mask.specs.Number.{IsNumber, number_value, canonical_number};
+ghost use Rattle.std.specs.Prelude.{◌≡◌, ℕ, ◌++◌, OnOk, MatchOption};
+ghost use Rattle.affinity_mask.specs.Number.{canonical_number};
 ghost use Rattle.text_fields.specs.Number.{IsNumberWithin};
 
 use affinity_mask::OutOfMemory;
@@ -11,40 +11,24 @@ pub fn read_number(field: &[u8], least: u64, most: u64) -> Option<u64>
     ensures { MatchOption result ((n : ℕ) → IsNumberWithin least most field.now n → ⊥)
         (IsNumberWithin least most field.now) }
 {
-    if !is_number(field) {
+    if field.is_empty() {
         return None;
     }
-    let Some(value) = value_up_to(field, most) else {
-        return None;
-    };
-    (least <= value).then_some(value)
-}
-
-/// Whether a field has digits alone, and one at least.
-fn is_number(field: &[u8]) -> bool
-    ensures { IsTrue result ↔ IsNumber field.now }
-{
-    !field.is_empty() && field.iter().all(|byte| byte.is_ascii_digit())
-}
-
-/// The value of some digits, where it is at most `most`.
-fn value_up_to(digits: &[u8], most: u64) -> Option<u64>
-    requires { IsNumber digits.now }
-    ensures { MatchOption result (most < number_value digits.now)
-        (λ n. (n ≡ number_value digits.now) × (n ≤ most)) }
-{
     let mut value: u64 = 0;
-    for digit in digits {
+    for byte in field {
+        if !byte.is_ascii_digit() {
+            return None;
+        }
         if value > most / 10 {
             return None;
         }
-        let digit = (*digit - b'0') as u64;
+        let digit = (*byte - b'0') as u64;
         if digit > most - value * 10 {
             return None;
         }
         value = value * 10 + digit;
     }
-    Some(value)
+    (least <= value).then_some(value)
 }
 
 /// Appends a number in its canonical form, without leading zeros. Refused only when out of memory.
