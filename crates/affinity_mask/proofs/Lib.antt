@@ -11,3 +11,4 @@ pub mod TextCases
 mod Written
 mod NextRuns
 mod ListBytes
+mod CanonicalLists

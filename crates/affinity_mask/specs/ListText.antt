@@ -1,9 +1,9 @@
 -- Processor lists, as Linux writes them. A list is items joined by commas, an item is a
 -- number a, or two numbers a-b, and the list stands for all numbers of its items. The canonical list of a set has its
 -- longest runs of consecutive numbers in ascending order.
-use Rattle.std.specs.Prelude.{◌≡◌, ℕ, ◌+◌, ◌-◌, ◌≤◌, ◌⊎◌, ◌↔◌, Bool, not, ◌&&◌, ◌||◌, ◌==◌, IsTrue, List, ◌∷◌, ◌++◌, map, zip, if◌then◌else◌, Any, All}
+use Rattle.std.specs.Prelude.{◌≡◌, ◌≢◌, ℕ, ◌+◌, ◌-◌, ◌≤◌, ◌⊎◌, ◌↔◌, Bool, not, ◌&&◌, ◌||◌, ◌==◌, IsTrue, List, ◌∷◌, ◌++◌, map, zip, if◌then◌else◌, Any, All}
 use Rattle.std.specs.List.{join_with_byte}
-use Rattle.affinity_mask.specs.ProcSet.{has, passing_below}
+use Rattle.affinity_mask.specs.ProcSet.{has, empty, all_below, passing_below, Within}
 use Rattle.affinity_mask.specs.Number.{IsNumber, number_value, canonical_number}
 
 -- the bytes ',' and '-'
@@ -59,3 +59,9 @@ runs X = zip (passing_below (begins_run X) 64) (passing_below (ends_run X) 64)
 -- the one text with which a set is written
 abbrev pub canonical_list : ℕ → List ℕ
 canonical_list X = join_with_byte comma (map run_text (runs X))
+
+-- the text is the canonical list of the set, which has a processor
+pub record IsCanonicalList (text : List ℕ) (X : ℕ) : Type 0 where
+  pub some : X ≢ empty
+  pub processors : Within X (all_below 64)
+  pub is_text : text ≡ canonical_list X

@@ -5,6 +5,7 @@
 //! where it is one, else its first fault is answered; each set is written as its one canonical list.
 #![tactic(auto)]
 
+mod canonical_list;
 pub mod laws;
 mod list_reader;
 mod list_writer;

@@ -93,7 +93,7 @@ fn cut_at(text: &[u8], byte: u8) -> Option<(&[u8], &[u8])>
 }
 
 /// The processors from low to high.
-fn range(low: u8, high: u8) -> ProcSet
+pub(crate) fn range(low: u8, high: u8) -> ProcSet
     requires ascends { low ≤ high }
     requires small { high ≤ 63 }
     ensures { (p : ℕ) → has result p ≡ (nat_le low p && nat_le p high) }

@@ -134,7 +134,7 @@ fn after_item(text: &[u8], is_first: bool, low: u8, high: u8) -> Option<&[u8]>
 }
 
 /// What stands after a run, where the text begins with it.
-fn after_run(text: &[u8], low: u8, high: u8) -> Option<&[u8]>
+pub(crate) fn after_run(text: &[u8], low: u8, high: u8) -> Option<&[u8]>
     requires ascends { low ≤ high }
     requires small { high < 64 }
     ensures { AfterFront text.now (run_text (low, high)) result }
