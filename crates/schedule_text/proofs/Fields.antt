@@ -10,7 +10,7 @@ use Rattle.std.proofs.lemmas.Fmt.{decimal_is_IsNumeral, decimal_digit, first_dec
 use Rattle.std.proofs.lemmas.Str.Parse.{IsNumeralModel, numerals_by_value, tells_digits, digit_at}
 use Rattle.affinity_mask.specs.ProcSet.{has, empty, Within}
 use Rattle.affinity_mask.specs.Number.{canonical_number}
-use Rattle.affinity_mask.specs.ListText.{Item, IsItem, IsWellFormed, IsListText, canonical_list}
+use Rattle.affinity_mask.specs.ListText.{Item, IsItem, IsWellFormed, IsListText, IsCanonicalList, canonical_list}
 use Rattle.affinity_mask.specs.ListFault.{IsListFault}
 use Rattle.affinity_mask.specs.declared.mask_fault.MaskFault.{MaskFault}
 use Rattle.affinity_mask.proofs.Sets.{has-zero, has-all_below}
@@ -169,6 +169,13 @@ pub list_read : (field : List ℕ) (X : ℕ) → IsListText field X → IsOfProc
     → IsListField field X
 list_read field X list processors same =
     record { some = list_some field X list; processors = processors; is_text = sym same }
+
+-- a canonical list with a processor is such a field, and there is no other
+pub list_canonical : (field : List ℕ) (X : ℕ) → IsCanonicalList field X → IsListField field X
+list_canonical field X list = record { some = list.some; processors = list.processors; is_text = list.is_text }
+
+pub list_otherwise : (field : List ℕ) → ((X : ℕ) → IsCanonicalList field X → ⊥) → (X : ℕ) → IsListField field X → ⊥
+list_otherwise field none X f = none X (record { some = f.some; processors = f.processors; is_text = f.is_text })
 
 -- a field is of one list
 pub list_once : (field : List ℕ) (X Y : ℕ) → IsListField field X → IsListField field Y → X ≡ Y

@@ -94,50 +94,10 @@ pub fn list_of(field: &[u8]) -> Result<ProcSet, TextKind>
     ensures read { IfOk result (IsListField field.now) }
     ensures refused { IfErr result (λ kind. ((kind ≡ BadLine) × ((X : ℕ) → IsListField field.now X → ⊥))) }
 {
-    if let Some(set) = one_item_of(field) {
-        return Ok(set);
+    match ProcSet::read_canonical_list(field) {
+        Some(set) => Ok(set),
+        None => Err(TextKind::BadLine),
     }
-    let Ok(set) = ProcSet::read_list(field) else {
-        return Err(TextKind::BadLine);
-    };
-    let _processors = set.count();
-    if set.is_list(field) {
-        Ok(set)
-    } else {
-        Err(TextKind::BadLine)
-    }
-}
-
-/// The processors of a canonical list of one item, as most lists are. To test a set costs less than to read a list.
-fn one_item_of(field: &[u8]) -> Option<ProcSet>
-    ensures { IfSome result (IsListField field.now) }
-{
-    let likely = likely_set(field);
-    let _processors = likely.count();
-    (!likely.is_empty() && likely.is_list(field)).then_some(likely)
-}
-
-/// The processors of a field that is one number or one range. Of any other field it is some set.
-fn likely_set(field: &[u8]) -> ProcSet {
-    let (low, high) = match field {
-        [ones] => (two_digits(b'0', *ones), two_digits(b'0', *ones)),
-        [tens, ones] => (two_digits(*tens, *ones), two_digits(*tens, *ones)),
-        [low, _, high] => (two_digits(b'0', *low), two_digits(b'0', *high)),
-        [low, _, tens, ones] => (two_digits(b'0', *low), two_digits(*tens, *ones)),
-        [low_tens, low_ones, _, tens, ones] => {
-            (two_digits(*low_tens, *low_ones), two_digits(*tens, *ones))
-        }
-        _ => return ProcSet::empty(),
-    };
-    if high > MAX_PROCESSOR as u8 {
-        return ProcSet::empty();
-    }
-    ProcSet::first(high + 1).minus(&ProcSet::first(low.min(high)))
-}
-
-/// The value of two digits. Of other bytes it is some number.
-fn two_digits(tens: u8, ones: u8) -> u8 {
-    tens % 16 * 10 + ones % 16
 }
 
 /// The mask of a canonical list, which has one processor at least, and those of the set alone.
