@@ -70,7 +70,8 @@ fn add_reply(
     fields: &[&[u8]],
 ) -> Result<(), TextKind>
     ensures read { OnOk result ((reply : ReplyData)
-        × (entries.new.items ≡ entries.old.items ++ (record { caller = caller; event = event; reply = reply }) ∷ [])
+        × (entries.new.items ≡ entries.old.items
+        ++ (record { caller = caller; event = event; reply = reply }) ∷ [])
         × IsReplyFields version (texts fields.now) set.now reply) }
     ensures refused { IfErr result (λ kind. IsOutOfMemory kind
         ⊎ IsReplyFault version (texts fields.now) set.now kind) }
@@ -100,7 +101,8 @@ fn add_long(
     fields: &[&[u8]],
 ) -> Result<(), TextKind>
     ensures read { OnOk result ((reply : ReplyData)
-        × (entries.new.items ≡ entries.old.items ++ (record { caller = caller; event = event; reply = reply }) ∷ [])
+        × (entries.new.items ≡ entries.old.items
+        ++ (record { caller = caller; event = event; reply = reply }) ∷ [])
         × IsReplyFields version (texts fields.now) set.now reply) }
     ensures refused { IfErr result (λ kind. IsOutOfMemory kind
         ⊎ IsReplyFault version (texts fields.now) set.now kind) }
