@@ -55,13 +55,17 @@ pub fn is_word_of(field: &[u8], word: EventWord) -> bool
     }
 }
 
-/// Whether a field is this word. No byte ends the loop, so a word that the caller names costs one comparison or two.
+/// Whether a field is this word. Most others differ in their length or first byte. No byte ends the loop, so that of a word
+/// which the caller names it makes one comparison or two.
 #[inline(always)]
 pub fn is_word(field: &[u8], word: &str) -> bool
     ensures { IsTrue result ↔ (field.now ≡ word.now) }
 {
     let word = word.as_bytes();
     if field.len() != word.len() {
+        return false;
+    }
+    if !word.is_empty() && field[0] != word[0] {
         return false;
     }
     let mut same = true;
