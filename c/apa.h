@@ -77,6 +77,7 @@ uint32_t apa_moves(apa *);                                       /* of the last 
 uint32_t apa_move_task(apa *, uint32_t i);
 uint32_t apa_move_from(apa *, uint32_t i);                       /* APA_NONE: the task starts */
 uint32_t apa_move_to(apa *, uint32_t i);                         /* APA_NONE: the task stops */
+uint64_t apa_whole_move(apa *, uint32_t i);                      /* all three in one number, which apa_get_move reads */
 uint32_t apa_on(apa *, uint32_t processor);                      /* the task that is to run there */
 uint32_t apa_of(apa *, uint32_t task);                           /* the processor where it is to run */
 uint32_t apa_is_ready(apa *, uint32_t task);                     /* 1 or 0; 0 also where there is no such task */
@@ -99,8 +100,10 @@ typedef struct {
     uint32_t task, from, to;
 } apa_move;
 
+/* The task is the lower half of the number, and each processor has 16 bits of the upper one: as a signed number, 65535 is -1. */
 static inline apa_move apa_get_move(apa *a, uint32_t i) {
-    apa_move move = {apa_move_task(a, i), apa_move_from(a, i), apa_move_to(a, i)};
+    uint64_t whole = apa_whole_move(a, i);
+    apa_move move = {(uint32_t)whole, (uint32_t)(int16_t)(whole >> 32), (uint32_t)(int16_t)(whole >> 48)};
     return move;
 }
 

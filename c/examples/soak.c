@@ -40,6 +40,7 @@ static uint64_t draw_range(void) {
 static const char *follow(apa *a, uint32_t *on) {
     for (uint32_t i = 0; i < apa_moves(a); i++) {
         apa_move move = apa_get_move(a, i);
+        if (move.task != apa_move_task(a, i) || move.from != apa_move_from(a, i) || move.to != apa_move_to(a, i)) return "a move is not one";
         if (move.from != APA_NONE) {
             if (on[move.from] != move.task) return "the task is not there";
             on[move.from] = APA_NONE;

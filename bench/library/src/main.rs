@@ -15,9 +15,7 @@ extern "C" {
     fn apa_start(apa: *mut u8) -> u32;
     fn apa_apply(apa: *mut u8, kind: u32, number: u32, mask: u64) -> u32;
     fn apa_moves(apa: *mut u8) -> u32;
-    fn apa_move_task(apa: *mut u8, i: u32) -> u32;
-    fn apa_move_from(apa: *mut u8, i: u32) -> u32;
-    fn apa_move_to(apa: *mut u8, i: u32) -> u32;
+    fn apa_whole_move(apa: *mut u8, i: u32) -> u64;
     fn apa_on(apa: *mut u8, processor: u32) -> u32;
     fn apa_close(apa: *mut u8) -> u32;
 }
@@ -121,6 +119,12 @@ impl Drop for Apa {
     }
 }
 
+/// The task of a move and its two processors, as `apa_get_move` of `apa.h` reads them.
+#[inline(always)]
+fn parts(whole: u64) -> (u32, u32, u32) {
+    (whole as u32, (whole >> 32) as i16 as u32, (whole >> 48) as i16 as u32)
+}
+
 /// One scheduler that takes events. The number answered is of what it did, so that nothing is left out.
 trait Scheduler {
     fn apply(&mut self, event: Event) -> u32;
@@ -134,7 +138,8 @@ impl Scheduler for Apa {
         unsafe {
             let mut sum = apa_apply(at, kind, number, mask);
             for i in 0..apa_moves(at) {
-                sum ^= apa_move_task(at, i) ^ apa_move_from(at, i) ^ apa_move_to(at, i);
+                let (task, from, to) = parts(apa_whole_move(at, i));
+                sum ^= task ^ from ^ to;
             }
             sum
         }

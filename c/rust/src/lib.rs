@@ -31,9 +31,7 @@ mod raw {
         pub fn apa_retire(apa: *mut u8, task: u32) -> u32;
         pub fn apa_set_priority(apa: *mut u8, task: u32, priority: u32) -> u32;
         pub fn apa_moves(apa: *mut u8) -> u32;
-        pub fn apa_move_task(apa: *mut u8, i: u32) -> u32;
-        pub fn apa_move_from(apa: *mut u8, i: u32) -> u32;
-        pub fn apa_move_to(apa: *mut u8, i: u32) -> u32;
+        pub fn apa_whole_move(apa: *mut u8, i: u32) -> u64;
         pub fn apa_on(apa: *mut u8, processor: u32) -> u32;
         pub fn apa_of(apa: *mut u8, task: u32) -> u32;
         pub fn apa_is_ready(apa: *mut u8, task: u32) -> u32;
@@ -116,6 +114,11 @@ const NONE: u32 = u32::MAX;
 
 fn some(number: u32) -> Option<u32> {
     (number != NONE).then_some(number)
+}
+
+/// The processor in the lowest 16 bits, of which all are ones where there is none.
+fn processor(bits: u64) -> Option<u32> {
+    some(bits as i16 as u32)
 }
 
 fn fault(answer: u32) -> Fault {
@@ -299,12 +302,9 @@ impl Scheduler {
     pub fn moves(&self) -> impl Iterator<Item = Move> + '_ {
         // SAFETY: the room holds an apa, here and below; the calls change nothing.
         let count = unsafe { raw::apa_moves(self.room.at()) };
-        (0..count).map(|i| unsafe {
-            Move {
-                task: raw::apa_move_task(self.room.at(), i),
-                from: some(raw::apa_move_from(self.room.at(), i)),
-                to: some(raw::apa_move_to(self.room.at(), i)),
-            }
+        (0..count).map(|i| {
+            let whole = unsafe { raw::apa_whole_move(self.room.at(), i) };
+            Move { task: whole as u32, from: processor(whole >> 32), to: processor(whole >> 48) }
         })
     }
 

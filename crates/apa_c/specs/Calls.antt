@@ -6,7 +6,7 @@ use Rattle.task_set.specs.TaskSet.{SetData, IsMask}
 use Rattle.task_set.specs.Refusal.{AddsTask, IsPriorityOf, new_task}
 use Rattle.task_set.specs.declared.event.Event.{Event}
 use Rattle.task_set.specs.declared.event.Event.TheVariants.{Arrive, Depart, Tick, Affinity, Offline, Online}
-use Rattle.link_state.specs.State.{State, start_of, task_on, task_count, mask_of, is_ready, is_linked}
+use Rattle.link_state.specs.State.{start_of, task_on, mask_of, is_ready, is_linked}
 use Rattle.link_state.specs.Step.{IsEventFor, SchedulerStep}
 use Rattle.certificate_laws.specs.Certified.{HasCertificates}
 use Rattle.certificate_laws.specs.Improving.{HasNoImprovingChain}
@@ -16,7 +16,7 @@ use Rattle.live_core.specs.Moves.{Replays}
 use Rattle.live_core.specs.Optimal.{IsOptimal}
 use Rattle.live_core.specs.Slots.{is_in_use, IsEventInUse, AreAllInUse, IsInUseWith, Admits, GetsPriority, data_with_free}
 use Rattle.live_core.specs.declared.moves.Move.{Move}
-use Rattle.apa_c.specs.Stages.{nothing, number_of, answer_of, set_of, back_of, task_of, from_of, to_of}
+use Rattle.apa_c.specs.Stages.{nothing, number_of, answer_of, set_of, back_of, task_of, from_of, to_of, word_of}
 use Rattle.apa_c.specs.declared.table.Apa.{Apa}
 use Rattle.apa_c.specs.declared.table.Stage.{Stage}
 use Rattle.apa_c.specs.declared.table.Stage.TheVariants.{Empty, Draft, Running}
@@ -278,6 +278,9 @@ FromAnswer old i result new = (new ≡ old) × (result ≡ from_of (slice_get (m
 
 abbrev pub ToAnswer : Apa → ℕ → ℕ → Apa → Type 0
 ToAnswer old i result new = (new ≡ old) × (result ≡ to_of (slice_get (moves_of (running_of old.stage)) i))
+
+abbrev pub MoveAnswer : Apa → ℕ → ℕ → Apa → Type 0
+MoveAnswer old i result new = (new ≡ old) × (result ≡ word_of (slice_get (moves_of (running_of old.stage)) i))
 
 -- the set of the last reply
 abbrev pub set_at : Option LiveData → ℕ

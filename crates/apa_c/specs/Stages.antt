@@ -1,5 +1,5 @@
 -- What lies behind a pointer, as numbers: how far a scheduler is, what a reply is as an answer, and what a move is.
-use Rattle.std.specs.Prelude.{ℕ, Option, Some, None}
+use Rattle.std.specs.Prelude.{ℕ, ◌+◌, ◌*◌, Option, Some, None}
 use Rattle.scheduler_reply.specs.declared.reply.Came.{Came}
 use Rattle.scheduler_reply.specs.declared.reply.Came.TheVariants as came
 use Rattle.scheduler_reply.specs.declared.reply.Reply.{Reply}
@@ -76,3 +76,14 @@ to_of None = nothing
 to_of (Some (Start task to)) = to
 to_of (Some (Shift task from to)) = to
 to_of (Some (Stop task from)) = nothing
+
+-- a task and two processors in one word: the task in its lower half, and each processor in 16 bits of the upper one
+abbrev pub word : ℕ → ℕ → ℕ → ℕ
+word task from to = task + 4294967296 * from + 281474976710656 * to
+
+-- a move in one word, with ones alone where there is none, or no processor
+abbrev pub word_of : Option Move → ℕ
+word_of None = word nothing 65535 65535
+word_of (Some (Start task to)) = word task 65535 to
+word_of (Some (Shift task from to)) = word task from to
+word_of (Some (Stop task from)) = word task from 65535

@@ -1,6 +1,6 @@
 //! The numbers that calls answer.
 ghost use Rattle.std.specs.Prelude.{◌≡◌};
-ghost use Rattle.apa_c.specs.Stages.{answer_of, set_of, back_of, came_set, task_of, from_of, to_of};
+ghost use Rattle.apa_c.specs.Stages.{answer_of, set_of, back_of, came_set, task_of, from_of, to_of, word, word_of};
 
 use link_table::{Came, Reply};
 use live_core::Move;
@@ -46,6 +46,12 @@ pub const FIRST_SLOT: u32 = 1024;
 
 /// No task, no processor, or no move.
 pub const NOTHING: u32 = 4294967295;
+
+/// No processor, in the word of a move.
+const NOWHERE: u16 = 65535;
+
+/// No move, as a word.
+pub const NO_MOVE: u64 = 18446744073709551615;
 
 /// What the scheduler did.
 pub fn answer_of(reply: &Reply) -> u32
@@ -141,4 +147,22 @@ pub fn to_of(step: &Move) -> u32
         Move::Shift { to, .. } => *to as u32,
         Move::Stop { .. } => NOTHING,
     }
+}
+
+/// A move in one word.
+pub fn word_of(step: &Move) -> u64
+    ensures { result ≡ word_of (Some step.now) }
+{
+    match step {
+        Move::Start { task, to } => word(*task, NOWHERE, *to as u16),
+        Move::Shift { task, from, to } => word(*task, *from as u16, *to as u16),
+        Move::Stop { task, from } => word(*task, *from as u16, NOWHERE),
+    }
+}
+
+/// A task and two processors in one word.
+fn word(task: u32, from: u16, to: u16) -> u64
+    ensures { result ≡ word task from to }
+{
+    task as u64 + 4294967296 * from as u64 + 281474976710656 * to as u64
 }

@@ -10,7 +10,7 @@ mod table;
 
 ghost use Rattle.std.specs.Borrow.{sem};
 ghost use Rattle.apa_c.specs.Handle.{apa_at, apa_after, apa_room};
-ghost use Rattle.apa_c.specs.Calls.{Made, Opened, Added, Started, Applied, Admitted, Retired, Reordered, Closed, OnAnswer, OfAnswer, ReadyAnswer, MaskAnswer, OccupiedAnswer, OnLineAnswer, CountAnswer, TaskAnswer, FromAnswer, ToAnswer, SetAnswer, BackAnswer};
+ghost use Rattle.apa_c.specs.Calls.{Made, Opened, Added, Started, Applied, Admitted, Retired, Reordered, Closed, OnAnswer, OfAnswer, ReadyAnswer, MaskAnswer, OccupiedAnswer, OnLineAnswer, CountAnswer, TaskAnswer, FromAnswer, ToAnswer, MoveAnswer, SetAnswer, BackAnswer};
 
 use std::alloc::Global;
 use table::Apa;
@@ -214,6 +214,17 @@ pub unsafe extern "C" fn apa_move_to(at: *mut u8, i: u32) -> u32
     ensures* { sem 𝓛 (apa_after at (ToAnswer value i result)) }
 {
     table::move_to(&mut *(at as *mut Apa), i)
+}
+
+/// A move of the last event in one word: its task in the lower half, and in 16 bits each the processor that it leaves, and the
+/// one that it goes to. All bits are ones where there is no such processor, or no such move.
+#[unsafe(no_mangle)]
+pub unsafe extern "C" fn apa_whole_move(at: *mut u8, i: u32) -> u64
+    ghost value: { Apa }
+    requires* { sem 𝓛 (apa_at at value) }
+    ensures* { sem 𝓛 (apa_after at (MoveAnswer value i result)) }
+{
+    table::whole_move(&mut *(at as *mut Apa), i)
 }
 
 /// The set of processors that the last reply carries, as bits.

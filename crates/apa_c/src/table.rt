@@ -1,12 +1,12 @@
 //! What lies behind the pointer.
 ghost use Rattle.std.specs.Prelude.{◌≡◌, ℕ, ◌<◌, ◌≤◌, MatchOption, slice_get};
 ghost use Rattle.task_set.specs.TaskSet.{IsMask};
-ghost use Rattle.apa_c.specs.Calls.{Opened, Added, AddsTo, Started, Applied, IsEventHere, IsBadMask, Admitted, AdmitsTo, Retired, RetiresFrom, Reordered, Reorders, IsAbsent, IsPresenceFault, Closed, OnAnswer, OfAnswer, ReadyAnswer, MaskAnswer, OccupiedAnswer, OnLineAnswer, CountAnswer, TaskAnswer, FromAnswer, ToAnswer, SetAnswer, BackAnswer, moves_of, running_of};
+ghost use Rattle.apa_c.specs.Calls.{Opened, Added, AddsTo, Started, Applied, IsEventHere, IsBadMask, Admitted, AdmitsTo, Retired, RetiresFrom, Reordered, Reorders, IsAbsent, IsPresenceFault, Closed, OnAnswer, OfAnswer, ReadyAnswer, MaskAnswer, OccupiedAnswer, OnLineAnswer, CountAnswer, TaskAnswer, FromAnswer, ToAnswer, MoveAnswer, SetAnswer, BackAnswer, moves_of, running_of};
 
 use crate::answer::{
-    BAD_MASK, DONE, FIRST_SLOT, NO_EVENT, NO_MEMORY, NO_NAME, NO_PROCESSOR, NO_SLOT, NO_TASK,
-    NOT_NOW, NOTHING, SAME_PRIORITY, STILL_READY, TOO_MANY, answer_of, back_of, from_of, set_of,
-    task_of, to_of,
+    BAD_MASK, DONE, FIRST_SLOT, NO_EVENT, NO_MEMORY, NO_MOVE, NO_NAME, NO_PROCESSOR, NO_SLOT,
+    NO_TASK, NOT_NOW, NOTHING, SAME_PRIORITY, STILL_READY, TOO_MANY, answer_of, back_of, from_of,
+    set_of, task_of, to_of, word_of,
 };
 use affinity_mask::ProcSet;
 use live_core::{LiveCore, Move, SlotFault};
@@ -328,6 +328,16 @@ pub fn move_to(apa: &mut Apa, i: u32) -> u32
     match move_at(&apa.stage, i) {
         Some(step) => to_of(&step),
         None => NOTHING,
+    }
+}
+
+/// A move in one word.
+pub fn whole_move(apa: &mut Apa, i: u32) -> u64
+    ensures { MoveAnswer apa.old i result apa.new }
+{
+    match move_at(&apa.stage, i) {
+        Some(step) => word_of(&step),
+        None => NO_MOVE,
     }
 }
 
