@@ -1,7 +1,7 @@
 pub mod ChainPaths
 pub mod Closures
 pub mod Distances
-pub mod FirstMet
 pub mod LeastPaths
 pub mod LevelSearch
 pub mod Moves
+pub mod Remaining

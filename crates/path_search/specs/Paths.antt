@@ -32,10 +32,6 @@ opposite_of Back = Onward
 abbrev pub StepsFrom : State → Direction → ℕ → ℕ → Type 0
 StepsFrom s direction set q = (p : ℕ) × IsTrue (has set p) × Steps s direction p q
 
--- some step leads from p into the set
-abbrev pub StepsInto : State → Direction → ℕ → ℕ → Type 0
-StepsInto s direction p set = (q : ℕ) × Steps s direction p q × IsTrue (has set q)
-
 -- a path from a set of processors to q
 abbrev pub IsPathFrom : (ℕ → ℕ → Type 0) → ℕ → List ℕ → ℕ → Type 0
 IsPathFrom Step start [] q = ⊥

@@ -2,7 +2,7 @@
 ghost use Rattle.std.specs.Prelude.{◌≡◌, ℕ, ◌<◌, IsTrue, ◌↔◌};
 ghost use Rattle.affinity_mask.specs.ProcSet.{has};
 ghost use Rattle.link_state.specs.State.{IsState};
-ghost use Rattle.path_search.specs.Paths.{Steps, StepsFrom, StepsInto, opposite_of};
+ghost use Rattle.path_search.specs.Paths.{Steps, StepsFrom, opposite_of};
 
 use affinity_mask::ProcSet;
 use link_table::Links;
@@ -19,7 +19,7 @@ pub enum Direction {
 
 impl Direction {
     /// The other direction.
-    fn opposite(self) -> Direction
+    pub fn opposite(self) -> Direction
         ensures { result ≡ opposite_of self }
     {
         match self {
@@ -55,13 +55,5 @@ impl Direction {
             rest = rest.without(p);
         }
         found
-    }
-
-    /// The processors from which one step leads into a set.
-    pub fn before_all(self, links: &Links, set: &ProcSet) -> ProcSet
-        requires { (p : ℕ) → IsTrue (has set.now p) → p < links.now.processors }
-        ensures { (p : ℕ) → IsTrue (has result p) ↔ StepsInto links.now self p set.now }
-    {
-        self.opposite().after_all(links, set)
     }
 }

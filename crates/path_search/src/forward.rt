@@ -1,5 +1,6 @@
 //! Chains of a task.
-ghost use Rattle.std.specs.Prelude.{◌≡◌, ℕ, ◌<◌, Some};
+ghost use Rattle.std.specs.Prelude.{◌≡◌, ℕ, ◌<◌, Some, IsTrue};
+ghost use Rattle.affinity_mask.specs.ProcSet.{has};
 ghost use Rattle.link_state.specs.State.{IsState, task_count, task_on};
 ghost use Rattle.link_state.specs.Chain.{IsReach, IsChainOf, EndsIdle, EndsOnTask};
 ghost use Rattle.path_search.specs.Paths.{IsLeastIfAny, EndsIn};
@@ -42,7 +43,8 @@ pub fn chain_to(links: &Links, t: u32, p: u8) -> Option<Chain>
 
 /// The least of all chains of a task that end in a set.
 fn chain_into(links: &Links, t: u32, ends: ProcSet) -> Option<Chain>
-    requires { t < task_count links.now }
+    requires task { t < task_count links.now }
+    requires ends { (p : ℕ) → IsTrue (has ends p) → p < links.now.processors }
     ensures { IsLeastIfAny (EndsIn links.now t ends) result }
 {
     let start = links.effective(t);

@@ -1,9 +1,9 @@
 //! The search for a least path.
-ghost use Rattle.std.specs.Prelude.{◌≡◌, ℕ, ◌+◌, ◌<◌, [], ◌∷◌, IsTrue, length};
+ghost use Rattle.std.specs.Prelude.{◌≡◌, ℕ, ◌<◌, [], ◌∷◌, IsTrue};
 ghost use Rattle.affinity_mask.specs.ProcSet.{has};
 ghost use Rattle.link_state.specs.Chain.{IsLeastSuch};
-ghost use Rattle.path_search.specs.Paths.{Steps, LeadsInto, IsLeastIfAny};
-ghost use Rattle.path_search.specs.Levels.{AreLevels, IsFirstMet};
+ghost use Rattle.path_search.specs.Paths.{Steps, LeadsInto, IsLeastIfAny, opposite_of};
+ghost use Rattle.path_search.specs.Levels.{EndsWhereItMeets};
 
 use crate::direction::Direction;
 use crate::level_search::levels_to;
@@ -19,7 +19,7 @@ pub fn least_path(
     start: ProcSet,
     target: ProcSet,
 ) -> Option<Chain>
-    requires { (p : ℕ) → IsTrue (has start p) → p < links.now.processors }
+    requires { (p : ℕ) → IsTrue (has target p) → p < links.now.processors }
     ensures { IsLeastIfAny (LeadsInto (Steps links.now direction) start target) result }
 {
     if let Some(p) = start.both(&target).least() {
@@ -28,11 +28,12 @@ pub fn least_path(
     if target.is_empty() {
         return None;
     }
-    let Some(levels) = levels_to(links, direction, start, &target) else {
-        return None;
-    };
-    let last = levels.len() - 1;
-    Some(least_through(links, direction, start, &levels, last, target))
+    let mut levels = Levels::new();
+    if levels_to(links, direction.opposite(), target, &start, &mut levels) {
+        Some(path_by(links, direction, start, target, &levels))
+    } else {
+        None
+    }
 }
 
 /// The list of one processor.
@@ -45,39 +46,32 @@ fn chain_of_one(p: u8) -> Chain
     chain
 }
 
-/// The least path into a target that the levels first meet at place `n`.
+/// The least path into a target, from which levels go against the direction up to the first one that meets the start.
 ///
-/// Without its last processor it is the least path into those of the level before that step into the target. So the
-/// last one is the least that can follow there.
-fn least_through(
+/// A level has the processors from which the shortest paths into the target are so long. So each processor of the path is
+/// the least one that can follow in the level of what is left.
+fn path_by(
     links: &Links,
     direction: Direction,
     start: ProcSet,
-    levels: &Levels,
-    n: usize,
     target: ProcSet,
+    levels: &Levels,
 ) -> Chain
-    requires start { (p : ℕ) → IsTrue (has start p) → p < links.now.processors }
-    requires levels { AreLevels (Steps links.now direction) start levels.now }
-    requires place { n < length levels.now }
-    requires met { IsFirstMet (Steps links.now direction) start target (n + 1) }
-    ensures least { IsLeastSuch (LeadsInto (Steps links.now direction) start target) result }
-    ensures length { length result ≡ n + 1 }
+    requires target { (p : ℕ) → IsTrue (has target p) → p < links.now.processors }
+    requires levels { EndsWhereItMeets (Steps links.now (opposite_of direction)) target start levels.now }
+    ensures { IsLeastSuch (LeadsInto (Steps links.now direction) start target) result }
 {
     let _valid = links.processors();
-    let ends = levels.at(n).both(&target);
-    if n == 0 {
-        let Some(first) = ends.least() else {
+    let mut chain = Chain::new();
+    let mut next = start;
+    let mut left = levels.len();
+    while left > 0 {
+        left -= 1;
+        let Some(p) = next.both(&levels.at(left)).least() else {
             unreachable!()
         };
-        return chain_of_one(first);
+        chain.push(p);
+        next = direction.after(links, p);
     }
-    let before = direction.before_all(links, &ends);
-    let mut chain = least_through(links, direction, start, levels, n - 1, before);
-    let after = direction.after(links, chain.at(n - 1));
-    let Some(next) = after.both(&ends).least() else {
-        unreachable!()
-    };
-    chain.push(next);
     chain
 }

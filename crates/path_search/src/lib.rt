@@ -6,8 +6,8 @@
 //! takes memory.
 //!
 //! A back chain is a chain read against the shifts, so both kinds are paths in a direction: one search serves for the
-//! sets, and one for the least lists. A least list is searched by levels of sets, up to the first level that meets the
-//! target. Then the levels are cut back to what leads on to the target, and the list is read from the first level on.
+//! sets, and one for the least lists. A least list is searched by levels of sets from its end, against the direction, up to
+//! the first level that meets the start. The list is read from there, each time the least processor of the next level.
 #![tactic(auto)]
 
 mod backward;

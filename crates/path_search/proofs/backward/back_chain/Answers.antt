@@ -1,5 +1,11 @@
+use Rattle.std.proofs.Common.{ℕ, subst, IsTrue}
+use Rattle.affinity_mask.specs.ProcSet.{has}
+use Rattle.link_state.proofs.Masks.{effective_mask_below}
 use Rattle.path_search.proofs.ChainPaths.{back_chain_answer}
 use Rattle.path_search.proofs.backward.back_chain.Goals as goal
+
+pub least_path-requires : goal.least_path-requires
+least_path-requires c = λ p h. effective_mask_below c.args.links.now c.effective-entries.ensures.valid c.args.w p (subst (λ (X : ℕ). IsTrue (has X p)) c.effective-entries.ensures.value h)
 
 pub returns : goal.returns
 returns c =

@@ -1,7 +1,10 @@
 use Rattle.link_state.specs.Chain.{IsChainOf, EndsOnTask}
 use Rattle.path_search.specs.Paths.{EndsIn}
-use Rattle.path_search.proofs.ChainPaths.{IsLeastIfAny-same, EndsIn-one, one-EndsIn, EndsIn-task, task-EndsIn}
+use Rattle.path_search.proofs.ChainPaths.{IsLeastIfAny-same, EndsIn-one, one-EndsIn, EndsIn-task, task-EndsIn, start_below}
 use Rattle.path_search.proofs.forward.chain_to.Goals as goal
+
+pub chain_into-requires-clause-ends : goal.chain_into-requires-clause-ends
+chain_into-requires-clause-ends c = start_below c.args.links.now c.args.p c.one.result c.one.ensures c.requires.processor
 
 pub returns-clause-processor : goal.returns-clause-processor
 returns-clause-processor c =
