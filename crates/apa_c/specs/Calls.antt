@@ -1,9 +1,11 @@
 -- What each call does. A call that is refused answers the number of its fault, comes only with the cause of it, and
 -- changes nothing. Any other call that is not a question does what it says.
-use Rattle.std.specs.Prelude.{◌≡◌, ◌≢◌, ℕ, ◌+◌, ◌<◌, ◌≤◌, ◌⊎◌, Result, Ok, Err, List, [], length, replicate, slice_get, Option, Some, None, Bool, true, false, is_some, if◌then◌else◌}
+use Rattle.std.specs.Prelude.{◌≡◌, ◌≢◌, ℕ, ◌+◌, ◌<◌, ◌≤◌, ◌⊎◌, Result, Ok, Err, List, [], ◌++◌, length, codes, replicate, slice_get, Option, Some, None, Bool, true, false, is_some, if◌then◌else◌}
 use Rattle.affinity_mask.specs.ProcSet.{has}
+use Rattle.affinity_mask.specs.Number.{canonical_number}
 use Rattle.task_set.specs.TaskSet.{SetData, IsMask}
-use Rattle.task_set.specs.Refusal.{AddsTask, IsPriorityOf, new_task}
+use Rattle.task_set.specs.Name.{IsName}
+use Rattle.task_set.specs.Refusal.{AddsTask, IsPriorityOf, IsNameOf, new_task}
 use Rattle.task_set.specs.declared.event.Event.{Event}
 use Rattle.task_set.specs.declared.event.Event.TheVariants.{Arrive, Depart, Tick, Affinity, Offline, Online}
 use Rattle.link_state.specs.State.{start_of, task_on, mask_of, is_ready, is_linked}
@@ -62,11 +64,19 @@ abbrev pub Opened : Apa → ℕ → ℕ → Apa → Type 0
 Opened old processors result new = OpenedAt old.stage old processors result new
 
 -- ---- adding tasks
--- why a task is not added; the last fault is of the name under which it is stored
+-- the name under which the next task is stored
+abbrev pub stored_name : SetData → List ℕ
+stored_name set = codes "t" ++ canonical_number (length set.tasks)
+
+-- why a name is refused: it is no name, or a task has it
+abbrev pub IsNameFault : SetData → List ℕ → Type 0
+IsNameFault set name = (¬ IsName name) ⊎ ((t : ℕ) × IsNameOf set t name)
+
+-- why a task is not added
 abbrev pub IsAddFault : SetData → ℕ → ℕ → ℕ → Type 0
 IsAddFault set priority mask result =
     (result ≡ 1) ⊎ (((result ≡ 7) × (length set.tasks ≡ 1024)) ⊎ (((result ≡ 6) × ((t : ℕ) × IsPriorityOf set t priority))
-    ⊎ (((result ≡ 5) × IsBadMask set.processors mask) ⊎ (result ≡ 9))))
+    ⊎ (((result ≡ 5) × IsBadMask set.processors mask) ⊎ ((result ≡ 9) × IsNameFault set (stored_name set)))))
 
 -- the task stands last in the set then, or the set stays
 abbrev pub AddsTo : SetData → ℕ → ℕ → ℕ → SetData → Type 0

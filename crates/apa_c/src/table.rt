@@ -80,7 +80,7 @@ fn add_to(alloc: Global, set: &mut TaskSet, priority: u32, mask: u64) -> u32
     let Ok(name) = format!(in alloc; "t{}", set.len()) else {
         return NO_MEMORY;
     };
-    match set.add(&name, priority, ProcSet::of_bits(mask)) {
+    match set.add(name.as_str(), priority, ProcSet::of_bits(mask)) {
         Ok(_) => DONE,
         Err(TaskFault::OutOfMemory) => NO_MEMORY,
         Err(TaskFault::SamePriority(_)) => SAME_PRIORITY,
