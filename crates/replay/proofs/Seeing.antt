@@ -41,6 +41,17 @@ sighting_of set history s h few =
       last_to_told = omega (arith, last_all, reads.last_of.count, h.told.count, ap length whole);
     }
 
+-- what was read stays so as more is seen
+pub reads_further : (m : ℕ) (old mid new : List Entry) (first last : Picture) → ArePicturesOf m old first last → mid ≡ old → IsPrefix mid new → ArePicturesOf m new first last
+reads_further m old mid new first last reads same more = record {
+  at_first = reads.at_first;
+  at_last = reads.at_last;
+  first_of = reads.first_of;
+  last_of = reads.last_of;
+  later = reads.later;
+  within = prefix_trans reads.at_last old new reads.within (subst (λ (l : List Entry). IsPrefix l new) same more);
+}
+
 -- what was published is the history, where the first pass has seen just that, and saw the close
 pub published_is_history : (published history : List Entry) (closed : Bool) (passes : List PassData) → FirstSawJust published passes → FirstSawClose passes → AllTell history closed passes → published ≡ history
 published_is_history published history closed [] saw close told = absurd saw

@@ -24,6 +24,40 @@ pub struct Schedule {
     pub contexts: Vec<Context>,
 }
 
+/// A replay of events of a set, and the slots of the contexts.
+#[derive(Drop)]
+struct Run {
+    slots: Slots,
+    replayed: Replayed,
+}
+
+/// Replays the events of a set.
+fn run_set<R: Threads + Wait + Sync, G: Gate + Sync>(
+    rt: &R,
+    alloc: Global,
+    set: &TaskSet,
+    events: &[Posted],
+    gate: &G,
+) -> Result<Run, OutOfMemory>
+    requires events { All (IsPostedOf set.now) events.now }
+    ensures set { IfOk result (λ run. run.slots.set ≡ set.now) }
+    ensures core { IfOk result (λ run. IsReplayOf set.now events.now run.replayed.core) }
+    ensures hands { IfOk result
+        (λ run. HaveAllStints run.slots run.replayed.core.history run.replayed.hands.items) }
+{
+    let Beginning {
+        board,
+        passes,
+        queues,
+        slots,
+        processors,
+    } = beginning_of(alloc, set, events)?;
+    let replayed = replay(
+        rt, alloc, board, passes, queues, &slots, processors, events, gate,
+    )?;
+    Ok(Run { slots, replayed })
+}
+
 /// The schedule of these events, run on threads: a worker for each processor, and a thread for each stream that has
 /// events. The gate is called around each post and before each take. Out of memory comes where memory is refused, and
 /// where an event could not be posted.
@@ -38,16 +72,8 @@ pub fn schedule_of<R: Threads + Wait + Sync, G: Gate + Sync>(
     ensures core { IfOk result (λ made. IsReplayOf set.now events.now made.core) }
     ensures contexts { IfOk result (λ made. made.contexts.items ≡ contexts_of set.now made.core.history) }
 {
-    let Beginning {
-        board,
-        passes,
-        queues,
-        slots,
-        processors,
-    } = beginning_of(alloc, set, events)?;
-    let Replayed { core, hands } = replay(
-        rt, alloc, board, passes, queues, &slots, processors, events, gate,
-    )?;
+    let Run { slots, replayed } = run_set(rt, alloc, set, events, gate)?;
+    let Replayed { core, hands } = replayed;
     let contexts = carried_contexts(alloc, set, slots, &core, hands)?;
     Ok(Schedule { core, contexts })
 }

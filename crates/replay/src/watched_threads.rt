@@ -1,5 +1,5 @@
 //! The threads of a watched replay: a worker for each processor and a thread for each observer, beside the caller's posts.
-ghost use Rattle.std.specs.Prelude.{◌≡◌, ◌≤◌, [], All, true, length, map, IfOk};
+ghost use Rattle.std.specs.Prelude.{◌≡◌, ◌≤◌, [], All, true, length, map, vec_capacity, IfOk};
 ghost use Rattle.event_history.specs.Boards.{AreEyesOf, AreFor};
 ghost use Rattle.schedule_board.specs.Boards.{board_of, published, IsNewObserver};
 ghost use Rattle.replay.specs.Driving.{IsDone, seat_of};
@@ -10,9 +10,10 @@ ghost use Rattle.replay.specs.Threading.{CanRun};
 ghost use Rattle.replay.specs.Joining.{AreJoined};
 ghost use Rattle.replay.specs.Passes.{FirstSawClose, HaveGrown};
 
-use crate::observing::Observed;
+use crate::observing::{Observed, Watcher};
 use crate::on_threads::{Threaded, close_core};
 use crate::posting::post_all;
+use crate::workers::Worker;
 use crate::{observing, workers};
 use affinity_mask::OutOfMemory;
 use context_slots::Slots;
@@ -58,6 +59,38 @@ fn close_by_first<R: Wait, G: Gate>(
     close_core(rt, board, queues, slots, gate, &mut passes[0], left);
 }
 
+/// Room for the threads and for what they leave.
+#[derive(Drop)]
+struct Rooms<'s> {
+    started: Vec<Worker<'s>>,
+    left: Vec<Processor>,
+    stopped: Vec<Processor>,
+    watchers: Vec<Watcher>,
+    observed: Vec<Observed>,
+}
+
+/// Room for so many workers and observers.
+fn make_rooms<'s>(alloc: Global, workers: usize, observers: usize) -> Result<Rooms<'s>, OutOfMemory>
+    ensures started { IfOk result (λ rooms. (rooms.started.items ≡ [])
+        × (workers ≤ vec_capacity rooms.started)) }
+    ensures left { IfOk result (λ rooms. (rooms.left.items ≡ [])
+        × (workers ≤ vec_capacity rooms.left)) }
+    ensures stopped { IfOk result (λ rooms. (rooms.stopped.items ≡ [])
+        × (workers ≤ vec_capacity rooms.stopped)) }
+    ensures watchers { IfOk result (λ rooms. (rooms.watchers.items ≡ [])
+        × (observers ≤ vec_capacity rooms.watchers)) }
+    ensures observed { IfOk result (λ rooms. (rooms.observed.items ≡ [])
+        × (observers ≤ vec_capacity rooms.observed)) }
+{
+    Ok(Rooms {
+        started: Vec::with_capacity(alloc, workers)?,
+        left: Vec::with_capacity(alloc, workers)?,
+        stopped: Vec::with_capacity(alloc, workers)?,
+        watchers: Vec::with_capacity(alloc, observers)?,
+        observed: Vec::with_capacity(alloc, observers)?,
+    })
+}
+
 /// Starts the workers and the observers, posts the events, closes the core and joins all threads. All memory of the joins
 /// is taken before the first start, since a worker that was started waits for its `Stop`.
 fn run_threads<'s, E, R: Threads + Wait + Sync, K: Wait + Drop, G: Gate + Sync>(
@@ -85,11 +118,13 @@ fn run_threads<'s, E, R: Threads + Wait + Sync, K: Wait + Drop, G: Gate + Sync>(
     ensures { IfOk result (AreJoined board.entry.now events.entry.now queues.entry.now
         slots.entry.now (board_of publisher) (length observers.items)) }
 {
-    let started = Vec::with_capacity(alloc, queues.len())?;
-    let left = Vec::with_capacity(alloc, queues.len())?;
-    let stopped = Vec::with_capacity(alloc, queues.len())?;
-    let watchers = Vec::with_capacity(alloc, observers.len())?;
-    let observed = Vec::with_capacity(alloc, observers.len())?;
+    let Rooms {
+        started,
+        left,
+        stopped,
+        watchers,
+        observed,
+    } = make_rooms(alloc, queues.len(), observers.len())?;
     let (started, mut left) = workers::start_all(
         scope, rt, queues, slots, gate, refused, processors, started, left,
     );

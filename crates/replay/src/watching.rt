@@ -1,5 +1,5 @@
 //! From a set and its events to one history, the contexts that the workers carried, and what the observers saw.
-ghost use Rattle.std.specs.Prelude.{◌≡◌, ◌≤◌, [], All, length, IfOk};
+ghost use Rattle.std.specs.Prelude.{◌≡◌, ◌≤◌, [], All, Ok, length, IfOk};
 ghost use Rattle.std.specs.Vec.{vec_capacity};
 ghost use Rattle.link_state.specs.Dispatch.{contexts_of};
 ghost use Rattle.event_history.specs.Boards.{AreAll};
@@ -10,9 +10,10 @@ ghost use Rattle.replay.specs.Streams.{IsForBoard, IsUnused};
 ghost use Rattle.trace_reader.specs.Input.{IsPostedOf};
 ghost use Rattle.replay.specs.Joining.{AreJoined};
 ghost use Rattle.replay.specs.Sightings.{IsSightingOf};
+ghost use Rattle.replay.specs.declared.sighting.Sighting.{Sighting};
 
 use crate::making::{Beginning, beginning_of};
-use crate::on_threads::{Replayed, flags, settle_replay};
+use crate::on_threads::{Replayed, flags, flags_and_hands, settle_replay};
 use crate::schedule::carried_contexts;
 use crate::sighting::Sighting;
 use crate::telling::{none_beyond, tell_whole};
@@ -27,6 +28,7 @@ use sched_core::Core;
 use schedule_board::{Observer, Publisher, make_board};
 use std::alloc::Global;
 use std::sync::Wait;
+use std::sync::atomic::AtomicBool;
 use std::thread::Threads;
 use task_set::{Context, TaskSet};
 use trace_reader::Posted;
@@ -45,6 +47,37 @@ pub struct Watched {
 struct WatchedReplay {
     replayed: Replayed,
     sightings: Vec<Sighting>,
+}
+
+/// A watched replay of events of a set, and the slots of the contexts.
+#[derive(Drop)]
+struct WatchedRun {
+    slots: Slots,
+    watched: WatchedReplay,
+}
+
+/// Flags that are not raised for the workers and for the observers, and room for a hand of each worker.
+#[derive(Drop)]
+struct Ready {
+    refused: Vec<AtomicBool>,
+    unwatched: Vec<AtomicBool>,
+    hands: Vec<Hand>,
+}
+
+/// All that is made before the threads, for so many workers and observers.
+fn make_ready(alloc: Global, workers: usize, observers: usize) -> Result<Ready, OutOfMemory>
+    ensures refused { IfOk result (λ made. length made.refused.items ≡ workers) }
+    ensures unwatched { IfOk result (λ made. length made.unwatched.items ≡ observers) }
+    ensures hands { IfOk result
+        (λ made. (made.hands.items ≡ []) × (workers ≤ vec_capacity made.hands)) }
+{
+    let (refused, hands) = flags_and_hands(alloc, workers)?;
+    let unwatched = flags(alloc, observers)?;
+    Ok(Ready {
+        refused,
+        unwatched,
+        hands,
+    })
 }
 
 /// Replays events on threads, with these observers beside it.
@@ -80,9 +113,11 @@ fn watched_replay<R: Threads + Wait + Sync, K: Wait + Drop, G: Gate + Sync>(
         All (IsSightingOf slots.now.set done.replayed.core.history) done.sightings.items) }
 {
     board_is_made(&board);
-    let refused = flags(alloc, queues.len())?;
-    let unwatched = flags(alloc, observers.len())?;
-    let hands = Vec::with_capacity(alloc, queues.len())?;
+    let Ready {
+        refused,
+        unwatched,
+        hands,
+    } = make_ready(alloc, queues.len(), observers.len())?;
     let joined = in_threads(
         rt, alloc, &board, &queues, slots, events, &refused, &unwatched, gate, passes, processors,
         publisher, observers,
@@ -123,8 +158,24 @@ fn settle_watched<R: Wait, K: Wait + Drop>(
         observed,
     } = joined;
     let passes = &mut threaded.passes;
-    let sightings = tell_whole(rt, alloc, &board, passes, publisher, observed)?;
-    let replayed = settle_replay(board, queues, slots, events, threaded, hands)?;
+    let sightings = tell_whole(rt, alloc, &board, passes, publisher, observed);
+    let replayed = settle_replay(board, queues, slots, events, threaded, hands);
+    together(sightings, replayed)
+}
+
+/// A replay with what the observers saw of it, where there is both, and no observer saw more than the history has.
+fn together(
+    sightings: Result<Vec<Sighting>, OutOfMemory>,
+    replayed: Result<Replayed, OutOfMemory>,
+) -> Result<WatchedReplay, OutOfMemory>
+    ensures sightings { IfOk result (λ done. sightings ≡ Ok done.sightings) }
+    ensures replayed { IfOk result (λ done. replayed ≡ Ok done.replayed) }
+    ensures few { IfOk result (λ done. All
+        (λ (s : Sighting). s.told.count ≤ length done.replayed.core.history)
+        done.sightings.items) }
+{
+    let sightings = sightings?;
+    let replayed = replayed?;
     if !none_beyond(&sightings, replayed.core.history().len()) {
         return Err(OutOfMemory);
     }
@@ -132,6 +183,42 @@ fn settle_watched<R: Wait, K: Wait + Drop>(
         replayed,
         sightings,
     })
+}
+
+/// Replays the events of a set, with so many observers beside it.
+fn watch_set<R: Threads + Wait + Sync, G: Gate + Sync>(
+    rt: &R,
+    alloc: Global,
+    set: &TaskSet,
+    events: &[Posted],
+    observers: u32,
+    gate: &G,
+) -> Result<WatchedRun, OutOfMemory>
+    requires events { All (IsPostedOf set.now) events.now }
+    requires observers { (1 ≤ observers) × (observers ≤ 8) }
+    ensures set { IfOk result (λ run. run.slots.set ≡ set.now) }
+    ensures core { IfOk result
+        (λ run. IsReplayOf set.now events.now run.watched.replayed.core) }
+    ensures hands { IfOk result (λ run. HaveAllStints run.slots
+        run.watched.replayed.core.history run.watched.replayed.hands.items) }
+    ensures each_observer { IfOk result (λ run.
+        length run.watched.sightings.items ≡ observers) }
+    ensures sightings { IfOk result (λ run. All
+        (IsSightingOf set.now run.watched.replayed.core.history)
+        run.watched.sightings.items) }
+{
+    let (publisher, observers) = make_board(rt, alloc, set, observers)?;
+    let Beginning {
+        board,
+        passes,
+        queues,
+        slots,
+        processors,
+    } = beginning_of(alloc, set, events)?;
+    let watched = watched_replay(
+        rt, alloc, board, passes, queues, &slots, processors, events, gate, publisher, observers,
+    )?;
+    Ok(WatchedRun { slots, watched })
 }
 
 /// The schedule of these events, run on threads as a replay runs it, and what so many observers saw of it, each on a thread
@@ -156,22 +243,12 @@ pub fn watched_schedule_of<R: Threads + Wait + Sync, G: Gate + Sync>(
     ensures sightings { IfOk result (λ made.
         All (IsSightingOf set.now made.core.history) made.sightings.items) }
 {
-    let Beginning {
-        board,
-        passes,
-        queues,
-        slots,
-        processors,
-    } = beginning_of(alloc, set, events)?;
-    let (publisher, observers) = make_board(rt, alloc, set, observers)?;
-    let done = watched_replay(
-        rt, alloc, board, passes, queues, &slots, processors, events, gate, publisher, observers,
-    )?;
-    let Replayed { core, hands } = done.replayed;
+    let WatchedRun { slots, watched } = watch_set(rt, alloc, set, events, observers, gate)?;
+    let Replayed { core, hands } = watched.replayed;
     let contexts = carried_contexts(alloc, set, slots, &core, hands)?;
     Ok(Watched {
         core,
         contexts,
-        sightings: done.sightings,
+        sightings: watched.sightings,
     })
 }
