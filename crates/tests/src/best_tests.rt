@@ -6,7 +6,6 @@ use link_table::Links;
 use reach_certificate::{all_certified, best_set, is_certificate};
 use std::alloc::Global;
 use std::process::Abort;
-use std::test::Fail;
 use task_set::TaskSet;
 
 /// The processors that are off line, of two; four tasks; a set for each; and whether these certify the tasks that wait.
@@ -38,30 +37,28 @@ fn are_certified(rt: &impl Abort, links: &Links, sets: &[&str; 4]) -> (bool, boo
 }
 
 /// Compares the answers to a row. The last set certifies the last task in each.
-fn compare(rt: &impl Abort, alloc: Global, row: &Row) -> Result<(), Fail> {
+fn compare(rt: &impl Abort, alloc: Global, row: &Row) {
     let (off, tasks, sets, certify) = row;
-    let links = state_of(rt, alloc, 2, off, tasks)?;
+    let links = state_of(rt, alloc, 2, off, tasks);
     assert_eq!(rt;
         are_certified(rt, &links, sets),
         (*certify, true),
         "{sets:?}"
     );
-    Ok(())
 }
 
 #[test]
-fn certificates_by_calls(rt: HostRuntime) -> Result<(), Fail> {
+fn certificates_by_calls(rt: HostRuntime) {
     for row in &CERTIFIED {
-        compare(&rt, rt.alloc(), row)?;
+        compare(&rt, rt.alloc(), row);
     }
-    Ok(())
 }
 
 /// Both processors certify the last task too, which may run on the first alone.
 #[test]
-fn a_wide_certificate(rt: HostRuntime) -> Result<(), Fail> {
+fn a_wide_certificate(rt: HostRuntime) {
     let row: Row = ("-", "0@0 0-1@1 1@- 0@-", ["-", "-", "0-1", "0-1"], true);
-    compare(&rt, rt.alloc(), &row)
+    compare(&rt, rt.alloc(), &row);
 }
 
 /// Whether each number of the list is below n.
@@ -93,35 +90,27 @@ static BEST_OF_SIX: [Ready; 7] = [
 ];
 
 /// The best set of these tasks is the expected one.
-fn expect_best(
-    rt: &impl Abort,
-    alloc: Global,
-    set: &TaskSet,
-    ready: &[u32],
-    expected: &[u32],
-) -> Result<(), Fail> {
+fn expect_best(rt: &impl Abort, alloc: Global, set: &TaskSet, ready: &[u32], expected: &[u32]) {
     assert!(rt; all_below(ready, set.len()));
-    let best = best_set(alloc, set, ready)?;
+    let best = best_set(alloc, set, ready).expect(rt, "memory");
     assert!(rt; best.as_slice() == expected, "of {ready:?}");
-    Ok(())
 }
 
 /// Each row has its best set.
-fn expect_all(rt: &impl Abort, alloc: Global, set: &TaskSet, rows: &[Ready]) -> Result<(), Fail> {
+fn expect_all(rt: &impl Abort, alloc: Global, set: &TaskSet, rows: &[Ready]) {
     for (ready, expected) in rows {
-        expect_best(rt, alloc, set, ready, expected)?;
+        expect_best(rt, alloc, set, ready, expected);
     }
-    Ok(())
 }
 
 #[test]
-fn best_sets_of_four(rt: HostRuntime) -> Result<(), Fail> {
-    let set = tasks_of(&rt, rt.alloc(), 2, "0 0-1 1 0")?;
-    expect_all(&rt, rt.alloc(), &set, &BEST_OF_FOUR)
+fn best_sets_of_four(rt: HostRuntime) {
+    let set = tasks_of(&rt, rt.alloc(), 2, "0 0-1 1 0");
+    expect_all(&rt, rt.alloc(), &set, &BEST_OF_FOUR);
 }
 
 #[test]
-fn best_sets_of_six(rt: HostRuntime) -> Result<(), Fail> {
-    let set = tasks_of(&rt, rt.alloc(), 4, "20:0-1 30:1-2 40:2-3 50:0 60:0-3 10:0")?;
-    expect_all(&rt, rt.alloc(), &set, &BEST_OF_SIX)
+fn best_sets_of_six(rt: HostRuntime) {
+    let set = tasks_of(&rt, rt.alloc(), 4, "20:0-1 30:1-2 40:2-3 50:0 60:0-3 10:0");
+    expect_all(&rt, rt.alloc(), &set, &BEST_OF_SIX);
 }

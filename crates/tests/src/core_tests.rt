@@ -1,9 +1,9 @@
 //! A core whose history fills up, and what else no text shows of it.
 use crate::stated::{is_event_for, tasks_of};
 use sched_core::{Core, CoreFault, MAX_ENTRIES};
+use std::alloc::Global;
 use std::process::Abort;
-use std::test::Fail;
-use task_set::{Event, Order};
+use task_set::{Event, Order, TaskSet};
 
 /// The first task comes, runs, leaves, and does not run.
 fn event_at(place: u64) -> Event {
@@ -39,10 +39,14 @@ fn expect_full_orders(rt: &impl Abort, core: &Core) {
 }
 
 #[test]
-fn history_fills_up(rt: HostRuntime) -> Result<(), Fail> {
-    let set = tasks_of(&rt, rt.alloc(), 2, "0-1 0")?;
-    let mut core = Core::new(rt.alloc(), &set)?;
-    fill(&rt, &mut core);
-    expect_full_orders(&rt, &core);
-    Ok(())
+fn history_fills_up(rt: HostRuntime) {
+    let set = tasks_of(&rt, rt.alloc(), 2, "0-1 0");
+    fill_new(&rt, rt.alloc(), &set);
+}
+
+/// Fills a new core over a set of tasks.
+fn fill_new(rt: &impl Abort, alloc: Global, set: &TaskSet) {
+    let mut core = Core::new(alloc, set).expect(rt, "memory");
+    fill(rt, &mut core);
+    expect_full_orders(rt, &core);
 }

@@ -1,15 +1,14 @@
 //! Histories that are followed by hand, with entries that have a defect between their own: what the checker says of each entry,
 //! and what both the checker and the core have in the end.
 use crate::stated::is_event_for;
-use reach_certificate::Checker;
+use reach_certificate::{Checker, Defect};
 use sched_core::{Core, CoreFault};
 use schedule_text::{Schedule, read_schedule};
 use scheduler_reply::Entry;
-use std::alloc::Global;
+use std::alloc::{AllocError, Global};
 use std::process::Abort;
-use std::test::Fail;
 use task_set::{Context, Event, Order, TaskSet};
-use trace_reader::read_input;
+use trace_reader::{Input, read_input};
 
 /// A history. Its lines are as in a schedule text.
 struct Row {
@@ -220,7 +219,7 @@ static ROWS: [Row; 7] = [
 ];
 
 /// Appends the lines of the entries, without what the checker says of them.
-fn write_entries(text: &mut String, rows: &str) -> Result<(), Fail> {
+fn write_entries(text: &mut String, rows: &str) -> Result<(), AllocError> {
     for row in rows.lines() {
         let (entry, _defect) = row.split_once(": ").unwrap_or((row, ""));
         writeln!(text, "{entry}")?;
@@ -228,46 +227,43 @@ fn write_entries(text: &mut String, rows: &str) -> Result<(), Fail> {
     Ok(())
 }
 
-/// The schedule of a row, with all of its entries.
-fn schedule_of(alloc: Global, row: &Row) -> Result<Schedule, Fail> {
+/// The text of the schedule of a row, with all of its entries.
+fn text_of(alloc: Global, row: &Row) -> Result<String, AllocError> {
     let mut text = String::from_str(alloc, "schedule 2\n")?;
     let (entries, contexts) = (row.entries.lines().count(), row.contexts.lines().count());
     write!(text, "{}{}history {entries}\n", row.head, row.nobody)?;
     write_entries(&mut text, row.entries)?;
     write!(text, "contexts {contexts}\n{}end\n", row.contexts)?;
-    Ok(read_schedule(alloc, text.as_bytes())?)
+    Ok(text)
+}
+
+/// The schedule of a row.
+fn schedule_of(rt: &impl Abort, alloc: Global, row: &Row) -> Schedule {
+    let text = text_of(alloc, row).expect(rt, "memory");
+    read_schedule(alloc, text.as_bytes()).expect(rt, "a schedule")
+}
+
+/// What the checker says, in words.
+fn words_of(alloc: Global, said: Result<(), Defect>) -> Result<String, AllocError> {
+    match said {
+        Ok(()) => String::from_str(alloc, "ok"),
+        Err(defect) => format!(in alloc; "{defect:?}"),
+    }
 }
 
 /// The checker says of an entry what stands behind it.
-fn judge(
-    rt: &impl Abort,
-    alloc: Global,
-    checker: &mut Checker,
-    entry: &Entry,
-    row: &str,
-) -> Result<(), Fail> {
+fn judge(rt: &impl Abort, alloc: Global, checker: &mut Checker, entry: &Entry, row: &str) {
     assert!(rt; is_event_for(checker.links(), &entry.event));
-    let said = match checker.accept(entry) {
-        Ok(()) => String::from_str(alloc, "ok")?,
-        Err(defect) => format!(in alloc; "{defect:?}")?,
-    };
+    let said = words_of(alloc, checker.accept(entry)).expect(rt, "memory");
     let (_entry, expected) = row.split_once(": ").unwrap_or((row, ""));
     assert_eq!(rt; said.as_str(), expected, "{row}");
-    Ok(())
 }
 
 /// The checker says of the entries what stands behind them.
-fn judge_all(
-    rt: &impl Abort,
-    alloc: Global,
-    checker: &mut Checker,
-    entries: &[Entry],
-    rows: &str,
-) -> Result<(), Fail> {
+fn judge_all(rt: &impl Abort, alloc: Global, checker: &mut Checker, entries: &[Entry], rows: &str) {
     for (entry, row) in entries.iter().zip(rows.lines()) {
-        judge(rt, alloc, checker, entry, row)?;
+        judge(rt, alloc, checker, entry, row);
     }
-    Ok(())
 }
 
 /// The checker has these contexts of its tasks.
@@ -280,17 +276,10 @@ fn expect_contexts(rt: &impl Abort, checker: &Checker, contexts: &[Context]) {
 }
 
 /// A new checker says of the entries what stands behind them, and has the contexts in the end.
-fn check(
-    rt: &impl Abort,
-    alloc: Global,
-    set: &TaskSet,
-    row: &Row,
-    schedule: &Schedule,
-) -> Result<(), Fail> {
-    let mut checker = Checker::new(alloc, set)?;
-    judge_all(rt, alloc, &mut checker, schedule.entries(), row.entries)?;
+fn check(rt: &impl Abort, alloc: Global, set: &TaskSet, row: &Row, schedule: &Schedule) {
+    let mut checker = Checker::new(alloc, set).expect(rt, "memory");
+    judge_all(rt, alloc, &mut checker, schedule.entries(), row.entries);
     expect_contexts(rt, &checker, schedule.contexts());
-    Ok(())
 }
 
 /// The core makes an entry, which has the next place.
@@ -314,40 +303,37 @@ fn make_all(rt: &impl Abort, core: &mut Core, entries: &[Entry], rows: &str) {
 }
 
 /// Appends an order.
-fn write_order(text: &mut String, order: &Order) -> Result<(), Fail> {
+fn write_order(text: &mut String, order: &Order) -> Result<(), AllocError> {
     match order {
-        Order::Take { task, number } => write!(text, "{task}/{number} ")?,
-        Order::Release(task) => write!(text, "-{task} ")?,
-        Order::Run(units) => write!(text, "+{units} ")?,
-        Order::Stop => write!(text, ".")?,
+        Order::Take { task, number } => write!(text, "{task}/{number} "),
+        Order::Release(task) => write!(text, "-{task} "),
+        Order::Run(units) => write!(text, "+{units} "),
+        Order::Stop => write!(text, "."),
     }
-    Ok(())
+}
+
+/// The orders as a line has them.
+fn line_of(alloc: Global, orders: &[Order]) -> Result<String, AllocError> {
+    let mut text = String::new(alloc);
+    for order in orders {
+        write_order(&mut text, order)?;
+    }
+    Ok(text)
 }
 
 /// The orders to a processor are those of a line.
-fn expect_orders(
-    rt: &impl Abort,
-    alloc: Global,
-    core: &Core,
-    p: u8,
-    line: &str,
-) -> Result<(), Fail> {
+fn expect_orders(rt: &impl Abort, alloc: Global, core: &Core, p: u8, line: &str) {
     assert!(rt; p < core.links().processors());
-    let mut text = String::new(alloc);
-    for order in core.orders(p) {
-        write_order(&mut text, order)?;
-    }
-    assert_eq!(rt; text.as_str(), line);
-    Ok(())
+    let orders = line_of(alloc, core.orders(p)).expect(rt, "memory");
+    assert_eq!(rt; orders.as_str(), line);
 }
 
 /// The orders to each processor are those of a line.
-fn expect_all_orders(rt: &impl Abort, alloc: Global, core: &Core, lines: &str) -> Result<(), Fail> {
+fn expect_all_orders(rt: &impl Abort, alloc: Global, core: &Core, lines: &str) {
     assert_eq!(rt; core.links().processors() as usize, lines.lines().count());
     for (line, p) in lines.lines().zip(0u8..64) {
-        expect_orders(rt, alloc, core, p, line)?;
+        expect_orders(rt, alloc, core, p, line);
     }
-    Ok(())
 }
 
 /// Closes the core twice. It takes no event between.
@@ -359,33 +345,36 @@ fn close(rt: &impl Abort, core: &mut Core) {
 }
 
 /// A new core makes the entries, and gives the orders in the end.
-fn play(
-    rt: &impl Abort,
-    alloc: Global,
-    set: &TaskSet,
-    row: &Row,
-    schedule: &Schedule,
-) -> Result<(), Fail> {
-    let mut core = Core::new(alloc, set)?;
-    core.reserve()?;
+fn play(rt: &impl Abort, alloc: Global, set: &TaskSet, row: &Row, schedule: &Schedule) {
+    let mut core = Core::new(alloc, set).expect(rt, "memory");
+    assert!(rt; core.reserve().is_ok());
     make_all(rt, &mut core, schedule.entries(), row.entries);
     close(rt, &mut core);
-    expect_all_orders(rt, alloc, &core, row.orders)
+    expect_all_orders(rt, alloc, &core, row.orders);
+}
+
+/// The input that has the tasks of a row.
+fn input_of(rt: &impl Abort, alloc: Global, row: &Row) -> Input {
+    let text = format!(in alloc; "apa 1\n{}end\n", row.head).expect(rt, "memory");
+    read_input(alloc, text.as_bytes()).expect(rt, "an input")
 }
 
 /// The checker and the core follow a row, by the tasks that there are.
-fn follow(rt: &impl Abort, alloc: Global, row: &Row, schedule: &Schedule) -> Result<(), Fail> {
-    let text = format!(in alloc; "apa 1\n{}end\n", row.head)?;
-    let input = read_input(alloc, text.as_bytes())?;
-    check(rt, alloc, input.set(), row, schedule)?;
-    play(rt, alloc, input.set(), row, schedule)
+fn follow(rt: &impl Abort, alloc: Global, row: &Row, schedule: &Schedule) {
+    let input = input_of(rt, alloc, row);
+    check(rt, alloc, input.set(), row, schedule);
+    play(rt, alloc, input.set(), row, schedule);
+}
+
+/// The same of the schedule of a row.
+fn follow_row(rt: &impl Abort, alloc: Global, row: &Row) {
+    let schedule = schedule_of(rt, alloc, row);
+    follow(rt, alloc, row, &schedule);
 }
 
 #[test]
-fn histories_by_hand(rt: HostRuntime) -> Result<(), Fail> {
+fn histories_by_hand(rt: HostRuntime) {
     for row in &ROWS {
-        let schedule = schedule_of(rt.alloc(), row)?;
-        follow(&rt, rt.alloc(), row, &schedule)?;
+        follow_row(&rt, rt.alloc(), row);
     }
-    Ok(())
 }

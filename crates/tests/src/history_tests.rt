@@ -9,7 +9,6 @@ use reach_certificate::{Checker, best_set};
 use sched_core::Core;
 use std::alloc::{AllocError, Global};
 use std::process::Abort;
-use std::test::Fail;
 use task_set::{Event, TaskSet};
 use trace_reader::Input;
 
@@ -21,33 +20,32 @@ fn add_ready(
     t: u32,
     set: &mut TaskSet,
     numbers: &mut Vec<u32>,
-) -> Result<(), Fail> {
+) {
     assert!(rt; t < links.len());
     let mask = links.effective(t);
     if links.is_ready(t) && !mask.is_empty() {
-        let name = format!(in alloc; "t{t}")?;
-        set.add(&name, links.priority(t), mask)?;
-        numbers.push(t)?;
+        let name = format!(in alloc; "t{t}").expect(rt, "memory");
+        assert!(rt; set.add(&name, links.priority(t), mask).is_ok());
+        assert!(rt; numbers.push(t).is_ok());
     }
-    Ok(())
 }
 
 /// The ready tasks as a set of its own, in which each has its effective mask, and their numbers in the links.
-fn ready_tasks(rt: &impl Abort, alloc: Global, links: &Links) -> Result<(TaskSet, Vec<u32>), Fail> {
+fn ready_tasks(rt: &impl Abort, alloc: Global, links: &Links) -> (TaskSet, Vec<u32>) {
     assert!(rt; links.processors() > 0);
-    let mut set = TaskSet::new(alloc, links.processors())?;
+    let mut set = TaskSet::new(alloc, links.processors()).expect(rt, "memory");
     let mut numbers = Vec::new(alloc);
     for t in 0..links.len() {
-        add_ready(rt, alloc, links, t, &mut set, &mut numbers)?;
+        add_ready(rt, alloc, links, t, &mut set, &mut numbers);
     }
-    Ok((set, numbers))
+    (set, numbers)
 }
 
 /// The places in the set of the tasks that the greedy program takes.
-fn greedy(rt: &impl Abort, alloc: Global, set: &TaskSet) -> Result<Vec<u32>, Fail> {
-    let all: Vec<u32> = (0..set.len()).collect(alloc)?;
+fn greedy(rt: &impl Abort, alloc: Global, set: &TaskSet) -> Vec<u32> {
+    let all: Vec<u32> = (0..set.len()).collect(alloc).expect(rt, "memory");
     assert!(rt; all_below(&all, set.len()));
-    Ok(best_set(alloc, set, &all)?)
+    best_set(alloc, set, &all).expect(rt, "memory")
 }
 
 /// The numbers at these places.
@@ -73,24 +71,17 @@ fn linked_tasks(alloc: Global, links: &Links) -> Result<Vec<u32>, AllocError> {
 }
 
 /// The linked tasks are those that the greedy program takes of this set, where its tasks have these numbers.
-fn expect_linked(
-    rt: &impl Abort,
-    alloc: Global,
-    links: &Links,
-    set: &TaskSet,
-    numbers: &[u32],
-) -> Result<(), Fail> {
-    let places = greedy(rt, alloc, set)?;
-    let best = numbers_at(alloc, numbers, &places)?;
-    let linked = linked_tasks(alloc, links)?;
+fn expect_linked(rt: &impl Abort, alloc: Global, links: &Links, set: &TaskSet, numbers: &[u32]) {
+    let places = greedy(rt, alloc, set);
+    let best = numbers_at(alloc, numbers, &places).expect(rt, "memory");
+    let linked = linked_tasks(alloc, links).expect(rt, "memory");
     assert!(rt; linked.as_slice() == best.as_slice());
-    Ok(())
 }
 
 /// The linked tasks are those that the greedy program takes of the ready ones.
-fn expect_greedy(rt: &impl Abort, alloc: Global, links: &Links) -> Result<(), Fail> {
-    let (set, numbers) = ready_tasks(rt, alloc, links)?;
-    expect_linked(rt, alloc, links, &set, &numbers)
+fn expect_greedy(rt: &impl Abort, alloc: Global, links: &Links) {
+    let (set, numbers) = ready_tasks(rt, alloc, links);
+    expect_linked(rt, alloc, links, &set, &numbers);
 }
 
 /// The change of this number: a task gets the mask of another one, or a processor goes off line or comes back.
@@ -159,31 +150,25 @@ fn follow(
     checker: &mut Checker,
     event: Event,
     reached: &mut Reached,
-) -> Result<(), Fail> {
+) {
     step(rt, core, checker, event, reached);
-    expect_greedy(rt, alloc, core.links())?;
+    expect_greedy(rt, alloc, core.links());
     compare_links(rt, core.links());
     if core.history().len() % 50 == 0 {
         compare_all_searches(rt, core.links());
     }
-    Ok(())
 }
 
 /// The events of an input, with a change after each where they are wanted.
-fn events_of(
-    rt: &impl Abort,
-    alloc: Global,
-    input: &Input,
-    changes: bool,
-) -> Result<Vec<Event>, Fail> {
+fn events_of(rt: &impl Abort, alloc: Global, input: &Input, changes: bool) -> Vec<Event> {
     let mut events = Vec::new(alloc);
     for (posted, number) in input.events().iter().zip(0u32..20_000) {
-        events.push(posted.event)?;
+        assert!(rt; events.push(posted.event).is_ok());
         if changes {
-            events.push(change_of(rt, input.set(), number))?;
+            assert!(rt; events.push(change_of(rt, input.set(), number)).is_ok());
         }
     }
-    Ok(events)
+    events
 }
 
 /// Follows events.
@@ -194,11 +179,23 @@ fn follow_all(
     checker: &mut Checker,
     events: &[Event],
     reached: &mut Reached,
-) -> Result<(), Fail> {
+) {
     for event in events {
-        follow(rt, alloc, core, checker, *event, reached)?;
+        follow(rt, alloc, core, checker, *event, reached);
     }
-    Ok(())
+}
+
+/// Follows the events with a new core and this checker.
+fn follow_beside(
+    rt: &impl Abort,
+    alloc: Global,
+    set: &TaskSet,
+    checker: &mut Checker,
+    events: &[Event],
+    reached: &mut Reached,
+) {
+    let mut core = Core::new(alloc, set).expect(rt, "memory");
+    follow_all(rt, alloc, &mut core, checker, events, reached);
 }
 
 /// Follows the events with a new core and a new checker.
@@ -208,10 +205,9 @@ fn follow_anew(
     set: &TaskSet,
     events: &[Event],
     reached: &mut Reached,
-) -> Result<(), Fail> {
-    let mut checker = Checker::new(alloc, set)?;
-    let mut core = Core::new(alloc, set)?;
-    follow_all(rt, alloc, &mut core, &mut checker, events, reached)
+) {
+    let mut checker = Checker::new(alloc, set).expect(rt, "memory");
+    follow_beside(rt, alloc, set, &mut checker, events, reached);
 }
 
 /// Follows an input, with changes if they are wanted.
@@ -221,9 +217,9 @@ fn follow_input(
     input: &Input,
     changes: bool,
     reached: &mut Reached,
-) -> Result<(), Fail> {
-    let events = events_of(rt, alloc, input, changes)?;
-    follow_anew(rt, alloc, input.set(), &events, reached)
+) {
+    let events = events_of(rt, alloc, input, changes);
+    follow_anew(rt, alloc, input.set(), &events, reached);
 }
 
 /// Each kind of reply came.
@@ -232,17 +228,21 @@ fn expect_reached(rt: &impl Abort, reached: &Reached) {
 }
 
 #[test]
-fn generated_histories(rt: HostRuntime) -> Result<(), Fail> {
+fn generated_histories(rt: HostRuntime) {
     let mut reached = [false; 15];
     for number in 0u64..30 {
-        let input = make_input(rt.alloc(), number / 2, 6, 10, 60)?;
-        follow_input(&rt, rt.alloc(), &input, number % 2 == 1, &mut reached)?;
+        follow_made(&rt, rt.alloc(), number, &mut reached);
     }
     expect_reached(&rt, &reached);
-    Ok(())
 }
 
-/// Follows the events of an input, and compares the searches in the end.
+/// Follows a generated input; each is followed without changes and with them.
+fn follow_made(rt: &impl Abort, alloc: Global, number: u64, reached: &mut Reached) {
+    let input = make_input(alloc, number / 2, 6, 10, 60).expect(rt, "memory");
+    follow_input(rt, alloc, &input, number % 2 == 1, reached);
+}
+
+/// Follows the events of an input with a core, and compares the searches in the end.
 fn search_at_the_end(rt: &impl Abort, core: &mut Core, input: &Input) {
     for posted in input.events() {
         assert!(rt; is_event_for(core.links(), &posted.event));
@@ -253,9 +253,13 @@ fn search_at_the_end(rt: &impl Abort, core: &mut Core, input: &Input) {
 }
 
 #[test]
-fn searches_over_all_processors(rt: HostRuntime) -> Result<(), Fail> {
-    let input = make_input(rt.alloc(), 2, 64, 80, 200)?;
-    let mut core = Core::new(rt.alloc(), input.set())?;
-    search_at_the_end(&rt, &mut core, &input);
-    Ok(())
+fn searches_over_all_processors(rt: HostRuntime) {
+    let input = make_input(rt.alloc(), 2, 64, 80, 200).expect(&rt, "memory");
+    search_over(&rt, rt.alloc(), &input);
+}
+
+/// Follows the events of an input with a new core, and compares the searches in the end.
+fn search_over(rt: &impl Abort, alloc: Global, input: &Input) {
+    let mut core = Core::new(alloc, input.set()).expect(rt, "memory");
+    search_at_the_end(rt, &mut core, input);
 }

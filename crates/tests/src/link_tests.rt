@@ -3,7 +3,6 @@ use crate::stated::{absent, chain_of, enter, set_of, state_of};
 use affinity_mask::ProcSet;
 use link_table::Links;
 use std::process::Abort;
-use std::test::Fail;
 
 /// A task that is shifted, the chain, whom that puts out, and who is on the two processors then.
 static MOVES: [(u32, &str, Option<u32>, [Option<u32>; 2]); 3] = [
@@ -33,10 +32,9 @@ fn move_all(rt: &impl Abort, links: &mut Links) {
 }
 
 #[test]
-fn tasks_move_along_chains(rt: HostRuntime) -> Result<(), Fail> {
-    let mut links = absent(&rt, rt.alloc(), 2, "1:0-1 3:0 2:1")?;
+fn tasks_move_along_chains(rt: HostRuntime) {
+    let mut links = absent(&rt, rt.alloc(), 2, "1:0-1 3:0 2:1");
     move_all(&rt, &mut links);
-    Ok(())
 }
 
 /// A set of two processors, and the most urgent one of those who wait for a processor of it.
@@ -89,13 +87,12 @@ fn ask_who_left(rt: &impl Abort, links: &Links) {
 }
 
 #[test]
-fn two_wait_for_two_processors(rt: HostRuntime) -> Result<(), Fail> {
-    let mut links = state_of(&rt, rt.alloc(), 2, "-", "0@0 0-1@1 1@- 0@-")?;
+fn two_wait_for_two_processors(rt: HostRuntime) {
+    let mut links = state_of(&rt, rt.alloc(), 2, "-", "0@0 0-1@1 1@- 0@-");
     ask_who_waits(&rt, &links);
     leave_first(&rt, &mut links);
     unlink_second(&rt, &mut links);
     ask_who_left(&rt, &links);
-    Ok(())
 }
 
 /// The task waits for no processor, until its processor comes on line.
@@ -110,8 +107,7 @@ fn wait_for_the_processor(rt: &impl Abort, links: &mut Links) {
 }
 
 #[test]
-fn a_task_waits_for_no_processor(rt: HostRuntime) -> Result<(), Fail> {
-    let mut links = state_of(&rt, rt.alloc(), 2, "1", "1@-")?;
+fn a_task_waits_for_no_processor(rt: HostRuntime) {
+    let mut links = state_of(&rt, rt.alloc(), 2, "1", "1@-");
     wait_for_the_processor(&rt, &mut links);
-    Ok(())
 }

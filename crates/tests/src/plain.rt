@@ -81,19 +81,24 @@ fn plain_path(
 fn compare_searches(rt: &impl Abort, links: &Links, t: u32, p: u8) {
     assert!(rt; t < links.len() && p < links.processors() && p < 64);
     let (m, mask, here) = (links.processors(), links.effective(t), ProcSet::one(p));
-    assert_eq!(rt; reach(links, t), plain_ends(links, false, mask));
-    assert_eq!(rt; back_set(links, p), plain_ends(links, true, here));
     assert_eq!(rt;
-        chain_to(links, t, p),
-        plain_path(links, false, mask, here, m)
+        [reach(links, t), back_set(links, p)],
+        [
+            plain_ends(links, false, mask),
+            plain_ends(links, true, here)
+        ]
     );
     assert_eq!(rt;
-        chain_to_idle(links, t),
-        plain_path(links, false, mask, links.idle(), m)
-    );
-    assert_eq!(rt;
-        back_chain(links, t, p),
-        plain_path(links, true, here, mask, m)
+        [
+            chain_to(links, t, p),
+            chain_to_idle(links, t),
+            back_chain(links, t, p)
+        ],
+        [
+            plain_path(links, false, mask, here, m),
+            plain_path(links, false, mask, links.idle(), m),
+            plain_path(links, true, here, mask, m)
+        ]
     );
 }
 

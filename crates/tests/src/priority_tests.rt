@@ -2,7 +2,6 @@
 use crate::stated::{set_of, state_of};
 use link_table::Links;
 use std::process::Abort;
-use std::test::Fail;
 
 /// A task and its new priority, and the tasks that processor 0, processor 1 and both together get then.
 static CHANGES: [(u32, u32, [u32; 3]); 4] = [
@@ -58,11 +57,10 @@ fn exchange_last(rt: &impl Abort, links: &mut Links) {
 }
 
 #[test]
-fn waiting_tasks_change_places(rt: HostRuntime) -> Result<(), Fail> {
+fn waiting_tasks_change_places(rt: HostRuntime) {
     let tasks = "10:0-1@0 20:0@- 30:0-1@- 40:1@- 50:0-1@- 60:1@1";
-    let mut links = state_of(&rt, rt.alloc(), 2, "-", tasks)?;
+    let mut links = state_of(&rt, rt.alloc(), 2, "-", tasks);
     assert_eq!(rt; first_in(&rt, &links), [Some(1), Some(2), Some(1)]);
     change_all(&rt, &mut links);
     exchange_last(&rt, &mut links);
-    Ok(())
 }

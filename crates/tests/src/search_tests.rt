@@ -4,7 +4,6 @@ use link_table::Links;
 use path_search::{back_chain, back_set, chain_to, chain_to_idle, reach};
 use std::alloc::{AllocError, Global};
 use std::process::Abort;
-use std::test::Fail;
 
 /// How many processors there are, the tasks, a task, a processor, and what the calls say of these: what the task reaches, its
 /// least chain to an idle processor and to the processor, what back chains to the processor lead back to, and the least one
@@ -65,35 +64,38 @@ static ROWS: [Row; 10] = [
 fn compare(rt: &impl Abort, links: &Links, t: u32, p: u8, answers: &[&str; 5]) {
     let [ends, to_idle, to_p, back, back_by] = answers;
     assert!(rt; t < links.len() && p < links.processors());
-    assert_eq!(rt; reach(links, t), set_of(rt, ends), "{answers:?}");
     assert_eq!(rt;
-        chain_to_idle(links, t),
-        chain_of(rt, to_idle),
+        [reach(links, t), back_set(links, p)],
+        [set_of(rt, ends), set_of(rt, back)],
         "{answers:?}"
     );
-    assert_eq!(rt; chain_to(links, t, p), chain_of(rt, to_p), "{answers:?}");
-    assert_eq!(rt; back_set(links, p), set_of(rt, back), "{answers:?}");
     assert_eq!(rt;
-        back_chain(links, t, p),
-        chain_of(rt, back_by),
+        [
+            chain_to_idle(links, t),
+            chain_to(links, t, p),
+            back_chain(links, t, p)
+        ],
+        [
+            chain_of(rt, to_idle),
+            chain_of(rt, to_p),
+            chain_of(rt, back_by)
+        ],
         "{answers:?}"
     );
 }
 
 /// Compares the answers to a row.
-fn compare_row(rt: &impl Abort, alloc: Global, row: &Row) -> Result<(), Fail> {
+fn compare_row(rt: &impl Abort, alloc: Global, row: &Row) {
     let (processors, tasks, t, p, answers) = row;
-    let links = state_of(rt, alloc, *processors, "-", tasks)?;
+    let links = state_of(rt, alloc, *processors, "-", tasks);
     compare(rt, &links, *t, *p, answers);
-    Ok(())
 }
 
 #[test]
-fn searches_by_calls(rt: HostRuntime) -> Result<(), Fail> {
+fn searches_by_calls(rt: HostRuntime) {
     for row in &ROWS {
-        compare_row(&rt, rt.alloc(), row)?;
+        compare_row(&rt, rt.alloc(), row);
     }
-    Ok(())
 }
 
 /// Tasks that may move on by one processor, each on that of its number, and one that may run on the first alone.
@@ -106,36 +108,38 @@ fn stairs(alloc: Global) -> Result<String, AllocError> {
     Ok(tasks)
 }
 
-/// All processors, from the first to the last and back.
-fn all_processors(alloc: Global) -> Result<(String, String), AllocError> {
-    let (mut onward, mut back) = (String::new(alloc), String::new(alloc));
+/// All processors, from the first to the last.
+fn all_processors(alloc: Global) -> Result<String, AllocError> {
+    let mut onward = String::new(alloc);
     for p in 0u32..63 {
         write!(onward, "{p}>")?;
-        write!(back, "{}>", 63 - p)?;
     }
     write!(onward, "63")?;
+    Ok(onward)
+}
+
+/// All processors, from the last to the first.
+fn all_back(alloc: Global) -> Result<String, AllocError> {
+    let mut back = String::new(alloc);
+    for p in 0u32..63 {
+        write!(back, "{}>", 63 - p)?;
+    }
     write!(back, "0")?;
-    Ok((onward, back))
+    Ok(back)
 }
 
 /// Each processor but the last is occupied, and its task may move on by one.
 #[test]
-fn the_longest_chain(rt: HostRuntime) -> Result<(), Fail> {
-    let (onward, back) = all_processors(rt.alloc())?;
-    let tasks = stairs(rt.alloc())?;
-    let links = state_of(&rt, rt.alloc(), 64, "-", &tasks)?;
-    compare(
-        &rt,
-        &links,
-        63,
-        63,
-        &[
-            "0-63",
-            onward.as_str(),
-            onward.as_str(),
-            "0-63",
-            back.as_str(),
-        ],
-    );
-    Ok(())
+fn the_longest_chain(rt: HostRuntime) {
+    let tasks = stairs(rt.alloc()).expect(&rt, "memory");
+    let links = state_of(&rt, rt.alloc(), 64, "-", &tasks);
+    compare_longest(&rt, rt.alloc(), &links);
+}
+
+/// Compares the answers to the last task and the last processor of all.
+fn compare_longest(rt: &impl Abort, alloc: Global, links: &Links) {
+    let onward = all_processors(alloc).expect(rt, "memory");
+    let back = all_back(alloc).expect(rt, "memory");
+    let (onward, back) = (onward.as_str(), back.as_str());
+    compare(rt, links, 63, 63, &["0-63", onward, onward, "0-63", back]);
 }

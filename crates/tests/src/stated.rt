@@ -8,7 +8,6 @@ use affinity_mask::ProcSet;
 use link_table::{Chain, Links};
 use std::alloc::Global;
 use std::process::Abort;
-use std::test::Fail;
 use task_set::{Event, TaskSet};
 
 /// The set of a processor list; `-` is the empty one.
@@ -34,54 +33,37 @@ pub(crate) fn chain_of(rt: &impl Abort, text: &str) -> Option<Chain> {
 }
 
 /// Adds the task of a text, named by a letter and its number.
-fn add_task(rt: &impl Abort, alloc: Global, set: &mut TaskSet, text: &str) -> Result<(), Fail> {
+fn add_task(rt: &impl Abort, alloc: Global, set: &mut TaskSet, text: &str) {
     let number = set.len();
     let (task, _chain) = text.split_once('@').unwrap_or((text, ""));
     let (priority, mask) = task.split_once(':').unwrap_or(("", task));
-    let name = format!(in alloc; "t{number}")?;
-    set.add(
-        &name,
-        priority.parse::<u32>().unwrap_or(number),
-        set_of(rt, mask),
-    )?;
-    Ok(())
+    let priority = priority.parse::<u32>().unwrap_or(number);
+    let name = format!(in alloc; "t{number}").expect(rt, "memory");
+    assert!(rt;
+        set.add(&name, priority, set_of(rt, mask)).is_ok(),
+        "at {text}"
+    );
 }
 
 /// Adds the tasks of a text.
-fn add_tasks(rt: &impl Abort, alloc: Global, set: &mut TaskSet, tasks: &str) -> Result<(), Fail> {
+fn add_tasks(rt: &impl Abort, alloc: Global, set: &mut TaskSet, tasks: &str) {
     for text in tasks.split(' ') {
-        add_task(rt, alloc, set, text)?;
+        add_task(rt, alloc, set, text);
     }
-    Ok(())
 }
 
 /// The set of the tasks of a text.
-pub(crate) fn tasks_of(
-    rt: &impl Abort,
-    alloc: Global,
-    processors: u8,
-    tasks: &str,
-) -> Result<TaskSet, Fail> {
+pub(crate) fn tasks_of(rt: &impl Abort, alloc: Global, processors: u8, tasks: &str) -> TaskSet {
     assert!(rt; 1 <= processors && processors <= 64);
-    let mut set = TaskSet::new(alloc, processors)?;
-    add_tasks(rt, alloc, &mut set, tasks)?;
-    Ok(set)
-}
-
-/// The links of a set, whose tasks are absent.
-fn links_over(alloc: Global, set: &TaskSet) -> Result<Links, Fail> {
-    Ok(Links::new(alloc, set)?)
+    let mut set = TaskSet::new(alloc, processors).expect(rt, "memory");
+    add_tasks(rt, alloc, &mut set, tasks);
+    set
 }
 
 /// The links of the tasks of a text, which are absent.
-pub(crate) fn absent(
-    rt: &impl Abort,
-    alloc: Global,
-    processors: u8,
-    tasks: &str,
-) -> Result<Links, Fail> {
-    let set = tasks_of(rt, alloc, processors, tasks)?;
-    links_over(alloc, &set)
+pub(crate) fn absent(rt: &impl Abort, alloc: Global, processors: u8, tasks: &str) -> Links {
+    let set = tasks_of(rt, alloc, processors, tasks);
+    Links::new(alloc, &set).expect(rt, "memory")
 }
 
 /// Whether the list is a chain of the task.
@@ -168,11 +150,11 @@ pub(crate) fn state_of(
     processors: u8,
     off: &str,
     tasks: &str,
-) -> Result<Links, Fail> {
-    let mut links = absent(rt, alloc, processors, tasks)?;
+) -> Links {
+    let mut links = absent(rt, alloc, processors, tasks);
     go_off(rt, &mut links, set_of(rt, off));
     begin_all(rt, &mut links, tasks);
-    Ok(links)
+    links
 }
 
 /// Whether the task, the mask and the processor of the event are of these links.

@@ -4,31 +4,30 @@ use std::alloc::Global;
 use std::io;
 use std::io::{ErrorKind, Read, Write};
 use std::process::Abort;
-use std::test::Fail;
 
 /// A whole read of three bytes, with room for just these or for fewer.
 #[test]
-fn read_all_limit(rt: HostRuntime) -> Result<(), Fail> {
-    let mut source = SoundSource::new(b"abc".to_vec(rt.alloc())?);
-    let bytes = read_all(rt.alloc(), &mut source, 3)?;
+fn read_all_limit(rt: HostRuntime) {
+    let bytes = read_within(&rt, rt.alloc(), 3).expect(&rt, "three bytes");
     assert_eq!(rt; bytes.as_slice(), b"abc".as_slice());
-    let mut source = SoundSource::new(b"abc".to_vec(rt.alloc())?);
-    assert_eq!(rt;
-        read_all(rt.alloc(), &mut source, 2).err(),
-        Some(ReadAllFault::TooLong)
-    );
-    Ok(())
+    let fault = read_within(&rt, rt.alloc(), 2).err();
+    assert_eq!(rt; fault, Some(ReadAllFault::TooLong));
+}
+
+/// A whole read of three bytes, with room for so many.
+fn read_within(rt: &impl Abort, alloc: Global, most: u8) -> Result<Vec<u8>, ReadAllFault> {
+    let mut source = SoundSource::new(b"abc".to_vec(alloc).expect(rt, "memory"));
+    read_all(alloc, &mut source, usize::from(most))
 }
 
 /// What is read of three bytes and written again is the same.
 #[test]
-fn std_streams(rt: HostRuntime) -> Result<(), Fail> {
+fn std_streams(rt: HostRuntime) {
     let mut source = StdSource::new(b"abc".as_slice());
-    let bytes = read_all(rt.alloc(), &mut source, 3)?;
+    let bytes = read_all(rt.alloc(), &mut source, 3).expect(&rt, "three bytes");
     let mut written = Vec::new(rt.alloc());
-    put_all(&mut StdSink::new(&mut written), &bytes)?;
+    assert!(rt; put_all(&mut StdSink::new(&mut written), &bytes).is_ok());
     assert_eq!(rt; written.as_slice(), b"abc".as_slice());
-    Ok(())
 }
 
 /// What a reader gives and a writer takes here.
@@ -57,34 +56,27 @@ impl Read for OneFaultReader<'_> {
 }
 
 /// A whole read ends at its failed read, and the next whole read gives what is left then.
-fn expect_failed_read(
-    rt: &impl Abort,
-    alloc: Global,
-    reader: &mut OneFaultReader,
-    left: &[u8],
-) -> Result<(), Fail> {
+fn expect_failed_read(rt: &impl Abort, alloc: Global, reader: &mut OneFaultReader, left: &[u8]) {
     let fails_at = reader.fails_at;
     let first = read_all(alloc, &mut StdSource::new(&mut *reader), 5);
     assert_eq!(rt; first.err(), Some(ReadAllFault::ReadFault), "at {fails_at}");
     assert_eq!(rt; reader.reads, fails_at);
-    let bytes = read_all(alloc, &mut StdSource::new(&mut *reader), 5)?;
+    let bytes = read_all(alloc, &mut StdSource::new(&mut *reader), 5).expect(rt, "what is left");
     assert_eq!(rt; bytes.as_slice(), left, "at {fails_at}");
-    Ok(())
 }
 
 /// Three reads give the text, and the fourth finds its end. The failed one is the last of a whole
 /// read, also where it was interrupted.
 #[test]
-fn a_failed_read_is_not_tried_again(rt: HostRuntime) -> Result<(), Fail> {
+fn a_failed_read_is_not_tried_again(rt: HostRuntime) {
     for (fails_at, left) in [(1, TEXT), (2, b"cde"), (3, b"e"), (4, b"")] {
         let mut reader = OneFaultReader {
             left: TEXT,
             fails_at,
             reads: 0,
         };
-        expect_failed_read(&rt, rt.alloc(), &mut reader, left)?;
+        expect_failed_read(&rt, rt.alloc(), &mut reader, left);
     }
-    Ok(())
 }
 
 /// A writer that counts its calls. The write and the flush of these numbers, from 1, fail.
@@ -153,10 +145,13 @@ const FAILED_PUTS: [([u32; 2], bool, (u32, u32, usize), (u32, u32, usize)); 7] =
 fn a_failed_write_or_flush_is_not_tried_again(rt: HostRuntime) {
     for (fails, is_fault, calls, later) in FAILED_PUTS {
         let mut writer = CountedWriter::new(fails);
-        assert_eq!(rt; put_fails(&mut writer), is_fault, "{fails:?}");
-        assert_eq!(rt; writer.calls(), calls, "{fails:?}");
-        assert!(rt; !put_fails(&mut writer), "{fails:?}");
-        assert_eq!(rt; writer.calls(), later, "{fails:?}");
+        let first = (put_fails(&mut writer), writer.calls());
+        let next = (put_fails(&mut writer), writer.calls());
+        assert_eq!(rt;
+            [first, next],
+            [(is_fault, calls), (false, later)],
+            "{fails:?}"
+        );
     }
 }
 

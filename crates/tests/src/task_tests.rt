@@ -6,7 +6,6 @@ use scheduler_reply::{Chain, Entry, Reply};
 use std::alloc::{AllocError, Global};
 use std::process::Abort;
 use std::str;
-use std::test::Fail;
 use task_set::{Event, MAX_TASKS, TaskFault, TaskSet};
 use text_fields::{is_word, read_number, task_of, write_number};
 
@@ -71,20 +70,18 @@ fn find_all(rt: &impl Abort, set: &TaskSet) {
 }
 
 #[test]
-fn tasks_by_calls(rt: HostRuntime) -> Result<(), Fail> {
-    let mut set = TaskSet::new(rt.alloc(), 2)?;
+fn tasks_by_calls(rt: HostRuntime) {
+    let mut set = TaskSet::new(rt.alloc(), 2).expect(&rt, "memory");
     add_all(&rt, &mut set);
     find_all(&rt, &set);
-    Ok(())
 }
 
 /// Adds as many tasks as a set may have.
-fn fill(rt: &impl Abort, alloc: Global, set: &mut TaskSet) -> Result<(), Fail> {
+fn fill(rt: &impl Abort, alloc: Global, set: &mut TaskSet) {
     for t in 0..MAX_TASKS as u32 {
-        let name = format!(in alloc; "t{t}")?;
+        let name = format!(in alloc; "t{t}").expect(rt, "memory");
         assert_eq!(rt; set.add(&name, t, ProcSet::one(0)), Ok(t));
     }
-    Ok(())
 }
 
 /// Tasks that a full set refuses: a name, a priority, and why.
@@ -106,11 +103,10 @@ fn is_full(rt: &impl Abort, set: &mut TaskSet) {
 }
 
 #[test]
-fn full_set_refuses(rt: HostRuntime) -> Result<(), Fail> {
-    let mut set = TaskSet::new(rt.alloc(), 1)?;
-    fill(&rt, rt.alloc(), &mut set)?;
+fn full_set_refuses(rt: HostRuntime) {
+    let mut set = TaskSet::new(rt.alloc(), 1).expect(&rt, "memory");
+    fill(&rt, rt.alloc(), &mut set);
     is_full(&rt, &mut set);
-    Ok(())
 }
 
 /// Fields, each with bounds and the number that it is read as.
@@ -150,17 +146,16 @@ fn numbers_are_read(rt: HostRuntime) {
 }
 
 #[test]
-fn numbers_are_written(rt: HostRuntime) -> Result<(), Fail> {
+fn numbers_are_written(rt: HostRuntime) {
     let mut text = Vec::new(rt.alloc());
     for number in [0, 63, 4294967295, u64::MAX] {
-        write_number(&mut text, number)?;
-        text.push(b' ')?;
+        assert!(rt; write_number(&mut text, number).is_ok());
+        assert!(rt; text.push(b' ').is_ok());
     }
     assert_eq!(rt;
         str::from_utf8(&text),
         Ok("0 63 4294967295 18446744073709551615 ")
     );
-    Ok(())
 }
 
 #[test]
@@ -225,28 +220,33 @@ fn told_of_cores(alloc: Global) -> Result<String, AllocError> {
     format!(in alloc; "{closed}\n{full}\n{memory}\n{OutOfMemory}\n")
 }
 
+/// The sentences are these.
+fn expect_told(rt: &impl Abort, told: Result<String, AllocError>, expected: &str) {
+    let told = told.expect(rt, "memory");
+    assert_eq!(rt; told.as_str(), expected);
+}
+
 #[test]
-fn faults_are_told_in_words(rt: HostRuntime) -> Result<(), Fail> {
+fn faults_are_told_in_words(rt: HostRuntime) {
     assert_eq!(rt; refused(), Err(OutOfMemory));
     assert_eq!(rt; TextKind::OutOfMemory.number(), None);
-    let told = told_of_lists(rt.alloc())?;
-    assert_eq!(rt;
-        told.as_str(),
+    expect_told(
+        &rt,
+        told_of_lists(rt.alloc()),
         "the processor list has no bytes\n\
 at 2 stands no number and no range of numbers\n\
-the range at 0 begins above its end\nthe item at 7 has a number above 63\n"
+the range at 0 begins above its end\nthe item at 7 has a number above 63\n",
     );
-    let told = told_of_tasks(rt.alloc())?;
-    assert_eq!(rt;
-        told.as_str(),
+    expect_told(
+        &rt,
+        told_of_tasks(rt.alloc()),
         "the text is no name of a task\nthe set of tasks is full\n\
 task 3 has the name\ntask 4 has the priority\nthe mask has no processor\n\
-the mask has processor 9, which is not there\nout of memory\n"
+the mask has processor 9, which is not there\nout of memory\n",
     );
-    let told = told_of_cores(rt.alloc())?;
-    assert_eq!(rt;
-        told.as_str(),
-        "the core is closed\nthe history is full\nout of memory\nout of memory\n"
+    expect_told(
+        &rt,
+        told_of_cores(rt.alloc()),
+        "the core is closed\nthe history is full\nout of memory\nout of memory\n",
     );
-    Ok(())
 }

@@ -1,10 +1,9 @@
 //! Texts that are read and written back, and what no status tells of the faults of texts.
 use affinity_mask::MaskFault;
 use schedule_text::{Schedule, TextFault, TextKind, read_schedule, write_schedule};
-use std::alloc::Global;
+use std::alloc::{AllocError, Global};
 use std::process::Abort;
 use std::str;
-use std::test::Fail;
 use task_set::TaskFault;
 use trace_reader::{InputFault, InputKind, read_input, write_input};
 
@@ -29,18 +28,17 @@ static INPUTS: [(&str, &str); 5] = [
 ];
 
 /// The text that is written for the input of this one.
-fn written_input(alloc: Global, text: &str) -> Result<Vec<u8>, Fail> {
-    let input = read_input(alloc, text.as_bytes())?;
-    Ok(write_input(alloc, &input)?)
+fn written_input(rt: &impl Abort, alloc: Global, text: &str) -> Vec<u8> {
+    let input = read_input(alloc, text.as_bytes()).expect(rt, "an input");
+    write_input(alloc, &input).expect(rt, "memory")
 }
 
 #[test]
-fn inputs_are_written(rt: HostRuntime) -> Result<(), Fail> {
+fn inputs_are_written(rt: HostRuntime) {
     for (text, want) in &INPUTS {
-        let written = written_input(rt.alloc(), text)?;
+        let written = written_input(&rt, rt.alloc(), text);
         assert_eq!(rt; str::from_utf8(&written), Ok(*want));
     }
-    Ok(())
 }
 
 /// Lines after those of the smallest input's processors, each with the kind of its fault.
@@ -98,20 +96,19 @@ fn input_fault(alloc: Global, text: &str) -> Option<InputFault> {
 }
 
 #[test]
-fn faults_of_inputs(rt: HostRuntime) -> Result<(), Fail> {
+fn faults_of_inputs(rt: HostRuntime) {
     for (lines, line, kind) in &INPUT_FAULTS {
-        let text = format!(in rt.alloc(); "apa 2\n{lines}\n")?;
+        let text = format!(in rt.alloc(); "apa 2\n{lines}\n").expect(&rt, "memory");
         let fault = InputFault {
             line: *line,
             kind: *kind,
         };
         assert_eq!(rt; input_fault(rt.alloc(), &text), Some(fault), "at {lines:?}");
     }
-    Ok(())
 }
 
 /// A text with one event more than an input may have, of which the last one has a fault of its own.
-fn long_text(alloc: Global) -> Result<String, Fail> {
+fn long_text(alloc: Global) -> Result<String, AllocError> {
     let mut text = String::from_str(alloc, "apa 2\nprocessors 2\ntask a 1 0\n")?;
     for _ in 0..20_000 {
         text.push_str("0 tick 1\n")?;
@@ -121,14 +118,13 @@ fn long_text(alloc: Global) -> Result<String, Fail> {
 }
 
 #[test]
-fn one_event_too_many(rt: HostRuntime) -> Result<(), Fail> {
-    let text = long_text(rt.alloc())?;
+fn one_event_too_many(rt: HostRuntime) {
+    let text = long_text(rt.alloc()).expect(&rt, "memory");
     let (line, kind) = (20_004, InputKind::ManyEvents);
     assert_eq!(rt;
         input_fault(rt.alloc(), &text),
         Some(InputFault { line, kind })
     );
-    Ok(())
 }
 
 /// Texts of schedules with each kind of event and of reply, of tasks some of which have words of the format as names.
@@ -199,26 +195,24 @@ end\n",
 ];
 
 /// The text of a schedule.
-fn written_schedule(alloc: Global, schedule: &Schedule) -> Result<Vec<u8>, Fail> {
+fn written_schedule(rt: &impl Abort, alloc: Global, schedule: &Schedule) -> Vec<u8> {
     let (set, entries, contexts) = (schedule.set(), schedule.entries(), schedule.contexts());
-    Ok(write_schedule(alloc, schedule.version(), set, entries, contexts)?)
+    write_schedule(alloc, schedule.version(), set, entries, contexts).expect(rt, "memory")
 }
 
 /// What is read from a text is of this version, and is written as this text.
-fn expect_round_trip(rt: &impl Abort, alloc: Global, version: u8, text: &str) -> Result<(), Fail> {
-    let schedule = read_schedule(alloc, text.as_bytes())?;
+fn expect_round_trip(rt: &impl Abort, alloc: Global, version: u8, text: &str) {
+    let schedule = read_schedule(alloc, text.as_bytes()).expect(rt, "a schedule");
     assert_eq!(rt; schedule.version(), version);
-    let written = written_schedule(alloc, &schedule)?;
+    let written = written_schedule(rt, alloc, &schedule);
     assert_eq!(rt; str::from_utf8(&written), Ok(text));
-    Ok(())
 }
 
 #[test]
-fn schedules_are_written(rt: HostRuntime) -> Result<(), Fail> {
+fn schedules_are_written(rt: HostRuntime) {
     for (version, text) in &SCHEDULES {
-        expect_round_trip(&rt, rt.alloc(), *version, text)?;
+        expect_round_trip(&rt, rt.alloc(), *version, text);
     }
-    Ok(())
 }
 
 /// Texts of schedules with a task that is refused, its line and why.
