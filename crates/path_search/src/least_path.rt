@@ -12,7 +12,8 @@ use affinity_mask::ProcSet;
 use link_table::{Chain, Links};
 
 /// The least path from one set of processors into another. `None` just where none leads there. Where the two sets meet,
-/// it is their least common processor, and no levels are searched.
+/// it is their least common processor, and no levels are searched. Most paths are such, so each caller has this part for itself.
+#[inline(always)]
 pub fn least_path(
     links: &Links,
     direction: Direction,
@@ -28,12 +29,7 @@ pub fn least_path(
     if target.is_empty() {
         return None;
     }
-    let mut levels = Levels::new();
-    if levels_to(links, direction.opposite(), target, &start, &mut levels) {
-        Some(path_by(links, direction, start, target, &levels))
-    } else {
-        None
-    }
+    path_through_levels(links, direction, start, target)
 }
 
 /// The list of one processor.
@@ -44,6 +40,25 @@ fn chain_of_one(p: u8) -> Chain
     let mut chain = Chain::new();
     chain.push(p);
     chain
+}
+
+/// The least path from one set of processors into another, by the levels. `None` just where none leads there.
+#[inline(never)]
+fn path_through_levels(
+    links: &Links,
+    direction: Direction,
+    start: ProcSet,
+    target: ProcSet,
+) -> Option<Chain>
+    requires { (p : ℕ) → IsTrue (has target p) → p < links.now.processors }
+    ensures { IsLeastIfAny (LeadsInto (Steps links.now direction) start target) result }
+{
+    let mut levels = Levels::new();
+    if levels_to(links, direction.opposite(), target, &start, &mut levels) {
+        Some(path_by(links, direction, start, target, &levels))
+    } else {
+        None
+    }
 }
 
 /// The least path into a target, from which levels go against the direction up to the first one that meets the start.

@@ -1,11 +1,8 @@
 use Rattle.std.proofs.Common.{ℕ, List, sym, subst}
 use Rattle.affinity_mask.proofs.Meetings.{no_member}
 use Rattle.link_state.specs.Chain.{IsLeastSuch}
-use Rattle.path_search.specs.declared.direction.Direction.{Direction}
-use Rattle.path_search.specs.Levels.{IsOutOfReach}
-use Rattle.path_search.specs.Paths.{Steps, LeadsInto, opposite_of}
+use Rattle.path_search.specs.Paths.{Steps, LeadsInto}
 use Rattle.path_search.proofs.LeastPaths.{least_one}
-use Rattle.path_search.proofs.Remaining.{none_there, turn, turn_back}
 use Rattle.path_search.proofs.least_path.least_path.Goals as goal
 
 pub returns-then-is_empty : goal.returns-then-is_empty
@@ -16,8 +13,3 @@ returns-in-Some c =
     let Step = Steps c.args.links.now c.args.direction in
     subst (λ (path : List ℕ). IsLeastSuch (LeadsInto Step c.args.start c.args.target) path) (sym c.chain_of_one.ensures)
     (least_one Step c.args.start c.args.target c.both.result c.both.ensures.contents c.in-Some.p c.in-Some.ensures.least)
-
-pub returns-else-levels_to : goal.returns-else-levels_to
-returns-else-levels_to c =
-    none_there (Steps c.args.links.now c.args.direction) (Steps c.args.links.now (opposite_of c.args.direction)) (turn c.args.links.now c.args.direction) (turn_back c.args.links.now c.args.direction) c.args.start c.args.target
-    (subst (λ (e : Direction). IsOutOfReach (Steps c.args.links.now e) c.args.target c.args.start) c.opposite.ensures (c.levels_to.ensures.out c.if-levels_to.false))
