@@ -153,8 +153,13 @@ impl MoveList {
             (reverse (filling_chain reply.now)) after → self.new.occupants ≡ after }
     {
         let entered = entered_by(reply);
-        let filling = reversed_filling(reply);
-        let one = filling.processors();
+        let filling = reply.filling_chain();
+        if filling.len() < 2 {
+            self.pass_on(entered, filling);
+            return;
+        }
+        let reversed = reversed_filling(reply);
+        let one = reversed.processors();
         self.pass_on(entered, one);
     }
 
