@@ -1,13 +1,13 @@
 //! What no clause says: that calls succeed with ample memory, what they answer on runs followed by hand, and that they
 //! may be made from several threads at once.
-ghost use Rattle.std.specs.Prelude.{◌≡◌, ◌∷◌, [], IfOk, length, map};
+ghost use Rattle.std.specs.Prelude.{◌≡◌, ◌∷◌, [], length, map};
 ghost use Rattle.task_set.specs.Event.{IsOfSystem};
 ghost use Rattle.link_state.specs.State.{task_count};
 ghost use Rattle.order_queues.specs.Ends.{new_sender};
 ghost use Rattle.event_history.specs.Boards.{AreAll, AreFor, Grown};
 
 use crate::two_processors::{list_of_one, list_of_two, two_queues, two_tasks};
-use affinity_mask::{OutOfMemory, ProcSet};
+use affinity_mask::ProcSet;
 use event_history::{Board, EndFault, Pass, PostFault, Receipt};
 use link_table::{Chain, Entry, Reply};
 use order_queues::{Queue, Receiver, Sender};
@@ -15,7 +15,6 @@ use sched_core::{Core, CoreFault};
 use std::alloc::Global;
 use std::process::Abort;
 use std::sync::{Mutex, Wait};
-use std::test::Fail;
 use std::thread;
 use std::thread::Threads;
 use task_set::{Event, Order, TaskSet};
@@ -33,63 +32,58 @@ struct Bench {
 
 /// A board of two callers, with their passes.
 fn board_of_two(
+    rt: &impl Abort,
     alloc: Global,
     set: &TaskSet,
     senders: Vec<Sender>,
     queues: &[Queue],
-) -> Result<(Board, Pass, Pass), Fail>
+) -> (Board, Pass, Pass)
     requires senders { senders.items ≡ map new_sender queues.now }
     requires one_each { length queues.now ≡ set.now.processors }
     requires tasks { AreFor set.now queues.now }
-    ensures board { IfOk result (λ made. (made.0.set ≡ set.now) × (made.0.queues ≡ queues.now)) }
-    ensures passes { IfOk result (λ made. AreAll made.0 (made.1 ∷ made.2 ∷ [])) }
+    ensures board { (result.0.set ≡ set.now) × (result.0.queues ≡ queues.now) }
+    ensures passes { AreAll result.0 (result.1 ∷ result.2 ∷ []) }
 {
     let Ok((board, mut passes)) = Board::new(alloc, set, senders, queues, 2) else {
-        return Err(OutOfMemory.into());
+        panic!(rt; "out of memory")
     };
     let (Some(second), Some(first)) = (passes.pop(), passes.pop()) else {
         unreachable!()
     };
-    Ok((board, first, second))
+    (board, first, second)
 }
 
 /// The core of a board of two processors, when its two passes come back.
-fn core_of(
-    rt: &impl Abort,
-    alloc: Global,
-    board: Board,
-    first: Pass,
-    second: Pass,
-) -> Result<Core, Fail>
+fn core_of(rt: &impl Abort, alloc: Global, board: Board, first: Pass, second: Pass) -> Core
     requires { AreAll board (first ∷ second ∷ []) }
 {
-    let passes = list_of_two(alloc, first, second)?;
+    let passes = list_of_two(rt, alloc, first, second);
     let Ok((core, senders)) = board.close(passes) else {
-        return Err(OutOfMemory.into());
+        panic!(rt; "out of memory")
     };
     assert_eq!(rt; senders.len(), 2);
-    Ok(core)
+    core
 }
 
 impl Bench {
     /// A board over two processors.
-    fn new(rt: &impl Abort, alloc: Global) -> Result<Bench, Fail> {
-        let set = two_tasks(rt, alloc)?;
-        Bench::over(alloc, &set)
+    fn new(rt: &impl Abort, alloc: Global) -> Bench {
+        let set = two_tasks(rt, alloc);
+        Bench::over(rt, alloc, &set)
     }
 
     /// A board over this set of two tasks.
-    fn over(alloc: Global, set: &TaskSet) -> Result<Bench, Fail>
+    fn over(rt: &impl Abort, alloc: Global, set: &TaskSet) -> Bench
         requires { (length set.now.tasks ≡ 2) × (set.now.processors ≡ 2) }
     {
-        let (queues, senders, _receivers) = two_queues(alloc)?;
-        let (board, first, second) = board_of_two(alloc, set, senders, queues.as_slice())?;
-        Ok(Bench {
+        let (queues, senders, _receivers) = two_queues(rt, alloc);
+        let (board, first, second) = board_of_two(rt, alloc, set, senders, queues.as_slice());
+        Bench {
             board,
             first,
             second,
             queues,
-        })
+        }
     }
 
     /// Posts an event with the first pass.
@@ -143,7 +137,7 @@ impl Bench {
     }
 
     /// The core, when the passes come back.
-    fn close(self, rt: &impl Abort, alloc: Global) -> Result<Core, Fail> {
+    fn close(self, rt: &impl Abort, alloc: Global) -> Core {
         let Bench {
             board,
             first,
@@ -222,24 +216,29 @@ fn has_entries(rt: &impl Abort, core: &Core, entries: usize) {
 }
 
 /// Closes the board, whose core has so many entries.
-fn closes(rt: &impl Abort, alloc: Global, bench: Bench, entries: usize) -> Result<(), Fail> {
-    let core = bench.close(rt, alloc)?;
+fn closes(rt: &impl Abort, alloc: Global, bench: Bench, entries: usize) {
+    let core = bench.close(rt, alloc);
     has_entries(rt, &core, entries);
-    Ok(())
 }
 
 #[test]
-fn board_by_calls(rt: HostRuntime) -> Result<(), Fail> {
-    let mut bench = Bench::new(&rt, rt.alloc())?;
+fn board_by_calls(rt: HostRuntime) {
+    let mut bench = Bench::new(&rt, rt.alloc());
     post_three(&rt, &mut bench);
-    let copied = bench.copied(&rt, rt.alloc());
+    has_copied(&rt, rt.alloc(), &mut bench, 3, Reply::AlreadyReady);
     finishes(&rt, &mut bench);
-    closes(&rt, rt.alloc(), bench, 3)?;
-    let Some(copied) = copied else {
-        return Err(Fail::new("out of memory"));
-    };
-    assert_eq!(rt; copied, (3, Some(Reply::AlreadyReady)));
-    Ok(())
+    closes(&rt, rt.alloc(), bench, 3);
+}
+
+/// A copy of the history has so many entries, of which the last has this reply.
+fn has_copied<R: Wait + Abort>(
+    rt: &R,
+    alloc: Global,
+    bench: &mut Bench,
+    entries: usize,
+    last: Reply,
+) {
+    assert_eq!(rt; bench.copied(rt, alloc), Some((entries, Some(last))));
 }
 
 /// Posts one event with a pass, and hands the pass back.
@@ -318,18 +317,26 @@ fn post_at_once<R: Threads + Wait + Sync>(
 }
 
 #[test]
-fn two_threads_post(rt: HostRuntime) -> Result<(), Fail> {
-    let bench = Bench::new(&rt, rt.alloc())?;
-    let (one, other) = (Event::Arrive(0), Event::Arrive(1));
-    let (mut bench, of_first, of_second) = post_at_once(&rt, bench, one, other);
+fn two_threads_post(rt: HostRuntime) {
+    let bench = Bench::new(&rt, rt.alloc());
+    let (mut bench, of_first, of_second) = post_at_once(
+        &rt,
+        bench,
+        Event::Arrive(0),
+        Event::Arrive(1),
+    );
+    both_know_two(&rt, &mut bench);
+    let core = bench.close(&rt, rt.alloc());
+    has_entries(&rt, &core, 2);
+    assert!(rt; stands(core.history(), Event::Arrive(0), &of_first));
+    assert!(rt; stands(core.history(), Event::Arrive(1), &of_second));
+}
+
+/// Both passes know of two entries once they met.
+fn both_know_two(rt: &impl Abort, bench: &mut Bench) {
     bench.meet();
     assert!(rt; bench.first.known() == 2 && bench.second.known() == 2);
     assert_eq!(rt; bench.count(), 2);
-    let core = bench.close(&rt, rt.alloc())?;
-    assert_eq!(rt; core.history().len(), 2);
-    assert!(rt; stands(core.history(), one, &of_first));
-    assert!(rt; stands(core.history(), other, &of_second));
-    Ok(())
 }
 
 /// The core, to which the arrival of the first task was applied.
@@ -377,14 +384,14 @@ fn has_orders(rt: &impl Abort, core: &Core) {
 }
 
 /// Two new cores over the same two tasks.
-fn two_cores(rt: &impl Abort, alloc: Global, set: &TaskSet) -> Result<(Core, Core), Fail>
-    ensures one { IfOk result (λ cores. task_count cores.0.links ≡ 2) }
-    ensures other { IfOk result (λ cores. task_count cores.1.links ≡ 2) }
+fn two_cores(rt: &impl Abort, alloc: Global, set: &TaskSet) -> (Core, Core)
+    ensures one { task_count result.0.links ≡ 2 }
+    ensures other { task_count result.1.links ≡ 2 }
 {
-    let one = Core::new(alloc, set)?;
-    let other = Core::new(alloc, set)?;
+    let one = Core::new(alloc, set).expect(rt, "memory");
+    let other = Core::new(alloc, set).expect(rt, "memory");
     assert!(rt; one.links().len() == 2 && other.links().len() == 2);
-    Ok((one, other))
+    (one, other)
 }
 
 /// Both cores go on, with the orders of cores that stayed where they were.
@@ -396,22 +403,17 @@ fn both_go_on(rt: &impl Abort, one: &mut Core, other: &mut Core) {
 }
 
 /// Two cores over this set are moved to another thread and back, and go on.
-fn check_moved<R: Abort + Threads + Wait + Sync>(
-    rt: &R,
-    alloc: Global,
-    set: &TaskSet,
-) -> Result<(), Fail> {
-    let (one, other) = two_cores(rt, alloc, set)?;
+fn check_moved<R: Abort + Threads + Wait + Sync>(rt: &R, alloc: Global, set: &TaskSet) {
+    let (one, other) = two_cores(rt, alloc, set);
     let (mut one, mut other) = arrived_elsewhere(rt, one, other);
     both_go_on(rt, &mut one, &mut other);
-    Ok(())
 }
 
 /// A core that was moved to another thread and back goes on as one that stayed.
 #[test]
-fn cores_move_between_threads(rt: HostRuntime) -> Result<(), Fail> {
-    let set = two_tasks(&rt, rt.alloc())?;
-    check_moved(&rt, rt.alloc(), &set)
+fn cores_move_between_threads(rt: HostRuntime) {
+    let set = two_tasks(&rt, rt.alloc());
+    check_moved(&rt, rt.alloc(), &set);
 }
 
 /// How many threads post at once, and how many events each: together as many as a history may have.
@@ -509,60 +511,57 @@ fn all_stand(history: &[Entry], told: &[Told]) -> bool {
 }
 
 /// Adds eight tasks for one processor.
-fn add_eight(set: &mut TaskSet) -> Result<(), Fail> {
+fn add_eight(rt: &impl Abort, set: &mut TaskSet) {
     let mut priority = 0u32;
     for name in ["a", "b", "c", "d", "e", "f", "g", "h"] {
         priority = priority.saturating_add(1);
-        set.add(name, priority, ProcSet::first(1))?;
+        assert!(rt; set.add(name, priority, ProcSet::first(1)).is_ok());
     }
-    Ok(())
 }
 
 /// A set of these eight tasks, counted.
-fn eight_tasks(rt: &impl Abort, alloc: Global) -> Result<TaskSet, Fail>
-    ensures { IfOk result (λ set. (length set.tasks ≡ 8) × (set.processors ≡ 1)) }
+fn eight_tasks(rt: &impl Abort, alloc: Global) -> TaskSet
+    ensures { (length result.tasks ≡ 8) × (result.processors ≡ 1) }
 {
-    let mut set = TaskSet::new(alloc, 1)?;
-    add_eight(&mut set)?;
+    let mut set = TaskSet::new(alloc, 1).expect(rt, "memory");
+    add_eight(rt, &mut set);
     assert!(rt; set.len() == THREADS);
     assert!(rt; set.processors() == 1);
-    Ok(set)
+    set
 }
 
 /// A queue for eight tasks and its sender, each in a list, and its receiver.
-fn one_queue(alloc: Global) -> Result<(Vec<Queue>, Vec<Sender>, Receiver), OutOfMemory>
-    ensures senders { IfOk result (λ made. made.1.items ≡ map new_sender made.0.items) }
-    ensures queue { IfOk result (λ made. made.0.items ≡ made.2.queue ∷ []) }
-    ensures tasks { IfOk result (λ made. made.2.queue.tasks ≡ 8) }
+fn one_queue(rt: &impl Abort, alloc: Global) -> (Vec<Queue>, Vec<Sender>, Receiver)
+    ensures senders { result.1.items ≡ map new_sender result.0.items }
+    ensures queue { result.0.items ≡ result.2.queue ∷ [] }
+    ensures tasks { result.2.queue.tasks ≡ 8 }
 {
-    let (queue, sender, receiver) = Queue::new(alloc, THREADS)?;
-    let queues = list_of_one(alloc, queue)?;
-    let senders = list_of_one(alloc, sender)?;
-    Ok((queues, senders, receiver))
+    let (queue, sender, receiver) = Queue::new(alloc, THREADS).expect(rt, "memory");
+    let queues = list_of_one(rt, alloc, queue);
+    let senders = list_of_one(rt, alloc, sender);
+    (queues, senders, receiver)
 }
 
 /// A board of eight callers over this set, with their passes.
-fn callers_over(alloc: Global, set: &TaskSet) -> Result<(Board, Vec<Pass>), Fail>
+fn callers_over(rt: &impl Abort, alloc: Global, set: &TaskSet) -> (Board, Vec<Pass>)
     requires { (length set.now.tasks ≡ 8) × (set.now.processors ≡ 1) }
-    ensures passes { IfOk result (λ made. AreAll made.0 made.1.items) }
-    ensures tasks { IfOk result
-        (λ made. (length made.0.set.tasks ≡ 8) × (made.0.set.processors ≡ 1)) }
+    ensures passes { AreAll result.0 result.1.items }
+    ensures tasks { (length result.0.set.tasks ≡ 8) × (result.0.set.processors ≡ 1) }
 {
-    let (queues, senders, _receiver) = one_queue(alloc)?;
+    let (queues, senders, _receiver) = one_queue(rt, alloc);
     match Board::new(alloc, set, senders, queues.as_slice(), THREADS) {
-        Ok(made) => Ok(made),
-        Err(_unmade) => Err(Fail::new("out of memory")),
+        Ok(made) => made,
+        Err(_unmade) => panic!(rt; "out of memory"),
     }
 }
 
 /// A board of eight callers over eight tasks, with their passes.
-fn eight_callers(rt: &impl Abort, alloc: Global) -> Result<(Board, Vec<Pass>), Fail>
-    ensures passes { IfOk result (λ made. AreAll made.0 made.1.items) }
-    ensures tasks { IfOk result
-        (λ made. (length made.0.set.tasks ≡ 8) × (made.0.set.processors ≡ 1)) }
+fn eight_callers(rt: &impl Abort, alloc: Global) -> (Board, Vec<Pass>)
+    ensures passes { AreAll result.0 result.1.items }
+    ensures tasks { (length result.0.set.tasks ≡ 8) × (result.0.set.processors ≡ 1) }
 {
-    let set = eight_tasks(rt, alloc)?;
-    callers_over(alloc, &set)
+    let set = eight_tasks(rt, alloc);
+    callers_over(rt, alloc, &set)
 }
 
 /// All receipts of the callers were written down, and stand in the history of this core.
@@ -584,10 +583,9 @@ fn check_told(rt: &impl Abort, board: Board, passes: Vec<Pass>, told: Mutex<Vec<
 }
 
 #[test]
-fn eight_threads_post(rt: HostRuntime) -> Result<(), Fail> {
-    let (board, mut passes) = eight_callers(&rt, rt.alloc())?;
+fn eight_threads_post(rt: HostRuntime) {
+    let (board, mut passes) = eight_callers(&rt, rt.alloc());
     let told = Mutex::new(Vec::new(rt.alloc()));
     post_shares(&rt, &board, &mut passes, &told);
     check_told(&rt, board, passes, told);
-    Ok(())
 }

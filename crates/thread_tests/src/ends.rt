@@ -1,10 +1,9 @@
 //! A queue for two tasks, whose sending end stops the test where an order may not come.
-ghost use Rattle.std.specs.Prelude.{◌≡◌, ◌≢◌, true, false, [], All, IfOk};
+ghost use Rattle.std.specs.Prelude.{◌≡◌, ◌≢◌, true, false, [], All};
 ghost use Rattle.task_set.specs.declared.order.Order.TheVariants.{Stop};
 ghost use Rattle.task_set.specs.Orders.{IsObeyable, MayCome, NamesTaskBelow, held_after, task_held};
 ghost use Rattle.order_queues.specs.Ends.{QueueData, new_receiver};
 
-use affinity_mask::OutOfMemory;
 use order_queues::{Eye, Queue, Receiver, Sender};
 use std::alloc::Global;
 use std::marker::Model;
@@ -141,12 +140,12 @@ pub(crate) fn is_stop(order: Order) -> bool
 }
 
 /// A queue for two tasks with both of its ends.
-pub(crate) fn new_queue(alloc: Global) -> Result<(Queue, End, Receiver), OutOfMemory>
-    ensures end { IfOk result (λ made. made.1 ≡ made.0) }
-    ensures receiver { IfOk result (λ made. made.2 ≡ new_receiver made.0) }
-    ensures two_tasks { IfOk result (λ made. made.0.tasks ≡ 2) }
+pub(crate) fn new_queue(rt: &impl Abort, alloc: Global) -> (Queue, End, Receiver)
+    ensures end { result.1 ≡ result.0 }
+    ensures receiver { result.2 ≡ new_receiver result.0 }
+    ensures two_tasks { result.0.tasks ≡ 2 }
 {
-    let (queue, mut sender, receiver) = Queue::new(alloc, 2)?;
+    let (queue, mut sender, receiver) = Queue::new(alloc, 2).expect(rt, "memory");
     let eye = sender.eye(&queue);
-    Ok((queue, End::new(sender, eye), receiver))
+    (queue, End::new(sender, eye), receiver)
 }

@@ -1,5 +1,5 @@
 //! More orders than a queue holds, for processors that have no thread: one call at a time, and by a drive.
-ghost use Rattle.std.specs.Prelude.{◌≡◌, ◌∷◌, [], All, None, Some, true, IfOk, OnOk, length, map, slice_get};
+ghost use Rattle.std.specs.Prelude.{◌≡◌, ◌∷◌, [], All, None, Some, true, length, map, slice_get};
 ghost use Rattle.task_set.specs.Event.{IsOfSystem};
 ghost use Rattle.order_queues.specs.Ends.{new_receiver, new_sender};
 ghost use Rattle.context_slots.specs.Hands.{new_hand};
@@ -11,7 +11,6 @@ ghost use Rattle.thread_tests.specs.Fitting.{are_for-prop};
 use crate::two_processors::{
     are_contexts, context, contexts_of_two, list_of_two, two_hands, two_queues, two_tasks,
 };
-use affinity_mask::OutOfMemory;
 use context_slots::{Hand, Slots};
 use event_history::{Board, Pass};
 use order_queues::{Queue, Receiver, Sender};
@@ -20,7 +19,6 @@ use replay::drive;
 use std::alloc::Global;
 use std::process::Abort;
 use std::sync::Wait;
-use std::test::Fail;
 use task_set::{Context, Event, TaskSet};
 
 /// A board of one caller over two processors that have no threads.
@@ -52,44 +50,44 @@ fn seated(queues: &[Queue], slots: &Slots, number: u8, hand: Hand, receiver: Rec
 
 /// Slots and two processors that did nothing yet, with the receiving ends of the two queues.
 fn two_seats(
+    rt: &impl Abort,
     alloc: Global,
     set: &TaskSet,
     queues: &[Queue],
     receivers: (Receiver, Receiver),
-) -> Result<(Slots, Processor, Processor), OutOfMemory>
+) -> (Slots, Processor, Processor)
     requires processors { set.now.processors ≡ 2 }
     requires ends { queues.now ≡ receivers.0.queue ∷ receivers.1.queue ∷ [] }
     requires new { (receivers.0 ≡ new_receiver receivers.0.queue)
         × (receivers.1 ≡ new_receiver receivers.1.queue) }
-    ensures slots { IfOk result (λ made. made.0.set ≡ set.now) }
-    ensures first { IfOk result (λ made. IsSeated queues.now made.0 made.1) }
-    ensures second { IfOk result (λ made. IsSeated queues.now made.0 made.2) }
+    ensures slots { result.0.set ≡ set.now }
+    ensures first { IsSeated queues.now result.0 result.1 }
+    ensures second { IsSeated queues.now result.0 result.2 }
 {
-    let (slots, hand_0, hand_1) = two_hands(alloc, set)?;
+    let (slots, hand_0, hand_1) = two_hands(rt, alloc, set);
     let first = seated(queues, &slots, 0, hand_0, receivers.0);
     let second = seated(queues, &slots, 1, hand_1, receivers.1);
-    Ok((slots, first, second))
+    (slots, first, second)
 }
 
 /// A board of one caller, with its pass.
 fn board_of(
+    rt: &impl Abort,
     alloc: Global,
     set: &TaskSet,
     senders: Vec<Sender>,
     queues: &[Queue],
-) -> Result<(Board, Pass), Fail>
+) -> (Board, Pass)
     requires senders { senders.items ≡ map new_sender queues.now }
     requires one_each { length queues.now ≡ set.now.processors }
     requires tasks { AreFor set.now queues.now }
-    ensures board { IfOk result (λ made. (made.0.set ≡ set.now) × (made.0.queues ≡ queues.now)) }
-    ensures pass { IfOk result (λ made. (made.1.board ≡ made.0.id)
-        × AreEyesOf made.0.queues made.1.eyes) }
+    ensures board { (result.0.set ≡ set.now) × (result.0.queues ≡ queues.now) }
+    ensures pass { (result.1.board ≡ result.0.id) × AreEyesOf result.0.queues result.1.eyes }
 {
-    let Ok((board, mut passes)) = Board::new(alloc, set, senders, queues, 1) else {
-        return Err(Fail::new("out of memory"));
-    };
-    let pass = passes.pop().unwrap();
-    Ok((board, pass))
+    match Board::new(alloc, set, senders, queues, 1) {
+        Ok((board, mut passes)) => (board, passes.pop().unwrap()),
+        Err(_unmade) => panic!(rt; "out of memory"),
+    }
 }
 
 /// The queue of a processor.
@@ -134,69 +132,68 @@ fn hand_of<R: Abort + Wait>(
 
 /// The last two of a list of processors, in their order.
 fn last_two(
+    rt: &impl Abort,
     queues: &[Queue],
     slots: &Slots,
     mut processors: Vec<Processor>,
-) -> Result<(Processor, Processor), Fail>
+) -> (Processor, Processor)
     requires { All (IsDone queues.now slots.now) processors.items }
-    ensures first { IfOk result (λ two. IsSeated queues.now slots.now two.0) }
-    ensures second { IfOk result (λ two. IsSeated queues.now slots.now two.1) }
+    ensures first { IsSeated queues.now slots.now result.0 }
+    ensures second { IsSeated queues.now slots.now result.1 }
 {
     let (Some(second), Some(first)) = (processors.pop(), processors.pop()) else {
-        return Err(Fail::new("no two processors"));
+        panic!(rt; "no two processors")
     };
-    Ok((first, second))
+    (first, second)
 }
 
 /// Two processors after a drive of both.
-fn both_driven<R: Wait>(
+fn both_driven<R: Abort + Wait>(
     rt: &R,
-    alloc: Global,
     board: &Board,
     pass: &mut Pass,
     queues: &[Queue],
     slots: &Slots,
-    two: (Processor, Processor),
-) -> Result<(Processor, Processor), Fail>
+    mut processors: Vec<Processor>,
+) -> (Processor, Processor)
     requires board { pass.old.board ≡ board.now.id }
     requires closed { pass.old.saw_close ≡ true }
     requires eyes { AreEyesOf board.now.queues pass.old.eyes }
     requires queues { queues.now ≡ board.now.queues }
     requires tasks { AreFor slots.now.set queues.now }
-    requires first { IsSeated queues.now slots.now two.0 }
-    requires second { IsSeated queues.now slots.now two.1 }
-    ensures board { OnOk result (pass.new.board ≡ board.now.id) }
-    ensures eyes { OnOk result (AreEyesOf board.now.queues pass.new.eyes) }
-    ensures first { IfOk result (λ two. IsSeated queues.now slots.now two.0) }
-    ensures second { IfOk result (λ two. IsSeated queues.now slots.now two.1) }
+    requires processors { All (IsSeated queues.now slots.now) processors.items }
+    ensures board { pass.new.board ≡ board.now.id }
+    ensures eyes { AreEyesOf board.now.queues pass.new.eyes }
+    ensures first { IsSeated queues.now slots.now result.0 }
+    ensures second { IsSeated queues.now slots.now result.1 }
 {
-    let mut processors = list_of_two(alloc, two.0, two.1)?;
     drive(rt, board, pass, queues, slots, &mut processors, &OpenGate);
-    last_two(queues, slots, processors)
+    last_two(rt, queues, slots, processors)
 }
 
 impl Bench {
-    fn new(rt: &impl Abort, alloc: Global) -> Result<Bench, Fail> {
-        let set = two_tasks(rt, alloc)?;
-        Bench::for_set(alloc, &set)
+    fn new(rt: &impl Abort, alloc: Global) -> Bench {
+        let set = two_tasks(rt, alloc);
+        Bench::for_set(rt, alloc, &set)
     }
 
     /// A bench for these two tasks.
-    fn for_set(alloc: Global, set: &TaskSet) -> Result<Bench, Fail>
+    fn for_set(rt: &impl Abort, alloc: Global, set: &TaskSet) -> Bench
         requires { (length set.now.tasks ≡ 2) × (set.now.processors ≡ 2) }
     {
-        let (queues, senders, receivers) = two_queues(alloc)?;
-        Bench::over(alloc, set, queues, senders, receivers)
+        let (queues, senders, receivers) = two_queues(rt, alloc);
+        Bench::over(rt, alloc, set, queues, senders, receivers)
     }
 
     /// A bench with these queues and their ends.
     fn over(
+        rt: &impl Abort,
         alloc: Global,
         set: &TaskSet,
         queues: Vec<Queue>,
         senders: Vec<Sender>,
         receivers: (Receiver, Receiver),
-    ) -> Result<Bench, Fail>
+    ) -> Bench
         requires set { (length set.now.tasks ≡ 2) × (set.now.processors ≡ 2) }
         requires senders { senders.items ≡ map new_sender queues.items }
         requires ends { queues.items ≡ receivers.0.queue ∷ receivers.1.queue ∷ [] }
@@ -204,16 +201,16 @@ impl Bench {
             × (receivers.1 ≡ new_receiver receivers.1.queue) }
         requires tasks { (receivers.0.queue.tasks ≡ 2) × (receivers.1.queue.tasks ≡ 2) }
     {
-        let (board, pass) = board_of(alloc, set, senders, &queues)?;
-        let (slots, first, second) = two_seats(alloc, set, &queues, receivers)?;
-        Ok(Bench {
+        let (board, pass) = board_of(rt, alloc, set, senders, &queues);
+        let (slots, first, second) = two_seats(rt, alloc, set, &queues, receivers);
+        Bench {
             board,
             pass,
             queues,
             slots,
             first,
             second,
-        })
+        }
     }
 
     fn post<R: Wait + Abort>(&mut self, rt: &R, event: Event)
@@ -240,7 +237,7 @@ impl Bench {
     }
 
     /// The same after a drive of both processors.
-    fn driven<R: Wait + Abort>(self, rt: &R, alloc: Global) -> Result<Bench, Fail> {
+    fn driven<R: Wait + Abort>(self, rt: &R, alloc: Global) -> Bench {
         let Bench {
             board,
             mut pass,
@@ -250,27 +247,20 @@ impl Bench {
             second,
         } = self;
         assert!(rt; pass.saw_close());
-        let (first, second) = both_driven(
-            rt,
-            alloc,
-            &board,
-            &mut pass,
-            &queues,
-            &slots,
-            (first, second),
-        )?;
-        Ok(Bench {
+        let processors = list_of_two(rt, alloc, first, second);
+        let (first, second) = both_driven(rt, &board, &mut pass, &queues, &slots, processors);
+        Bench {
             board,
             pass,
             queues,
             slots,
             first,
             second,
-        })
+        }
     }
 
     /// The contexts in the end, where both processors have stopped.
-    fn contexts<R: Wait + Abort>(self, rt: &R, alloc: Global) -> Result<Vec<Context>, Fail> {
+    fn contexts<R: Wait + Abort>(self, rt: &R, alloc: Global) -> Vec<Context> {
         let Bench {
             board: _,
             pass: _,
@@ -328,25 +318,24 @@ fn steps_to_stop<R: Wait + Abort>(rt: &R, bench: &mut Bench) {
 }
 
 /// One task ran for 300 units, one at a time, and the other one not at all.
-fn ends_as_expected<R: Wait + Abort>(rt: &R, alloc: Global, bench: Bench) -> Result<(), Fail> {
-    let made = bench.contexts(rt, alloc)?;
+fn ends_as_expected<R: Wait + Abort>(rt: &R, alloc: Global, bench: Bench) {
+    let made = bench.contexts(rt, alloc);
     let a = context(0, 300, 1, 0, Some(0), 13480592892487708928);
     are_contexts(rt, &made, a, context(1, 0, 0, 0, None, 1));
-    Ok(())
 }
 
 #[test]
-fn orders_owed_beyond_the_queue(rt: HostRuntime) -> Result<(), Fail> {
-    let mut bench = Bench::new(&rt, rt.alloc())?;
+fn orders_owed_beyond_the_queue(rt: HostRuntime) {
+    let mut bench = Bench::new(&rt, rt.alloc());
     fill(&rt, &mut bench);
     steps_to_stop(&rt, &mut bench);
-    ends_as_expected(&rt, rt.alloc(), bench)
+    ends_as_expected(&rt, rt.alloc(), bench);
 }
 
 #[test]
-fn orders_owed_are_driven(rt: HostRuntime) -> Result<(), Fail> {
-    let mut bench = Bench::new(&rt, rt.alloc())?;
+fn orders_owed_are_driven(rt: HostRuntime) {
+    let mut bench = Bench::new(&rt, rt.alloc());
     fill(&rt, &mut bench);
-    let bench = bench.driven(&rt, rt.alloc())?;
-    ends_as_expected(&rt, rt.alloc(), bench)
+    let bench = bench.driven(&rt, rt.alloc());
+    ends_as_expected(&rt, rt.alloc(), bench);
 }

@@ -1,14 +1,13 @@
 //! What no clause says: that calls succeed where memory is ample, and that an observer reads beside a publisher.
-ghost use Rattle.std.specs.Prelude.{◌≡◌, ◌<◌, ◌≤◌, [], ◌++◌, ◌∷◌, IfOk, length};
+ghost use Rattle.std.specs.Prelude.{◌≡◌, ◌<◌, ◌≤◌, [], ◌++◌, ◌∷◌, length};
 ghost use Rattle.schedule_board.specs.Boards.{board_of, board_at, published};
 
-use affinity_mask::{OutOfMemory, ProcSet};
+use affinity_mask::ProcSet;
 use schedule_board::{Observer, Picture, Publisher, make_board};
 use scheduler_reply::{Chain, Entry, Reply};
 use std::alloc::Global;
 use std::process::Abort;
 use std::sync::Wait;
-use std::test::Fail;
 use std::thread::{Threads, join};
 use task_set::{Event, TaskSet};
 
@@ -54,21 +53,20 @@ fn departed(task: u32, chain: Chain) -> Entry {
 }
 
 /// Publishes one entry, tells the observer, and gives what it reads then.
-fn publish_and_read<R: Wait, K: Wait + Drop>(
+fn publish_and_read<R: Wait + Abort, K: Wait + Drop>(
     rt: &R,
     publisher: &mut Publisher<K>,
     observer: &mut Observer,
     entry: &Entry,
-) -> Result<Picture, OutOfMemory>
+) -> Picture
     requires board { board_of publisher.old ≡ board_at observer.old }
     requires room { length (published publisher.old) ≤ 8 }
     ensures board { board_of publisher.new ≡ board_at observer.new }
-    ensures published { IfOk result
-        (λ _. published publisher.new ≡ published publisher.old ++ entry.now ∷ []) }
+    ensures published { published publisher.new ≡ published publisher.old ++ entry.now ∷ [] }
 {
-    publisher.publish(rt, &[entry.copy()])?;
+    assert!(rt; publisher.publish(rt, &[entry.copy()]).is_ok());
     publisher.tell(observer);
-    Ok(observer.read(rt))
+    observer.read(rt)
 }
 
 /// A picture shows so many entries, and these tasks on the two processors.
@@ -87,36 +85,33 @@ fn publish_three<R: Wait + Abort, K: Wait + Drop>(
     rt: &R,
     publisher: &mut Publisher<K>,
     observer: &mut Observer,
-) -> Result<(), OutOfMemory>
+)
     requires board { board_of publisher.old ≡ board_at observer.old }
     requires none { published publisher.old ≡ [] }
 {
     expect(rt, observer.read(rt), 0, None, None);
     let entry = placed(0, one(0));
-    let picture = publish_and_read(rt, publisher, observer, &entry)?;
+    let picture = publish_and_read(rt, publisher, observer, &entry);
     expect(rt, picture, 1, Some(0), None);
     let entry = placed(1, two(0, 1));
-    let picture = publish_and_read(rt, publisher, observer, &entry)?;
+    let picture = publish_and_read(rt, publisher, observer, &entry);
     expect(rt, picture, 2, Some(1), Some(0));
     let entry = departed(0, one(1));
-    let picture = publish_and_read(rt, publisher, observer, &entry)?;
+    let picture = publish_and_read(rt, publisher, observer, &entry);
     expect(rt, picture, 3, Some(1), None);
-    Ok(())
 }
 
 /// The same over the board of a set.
-fn publish_over<R: Wait + Abort>(rt: &R, alloc: Global, set: &TaskSet) -> Result<(), OutOfMemory> {
-    let made = make_board(rt, alloc, set, 1)?;
-    let (mut publisher, mut observers) = made;
+fn publish_over<R: Wait + Abort>(rt: &R, alloc: Global, set: &TaskSet) {
+    let (mut publisher, mut observers) = make_board(rt, alloc, set, 1).expect(rt, "memory");
     assert_eq!(rt; observers.len(), 1);
-    publish_three(rt, &mut publisher, &mut observers[0])
+    publish_three(rt, &mut publisher, &mut observers[0]);
 }
 
 #[test]
-fn pictures_by_calls(rt: HostRuntime) -> Result<(), Fail> {
-    let set = TaskSet::new(rt.alloc(), 2)?;
-    publish_over(&rt, rt.alloc(), &set)?;
-    Ok(())
+fn pictures_by_calls(rt: HostRuntime) {
+    let set = TaskSet::new(rt.alloc(), 2).expect(&rt, "memory");
+    publish_over(&rt, rt.alloc(), &set);
 }
 
 /// The counts of two reads, and the observer.
@@ -167,11 +162,14 @@ fn read_beside<R: Threads + Wait + Abort + Sync, K: Wait + Drop + Send>(
 }
 
 #[test]
-fn reads_beside_a_publisher(rt: HostRuntime) -> Result<(), Fail> {
-    let set = TaskSet::new(rt.alloc(), 2)?;
-    let made = make_board(&rt, rt.alloc(), &set, 2)?;
-    let (publisher, mut observers) = made;
-    let observer = observers.pop().ok_or("two observers")?;
-    read_beside(&rt, publisher, observer, placed(0, one(0)));
-    Ok(())
+fn reads_beside_a_publisher(rt: HostRuntime) {
+    let set = TaskSet::new(rt.alloc(), 2).expect(&rt, "memory");
+    publish_beside(&rt, rt.alloc(), &set);
+}
+
+/// One of two observers of the board of a set reads beside its publisher.
+fn publish_beside<R: Threads + Wait + Abort + Sync>(rt: &R, alloc: Global, set: &TaskSet) {
+    let (publisher, mut observers) = make_board(rt, alloc, set, 2).expect(rt, "memory");
+    let observer = observers.pop().expect(rt, "two observers");
+    read_beside(rt, publisher, observer, placed(0, one(0)));
 }

@@ -1,13 +1,11 @@
 //! Orders that go through queues to two processors, one call at a time, and on threads.
-ghost use Rattle.std.specs.Prelude.{◌≡◌, ◌<◌, None, true, length, IfOk};
+ghost use Rattle.std.specs.Prelude.{◌≡◌, ◌<◌, None, length};
 ghost use Rattle.std.specs.Thread.{IsSync};
-ghost use Rattle.task_set.specs.Orders.{has_stop};
 ghost use Rattle.context_slots.specs.Hands.{new_hand};
-ghost use Rattle.processor_seat.specs.Stepping.{ProcessorData, IsInStep, IsSameSeat};
+ghost use Rattle.processor_seat.specs.Stepping.{ProcessorData, IsInStep};
 
 use crate::ends::{End, new_queue};
 use crate::two_processors::{are_contexts, context, contexts_of_two, two_hands, two_tasks};
-use affinity_mask::OutOfMemory;
 use context_slots::{Hand, Slots};
 use order_queues::Queue;
 use processor_seat::{Gate, OpenGate, Processor, Step};
@@ -16,7 +14,6 @@ use std::marker::Model;
 use std::process::Abort;
 use std::sync::Wait;
 use std::sync::atomic::{AtomicU64, Ordering};
-use std::test::Fail;
 use std::thread;
 use std::thread::Threads;
 use task_set::{Context, Order, TaskSet};
@@ -49,16 +46,16 @@ enum Act {
 
 impl Seat {
     /// A processor that received nothing.
-    fn new(alloc: Global, number: u8, hand: Hand, slots: &Slots) -> Result<Seat, OutOfMemory>
+    fn new(rt: &impl Abort, alloc: Global, number: u8, hand: Hand, slots: &Slots) -> Seat
         requires hand { hand ≡ new_hand slots.now.id number }
-        ensures slots { IfOk result (λ seat. seat.hand.slots ≡ slots.now.id) }
+        ensures slots { result.hand.slots ≡ slots.now.id }
     {
-        let (queue, end, receiver) = new_queue(alloc)?;
-        Ok(Seat {
+        let (queue, end, receiver) = new_queue(rt, alloc);
+        Seat {
             queue,
             end,
             processor: Processor::new(number, hand, receiver),
-        })
+        }
     }
 
     fn step<R: Abort + Wait>(&mut self, rt: &R, slots: &Slots, answer: Step)
@@ -105,19 +102,20 @@ impl Seat {
 
 /// Two processors that received nothing.
 fn two_seats(
+    rt: &impl Abort,
     alloc: Global,
     slots: &Slots,
     hand_0: Hand,
     hand_1: Hand,
-) -> Result<(Seat, Seat), OutOfMemory>
+) -> (Seat, Seat)
     requires hand_0 { hand_0 ≡ new_hand slots.now.id 0 }
     requires hand_1 { hand_1 ≡ new_hand slots.now.id 1 }
-    ensures first { IfOk result (λ seats. seats.0.hand.slots ≡ slots.now.id) }
-    ensures second { IfOk result (λ seats. seats.1.hand.slots ≡ slots.now.id) }
+    ensures first { result.0.hand.slots ≡ slots.now.id }
+    ensures second { result.1.hand.slots ≡ slots.now.id }
 {
-    let first = Seat::new(alloc, 0, hand_0, slots)?;
-    let second = Seat::new(alloc, 1, hand_1, slots)?;
-    Ok((first, second))
+    let first = Seat::new(rt, alloc, 0, hand_0, slots);
+    let second = Seat::new(rt, alloc, 1, hand_1, slots);
+    (first, second)
 }
 
 /// What happens at two processors, one act after the other, each at the processor of this number.
@@ -146,21 +144,19 @@ fn act_in_turn<R: Abort + Wait>(
 /// The hands of two processors after these acts.
 fn act_all<R: Abort + Wait>(
     rt: &R,
-    alloc: Global,
     slots: &Slots,
-    hand_0: Hand,
-    hand_1: Hand,
+    mut first: Seat,
+    mut second: Seat,
     acts: &[(u8, Act)],
-) -> Result<(Hand, Hand), OutOfMemory>
-    requires hand_0 { hand_0 ≡ new_hand slots.now.id 0 }
-    requires hand_1 { hand_1 ≡ new_hand slots.now.id 1 }
+) -> (Hand, Hand)
+    requires first { first.hand.slots ≡ slots.now.id }
+    requires second { second.hand.slots ≡ slots.now.id }
     requires tasks { length slots.now.set.tasks ≡ 2 }
-    ensures hand_0 { IfOk result (λ hands. (hands.0.slots ≡ slots.now.id) × (hands.0.holds ≡ None)) }
-    ensures hand_1 { IfOk result (λ hands. (hands.1.slots ≡ slots.now.id) × (hands.1.holds ≡ None)) }
+    ensures hand_0 { (result.0.slots ≡ slots.now.id) × (result.0.holds ≡ None) }
+    ensures hand_1 { (result.1.slots ≡ slots.now.id) × (result.1.holds ≡ None) }
 {
-    let (mut first, mut second) = two_seats(alloc, slots, hand_0, hand_1)?;
     act_in_turn(rt, slots, &mut first, &mut second, acts);
-    Ok((first.into_hand(rt, slots), second.into_hand(rt, slots)))
+    (first.into_hand(rt, slots), second.into_hand(rt, slots))
 }
 
 /// The contexts after two processors did these acts.
@@ -169,11 +165,12 @@ fn after_acts<R: Abort + Wait>(
     alloc: Global,
     set: &TaskSet,
     acts: &[(u8, Act)],
-) -> Result<Vec<Context>, Fail>
+) -> Vec<Context>
     requires { (length set.now.tasks ≡ 2) × (set.now.processors ≡ 2) }
 {
-    let (slots, hand_0, hand_1) = two_hands(alloc, set)?;
-    let (hand_0, hand_1) = act_all(rt, alloc, &slots, hand_0, hand_1, acts)?;
+    let (slots, hand_0, hand_1) = two_hands(rt, alloc, set);
+    let (first, second) = two_seats(rt, alloc, &slots, hand_0, hand_1);
+    let (hand_0, hand_1) = act_all(rt, &slots, first, second, acts);
     contexts_of_two(rt, alloc, slots, hand_0, hand_1)
 }
 
@@ -206,19 +203,18 @@ fn hand_over() -> [(u8, Act); 18] {
 }
 
 #[test]
-fn processors_by_calls(rt: HostRuntime) -> Result<(), Fail> {
-    let set = two_tasks(&rt, rt.alloc())?;
-    check_hand_over(&rt, rt.alloc(), &set)
+fn processors_by_calls(rt: HostRuntime) {
+    let set = two_tasks(&rt, rt.alloc());
+    check_hand_over(&rt, rt.alloc(), &set);
 }
 
 /// Two processors hand the task 0 over, which leaves these contexts.
-fn check_hand_over<R: Abort + Wait>(rt: &R, alloc: Global, set: &TaskSet) -> Result<(), Fail>
+fn check_hand_over<R: Abort + Wait>(rt: &R, alloc: Global, set: &TaskSet)
     requires { (length set.now.tasks ≡ 2) × (set.now.processors ≡ 2) }
 {
-    let made = after_acts(rt, alloc, set, &hand_over())?;
+    let made = after_acts(rt, alloc, set, &hand_over());
     let a = context(0, 4, 2, 1, Some(1), 256);
     are_contexts(rt, &made, a, context(1, 0, 0, 0, None, 1));
-    Ok(())
 }
 
 /// How often the gate yields before a take of processor 0. Meanwhile processor 1 goes to sleep.
@@ -247,10 +243,21 @@ fn yield_often() {
     }
 }
 
+impl Seat {
+    /// Sends two stints of the task 1, of which the second is two turns later, and Stop.
+    fn send_two_stints<R: Abort + Wait>(&mut self, rt: &R, number: u32, units: u32)
+        requires number { number < 2 }
+        ensures slots { self.new.hand.slots ≡ self.old.hand.slots }
+    {
+        send_two_stints(rt, &self.queue, &mut self.end, number, units);
+    }
+}
+
 /// Sends two stints of the task 1, of which the second is two turns later, and Stop.
 fn send_two_stints<R: Abort + Wait>(rt: &R, queue: &Queue, end: &mut End, number: u32, units: u32)
     requires queue { end.old ≡ queue.now }
     requires number { number < 2 }
+    ensures { end.new ≡ queue.now }
 {
     let orders = [
         Order::Take { task: 1, number },
@@ -269,59 +276,24 @@ fn send_two_stints<R: Abort + Wait>(rt: &R, queue: &Queue, end: &mut End, number
     }
 }
 
-/// A processor that works to its end.
-fn worked<R: Wait, G: Gate>(
-    rt: &R,
-    mut processor: Processor,
-    queue: &Queue,
-    slots: &Slots,
-    gate: &G,
-) -> Processor
-    requires slots { processor.hand.slots ≡ slots.now.id }
-    requires queue { processor.receiver.queue ≡ queue.now }
-    requires tasks { queue.now.tasks ≡ length slots.now.set.tasks }
-    requires in_step { IsInStep processor }
-    ensures in_step { IsInStep result }
-    ensures stopped { has_stop result.receiver.received ≡ true }
-    ensures seat { IsSameSeat processor result }
+/// The hand of a processor that works to its end.
+fn worked<R: Wait, G: Gate>(rt: &R, seat: Seat, slots: &Slots, gate: &G) -> Hand
+    requires slots { seat.hand.slots ≡ slots.now.id }
+    requires tasks { length slots.now.set.tasks ≡ 2 }
+    ensures { (result.slots ≡ slots.now.id) × (result.holds ≡ None) }
 {
-    processor.work(rt, queue, slots, gate);
-    processor
+    let Seat {
+        queue,
+        end: _,
+        mut processor,
+    } = seat;
+    processor.work(rt, &queue, slots, gate);
+    let (hand, _receiver) = processor.finish();
+    hand
 }
 
-/// Works two processors to their ends, each in a thread of its own.
+/// The hands of two processors that work to their ends, each in a thread of its own.
 fn both_worked<R: Threads + Wait + Sync, G: Gate + Sync>(
-    rt: &R,
-    slots: &Slots,
-    gate: &G,
-    first: &Queue,
-    one: Processor,
-    second: &Queue,
-    other: Processor,
-) -> (Processor, Processor)
-    requires one { (one.hand.slots ≡ slots.now.id) × (one.receiver.queue ≡ first.now) × IsInStep one }
-    requires other { (other.hand.slots ≡ slots.now.id) × (other.receiver.queue ≡ second.now) × IsInStep other }
-    requires tasks { (first.now.tasks ≡ 2) × (second.now.tasks ≡ 2) × (length slots.now.set.tasks ≡ 2) }
-    ensures one { IsInStep result.0 × (has_stop result.0.receiver.received ≡ true) × IsSameSeat one result.0 }
-    ensures other { IsInStep result.1 × (has_stop result.1.receiver.received ≡ true) × IsSameSeat other result.1 }
-{
-    thread::join(
-        rt,
-        move || -> Processor
-            requires { IsSync R.row × IsSync G.row × (one.hand.slots ≡ slots.now.id) × (one.receiver.queue ≡ first.now)
-                × (first.now.tasks ≡ length slots.now.set.tasks) × IsInStep one }
-            ensures { IsInStep result × (has_stop result.receiver.received ≡ true) × IsSameSeat one result }
-        { worked(rt, one, first, slots, gate) },
-        move || -> Processor
-            requires { IsSync R.row × IsSync G.row × (other.hand.slots ≡ slots.now.id) × (other.receiver.queue ≡ second.now)
-                × (second.now.tasks ≡ length slots.now.set.tasks) × IsInStep other }
-            ensures { IsInStep result × (has_stop result.receiver.received ≡ true) × IsSameSeat other result }
-        { worked(rt, other, second, slots, gate) },
-    )
-}
-
-/// Two processors hand the task 1 to and fro, each in a thread of its own.
-fn hand_to_and_fro<R: Abort + Threads + Wait + Sync, G: Gate + Sync>(
     rt: &R,
     slots: &Slots,
     gate: &G,
@@ -334,22 +306,38 @@ fn hand_to_and_fro<R: Abort + Threads + Wait + Sync, G: Gate + Sync>(
     ensures hand_0 { (result.0.slots ≡ slots.now.id) × (result.0.holds ≡ None) }
     ensures hand_1 { (result.1.slots ≡ slots.now.id) × (result.1.holds ≡ None) }
 {
-    let Seat {
-        queue: queue_0,
-        end: mut end_0,
-        processor: one,
-    } = first;
-    let Seat {
-        queue: queue_1,
-        end: mut end_1,
-        processor: other,
-    } = second;
-    send_two_stints(rt, &queue_0, &mut end_0, 0, 3);
-    send_two_stints(rt, &queue_1, &mut end_1, 1, 5);
-    let (one, other) = both_worked(rt, slots, gate, &queue_0, one, &queue_1, other);
-    let (hand_0, _receiver_0) = one.finish();
-    let (hand_1, _receiver_1) = other.finish();
-    (hand_0, hand_1)
+    thread::join(
+        rt,
+        move || -> Hand
+            requires { IsSync R.row × IsSync G.row × (first.hand.slots ≡ slots.now.id)
+                × (length slots.now.set.tasks ≡ 2) }
+            ensures { (result.slots ≡ slots.entry.now.id) × (result.holds ≡ None) }
+        { worked(rt, first, slots, gate) },
+        move || -> Hand
+            requires { IsSync R.row × IsSync G.row × (second.hand.slots ≡ slots.now.id)
+                × (length slots.now.set.tasks ≡ 2) }
+            ensures { (result.slots ≡ slots.entry.now.id) × (result.holds ≡ None) }
+        { worked(rt, second, slots, gate) },
+    )
+}
+
+/// Two processors hand the task 1 to and fro, each in a thread of its own.
+fn hand_to_and_fro<R: Abort + Threads + Wait + Sync, G: Gate + Sync>(
+    rt: &R,
+    slots: &Slots,
+    gate: &G,
+    mut first: Seat,
+    mut second: Seat,
+) -> (Hand, Hand)
+    requires first { first.hand.slots ≡ slots.now.id }
+    requires second { second.hand.slots ≡ slots.now.id }
+    requires tasks { length slots.now.set.tasks ≡ 2 }
+    ensures hand_0 { (result.0.slots ≡ slots.now.id) × (result.0.holds ≡ None) }
+    ensures hand_1 { (result.1.slots ≡ slots.now.id) × (result.1.holds ≡ None) }
+{
+    first.send_two_stints(rt, 0, 3);
+    second.send_two_stints(rt, 1, 5);
+    both_worked(rt, slots, gate, first, second)
 }
 
 /// The contexts after two processors handed the task 1 to and fro.
@@ -358,11 +346,11 @@ fn after_to_and_fro<R: Abort + Threads + Wait + Sync, G: Gate + Sync>(
     alloc: Global,
     set: &TaskSet,
     gate: &G,
-) -> Result<Vec<Context>, Fail>
+) -> Vec<Context>
     requires { (length set.now.tasks ≡ 2) × (set.now.processors ≡ 2) }
 {
-    let (slots, hand_0, hand_1) = two_hands(alloc, set)?;
-    let (first, second) = two_seats(alloc, &slots, hand_0, hand_1)?;
+    let (slots, hand_0, hand_1) = two_hands(rt, alloc, set);
+    let (first, second) = two_seats(rt, alloc, &slots, hand_0, hand_1);
     let (hand_0, hand_1) = hand_to_and_fro(rt, &slots, gate, first, second);
     contexts_of_two(rt, alloc, slots, hand_0, hand_1)
 }
@@ -376,25 +364,20 @@ fn is_after_to_and_fro(contexts: &[Context]) -> bool {
 }
 
 #[test]
-fn task_goes_to_and_fro(rt: HostRuntime) -> Result<(), Fail> {
-    let set = two_tasks(&rt, rt.alloc())?;
-    check_to_and_fro(&rt, rt.alloc(), &set)
+fn task_goes_to_and_fro(rt: HostRuntime) {
+    let set = two_tasks(&rt, rt.alloc());
+    check_to_and_fro(&rt, rt.alloc(), &set);
 }
 
 /// Two processors hand the task 1 to and fro by four takes, each of which calls the gate once.
-fn check_to_and_fro<R: Abort + Threads + Wait + Sync>(
-    rt: &R,
-    alloc: Global,
-    set: &TaskSet,
-) -> Result<(), Fail>
+fn check_to_and_fro<R: Abort + Threads + Wait + Sync>(rt: &R, alloc: Global, set: &TaskSet)
     requires { (length set.now.tasks ≡ 2) × (set.now.processors ≡ 2) }
 {
     let gate = Takes {
         count: AtomicU64::new(0),
     };
-    let contexts = after_to_and_fro(rt, alloc, set, &gate)?;
+    let contexts = after_to_and_fro(rt, alloc, set, &gate);
     assert_eq!(rt; contexts.len(), 2);
     assert!(rt; is_after_to_and_fro(&contexts));
     assert_eq!(rt; gate.count.load(Ordering::SeqCst), 4);
-    Ok(())
 }

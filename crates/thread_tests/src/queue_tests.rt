@@ -3,10 +3,9 @@ ghost use Rattle.std.specs.Prelude.{◌≡◌, []};
 
 use crate::ends::{End, is_stop, new_queue};
 use order_queues::{QUEUE_ROOM, Queue, Receiver, Sender, settle};
-use std::alloc::{AllocError, Global};
+use std::alloc::Global;
 use std::process::Abort;
 use std::sync::Wait;
-use std::test::Fail;
 use std::thread;
 use std::thread::Threads;
 use std::time::{Clock, Duration, Instant};
@@ -22,13 +21,12 @@ const FIRST_TAKE: Order = Order::Take { task: 0, number: 0 };
 const LONGEST_SLEEP: u64 = 60;
 
 #[test]
-fn queue_by_calls(rt: HostRuntime) -> Result<(), Fail> {
-    let (queue, mut end, mut receiver) = new_queue(rt.alloc())?;
+fn queue_by_calls(rt: HostRuntime) {
+    let (queue, mut end, mut receiver) = new_queue(&rt, rt.alloc());
     fill(&rt, &queue, &mut end, &mut receiver);
     empty(&rt, &queue, &mut end, &mut receiver);
     stop(&rt, &queue, &mut end, &mut receiver);
     settles(&rt, queue, end, receiver, 258);
-    Ok(())
 }
 
 /// The next order that is received is this, or there is none.
@@ -126,11 +124,10 @@ const SIX: [Order; 6] = [
 ];
 
 #[test]
-fn many_at_once(rt: HostRuntime) -> Result<(), Fail> {
-    let (queue, mut sender, mut receiver) = Queue::new(rt.alloc(), 1)?;
+fn many_at_once(rt: HostRuntime) {
+    let (queue, mut sender, mut receiver) = Queue::new(rt.alloc(), 1).expect(&rt, "memory");
     send_six(&rt, &queue, &mut sender);
     receive_six(&rt, &queue, &mut receiver);
-    Ok(())
 }
 
 /// Sends the six orders.
@@ -154,11 +151,10 @@ fn receive_six<R: Wait + Abort>(rt: &R, queue: &Queue, receiver: &mut Receiver)
 }
 
 #[test]
-fn two_threads_relay(rt: HostRuntime) -> Result<(), Fail> {
-    let (queue, end, receiver) = new_queue(rt.alloc())?;
-    let list = relayed(&rt, rt.alloc(), queue, end, receiver)?;
+fn two_threads_relay(rt: HostRuntime) {
+    let (queue, end, receiver) = new_queue(&rt, rt.alloc());
+    let list = relayed(&rt, rt.alloc(), queue, end, receiver);
     check_relayed(&rt, &list);
-    Ok(())
 }
 
 /// The orders that one thread receives from the other by a new queue.
@@ -168,14 +164,14 @@ fn relayed<R: Threads + Wait + Abort + Sync>(
     queue: Queue,
     end: End,
     receiver: Receiver,
-) -> Result<Vec<Order>, AllocError>
+) -> Vec<Order>
     requires queue { end ≡ queue }
     requires receiver { receiver.queue ≡ queue }
 {
-    let list = Vec::with_capacity(alloc, RELAYED as usize)?;
+    let list = Vec::with_capacity(alloc, RELAYED as usize).expect(rt, "memory");
     let (end, (receiver, list)) = relay(rt, &queue, end, receiver, list);
     settles(rt, queue, end, receiver, 100_000);
-    Ok(list)
+    list
 }
 
 /// These are all orders that are relayed, in their order.
@@ -259,14 +255,14 @@ fn receive_all<R: Wait + Abort>(
 }
 
 #[test]
-fn receiver_is_woken(rt: HostRuntime) -> Result<(), Fail> {
-    let (queue, end, receiver) = new_queue(rt.alloc())?;
-    let began = Instant::now(&rt)?;
+fn receiver_is_woken(rt: HostRuntime) {
+    let (queue, end, receiver) = new_queue(&rt, rt.alloc());
+    let began = Instant::now(&rt).expect(&rt, "a time");
     let (end, (receiver, order)) = stop_sleeper(&rt, &queue, end, receiver);
+    let slept = began.elapsed(&rt).expect(&rt, "a time");
     assert_eq!(rt; order, Some(Order::Stop));
-    assert!(rt; began.elapsed(&rt)? < Duration::from_secs(LONGEST_SLEEP / 2));
+    assert!(rt; slept < Duration::from_secs(LONGEST_SLEEP / 2));
     settles(&rt, queue, end, receiver, 1);
-    Ok(())
 }
 
 // One thread sleeps until it is woken, and then receives; the other sends `Stop` a while after, and wakes it.

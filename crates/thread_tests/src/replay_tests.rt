@@ -2,7 +2,6 @@
 ghost use Rattle.std.specs.Prelude.{◌≡◌, ◌≤◌, length};
 
 use crate::two_processors::{are_contexts, context, two_tasks};
-use affinity_mask::OutOfMemory;
 use processor_seat::{Gate, OpenGate};
 use replay::{Sighting, Watched, watched_schedule_of};
 use std::alloc::Global;
@@ -10,19 +9,18 @@ use std::process::Abort;
 use std::sync::Wait;
 use std::sync::atomic::AtomicU64;
 use std::sync::atomic::Ordering::SeqCst;
-use std::test::Fail;
 use std::thread::Threads;
 use task_set::{Event, TaskSet};
 use trace_reader::Posted;
 
 /// Two tasks arrive, each on a stream of its own: the second one may run where the first one is, which moves aside.
-fn watch_two<R: Threads + Wait + Sync, G: Gate + Sync>(
+fn watch_two<R: Threads + Wait + Sync + Abort, G: Gate + Sync>(
     rt: &R,
     alloc: Global,
     set: &TaskSet,
     observers: u32,
     gate: &G,
-) -> Result<Watched, OutOfMemory>
+) -> Watched
     requires tasks { length set.now.tasks ≡ 2 }
     requires observers { (1 ≤ observers) × (observers ≤ 8) }
 {
@@ -36,7 +34,7 @@ fn watch_two<R: Threads + Wait + Sync, G: Gate + Sync>(
             event: Event::Arrive(1),
         },
     ];
-    watched_schedule_of(rt, alloc, set, &events, observers, gate)
+    watched_schedule_of(rt, alloc, set, &events, observers, gate).expect(rt, "memory")
 }
 
 /// The same of a new set of the two tasks.
@@ -45,11 +43,11 @@ fn watch_new_two<R: Threads + Wait + Sync + Abort, G: Gate + Sync>(
     alloc: Global,
     observers: u32,
     gate: &G,
-) -> Result<Watched, Fail>
+) -> Watched
     requires { (1 ≤ observers) × (observers ≤ 8) }
 {
-    let set = two_tasks(rt, alloc)?;
-    Ok(watch_two(rt, alloc, &set, observers, gate)?)
+    let set = two_tasks(rt, alloc);
+    watch_two(rt, alloc, &set, observers, gate)
 }
 
 /// An observer of the two arrivals saw both in the end.
@@ -72,10 +70,9 @@ fn expect_watched(rt: &impl Abort, made: &Watched) {
 }
 
 #[test]
-fn watched_by_calls(rt: HostRuntime) -> Result<(), Fail> {
-    let made = watch_new_two(&rt, rt.alloc(), 1, &OpenGate)?;
+fn watched_by_calls(rt: HostRuntime) {
+    let made = watch_new_two(&rt, rt.alloc(), 1, &OpenGate);
     expect_watched(&rt, &made);
-    Ok(())
 }
 
 /// It counts the calls before and after the posts, and before the reads of two observers.
@@ -105,23 +102,22 @@ fn sightings_beside<R: Threads + Wait + Sync + Abort>(
     rt: &R,
     alloc: Global,
     gate: &CountingGate,
-) -> Result<usize, Fail> {
-    let made = watch_new_two(rt, alloc, 2, gate)?;
-    Ok(made.sightings.len())
+) -> usize {
+    let made = watch_new_two(rt, alloc, 2, gate);
+    made.sightings.len()
 }
 
 #[test]
-fn gate_is_called_at_each_read(rt: HostRuntime) -> Result<(), Fail> {
+fn gate_is_called_at_each_read(rt: HostRuntime) {
     let gate = CountingGate {
         before: AtomicU64::new(0),
         after: AtomicU64::new(0),
         first_reads: AtomicU64::new(0),
         second_reads: AtomicU64::new(0),
     };
-    assert_eq!(rt; sightings_beside(&rt, rt.alloc(), &gate)?, 2);
+    assert_eq!(rt; sightings_beside(&rt, rt.alloc(), &gate), 2);
     assert_eq!(rt; gate.before.load(SeqCst), 2);
     assert_eq!(rt; gate.after.load(SeqCst), 2);
     assert_eq!(rt; gate.first_reads.load(SeqCst), 100);
     assert_eq!(rt; gate.second_reads.load(SeqCst), 100);
-    Ok(())
 }

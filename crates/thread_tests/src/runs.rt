@@ -5,33 +5,33 @@ use command_line::run;
 use commands::Status;
 use processor_seat::{Gate, OpenGate};
 use shift_io::{MemSink, MemSource};
-use std::alloc::{AllocError, Global};
+use std::alloc::Global;
 use std::process::Abort;
 use std::sync::Wait;
 use std::sync::atomic::{AtomicBool, AtomicU64, Ordering};
-use std::test::Fail;
 use std::thread::Threads;
 use std::{str, thread};
 
 /// These words, each owned.
-fn owned(alloc: Global, words: &[&str]) -> Result<Vec<String>, AllocError> {
+fn owned(rt: &impl Abort, alloc: Global, words: &[&str]) -> Vec<String> {
     let mut owned = Vec::new(alloc);
     for word in words {
-        owned.push(String::from_str(alloc, word)?)?;
+        let word = String::from_str(alloc, word).expect(rt, "memory");
+        assert!(rt; owned.push(word).is_ok());
     }
-    Ok(owned)
+    owned
 }
 
 /// A source of these bytes, which does not fail.
-fn source_of(alloc: Global, bytes: &[u8]) -> Result<MemSource, AllocError> {
-    let bytes = Vec::from_slice(alloc, bytes)?;
-    Ok(MemSource::new(bytes, 4096, Vec::new(alloc)))
+fn source_of(rt: &impl Abort, alloc: Global, bytes: &[u8]) -> MemSource {
+    let bytes = Vec::from_slice(alloc, bytes).expect(rt, "memory");
+    MemSource::new(bytes, 4096, Vec::new(alloc))
 }
 
 /// A sink with room for 4,096 bytes, which does not fail.
-fn new_sink(alloc: Global) -> Result<MemSink, AllocError> {
-    let room = vec![in alloc; 0u8; 4096]?;
-    Ok(MemSink::new(room, 4096, Vec::new(alloc)))
+fn new_sink(rt: &impl Abort, alloc: Global) -> MemSink {
+    let room = vec![in alloc; 0u8; 4096].expect(rt, "memory");
+    MemSink::new(room, 4096, Vec::new(alloc))
 }
 
 /// What a call with this gate puts for these bytes; it is done.
@@ -41,13 +41,13 @@ fn put_with<R: Threads + Wait + Sync + Abort, G: Gate + Sync>(
     words: &[&str],
     input: &[u8],
     gate: &G,
-) -> Result<MemSink, Fail> {
-    let words = owned(alloc, words)?;
-    let mut source = source_of(alloc, input)?;
-    let mut sink = new_sink(alloc)?;
+) -> MemSink {
+    let words = owned(rt, alloc, words);
+    let mut source = source_of(rt, alloc, input);
+    let mut sink = new_sink(rt, alloc);
     let status = run(rt, alloc, &words, &mut source, &mut sink, gate);
     assert!(rt; status == Status::Done, "{status}");
-    Ok(sink)
+    sink
 }
 
 /// `run` writes this schedule for this input, with this gate.
@@ -57,10 +57,9 @@ fn expect_with_gate<R: Threads + Wait + Sync + Abort, G: Gate + Sync>(
     input: &str,
     schedule: &str,
     gate: &G,
-) -> Result<(), Fail> {
-    let put = put_with(rt, alloc, &["run"], input.as_bytes(), gate)?;
+) {
+    let put = put_with(rt, alloc, &["run"], input.as_bytes(), gate);
     assert_eq!(rt; str::from_utf8(put.bytes()), Ok(schedule));
-    Ok(())
 }
 
 /// How often a gate looks before it lets a thread go on all the same.
@@ -147,15 +146,14 @@ contexts 2\na units 1 stints 2 moves 1 last 1 trail 65\n\
 b units 1 stints 1 moves 0 last 0 trail 6364136223846793069\nend\n";
 
 #[test]
-fn streams_run_beside_each_other(rt: HostRuntime) -> Result<(), Fail> {
+fn streams_run_beside_each_other(rt: HostRuntime) {
     let gate = StreamGate {
         zero_posted: AtomicU64::new(0),
         one_posted: AtomicU64::new(0),
         late: AtomicBool::new(false),
     };
-    expect_with_gate(&rt, rt.alloc(), TWO_STREAMS, SCHEDULE_OF_TWO_STREAMS, &gate)?;
+    expect_with_gate(&rt, rt.alloc(), TWO_STREAMS, SCHEDULE_OF_TWO_STREAMS, &gate);
     assert!(rt; !gate.late.load(Ordering::SeqCst));
-    Ok(())
 }
 
 static TWO_WORKERS: &str =
@@ -167,17 +165,16 @@ contexts 2\na units 0 stints 2 moves 1 last 1 trail 0\n\
 b units 0 stints 1 moves 0 last 0 trail 1\nend\n";
 
 #[test]
-fn workers_run_beside_each_other(rt: HostRuntime) -> Result<(), Fail> {
+fn workers_run_beside_each_other(rt: HostRuntime) {
     let gate = WorkerGate {
         zero_takes: AtomicU64::new(0),
         one_takes: AtomicU64::new(0),
         late: AtomicBool::new(false),
     };
-    expect_with_gate(&rt, rt.alloc(), TWO_WORKERS, SCHEDULE_OF_TWO_WORKERS, &gate)?;
+    expect_with_gate(&rt, rt.alloc(), TWO_WORKERS, SCHEDULE_OF_TWO_WORKERS, &gate);
     assert!(rt; !gate.late.load(Ordering::SeqCst));
     assert_eq!(rt; gate.zero_takes.load(Ordering::SeqCst), 2);
     assert_eq!(rt; gate.one_takes.load(Ordering::SeqCst), 1);
-    Ok(())
 }
 
 /// It counts the calls before and after posts.
@@ -198,15 +195,14 @@ impl Gate for PostGate {
 }
 
 #[test]
-fn large_calls_the_gate_at_each_post(rt: HostRuntime) -> Result<(), Fail> {
+fn large_calls_the_gate_at_each_post(rt: HostRuntime) {
     let gate = PostGate {
         before: AtomicU64::new(0),
         after: AtomicU64::new(0),
     };
-    let _put = put_with(&rt, rt.alloc(), &["large", "7", "2", "3", "10"], b"", &gate)?;
+    let _put = put_with(&rt, rt.alloc(), &["large", "7", "2", "3", "10"], b"", &gate);
     assert_eq!(rt; gate.before.load(Ordering::SeqCst), 10);
     assert_eq!(rt; gate.after.load(Ordering::SeqCst), 10);
-    Ok(())
 }
 
 /// It looks at a counter before it lets a thread go on, at each call another number of times, below 1,000.
@@ -237,28 +233,19 @@ task idle_scan 40 4-7\n0 arrive audio\n1 arrive ctl\n2 arrive irq0\n0 tick 100\n
 2 arrive ui\n0 tick 200\n1 depart ctl\nend\n";
 
 /// What `run` writes with a slow gate, which is called before and after each of the 29 posts.
-fn put_slowly<R: Threads + Wait + Sync + Abort>(
-    rt: &R,
-    alloc: Global,
-    pace: u64,
-) -> Result<MemSink, Fail> {
+fn put_slowly<R: Threads + Wait + Sync + Abort>(rt: &R, alloc: Global, pace: u64) -> MemSink {
     let calls = AtomicU64::new(0);
     let gate = SlowGate { pace, calls };
-    let put = put_with(rt, alloc, &["run"], ON_THREE_STREAMS.as_bytes(), &gate)?;
+    let put = put_with(rt, alloc, &["run"], ON_THREE_STREAMS.as_bytes(), &gate);
     let calls = gate.calls.load(Ordering::SeqCst);
     assert!(rt; calls >= 58, "at the pace {pace}");
-    Ok(put)
+    put
 }
 
 /// It is a valid schedule.
-fn expect_valid<R: Threads + Wait + Sync + Abort>(
-    rt: &R,
-    alloc: Global,
-    schedule: &[u8],
-) -> Result<(), Fail> {
-    let put = put_with(rt, alloc, &["check"], schedule, &OpenGate)?;
+fn expect_valid<R: Threads + Wait + Sync + Abort>(rt: &R, alloc: Global, schedule: &[u8]) {
+    let put = put_with(rt, alloc, &["check"], schedule, &OpenGate);
     assert_eq!(rt; str::from_utf8(put.bytes()), Ok("valid 29\n"));
-    Ok(())
 }
 
 /// Whether the entries of a stream in a schedule are of the lines of this stream in the input, each once, in their order.
@@ -279,24 +266,18 @@ fn is_in_order(schedule: &str, stream: &str) -> bool {
 }
 
 /// The schedule with a slow gate is valid, with each stream in its order.
-fn expect_slow<R: Threads + Wait + Sync + Abort>(
-    rt: &R,
-    alloc: Global,
-    pace: u64,
-) -> Result<(), Fail> {
-    let put = put_slowly(rt, alloc, pace)?;
-    expect_valid(rt, alloc, put.bytes())?;
+fn expect_slow<R: Threads + Wait + Sync + Abort>(rt: &R, alloc: Global, pace: u64) {
+    let put = put_slowly(rt, alloc, pace);
+    expect_valid(rt, alloc, put.bytes());
     let schedule = str::from_utf8(put.bytes()).unwrap_or("");
     for stream in ["0 ", "1 ", "2 "] {
         assert!(rt; is_in_order(schedule, stream), "{stream}at the pace {pace}");
     }
-    Ok(())
 }
 
 #[test]
-fn slow_gates(rt: HostRuntime) -> Result<(), Fail> {
+fn slow_gates(rt: HostRuntime) {
     for pace in 0..20 {
-        expect_slow(&rt, rt.alloc(), pace)?;
+        expect_slow(&rt, rt.alloc(), pace);
     }
-    Ok(())
 }

@@ -2,13 +2,11 @@
 ghost use Rattle.std.specs.Prelude.{◌≡◌, length};
 
 use crate::two_processors::{are_contexts, context, two_tasks};
-use affinity_mask::OutOfMemory;
 use processor_seat::OpenGate;
 use replay::{Schedule, schedule_of};
 use std::alloc::Global;
 use std::process::Abort;
 use std::sync::Wait;
-use std::test::Fail;
 use std::thread::Threads;
 use task_set::{Event, TaskSet};
 use trace_reader::Posted;
@@ -22,11 +20,11 @@ fn is_expected(rt: &impl Abort, made: &Schedule) {
 }
 
 /// The schedule of the arrivals of two tasks.
-fn schedule_of_two<R: Threads + Wait + Sync>(
+fn schedule_of_two<R: Abort + Threads + Wait + Sync>(
     rt: &R,
     alloc: Global,
     set: &TaskSet,
-) -> Result<Schedule, OutOfMemory>
+) -> Schedule
     requires { length set.now.tasks ≡ 2 }
 {
     let events = [
@@ -39,24 +37,19 @@ fn schedule_of_two<R: Threads + Wait + Sync>(
             event: Event::Arrive(1),
         },
     ];
-    schedule_of(rt, alloc, set, &events, &OpenGate)
+    schedule_of(rt, alloc, set, &events, &OpenGate).expect(rt, "memory")
 }
 
 #[test]
-fn schedule_by_calls(rt: HostRuntime) -> Result<(), Fail> {
-    let set = two_tasks(&rt, rt.alloc())?;
-    check_schedule(&rt, rt.alloc(), &set)
+fn schedule_by_calls(rt: HostRuntime) {
+    let set = two_tasks(&rt, rt.alloc());
+    check_schedule(&rt, rt.alloc(), &set);
 }
 
 /// The schedule of the arrivals of these two tasks is as expected.
-fn check_schedule<R: Abort + Threads + Wait + Sync>(
-    rt: &R,
-    alloc: Global,
-    set: &TaskSet,
-) -> Result<(), Fail>
+fn check_schedule<R: Abort + Threads + Wait + Sync>(rt: &R, alloc: Global, set: &TaskSet)
     requires { length set.now.tasks ≡ 2 }
 {
-    let made = schedule_of_two(rt, alloc, set)?;
+    let made = schedule_of_two(rt, alloc, set);
     is_expected(rt, &made);
-    Ok(())
 }

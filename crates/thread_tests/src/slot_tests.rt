@@ -1,5 +1,5 @@
 //! A hand-over by calls, and hand-overs between threads.
-ghost use Rattle.std.specs.Prelude.{◌≡◌, ℕ, ◌<◌, ◌≤◌, None, All, IfOk, OnOk, length, slice_index_or};
+ghost use Rattle.std.specs.Prelude.{◌≡◌, ℕ, ◌<◌, ◌≤◌, None, All, IfOk, length, slice_index_or};
 ghost use Rattle.std.specs.Thread.{IsSync};
 ghost use Rattle.context_slots.specs.Hands.{HandData, AreAll};
 
@@ -11,7 +11,6 @@ use context_slots::{Hand, Slots};
 use std::alloc::{AllocError, Global};
 use std::process::Abort;
 use std::sync::Wait;
-use std::test::Fail;
 use std::thread;
 use std::thread::Threads;
 use task_set::{Context, TaskSet};
@@ -25,104 +24,98 @@ fn new_slots(alloc: Global, set: &TaskSet) -> Result<(Slots, Vec<Hand>), OutOfMe
 }
 
 /// What the hand finds at the task 0, which it does not get for the stint of this number.
-fn found(slots: &Slots, hand: &mut Hand, number: u32) -> Result<u64, Fail>
+fn found(rt: &impl Abort, slots: &Slots, hand: &mut Hand, number: u32) -> u64
     requires hand { (hand.old.slots ≡ slots.now.id) × (hand.old.holds ≡ None) }
     requires tasks { 0 < length slots.now.set.tasks }
-    ensures { OnOk result ((hand.new.slots ≡ slots.now.id) × (hand.new.holds ≡ None)
-        × (hand.new.number ≡ hand.old.number)) }
+    ensures { (hand.new.slots ≡ slots.now.id) × (hand.new.holds ≡ None)
+        × (hand.new.number ≡ hand.old.number) }
 {
     match slots.take(hand, 0, number) {
-        Ok(_held) => Err(Fail::new("taken out of turn")),
-        Err(no) => Ok(no.found),
+        Ok(_held) => panic!(rt; "taken out of turn"),
+        Err(no) => no.found,
     }
 }
 
 /// The hand takes the task 0 at its turn, runs it and releases it.
-fn take_and_run(slots: &Slots, hand: &mut Hand, number: u32, units: u32) -> Result<(), Fail>
+fn take_and_run(rt: &impl Abort, slots: &Slots, hand: &mut Hand, number: u32, units: u32)
     requires hand { (hand.old.slots ≡ slots.now.id) × (hand.old.holds ≡ None) }
     requires tasks { 0 < length slots.now.set.tasks }
-    ensures { OnOk result ((hand.new.slots ≡ slots.now.id) × (hand.new.holds ≡ None)
-        × (hand.new.number ≡ hand.old.number)) }
+    ensures { (hand.new.slots ≡ slots.now.id) × (hand.new.holds ≡ None)
+        × (hand.new.number ≡ hand.old.number) }
 {
-    let mut held = slots.take(hand, 0, number)?;
+    let mut held = slots.take(hand, 0, number).expect(rt, "its turn");
     slots.run(hand, &mut held, units);
     slots.release(hand, held);
-    Ok(())
 }
 
 /// The first hand has the task 0 for its first stint: what the second one finds meanwhile, by a take and by a look.
-fn first_stint(slots: &Slots, first: &mut Hand, second: &mut Hand) -> Result<(u64, u64), Fail>
+fn first_stint(rt: &impl Abort, slots: &Slots, first: &mut Hand, second: &mut Hand) -> (u64, u64)
     requires first { (first.old.slots ≡ slots.now.id) × (first.old.holds ≡ None) }
     requires second { (second.old.slots ≡ slots.now.id) × (second.old.holds ≡ None) }
     requires tasks { 0 < length slots.now.set.tasks }
-    ensures first { OnOk result ((first.new.slots ≡ slots.now.id) × (first.new.holds ≡ None)
-        × (first.new.number ≡ first.old.number)) }
-    ensures second { OnOk result ((second.new.slots ≡ slots.now.id) × (second.new.holds ≡ None)
-        × (second.new.number ≡ second.old.number)) }
+    ensures first { (first.new.slots ≡ slots.now.id) × (first.new.holds ≡ None)
+        × (first.new.number ≡ first.old.number) }
+    ensures second { (second.new.slots ≡ slots.now.id) × (second.new.holds ≡ None)
+        × (second.new.number ≡ second.old.number) }
 {
-    let mut held = slots.take(first, 0, 0)?;
-    let out = found(slots, second, 0)?;
+    let mut held = slots.take(first, 0, 0).expect(rt, "its turn");
+    let out = found(rt, slots, second, 0);
     let turn = slots.turn(second, 0);
     slots.run(first, &mut held, 5);
     slots.release(first, held);
-    Ok((out, turn))
+    (out, turn)
 }
 
 /// What the second hand finds after the first stint of the task 0, of which it makes the next one.
-fn second_stint(slots: &Slots, second: &mut Hand) -> Result<u64, Fail>
+fn second_stint(rt: &impl Abort, slots: &Slots, second: &mut Hand) -> u64
     requires second { (second.old.slots ≡ slots.now.id) × (second.old.holds ≡ None) }
     requires tasks { 0 < length slots.now.set.tasks }
-    ensures { OnOk result ((second.new.slots ≡ slots.now.id) × (second.new.holds ≡ None)
-        × (second.new.number ≡ second.old.number)) }
+    ensures { (second.new.slots ≡ slots.now.id) × (second.new.holds ≡ None)
+        × (second.new.number ≡ second.old.number) }
 {
-    let next = found(slots, second, 0)?;
-    take_and_run(slots, second, 1, 2)?;
-    Ok(next)
+    let next = found(rt, slots, second, 0);
+    take_and_run(rt, slots, second, 1, 2);
+    next
 }
 
 /// Two processors pass task 0 from one to the other: what the second one finds, one look after the other.
-fn pass_by_calls(slots: &Slots, first: &mut Hand, second: &mut Hand) -> Result<[u64; 3], Fail>
+fn pass_by_calls(rt: &impl Abort, slots: &Slots, first: &mut Hand, second: &mut Hand) -> [u64; 3]
     requires first { (first.old.slots ≡ slots.now.id) × (first.old.holds ≡ None) }
     requires second { (second.old.slots ≡ slots.now.id) × (second.old.holds ≡ None) }
     requires tasks { 0 < length slots.now.set.tasks }
-    ensures first { OnOk result ((first.new.slots ≡ slots.now.id) × (first.new.holds ≡ None)
-        × (first.new.number ≡ first.old.number)) }
-    ensures second { OnOk result ((second.new.slots ≡ slots.now.id) × (second.new.holds ≡ None)
-        × (second.new.number ≡ second.old.number)) }
+    ensures first { (first.new.slots ≡ slots.now.id) × (first.new.holds ≡ None)
+        × (first.new.number ≡ first.old.number) }
+    ensures second { (second.new.slots ≡ slots.now.id) × (second.new.holds ≡ None)
+        × (second.new.number ≡ second.old.number) }
 {
-    let (out, turn) = first_stint(slots, first, second)?;
-    let next = second_stint(slots, second)?;
-    Ok([out, turn, next])
+    let (out, turn) = first_stint(rt, slots, first, second);
+    let next = second_stint(rt, slots, second);
+    [out, turn, next]
 }
 
 /// What two hands find as they pass task 0 on, and the contexts in the end.
-fn after_passing(
-    rt: &impl Abort,
-    alloc: Global,
-    set: &TaskSet,
-) -> Result<([u64; 3], Vec<Context>), Fail>
+fn after_passing(rt: &impl Abort, alloc: Global, set: &TaskSet) -> ([u64; 3], Vec<Context>)
     requires { (length set.now.tasks ≡ 2) × (set.now.processors ≡ 2) }
 {
-    let (slots, mut first, mut second) = two_hands(alloc, set)?;
-    let found = pass_by_calls(&slots, &mut first, &mut second)?;
-    Ok((found, contexts_of_two(rt, alloc, slots, first, second)?))
+    let (slots, mut first, mut second) = two_hands(rt, alloc, set);
+    let found = pass_by_calls(rt, &slots, &mut first, &mut second);
+    (found, contexts_of_two(rt, alloc, slots, first, second))
 }
 
 #[test]
-fn hand_over_by_calls(rt: HostRuntime) -> Result<(), Fail> {
-    let set = two_tasks(&rt, rt.alloc())?;
-    check_passed(&rt, rt.alloc(), &set)
+fn hand_over_by_calls(rt: HostRuntime) {
+    let set = two_tasks(&rt, rt.alloc());
+    check_passed(&rt, rt.alloc(), &set);
 }
 
 /// What two hands find as they pass a task of this set on, and the contexts that this leaves.
-fn check_passed(rt: &impl Abort, alloc: Global, set: &TaskSet) -> Result<(), Fail>
+fn check_passed(rt: &impl Abort, alloc: Global, set: &TaskSet)
     requires { (length set.now.tasks ≡ 2) × (set.now.processors ≡ 2) }
 {
-    let (found, made) = after_passing(rt, alloc, set)?;
+    let (found, made) = after_passing(rt, alloc, set);
     assert_eq!(rt; found, [1, 1, 2]);
     let a = context(0, 7, 2, 1, Some(1), 7381743522923083969);
     are_contexts(rt, &made, a, context(1, 0, 0, 0, None, 1));
-    Ok(())
 }
 
 /// How many tasks go round, on how many processors, and how many stints all of them make.
@@ -218,31 +211,30 @@ fn all_go_round<R: Threads + Wait + Sync>(
 }
 
 /// One task more.
-fn add_task(alloc: Global, set: &mut TaskSet, t: u32) -> Result<(), Fail> {
-    let name = format!(in alloc; "t{t}")?;
-    set.add(&name, t, ProcSet::first(PROCESSORS))?;
-    Ok(())
+fn add_task(rt: &impl Abort, alloc: Global, set: &mut TaskSet, t: u32) {
+    let name = format!(in alloc; "t{t}").expect(rt, "memory");
+    assert!(rt; set.add(&name, t, ProcSet::first(PROCESSORS)).is_ok());
 }
 
 /// The set of the round.
-fn round_set(rt: &impl Abort, alloc: Global) -> Result<TaskSet, Fail>
-    ensures { IfOk result (λ set. length set.tasks ≡ 64) }
+fn round_set(rt: &impl Abort, alloc: Global) -> TaskSet
+    ensures { length result.tasks ≡ 64 }
 {
-    let mut set = TaskSet::new(alloc, PROCESSORS)?;
+    let mut set = TaskSet::new(alloc, PROCESSORS).expect(rt, "memory");
     for t in 0..TASKS {
-        add_task(alloc, &mut set, t)?;
+        add_task(rt, alloc, &mut set, t);
     }
     assert!(rt; set.len() == 64);
-    Ok(set)
+    set
 }
 
 /// A context of each task that did nothing.
-fn fresh_contexts(alloc: Global) -> Result<Vec<Context>, AllocError> {
-    let mut contexts = Vec::with_capacity(alloc, TASKS as usize)?;
+fn fresh_contexts(rt: &impl Abort, alloc: Global) -> Vec<Context> {
+    let mut contexts = Vec::new(alloc);
     for t in 0..TASKS {
-        contexts.push(Context::fresh(t))?;
+        assert!(rt; contexts.push(Context::fresh(t)).is_ok());
     }
-    Ok(contexts)
+    contexts
 }
 
 /// The contexts after the round, made by one processor after the other.
@@ -257,35 +249,30 @@ fn after_round(contexts: &mut Vec<Context>) {
 }
 
 /// The contexts after the round, made by eight threads.
-fn contexts_of_round<R: Threads + Wait + Sync>(
+fn contexts_of_round<R: Abort + Threads + Wait + Sync>(
     rt: &R,
     alloc: Global,
     set: &TaskSet,
-) -> Result<Vec<Context>, Fail>
+) -> Vec<Context>
     requires { length set.now.tasks ≡ 64 }
 {
-    let (slots, hands) = new_slots(alloc, set)?;
-    let hands = all_go_round(rt, &slots, hands)?;
-    contexts(alloc, slots, hands)
+    let (slots, hands) = new_slots(alloc, set).expect(rt, "memory");
+    let hands = all_go_round(rt, &slots, hands).expect(rt, "memory");
+    contexts(rt, alloc, slots, hands)
 }
 
 #[test]
-fn eight_threads_pass_contexts_round(rt: HostRuntime) -> Result<(), Fail> {
-    let set = round_set(&rt, rt.alloc())?;
-    check_round(&rt, rt.alloc(), &set)
+fn eight_threads_pass_contexts_round(rt: HostRuntime) {
+    let set = round_set(&rt, rt.alloc());
+    check_round(&rt, rt.alloc(), &set);
 }
 
 /// Eight threads leave the contexts that one would.
-fn check_round<R: Abort + Threads + Wait + Sync>(
-    rt: &R,
-    alloc: Global,
-    set: &TaskSet,
-) -> Result<(), Fail>
+fn check_round<R: Abort + Threads + Wait + Sync>(rt: &R, alloc: Global, set: &TaskSet)
     requires { length set.now.tasks ≡ 64 }
 {
-    let contexts = contexts_of_round(rt, alloc, set)?;
-    let mut expected = fresh_contexts(alloc)?;
+    let contexts = contexts_of_round(rt, alloc, set);
+    let mut expected = fresh_contexts(rt, alloc);
     after_round(&mut expected);
     assert_eq!(rt; contexts.as_slice(), expected.as_slice());
-    Ok(())
 }

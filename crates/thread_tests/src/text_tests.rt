@@ -3,11 +3,10 @@ ghost use Rattle.std.specs.Prelude.{◌<◌, ◌≤◌};
 
 use commands::watched_text;
 use processor_seat::Gate;
-use std::alloc::{AllocError, Global};
+use std::alloc::Global;
 use std::process::Abort;
 use std::sync::Wait;
 use std::sync::atomic::{AtomicBool, AtomicU64, Ordering};
-use std::test::Fail;
 use std::thread::Threads;
 use std::{str, thread};
 
@@ -31,34 +30,33 @@ static READ_OF_TWO: [&str; 6] = [
 ];
 
 /// Whether a line is that of an observer that read this.
-fn is_line_of(alloc: Global, line: &str, number: usize, read: &str) -> Result<bool, AllocError> {
-    let expected = format!(in alloc; "observer {number} {read} told 2 0-1")?;
-    Ok(line == expected.as_str())
+fn is_line_of(rt: &impl Abort, alloc: Global, line: &str, number: usize, read: &str) -> bool {
+    let expected = format!(in alloc; "observer {number} {read} told 2 0-1").expect(rt, "memory");
+    line == expected.as_str()
 }
 
 /// Whether a line is that of an observer of the two entries.
-fn is_line_of_two(alloc: Global, line: &str, number: usize) -> Result<bool, AllocError> {
+fn is_line_of_two(rt: &impl Abort, alloc: Global, line: &str, number: usize) -> bool {
     for read in &READ_OF_TWO {
-        if is_line_of(alloc, line, number, read)? {
-            return Ok(true);
+        if is_line_of(rt, alloc, line, number, read) {
+            return true;
         }
     }
-    Ok(false)
+    false
 }
 
 /// The text is the schedule of the two tasks, the lines of two observers, and the end.
-fn expect_two(rt: &impl Abort, alloc: Global, text: &str) -> Result<(), Fail> {
+fn expect_two(rt: &impl Abort, alloc: Global, text: &str) {
     let rest = text.strip_prefix(SCHEDULE_OF_TWO_TASKS).unwrap_or("");
     let mut lines = rest.lines();
     assert_eq!(rt; lines.next(), Some("observers 2"), "at {text:?}");
     for number in 0usize..2 {
         let line = lines.next().unwrap_or("");
-        assert!(rt; is_line_of_two(alloc, line, number)?, "at {line:?}");
+        assert!(rt; is_line_of_two(rt, alloc, line, number), "at {line:?}");
     }
     assert_eq!(rt; lines.next(), Some("end"));
     assert_eq!(rt; lines.next(), None);
     assert!(rt; rest.ends_with("\nend\n"));
-    Ok(())
 }
 
 /// The text that is made of this input, with so many observers and this gate.
@@ -68,16 +66,10 @@ fn watched<R: Threads + Wait + Sync + Abort, G: Gate + Sync>(
     input: &str,
     observers: u32,
     gate: &G,
-) -> Result<Vec<u8>, Fail>
+) -> Vec<u8>
     requires { (1 ≤ observers) × (observers ≤ 8) }
 {
-    match watched_text(rt, alloc, input.as_bytes(), observers, gate) {
-        Ok(text) => Ok(text),
-        Err(status) => {
-            assert!(rt; false, "{status}");
-            Ok(Vec::new(alloc))
-        }
-    }
+    watched_text(rt, alloc, input.as_bytes(), observers, gate).expect(rt, "a text")
 }
 
 /// How often a gate looks before it lets a thread go on all the same.
@@ -127,27 +119,22 @@ impl Gate for ObserverGate {
 }
 
 /// The two posts and the reads of an observer waited for each other, and the text is that of the two tasks.
-fn expect_beside(
-    rt: &impl Abort,
-    alloc: Global,
-    gate: &ObserverGate,
-    text: &str,
-) -> Result<(), Fail> {
+fn expect_beside(rt: &impl Abort, alloc: Global, gate: &ObserverGate, text: &str) {
     assert!(rt; !gate.late.load(Ordering::SeqCst));
     assert_eq!(rt; gate.posts.load(Ordering::SeqCst), 2);
     assert_eq!(rt; gate.reads.load(Ordering::SeqCst), 100);
     assert!(rt; text.contains("observer 0 first 1 0 last "), "{text}");
-    expect_two(rt, alloc, text)
+    expect_two(rt, alloc, text);
 }
 
 #[test]
-fn observers_read_beside_posts(rt: HostRuntime) -> Result<(), Fail> {
+fn observers_read_beside_posts(rt: HostRuntime) {
     let gate = ObserverGate {
         posts: AtomicU64::new(0),
         reads: AtomicU64::new(0),
         late: AtomicBool::new(false),
     };
-    let text = watched(&rt, rt.alloc(), TWO_TASKS, 2, &gate)?;
+    let text = watched(&rt, rt.alloc(), TWO_TASKS, 2, &gate);
     let text = str::from_utf8(&text).unwrap_or("");
-    expect_beside(&rt, rt.alloc(), &gate, text)
+    expect_beside(&rt, rt.alloc(), &gate, text);
 }
