@@ -31,7 +31,7 @@ class State:
 
     def mask(self, t):
         """The effective mask of a task."""
-        return self.masks[t] & self.online
+        return self.masks[t] if len(self.online) == self.processors else self.masks[t] & self.online
 
     def place(self, t):
         return next((p for p, u in self.on.items() if u == t), None)
