@@ -35,6 +35,8 @@ class Spans:
             self.moments.append(self.moments[-1] + (event[1] if event[0] == 'tick' else 0))
             self.see(number, state)
         self.end = self.entries + 1
+        # Where the state after each number of entries stands, and the end of the last entry.
+        self.places = {'draw': [*self.moments, self.moments[-1]], 'steps': [max(0, n - 1) for n in range(self.end + 1)]}
 
     def see(self, number, state):
         """Takes what holds after the entry of this number."""
@@ -45,14 +47,8 @@ class Spans:
         for t in range(len(self.names)):
             see_one(self.rows[t], number, places.get(t, WAITS) if t in state.ready else None)
 
-    def place(self, axis, n):
-        """Where the state after n entries stands on the axis, and of the number after the last entry the end."""
-        if axis == 'draw':
-            return self.moments[min(n, self.entries)]
-        return max(0, n - 1)
-
     def whole(self, axis):
-        return self.moments[-1] if axis == 'draw' else self.entries
+        return self.places[axis][-1]
 
 
 def see_one(spans, number, what):
@@ -70,22 +66,20 @@ class Sheet:
 
     def __init__(self, spans, axis, window):
         whole = spans.whole(axis)
-        self.spans, self.axis = spans, axis
+        self.spans, self.places = spans, spans.places[axis]
         self.first, self.last = (min(end, whole) for end in window or (0, whole))
-
-    def place(self, n):
-        return self.spans.place(self.axis, n)
+        self.rows = self.listed()
 
     def part(self, span):
         """The part of a span within the window, or None where it has no length."""
-        begin, end = max(self.place(span[0]), self.first), min(self.place(span[1]), self.last)
+        begin, end = max(self.places[span[0]], self.first), min(self.places[span[1]], self.last)
         return (begin, end) if begin < end else None
 
     def touches(self, span):
-        return self.place(span[0]) <= self.last and self.first <= self.place(span[1])
+        return self.places[span[0]] <= self.last and self.first <= self.places[span[1]]
 
     def shows(self, n):
-        return self.first <= self.place(n) <= self.last
+        return self.first <= self.places[n] <= self.last
 
     def listed(self):
         """The tasks of the rows."""
@@ -111,7 +105,7 @@ class Sheet:
 
     def row_rects(self):
         found = []
-        for k, t in enumerate(self.listed()):
+        for k, t in enumerate(self.rows):
             for span in self.spans.rows[t]:
                 part = self.part(span)
                 if part:
@@ -123,7 +117,8 @@ class Sheet:
 
     def is_marked(self):
         """Whether the window shows so few entries that each move, arrival and departure is drawn."""
-        shown = [n for n in range(1, self.spans.end) if self.place(n) <= self.last and self.first <= self.place(n + 1)]
+        places = self.places
+        shown = [n for n in range(1, self.spans.end) if places[n] <= self.last and self.first <= places[n + 1]]
         return len(shown) <= MARKED_ENTRIES
 
     def moves(self):
@@ -138,7 +133,7 @@ class Sheet:
     def turns(self):
         """How many of the listed tasks become ready in the window, and how many become absent."""
         came = gone = 0
-        for t in self.listed():
+        for t in self.rows:
             spans = self.spans.rows[t]
             ends = {span[1] for span in spans}
             begins = {span[0] for span in spans}
@@ -194,7 +189,7 @@ def fault_of_picture(sheet, output, colours):
     if root.tag != SVG + 'svg' or len(groups) != 2 or len(root.findall(f'.//{SVG}svg')) != 2:
         return f'{len(groups)} groups'
     wide = max(1, sheet.last - sheet.first)
-    listed = sheet.listed()
+    listed = sheet.rows
     for group, wanted, high in ((groups[0], sheet.lane_rects(), 8 * sheet.spans.processors),
                                 (groups[1], sheet.row_rects(), max(1, 8 * len(listed)))):
         if group.get('viewBox') != f'{sheet.first} 0 {wide} {high}' or group.get('preserveAspectRatio') != 'none':
@@ -254,7 +249,7 @@ def chrome_output(spans):
     events = ['{"name":"process_name","ph":"M","pid":0,"args":{"name":"processors"}}']
     for p in range(spans.processors):
         for first, until, t in spans.lanes[p]:
-            begin, end = spans.place('draw', first), spans.place('draw', until)
+            begin, end = spans.places['draw'][first], spans.places['draw'][until]
             if begin < end:
                 events.append(f'{{"name":"{spans.names[t].decode()}","ph":"X","pid":0,"tid":{p},"ts":{begin},"dur":{end - begin}}}')
     return ('[\n' + ',\n'.join(events) + '\n]\n').encode()
