@@ -8,11 +8,11 @@ use Rattle.task_set.specs.Name.{IsName}
 use Rattle.task_set.specs.Refusal.{AddsTask, IsPriorityOf, IsNameOf, new_task}
 use Rattle.task_set.specs.declared.event.Event.{Event}
 use Rattle.task_set.specs.declared.event.Event.TheVariants.{Arrive, Depart, Tick, Affinity, Offline, Online}
-use Rattle.link_state.specs.State.{start_of, task_on, mask_of, is_ready, is_linked}
-use Rattle.link_state.specs.Step.{IsEventFor, SchedulerStep}
-use Rattle.certificate_laws.specs.Certified.{HasCertificates}
-use Rattle.certificate_laws.specs.Improving.{HasNoImprovingChain}
-use Rattle.certificate_laws.specs.Laws.{LinkedIsBest, LinkedIsLargest, LinkedIsAsUrgent}
+use Rattle.strong_apa.specs.State.{start_of, task_on, mask_of, is_ready, is_linked}
+use Rattle.strong_apa.specs.Step.{IsEventFor, SchedulerStep}
+use Rattle.strong_apa.specs.Certified.{HasCertificates}
+use Rattle.strong_apa.specs.Improving.{HasNoImprovingChain}
+use Rattle.strong_apa.specs.CertificateLaws.{LinkedIsBest, LinkedIsLargest, LinkedIsAsUrgent}
 use Rattle.live_core.specs.Live.{LiveData}
 use Rattle.live_core.specs.Moves.{Replays}
 use Rattle.live_core.specs.Optimal.{IsOptimal}

@@ -1,1 +1,9 @@
 mod CommandBytes
+mod Headline
+mod LargeTexts
+mod Readings
+mod RunIsValid
+mod RunsOneText
+mod Snapshots
+mod TextsMade
+mod Written

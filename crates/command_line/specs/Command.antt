@@ -7,9 +7,7 @@ use Rattle.commands.specs.declared.status.Status.{Status}
 use Rattle.commands.specs.Valid.{IsValidText}
 use Rattle.commands.specs.Check.{IsCheckOf, RefusesCheck}
 use Rattle.commands.specs.Chrome.{IsChromeOf}
-use Rattle.commands.specs.Run.{IsRunOf}
 use Rattle.commands.specs.Weak.{IsWeakOf}
-use Rattle.commands.specs.Watch.{IsWatchOf}
 use Rattle.commands.specs.NestedRun.{IsNestedOf, AcceptsNested, RefusesNested}
 use Rattle.commands.specs.JobsRun.{IsJobsOf, AcceptsJobs, RefusesJobs}
 use Rattle.commands.specs.WeakJobs.{IsWeakJobsOf}
@@ -17,12 +15,15 @@ use Rattle.commands.specs.Import.{IsImportOf, AcceptsTrace, RefusesTrace}
 use Rattle.commands.specs.ImportJobs.{IsImportedJobsOf, AcceptsJobTrace, RefusesJobTrace}
 use Rattle.commands.specs.Draw.{IsDrawingOf}
 use Rattle.commands.specs.Lost.{IsLossOf, AcceptsTaskTrace, RefusesTaskTrace}
-use Rattle.commands.specs.Generating.{IsMakeOf, IsLargeOf}
+use Rattle.commands.specs.Generating.{IsMakeOf}
 use Rattle.commands.specs.Sizes.{AreWithin}
 use Rattle.commands.specs.declared.sizes.Sizes.{Sizes}
 use Rattle.schedule_picture.specs.declared.axis.Axis.{Axis}
 use Rattle.schedule_picture.specs.declared.axis.Axis.TheVariants.{Time, Steps}
 use Rattle.schedule_picture.specs.declared.window.Window.{Window}
+use Rattle.command_line.specs.Large.{IsLargeOf}
+use Rattle.command_line.specs.Run.{IsRunOf}
+use Rattle.command_line.specs.Watch.{IsWatchOf}
 use Rattle.command_line.specs.declared.words.Command.{Command}
 use Rattle.command_line.specs.declared.words.Command.TheVariants.{Run, Check, Weak, Nested, Jobs, WeakJobs, Watch, Import, ImportJobs, Draw, Chrome, Lost, Make, Large}
 

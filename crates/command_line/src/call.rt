@@ -11,11 +11,13 @@ ghost use Rattle.commands.specs.Status.{BeforePut};
 ghost use Rattle.command_line.specs.declared.words.Command.{Command};
 ghost use Rattle.command_line.specs.Command.{IsCommand, IsBounded, byte_limit, Reads, ReadsNothing, IsToRead, Makes, Accepts, Refuses, ReadsAndMakes, ReadsRefused};
 
+use crate::large::summary_of;
+use crate::replayed::replayed_text;
+use crate::watch::watched_text;
 use crate::words::{Command, command_of};
 use commands::{
     MAX_BYTES, MAX_TRACE_BYTES, Status, checked_text, chrome_trace, drawn_text, imported_jobs_text,
-    imported_text, jobs_text, lost_text, made_text, nested_text, replayed_text, summary_of,
-    watched_text, weak_jobs_text, weak_text,
+    imported_text, jobs_text, lost_text, made_text, nested_text, weak_jobs_text, weak_text,
 };
 use processor_seat::Gate;
 use shift_io::{ReadAllFault, Sink, Source, put_all, read_all};

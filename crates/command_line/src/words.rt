@@ -6,7 +6,8 @@ ghost use Rattle.schedule_picture.specs.declared.window.Window.{Window};
 ghost use Rattle.command_line.specs.Command.{IsCommand, IsWindow, AreSizes};
 ghost use Rattle.text_fields.specs.Number.{IsNumberWithin};
 
-use commands::{MAX_OBSERVERS, Sizes};
+use crate::watch::MAX_OBSERVERS;
+use commands::Sizes;
 use schedule_picture::{Axis, Window};
 use task_set::MAX_TASKS;
 use text_fields::limits::{MAX_EVENTS, MAX_PROCESSORS};

@@ -1,12 +1,12 @@
 -- The contexts of a schedule are compared with those of a checker, one after the other.
-use Rattle.link_state.specs.Dispatch.{contexts_of, context_of}
+use Rattle.strong_apa.specs.Dispatch.{contexts_of, context_of}
 use Rattle.std.proofs.Common.{◌≡◌, ℕ, ◌+◌, ◌<◌, List, [], ◌∷◌, ◌++◌, length, take, get_or, Some, sym, ap, ◌∙◌, subst, arith}
 use Rattle.std.specs.Prelude.{slice_get}
 use Rattle.std.proofs.lemmas.List.{take_more, take_all}
 use Rattle.std.proofs.lemmas.List.FromFn.{length-map-range_with_len}
 use Rattle.std.proofs.lemmas.Option.{same_Some, slice_get_within, get_or_from_slice_get}
 use Rattle.task_set.specs.declared.context.Context.{Context}
-use Rattle.link_state.specs.State.{start_of}
+use Rattle.strong_apa.specs.State.{start_of}
 use Rattle.reach_certificate.specs.Checker.{CheckerData}
 use Rattle.schedule_text.specs.Schedule.{ScheduleData, IsSchedule}
 use Rattle.commands.specs.Valid.{IsValid, HasBadContext, context_line_number, context_defect}

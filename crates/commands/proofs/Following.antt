@@ -6,18 +6,18 @@ use Rattle.std.proofs.lemmas.List.{take_more, length-map}
 use Rattle.std.proofs.lemmas.Option.{slice_get_within, slice_get_read, get_or_from_slice_get}
 use Rattle.task_set.specs.TaskSet.{TaskData}
 use Rattle.task_set.specs.Context.{fresh_context}
-use Rattle.scheduler_reply.specs.declared.reply.Entry.{Entry}
-use Rattle.link_state.specs.State.{State, start_of, task_count}
-use Rattle.link_state.specs.History.{effect_of, state_after}
-use Rattle.link_state.proofs.Histories.{state_after-push}
+use Rattle.strong_apa.specs.declared.reply.Entry.{Entry}
+use Rattle.strong_apa.specs.State.{State, start_of, task_count}
+use Rattle.strong_apa.specs.History.{effect_of, state_after}
+use Rattle.strong_apa.proofs.Histories.{state_after-push}
 use Rattle.reach_certificate.specs.Checker.{CheckerData}
 use Rattle.reach_certificate.specs.Contexts.{EachBecomes, context_after_entry}
 use Rattle.reach_certificate.specs.Defect.{IsDefect, number_of}
-use Rattle.certificate_laws.specs.Passing.{Passes, IsPassingFrom}
-use Rattle.link_state.specs.Step.{IsEventFor}
+use Rattle.strong_apa.specs.Passing.{Passes, IsPassingFrom}
+use Rattle.strong_apa.specs.Step.{IsEventFor}
 use Rattle.reach_certificate.specs.declared.defect.Defect.{Defect}
 use Rattle.reach_certificate.proofs.ContextsFollow.{contexts-follow}
-use Rattle.link_state.proofs.SameTasks.{same_tasks-history}
+use Rattle.strong_apa.proofs.SameTasks.{same_tasks-history}
 use Rattle.schedule_text.specs.Schedule.{ScheduleData, IsSchedule, IsScheduled}
 use Rattle.commands.specs.Valid.{HasBadEntry, entry_line_number}
 use Rattle.commands.specs.Checking.{HasFollowed}

@@ -1,19 +1,19 @@
 -- The answer to a trace whose jobs are asked for: it is the one that the bytes have, since a text is of one trace, and a trace has one
 -- list of jobs.
-use Rattle.std.proofs.Common.{◌≡◌, ℕ, ◌⊎◌, ◌+◌, ◌<◌, ◌≤◌, List, [], ◌∷◌, length, map, Ok, Err, refl, sym, ap, ◌∙◌, subst, inl, inr, arith}
+use Rattle.std.proofs.Common.{◌≡◌, ℕ, ◌⊎◌, ◌+◌, ◌<◌, ◌≤◌, List, length, map, Ok, Err, refl, sym, ap, ◌∙◌, subst, inl, inr, arith}
 use Rattle.std.specs.Prelude.{Vec}
 use Rattle.std.specs.declared.alloc.Global.{Global}
 use Rattle.job_release.specs.JobList.{job_list_text}
 use Rattle.kernel_trace.specs.Passage.{TaskTraceData, IsTaskTraceText, IsTaskTraceRefused}
 use Rattle.kernel_trace.specs.Passages.{IsTaskTrace}
 use Rattle.kernel_trace.specs.declared.fault.TraceKind.{TraceKind}
-use Rattle.line_machine.specs.Lines.{lines_of}
+use Rattle.text_fields.specs.Lines.{lines_of}
 use Rattle.trace_losses.specs.Jobs.{changes_of}
 use Rattle.trace_losses.specs.declared.job.TraceJob.{TraceJob}
 use Rattle.trace_losses.proofs.OneJobs.{one_jobs}
 use Rattle.commands.specs.Answers.{Answers}
 use Rattle.commands.specs.Lost.{passages_of, AcceptsTaskTrace, RefusesTaskTrace}
-use Rattle.commands.specs.ImportJobs.{moments_of, AreJobsIn, IsHorizon, HasJobs, listed, IsImportedJobsOf, AcceptsJobTrace, IsRefusedList, RefusesJobTrace}
+use Rattle.commands.specs.ImportJobs.{moments_of, AreJobsIn, IsHorizon, listed, IsImportedJobsOf, AcceptsJobTrace, IsRefusedList, RefusesJobTrace}
 use Rattle.commands.specs.declared.status.Status.{Status}
 use Rattle.commands.specs.declared.status.Status.TheVariants.{Input, OutOfMemory}
 

@@ -11,22 +11,21 @@ use Rattle.affinity_mask.proofs.Sets.{has-all_below}
 use Rattle.task_set.specs.TaskSet.{TaskData, SetData}
 use Rattle.task_set.specs.declared.event.Event.{Event}
 use Rattle.task_set.specs.declared.event.Event.TheVariants.{Arrive, Depart, Tick, Affinity, Offline, Online}
-use Rattle.scheduler_reply.specs.declared.reply.Reply.{Reply}
-use Rattle.scheduler_reply.specs.declared.reply.Entry.{Entry}
-use Rattle.scheduler_reply.specs.Reply.{chains_of, sets_of}
-use Rattle.link_state.specs.State.{State, IsState, task_count, task_on, is_task, start_of}
-use Rattle.link_state.specs.Step.{SchedulerStep}
-use Rattle.link_state.specs.History.{IsLegalFrom, effect_of}
-use Rattle.link_state.specs.Dispatch.{context_of, processors_of, runs_of, taken_between, trail_after, trail_multiplier}
-use Rattle.link_state.proofs.SameTasks.{same_tasks-effect, same_count}
-use Rattle.link_state.proofs.Start.{IsState-start}
-use Rattle.link_state.proofs.StepParts.{IsListOn, IsSetOn, step_is_on}
-use Rattle.link_state.proofs.Steps.{step_keeps_state}
-use Rattle.link_state.proofs.Versions.{legal_has_version}
+use Rattle.strong_apa.specs.declared.reply.Reply.{Reply}
+use Rattle.strong_apa.specs.declared.reply.Entry.{Entry}
+use Rattle.strong_apa.specs.Reply.{chains_of, sets_of, tasks_named}
+use Rattle.strong_apa.specs.State.{State, IsState, task_count, task_on, is_task, start_of}
+use Rattle.strong_apa.specs.Step.{SchedulerStep}
+use Rattle.strong_apa.specs.History.{IsLegalFrom, effect_of}
+use Rattle.strong_apa.specs.Dispatch.{context_of, processors_of, runs_of, taken_between, trail_after, trail_multiplier}
+use Rattle.strong_apa.proofs.SameTasks.{same_tasks-effect, same_count}
+use Rattle.strong_apa.proofs.Start.{IsState-start}
+use Rattle.strong_apa.proofs.StepParts.{IsListOn, IsSetOn, step_is_on}
+use Rattle.strong_apa.proofs.Steps.{step_keeps_state}
+use Rattle.strong_apa.proofs.Versions.{legal_has_version}
 use Rattle.text_fields.specs.EventText.{IsAboutSet}
 use Rattle.schedule_text.specs.Schedule.{IsProcessorList, IsOfProcessors, HasProcessors, IsContextOf, AreInOrder, IsSchedule}
-use Rattle.order_laws.proofs.LegalNames.{legal_names}
-use Rattle.certificate_laws.proofs.Kept.{legal_passes}
+use Rattle.strong_apa.proofs.Kept.{legal_passes}
 use Rattle.commands.specs.ScheduleLaws.{IsWritableHistory}
 use Rattle.commands.specs.Valid.{IsValid, schedule_of}
 
@@ -48,8 +47,14 @@ module _ (s : State) (ok : IsState s) where
     All-weaker (IsSetOn s) IsOfProcessors set_below (sets_of reply) sets,
   )
 
-step_processors : (s : State) (event : Event) (reply : Reply) (new : State) → IsState s → SchedulerStep s event reply new → HasProcessors reply
-step_processors s event reply new ok step = let on = step_is_on s event reply new ok step in reply_processors s ok reply on.chains on.sets
+-- the reply names tasks among so many, and processors of the format
+abbrev IsKnownReply : ℕ → Reply → Type 0
+IsKnownReply count reply = All (λ t. t < count) (tasks_named reply) × HasProcessors reply
+
+known_reply : (count : ℕ) (s : State) (event : Event) (reply : Reply) (new : State) → IsState s → task_count s ≡ count → SchedulerStep s event reply new → IsKnownReply count reply
+known_reply count s event reply new ok same step =
+    let on = step_is_on s event reply new ok step in
+    (rw (← same) on.tasks, reply_processors s ok reply on.chains on.sets)
 
 -- ---- the entries
 -- the event is of a task and a processor of the set
@@ -68,13 +73,13 @@ about_from set s (entry ∷ rest) same machine legal =
     (about_step set s entry.event entry.reply (effect_of s entry) same machine legal.0)
     (about_from set (effect_of s entry) rest (same_count s (effect_of s entry) (same_tasks-effect s entry) ∙ same) ((same_tasks-effect s entry).processors ∙ machine) legal.1)
 
-processors_from : (s : State) (history : List Entry) → IsState s → IsLegalFrom s history → All (λ (e : Entry). HasProcessors e.reply) history
-processors_from s [] ok legal = All-nil (λ (e : Entry). HasProcessors e.reply)
-processors_from s (entry ∷ rest) ok legal =
+replies_from : (count : ℕ) (s : State) (history : List Entry) → IsState s → task_count s ≡ count → IsLegalFrom s history → All (λ (e : Entry). IsKnownReply count e.reply) history
+replies_from count s [] ok same legal = All-nil (λ (e : Entry). IsKnownReply count e.reply)
+replies_from count s (entry ∷ rest) ok same legal =
     let next = effect_of s entry in
-    All-cons (λ (e : Entry). HasProcessors e.reply) entry rest
-    (step_processors s entry.event entry.reply next ok legal.0)
-    (processors_from next rest (step_keeps_state s entry.event entry.reply next ok legal.0) legal.1)
+    All-cons (λ (e : Entry). IsKnownReply count e.reply) entry rest
+    (known_reply count s entry.event entry.reply next ok same legal.0)
+    (replies_from count next rest (step_keeps_state s entry.event entry.reply next ok legal.0) (same_count s next (same_tasks-effect s entry) ∙ same) legal.1)
 
 -- ---- the contexts
 -- a history takes a task on processors that there are
@@ -126,13 +131,12 @@ legal_schedule version set history writable =
     let same : task_count start ≡ length set.tasks = length-map set.tasks (λ (task : TaskData). task.priority) in
     let about = about_from set start history same refl writable.legal in
     let of_version = legal_has_version version start history writable.legal (λ k d within. (writable.posted k d within).2) in
-    let named = legal_names set history valid writable.legal in
-    let of_processors = processors_from start history (IsState-start set valid) writable.legal in
+    let known = replies_from (length set.tasks) start history (IsState-start set valid) same writable.legal in
     record {
       known = writable.known;
       tasks = writable.tasks;
       few = writable.few;
-      each_entry = λ k d within. record { caller = (writable.posted k d within).0; tasks = record { event = about k d within; reply = named k d within }; of_version = record { event = (of_version k d within).0; reply = (of_version k d within).1 }; units = (writable.posted k d within).1; processors = of_processors k d within };
+      each_entry = λ k d within. record { caller = (writable.posted k d within).0; tasks = record { event = about k d within; reply = (known k d within).0 }; of_version = record { event = (of_version k d within).0; reply = (of_version k d within).1 }; units = (writable.posted k d within).1; processors = (known k d within).1 };
       one_each = length-map-range_with_len (context_of start history) 0 (length set.tasks);
       in_order = contexts_in_order start history (length set.tasks) valid.processors.1 valid.count;
     }

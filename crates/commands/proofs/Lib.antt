@@ -2,7 +2,6 @@ pub mod Answered
 pub mod CheckedText
 pub mod Compared
 pub mod Following
-pub mod Headline
 pub mod ImportedJobs
 pub mod InputNumbers
 pub mod JobsOneText
@@ -15,12 +14,7 @@ pub mod MadeTexts
 pub mod NestedAnswers
 pub mod OneVerdict
 pub mod ReadBytes
-pub mod Readings
 pub mod Refusals
-pub mod RunIsValid
-pub mod RunsOneText
-pub mod Snapshots
 pub mod TracePassages
 pub mod TraceRefusals
 pub mod WeakOneText
-pub mod Written

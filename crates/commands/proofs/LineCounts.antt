@@ -1,8 +1,8 @@
 -- How many lines there are with one byte more before them.
-use Rattle.std.proofs.Common.{◌≡◌, ◌≢◌, ℕ, suc, ◌+◌, ◌<◌, ◌==◌, Bool, true, false, List, [], ◌∷◌, length, refl, sym, ap, ◌∙◌, subst, arith, eq-eqb, ne_eqb}
+use Rattle.std.proofs.Common.{◌≡◌, ◌≢◌, ℕ, ◌+◌, ◌<◌, ◌==◌, Bool, true, false, List, [], ◌∷◌, length, refl, sym, ap, ◌∙◌, arith, eq-eqb, ne_eqb}
 use Rattle.std.specs.Prelude.{if◌then◌else◌}
 use Rattle.std.specs.List.{onto_first}
-use Rattle.line_machine.specs.Lines.{lines_of}
+use Rattle.text_fields.specs.Lines.{lines_of}
 
 -- a line is begun where there is none
 begun : (b : Bool) (byte : ℕ) (lines : List (List ℕ)) → length lines ≡ 0 → length (if b then [] ∷ lines else onto_first byte lines) ≡ 1

@@ -1,5 +1,5 @@
 -- The jobs of a trace, as they are listed.
-use Rattle.std.proofs.Common.{ℕ, ◌+◌, ◌<◌, ◌≤◌, List, map, arith}
+use Rattle.std.proofs.Common.{ℕ, ◌<◌, ◌≤◌, List, map, arith}
 use Rattle.std.specs.Prelude.{All}
 use Rattle.std.proofs.lemmas.List.Elements.{All-map, All-weaker}
 use Rattle.job_release.specs.declared.job_list.ListedJob.{ListedJob}

@@ -1,21 +1,21 @@
 -- A schedule is valid, or wrong in one line with one defect, and never both.
-use Rattle.link_state.specs.Dispatch.{contexts_of}
+use Rattle.strong_apa.specs.Dispatch.{contexts_of}
 use Rattle.std.proofs.Common.{◌≡◌, ℕ, zero, suc, ◌+◌, ◌<◌, List, [], ◌∷◌, length, take, Some, refl, sym, ap, ◌∙◌, subst, inl, inr, arith}
 use Rattle.std.specs.Prelude.{slice_get}
 use Rattle.std.proofs.lemmas.Bool.{cases_lt}
 use Rattle.std.proofs.lemmas.Option.{same_Some}
 use Rattle.task_set.specs.declared.context.Context.{Context}
-use Rattle.scheduler_reply.specs.declared.reply.Entry.{Entry}
-use Rattle.link_state.specs.State.{State, IsState, start_of}
-use Rattle.link_state.specs.History.{effect_of, state_after, state_at, IsBestThroughout}
-use Rattle.link_state.proofs.Start.{IsState-start}
+use Rattle.strong_apa.specs.declared.reply.Entry.{Entry}
+use Rattle.strong_apa.specs.State.{State, IsState, start_of}
+use Rattle.strong_apa.specs.History.{effect_of, state_after, state_at, IsBestThroughout}
+use Rattle.strong_apa.proofs.Start.{IsState-start}
 use Rattle.reach_certificate.specs.Defect.{IsDefect, number_of}
-use Rattle.certificate_laws.specs.Passing.{Passes, IsPassing, IsPassingFrom}
+use Rattle.strong_apa.specs.Passing.{Passes, IsPassing, IsPassingFrom}
 use Rattle.reach_certificate.specs.declared.defect.Defect.{Defect}
 use Rattle.reach_certificate.proofs.Defects.{passing_has_no_defect, defect_is_unique}
-use Rattle.certificate_laws.specs.Improving.{HasNoImprovingChainThroughout}
-use Rattle.certificate_laws.proofs.Improved.{passing_has_no_improving_chain}
-use Rattle.certificate_laws.proofs.Kept.{IsState-passed, IsPassingFrom-take, passing_is_best}
+use Rattle.strong_apa.specs.Improving.{HasNoImprovingChainThroughout}
+use Rattle.strong_apa.proofs.Improved.{passing_has_no_improving_chain}
+use Rattle.strong_apa.proofs.Kept.{IsState-passed, IsPassingFrom-take, passing_is_best}
 use Rattle.schedule_text.specs.Schedule.{ScheduleData, IsSchedule}
 use Rattle.commands.specs.Valid.{IsValid, HasDefectAt, HasWrongContextAt, IsInvalid}
 

@@ -3,8 +3,8 @@
 -- pass, at the first context that differs. Any other text is refused at its first faulty line.
 use Rattle.std.specs.Prelude.{◌≡◌, ◌⊎◌, ℕ, List, ◌++◌, length, codes}
 use Rattle.affinity_mask.specs.Number.{canonical_number}
-use Rattle.link_state.specs.History.{IsBestThroughout}
-use Rattle.certificate_laws.specs.Improving.{HasNoImprovingChainThroughout}
+use Rattle.strong_apa.specs.History.{IsBestThroughout}
+use Rattle.strong_apa.specs.Improving.{HasNoImprovingChainThroughout}
 use Rattle.text_fields.specs.LineText.{line}
 use Rattle.schedule_text.specs.Schedule.{ScheduleData}
 use Rattle.commands.specs.Refusal.{IsAnsweredInput, IsAnsweredInvalid, RefusesSchedule}

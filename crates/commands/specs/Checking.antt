@@ -1,10 +1,10 @@
 -- One step of a check: the words of the contracts of private functions. The public one says by the definitions of a valid
 -- and of a wrong schedule what was found.
-use Rattle.link_state.specs.Dispatch.{contexts_of}
+use Rattle.strong_apa.specs.Dispatch.{contexts_of}
 use Rattle.std.specs.Prelude.{◌≡◌, ℕ, take}
-use Rattle.link_state.specs.History.{state_at}
+use Rattle.strong_apa.specs.History.{state_at}
 use Rattle.reach_certificate.specs.Checker.{CheckerData}
-use Rattle.certificate_laws.specs.Passing.{IsPassing}
+use Rattle.strong_apa.specs.Passing.{IsPassing}
 use Rattle.schedule_text.specs.Schedule.{ScheduleData}
 use Rattle.commands.specs.Valid.{HasBadEntry, HasBadContext, IsInvalid}
 use Rattle.commands.specs.declared.status.Status.{Status}

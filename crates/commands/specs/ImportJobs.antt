@@ -5,7 +5,7 @@ use Rattle.job_release.specs.JobList.{job_list_text}
 use Rattle.job_release.specs.declared.job_list.ListedJob.{ListedJob}
 use Rattle.kernel_trace.specs.Passage.{TaskTraceData, IsTaskTraceText, IsTaskTraceRefused}
 use Rattle.kernel_trace.specs.Passages.{IsTaskTrace}
-use Rattle.line_machine.specs.Lines.{lines_of}
+use Rattle.text_fields.specs.Lines.{lines_of}
 use Rattle.trace_losses.specs.Jobs.{AreJobs}
 use Rattle.trace_losses.specs.Passages.{span_of}
 use Rattle.trace_losses.specs.declared.job.TraceJob.{TraceJob}

@@ -1,6 +1,6 @@
 -- From the bytes of an input of periodic jobs to those of their finishes and responses.
 use Rattle.std.specs.Prelude.{◌≡◌, ℕ, List, Some}
-use Rattle.scheduler_reply.specs.declared.reply.Entry.{Entry}
+use Rattle.strong_apa.specs.declared.reply.Entry.{Entry}
 use Rattle.job_release.specs.JobFault.{kind_number}
 use Rattle.job_release.specs.JobInput.{JobInputData}
 use Rattle.job_release.specs.JobText.{IsJobText, IsJobRefused}

@@ -12,15 +12,11 @@ pub mod Lost
 pub mod NestedRun
 pub mod Reading
 pub mod Refusal
-pub mod Run
 pub mod ScheduleLaws
-pub mod Shown
 pub mod Sizes
 pub mod Status
 pub mod Summary
 pub mod Valid
-pub mod Watch
-pub mod WatchText
 pub mod Weak
 pub mod WeakJobs
 pub mod WeakLaws

@@ -2,9 +2,9 @@
 use Rattle.std.specs.Prelude.{◌≡◌, ℕ, ◌<◌, ◌≤◌, List, length, All}
 use Rattle.task_set.specs.TaskSet.{SetData}
 use Rattle.task_set.specs.Event.{HasUnits, IsOfVersion}
-use Rattle.scheduler_reply.specs.declared.reply.Entry.{Entry}
-use Rattle.link_state.specs.History.{IsLegal, IsBestThroughout}
-use Rattle.certificate_laws.specs.Improving.{HasNoImprovingChainThroughout}
+use Rattle.strong_apa.specs.declared.reply.Entry.{Entry}
+use Rattle.strong_apa.specs.History.{IsLegal, IsBestThroughout}
+use Rattle.strong_apa.specs.Improving.{HasNoImprovingChainThroughout}
 use Rattle.text_fields.specs.Version.{IsVersion}
 use Rattle.schedule_text.specs.Schedule.{ScheduleData, IsSchedule, IsScheduleSet}
 use Rattle.commands.specs.Valid.{IsValid, IsInvalid, schedule_of}

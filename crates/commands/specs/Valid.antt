@@ -3,12 +3,12 @@
 -- first context that differs. Lines are numbered from 1.
 use Rattle.std.specs.Prelude.{◌≡◌, ◌≢◌, ◌⊎◌, ℕ, ◌+◌, ◌<◌, List, length, take, slice_get, Some}
 use Rattle.task_set.specs.TaskSet.{SetData}
-use Rattle.scheduler_reply.specs.declared.reply.Entry.{Entry}
-use Rattle.link_state.specs.History.{state_at}
+use Rattle.strong_apa.specs.declared.reply.Entry.{Entry}
+use Rattle.strong_apa.specs.History.{state_at}
 use Rattle.reach_certificate.specs.Defect.{IsDefect, number_of}
-use Rattle.certificate_laws.specs.Passing.{IsPassing}
+use Rattle.strong_apa.specs.Passing.{IsPassing}
 use Rattle.reach_certificate.specs.declared.defect.Defect.{Defect}
-use Rattle.link_state.specs.Dispatch.{contexts_of}
+use Rattle.strong_apa.specs.Dispatch.{contexts_of}
 use Rattle.schedule_text.specs.Laws.{text_of_schedule}
 use Rattle.schedule_text.specs.Schedule.{ScheduleData, IsSchedule}
 

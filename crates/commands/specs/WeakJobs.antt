@@ -2,7 +2,7 @@
 use Rattle.std.specs.Prelude.{ℕ, List}
 use Rattle.job_release.specs.JobInput.{JobInputData}
 use Rattle.job_release.specs.JobText.{IsJobText}
-use Rattle.job_comparison.specs.WeakServes.{IsWeakJobsTextOf}
+use Rattle.job_release.specs.WeakServes.{IsWeakJobsTextOf}
 
 -- the bytes read are the text of an input, and the bytes written say what one run of the weak scheduler and one history of the strong one
 -- make of its jobs

@@ -1,7 +1,7 @@
 //! From the bytes of a trace of the Linux scheduler to those of its jobs.
 ghost use Rattle.std.specs.Prelude.{◌≡◌, ℕ, ◌+◌, ◌<◌, ◌≤◌, ◌^◌, List, ◌∷◌, length, map, All, IfOk, MatchOption};
 ghost use Rattle.job_release.specs.JobList.{job_list_text};
-ghost use Rattle.line_machine.specs.Lines.{lines_of};
+ghost use Rattle.text_fields.specs.Lines.{lines_of};
 ghost use Rattle.trace_losses.specs.Jobs.{IsJobWithin};
 ghost use Rattle.trace_losses.specs.Passages.{ArePassages};
 ghost use Rattle.commands.specs.Answers.{Answers};

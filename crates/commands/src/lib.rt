@@ -1,5 +1,6 @@
-//! The commands, each from the bytes that it reads to the bytes that it writes: [`replayed_text`] for `run`, [`checked_text`]
-//! for `check`, and so on. [`Status`] says how a call ended, and [`report`] tells it.
+//! The commands that run on one thread, each from the bytes that it reads to the bytes that it writes: [`checked_text`] for `check`,
+//! [`weak_text`] for `weak`, and so on. [`input_of`] and [`write_summary`] are what `large` takes of them. [`Status`] says how a call
+//! ended, and [`report`] tells it.
 #![tactic(auto)]
 
 mod check;
@@ -12,29 +13,25 @@ mod jobs;
 pub mod laws;
 mod lost;
 mod nested;
-mod observers;
 mod reporting;
-mod run;
 mod sizes;
 mod status;
 mod summary;
-mod watch;
 mod weak;
 mod weak_jobs;
 
 pub use check::checked_text;
 pub use chrome::chrome_trace;
 pub use draw::drawn_text;
-pub use generate::{made_text, summary_of};
+pub use generate::{input_of, made_text};
 pub use import::imported_text;
 pub use import_jobs::imported_jobs_text;
 pub use jobs::jobs_text;
 pub use lost::lost_text;
 pub use nested::nested_text;
 pub use reporting::{exit_status, report};
-pub use run::{replayed_text, text_of_replay};
 pub use sizes::Sizes;
 pub use status::{MAX_BYTES, MAX_TRACE_BYTES, Status};
-pub use watch::{MAX_OBSERVERS, watched_text};
+pub use summary::write_summary;
 pub use weak::weak_text;
 pub use weak_jobs::weak_jobs_text;

@@ -6,8 +6,8 @@ ghost use Rattle.commands.specs.Summary.{displaces, makes_wait, replies_of, move
 
 use crate::sizes::Sizes;
 use affinity_mask::OutOfMemory;
-use link_table::{Entry, Reply};
 use std::alloc::Global;
+use strong_apa::{Entry, Reply};
 use task_set::Context;
 
 /// How many arrivals displaced a task, and how many wait.

@@ -5,8 +5,7 @@ ghost use Rattle.commands.specs.WeakJobs.{IsWeakJobsOf};
 
 use crate::jobs::status_of;
 use crate::status::Status;
-use job_comparison::compare_jobs;
-use job_release::read_jobs;
+use job_release::{compare_jobs, read_jobs};
 use std::alloc::Global;
 
 /// The text that compares the jobs of the input that these bytes are under both schedulers, or the status that says why there is

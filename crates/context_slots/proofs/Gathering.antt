@@ -9,7 +9,7 @@ use Rattle.context_slots.specs.declared.hand_seat.HandSeat.{HandSeat}
 use Rattle.context_slots.specs.HandOver.{of_task}
 use Rattle.task_set.specs.Sum.{total}
 use Rattle.context_slots.specs.Hands.{HandData, new_hand, AreNewFrom, AreFreeFrom, all_ended}
-use Rattle.context_slots.specs.HandSteps.{SeatState, IsFree, fresh_view, joined}
+use Rattle.context_slots.specs.HandSteps.{SeatState, HoldsNothing, dealing, fresh_view, joined}
 use Rattle.context_slots.specs.HandSeats.{data_of, slots_of, IsWhole}
 use Rattle.context_slots.specs.Homes.{AllCame}
 use Rattle.task_set.proofs.Sums.{total-append}
@@ -37,11 +37,11 @@ popped_length l l' h is = omega (arith, ap length is, length-append l' (h ∷ []
 pub joined_ended : (g : Stint → ℕ) (m m' : SeatState) (a : HandSeat) → m' ≡ (joined m.0 a.seat.me.0, m.1) → total g m'.0.ended ≡ total g m.0.ended + total g a.seat.me.0.ended
 joined_ended g m m' a is = ap (λ (x : SeatState). total g x.0.ended) is ∙ total-append g m.0.ended a.seat.me.0.ended
 
-pub joined_free : (m m' : SeatState) (a : HandSeat) → m' ≡ (joined m.0 a.seat.me.0, m.1) → IsFree m → IsFree m'
+pub joined_free : (m m' : SeatState) (a : HandSeat) → m' ≡ (joined m.0 a.seat.me.0, m.1) → HoldsNothing m → HoldsNothing m'
 joined_free m m' a is free = (ap (λ (x : SeatState). x.0.holds) is ∙ free.0, ap (λ (x : SeatState). x.1) is ∙ free.1)
 
 -- a whole hand that holds nothing
-pub is_free : (a : HandSeat) (h : HandData) → data_of a ≡ h → h.holds ≡ None → IsWhole a → IsFree a.seat.me
+pub is_free : (a : HandSeat) (h : HandData) → data_of a ≡ h → h.holds ≡ None → IsWhole a → HoldsNothing a.seat.me
 is_free a h is none_held whole = let e = ap (λ (d : HandData). d.holds) is ∙ none_held in (e, whole.slots ∙ ap slots_of e)
 
 pub new_more : (table : TableId) (n m : ℕ) (l : List HandData) (h : HandData) → AreNewFrom table n l → h ≡ new_hand table m → m ≡ n + length l → AreNewFrom table n (l ++ h ∷ [])
@@ -74,3 +74,24 @@ popped_below n l l' h is some one = subst (λ x. All (IsBelow n) (all_ended x)) 
 pub own_below : (n : ℕ) (a : HandSeat) (h : HandData) → data_of a ≡ h → h.number < n → IsWhole a → All (IsBelow n) h.ended
 own_below n a h is low whole = subst (λ (d : HandData). All (IsBelow n) d.ended) is
     (All-weaker (λ stint. stint.processor ≡ a.number) (IsBelow n) (λ stint own. omega (arith, own, low, ap (λ (d : HandData). d.number) is)) a.seat.me.0.ended whole.own)
+
+-- a hand that was just cut off is whole
+pub new_whole : (a : HandSeat) (n : ℕ) → ◌≡◌ {A = SeatState} a.seat.me (fresh_view n, []) → IsWhole a
+new_whole a n me = record {
+  parts = ap (λ (m : SeatState). m.0.parts) me;
+  slots = ap (λ (m : SeatState). m.1) me ∙ sym (ap (λ (m : SeatState). slots_of m.0.holds) me);
+  own = subst (λ (m : SeatState). All (λ stint. stint.processor ≡ a.number) m.0.ended) (sym me) (λ k stint low. absurd (let none : ⊥ = omega (arith, low) in none));
+}
+
+module _ (a : HandSeat) (processors made : ℕ) (me : ◌≡◌ {A = SeatState} a.seat.me (dealing processors made, [])) where
+  -- the first hand is whole once all others are made
+  pub last_whole : processors ≡ made → IsWhole a
+  last_whole all = record {
+    parts = ap (λ (m : SeatState). m.0.parts) me ∙ omega (arith, all);
+    slots = ap (λ (m : SeatState). m.1) me ∙ sym (ap (λ (m : SeatState). slots_of m.0.holds) me);
+    own = subst (λ (m : SeatState). All (λ stint. stint.processor ≡ a.number) m.0.ended) (sym me) (λ k stint low. absurd (let none : ⊥ = omega (arith, low) in none));
+  }
+
+  -- it did nothing
+  pub first_new : (table : TableId) → a.number ≡ 0 → a.seat.table_id ≡ table → data_of a ≡ new_hand table 0
+  first_new table number at = λ i. record { slots = at i; number = number i; holds = (me i).0.holds; ended = (me i).0.ended; looks = (me i).0.looks }

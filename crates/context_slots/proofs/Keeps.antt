@@ -17,7 +17,7 @@ use Rattle.context_slots.specs.Contexts.{context_after_stints}
 use Rattle.context_slots.specs.HandOver.{of_task, runs, IsNumbered, IsHomeAfter, IsRun, IdleIsEmpty, HandOverRule}
 use Rattle.task_set.specs.Sum.{total}
 use Rattle.context_slots.specs.Hands.{begun, with_run, closed, IsInStint}
-use Rattle.context_slots.specs.HandSteps.{SeatState, looked, holding, looks_play, takes_play, runs_play, releases_play, IsFree, TookHeld, dealt, next_hand, joined, spent}
+use Rattle.context_slots.specs.HandSteps.{SeatState, looked, holding, looks_play, takes_play, runs_play, releases_play, HoldsNothing, TookHeld, dealt, next_hand, joined, spent}
 use Rattle.context_slots.specs.Homes.{Came}
 use Rattle.task_set.specs.Context.{fresh_context, context_after_take, context_after_run, context_after_runs, context_after_stint}
 use Rattle.task_set.proofs.Sums.{total-set, total-append, term_le, terms_le}
@@ -44,7 +44,7 @@ abbrev Taking : ℕ → ℕ → ℕ → SeatState → St → ℕ → Bool → Ty
 Taking processors id t m s number b = (w : HandView) × (a : Act (Option Context)) × Valid s.homes m.1 a × HandOverRule processors (stepped s t (either b (2 * number + 1) (get_or s.words t 0)) id m.1 w a)
     × MatchBool b ((base : Context) × IsHomeAfter base t ((2 * number) / 2) × ◌≡◌ {A = SeatState} (w, carried_after m.1 a) (holding (looked m.0 t (get_or s.words t 0)) (Some (begun t ((2 * number) / 2) base)), (t, Some base) ∷ [])) (◌≡◌ {A = SeatState} (w, carried_after m.1 a) (looked m.0 t (get_or s.words t 0), m.1))
 
-taken : (processors id t number : ℕ) (m : SeatState) → IsFree m → 0 < m.0.parts → (s : St) → (k : HandOverRule processors s) → t < length s.homes → get_elem? s.views id ≡ some m.0 → get_or s.words t 0 ≡ 2 * number → Taking processors id t m s number true
+taken : (processors id t number : ℕ) (m : SeatState) → HoldsNothing m → 0 < m.0.parts → (s : St) → (k : HandOverRule processors s) → t < length s.homes → get_elem? s.views id ≡ some m.0 → get_or s.words t 0 ≡ 2 * number → Taking processors id t m s number true
 taken processors id t number m free part s k near at hit =
     let n : ℕ = get_or s.words t 0 in
     let base : Context = context_after_stints (fresh_context t) (k.log t) in
@@ -132,7 +132,7 @@ turns_lem processors slots id t m s k wide at small =
       refl,
     )
 
-pub takes_lem : (processors slots id t number : ℕ) (m : SeatState) → IsFree m → 0 < m.0.parts → t < slots
+pub takes_lem : (processors slots id t number : ℕ) (m : SeatState) → HoldsNothing m → 0 < m.0.parts → t < slots
     → Allows (HandOverRule processors) slots id m t (λ n. either (eqb n (2 * number)) (2 * number + 1) n) (takes_play (step slots t (2 * number) (2 * number + 1) none) m)
 takes_lem processors slots id t number m free part near s k wide at small =
     let near' : t < length s.homes = omega arith in

@@ -5,7 +5,7 @@ use Rattle.task_set.specs.Orders.{Stint}
 use Rattle.task_set.specs.Context.{context_after_stint}
 
 -- a context that was taken: its task, the number of the stint, and the context
-pub record HeldData : Type 0 where
+pub record HeldContext : Type 0 where
   pub task : ℕ
   pub number : ℕ
   pub context : Context

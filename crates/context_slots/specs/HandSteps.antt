@@ -43,8 +43,8 @@ abbrev pub releases_play : Step (Option Context) → SeatState → ℕ → SeatS
 releases_play st m n m' = (held : OpenStint) → m.0.holds ≡ Some held → m' ≡ (ended_with m.0 held, [])
 
 -- a hand that holds nothing has no slot
-abbrev pub IsFree : SeatState → Type 0
-IsFree m = (m.0.holds ≡ None) × (m.1 ≡ [])
+abbrev pub HoldsNothing : SeatState → Type 0
+HoldsNothing m = (m.0.holds ≡ None) × (m.1 ≡ [])
 
 -- a hand that runs this stint of this task has its slot, empty, and the context is with the held
 abbrev pub TookHeld : SeatState → ℕ → ℕ → Context → Type 0

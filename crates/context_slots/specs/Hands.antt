@@ -7,7 +7,7 @@ use Rattle.task_set.specs.Orders.{Stint}
 use Rattle.task_set.specs.TaskSet.{SetData}
 use Rattle.task_set.specs.Context.{context_after_take, context_after_runs}
 use Rattle.context_slots.specs.declared.view.OpenStint.{OpenStint}
-use Rattle.context_slots.specs.Contexts.{HeldData}
+use Rattle.context_slots.specs.Contexts.{HeldContext}
 use Rattle.context_slots.specs.HandOver.{IsHomeAfter}
 
 -- which slots they are, and of which set of tasks
@@ -94,7 +94,7 @@ abbrev pub context_in : ℕ → OpenStint → Context
 context_in p stint = context_after_runs (context_after_take stint.base p) p stint.units
 
 -- the hand took this: it runs this stint of this task, in this context; the task has a word, and is not the last one
-pub record Took (hand : HandData) (held : HeldData) : Type 0 where
+pub record Took (hand : HandData) (held : HeldContext) : Type 0 where
   pub stint : OpenStint
   pub holds : hand.holds ≡ Some stint
   pub task : stint.task ≡ held.task
@@ -109,7 +109,7 @@ pub record IsInStint (c : Context) (t number p : ℕ) : Type 0 where
   pub last : c.last ≡ Some p
 
 -- a hand takes a task for the stint with this number, from the context after all earlier stints of the task
-pub record Takes (old : HandData) (task number : ℕ) (held : HeldData) (new : HandData) : Type 0 where
+pub record Takes (old : HandData) (task number : ℕ) (held : HeldContext) (new : HandData) : Type 0 where
   pub task_is : held.task ≡ task
   pub number_is : held.number ≡ number
   pub base : Context

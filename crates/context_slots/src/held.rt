@@ -13,9 +13,9 @@ pub struct Held {
 }
 
 impl Model for Held {
-    ghost use Rattle.context_slots.specs.Contexts.{HeldData};
+    ghost use Rattle.context_slots.specs.Contexts.{HeldContext};
 
-    ghost Value = { HeldData };
+    ghost Value = { HeldContext };
 
     ghost use Rattle.context_slots.specs.HeldParts.{held_data};
 

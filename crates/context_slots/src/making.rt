@@ -3,7 +3,7 @@ ghost use Rattle.std.specs.Prelude.{◌≡◌, ℕ, ◌+◌, ◌<◌, ◌≤◌,
 ghost use Rattle.task_set.specs.Orders.{Stint};
 ghost use Rattle.task_set.specs.Sum.{total};
 ghost use Rattle.context_slots.specs.Hands.{AreFreeFrom, all_ended};
-ghost use Rattle.context_slots.specs.HandSteps.{IsFree, dealing, fresh_view};
+ghost use Rattle.context_slots.specs.HandSteps.{HoldsNothing, dealing, fresh_view};
 ghost use Rattle.context_slots.specs.Homes.{AllCame};
 
 use crate::hand::Hand;
@@ -34,9 +34,9 @@ pub fn deal(table: &SlotTable, first: &mut HandSeat, number: u8) -> HandSeat
 /// One hand takes in the others, from the last to the first.
 pub fn gather(words: &TurnWords, all: &mut HandSeat, mut hands: Vec<Hand>)
     requires all { (all.old.seat.table_id ≡ words.now.table.shared.table_id)
-        × IsFree all.old.seat.me × (all.old.seat.me.0.parts ≡ 1) }
+        × HoldsNothing all.old.seat.me × (all.old.seat.me.0.parts ≡ 1) }
     requires hands { AreFreeFrom words.now.table.shared.table_id 0 hands.items }
-    ensures free { (all.new.seat.table_id ≡ all.old.seat.table_id) × IsFree all.new.seat.me }
+    ensures free { (all.new.seat.table_id ≡ all.old.seat.table_id) × HoldsNothing all.new.seat.me }
     ensures parts { all.new.seat.me.0.parts ≡ 1 + length hands.items }
     ensures own { (n : ℕ) → length hands.items ≤ n
         → All (λ stint. stint.processor < n) (all_ended hands.items) }
@@ -52,7 +52,7 @@ pub fn gather(words: &TurnWords, all: &mut HandSeat, mut hands: Vec<Hand>)
 
 /// The contexts in task order, where one hand has all parts.
 pub fn into_contexts(words: TurnWords, all: HandSeat, mut contexts: Vec<Context>) -> Vec<Context>
-    requires all { (all.seat.table_id ≡ words.table.shared.table_id) × IsFree all.seat.me
+    requires all { (all.seat.table_id ≡ words.table.shared.table_id) × HoldsNothing all.seat.me
         × (all.seat.me.0.parts ≡ words.table.shared.key.set.value.processors) }
     requires contexts { (contexts.items ≡ []) × (words.tasks ≤ vec_capacity contexts) }
     ensures length { length result.items ≡ words.tasks }

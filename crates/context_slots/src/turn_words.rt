@@ -7,7 +7,7 @@ ghost use Rattle.std.specs.Prelude.{◌≡◌, ◌≢◌, ℕ, ◌+◌, ◌*◌,
 ghost use Rattle.context_slots.specs.HandOver.{HandOverRule, IsHomeAfter};
 ghost use Rattle.context_slots.specs.Hands.{begun, with_run, closed, IsInStint};
 ghost use Rattle.context_slots.specs.HandSeats.{IsSameHand};
-ghost use Rattle.context_slots.specs.HandSteps.{looked, holding, looks_play, takes_play, runs_play, releases_play, IsFree, TookHeld, dealing, dealt, next_hand, joined, spent};
+ghost use Rattle.context_slots.specs.HandSteps.{looked, holding, looks_play, takes_play, runs_play, releases_play, HoldsNothing, TookHeld, dealing, dealt, next_hand, joined, spent};
 
 use crate::hand_seat::{HandSeat, Taken};
 use crate::held::NotTurn;
@@ -134,7 +134,7 @@ impl TurnWords {
     pub fn take(&self, hand: &mut HandSeat, task: u32, number: u32) -> Result<Taken, NotTurn>
         requires task { task < self.now.tasks }
         requires hand { (hand.old.seat.table_id ≡ self.now.table.shared.table_id)
-            × IsFree hand.old.seat.me × (0 < hand.old.seat.me.0.parts) }
+            × HoldsNothing hand.old.seat.me × (0 < hand.old.seat.me.0.parts) }
         ensures same { IsSameHand hand.old hand.new }
         ensures turn { MatchResult result
             (λ held. (held.task ≡ task) × (held.number ≡ number)
@@ -202,7 +202,7 @@ impl TurnWords {
             × (0 < hand.old.seat.me.0.parts) }
         requires task { held.task < self.now.tasks }
         ensures same { IsSameHand hand.old hand.new }
-        ensures free { IsFree hand.new.seat.me }
+        ensures free { HoldsNothing hand.new.seat.me }
         ensures ended { IfSome hand.old.seat.me.0.holds (λ stint. hand.new.seat.me.0.ended
             ≡ hand.old.seat.me.0.ended ++ closed hand.old.seat.me.0.number stint ∷ []) }
         ensures looks { (hand.new.seat.me.0.looks ≡ hand.old.seat.me.0.looks)

@@ -2,8 +2,8 @@
 use Rattle.std.proofs.Common.{◌≡◌, ℕ, if◌then◌else◌, List, length, sym, ap, ◌∙◌, subst}
 use Rattle.atomic_table.specs.Seated.{TableId}
 use Rattle.task_set.specs.TaskSet.{SetData}
-use Rattle.link_state.specs.State.{start_of}
-use Rattle.link_state.specs.Dispatch.{orders_of, closed_orders_of}
+use Rattle.strong_apa.specs.State.{start_of}
+use Rattle.strong_apa.specs.Dispatch.{orders_of, closed_orders_of}
 use Rattle.order_queues.specs.Ends.{EyeData}
 use Rattle.sched_core.specs.CoreData.{CoreData, core_orders}
 use Rattle.event_history.specs.declared.view.PassView.{PassView}

@@ -9,8 +9,8 @@ use lib.ListN.{get_elem?}
 use Rattle.atomic_table.specs.Table.{Final, Seen}
 use Rattle.atomic_table.specs.Seated.{TableId}
 use Rattle.order_queues.specs.Ends.{EyeData}
-use Rattle.scheduler_reply.specs.declared.reply.Entry.{Entry}
-use Rattle.link_state.specs.History.{IsLegal}
+use Rattle.strong_apa.specs.declared.reply.Entry.{Entry}
+use Rattle.strong_apa.specs.History.{IsLegal}
 use Rattle.event_history.specs.declared.view.PassView.{PassView}
 use Rattle.event_history.specs.Boards.{BoardData, PassData, AreFrom}
 use Rattle.event_history.specs.Holdings.{HeldData}

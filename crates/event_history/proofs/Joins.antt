@@ -5,7 +5,7 @@ use mathlib.Core.List.{IsPrefix}
 use lib.ListN.{get_elem?}
 use Rattle.atomic_table.specs.Table.{Splits, Joins}
 use Rattle.atomic_table.proofs.Lists.{at_set, at_snoc, set_else}
-use Rattle.scheduler_reply.specs.declared.reply.Entry.{Entry}
+use Rattle.strong_apa.specs.declared.reply.Entry.{Entry}
 use Rattle.event_history.specs.declared.view.PassView.{PassView}
 use Rattle.event_history.specs.Places.{places_of}
 use Rattle.event_history.specs.Turn.{Setting, turns, turn_count, Holds, own_pass, unmade_pass, ended_pass, passes_of, AllSaw, AllMine, Fits, TurnRule, TurnSeat, fresh, made_one, newcomer, note, longer, informed, taken_in, spent}

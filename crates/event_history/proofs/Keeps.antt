@@ -10,9 +10,9 @@ use prog.Atomic.{either}
 use Rattle.atomic_table.specs.Table.{State, step, Act, keeps, takes, gives, Valid, carried_after, stepped, Allows, rest}
 use Rattle.atomic_table.proofs.Lists.{at_set, set_here}
 use Rattle.task_set.specs.TaskSet.{SetData}
-use Rattle.scheduler_reply.specs.declared.reply.Entry.{Entry}
-use Rattle.link_state.specs.State.{start_of}
-use Rattle.link_state.specs.History.{IsLegal, IsLegalFrom}
+use Rattle.strong_apa.specs.declared.reply.Entry.{Entry}
+use Rattle.strong_apa.specs.State.{start_of}
+use Rattle.strong_apa.specs.History.{IsLegal, IsLegalFrom}
 use Rattle.sched_core.specs.CoreData.{CoreData, IsCore}
 use Rattle.event_history.specs.declared.view.PassView.{PassView}
 use Rattle.event_history.specs.Holdings.{HeldData, queues_of}

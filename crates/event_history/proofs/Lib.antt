@@ -2,6 +2,7 @@ pub mod Flushes
 pub mod Gathers
 pub mod Joins
 pub mod Keeps
+mod Leaving
 pub mod Lists
 pub mod Meets
 pub mod Merging

@@ -4,7 +4,7 @@ use mathlib.Core.Logic.{dite}
 use mathlib.Core.List.{IsPrefix}
 use native.Mathlib.Decide.{ℕ_discrete}
 use Rattle.task_set.specs.declared.event.Event.{Event}
-use Rattle.scheduler_reply.specs.declared.reply.Entry.{Entry}
+use Rattle.strong_apa.specs.declared.reply.Entry.{Entry}
 use Rattle.sched_core.specs.CoreData.{entry_of}
 use Rattle.event_history.specs.Boards.{BoardData, PassData, AreFrom}
 use Rattle.event_history.specs.Closing.{Tells, AllTell}

@@ -3,20 +3,20 @@ use Rattle.std.proofs.Common.{◌≡◌, ℕ, zero, suc, ◌≤◌, Bool, true, 
 use mathlib.Core.List.{IsPrefix}
 use Rattle.task_set.specs.TaskSet.{SetData, IsTaskSet}
 use Rattle.task_set.specs.declared.order.Order.{Order}
-use Rattle.scheduler_reply.specs.declared.reply.Entry.{Entry}
-use Rattle.link_state.specs.State.{State, start_of}
-use Rattle.link_state.specs.History.{IsLegal}
-use Rattle.link_state.specs.Dispatch.{orders_of, closed_orders_of}
+use Rattle.strong_apa.specs.declared.reply.Entry.{Entry}
+use Rattle.strong_apa.specs.State.{State, start_of}
+use Rattle.strong_apa.specs.History.{IsLegal}
+use Rattle.strong_apa.specs.Dispatch.{orders_of, closed_orders_of}
 use Rattle.order_queues.specs.Ends.{QueueData, SenderData, new_sender}
 use Rattle.sched_core.specs.CoreData.{CoreData, IsCore, core_orders, entry_of, max_entries}
 use Rattle.sched_core.specs.declared.fault.CoreFault.{CoreFault}
 use Rattle.task_set.specs.declared.event.Event.{Event}
 use Rattle.event_history.specs.declared.fault.Receipt.{Receipt}
 use Rattle.event_history.specs.Entering.{Entered, IsNoEntry, IsTaken}
-use Rattle.order_laws.proofs.OrderCounts.{orders_count}
-use Rattle.order_laws.proofs.OrderLists.{orders_obeyable}
-use Rattle.order_laws.proofs.OrderNames.{orders_name_tasks}
-use Rattle.order_laws.proofs.OrderPrefixes.{orders_only_grow}
+use Rattle.history_laws.proofs.OrderCounts.{orders_count}
+use Rattle.history_laws.proofs.OrderLists.{orders_obeyable}
+use Rattle.history_laws.proofs.OrderNames.{orders_name_tasks}
+use Rattle.history_laws.proofs.OrderPrefixes.{orders_only_grow}
 use Rattle.event_history.specs.Boards.{AreFor}
 use Rattle.event_history.specs.Holdings.{CoreGrows, SentBegins, NoneSent, queues_of}
 use Rattle.event_history.specs.Owing.{MaySend, AllMaySend}

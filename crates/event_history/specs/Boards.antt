@@ -4,7 +4,7 @@ use Rattle.std.specs.Prelude.{◌≡◌, ℕ, ◌+◌, ◌≤◌, Bool, false, t
 use mathlib.Core.List.{IsPrefix}
 use Rattle.atomic_table.specs.Seated.{TableId}
 use Rattle.task_set.specs.TaskSet.{SetData, IsTaskSet}
-use Rattle.scheduler_reply.specs.declared.reply.Entry.{Entry}
+use Rattle.strong_apa.specs.declared.reply.Entry.{Entry}
 use Rattle.order_queues.specs.Ends.{QueueData, EyeData, new_eye}
 
 -- which board it is, the set over which it was made, the queues of its senders, and how many callers it has

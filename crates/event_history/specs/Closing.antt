@@ -1,9 +1,9 @@
 -- What a closed board gives back: one history, of which each pass saw a beginning, and a sender for each processor.
 use Rattle.std.specs.Prelude.{◌≡◌, Bool, true, List, [], ◌∷◌}
 use mathlib.Core.List.{IsPrefix}
-use Rattle.scheduler_reply.specs.declared.reply.Entry.{Entry}
-use Rattle.link_state.specs.State.{start_of}
-use Rattle.link_state.specs.History.{IsLegal}
+use Rattle.strong_apa.specs.declared.reply.Entry.{Entry}
+use Rattle.strong_apa.specs.State.{start_of}
+use Rattle.strong_apa.specs.History.{IsLegal}
 use Rattle.sched_core.specs.CoreData.{CoreData}
 use Rattle.order_queues.specs.Ends.{SenderData}
 use Rattle.event_history.specs.Boards.{BoardData, PassData}

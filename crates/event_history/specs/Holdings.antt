@@ -2,7 +2,7 @@
 use Rattle.std.specs.Prelude.{◌≡◌, ℕ, List, [], ◌∷◌, map, slice_get, Option, Some, None, false}
 use mathlib.Core.List.{IsPrefix}
 use Rattle.task_set.specs.TaskSet.{SetData}
-use Rattle.link_state.specs.State.{start_of}
+use Rattle.strong_apa.specs.State.{start_of}
 use Rattle.sched_core.specs.CoreData.{CoreData, core_orders}
 use Rattle.order_queues.specs.Ends.{QueueData, SenderData}
 

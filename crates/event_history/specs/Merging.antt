@@ -2,7 +2,7 @@
 use Rattle.std.specs.Prelude.{◌≡◌, ℕ, ◌<◌, ◌≤◌, ◌==◌, List, [], ◌∷◌, ◌++◌, map, filter, slice_get, Some, All, Contains}
 use Rattle.task_set.specs.TaskSet.{SetData}
 use Rattle.task_set.specs.declared.event.Event.{Event}
-use Rattle.scheduler_reply.specs.declared.reply.Entry.{Entry}
+use Rattle.strong_apa.specs.declared.reply.Entry.{Entry}
 use Rattle.sched_core.specs.CoreData.{CoreData}
 use Rattle.event_history.specs.declared.fault.Receipt.{Receipt}
 use Rattle.event_history.specs.Boards.{BoardData, PassData, AreAll, Grown}

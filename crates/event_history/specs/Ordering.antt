@@ -2,8 +2,8 @@
 use Rattle.std.specs.Prelude.{ℕ, List, if◌then◌else◌}
 use Rattle.task_set.specs.TaskSet.{SetData}
 use Rattle.task_set.specs.declared.order.Order.{Order}
-use Rattle.link_state.specs.State.{start_of}
-use Rattle.link_state.specs.Dispatch.{orders_of, closed_orders_of}
+use Rattle.strong_apa.specs.State.{start_of}
+use Rattle.strong_apa.specs.Dispatch.{orders_of, closed_orders_of}
 use Rattle.event_history.specs.Boards.{PassData}
 
 -- the orders to p that the pass sees

@@ -1,6 +1,6 @@
 -- Where a caller's entries stand in a history. Places are numbered from 0 on.
 use Rattle.std.specs.Prelude.{ℕ, ◌+◌, ◌<◌, ◌==◌, cond, List, [], ◌∷◌}
-use Rattle.scheduler_reply.specs.declared.reply.Entry.{Entry}
+use Rattle.strong_apa.specs.declared.reply.Entry.{Entry}
 
 -- the places of the caller's entries, from the n-th on
 abbrev pub places : ℕ → ℕ → List Entry → List ℕ

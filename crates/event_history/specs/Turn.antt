@@ -5,9 +5,9 @@ use mathlib.Core.List.{IsPrefix}
 use lib.ListN.{get_elem?}
 use Rattle.atomic_table.specs.Table.{State, Me, Step}
 use Rattle.task_set.specs.TaskSet.{SetData}
-use Rattle.scheduler_reply.specs.declared.reply.Entry.{Entry}
-use Rattle.link_state.specs.State.{start_of}
-use Rattle.link_state.specs.History.{IsLegal}
+use Rattle.strong_apa.specs.declared.reply.Entry.{Entry}
+use Rattle.strong_apa.specs.State.{start_of}
+use Rattle.strong_apa.specs.History.{IsLegal}
 use Rattle.sched_core.specs.CoreData.{CoreData}
 use Rattle.order_queues.specs.Ends.{QueueData, SenderData}
 use Rattle.event_history.specs.Holdings.{HeldData, queues_of}

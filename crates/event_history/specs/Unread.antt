@@ -2,8 +2,8 @@
 use Rattle.std.specs.Prelude.{◌≡◌, Bool, true, false}
 use Rattle.task_set.specs.TaskSet.{SetData}
 use Rattle.task_set.specs.declared.event.Event.{Event}
-use Rattle.scheduler_reply.specs.declared.reply.Reply.{Reply}
-use Rattle.scheduler_reply.specs.declared.reply.Reply.TheVariants.{Waits, Left, AlreadyReady, NotReady, Masked, AlreadyOff, AlreadyOn}
+use Rattle.strong_apa.specs.declared.reply.Reply.{Reply}
+use Rattle.strong_apa.specs.declared.reply.Reply.TheVariants.{Waits, Left, AlreadyReady, NotReady, Masked, AlreadyOff, AlreadyOn}
 use Rattle.event_history.specs.declared.fault.Receipt.{Receipt}
 use Rattle.event_history.specs.declared.fault.Unread.{Unread}
 use Rattle.event_history.specs.Boards.{PassData}

@@ -1,6 +1,6 @@
 //! One entry more in a core, and what its caller takes of it.
 ghost use Rattle.std.specs.Prelude.{◌≡◌, IfOk, IfErr};
-ghost use Rattle.link_state.specs.Step.{IsEventFor};
+ghost use Rattle.strong_apa.specs.Step.{IsEventFor};
 ghost use Rattle.event_history.specs.Entering.{Entered, IsNoEntry, IsTaken};
 ghost use Rattle.event_history.specs.Unread.{may_give_orders, unread_of};
 ghost use Rattle.event_history.specs.declared.fault.Receipt.{Receipt};

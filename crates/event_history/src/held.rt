@@ -1,7 +1,7 @@
 //! What a turn gives: the core and the senders.
 ghost use Rattle.std.specs.Prelude.{◌≡◌, IfOk, IfErr, length, map, true, slice_get, Some};
-ghost use Rattle.link_state.specs.Step.{IsEventFor};
-ghost use Rattle.link_state.specs.State.{task_count, start_of};
+ghost use Rattle.strong_apa.specs.Step.{IsEventFor};
+ghost use Rattle.strong_apa.specs.State.{task_count, start_of};
 ghost use Rattle.order_queues.specs.Ends.{EyeData};
 ghost use Rattle.sched_core.specs.CoreData.{IsCore, core_orders};
 ghost use Rattle.event_history.specs.Boards.{AreEyesOf};

@@ -114,7 +114,7 @@ impl Join<PassView> for Gathers {
     ghost spent = { spent };
 }
 
-ghost use Rattle.link_state.specs.History.{IsLegal};
+ghost use Rattle.strong_apa.specs.History.{IsLegal};
 ghost use Rattle.order_queues.specs.Ends.{EyeData};
 ghost use Rattle.event_history.specs.Boards.{Grown, AreEyesOf, AreFor};
 ghost use Rattle.event_history.specs.Flushing.{Flushed};
@@ -122,7 +122,7 @@ ghost use Rattle.event_history.specs.Holdings.{SentBegins, NoneSent, queues_of, 
 ghost use Rattle.event_history.specs.Meeting.{Counted, Told, Met};
 ghost use Rattle.event_history.specs.Posting.{SawAll, WasBusy, turn_looks};
 ghost use Rattle.event_history.specs.PassStates.{IsOfTurn, IsTurnTable, Agrees, data_at};
-ghost use Rattle.link_state.specs.State.{start_of};
+ghost use Rattle.strong_apa.specs.State.{start_of};
 ghost use Rattle.event_history.specs.Gathering.{IsIn, AllIn, AllOf, IsGathering};
 ghost use Rattle.event_history.specs.Places.{CallersBelow};
 ghost use Rattle.event_history.specs.Turn.{Fits, IsOver, passes_of};

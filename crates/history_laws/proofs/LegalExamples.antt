@@ -7,17 +7,17 @@ use Rattle.affinity_mask.specs.ProcSet.{has, all_below, intersection}
 use Rattle.affinity_mask.proofs.Sets.{has-all_below, has-pow}
 use Rattle.task_set.specs.TaskSet.{SetData, IsMask}
 use Rattle.task_set.specs.declared.event.Event.TheVariants.{Arrive, Offline}
-use Rattle.scheduler_reply.specs.declared.reply.Came.{Came}
-use Rattle.scheduler_reply.specs.declared.reply.Came.TheVariants as came
-use Rattle.scheduler_reply.specs.declared.reply.Reply.TheVariants.{Placed, Waits, AlreadyReady, Off}
-use Rattle.scheduler_reply.specs.Reply.{reply_of_came}
-use Rattle.scheduler_reply.specs.declared.reply.Entry.{Entry}
-use Rattle.link_state.specs.State.{State, IsIdle, IsWaiting, is_ready, task_on, effective_mask, priority_of, state_with_mask, state_after_leaving}
-use Rattle.link_state.specs.Chain.{CanShift, IsPath, IsWalk, IsChainOf, IsReach, IsBackReach, IsBackChain, Reaches, IsLess, IsLeastSuch, EndsIdle, EndsOnTask, EntersBy, state_after_shift}
-use Rattle.link_state.specs.Step.{Comes, ComesPlaced, ComesDisplaced, ComesWaits, ArriveStep, IsMostUrgentInto, Fills, OfflineStep}
-use Rattle.link_state.specs.History.{IsLegal, state_at}
-use Rattle.link_state.proofs.Paths.{Reaches-online}
-use Rattle.scheduler_reply.proofs.Replies.{one_came}
+use Rattle.strong_apa.specs.declared.reply.Came.{Came}
+use Rattle.strong_apa.specs.declared.reply.Came.TheVariants as came
+use Rattle.strong_apa.specs.declared.reply.Reply.TheVariants.{Placed, Waits, AlreadyReady, Off}
+use Rattle.strong_apa.specs.Reply.{reply_of_came}
+use Rattle.strong_apa.specs.declared.reply.Entry.{Entry}
+use Rattle.strong_apa.specs.State.{State, IsIdle, IsWaiting, is_ready, task_on, effective_mask, priority_of, state_with_mask, state_after_leaving}
+use Rattle.strong_apa.specs.Chain.{CanShift, IsPath, IsWalk, IsChainOf, IsReach, IsBackReach, IsBackChain, Reaches, IsLess, IsLeastSuch, EndsIdle, EndsOnTask, EntersBy, state_after_shift}
+use Rattle.strong_apa.specs.Step.{Comes, ComesPlaced, ComesDisplaced, ComesWaits, ArriveStep, IsMostUrgentInto, Fills, OfflineStep}
+use Rattle.strong_apa.specs.History.{IsLegal, state_at}
+use Rattle.strong_apa.proofs.Paths.{Reaches-online}
+use Rattle.strong_apa.proofs.Replies.{one_came}
 use Rattle.history_laws.proofs.Examples.{first_shift_set, first_shift, waits_with_a_reach_wider_than_its_mask_set, enters_through_a_back_chain_set, enters_through_a_back_chain, remasked_task_comes_back_set, remasked_task_comes_back, task, entry, came_in}
 
 -- ---- which processors the masks 1, 2 and 3 have

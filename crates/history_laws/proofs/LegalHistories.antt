@@ -2,21 +2,21 @@
 use Rattle.std.proofs.Common.{List, take, sym, ◌∙◌}
 use Rattle.std.proofs.lemmas.Bool.{true≢false}
 use Rattle.task_set.specs.TaskSet.{SetData, IsTaskSet}
-use Rattle.scheduler_reply.specs.declared.reply.Entry.{Entry}
-use Rattle.link_state.specs.State.{State, IsState, start_of}
-use Rattle.link_state.specs.History.{IsLegal, state_after}
-use Rattle.link_state.proofs.Start.{IsState-start}
-use Rattle.certificate_laws.specs.Certified.{HasCertificates}
-use Rattle.certificate_laws.specs.Improving.{HasNoImprovingChain}
-use Rattle.certificate_laws.specs.Laws.{HoldsThroughout, HoldsWhereCertified, LinkedIsBest, LinkedIsLargest, LinkedIsAsUrgent}
-use Rattle.certificate_laws.proofs.Best.{linked_is_best, linked_is_largest}
-use Rattle.certificate_laws.proofs.Improved.{no_improving_chain}
-use Rattle.certificate_laws.proofs.Kept.{passing_is_certified-from, legal_passes}
-use Rattle.certificate_laws.proofs.Ranked.{linked_is_as_urgent}
-use Rattle.order_laws.specs.Start.{NobodyIsReady}
+use Rattle.strong_apa.specs.declared.reply.Entry.{Entry}
+use Rattle.strong_apa.specs.State.{State, IsState, start_of}
+use Rattle.strong_apa.specs.History.{IsLegal, state_after}
+use Rattle.strong_apa.proofs.Start.{IsState-start}
+use Rattle.strong_apa.specs.Certified.{HasCertificates}
+use Rattle.strong_apa.specs.Improving.{HasNoImprovingChain}
+use Rattle.strong_apa.specs.CertificateLaws.{HoldsThroughout, HoldsWhereCertified, LinkedIsBest, LinkedIsLargest, LinkedIsAsUrgent}
+use Rattle.strong_apa.proofs.Best.{linked_is_best, linked_is_largest}
+use Rattle.strong_apa.proofs.Improved.{no_improving_chain}
+use Rattle.strong_apa.proofs.Kept.{passing_is_certified-from, legal_passes}
+use Rattle.strong_apa.proofs.Ranked.{linked_is_as_urgent}
+use Rattle.history_laws.specs.Start.{NobodyIsReady}
 use Rattle.history_laws.specs.ImprovingLaw.{LegalHistoryHasNoImprovingChainFrom}
 use Rattle.history_laws.specs.LegalLaw.{HoldsThroughoutLegal, LegalHistoryHasCertificatesFrom, LegalHistoryIsBestFrom, LegalHistoryIsMostUrgentFrom}
-use Rattle.order_laws.proofs.Starts.{nobody_ready}
+use Rattle.history_laws.proofs.Starts.{nobody_ready}
 
 -- where nobody is ready, nobody waits
 nobody_waits : (s : State) → NobodyIsReady s → HasCertificates s

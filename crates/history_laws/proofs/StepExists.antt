@@ -5,27 +5,27 @@ use Rattle.std.proofs.lemmas.List.{get_or_past}
 use Rattle.affinity_mask.specs.ProcSet.{has}
 use Rattle.task_set.specs.TaskSet.{IsMask}
 use Rattle.task_set.specs.declared.event.Event.TheVariants.{Arrive, Depart, Tick, Affinity, Offline, Online}
-use Rattle.scheduler_reply.specs.declared.reply.Reply.{Reply}
-use Rattle.scheduler_reply.specs.declared.reply.Came.{Came}
-use Rattle.scheduler_reply.specs.declared.reply.Came.TheVariants.{Placed, Displaced, Waits}
-use Rattle.scheduler_reply.specs.declared.reply.Gone.{Gone}
-use Rattle.scheduler_reply.specs.declared.reply.Moved.{Moved}
-use Rattle.scheduler_reply.specs.declared.reply.Reply.TheVariants.{Left, Ticked, AlreadyReady, NotReady, Masked, Remasked, AlreadyOff, AlreadyOn, Off, On}
-use Rattle.scheduler_reply.specs.Reply.{reply_of_came, reply_of_gone}
-use Rattle.link_state.specs.State.{State, IsState, IsWaiting, IsMoreUrgent, task_on, task_count, is_ready, is_linked, priority_of, effective_mask, state_with_ready, state_with_absent, state_with_mask, state_with_online, state_with_offline, state_after_leaving}
-use Rattle.link_state.specs.Chain.{IsReach, IsBackReach, EndsIdle, CanEnterAt, state_after_shift}
-use Rattle.link_state.specs.Step.{IsOccupied, Comes, ArriveStep, DepartStep, EnterStep, Fills, LeaveStep, AffinityStep, OfflineStep, OnlineStep}
-use Rattle.link_state.proofs.Changes.{IsState-state_with_online}
-use Rattle.link_state.proofs.Ends.{has_decided, least_chain_to_idle, least_chain_to_task, least_back_chain}
-use Rattle.link_state.proofs.Least.{Decided}
-use Rattle.link_state.proofs.Leaving.{IsState-state_after_leaving}
-use Rattle.link_state.proofs.Linked.{place_in, task_on-linked, linked_number, occupied_number}
-use Rattle.link_state.proofs.Masks.{online_below, effective_mask_below}
-use Rattle.link_state.proofs.Paths.{Reaches-online}
-use Rattle.link_state.proofs.Steps.{has_left, IsState-remasked, IsState-moved, absent_moved}
+use Rattle.strong_apa.specs.declared.reply.Reply.{Reply}
+use Rattle.strong_apa.specs.declared.reply.Came.{Came}
+use Rattle.strong_apa.specs.declared.reply.Came.TheVariants.{Placed, Displaced, Waits}
+use Rattle.strong_apa.specs.declared.reply.Gone.{Gone}
+use Rattle.strong_apa.specs.declared.reply.Moved.{Moved}
+use Rattle.strong_apa.specs.declared.reply.Reply.TheVariants.{Left, Ticked, AlreadyReady, NotReady, Masked, Remasked, AlreadyOff, AlreadyOn, Off, On}
+use Rattle.strong_apa.specs.Reply.{reply_of_came, reply_of_gone}
+use Rattle.strong_apa.specs.State.{State, IsState, IsWaiting, IsMoreUrgent, task_on, task_count, is_ready, is_linked, priority_of, effective_mask, state_with_ready, state_with_absent, state_with_mask, state_with_online, state_with_offline, state_after_leaving}
+use Rattle.strong_apa.specs.Chain.{IsReach, IsBackReach, EndsIdle, CanEnterAt, state_after_shift}
+use Rattle.strong_apa.specs.Step.{IsOccupied, Comes, ArriveStep, DepartStep, EnterStep, Fills, LeaveStep, AffinityStep, OfflineStep, OnlineStep}
+use Rattle.strong_apa.proofs.Changes.{IsState-state_with_online}
+use Rattle.strong_apa.proofs.Ends.{has_decided, least_chain_to_idle, least_chain_to_task, least_back_chain}
+use Rattle.strong_apa.proofs.Least.{Decided}
+use Rattle.strong_apa.proofs.Leaving.{IsState-state_after_leaving}
+use Rattle.strong_apa.proofs.Linked.{place_in, task_on-linked, linked_number, occupied_number}
+use Rattle.strong_apa.proofs.Masks.{online_below, effective_mask_below}
+use Rattle.strong_apa.proofs.Paths.{Reaches-online}
+use Rattle.strong_apa.proofs.Steps.{has_left, IsState-remasked, IsState-moved, absent_moved}
 use Rattle.history_laws.specs.StepLaws.{StepExists}
 use Rattle.history_laws.proofs.StepReach.{reach_exists, back_reach_exists}
-use Rattle.certificate_laws.proofs.FirstFound.{FirstBelow, first_below, exists_below, both_decided}
+use Rattle.strong_apa.proofs.FirstFound.{FirstBelow, first_below, exists_below, both_decided}
 
 nobody_decided : (o : Option ℕ) → Decided (o ≡ None)
 nobody_decided None = inl refl

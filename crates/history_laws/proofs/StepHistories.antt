@@ -6,14 +6,14 @@ use Rattle.std.proofs.lemmas.List.Elements.{All-head, All-tail}
 use Rattle.task_set.specs.TaskSet.{TaskData}
 use Rattle.task_set.specs.Event.{IsOfSystem}
 use Rattle.task_set.specs.declared.event.Event.{Event}
-use Rattle.scheduler_reply.specs.declared.reply.Entry.{Entry}
-use Rattle.link_state.specs.State.{State, IsState, start_of, task_count}
-use Rattle.link_state.specs.Step.{SchedulerStep}
-use Rattle.link_state.specs.History.{IsLegalFrom, effect_of}
-use Rattle.link_state.proofs.SameTasks.{same_tasks-effect, same_count}
-use Rattle.link_state.proofs.Start.{IsState-start}
-use Rattle.link_state.proofs.Steps.{reply_gives_new_state, step_keeps_state}
-use Rattle.link_state.proofs.Unique.{step_is_unique}
+use Rattle.strong_apa.specs.declared.reply.Entry.{Entry}
+use Rattle.strong_apa.specs.State.{State, IsState, start_of, task_count}
+use Rattle.strong_apa.specs.Step.{SchedulerStep}
+use Rattle.strong_apa.specs.History.{IsLegalFrom, effect_of}
+use Rattle.strong_apa.proofs.SameTasks.{same_tasks-effect, same_count}
+use Rattle.strong_apa.proofs.Start.{IsState-start}
+use Rattle.strong_apa.proofs.Steps.{reply_gives_new_state, step_keeps_state}
+use Rattle.strong_apa.proofs.Unique.{step_is_unique}
 use Rattle.history_laws.specs.StepLaws.{LegalHistoryExists, LegalHistoryIsUnique, caller_and_event}
 use Rattle.history_laws.proofs.StepExists.{step_exists}
 

@@ -3,20 +3,20 @@ use Rattle.std.proofs.Common.{◌≡◌, ℕ, zero, suc, ◌<◌, ◌≤◌, ◌
 use Rattle.std.proofs.lemmas.Bool.{cases_eq}
 use Rattle.affinity_mask.specs.ProcSet.{has}
 use Rattle.affinity_mask.proofs.Sets.{has-pow}
-use Rattle.link_state.specs.State.{State, IsState, effective_mask}
-use Rattle.link_state.specs.Chain.{IsPath, IsSimple, IsLeastSuch, IsReach, IsBackReach, Reaches}
-use Rattle.link_state.proofs.Ends.{CanShift_decided, has_decided}
-use Rattle.link_state.proofs.Least.{Decided, least_exists}
-use Rattle.link_state.proofs.Masks.{effective_mask_below}
-use Rattle.link_state.proofs.Shortest.{shortest_is_simple}
-use Rattle.link_state.proofs.Simple.{length-simple}
+use Rattle.strong_apa.specs.State.{State, IsState, effective_mask}
+use Rattle.strong_apa.specs.Chain.{IsPath, IsSimple, IsLeastSuch, IsReach, IsBackReach, Reaches}
+use Rattle.strong_apa.proofs.Ends.{CanShift_decided, has_decided}
+use Rattle.strong_apa.proofs.Least.{Decided, least_exists}
+use Rattle.strong_apa.proofs.Masks.{effective_mask_below}
+use Rattle.strong_apa.proofs.Shortest.{shortest_is_simple}
+use Rattle.strong_apa.proofs.Simple.{length-simple}
 use Rattle.path_search.specs.declared.direction.Direction.{Direction}
 use Rattle.path_search.specs.declared.direction.Direction.TheVariants.{Onward, Back}
 use Rattle.path_search.specs.Paths.{Steps, IsPathFrom, LeadsTo}
 use Rattle.path_search.proofs.ChainPaths.{path_from_back_chain, back_chain_from_path, start_below}
 use Rattle.path_search.proofs.LeastPaths.{IsPathFrom-below, IsPathFrom-all_below}
 use Rattle.path_search.proofs.Moves.{Steps-below}
-use Rattle.certificate_laws.proofs.FirstFound.{both_decided, exists_below}
+use Rattle.strong_apa.proofs.FirstFound.{both_decided, exists_below}
 use Rattle.history_laws.proofs.StepSearch.{set_below}
 
 -- whether a list is a path from p to q

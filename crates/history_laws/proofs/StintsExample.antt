@@ -4,12 +4,12 @@ use Rattle.std.specs.List.{range_with_len}
 use Rattle.task_set.specs.Orders.{Stint}
 use Rattle.task_set.specs.Context.{carried_context, stints_of_task}
 use Rattle.task_set.specs.declared.event.Event.TheVariants.{Arrive, Depart, Tick}
-use Rattle.scheduler_reply.specs.declared.reply.Reply.TheVariants.{Placed, Freed, Ticked}
-use Rattle.scheduler_reply.specs.declared.reply.Entry.{Entry}
-use Rattle.link_state.specs.State.{start_of}
-use Rattle.link_state.specs.Dispatch.{context_of}
+use Rattle.strong_apa.specs.declared.reply.Reply.TheVariants.{Placed, Freed, Ticked}
+use Rattle.strong_apa.specs.declared.reply.Entry.{Entry}
+use Rattle.strong_apa.specs.State.{start_of}
+use Rattle.strong_apa.specs.Dispatch.{context_of}
 use Rattle.history_laws.proofs.Examples.{entry, context, first_shift_set}
-use Rattle.order_laws.specs.StintLaw.{AreTakes, stints_of_history}
+use Rattle.history_laws.specs.StintLaw.{AreTakes, stints_of_history}
 
 -- ---- the first task runs on processor 0, is shifted to 1 and runs there, and then the second task leaves
 abbrev shift_and_run : List Entry

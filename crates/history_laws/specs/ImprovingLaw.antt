@@ -1,9 +1,9 @@
 -- No task waits that could be shifted in.
 use Rattle.std.specs.Prelude.{List}
 use Rattle.task_set.specs.TaskSet.{SetData, IsTaskSet}
-use Rattle.scheduler_reply.specs.declared.reply.Entry.{Entry}
-use Rattle.link_state.specs.History.{IsLegal}
-use Rattle.certificate_laws.specs.Improving.{HasNoImprovingChain, HasNoImprovingChainThroughout}
+use Rattle.strong_apa.specs.declared.reply.Entry.{Entry}
+use Rattle.strong_apa.specs.History.{IsLegal}
+use Rattle.strong_apa.specs.Improving.{HasNoImprovingChain, HasNoImprovingChainThroughout}
 use Rattle.history_laws.specs.LegalLaw.{HoldsThroughoutLegal}
 
 -- after every entry of a legal history no task has an improving chain

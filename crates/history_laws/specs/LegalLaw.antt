@@ -2,12 +2,12 @@
 -- from the start of a set.
 use Rattle.std.specs.Prelude.{ℕ, ◌≤◌, List, length}
 use Rattle.task_set.specs.TaskSet.{SetData, IsTaskSet}
-use Rattle.scheduler_reply.specs.declared.reply.Entry.{Entry}
-use Rattle.link_state.specs.State.{State, IsState}
-use Rattle.link_state.specs.History.{IsLegal, IsLegalFrom, state_at, IsBestThroughout}
-use Rattle.certificate_laws.specs.Certified.{HasCertificates, IsCertifiedThroughout}
-use Rattle.certificate_laws.specs.Laws.{HoldsThroughout, LinkedIsBest, LinkedIsLargest, LinkedIsAsUrgent}
-use Rattle.order_laws.specs.Start.{NobodyIsReady}
+use Rattle.strong_apa.specs.declared.reply.Entry.{Entry}
+use Rattle.strong_apa.specs.State.{State, IsState}
+use Rattle.strong_apa.specs.History.{IsLegal, IsLegalFrom, state_at, IsBestThroughout}
+use Rattle.strong_apa.specs.Certified.{HasCertificates, IsCertifiedThroughout}
+use Rattle.strong_apa.specs.CertificateLaws.{HoldsThroughout, LinkedIsBest, LinkedIsLargest, LinkedIsAsUrgent}
+use Rattle.history_laws.specs.Start.{NobodyIsReady}
 
 -- what holds after every entry of each legal history from a state in which nobody is ready
 abbrev pub HoldsThroughoutLegal : (State → Type 0) → Type 0

@@ -3,11 +3,11 @@ use Rattle.std.specs.Prelude.{◌≡◌, ℕ, List, length, map, All}
 use Rattle.task_set.specs.TaskSet.{SetData, IsTaskSet}
 use Rattle.task_set.specs.Event.{IsOfSystem}
 use Rattle.task_set.specs.declared.event.Event.{Event}
-use Rattle.scheduler_reply.specs.declared.reply.Reply.{Reply}
-use Rattle.scheduler_reply.specs.declared.reply.Entry.{Entry}
-use Rattle.link_state.specs.State.{State, IsState}
-use Rattle.link_state.specs.Step.{IsEventFor, SchedulerStep}
-use Rattle.link_state.specs.History.{IsLegal}
+use Rattle.strong_apa.specs.declared.reply.Reply.{Reply}
+use Rattle.strong_apa.specs.declared.reply.Entry.{Entry}
+use Rattle.strong_apa.specs.State.{State, IsState}
+use Rattle.strong_apa.specs.Step.{IsEventFor, SchedulerStep}
+use Rattle.strong_apa.specs.History.{IsLegal}
 
 -- in every state, at every event of one of its tasks or processors, the scheduler has a step
 abbrev pub StepExists : Type 0

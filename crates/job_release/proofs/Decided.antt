@@ -8,15 +8,15 @@ use Rattle.text_fields.specs.Number.{IsNumberWithin}
 use Rattle.text_fields.proofs.Addable.{can_add_decided, name_decided}
 use Rattle.text_fields.proofs.NamedTasks.{same_name, name_not_new}
 use Rattle.text_fields.proofs.Decisions.{bytes_decided, number_within_decided}
-use Rattle.line_machine.specs.Choice.{IsDecided}
-use Rattle.line_machine.proofs.Choices.{only, choice, reading, judging, allowing}
-use Rattle.line_machine.specs.Lines.{lines_of}
+use Rattle.text_fields.specs.Choice.{IsDecided}
+use Rattle.text_fields.proofs.Choices.{only, choice, reading, judging, allowing}
+use Rattle.text_fields.specs.Lines.{lines_of}
 use Rattle.affinity_mask.proofs.ListTexts.{list_text-one_set, list_text-one_fault, list_text-no_fault}
 use Rattle.task_set.proofs.Refusals.{CanAdd-IsRefusal, same_refusal}
-use Rattle.line_machine.proofs.LineRule.{lines_machine}
+use Rattle.text_fields.proofs.LineRule.{lines_machine}
 use Rattle.job_release.specs.JobFault.{job_kind}
-use Rattle.line_machine.specs.Machine.{Outcome, Leads, Fails, IsMachine}
-use Rattle.line_machine.proofs.TextLaws.{one_value, ends_valid}
+use Rattle.text_fields.specs.Machine.{Outcome, Leads, Fails, IsMachine}
+use Rattle.text_fields.proofs.TextLaws.{one_value, ends_valid}
 use Rattle.job_release.specs.JobInput.{JobInputData, IsJobInput, total_jobs, without_tasks}
 use Rattle.job_release.specs.JobText.{IsWorded, TaskLine, AreTimes, AreTimeFields, AreTimesOf, IsTaskForm, JobLine, IsDeadline, SaysJob, IsJobForm, end_line, max_horizon, Progress, HeaderExpected, ProcessorsExpected, HorizonExpected, Listed, Ended, BeginsTask, IsForTask, IsCountOutcome, IsAddOutcome, IsTaskOutcome, IsJobOutcome, IsListedOutcome, IsWordedOutcome, IsOutcome, IsEndOutcome}
 use Rattle.job_release.specs.TextLaws.{TextHasOneInput, TextIsOfValidInput}

@@ -5,7 +5,7 @@ use Rattle.std.proofs.lemmas.Bool.{cases_lt, cases_eq, true≢false}
 use Rattle.std.proofs.lemmas.Option.{get_or_from_slice_get, slice_get-get_or}
 use Rattle.std.proofs.lemmas.List.{length-map, length-set, get_or-set_same, get_or-set_other}
 use Rattle.std.proofs.lemmas.List.Sums.{sum_by-set}
-use Rattle.link_state.specs.State.{IsState, task_count, is_ready}
+use Rattle.strong_apa.specs.State.{IsState, task_count, is_ready}
 use Rattle.job_release.specs.Driving.{DriverData, IsDriving, IsRow, IsRowAt, Mark, grown, settled, supplied, row_at, work_of, done_of, HasCost, HasWork, Finishes, Releases}
 use Rattle.job_release.specs.Scheduler.{SchedulerData, Readies}
 use Rattle.job_release.specs.declared.row.JobRow.{JobRow}

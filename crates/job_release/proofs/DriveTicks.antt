@@ -1,7 +1,7 @@
 -- Time passes: it leads from a moment to the next one at which something is to be done.
 use Rattle.std.proofs.Common.{◌≡◌, ℕ, suc, ◌+◌, ◌*◌, ◌-◌, ◌^◌, ◌<◌, ◌≤◌, true, List, [], ◌∷◌, length, get_or, All, refl, sym, ap, ◌∙◌, subst, inl, inr, arith}
-use Rattle.link_state.specs.State.{State, IsState, is_ready, is_linked}
-use Rattle.link_state.proofs.Linked.{task_on-linked, place_in}
+use Rattle.strong_apa.specs.State.{State, IsState, is_ready, is_linked}
+use Rattle.strong_apa.proofs.Linked.{task_on-linked, place_in}
 use Rattle.job_release.specs.Jobs.{goal_of}
 use Rattle.job_release.specs.declared.input.Job.{Job}
 use Rattle.job_release.specs.Driving.{DriverData, IsDriving, IsRowAt, grown, supplied, row_at, work_of, jobs_of, done_of, HasCost, BeginsAt, IsNextMoment, IsDueAt, RunFits, RowsRun, RowRuns}

@@ -1,7 +1,7 @@
 -- The fields of a line, taken one by one.
 use Rattle.std.proofs.Common.{◌≡◌, ℕ, ◌-◌, ◌≤◌, ◌↔◌, List, [], ◌∷◌, length, get_or, drop, take, Bool, IsTrue, Bor, codes, sym, ap, arith}
 use Rattle.std.proofs.lemmas.List.{take_all}
-use Rattle.line_machine.specs.Fields.{texts}
+use Rattle.text_fields.specs.Fields.{texts}
 use Rattle.job_release.specs.JobText.{BeginsTask}
 
 -- the first field says whether the line begins with `task`

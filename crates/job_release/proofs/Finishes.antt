@@ -2,8 +2,8 @@
 -- ask for, and from then on it got one unit at most in a moment.
 use Rattle.std.proofs.Common.{◌≡◌, ℕ, zero, suc, ◌+◌, ◌-◌, ◌<◌, ◌≤◌, List, [], length, Option, Some, None, IfSome, MatchOption, ap, inl, inr, arith}
 use Rattle.std.proofs.lemmas.Bool.{cases_Bool, cases_lt}
-use Rattle.link_state.specs.State.{is_linked}
-use Rattle.certificate_laws.proofs.Counts.{count_below-more, count_below-same}
+use Rattle.strong_apa.specs.State.{is_linked}
+use Rattle.strong_apa.proofs.Counts.{count_below-more, count_below-same}
 use Rattle.job_release.specs.Jobs.{job_at, no_job, goal_of, demand}
 use Rattle.job_release.specs.JobInput.{JobInputData, IsJobInput, AreJobs, jobs_at}
 use Rattle.job_release.specs.declared.input.Job.{Job}

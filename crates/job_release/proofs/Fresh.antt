@@ -5,8 +5,8 @@ use Rattle.std.proofs.lemmas.Grind.{common_steps}
 use Rattle.std.proofs.lemmas.List.{get_or_append_left, get_or_at, length-map}
 use Rattle.std.proofs.lemmas.List.Sums.{get_or-le-sum_by}
 use Rattle.task_set.specs.TaskSet.{TaskData}
-use Rattle.link_state.specs.State.{IsState, task_count, is_ready}
-use Rattle.link_state.proofs.Start.{none_ready}
+use Rattle.strong_apa.specs.State.{IsState, task_count, is_ready}
+use Rattle.strong_apa.proofs.Start.{none_ready}
 use Rattle.job_release.specs.JobInput.{JobInputData, IsJobInput, AreJobs, jobs_at}
 use Rattle.job_release.specs.declared.input.Job.{Job}
 use Rattle.job_release.specs.Driving.{DriverData, AreFresh, IsFresh, IsRowAt, IsDriving, jobs_of, row_at, settled}

@@ -1,13 +1,17 @@
+mod ComparisonWritten
+mod Counted
 pub mod Decided
 pub mod Demands
 mod DriveSteps
 mod DriveTicks
+mod Entered
 mod FieldLists
 pub mod Finishes
 mod Fresh
 pub mod Inputs
 mod JobListWritten
 pub mod JobsWritten
+mod Latest
 mod Listing
 pub mod Moments
 mod Moves
@@ -20,7 +24,10 @@ pub mod Released
 mod RowChanges
 mod RowSteps
 mod Runs
+mod Seen
+mod Serving
 mod Stored
 mod StrongRuns
 mod StrongSteps
+mod WeakHistories
 mod WorkSums

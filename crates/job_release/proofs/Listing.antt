@@ -8,7 +8,7 @@ use Rattle.task_set.specs.declared.fault.TaskFault.TheVariants as task
 use Rattle.job_release.specs.JobFault.{kind_of_refusal}
 use Rattle.job_release.specs.JobInput.{JobInputData, total_jobs, with_jobs}
 use Rattle.job_release.specs.JobText.{TaskLine, IsTaskOutcome, Listed, jobs_of_times}
-use Rattle.line_machine.specs.Machine.{Leads, Fails}
+use Rattle.text_fields.specs.Machine.{Leads, Fails}
 use Rattle.job_release.specs.Reading.{IsRefusedBy}
 use Rattle.job_release.specs.declared.fault.JobKind.TheVariants.{ManyJobs}
 use Rattle.job_release.specs.declared.input.Job.{Job}

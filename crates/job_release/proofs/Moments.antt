@@ -5,11 +5,11 @@ use Rattle.std.proofs.lemmas.Bool.Decides.{nat_tests}
 use Rattle.std.proofs.lemmas.List.Sums.{sum_by-cons, sum_by_push}
 use Rattle.task_set.specs.declared.event.Event.{Event}
 use Rattle.task_set.specs.declared.event.Event.TheVariants.{Arrive, Depart, Tick, Affinity, Offline, Online}
-use Rattle.scheduler_reply.specs.declared.reply.Reply.{Reply}
-use Rattle.scheduler_reply.specs.declared.reply.Entry.{Entry}
-use Rattle.link_state.specs.State.{State, is_linked}
-use Rattle.link_state.specs.History.{state_after, state_after_reply, effect_of}
-use Rattle.certificate_laws.proofs.Counts.{count_below-agree, count_below-more, count_below-same, count_below-zero, count_below-bound}
+use Rattle.strong_apa.specs.declared.reply.Reply.{Reply}
+use Rattle.strong_apa.specs.declared.reply.Entry.{Entry}
+use Rattle.strong_apa.specs.State.{State, is_linked}
+use Rattle.strong_apa.specs.History.{state_after, state_after_reply, effect_of}
+use Rattle.strong_apa.proofs.Counts.{count_below-agree, count_below-more, count_below-same, count_below-zero, count_below-bound}
 use Rattle.job_release.specs.Moments.{is_tick, units_of, elapsed, change_by, changes_by, Timeline, state_at, service_of}
 
 abbrev units : Entry → ℕ

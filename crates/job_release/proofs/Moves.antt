@@ -4,9 +4,9 @@ use Rattle.std.specs.Prelude.{IsNone, is_some}
 use Rattle.std.specs.List.{list_any}
 use Rattle.std.proofs.lemmas.Bool.{cases_Bool, cases_eq, true≢false, or_left}
 use Rattle.std.proofs.lemmas.List.{get_or-set_same, get_or-set_other}
-use Rattle.link_state.specs.State.{State, IsState, is_task, task_on, is_linked}
-use Rattle.link_state.proofs.Linked.{is_task-same, is_task-true}
-use Rattle.certificate_laws.proofs.Counts.{count_below-agree, count_below-more, count_below-same, count_below-zero, count_below-bound}
+use Rattle.strong_apa.specs.State.{State, IsState, is_task, task_on, is_linked}
+use Rattle.strong_apa.proofs.Linked.{is_task-same, is_task-true}
+use Rattle.strong_apa.proofs.Counts.{count_below-agree, count_below-more, count_below-same, count_below-zero, count_below-bound}
 use Rattle.job_release.specs.Moments.{Timeline}
 use Rattle.job_release.specs.Moves.{place_from, place_of, later_place, last_place, is_other_place, is_move, moves_of}
 use Rattle.job_release.specs.Driving.{RowRuns}

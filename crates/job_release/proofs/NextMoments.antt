@@ -1,7 +1,7 @@
 -- The next moment at which something is to be done, task by task.
 use Rattle.std.proofs.Common.{◌≡◌, ◌⊎◌, ℕ, ◌+◌, ◌<◌, ◌≤◌, List, [], ◌∷◌, length, sym, ◌∙◌, subst, inl, inr, arith}
 use Rattle.std.proofs.lemmas.Bool.{cases_eq}
-use Rattle.link_state.specs.State.{State}
+use Rattle.strong_apa.specs.State.{State}
 use Rattle.job_release.specs.Driving.{IsNotAfter, IsDueAt, IsEarlier, row_at}
 use Rattle.job_release.specs.declared.row.JobRow.{JobRow}
 

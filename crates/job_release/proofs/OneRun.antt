@@ -9,16 +9,16 @@ use Rattle.task_set.specs.Event.{IsOfVersion}
 use Rattle.task_set.specs.TaskSet.{TaskData}
 use Rattle.task_set.specs.declared.event.Event.{Event}
 use Rattle.task_set.specs.declared.event.Event.TheVariants.{Arrive, Depart, Tick, Affinity, Offline, Online}
-use Rattle.scheduler_reply.specs.declared.reply.Entry.{Entry}
-use Rattle.link_state.specs.State.{State, IsState, HasSameTasks, HasSameMasks, start_of, task_count, is_ready, is_linked}
-use Rattle.link_state.specs.History.{state_after, effect_of}
-use Rattle.link_state.specs.Placement.{TaskTest, IsBest}
-use Rattle.link_state.proofs.BestOnce.{best_is_unique}
-use Rattle.link_state.proofs.Histories.{IsState-state_at}
-use Rattle.link_state.proofs.SameTasks.{same_tasks-history, same_count, reply_keeps_masks}
-use Rattle.link_state.proofs.Unique.{ready_number}
-use Rattle.certificate_laws.proofs.Counts.{count_below-more, count_below-same}
-use Rattle.certificate_laws.proofs.SameBest.{IsBest-same}
+use Rattle.strong_apa.specs.declared.reply.Entry.{Entry}
+use Rattle.strong_apa.specs.State.{State, IsState, HasSameTasks, HasSameMasks, start_of, task_count, is_ready, is_linked}
+use Rattle.strong_apa.specs.History.{state_after, effect_of}
+use Rattle.strong_apa.specs.Placement.{TaskTest, IsBest}
+use Rattle.strong_apa.proofs.BestOnce.{best_is_unique}
+use Rattle.strong_apa.proofs.Histories.{IsState-state_at}
+use Rattle.strong_apa.proofs.SameTasks.{same_tasks-history, same_count, reply_keeps_masks}
+use Rattle.strong_apa.proofs.Unique.{ready_number}
+use Rattle.strong_apa.proofs.Counts.{count_below-more, count_below-same}
+use Rattle.strong_apa.proofs.SameBest.{IsBest-same}
 use Rattle.job_release.specs.Jobs.{job_at, goal_of}
 use Rattle.job_release.specs.JobInput.{JobInputData, IsJobInput, jobs_at}
 use Rattle.text_fields.specs.EventText.{name_of}

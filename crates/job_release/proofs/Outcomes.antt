@@ -10,7 +10,7 @@ use Rattle.text_fields.specs.Number.{IsNumberOf}
 use Rattle.text_fields.proofs.NamedTasks.{named_task}
 use Rattle.job_release.specs.JobInput.{JobInputData, IsJobInput, IsJobTask, IsJob, AreJobs, without_tasks, with_jobs, with_job}
 use Rattle.job_release.specs.JobText.{IsWorded, TaskLine, AreTimes, AreTimesOf, IsTaskForm, JobLine, IsDeadline, SaysJob, IsJobForm, max_horizon, Progress, HeaderExpected, ProcessorsExpected, HorizonExpected, Listed, Ended, LineOutcome, jobs_of_times, IsAddOutcome, IsTaskLineOutcome, IsOrderOutcome, IsJobLineOutcome, IsListedOutcome, IsWordedOutcome, IsOutcome, IsEndOutcome}
-use Rattle.line_machine.specs.Machine.{Outcome, Leads, Fails}
+use Rattle.text_fields.specs.Machine.{Outcome, Leads, Fails}
 use Rattle.job_release.specs.Reading.{IsValid, IsVersion}
 use Rattle.job_release.specs.declared.fault.JobKind.{JobKind}
 use Rattle.job_release.specs.declared.fault.JobKind.TheVariants.{BadMask, TaskRefused}

@@ -1,13 +1,13 @@
 -- Who is ready after an arrival and after a departure.
 use Rattle.std.proofs.Common.{◌≡◌, ◌≢◌, ℕ, ◌<◌, Bool, true, false, List, length, set, Option, Some, None, refl, ap, ◌∙◌, inl, inr, get_or-set_same, get_or-set_other}
 use Rattle.task_set.specs.declared.event.Event.TheVariants.{Arrive, Depart}
-use Rattle.scheduler_reply.specs.declared.reply.Came.{Came}
-use Rattle.scheduler_reply.specs.declared.reply.Came.TheVariants.{Placed, Displaced, Waits}
-use Rattle.scheduler_reply.specs.declared.reply.Reply.{Reply}
-use Rattle.link_state.specs.State.{State, IsState, is_ready, state_after_leaving}
-use Rattle.link_state.specs.History.{state_after_came, state_after_entering}
-use Rattle.link_state.specs.Step.{SchedulerStep, ArriveStep, DepartStep}
-use Rattle.link_state.proofs.Steps.{comes_effect, fills_effect}
+use Rattle.strong_apa.specs.declared.reply.Came.{Came}
+use Rattle.strong_apa.specs.declared.reply.Came.TheVariants.{Placed, Displaced, Waits}
+use Rattle.strong_apa.specs.declared.reply.Reply.{Reply}
+use Rattle.strong_apa.specs.State.{State, IsState, is_ready, state_after_leaving}
+use Rattle.strong_apa.specs.History.{state_after_came, state_after_entering}
+use Rattle.strong_apa.specs.Step.{SchedulerStep, ArriveStep, DepartStep}
+use Rattle.strong_apa.proofs.Steps.{comes_effect, fills_effect}
 
 came_ready : (s : State) (t : ℕ) (came : Came) → (state_after_came s t came).ready ≡ set s.ready t true
 came_ready s t (Placed chain) = refl

@@ -1,7 +1,7 @@
 -- A row from step to step.
 use Rattle.std.proofs.Common.{◌≡◌, ℕ, suc, ◌+◌, ◌-◌, ◌<◌, ◌≤◌, ◌↔◌, Bool, true, false, List, length, Option, if◌then◌else◌, sym, ap, ◌∙◌, subst, inl, inr, arith}
 use Rattle.std.proofs.lemmas.Bool.{cases_Bool, cases_lt}
-use Rattle.link_state.specs.State.{State, is_ready, is_linked}
+use Rattle.strong_apa.specs.State.{State, is_ready, is_linked}
 use Rattle.job_release.specs.Jobs.{goal_of, demand}
 use Rattle.job_release.specs.Driven.{IsReadyWhileWorkIsLeft, GetsNoMore, RunsOnlyReady}
 use Rattle.job_release.specs.Driving.{IsRowAt, Mark, done_of, asked_by, HasWork, grown, supplied, IsNotAfter, RowRuns}

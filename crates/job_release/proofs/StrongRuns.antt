@@ -1,19 +1,19 @@
 -- What the strong scheduler leaves at the horizon: its history runs the jobs.
 use Rattle.std.proofs.Common.{sym, subst}
 use Rattle.task_set.specs.TaskSet.{IsTaskSet}
-use Rattle.link_state.specs.State.{State, start_of}
-use Rattle.link_state.specs.History.{IsLegal, IsLegalFrom}
-use Rattle.certificate_laws.proofs.Kept.{legal_is_best}
+use Rattle.strong_apa.specs.State.{State, start_of}
+use Rattle.strong_apa.specs.History.{IsLegal, IsLegalFrom}
+use Rattle.strong_apa.proofs.Kept.{legal_is_best}
 use Rattle.sched_core.specs.CoreData.{CoreData, IsCore}
 use Rattle.job_release.specs.JobInput.{JobInputData}
-use Rattle.job_release.specs.JobRun.{DrivenData, IsDrivenOf, IsRunOf}
+use Rattle.job_release.specs.JobRun.{DrivenData, IsDrivenOf, IsJobRunOf}
 use Rattle.job_release.specs.Driven.{ServesJobs, RunsTheBest}
 use Rattle.job_release.specs.Moments.{state_at}
 use Rattle.job_release.specs.Strong.{IsOpen, strong_seen}
 use Rattle.job_release.proofs.Moments.{state_by_entries}
 
 pub run_of_driven : (input : JobInputData) (driven : DrivenData CoreData) → IsTaskSet input.set → IsCore driven.scheduler → IsOpen driven.scheduler → IsDrivenOf strong_seen input driven
-    → IsRunOf input (record { horizon = driven.horizon; jobs = driven.jobs; core = driven.scheduler })
+    → IsJobRunOf input (record { horizon = driven.horizon; jobs = driven.jobs; core = driven.scheduler })
 run_of_driven input driven valid core opened served =
     let set = input.set in
     let history = driven.scheduler.history in

@@ -3,9 +3,9 @@ use Rattle.std.proofs.Common.{◌≡◌, ℕ, ◌+◌, true, false, List, [], �
 use Rattle.std.proofs.lemmas.List.Elements.{All-push}
 use Rattle.task_set.specs.declared.event.Event.{Event}
 use Rattle.task_set.specs.declared.event.Event.TheVariants.{Arrive, Depart, Tick}
-use Rattle.scheduler_reply.specs.declared.reply.Entry.{Entry}
-use Rattle.link_state.specs.State.{State}
-use Rattle.link_state.proofs.SameTasks.{same_tasks-step, same_count}
+use Rattle.strong_apa.specs.declared.reply.Entry.{Entry}
+use Rattle.strong_apa.specs.State.{State}
+use Rattle.strong_apa.proofs.SameTasks.{same_tasks-step, same_count}
 use Rattle.sched_core.specs.CoreData.{CoreData, IsCore, Applied, entry_of}
 use Rattle.job_release.specs.Driven.{IsJobEvent}
 use Rattle.job_release.specs.Moments.{elapsed, units_of, state_at}

@@ -3,10 +3,10 @@
 use Rattle.std.specs.Prelude.{◌≡◌, ℕ, ◌<◌, ◌≤◌, ◌↔◌, true, List, length, All}
 use Rattle.task_set.specs.declared.event.Event.{Event}
 use Rattle.task_set.specs.declared.event.Event.TheVariants.{Arrive, Depart, Tick}
-use Rattle.scheduler_reply.specs.declared.reply.Entry.{Entry}
-use Rattle.link_state.specs.State.{State, start_of, is_ready, is_linked}
-use Rattle.link_state.specs.History.{IsLegal}
-use Rattle.link_state.specs.Placement.{IsBest}
+use Rattle.strong_apa.specs.declared.reply.Entry.{Entry}
+use Rattle.strong_apa.specs.State.{State, start_of, is_ready, is_linked}
+use Rattle.strong_apa.specs.History.{IsLegal}
+use Rattle.strong_apa.specs.Placement.{IsBest}
 use Rattle.job_release.specs.Jobs.{demand}
 use Rattle.job_release.specs.JobInput.{JobInputData, jobs_at}
 use Rattle.job_release.specs.declared.input.Job.{Job}

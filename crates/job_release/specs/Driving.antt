@@ -1,7 +1,7 @@
 -- How far a driver of jobs has come: per task, the jobs released and finished so far, and the service it got. Private: the contracts
 -- of this crate's own functions.
 use Rattle.std.specs.Prelude.{◌≡◌, ℕ, ◌+◌, ◌*◌, ◌^◌, ◌<◌, ◌≤◌, ◌⊎◌, ◌↔◌, ◌==◌, ◌++◌, Bool, true, List, [], ◌∷◌, length, get_or, map, take, sum_by, nat_lt, Option, None, if◌then◌else◌}
-use Rattle.link_state.specs.State.{State, IsState, start_of, task_count, is_ready, is_linked}
+use Rattle.strong_apa.specs.State.{State, IsState, start_of, task_count, is_ready, is_linked}
 use Rattle.job_release.specs.Jobs.{job_at, cost_of, goal_of}
 use Rattle.job_release.specs.JobInput.{JobInputData, AreJobs, jobs_at, total_jobs}
 use Rattle.job_release.specs.declared.input.Job.{Job}

@@ -2,8 +2,8 @@
 use Rattle.std.specs.Prelude.{ℕ, Option, Some, None}
 use Rattle.task_set.specs.declared.fault.TaskFault.{TaskFault}
 use Rattle.task_set.specs.declared.fault.TaskFault.TheVariants as task
-use Rattle.line_machine.specs.declared.kind.LineKind.{LineKind}
-use Rattle.line_machine.specs.declared.kind.LineKind.TheVariants as line
+use Rattle.text_fields.specs.declared.kind.LineKind.{LineKind}
+use Rattle.text_fields.specs.declared.kind.LineKind.TheVariants as line
 use Rattle.job_release.specs.declared.fault.JobKind.{JobKind}
 use Rattle.job_release.specs.declared.fault.JobKind.TheVariants.{BadByte, LongLine, BadHeader, BadProcessors, BadHorizon, BadTask, BadMask, TaskRefused, BadJob, UnknownTask, Backward, ManyJobs, AfterEnd, NoEnd, OutOfMemory}
 

@@ -1,6 +1,6 @@
 -- Runs of jobs: the horizon, the jobs of each task, and the scheduler that ran them, or the core of the strong one.
 use Rattle.std.specs.Prelude.{◌≡◌, ℕ, List}
-use Rattle.link_state.specs.State.{start_of}
+use Rattle.strong_apa.specs.State.{start_of}
 use Rattle.sched_core.specs.CoreData.{CoreData, IsCore}
 use Rattle.job_release.specs.JobInput.{JobInputData}
 use Rattle.job_release.specs.declared.input.Job.{Job}
@@ -30,7 +30,7 @@ pub record JobRunData : Type 0 where
   pub core : CoreData
 
 -- what holds of each run
-pub record IsRun (run : JobRunData) : Type 0 where
+pub record IsValidRun (run : JobRunData) : Type 0 where
   pub core : IsCore run.core
 
 -- the run is one of the input: it has its horizon and its jobs, and begins with its tasks
@@ -40,6 +40,6 @@ pub record IsOfInput (input : JobInputData) (run : JobRunData) : Type 0 where
   pub start : run.core.start ≡ start_of input.set
 
 -- and its history runs the jobs
-pub record IsRunOf (input : JobInputData) (run : JobRunData) : Type 0 where
+pub record IsJobRunOf (input : JobInputData) (run : JobRunData) : Type 0 where
   pub of_input : IsOfInput input run
   pub runs : RunsJobs input run.core.history

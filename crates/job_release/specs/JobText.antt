@@ -8,11 +8,11 @@ use Rattle.affinity_mask.specs.ListText.{IsListText}
 use Rattle.affinity_mask.specs.ListFault.{IsListFault}
 use Rattle.task_set.specs.Refusal.{new_task, CanAdd, IsRefusal, IsNameOf}
 use Rattle.text_fields.specs.Number.{IsNumberWithin}
-use Rattle.line_machine.specs.Choice.{IsOnly, IsChoice, IsReading, IsJudging, IsAllowing}
-use Rattle.line_machine.specs.Lines.{lines_of}
-use Rattle.line_machine.specs.LineRule.{IsLineOutcome}
-use Rattle.line_machine.specs.Machine.{Outcome, Leads, Fails}
-use Rattle.line_machine.specs.Laws.{IsTextOf, IsRefused}
+use Rattle.text_fields.specs.Choice.{IsOnly, IsChoice, IsReading, IsJudging, IsAllowing}
+use Rattle.text_fields.specs.Lines.{lines_of}
+use Rattle.text_fields.specs.LineRule.{IsLineOutcome}
+use Rattle.text_fields.specs.Machine.{Outcome, Leads, Fails}
+use Rattle.text_fields.specs.Laws.{IsTextOf, IsRefused}
 use Rattle.job_release.specs.JobFault.{job_kind}
 use Rattle.job_release.specs.Jobs.{periodic_jobs}
 use Rattle.job_release.specs.JobInput.{JobInputData, jobs_at, total_jobs, without_tasks, with_jobs, with_job, last_release}

@@ -4,8 +4,8 @@
 use Rattle.std.specs.Prelude.{ℕ, ◌-◌, Bool, zero, suc, List, ◌++◌, length, codes, nat_le, Option, Some, None, if◌then◌else◌}
 use Rattle.std.specs.List.{flat_map, range_with_len}
 use Rattle.affinity_mask.specs.Number.{canonical_number}
-use Rattle.scheduler_reply.specs.declared.reply.Entry.{Entry}
-use Rattle.link_state.specs.State.{start_of}
+use Rattle.strong_apa.specs.declared.reply.Entry.{Entry}
+use Rattle.strong_apa.specs.State.{start_of}
 use Rattle.text_fields.specs.EventText.{name_of}
 use Rattle.text_fields.specs.LineText.{line}
 use Rattle.job_release.specs.Jobs.{job_at, goal_of}

@@ -1,8 +1,8 @@
 -- Laws of schedulers that serve the jobs of an input, and of the histories that run them. They rest on nothing but the definitions that
 -- they name.
 use Rattle.std.specs.Prelude.{◌≡◌, ℕ, ◌+◌, ◌<◌, ◌≤◌, List, length}
-use Rattle.scheduler_reply.specs.declared.reply.Entry.{Entry}
-use Rattle.link_state.specs.State.{start_of}
+use Rattle.strong_apa.specs.declared.reply.Entry.{Entry}
+use Rattle.strong_apa.specs.State.{start_of}
 use Rattle.job_release.specs.Jobs.{job_at, goal_of}
 use Rattle.job_release.specs.JobInput.{JobInputData, IsJobInput, jobs_at}
 use Rattle.job_release.specs.declared.input.Job.{Job}

@@ -1,5 +1,6 @@
 pub mod Driven
 pub mod Driving
+pub mod Figures
 pub mod JobFault
 pub mod JobInput
 pub mod JobList
@@ -10,9 +11,14 @@ pub mod JobsText
 pub mod Laws
 pub mod Moments
 pub mod Moves
+pub mod OneRun
 pub mod PeriodicLaws
 pub mod Reading
 pub mod RunView
 pub mod Scheduler
 pub mod Strong
 pub mod TextLaws
+pub mod WeakHistory
+pub mod WeakJobsText
+pub mod WeakRuns
+pub mod WeakServes

@@ -2,7 +2,7 @@
 use Rattle.std.specs.Prelude.{ℕ, ◌+◌, ◌==◌, Bool, false, not, zero, suc, List, [], ◌∷◌, length, sum_by, Option, Some, None, if◌then◌else◌}
 use Rattle.std.specs.List.{range_with_len}
 use Rattle.affinity_mask.specs.ProcSet.{passing_below}
-use Rattle.link_state.specs.State.{State, is_task}
+use Rattle.strong_apa.specs.State.{State, is_task}
 use Rattle.job_release.specs.Moments.{Timeline}
 
 -- the first place that the task has in these, where they are counted from p on

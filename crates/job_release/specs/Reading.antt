@@ -1,7 +1,7 @@
 -- One step of the reader. Private: the contracts of this crate's own functions.
 use Rattle.std.specs.Prelude.{◌≡◌, ℕ, true, false, ◌⊎◌, ◌≤◌}
 use Rattle.job_release.specs.JobText.{Progress, HeaderExpected, ProcessorsExpected, HorizonExpected, Listed, Ended, LineOutcome, TaskLine, JobLine}
-use Rattle.line_machine.specs.Machine.{Fails}
+use Rattle.text_fields.specs.Machine.{Fails}
 use Rattle.job_release.specs.JobInput.{IsJobInput}
 use Rattle.job_release.specs.declared.fault.JobKind.{JobKind}
 use Rattle.job_release.specs.declared.fault.JobKind.TheVariants.{OutOfMemory}

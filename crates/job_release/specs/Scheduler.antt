@@ -2,7 +2,7 @@
 -- passes; which tasks are linked then is the scheduler's own affair.
 use Rattle.std.specs.Prelude.{◌≡◌, ◌≢◌, ℕ, ◌+◌, ◌<◌, ◌≤◌, Bool}
 use Rattle.task_set.specs.TaskSet.{SetData}
-use Rattle.link_state.specs.State.{State, IsState, start_of, task_count, is_ready}
+use Rattle.strong_apa.specs.State.{State, IsState, start_of, task_count, is_ready}
 use Rattle.job_release.specs.Moments.{Timeline}
 
 -- the state in which it began, the state now, the state of each moment that has passed, how many have passed, and for how many more

@@ -1,6 +1,6 @@
 -- The strong scheduler, as one that jobs are driven with: a core that is open, and whose events are arrivals, departures and ticks.
 use Rattle.std.specs.Prelude.{◌≡◌, ◌-◌, false, length, All}
-use Rattle.scheduler_reply.specs.declared.reply.Entry.{Entry}
+use Rattle.strong_apa.specs.declared.reply.Entry.{Entry}
 use Rattle.sched_core.specs.CoreData.{CoreData, max_entries}
 use Rattle.job_release.specs.Driven.{IsJobEvent}
 use Rattle.job_release.specs.Moments.{elapsed, state_at}

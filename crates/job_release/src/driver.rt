@@ -1,6 +1,6 @@
 //! The driver: it goes from one moment at which something is to be done to the next one.
 ghost use Rattle.std.specs.Prelude.{◌≡◌, ◌<◌, ◌≤◌, ◌+◌, ℕ, is_some, IfOk, OnOk, length, All};
-ghost use Rattle.link_state.specs.State.{IsState, task_count, is_linked};
+ghost use Rattle.strong_apa.specs.State.{IsState, task_count, is_linked};
 ghost use Rattle.job_release.specs.Moves.{place_of};
 ghost use Rattle.job_release.specs.Scheduler.{IsNewFor};
 ghost use Rattle.job_release.specs.Driving.{AreFresh, Begins, Drives, IsAt, IsEarlier, IsNextMoment, RowsRun, RunFits, row_at, grown, settled, supplied};

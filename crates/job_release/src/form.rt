@@ -2,7 +2,7 @@
 ghost use Rattle.std.specs.Prelude.{◌≡◌, ◌≤◌, ℕ, Option, MatchOption};
 ghost use Rattle.job_release.specs.JobText.{IsTaskForm, AreTimes, AreTimesOf, TaskLine, IsJobForm, SaysJob, IsDeadline, JobLine};
 ghost use Rattle.job_release.specs.Reading.{line_of, job_line_of, IsVersion};
-ghost use Rattle.line_machine.specs.Fields.{texts};
+ghost use Rattle.text_fields.specs.Fields.{texts};
 ghost use Rattle.job_release.specs.declared.input.Job.{Job};
 ghost use Rattle.job_release.specs.declared.input.JobTask.{JobTask};
 

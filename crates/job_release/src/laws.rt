@@ -6,7 +6,7 @@ ghost use Rattle.job_release.specs.PeriodicLaws.{PeriodicDemand, PeriodicGoals, 
 ghost use Rattle.job_release.specs.TextLaws.{TextHasOneInput, TextHasOneFault, InputHasNoFault, AcceptedOrRefused, TextIsOfValidInput};
 
 use crate::stage::Stage;
-use line_machine::laws;
+use text_fields::laws;
 
 /// A text is that of at most one input.
 #[tactic(auto, using(crate::proofs::Decided::job_machine))]

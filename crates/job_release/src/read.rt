@@ -8,8 +8,8 @@ ghost use Rattle.job_release.specs.declared.fault.JobKind.{JobKind};
 use crate::fault::{JobFault, JobKind};
 use crate::input::JobInput;
 use crate::stage::Stage;
-use line_machine::{LineFault, read_lines};
 use std::alloc::Global;
+use text_fields::{LineFault, read_lines};
 
 #[tactic(auto, using(crate::proofs::Decided::job_machine))]
 /// The input of a text, or the first line that has a fault, with its kind. `OutOfMemory` may come in place of either.

@@ -3,7 +3,7 @@ ghost use Rattle.std.specs.Prelude.{◌≡◌, ◌<◌, ◌≤◌, IfOk, MatchOp
 ghost use Rattle.sched_core.specs.CoreData.{IsCore};
 ghost use Rattle.job_release.specs.Jobs.{goal_of};
 ghost use Rattle.job_release.specs.JobInput.{jobs_at};
-ghost use Rattle.job_release.specs.JobRun.{IsRunOf, IsRun, IsDrivenOf};
+ghost use Rattle.job_release.specs.JobRun.{IsJobRunOf, IsValidRun, IsDrivenOf};
 ghost use Rattle.job_release.specs.Moments.{state_at, IsFinish, IsUnfinished};
 ghost use Rattle.job_release.specs.Moves.{moves_of_all};
 ghost use Rattle.job_release.specs.Scheduler.{IsNewFor};
@@ -136,7 +136,7 @@ impl Model for JobRun {
 
 /// Releases the jobs of an input up to its horizon, and lets the strong scheduler run them. Refused only when out of memory.
 pub fn drive_jobs(alloc: Global, input: &JobInput) -> Result<JobRun, OutOfMemory>
-    ensures { IfOk result (IsRunOf input.now) }
+    ensures { IfOk result (IsJobRunOf input.now) }
 {
     let strong = Strong::new(alloc, input.set())?;
     let driven = drive(alloc, input, strong)?;
@@ -159,7 +159,7 @@ impl JobRun {
     /// The core, with the history.
     pub fn core(&self) -> &Core
         ensures value { result.now ≡ self.now.core }
-        ensures valid { IsRun self.now }
+        ensures valid { IsValidRun self.now }
     {
         self.driven.scheduler().core()
     }

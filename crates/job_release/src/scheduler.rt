@@ -1,6 +1,6 @@
 //! The schedulers that jobs can be driven with.
 ghost use Rattle.std.specs.Prelude.{◌≡◌, ◌<◌, ◌≤◌, OnOk, true, false};
-ghost use Rattle.link_state.specs.State.{IsState, task_count};
+ghost use Rattle.strong_apa.specs.State.{IsState, task_count};
 ghost use Rattle.job_release.specs.Scheduler.{SchedulerData, Readies, Passes};
 
 use affinity_mask::OutOfMemory;

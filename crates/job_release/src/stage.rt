@@ -3,19 +3,18 @@ ghost use Rattle.std.specs.Prelude.{◌≡◌, ◌≢◌, ◌+◌, ℕ, ◌≤�
 ghost use Rattle.job_release.specs.JobInput.{IsJob, IsJobTask, IsJobInput, last_release, total_jobs};
 ghost use Rattle.job_release.specs.JobText.{IsWorded, IsTaskOutcome, IsTaskLineOutcome, IsJobOutcome, IsJobLineOutcome, IsListedOutcome, IsOutcome, IsForTask, BeginsTask, HeaderExpected, ProcessorsExpected, HorizonExpected, Listed, end_line, max_horizon, jobs_of_times};
 ghost use Rattle.job_release.specs.Reading.{progress_of, line_of, job_line_of, IsValid, IsVersion, IsRefusedBy};
-ghost use Rattle.line_machine.specs.Fields.{texts};
-ghost use Rattle.line_machine.specs.Machine.{Leads};
+ghost use Rattle.text_fields.specs.Fields.{texts};
+ghost use Rattle.text_fields.specs.Machine.{Leads};
 
 use crate::fault::JobKind;
 use crate::form::{JobForm, TaskForm};
 use crate::input::{Job, JobInput, JobTask, MAX_JOBS, MAX_PERIODIC_TIME, MAX_TIME};
 use affinity_mask::{OutOfMemory, ProcSet};
-use line_machine::{LineKind, LineMachine};
 use std::alloc::Global;
 use std::str;
 use task_set::{TaskFault, TaskSet};
 use text_fields::limits::{FIRST_VERSION, LAST_VERSION, MAX_PROCESSORS};
-use text_fields::{is_word, read_number, task_of};
+use text_fields::{LineKind, LineMachine, is_word, read_number, task_of};
 
 /// What some lines said, and so what is expected after them.
 #[derive(Drop)]

@@ -1,7 +1,7 @@
 //! The strong scheduler, as one that jobs are driven with.
 ghost use Rattle.std.specs.Prelude.{◌≡◌, ◌<◌, false, length, IfOk, OnOk};
 ghost use Rattle.std.specs.Result.{OnErr};
-ghost use Rattle.link_state.specs.Step.{IsEventFor};
+ghost use Rattle.strong_apa.specs.Step.{IsEventFor};
 ghost use Rattle.sched_core.specs.CoreData.{IsCore, Applied, OnlyMadeRoom, max_entries};
 ghost use Rattle.job_release.specs.Driven.{IsJobEvent};
 ghost use Rattle.job_release.specs.Scheduler.{IsNewFor};

@@ -1,8 +1,8 @@
 //! The text of a run of jobs.
 ghost use Rattle.std.specs.Prelude.{◌≡◌, ◌<◌, ◌≤◌, ◌++◌, IfOk, OnOk, IfSome, length};
 ghost use Rattle.std.specs.List.{flat_map, range_with_len};
-ghost use Rattle.link_state.specs.State.{start_of};
-ghost use Rattle.job_release.specs.JobRun.{IsRunOf};
+ghost use Rattle.strong_apa.specs.State.{start_of};
+ghost use Rattle.job_release.specs.JobRun.{IsJobRunOf};
 ghost use Rattle.job_release.specs.JobsText.{heading_text, jobs_text, job_line, lines_of_task, response_text};
 ghost use Rattle.job_release.specs.Moments.{state_at};
 
@@ -14,7 +14,7 @@ use text_fields::write_number;
 
 /// The text of a run of this input. Refused only when out of memory.
 pub fn write_jobs(alloc: Global, input: &JobInput, run: &JobRun) -> Result<Vec<u8>, OutOfMemory>
-    requires { IsRunOf input.now run.now }
+    requires { IsJobRunOf input.now run.now }
     ensures { IfOk result (λ text. text.items ≡ jobs_text input.now run.now.core.history) }
 {
     let mut text = Vec::new(alloc);
@@ -38,7 +38,7 @@ fn write_heading(text: &mut Vec<u8>, input: &JobInput) -> Result<(), OutOfMemory
 
 /// Appends the jobs of all tasks.
 fn write_tasks(text: &mut Vec<u8>, input: &JobInput, run: &JobRun) -> Result<(), OutOfMemory>
-    requires { IsRunOf input.now run.now }
+    requires { IsJobRunOf input.now run.now }
     ensures { OnOk result (text.new.items ≡ text.old.items
         ++ flat_map (lines_of_task input.now (state_at (start_of input.now.set) run.now.core.history))
         (range_with_len 0 (length input.now.set.tasks))) }
@@ -51,7 +51,7 @@ fn write_tasks(text: &mut Vec<u8>, input: &JobInput, run: &JobRun) -> Result<(),
 
 /// Appends the jobs of a task.
 fn write_task(text: &mut Vec<u8>, input: &JobInput, run: &JobRun, t: u32) -> Result<(), OutOfMemory>
-    requires run { IsRunOf input.now run.now }
+    requires run { IsJobRunOf input.now run.now }
     requires task { t < length input.now.set.tasks }
     ensures { OnOk result (text.new.items ≡ text.old.items
         ++ lines_of_task input.now (state_at (start_of input.now.set) run.now.core.history) t) }

@@ -21,12 +21,12 @@ use Rattle.task_set.specs.Event.{IsOfVersion}
 use Rattle.task_set.specs.declared.event.Event.{Event}
 use Rattle.task_set.specs.declared.event.Event.TheVariants.{Arrive, Depart, Tick, Affinity, Offline, Online}
 use Rattle.text_fields.specs.EventText.{IsAboutSet}
-use Rattle.line_machine.specs.Choice.{IsDecided}
-use Rattle.line_machine.specs.Lines.{fields_of}
-use Rattle.line_machine.specs.LineRule.{IsLineOutcome}
-use Rattle.line_machine.specs.Machine.{Outcome, Leads, Fails, IsMachine}
-use Rattle.line_machine.proofs.Choices.{only, choice, reading, judging, allowing}
-use Rattle.line_machine.proofs.LineRule.{lines_machine}
+use Rattle.text_fields.specs.Choice.{IsDecided}
+use Rattle.text_fields.specs.Lines.{fields_of}
+use Rattle.text_fields.specs.LineRule.{IsLineOutcome}
+use Rattle.text_fields.specs.Machine.{Outcome, Leads, Fails, IsMachine}
+use Rattle.text_fields.proofs.Choices.{only, choice, reading, judging, allowing}
+use Rattle.text_fields.proofs.LineRule.{lines_machine}
 use Rattle.kernel_trace.specs.Course.{CourseData, WindowData, mentions, is_unseen, written, after_mention, after_mentions, is_backward, is_in_window}
 use Rattle.kernel_trace.specs.Reading.{AreTasks, IsCourse, IsValid}
 use Rattle.kernel_trace.specs.TraceFault.{trace_kind}

@@ -3,7 +3,7 @@ use Rattle.std.proofs.Common.{◌≡◌, ℕ, ◌-◌, ◌<◌, ◌⊎◌, true,
 use Rattle.std.specs.List.{slice_split, onto_first, position_or_len}
 use Rattle.std.proofs.lemmas.Bool.{cases_Bool}
 use Rattle.std.proofs.lemmas.List.Splits.{slice_split-cons_yes, slice_split-cons_no}
-use Rattle.line_machine.specs.Lines.{fields_of, is_blank, is_nothing}
+use Rattle.text_fields.specs.Lines.{fields_of, is_blank, is_nothing}
 use Rattle.kernel_trace.specs.Reading.{is_visible, IsFirstField}
 use Rattle.kernel_trace.proofs.Positions.{position_here, position_later}
 

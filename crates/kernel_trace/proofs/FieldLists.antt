@@ -1,6 +1,6 @@
 -- The fields of a line, taken one by one.
 use Rattle.std.proofs.Common.{◌≡◌, ℕ, ◌≤◌, ◌↔◌, List, [], ◌∷◌, length, get_or, Bool, IsTrue, Bor, ap, arith}
-use Rattle.line_machine.specs.Fields.{texts}
+use Rattle.text_fields.specs.Fields.{texts}
 use Rattle.kernel_trace.specs.TraceText.{BeginsWith}
 
 -- the first field says whether the line begins with a word

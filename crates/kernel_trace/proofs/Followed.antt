@@ -1,8 +1,8 @@
 -- Each line comes to one outcome, and so each text is that of a trace of tasks or is refused.
 use Rattle.std.proofs.Common.{◌≡◌, ℕ, Bool, true, false, List, [], ◌∷◌, ◌++◌, length, Option, Some, None, refl, sym, ap, ◌∙◌, subst, length-set}
 use Rattle.std.specs.Prelude.{is_some, ◌||◌, if◌then◌else◌}
-use Rattle.line_machine.specs.Lines.{fields_of}
-use Rattle.line_machine.specs.Machine.{Outcome, Leads, Fails, IsMachine}
+use Rattle.text_fields.specs.Lines.{fields_of}
+use Rattle.text_fields.specs.Machine.{Outcome, Leads, Fails, IsMachine}
 use Rattle.kernel_trace.specs.Course.{CourseData, is_unseen, is_backward, is_in_window}
 use Rattle.kernel_trace.specs.Passage.{task_change, first_mention, second_mention, changing, marked, FollowingData, FollowingOutcome, nothing_followed, at_time, after_marks, start_after, kept_outcome, marked_outcome, used_outcome, timed_outcome, told_outcome, said_outcome, head_outcome, IsOfHead, IsLineAt, IsFollowed, TaskTraceData, IsEndAt, IsFollowedEnd}
 use Rattle.kernel_trace.specs.PassageView.{IsFollowing, CanFollow}

@@ -1,7 +1,7 @@
 -- Before the trace a line is one of the head.
 use Rattle.std.proofs.Common.{◌≡◌, ℕ, true, List, Result, Ok, Err, IfErr, refl}
 use Rattle.std.specs.Prelude.{OnOk}
-use Rattle.line_machine.specs.LineRule.{IsLineOutcome}
+use Rattle.text_fields.specs.LineRule.{IsLineOutcome}
 use Rattle.kernel_trace.specs.Course.{CourseData}
 use Rattle.kernel_trace.specs.Reading.{progress_at}
 use Rattle.kernel_trace.specs.TraceFault.{trace_kind}

@@ -1,9 +1,9 @@
 -- The lines of a head, the line `events`, and what follows.
 use Rattle.std.proofs.Common.{◌≡◌, ℕ, zero, suc, ◌+◌, Bool, true, false, List, [], ◌∷◌, ◌++◌, get_or, Option, None, Some, refl, sym, ap, ◌∙◌, subst, inl, inr}
 use Rattle.std.specs.Prelude.{if◌then◌else◌}
-use Rattle.line_machine.specs.LineRule.{IsLineOutcome}
-use Rattle.line_machine.specs.Lines.{fields_of}
-use Rattle.line_machine.specs.Machine.{Leads, Fails, Leading}
+use Rattle.text_fields.specs.LineRule.{IsLineOutcome}
+use Rattle.text_fields.specs.Lines.{fields_of}
+use Rattle.text_fields.specs.Machine.{Leads, Fails, Leading}
 use Rattle.kernel_trace.specs.Course.{CourseData, WindowData}
 use Rattle.kernel_trace.specs.Import.{IsHead}
 use Rattle.kernel_trace.specs.Reading.{IsCourse, IsValid}
@@ -12,7 +12,7 @@ use Rattle.kernel_trace.specs.TraceText.{TaskLine, events_line, window_of, Progr
 use Rattle.kernel_trace.specs.declared.change.Standing.{Standing}
 use Rattle.kernel_trace.specs.declared.change.Standing.TheVariants.{Unmentioned}
 use Rattle.kernel_trace.specs.declared.fault.TraceKind.TheVariants.{BadHeader, BadProcessors, BadMask, TaskRefused, SamePid, BadWindow}
-use Rattle.line_machine.specs.declared.kind.LineKind.TheVariants.{BadByte, LongLine}
+use Rattle.text_fields.specs.declared.kind.LineKind.TheVariants.{BadByte, LongLine}
 use Rattle.kernel_trace.proofs.Decided.{same_next, fails_not_leads, line_valid}
 
 -- ---- the lines of the head

@@ -11,8 +11,8 @@ use Rattle.task_set.specs.Event.{HasUnits}
 use Rattle.task_set.specs.declared.event.Event.TheVariants.{Arrive, Depart, Tick}
 use Rattle.trace_reader.specs.Input.{InputData}
 use Rattle.trace_reader.specs.declared.posted.Posted.{Posted}
-use Rattle.line_machine.specs.Lines.{lines_of, fields_of}
-use Rattle.line_machine.specs.Machine.{Outcome, Leads, Fails, Answer, IsText, Refuses, answer_at_end, IsAnswer}
+use Rattle.text_fields.specs.Lines.{lines_of, fields_of}
+use Rattle.text_fields.specs.Machine.{Outcome, Leads, Fails, Answer, IsText, Refuses, answer_at_end, IsAnswer}
 use Rattle.kernel_trace.specs.Course.{CourseData, WindowData, mentions, is_unseen, is_backward, is_in_window, on_first_stream, last_tick, ticks, between, passed, written, event_of, after_mention, after_mentions, agrees, is_ready, standing_of}
 use Rattle.kernel_trace.specs.Import.{after_said, course_after, mentions_said, AllChange, all_units, ReadyChange, ready_changes, changes_said, changes_in, changes_made, times_of, time_said, used_times, first_time, last_time, Lasts, told_by, all_told, IsHead, IsWrittenBy, IsImport, ImportIsFaithful}
 use Rattle.kernel_trace.specs.Reading.{AreTasks}

@@ -9,7 +9,7 @@ use Rattle.task_set.specs.declared.event.Event.TheVariants.{Arrive, Depart, Tick
 use Rattle.trace_reader.specs.declared.posted.Posted.{Posted}
 use Rattle.kernel_trace.specs.Course.{CourseData, WindowData, mentions, is_in_window, on_first_stream, last_tick, ticks, passed, written, event_of, after_mention, after_mentions, agrees, is_ready, standing_of, standing_after}
 use Rattle.kernel_trace.specs.Import.{mention_says, is_last_in, event_says, is_ready_after, Changes, AllChange, all_units, ReadyAsMentioned, after_said, course_after, mentions_said, mentions_in, IsHead}
-use Rattle.line_machine.specs.Lines.{fields_of}
+use Rattle.text_fields.specs.Lines.{fields_of}
 use Rattle.kernel_trace.specs.TraceLine.{Said, Nothing, LostEvents, Malformed, Happened, said_by}
 use Rattle.kernel_trace.specs.declared.change.Change.{Change}
 use Rattle.kernel_trace.proofs.Courses.{mentions_tasks, last_some}

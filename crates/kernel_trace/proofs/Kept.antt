@@ -4,7 +4,7 @@ use Rattle.std.specs.Prelude.{All, position, is_some, ◌||◌, option_to_list, 
 use Rattle.std.specs.Option.{ForSome, option_map}
 use Rattle.std.proofs.lemmas.Bool.{ltb-true}
 use Rattle.std.proofs.lemmas.List.Elements.{All-push}
-use Rattle.line_machine.specs.Machine.{Leads, Fails}
+use Rattle.text_fields.specs.Machine.{Leads, Fails}
 use Rattle.task_set.specs.TaskSet.{SetData}
 use Rattle.kernel_trace.specs.Course.{CourseData, WindowData, mentions, is_unseen, is_backward, is_in_window}
 use Rattle.kernel_trace.specs.Import.{mentions_said}

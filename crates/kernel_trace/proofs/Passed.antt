@@ -2,8 +2,8 @@
 use Rattle.std.proofs.Common.{◌≡◌, ℕ, zero, suc, ◌+◌, List, [], ◌∷◌, ◌++◌, length, take, None, refl, sym, ap, ◌∙◌, subst, inl, inr, append_assoc, append-nil}
 use Rattle.std.specs.Prelude.{All}
 use Rattle.std.proofs.lemmas.List.Elements.{All-nil}
-use Rattle.line_machine.specs.Lines.{lines_of, fields_of}
-use Rattle.line_machine.specs.Machine.{Outcome, Leads, Answer, IsText, Refuses, answer_at_end, IsAnswer}
+use Rattle.text_fields.specs.Lines.{lines_of, fields_of}
+use Rattle.text_fields.specs.Machine.{Outcome, Leads, Answer, IsText, Refuses, answer_at_end, IsAnswer}
 use Rattle.kernel_trace.specs.Course.{CourseData, is_ready}
 use Rattle.kernel_trace.specs.Import.{mentions_said, mentions_in, is_last_in, IsHead}
 use Rattle.kernel_trace.specs.Passage.{FollowingData, TaskTraceData, IsFollowed, IsFollowedEnd, IsLineAt, IsEndAt, IsOfHead}

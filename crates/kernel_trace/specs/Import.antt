@@ -7,8 +7,8 @@ use Rattle.task_set.specs.declared.event.Event.{Event}
 use Rattle.task_set.specs.declared.event.Event.TheVariants.{Arrive, Depart, Tick, Affinity, Offline, Online}
 use Rattle.trace_reader.specs.Input.{InputData}
 use Rattle.trace_reader.specs.declared.posted.Posted.{Posted}
-use Rattle.line_machine.specs.Lines.{lines_of, fields_of}
-use Rattle.line_machine.specs.Machine.{Leading}
+use Rattle.text_fields.specs.Lines.{lines_of, fields_of}
+use Rattle.text_fields.specs.Machine.{Leading}
 use Rattle.kernel_trace.specs.Stamp.{microsecond}
 use Rattle.kernel_trace.specs.Course.{CourseData, WindowData, mentions, after_mentions, agrees, is_in_window, standing_of}
 use Rattle.kernel_trace.specs.TraceLine.{Said, Nothing, LostEvents, Malformed, Happened, said_by}

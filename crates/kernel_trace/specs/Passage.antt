@@ -3,9 +3,9 @@
 -- place a moment is too late that is 2^63 microseconds after the first change.
 use Rattle.std.specs.Prelude.{◌≡◌, ℕ, ◌-◌, Bool, true, false, nat_eq, nat_lt, ◌||◌, is_some, List, [], ◌∷◌, ◌++◌, set, position, Option, None, Some, if◌then◌else◌}
 use Rattle.task_set.specs.TaskSet.{SetData}
-use Rattle.line_machine.specs.Lines.{lines_of, fields_of}
-use Rattle.line_machine.specs.Machine.{Outcome, Leads, Fails}
-use Rattle.line_machine.specs.Laws.{IsTextOf, IsRefused}
+use Rattle.text_fields.specs.Lines.{lines_of, fields_of}
+use Rattle.text_fields.specs.Machine.{Outcome, Leads, Fails}
+use Rattle.text_fields.specs.Laws.{IsTextOf, IsRefused}
 use Rattle.kernel_trace.specs.Stamp.{microsecond}
 use Rattle.kernel_trace.specs.TraceLine.{Said, Nothing, LostEvents, Malformed, Happened, said_by}
 use Rattle.kernel_trace.specs.Processor.{processor_of}

@@ -1,7 +1,7 @@
 -- What contracts see of a reader of passages. Private: the contracts of this crate's own functions.
 use Rattle.std.specs.Prelude.{◌⊎◌}
 use Rattle.std.specs.Option.{option_map}
-use Rattle.line_machine.specs.Machine.{Fails}
+use Rattle.text_fields.specs.Machine.{Fails}
 use Rattle.kernel_trace.specs.Passage.{FollowingData, FollowingOutcome}
 use Rattle.kernel_trace.specs.Reading.{progress_of, IsValid, IsCourse, IsOutOfMemory}
 use Rattle.kernel_trace.specs.StampView.{time_of}

@@ -2,8 +2,8 @@
 -- which of their mentions change whether a task is ready.
 use Rattle.std.specs.Prelude.{◌≡◌, ℕ, ◌-◌, ◌<◌, ◌≤◌, Bool, false, ◌||◌, is_some, List, [], ◌∷◌, ◌++◌, length, take, map, All, Option, None, Some, option_to_list, if◌then◌else◌}
 use Rattle.std.specs.Option.{ForSome}
-use Rattle.line_machine.specs.Lines.{lines_of, fields_of}
-use Rattle.line_machine.specs.Machine.{Leading}
+use Rattle.text_fields.specs.Lines.{lines_of, fields_of}
+use Rattle.text_fields.specs.Machine.{Leading}
 use Rattle.kernel_trace.specs.Stamp.{microsecond}
 use Rattle.kernel_trace.specs.Course.{CourseData, WindowData, agrees, is_in_window}
 use Rattle.kernel_trace.specs.Import.{mentions_said, mentions_in, is_last_in, IsHead}

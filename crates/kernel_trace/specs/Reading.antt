@@ -3,7 +3,7 @@ use Rattle.std.specs.Prelude.{◌≡◌, ℕ, Bool, not, ◌-◌, ◌<◌, ◌�
 use Rattle.std.specs.Option.{option_map}
 use Rattle.task_set.specs.TaskSet.{IsTaskSet}
 use Rattle.trace_reader.specs.Input.{IsPostedOf, AreOfVersion}
-use Rattle.line_machine.specs.Machine.{Fails}
+use Rattle.text_fields.specs.Machine.{Fails}
 use Rattle.kernel_trace.specs.StampView.{time_of}
 use Rattle.kernel_trace.specs.Course.{CourseData, WindowData, written}
 use Rattle.kernel_trace.specs.TraceText.{Progress, HeaderExpected, ProcessorsExpected, Listed, Tracing, LineOutcome, TaskLine}
@@ -24,7 +24,7 @@ use Rattle.kernel_trace.specs.declared.event.Leaving.{Leaving}
 use Rattle.kernel_trace.specs.declared.event.SchedulerEvent.{SchedulerEvent}
 use Rattle.kernel_trace.specs.declared.event.Said.{Said}
 use Rattle.kernel_trace.specs.declared.event.Said.TheVariants as said
-use Rattle.line_machine.specs.Lines.{fields_of, is_blank}
+use Rattle.text_fields.specs.Lines.{fields_of, is_blank}
 
 -- the byte is no blank
 abbrev pub is_visible : ℕ → Bool

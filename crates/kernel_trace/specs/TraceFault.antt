@@ -2,8 +2,8 @@
 use Rattle.std.specs.Prelude.{ℕ, Option, Some, None}
 use Rattle.task_set.specs.declared.fault.TaskFault.{TaskFault}
 use Rattle.task_set.specs.declared.fault.TaskFault.TheVariants as task
-use Rattle.line_machine.specs.declared.kind.LineKind.{LineKind}
-use Rattle.line_machine.specs.declared.kind.LineKind.TheVariants as line
+use Rattle.text_fields.specs.declared.kind.LineKind.{LineKind}
+use Rattle.text_fields.specs.declared.kind.LineKind.TheVariants as line
 use Rattle.kernel_trace.specs.declared.fault.TraceKind.{TraceKind}
 use Rattle.kernel_trace.specs.declared.fault.TraceKind.TheVariants.{BadByte, LongLine, BadHeader, BadProcessors, BadTask, BadMask, TaskRefused, SamePid, BadWindow, BadHead, Lost, BadForm, Backward, Unseen, ManyEvents, NoEvents, OutOfMemory}
 

@@ -10,11 +10,11 @@ use Rattle.task_set.specs.TaskSet.{with_task}
 use Rattle.task_set.specs.Refusal.{new_task, CanAdd, IsRefusal}
 use Rattle.text_fields.specs.Number.{IsNumberWithin}
 use Rattle.trace_reader.specs.Input.{InputData}
-use Rattle.line_machine.specs.Choice.{IsOnly, IsChoice, IsReading, IsJudging, IsAllowing}
-use Rattle.line_machine.specs.Lines.{lines_of, fields_of}
-use Rattle.line_machine.specs.LineRule.{IsLineOutcome}
-use Rattle.line_machine.specs.Machine.{Outcome, Leads, Fails}
-use Rattle.line_machine.specs.Laws.{IsTextOf, IsRefused}
+use Rattle.text_fields.specs.Choice.{IsOnly, IsChoice, IsReading, IsJudging, IsAllowing}
+use Rattle.text_fields.specs.Lines.{lines_of, fields_of}
+use Rattle.text_fields.specs.LineRule.{IsLineOutcome}
+use Rattle.text_fields.specs.Machine.{Outcome, Leads, Fails}
+use Rattle.text_fields.specs.Laws.{IsTextOf, IsRefused}
 use Rattle.kernel_trace.specs.Stamp.{is_stamp, nanoseconds}
 use Rattle.kernel_trace.specs.TraceLine.{Said, Nothing, LostEvents, Malformed, Happened, said_by}
 use Rattle.kernel_trace.specs.Course.{CourseData, WindowData, mentions, is_unseen, written, after_mentions, is_backward, is_in_window}

@@ -8,8 +8,8 @@ ghost use Rattle.kernel_trace.specs.Processor.{processor_of};
 ghost use Rattle.kernel_trace.specs.Reading.{course_of, mentions_view, window_view, IsCourse, IsOutOfMemory, AreTasks};
 ghost use Rattle.kernel_trace.specs.StampView.{time_of};
 ghost use Rattle.kernel_trace.specs.TraceText.{Tracing, used_outcome, timed_outcome, trace_outcome, input_of};
-ghost use Rattle.line_machine.specs.Lines.{fields_of};
-ghost use Rattle.line_machine.specs.Machine.{Leads, Fails};
+ghost use Rattle.text_fields.specs.Lines.{fields_of};
+ghost use Rattle.text_fields.specs.Machine.{Leads, Fails};
 
 use crate::change::{Change, Mention, Standing};
 use crate::event::{Said, read_line};

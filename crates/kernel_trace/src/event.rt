@@ -5,7 +5,7 @@ ghost use Rattle.kernel_trace.specs.Reading.{ends_view, left_view, fields_view, 
 ghost use Rattle.kernel_trace.specs.Stamp.{nanoseconds};
 ghost use Rattle.kernel_trace.specs.StampView.{time_of};
 ghost use Rattle.kernel_trace.specs.TraceLine.{leaving_of, has_letter, is_running, event_fields, event_fields_after, switch_of, wakeup_of, wakeup_by, change_of, word_of, is_stamped, before_last, event_at, first_event, tells_of_loss, said_by, is_coming};
-ghost use Rattle.line_machine.specs.Lines.{fields_of};
+ghost use Rattle.text_fields.specs.Lines.{fields_of};
 
 use crate::change::Change;
 use crate::fields::first_field;

@@ -1,13 +1,13 @@
 //! Lines, and their fields one after another. Nothing is kept of a line, however long it is.
 ghost use Rattle.std.specs.Prelude.{◌≡◌, ◌≤◌, ◌↔◌, true, IsTrue, [], length, position, All, IfOk, MatchOption};
 ghost use Rattle.std.specs.List.{position_or_len};
-ghost use Rattle.line_machine.specs.Cut.{IsFirstLine};
-ghost use Rattle.line_machine.specs.Fields.{texts};
-ghost use Rattle.line_machine.specs.Lines.{fields_of, is_blank, is_skipped_line, IsPlain};
+ghost use Rattle.text_fields.specs.Cut.{IsFirstLine};
+ghost use Rattle.text_fields.specs.Fields.{texts};
+ghost use Rattle.text_fields.specs.Lines.{fields_of, is_blank, is_skipped_line, IsPlain};
 ghost use Rattle.kernel_trace.specs.Reading.{is_visible, IsFirstField};
 
 use affinity_mask::OutOfMemory;
-use line_machine::line_end;
+use text_fields::line_end;
 
 /// The first line of some bytes, and what stands after it.
 pub fn first_line(bytes: &[u8]) -> (&[u8], &[u8])

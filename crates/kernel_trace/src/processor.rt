@@ -1,7 +1,7 @@
 //! The processor of a line of the scheduler.
 ghost use Rattle.std.specs.Prelude.{◌≡◌};
 ghost use Rattle.kernel_trace.specs.Processor.{processor_of, processor_after, small_number};
-ghost use Rattle.line_machine.specs.Lines.{fields_of};
+ghost use Rattle.text_fields.specs.Lines.{fields_of};
 
 use crate::event::event_here;
 use crate::fields::first_field;

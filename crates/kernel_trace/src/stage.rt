@@ -3,9 +3,9 @@ ghost use Rattle.std.specs.Prelude.{◌≡◌, ℕ, ◌+◌, ◌*◌, ◌≤◌,
 ghost use Rattle.std.specs.Option.{option_map};
 ghost use Rattle.task_set.specs.Refusal.{new_task, AddsTask, IsRefusal};
 ghost use Rattle.task_set.specs.declared.fault.TaskFault.TheVariants as task;
-ghost use Rattle.line_machine.specs.Fields.{texts};
-ghost use Rattle.line_machine.specs.LineRule.{IsLineOutcome};
-ghost use Rattle.line_machine.specs.Machine.{Leads, Fails};
+ghost use Rattle.text_fields.specs.Fields.{texts};
+ghost use Rattle.text_fields.specs.LineRule.{IsLineOutcome};
+ghost use Rattle.text_fields.specs.Machine.{Leads, Fails};
 ghost use Rattle.kernel_trace.specs.Reading.{course_of, progress_of, line_of, window_view, IsValid, IsCourse, IsOutOfMemory, IsRefusedBy};
 ghost use Rattle.kernel_trace.specs.declared.stage.Step.TheVariants as step;
 ghost use Rattle.kernel_trace.specs.TraceFault.{trace_kind};

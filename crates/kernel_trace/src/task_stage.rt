@@ -9,8 +9,8 @@ ghost use Rattle.kernel_trace.specs.Reading.{course_of, IsCourse, IsOutOfMemory}
 ghost use Rattle.kernel_trace.specs.StampView.{time_of};
 ghost use Rattle.kernel_trace.specs.TraceLine.{said_by};
 ghost use Rattle.kernel_trace.specs.declared.stage.Step.TheVariants as step;
-ghost use Rattle.line_machine.specs.Lines.{fields_of};
-ghost use Rattle.line_machine.specs.Machine.{Leads, Fails};
+ghost use Rattle.text_fields.specs.Lines.{fields_of};
+ghost use Rattle.text_fields.specs.Machine.{Leads, Fails};
 
 use crate::change::{Change, Mention};
 use crate::course::Mentions;

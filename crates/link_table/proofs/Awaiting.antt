@@ -8,22 +8,22 @@ use Rattle.std.proofs.lemmas.Option.{same_Some}
 use Rattle.affinity_mask.specs.ProcSet.{has, empty, Meets}
 use Rattle.affinity_mask.proofs.Sets.{has-zero, has-intersection, same_set}
 use Rattle.task_set.specs.TaskSet.{SetData, priorities}
-use Rattle.link_state.specs.State.{State, IsState, IsWaiting, task_count, task_on, is_ready, is_linked, mask_of, effective_mask, start_of, state_with_ready, state_with_absent, state_with_mask, state_with_idle, state_after_leaving}
-use Rattle.link_state.specs.Chain.{IsChainOf, IsSimple, occupant_after_shift, state_after_shift}
+use Rattle.strong_apa.specs.State.{State, IsState, IsWaiting, task_count, task_on, is_ready, is_linked, mask_of, effective_mask, start_of, state_with_ready, state_with_absent, state_with_mask, state_with_idle, state_after_leaving}
+use Rattle.strong_apa.specs.Chain.{IsChainOf, IsSimple, occupant_after_shift, state_after_shift}
 use Rattle.link_table.specs.Layout.{layout_of, mask_has}
 use Rattle.link_table.specs.LinksView.{awaited, AreAwaited}
-use Rattle.link_state.specs.Step.{IsNobodyInto, IsMostUrgentInto}
-use Rattle.waiting_index.specs.WaitingTasks.{Waiting, IsNobodyFor, IsFirstFor, masks_with}
-use Rattle.link_state.proofs.Changes.{mask_of-other}
-use Rattle.link_state.proofs.Idling.{IsWaiting-state_with_idle, task_on-state_with_idle}
-use Rattle.link_state.proofs.Leaving.{task_on-state_after_leaving, task_on-stays}
-use Rattle.link_state.proofs.Linked.{place_in, is_linked-from_on, task_on-linked, not_linked-from_on, linked_number}
-use Rattle.link_state.proofs.Masks.{effective_mask_below}
-use Rattle.link_state.proofs.Readiness.{IsState-state_with_ready, is_ready-state_with_ready}
-use Rattle.link_state.proofs.Shifts.{occupant-first, occupant-later, occupant_from, occupant_allowed, task_on-state_after_shift, handed_on, handed_on-from, handed_on-apart}
-use Rattle.link_state.proofs.Simple.{Avoids, Avoids-none}
-use Rattle.link_state.proofs.Start.{none_ready}
-use Rattle.link_state.proofs.Unique.{ready_number}
+use Rattle.strong_apa.specs.Step.{IsNobodyInto, IsMostUrgentInto}
+use Rattle.link_table.specs.WaitingTasks.{Waiting, IsNobodyFor, IsFirstFor, masks_with}
+use Rattle.strong_apa.proofs.Changes.{mask_of-other}
+use Rattle.strong_apa.proofs.Idling.{IsWaiting-state_with_idle, task_on-state_with_idle}
+use Rattle.strong_apa.proofs.Leaving.{task_on-state_after_leaving, task_on-stays}
+use Rattle.strong_apa.proofs.Linked.{place_in, is_linked-from_on, task_on-linked, not_linked-from_on, linked_number}
+use Rattle.strong_apa.proofs.Masks.{effective_mask_below}
+use Rattle.strong_apa.proofs.Readiness.{IsState-state_with_ready, is_ready-state_with_ready}
+use Rattle.strong_apa.proofs.Shifts.{occupant-first, occupant-later, occupant_from, occupant_allowed, task_on-state_after_shift, handed_on, handed_on-from, handed_on-apart}
+use Rattle.strong_apa.proofs.Simple.{Avoids, Avoids-none}
+use Rattle.strong_apa.proofs.Start.{none_ready}
+use Rattle.strong_apa.proofs.Unique.{ready_number}
 
 -- ---- who waits for some processor
 pub awaited-waiting : (s : State) (t : ℕ) → IsWaiting s t → awaited s t ≡ mask_of s t

@@ -4,10 +4,10 @@ use Rattle.std.proofs.Math.Bool.{and-true, and-false}
 use Rattle.std.proofs.lemmas.Bool.{cases_eq, and_parts, or_cases, true≢false, false≢true}
 use Rattle.affinity_mask.specs.ProcSet.{has, empty}
 use Rattle.affinity_mask.proofs.Sets.{has-zero, has-intersection}
-use Rattle.link_state.specs.State.{State, IsState, task_on, effective_mask}
-use Rattle.link_state.specs.Chain.{CanShift}
+use Rattle.strong_apa.specs.State.{State, IsState, task_on, effective_mask}
+use Rattle.strong_apa.specs.Chain.{CanShift}
 use Rattle.link_table.specs.Layout.{Layout, layout_of, mask_has, runs_on}
-use Rattle.link_state.proofs.Masks.{effective_mask_below}
+use Rattle.strong_apa.proofs.Masks.{effective_mask_below}
 
 occupant_runs : (s : State) (q : ℕ) (o : Option ℕ) → runs_on (layout_of s) o q ≡ true → (u : ℕ) × (o ≡ Some u) × IsTrue (has (effective_mask s u) q)
 occupant_runs s q None h = absurd (false≢true h)

@@ -3,7 +3,7 @@ use Rattle.std.proofs.Common.{◌≡◌, ℕ, false, not, ◌&&◌, Option, Some
 use Rattle.std.specs.Prelude.{is_some}
 use Rattle.std.proofs.lemmas.Bool.{and_parts, and_from, not-true, not_from_false, true≢false}
 use Rattle.affinity_mask.specs.ProcSet.{has}
-use Rattle.link_state.specs.State.{State, IsIdle, task_on}
+use Rattle.strong_apa.specs.State.{State, IsIdle, task_on}
 
 nobody_from : (o : Option ℕ) → is_some o ≡ false → o ≡ None
 nobody_from None e = refl

@@ -9,8 +9,8 @@ use Rattle.affinity_mask.specs.ProcSet.{has, empty, all_below, Within}
 use Rattle.affinity_mask.proofs.Sets.{has-zero, has-all_below}
 use Rattle.link_table.specs.Layout.{Layout, occupant_in, mask_has, IsNowhere, with_occupant, with_mask, places_without, places_with}
 use Rattle.link_table.specs.PlacesView.{IsIndex}
-use Rattle.link_state.proofs.Idling.{idle_at}
-use Rattle.link_state.proofs.Start.{none_on}
+use Rattle.strong_apa.proofs.Idling.{idle_at}
+use Rattle.strong_apa.proofs.Start.{none_on}
 
 -- whether an option has this number
 pub cases_Some : (o : Option ℕ) (t : ℕ) → (o ≡ Some t) ⊎ (o ≡ Some t → ⊥)

@@ -7,10 +7,10 @@ use Rattle.std.specs.Option.{ForSome}
 use Rattle.std.proofs.lemmas.Option.{same_Some}
 use Rattle.affinity_mask.specs.ProcSet.{has, empty}
 use Rattle.affinity_mask.proofs.Sets.{has-zero}
-use Rattle.link_state.specs.State.{State, IsState, task_count, task_on, priority_of}
-use Rattle.link_state.proofs.Linked.{linked_number}
-use Rattle.link_state.proofs.Unique.{ready_number}
-use Rattle.link_state.specs.Step.{CanEnterInto, IsNobodyOn, IsNobodyInto, IsLeastUrgentOn, IsMostUrgentInto}
+use Rattle.strong_apa.specs.State.{State, IsState, task_count, task_on, priority_of}
+use Rattle.strong_apa.proofs.Linked.{linked_number}
+use Rattle.strong_apa.proofs.Unique.{ready_number}
+use Rattle.strong_apa.specs.Step.{CanEnterInto, IsNobodyOn, IsNobodyInto, IsLeastUrgentOn, IsMostUrgentInto}
 
 -- ---- tasks at places, of which each two are compared
 module _ (At : ℕ → ℕ → Type 0) (Leads : ℕ → ℕ → Type 0) where

@@ -1,7 +1,7 @@
 -- What stays when the priorities of tasks change, and that they still differ.
 use Rattle.std.proofs.Common.{◌≡◌, ◌≢◌, ℕ, ◌<◌, List, length, get_or, set, sym, ap, ◌∙◌, ◌⊎◌, inl, inr, arith, length-set, get_or-set_same, get_or-set_other}
 use Rattle.std.proofs.lemmas.Bool.{cases_eq}
-use Rattle.link_state.specs.State.{State, IsState, task_count, priority_of}
+use Rattle.strong_apa.specs.State.{State, IsState, task_count, priority_of}
 use Rattle.link_table.specs.LinksView.{AreAwaited}
 use Rattle.link_table.specs.Priorities.{IsFreeFor, state_with_priority, state_with_exchange}
 

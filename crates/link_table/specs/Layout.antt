@@ -2,7 +2,7 @@
 -- state on which it depends who can be shifted where.
 use Rattle.std.specs.Prelude.{◌≡◌, ℕ, Bool, false, List, set, get_or, Option, Some, None, if◌then◌else◌}
 use Rattle.affinity_mask.specs.ProcSet.{has, empty, intersection, with_member, without_member}
-use Rattle.link_state.specs.State.{State}
+use Rattle.strong_apa.specs.State.{State}
 
 -- the columns of a state have the same names
 pub record Layout : Type 0 where

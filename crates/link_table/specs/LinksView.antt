@@ -2,7 +2,7 @@
 -- task waits for, on line or not.
 use Rattle.std.specs.Prelude.{◌≡◌, ℕ, ◌<◌, ◌&&◌, not, List, length, get_or, if◌then◌else◌}
 use Rattle.affinity_mask.specs.ProcSet.{empty}
-use Rattle.link_state.specs.State.{State, IsState, task_count, is_ready, is_linked, mask_of}
+use Rattle.strong_apa.specs.State.{State, IsState, task_count, is_ready, is_linked, mask_of}
 use Rattle.link_table.specs.declared.links.Links.TheInside.{Inside}
 
 -- the processors that a task waits for: those of its mask, where it waits

@@ -1,6 +1,6 @@
 -- The priorities of tasks, once they change. They differ at every moment.
 use Rattle.std.specs.Prelude.{◌≡◌, ℕ, ◌<◌, set}
-use Rattle.link_state.specs.State.{State, task_count, priority_of}
+use Rattle.strong_apa.specs.State.{State, task_count, priority_of}
 
 -- no task but t has the priority
 abbrev pub IsFreeFor : State → ℕ → ℕ → Type 0

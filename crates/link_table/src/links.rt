@@ -3,12 +3,12 @@ ghost use Rattle.std.specs.Prelude.{◌≡◌, ℕ, ◌<◌, ◌≤◌, ◌↔�
 ghost use Rattle.affinity_mask.specs.ProcSet.{has};
 
 use crate::places::Places;
+use crate::waiting_tasks::WaitingTasks;
 use affinity_mask::{OutOfMemory, ProcSet};
-use scheduler_reply::Chain;
 use std::alloc::Global;
 use std::marker::Model;
+use strong_apa::Chain;
 use task_set::TaskSet;
-use waiting_index::WaitingTasks;
 
 /// What is known of each task of a set, which tasks are ready, and which task is linked to which processor.
 /// The number of a task is its number in the set.
@@ -21,7 +21,7 @@ pub struct Links {
 }
 
 impl Model for Links {
-    ghost use Rattle.link_state.specs.State.{State};
+    ghost use Rattle.strong_apa.specs.State.{State};
 
     ghost Value = { State };
 
@@ -34,11 +34,11 @@ impl Model for Links {
 
 impl Links {
     ghost use Rattle.task_set.specs.TaskSet.{IsMask};
-    ghost use Rattle.link_state.specs.State.{State, IsState, HasSameTasks, task_count, priority_of, mask_of, is_ready, is_linked, effective_mask, task_on, IsIdle, IsWaiting, start_of, state_with_ready, state_with_absent, state_with_mask, state_with_online, state_with_offline, state_with_idle, state_after_leaving};
-    ghost use Rattle.waiting_index.specs.WaitingTasks.{IsNobodyWith, IsTaskWith};
+    ghost use Rattle.strong_apa.specs.State.{State, IsState, HasSameTasks, task_count, priority_of, mask_of, is_ready, is_linked, effective_mask, task_on, IsIdle, IsWaiting, start_of, state_with_ready, state_with_absent, state_with_mask, state_with_online, state_with_offline, state_with_idle, state_after_leaving};
+    ghost use Rattle.link_table.specs.WaitingTasks.{IsNobodyWith, IsTaskWith};
     ghost use Rattle.link_table.specs.Priorities.{IsFreeFor, state_with_priority, state_with_exchange};
-    ghost use Rattle.link_state.specs.Step.{IsNobodyInto, IsMostUrgentInto};
-    ghost use Rattle.link_state.specs.Chain.{CanShift, IsChainOf, IsSimple, Shifted, task_put_out};
+    ghost use Rattle.strong_apa.specs.Step.{IsNobodyInto, IsMostUrgentInto};
+    ghost use Rattle.strong_apa.specs.Chain.{CanShift, IsChainOf, IsSimple, Shifted, task_put_out};
 
     /// Every task of the set is absent, and every processor is idle. Refused only where memory runs out.
     pub fn new(alloc: Global, set: &TaskSet) -> Result<Links, OutOfMemory>

@@ -1,8 +1,8 @@
 //! Which one of two tasks is more urgent, and who has to go out.
 ghost use Rattle.std.specs.Prelude.{◌≡◌, ℕ, ◌<◌, ◌≤◌, ◌⊎◌, ◌↔◌, Some, IsTrue, IfSome, MatchOption};
 ghost use Rattle.std.specs.Option.{ForSome};
-ghost use Rattle.link_state.specs.State.{IsState, IsMoreUrgent, task_count, priority_of};
-ghost use Rattle.link_state.specs.Step.{IsNobodyOn, IsLeastUrgentOn};
+ghost use Rattle.strong_apa.specs.State.{IsState, IsMoreUrgent, task_count, priority_of};
+ghost use Rattle.strong_apa.specs.Step.{IsNobodyOn, IsLeastUrgentOn};
 
 use crate::links::Links;
 use affinity_mask::ProcSet;

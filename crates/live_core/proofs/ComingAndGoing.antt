@@ -3,18 +3,18 @@ use Rattle.std.proofs.Common.{◌≡◌, ◌≢◌, ℕ, ◌<◌, Bool, true, fa
 use Rattle.std.proofs.lemmas.Bool.{cases_eq, true≢false}
 use Rattle.task_set.specs.declared.event.Event.{Event}
 use Rattle.task_set.specs.declared.event.Event.TheVariants.{Arrive, Depart, Tick, Affinity, Offline, Online}
-use Rattle.scheduler_reply.specs.declared.reply.Came.{Came}
-use Rattle.scheduler_reply.specs.declared.reply.Came.TheVariants.{Placed, Displaced, Waits}
-use Rattle.scheduler_reply.specs.declared.reply.Gone.{Gone}
-use Rattle.scheduler_reply.specs.declared.reply.Reply.{Reply}
-use Rattle.link_state.specs.State.{State, IsState, task_count, is_ready, priority_of, IsMoreUrgent, state_with_mask, state_with_offline, state_with_online, state_after_leaving}
-use Rattle.link_state.specs.Step.{Comes, EnterStep, LeaveStep, ArriveStep, DepartStep, AffinityStep, OfflineStep, OnlineStep, SchedulerStep}
+use Rattle.strong_apa.specs.declared.reply.Came.{Came}
+use Rattle.strong_apa.specs.declared.reply.Came.TheVariants.{Placed, Displaced, Waits}
+use Rattle.strong_apa.specs.declared.reply.Gone.{Gone}
+use Rattle.strong_apa.specs.declared.reply.Reply.{Reply}
+use Rattle.strong_apa.specs.State.{State, IsState, task_count, is_ready, priority_of, IsMoreUrgent, state_with_mask, state_with_offline, state_with_online, state_after_leaving}
+use Rattle.strong_apa.specs.Step.{Comes, EnterStep, LeaveStep, ArriveStep, DepartStep, AffinityStep, OfflineStep, OnlineStep, SchedulerStep}
 use Rattle.link_table.specs.Priorities.{state_with_priority, state_with_exchange}
-use Rattle.certificate_laws.specs.Certified.{HasCertificates}
-use Rattle.certificate_laws.proofs.Best.{linked_is_best, linked_is_largest}
-use Rattle.certificate_laws.proofs.Improved.{no_improving_chain}
-use Rattle.certificate_laws.proofs.KeptByChanges.{kept_by_mask}
-use Rattle.certificate_laws.proofs.Ranked.{linked_is_as_urgent}
+use Rattle.strong_apa.specs.Certified.{HasCertificates}
+use Rattle.strong_apa.proofs.Best.{linked_is_best, linked_is_largest}
+use Rattle.strong_apa.proofs.Improved.{no_improving_chain}
+use Rattle.strong_apa.proofs.KeptByChanges.{kept_by_mask}
+use Rattle.strong_apa.proofs.Ranked.{linked_is_as_urgent}
 use Rattle.live_core.specs.Live.{LiveData}
 use Rattle.live_core.specs.Optimal.{IsOptimal}
 use Rattle.live_core.specs.Slots.{AreFreeAbsent, IsEventInUse}

@@ -2,8 +2,8 @@
 use Rattle.std.proofs.Common.{◌≡◌, ◌≢◌, ℕ, zero, suc, ◌+◌, ◌-◌, ◌<◌, List, [], ◌∷◌, length, get_or, set, drop, Option, Some, None, refl, sym, ap, subst, ◌∙◌, inl, inr, ◌⊎◌, arith, eq-eqb, ne_eqb, get_or-set_same, get_or-set_other, length-set, drop-cons}
 use Rattle.std.proofs.lemmas.Bool.{cases_eq}
 use Rattle.std.proofs.lemmas.List.{drop_all, ext_get_or, get_or-drop, length-drop}
-use Rattle.link_state.specs.Chain.{IsSimple}
-use Rattle.link_state.proofs.Simple.{IsSimple-head, IsSimple-tail}
+use Rattle.strong_apa.specs.Chain.{IsSimple}
+use Rattle.strong_apa.proofs.Simple.{IsSimple-head, IsSimple-tail}
 use Rattle.live_core.specs.Moves.{occupant_at, IsNowhere}
 use Rattle.live_core.specs.MoveData.{CanPassOn, Passes, occupant_passed}
 

@@ -4,21 +4,21 @@ use Rattle.std.proofs.lemmas.Bool.{cases_eq, false≢true}
 use Rattle.std.proofs.lemmas.List.{length-reverse}
 use Rattle.std.proofs.lemmas.List.FromFn.{get_or-map-range_with_len, length-map-range_with_len}
 use Rattle.std.proofs.lemmas.Option.{same_Some}
-use Rattle.scheduler_reply.specs.declared.reply.Came.{Came}
-use Rattle.scheduler_reply.specs.declared.reply.Came.TheVariants.{Placed, Displaced, Waits}
-use Rattle.scheduler_reply.specs.declared.reply.Gone.{Gone}
-use Rattle.scheduler_reply.specs.Reply.{came_chain}
-use Rattle.link_state.specs.State.{State, IsState, task_on, task_count, is_ready, state_with_ready, state_after_leaving}
-use Rattle.link_state.specs.Chain.{IsWalk, IsChainOf, IsSimple, occupant_after_shift, state_after_shift}
-use Rattle.link_state.specs.Step.{Comes, Fills, EnterStep}
-use Rattle.link_state.proofs.Ends.{least_chain_to_idle, least_chain_to_task, least_back_chain}
-use Rattle.link_state.proofs.Leaving.{task_on-state_after_leaving, task_on-stays, task_on-left, IsState-state_after_leaving}
-use Rattle.link_state.proofs.Linked.{not_on, linked_number, occupied_number}
-use Rattle.link_state.proofs.Paths.{IsChainOf-reverse}
-use Rattle.link_state.proofs.Shifts.{occupant-first, occupant-later, chain_below}
-use Rattle.link_state.proofs.Readiness.{IsState-state_with_ready}
-use Rattle.link_state.proofs.Simple.{IsSimple-reverse}
-use Rattle.link_state.proofs.Steps.{IsChainOf-state_with_ready}
+use Rattle.strong_apa.specs.declared.reply.Came.{Came}
+use Rattle.strong_apa.specs.declared.reply.Came.TheVariants.{Placed, Displaced, Waits}
+use Rattle.strong_apa.specs.declared.reply.Gone.{Gone}
+use Rattle.strong_apa.specs.Reply.{came_chain}
+use Rattle.strong_apa.specs.State.{State, IsState, task_on, task_count, is_ready, state_with_ready, state_after_leaving}
+use Rattle.strong_apa.specs.Chain.{IsWalk, IsChainOf, IsSimple, occupant_after_shift, state_after_shift}
+use Rattle.strong_apa.specs.Step.{Comes, Fills, EnterStep}
+use Rattle.strong_apa.proofs.Ends.{least_chain_to_idle, least_chain_to_task, least_back_chain}
+use Rattle.strong_apa.proofs.Leaving.{task_on-state_after_leaving, task_on-stays, task_on-left, IsState-state_after_leaving}
+use Rattle.strong_apa.proofs.Linked.{not_on, linked_number, occupied_number}
+use Rattle.strong_apa.proofs.Paths.{IsChainOf-reverse}
+use Rattle.strong_apa.proofs.Shifts.{occupant-first, occupant-later, chain_below}
+use Rattle.strong_apa.proofs.Readiness.{IsState-state_with_ready}
+use Rattle.strong_apa.proofs.Simple.{IsSimple-reverse}
+use Rattle.strong_apa.proofs.Steps.{IsChainOf-state_with_ready}
 use Rattle.live_core.specs.Moves.{occupant_at, IsNowhere}
 use Rattle.live_core.specs.MoveData.{Passes, occupant_passed}
 use Rattle.live_core.proofs.PassingOn.{passed-first, passed-later}

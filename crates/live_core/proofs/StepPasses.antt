@@ -4,18 +4,18 @@ use Rattle.std.proofs.lemmas.Bool.{false≢true}
 use Rattle.task_set.specs.TaskSet.{IsMask}
 use Rattle.task_set.specs.declared.event.Event.{Event}
 use Rattle.task_set.specs.declared.event.Event.TheVariants.{Arrive, Depart, Tick, Affinity, Offline, Online}
-use Rattle.scheduler_reply.specs.declared.reply.Came.{Came}
-use Rattle.scheduler_reply.specs.declared.reply.Came.TheVariants as came
-use Rattle.scheduler_reply.specs.declared.reply.Gone.{Gone}
-use Rattle.scheduler_reply.specs.declared.reply.Reply.{Reply}
-use Rattle.scheduler_reply.specs.declared.reply.Reply.TheVariants.{Remasked}
-use Rattle.scheduler_reply.specs.Reply.{reply_of_came, came_chain, filling_chain, coming_chain}
-use Rattle.link_state.specs.State.{State, IsState, task_on, task_count, state_with_mask, state_with_online, state_with_offline, state_after_leaving}
-use Rattle.link_state.specs.Step.{SchedulerStep, ArriveStep, DepartStep, AffinityStep, OfflineStep, OnlineStep, LeaveStep}
-use Rattle.link_state.proofs.Changes.{IsState-state_with_online}
-use Rattle.link_state.proofs.Linked.{linked_number}
-use Rattle.link_state.proofs.Masks.{effective_mask_online}
-use Rattle.link_state.proofs.Steps.{has_left, IsState-remasked, IsState-moved, absent_moved}
+use Rattle.strong_apa.specs.declared.reply.Came.{Came}
+use Rattle.strong_apa.specs.declared.reply.Came.TheVariants as came
+use Rattle.strong_apa.specs.declared.reply.Gone.{Gone}
+use Rattle.strong_apa.specs.declared.reply.Reply.{Reply}
+use Rattle.strong_apa.specs.declared.reply.Reply.TheVariants.{Remasked}
+use Rattle.strong_apa.specs.Reply.{reply_of_came, came_chain, filling_chain, coming_chain}
+use Rattle.strong_apa.specs.State.{State, IsState, task_on, task_count, state_with_mask, state_with_online, state_with_offline, state_after_leaving}
+use Rattle.strong_apa.specs.Step.{SchedulerStep, ArriveStep, DepartStep, AffinityStep, OfflineStep, OnlineStep, LeaveStep}
+use Rattle.strong_apa.proofs.Changes.{IsState-state_with_online}
+use Rattle.strong_apa.proofs.Linked.{linked_number}
+use Rattle.strong_apa.proofs.Masks.{effective_mask_online}
+use Rattle.strong_apa.proofs.Steps.{has_left, IsState-remasked, IsState-moved, absent_moved}
 use Rattle.live_core.specs.MoveData.{Passes, PassesTwice, OfflinePasses, LeadsTo, entered_by, moved_of}
 use Rattle.live_core.proofs.ShiftPasses.{AreOn-itself, nothing_passes, come_passes, fill_passes, leaver_stops, left_passes}
 

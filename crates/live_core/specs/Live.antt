@@ -1,7 +1,7 @@
 -- The scheduler without a history.
 use Rattle.std.specs.Prelude.{Bool, List}
-use Rattle.scheduler_reply.specs.declared.reply.Reply.{Reply}
-use Rattle.link_state.specs.State.{State}
+use Rattle.strong_apa.specs.declared.reply.Reply.{Reply}
+use Rattle.strong_apa.specs.State.{State}
 use Rattle.live_core.specs.declared.moves.Move.{Move}
 
 -- the links, the reply to the last event, the moves that it asks for, and by task whether its slot is in use

@@ -1,7 +1,7 @@
 -- What contracts see of a scheduler without a history, and what it keeps.
 use Rattle.std.specs.Prelude.{◌≡◌, ◌≤◌, length}
-use Rattle.link_state.specs.State.{IsState, task_count}
-use Rattle.certificate_laws.specs.Certified.{HasCertificates}
+use Rattle.strong_apa.specs.State.{IsState, task_count}
+use Rattle.strong_apa.specs.Certified.{HasCertificates}
 use Rattle.live_core.specs.Live.{LiveData}
 use Rattle.live_core.specs.Slots.{AreFreeAbsent}
 use Rattle.live_core.specs.declared.live.LiveCore.TheInside.{Inside}

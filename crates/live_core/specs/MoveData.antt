@@ -3,13 +3,13 @@
 use Rattle.std.specs.Prelude.{◌≡◌, ℕ, ◌+◌, ◌<◌, ◌≤◌, List, [], ◌∷◌, ◌++◌, length, slice_index, Option, Some, None, if◌then◌else◌, ◌==◌}
 use Rattle.std.specs.Option.{ForSome}
 use Rattle.task_set.specs.declared.event.Event.{Event}
-use Rattle.scheduler_reply.specs.declared.reply.Reply.{Reply}
-use Rattle.scheduler_reply.specs.declared.reply.Reply.TheVariants.{Freed, Remasked, Off, On}
-use Rattle.scheduler_reply.specs.declared.reply.Moved.{Moved}
-use Rattle.scheduler_reply.specs.Reply.{came_chain}
-use Rattle.link_state.specs.State.{State, IsState}
-use Rattle.link_state.specs.Chain.{IsSimple}
-use Rattle.link_state.specs.Step.{SchedulerStep}
+use Rattle.strong_apa.specs.declared.reply.Reply.{Reply}
+use Rattle.strong_apa.specs.declared.reply.Reply.TheVariants.{Freed, Remasked, Off, On}
+use Rattle.strong_apa.specs.declared.reply.Moved.{Moved}
+use Rattle.strong_apa.specs.Reply.{came_chain}
+use Rattle.strong_apa.specs.State.{State, IsState}
+use Rattle.strong_apa.specs.Chain.{IsSimple}
+use Rattle.strong_apa.specs.Step.{SchedulerStep}
 use Rattle.live_core.specs.Moves.{Replays, occupant_at, IsNowhere}
 use Rattle.live_core.specs.declared.moves.Move.{Move}
 

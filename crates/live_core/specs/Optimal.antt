@@ -1,8 +1,8 @@
 -- What holds after each call.
-use Rattle.link_state.specs.State.{State, IsState}
-use Rattle.certificate_laws.specs.Certified.{HasCertificates}
-use Rattle.certificate_laws.specs.Improving.{HasNoImprovingChain}
-use Rattle.certificate_laws.specs.Laws.{LinkedIsBest, LinkedIsLargest, LinkedIsAsUrgent}
+use Rattle.strong_apa.specs.State.{State, IsState}
+use Rattle.strong_apa.specs.Certified.{HasCertificates}
+use Rattle.strong_apa.specs.Improving.{HasNoImprovingChain}
+use Rattle.strong_apa.specs.CertificateLaws.{LinkedIsBest, LinkedIsLargest, LinkedIsAsUrgent}
 
 -- the links are a placement of ready tasks, each waiting task has a certificate, no chain improves the links, and the linked
 -- tasks are the best placeable set of the ready ones; no such set is larger, and none is more urgent at any rank

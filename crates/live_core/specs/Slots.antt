@@ -3,7 +3,7 @@
 use Rattle.std.specs.Prelude.{◌≡◌, ◌≢◌, ℕ, ◌<◌, Bool, true, false, List, length, set, get_or}
 use Rattle.task_set.specs.declared.event.Event.{Event}
 use Rattle.task_set.specs.declared.event.Event.TheVariants.{Arrive, Depart, Tick, Affinity, Offline, Online}
-use Rattle.link_state.specs.State.{State, task_count, priority_of, is_ready, state_with_mask}
+use Rattle.strong_apa.specs.State.{State, task_count, priority_of, is_ready, state_with_mask}
 use Rattle.link_table.specs.Priorities.{IsFreeFor, state_with_priority}
 use Rattle.live_core.specs.Live.{LiveData}
 use Rattle.live_core.specs.declared.slots.SlotFault.{SlotFault}

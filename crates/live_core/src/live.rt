@@ -1,12 +1,12 @@
 //! The scheduler without a history.
 ghost use Rattle.std.specs.Prelude.{◌≡◌, ◌≢◌, ◌<◌, ◌≤◌, [], true, false, length, replicate, IsTrue, IfOk, IfErr, OnOk, OnErr};
 ghost use Rattle.task_set.specs.TaskSet.{IsMask};
-ghost use Rattle.link_state.specs.State.{IsState, start_of, is_ready, task_count, priority_of};
+ghost use Rattle.strong_apa.specs.State.{IsState, start_of, is_ready, task_count, priority_of};
 ghost use Rattle.link_table.specs.Priorities.{IsFreeFor};
-ghost use Rattle.link_state.specs.Step.{IsEventFor, SchedulerStep};
-ghost use Rattle.certificate_laws.specs.Certified.{HasCertificates};
-ghost use Rattle.certificate_laws.specs.Improving.{HasNoImprovingChain};
-ghost use Rattle.certificate_laws.specs.Laws.{LinkedIsBest, LinkedIsLargest, LinkedIsAsUrgent};
+ghost use Rattle.strong_apa.specs.Step.{IsEventFor, SchedulerStep};
+ghost use Rattle.strong_apa.specs.Certified.{HasCertificates};
+ghost use Rattle.strong_apa.specs.Improving.{HasNoImprovingChain};
+ghost use Rattle.strong_apa.specs.CertificateLaws.{LinkedIsBest, LinkedIsLargest, LinkedIsAsUrgent};
 ghost use Rattle.live_core.specs.Moves.{Replays};
 ghost use Rattle.live_core.specs.Optimal.{IsOptimal};
 ghost use Rattle.live_core.specs.Slots.{is_in_use, IsEventInUse, AreFreeAbsent, IsSlotFor, Admits, IsAdmitFault, GetsPriority, IsPriorityFault, data_with_free};

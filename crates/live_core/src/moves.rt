@@ -1,13 +1,13 @@
 //! What an event asks for, move by move.
 ghost use Rattle.std.specs.Prelude.{◌≡◌, ℕ, ◌+◌, ◌-◌, ◌<◌, ◌≤◌, List, [], Option, Some, None, set, length, reverse, replicate, IfOk, slice_index};
 ghost use Rattle.std.specs.Option.{option_copied};
-ghost use Rattle.scheduler_reply.specs.Reply.{filling_chain, coming_chain};
+ghost use Rattle.strong_apa.specs.Reply.{filling_chain, coming_chain};
 ghost use Rattle.live_core.specs.MoveData.{entered_by, moved_of};
 
 use affinity_mask::OutOfMemory;
-use scheduler_reply::{Chain, Moved, Reply};
 use std::alloc::Global;
 use std::marker::Model;
+use strong_apa::{Chain, Moved, Reply};
 use task_set::Event;
 
 /// An event asks for so many moves at most: two chains of 64 processors, and a stop before each.

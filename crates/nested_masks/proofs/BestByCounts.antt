@@ -4,12 +4,12 @@ use Rattle.std.proofs.lemmas.Bool.{cases_Bool, cases_eq, and_parts, true≢false
 use Rattle.std.proofs.Math.Bool.{or-false}
 use Rattle.std.proofs.lemmas.Option.{same_Some}
 use Rattle.affinity_mask.specs.ProcSet.{has, empty, all_below, Within}
-use Rattle.link_state.specs.State.{State, task_on, effective_mask, priority_of, is_ready, is_linked}
-use Rattle.link_state.specs.Placement.{TaskTest, IsSubset, IsPlaceable, IsBetter}
-use Rattle.link_state.specs.Certificate.{IsCertificate}
-use Rattle.link_state.proofs.Linked.{place_in, task_on-linked}
-use Rattle.link_state.proofs.BestOnce.{best_is_unique}
-use Rattle.certificate_laws.proofs.SameBest.{IsBest-same}
+use Rattle.strong_apa.specs.State.{State, task_on, effective_mask, priority_of, is_ready, is_linked}
+use Rattle.strong_apa.specs.Placement.{TaskTest, IsSubset, IsPlaceable, IsBetter}
+use Rattle.strong_apa.specs.Certificate.{IsCertificate}
+use Rattle.strong_apa.proofs.Linked.{place_in, task_on-linked}
+use Rattle.strong_apa.proofs.BestOnce.{best_is_unique}
+use Rattle.strong_apa.proofs.SameBest.{IsBest-same}
 use Rattle.nested_masks.specs.Laminar.{is_within}
 use Rattle.nested_masks.specs.Counting.{Joins, IsPlaced}
 use Rattle.nested_masks.specs.NestedData.{NestedData, IsNested, KeepsOut, ready_of, linked_of, mask_in, priority_in, state_of, IsBestByCounts, IsPlacedIn, CertifiesEverywhere, IsTheOnlyBest}

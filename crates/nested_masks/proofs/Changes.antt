@@ -3,8 +3,8 @@ use Rattle.std.proofs.Common.{◌≡◌, ◌≢◌, ℕ, ◌<◌, Bool, true, fa
 use Rattle.std.proofs.lemmas.Bool.{cases_Bool, cases_eq, cases_lt, true≢false}
 use Rattle.std.proofs.lemmas.List.{get_or_past}
 use Rattle.affinity_mask.specs.ProcSet.{members}
-use Rattle.link_state.specs.State.{IsState}
-use Rattle.link_state.proofs.Start.{none_on}
+use Rattle.strong_apa.specs.State.{IsState}
+use Rattle.strong_apa.proofs.Start.{none_on}
 use Rattle.nested_masks.specs.Laminar.{FitsNodes}
 use Rattle.nested_masks.specs.Counting.{Joins}
 use Rattle.nested_masks.specs.NestedData.{NestedData, IsCounted, state_of, ready_of, linked_of, mask_in}

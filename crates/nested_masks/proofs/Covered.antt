@@ -4,7 +4,7 @@ use Rattle.std.proofs.Common.{◌≡◌, ℕ, ◌<◌, Bool, true, false, not, �
 use Rattle.std.proofs.lemmas.Bool.{cases_lt, and_parts, and_from, and_right}
 use Rattle.std.proofs.Math.Bool.{and-true}
 use Rattle.affinity_mask.specs.ProcSet.{has, members, Within}
-use Rattle.certificate_laws.proofs.Counts.{count_below-one_more, count_below-injection}
+use Rattle.strong_apa.proofs.Counts.{count_below-one_more, count_below-injection}
 use Rattle.nested_masks.specs.Laminar.{IsTight, IsNode, is_within}
 use Rattle.nested_masks.specs.Counting.{IsPlaced}
 use Rattle.nested_masks.specs.NestedData.{NestedData, IsCounted, linked_of, mask_in, state_of}

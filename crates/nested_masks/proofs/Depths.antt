@@ -5,7 +5,7 @@ use Rattle.std.proofs.lemmas.Bool.{cases_order, and_from, and_right}
 use Rattle.std.proofs.Math.Bool.{and-true}
 use Rattle.std.specs.declared.alloc.Global.{Global}
 use Rattle.affinity_mask.specs.ProcSet.{Within}
-use Rattle.certificate_laws.proofs.Counts.{count_below-one_more}
+use Rattle.strong_apa.proofs.Counts.{count_below-one_more}
 use Rattle.nested_masks.specs.Laminar.{mask_at, is_within, IsLaminar}
 use Rattle.nested_masks.specs.Nodes.{AreNodes, AreRows, nodes_around}
 use Rattle.nested_masks.specs.HeldCounts.{IsForest, AreDepths, AreApartByDepth}

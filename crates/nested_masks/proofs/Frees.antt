@@ -4,14 +4,14 @@ use Rattle.std.proofs.lemmas.Bool.{cases_Bool, cases_eq, cases_lt, true≢false,
 use Rattle.std.proofs.lemmas.List.{length-replicate, get_or-replicate, get_or_past}
 use Rattle.affinity_mask.specs.ProcSet.{has, empty, Meets}
 use Rattle.affinity_mask.proofs.Meetings.{no_member}
-use Rattle.certificate_laws.proofs.Counts.{search_below}
+use Rattle.strong_apa.proofs.Counts.{search_below}
 use Rattle.task_set.specs.TaskSet.{SetData, priorities}
-use Rattle.link_state.proofs.Start.{none_ready}
+use Rattle.strong_apa.proofs.Start.{none_ready}
 use Rattle.nested_masks.specs.NestedData.{NestedData, IsCounted, nested_start, ready_of, linked_of, mask_in}
-use Rattle.nested_masks.specs.LaminarStep.{with_linked, with_unlinked, with_waiting, IsFree, IsMostUrgentFree, IsNobodyFree}
+use Rattle.nested_masks.specs.LaminarStep.{with_linked, with_unlinked, with_waiting, MayEnter, IsMostUrgentFree, IsNobodyFree}
 use Rattle.nested_masks.specs.Scans.{IsTightUnion}
 use Rattle.nested_masks.specs.Views.{AreWaiting, waiting_mask}
-use Rattle.waiting_index.specs.WaitingTasks.{IsNobodyFor, IsFirstFor}
+use Rattle.link_table.specs.WaitingTasks.{IsNobodyFor, IsFirstFor}
 use Rattle.nested_masks.proofs.Changes.{flag_number, in_ready, in_linked}
 use Rattle.nested_masks.proofs.Covered.{free_outside, outside_free}
 
@@ -78,7 +78,7 @@ module _ (n : NestedData) (ok : IsCounted n) (masks : List ℕ) (are : AreWaitin
 -- ---- the most urgent free task
 module _ (n : NestedData) (ok : IsCounted n) (masks : List ℕ) (are : AreWaiting n masks) (tight X : ℕ) (union : IsTightUnion n tight) (others : (q : ℕ) → has X q ≡ (nat_lt q n.processors && not (has tight q))) where
   -- a task that waits for another processor is free
-  met_free : (t : ℕ) → Meets X (get_or masks t empty) → IsFree n t
+  met_free : (t : ℕ) → Meets X (get_or masks t empty) → MayEnter n t
   met_free t meet =
       let in_waiting : IsTrue (has (waiting_mask n t) meet.0) = subst (λ (Y : ℕ). IsTrue (has Y meet.0)) (are.each t) meet.2 in
       elim (cases_Bool (ready_of n t)) [
@@ -100,7 +100,7 @@ module _ (n : NestedData) (ok : IsCounted n) (masks : List ℕ) (are : AreWaitin
           true≢false (sym parts.1 ∙ ap not there)
 
   -- and a free one waits for another processor
-  free_met : (t : ℕ) → IsFree n t → Meets X (get_or masks t empty)
+  free_met : (t : ℕ) → MayEnter n t → Meets X (get_or masks t empty)
   free_met t free =
       let lt = flag_number n.ready t free.waits.ready in
       let count = ok.state.ready_count in

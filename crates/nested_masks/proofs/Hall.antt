@@ -4,8 +4,8 @@
 use Rattle.std.proofs.Common.{◌≡◌, ◌≢◌, ℕ, zero, suc, ◌<◌, ◌≤◌, Bool, true, false, not, ◌&&◌, nat_eq, List, length, refl, sym, ap, ◌∙◌, inl, inr, ◌⊎◌, IsTrue, arith, eq-eqb, ne_eqb, cond}
 use Rattle.std.proofs.lemmas.Bool.{cases_Bool, cases_eq, cases_lt, and_parts, and_from, true≢false, cond-true, cond-false}
 use Rattle.affinity_mask.specs.ProcSet.{has, members}
-use Rattle.certificate_laws.proofs.Counts.{count_below, count_below-one_more, count_below-injection, search_below}
-use Rattle.link_state.specs.Placement.{TaskTest, IsSubset}
+use Rattle.strong_apa.proofs.Counts.{count_below, count_below-one_more, count_below-injection, search_below}
+use Rattle.strong_apa.specs.Placement.{TaskTest, IsSubset}
 use Rattle.nested_masks.specs.Laminar.{mask_at, is_within, IsLaminar, FitsNodes}
 use Rattle.nested_masks.specs.Counting.{IsPlaced}
 use Rattle.nested_masks.proofs.Withins.{is_within-from, within_from, within_least, within_same, nests}

@@ -3,8 +3,8 @@ use Rattle.std.proofs.Common.{◌≡◌, ℕ, suc, ◌<◌, ◌≤◌, Bool, tru
 use Rattle.std.proofs.lemmas.Bool.{cases_eq, and_parts, and_from, and_left, and_right}
 use Rattle.std.proofs.Math.Bool.{and-true}
 use Rattle.affinity_mask.specs.ProcSet.{Within}
-use Rattle.certificate_laws.proofs.Counts.{count_below, count_below-agree, count_below-one_more, count_below-injection}
-use Rattle.link_state.specs.Placement.{TaskTest, IsSubset}
+use Rattle.strong_apa.proofs.Counts.{count_below, count_below-agree, count_below-one_more, count_below-injection}
+use Rattle.strong_apa.specs.Placement.{TaskTest, IsSubset}
 use Rattle.nested_masks.specs.Laminar.{mask_at, is_within, tasks_in, FitsNodes}
 use Rattle.nested_masks.specs.Counting.{Joins}
 use Rattle.nested_masks.proofs.Withins.{is_within-from, is_within-not}

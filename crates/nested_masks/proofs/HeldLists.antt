@@ -8,8 +8,8 @@ use Rattle.std.proofs.Math.Seq.{take-append_seam}
 use Rattle.affinity_mask.specs.ProcSet.{has, empty, Within, Meets}
 use Rattle.affinity_mask.proofs.Sets.{empty_from_none}
 use Rattle.affinity_mask.proofs.Meetings.{no_member}
-use Rattle.certificate_laws.proofs.Counts.{search_below}
-use Rattle.waiting_index.specs.WaitingTasks.{Waiting, IsNobodyFor, IsFirstFor}
+use Rattle.strong_apa.proofs.Counts.{search_below}
+use Rattle.link_table.specs.WaitingTasks.{Waiting, IsNobodyFor, IsFirstFor}
 use Rattle.nested_masks.specs.Laminar.{mask_at, is_within}
 use Rattle.nested_masks.specs.Nodes.{AreApart, nodes_around}
 use Rattle.nested_masks.specs.NestedData.{NestedData, IsCounted, linked_of, mask_in}

@@ -3,7 +3,7 @@ use Rattle.std.proofs.Common.{◌≡◌, ◌≢◌, ℕ, ◌<◌, ◌≤◌, Boo
 use Rattle.std.proofs.lemmas.Bool.{cases_Bool, cases_eq, true≢false}
 use Rattle.affinity_mask.specs.ProcSet.{has, members, Within, Meets}
 use Rattle.affinity_mask.proofs.Sets.{empty_from_none}
-use Rattle.certificate_laws.proofs.Counts.{search_below}
+use Rattle.strong_apa.proofs.Counts.{search_below}
 use Rattle.nested_masks.specs.Laminar.{IsTight, IsNode, mask_at}
 use Rattle.nested_masks.specs.Counting.{Joins}
 use Rattle.nested_masks.specs.NestedData.{NestedData, IsCounted, KeepsOut, Waits, ready_of, linked_of, mask_in, priority_in, IsUrgenter}

@@ -4,7 +4,7 @@ use Rattle.std.proofs.lemmas.Bool.{cases_Bool, cases_eq, cases_lt}
 use Rattle.std.proofs.lemmas.List.{get_or_append_left, get_or_push}
 use Rattle.affinity_mask.specs.ProcSet.{passing_below}
 use Rattle.affinity_mask.proofs.Lists.{passing_more, passing_same}
-use Rattle.certificate_laws.proofs.Counts.{count_below, count_below-zero, count_below-more, count_below-same}
+use Rattle.strong_apa.proofs.Counts.{count_below, count_below-zero, count_below-more, count_below-same}
 use Rattle.nested_masks.specs.Nodes.{AreApart}
 
 -- what stands at a place

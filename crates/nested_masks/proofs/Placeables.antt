@@ -5,9 +5,9 @@ use Rattle.std.proofs.lemmas.List.{get_or_past, length-map}
 use Rattle.affinity_mask.specs.ProcSet.{has, empty, all_below, Within}
 use Rattle.affinity_mask.proofs.Sets.{has-all_below, intersection-all_below}
 use Rattle.affinity_mask.proofs.Meetings.{no_member}
-use Rattle.link_state.specs.State.{State, IsState, effective_mask, mask_of, start_of}
-use Rattle.link_state.specs.Placement.{TaskTest, IsPlacement, IsPlaceable}
-use Rattle.link_state.proofs.Start.{IsState-start}
+use Rattle.strong_apa.specs.State.{State, IsState, effective_mask, mask_of, start_of}
+use Rattle.strong_apa.specs.Placement.{TaskTest, IsPlacement, IsPlaceable}
+use Rattle.strong_apa.proofs.Start.{IsState-start}
 use Rattle.nested_masks.specs.Laminar.{IsLaminar, FitsNodes}
 use Rattle.nested_masks.specs.Counting.{IsPlaced}
 use Rattle.nested_masks.specs.Laws.{PlaceableByCounts}

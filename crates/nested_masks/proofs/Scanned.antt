@@ -2,7 +2,7 @@
 use Rattle.std.proofs.Common.{◌≡◌, ℕ, ◌+◌, ◌<◌, Bool, true, false, ◌&&◌, List, length, refl, sym, ap, ◌∙◌, inl, inr, arith, add-one}
 use Rattle.std.proofs.lemmas.Bool.{cases_Bool, cases_order, and_from, and_parts, true≢false}
 use Rattle.affinity_mask.specs.ProcSet.{Within}
-use Rattle.certificate_laws.proofs.Counts.{count_below, count_below-more, count_below-same}
+use Rattle.strong_apa.proofs.Counts.{count_below, count_below-more, count_below-same}
 use Rattle.nested_masks.specs.Laminar.{Cross, IsLaminar, IsFirstCrossing, is_within, mask_at}
 use Rattle.nested_masks.specs.NestedData.{NestedData, IsCounted, IsUrgenter, ready_of, priority_in}
 use Rattle.nested_masks.specs.LaminarStep.{IsLeastUrgentIn, AllUrgenterIn}

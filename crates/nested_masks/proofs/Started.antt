@@ -4,8 +4,8 @@ use Rattle.std.proofs.lemmas.Bool.{true≢false, and_parts}
 use Rattle.std.proofs.lemmas.List.{length-map, length-replicate}
 use Rattle.affinity_mask.specs.ProcSet.{has}
 use Rattle.task_set.specs.TaskSet.{SetData, IsTaskSet, masks}
-use Rattle.link_state.proofs.Start.{IsState-start, none_ready}
-use Rattle.certificate_laws.proofs.Counts.{count_below-injection}
+use Rattle.strong_apa.proofs.Start.{IsState-start, none_ready}
+use Rattle.strong_apa.proofs.Counts.{count_below-injection}
 use Rattle.nested_masks.specs.Laminar.{IsLaminar, IsFirstCrossing}
 use Rattle.nested_masks.specs.Answers.{IsCrossingFault}
 use Rattle.nested_masks.specs.declared.fault.NestedFault.{NestedFault}

@@ -4,8 +4,8 @@ use Rattle.std.proofs.lemmas.Bool.{and_parts}
 use Rattle.std.proofs.lemmas.List.{length-replicate, get_or-replicate}
 use Rattle.affinity_mask.specs.ProcSet.{Within}
 use Rattle.task_set.specs.TaskSet.{SetData, IsTaskSet, masks}
-use Rattle.certificate_laws.proofs.Counts.{count_below, count_below-zero, count_below-bound, count_below-one_more, count_below-injection}
-use Rattle.link_state.specs.Placement.{TaskTest}
+use Rattle.strong_apa.proofs.Counts.{count_below, count_below-zero, count_below-bound, count_below-one_more, count_below-injection}
+use Rattle.strong_apa.specs.Placement.{TaskTest}
 use Rattle.nested_masks.specs.Laminar.{mask_at, is_within, IsLaminar}
 use Rattle.nested_masks.specs.Counting.{Joins, IsHeldBy}
 use Rattle.nested_masks.specs.Nodes.{NodeData, AreNodes, HoldMoreAt, node_at, nodes_around}

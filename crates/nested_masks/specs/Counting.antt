@@ -1,7 +1,7 @@
 -- Sets of tasks that differ in one task, how many tasks each node holds, and placements by masks alone.
 use Rattle.std.specs.Prelude.{◌≡◌, ◌≢◌, ℕ, ◌<◌, true, false, List, IsTrue, length, get_or}
 use Rattle.affinity_mask.specs.ProcSet.{has}
-use Rattle.link_state.specs.Placement.{TaskTest}
+use Rattle.strong_apa.specs.Placement.{TaskTest}
 use Rattle.nested_masks.specs.Laminar.{mask_at, tasks_in}
 
 -- t joins a set of tasks, and nothing else changes

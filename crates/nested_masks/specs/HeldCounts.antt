@@ -8,7 +8,7 @@ use Rattle.nested_masks.specs.Laminar.{mask_at, IsLaminar}
 use Rattle.nested_masks.specs.Nodes.{IsFull}
 
 -- by node: its processors, and how many tasks it holds
-pub record HeldData : Type 0 where
+pub record HeldCountsData : Type 0 where
   pub nodes : List ℕ
   pub held : List ℕ
 

@@ -2,7 +2,7 @@
 -- there with its mask, and any other one with no processors. These are words of the contracts of private functions.
 use Rattle.std.specs.Prelude.{◌≡◌, ◌≢◌, ℕ, ◌+◌, ◌<◌, ◌&&◌, if◌then◌else◌, List, length, set, get_or, replicate}
 use Rattle.affinity_mask.specs.ProcSet.{empty}
-use Rattle.waiting_index.specs.WaitingTasks.{Waiting}
+use Rattle.link_table.specs.WaitingTasks.{Waiting}
 use Rattle.nested_masks.specs.Laminar.{mask_at, is_within}
 use Rattle.nested_masks.specs.NestedData.{NestedData, linked_of, mask_in}
 

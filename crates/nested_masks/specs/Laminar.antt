@@ -3,7 +3,7 @@
 -- for a set of tasks where it holds as many of them as it has processors.
 use Rattle.std.specs.Prelude.{◌≡◌, ℕ, ◌<◌, ◌≤◌, ◌⊎◌, Bool, ◌&&◌, ◌==◌, List, length, get_or}
 use Rattle.affinity_mask.specs.ProcSet.{empty, intersection, members, passing_below, Within, Meets}
-use Rattle.link_state.specs.Placement.{TaskTest}
+use Rattle.strong_apa.specs.Placement.{TaskTest}
 
 -- the mask of a task
 abbrev pub mask_at : List ℕ → ℕ → ℕ

@@ -74,18 +74,18 @@ ArriveStep n t (answer.Waits node) new = (ready_of n t ≡ false) × StaysOut n 
 ArriveStep n t _ new = ⊥
 
 -- w waits, and no tight node contains its mask
-pub record IsFree (n : NestedData) (w : ℕ) : Type 0 where
+pub record MayEnter (n : NestedData) (w : ℕ) : Type 0 where
   pub waits : Waits n w
   pub free : IsInNoTight n (mask_in n w)
 
 -- w is the most urgent waiting task whose mask lies in no tight node
 pub record IsMostUrgentFree (n : NestedData) (w : ℕ) : Type 0 where
-  pub free : IsFree n w
-  pub most_urgent : (v : ℕ) → IsFree n v → priority_in n w ≤ priority_in n v
+  pub free : MayEnter n w
+  pub most_urgent : (v : ℕ) → MayEnter n v → priority_in n w ≤ priority_in n v
 
 -- the mask of every waiting task lies in a tight node
 abbrev pub IsNobodyFree : NestedData → Type 0
-IsNobodyFree n = (v : ℕ) → IsFree n v → ⊥
+IsNobodyFree n = (v : ℕ) → MayEnter n v → ⊥
 
 -- who joins once a linked task has left
 abbrev pub FillStep : NestedData → Option ℕ → NestedData → Type 0

@@ -1,8 +1,8 @@
 -- Laws of masks that nest.
 use Rattle.std.specs.Prelude.{◌≡◌, ℕ, ◌<◌, ◌↔◌, true, length}
 use Rattle.task_set.specs.TaskSet.{SetData, IsTaskSet, masks}
-use Rattle.link_state.specs.State.{start_of}
-use Rattle.link_state.specs.Placement.{TaskTest, IsPlaceable}
+use Rattle.strong_apa.specs.State.{start_of}
+use Rattle.strong_apa.specs.Placement.{TaskTest, IsPlaceable}
 use Rattle.nested_masks.specs.Laminar.{IsLaminar, FitsNodes}
 
 -- where masks nest, a set of tasks is placeable exactly where no node holds more of its tasks than it has processors

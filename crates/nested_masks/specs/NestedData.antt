@@ -3,9 +3,9 @@
 use Rattle.std.specs.Prelude.{◌≡◌, ℕ, ◌<◌, Bool, true, false, List, length, get_or, replicate, None}
 use Rattle.affinity_mask.specs.ProcSet.{all_below, Within}
 use Rattle.task_set.specs.TaskSet.{SetData, priorities, masks}
-use Rattle.link_state.specs.State.{State, IsState, HasSameTasks, HasSameMasks, is_linked, is_ready}
-use Rattle.link_state.specs.Placement.{TaskTest, IsBest}
-use Rattle.link_state.specs.Certificate.{IsCertificate}
+use Rattle.strong_apa.specs.State.{State, IsState, HasSameTasks, HasSameMasks, is_linked, is_ready}
+use Rattle.strong_apa.specs.Placement.{TaskTest, IsBest}
+use Rattle.strong_apa.specs.Certificate.{IsCertificate}
 use Rattle.nested_masks.specs.Laminar.{mask_at, IsLaminar, FitsNodes, IsTight}
 
 -- by the number of the task: its priority, its mask, whether it is ready, and whether it is linked

@@ -39,7 +39,7 @@ pub record IsJustified (entry : NestedEntry) : Type 0 where
   pub certified : NodeCertifies entry.after entry.event entry.reply
 
 -- the entries of these events, from the first moment on
-pub record IsRunOf (set : SetData) (events : List Event) (entries : List NestedEntry) (new : NestedData) : Type 0 where
+pub record AreNestedEntries (set : SetData) (events : List Event) (entries : List NestedEntry) (new : NestedData) : Type 0 where
   pub steps : RunsTo (nested_start set) entries new
   pub each_event : map (λ (entry : NestedEntry). entry.event) entries ≡ events
   pub justified : All IsJustified entries
@@ -80,7 +80,7 @@ nested_text set entries = head_text (length entries) ++ flat_map (entry_line set
 pub record IsNestedText (set : SetData) (events : List Posted) (text : List ℕ) : Type 0 where
   pub entries : List NestedEntry
   pub last : NestedData
-  pub run : IsRunOf set (events_of events) entries last
+  pub run : AreNestedEntries set (events_of events) entries last
   pub written : text ≡ nested_text set entries
 
 -- an event was applied, and its line was written
@@ -94,7 +94,7 @@ pub record IsWritten (set : SetData) (event : Event) (old : NestedData) (before 
 -- so many events were applied, and their lines were written after the head
 pub record IsWrittenSoFar (set : SetData) (events : List Event) (head : List ℕ) (nested : NestedData) (text : List ℕ) : Type 0 where
   pub entries : List NestedEntry
-  pub run : IsRunOf set events entries nested
+  pub run : AreNestedEntries set events entries nested
   pub same : length nested.priorities ≡ length set.tasks
   pub written : text ≡ head ++ flat_map (entry_line set) entries
 

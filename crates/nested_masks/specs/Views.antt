@@ -5,9 +5,9 @@ use Rattle.nested_masks.specs.NestedData.{NestedData, IsCounted, IsNested, ready
 use Rattle.nested_masks.specs.NestedText.{linked_count}
 use Rattle.nested_masks.specs.Counting.{IsHeldBy}
 use Rattle.affinity_mask.specs.ProcSet.{empty}
-use Rattle.nested_masks.specs.HeldCounts.{HeldData, AreApartByDepth, AreFullByDepth}
+use Rattle.nested_masks.specs.HeldCounts.{HeldCountsData, AreApartByDepth, AreFullByDepth}
 use Rattle.nested_masks.specs.HeldTasks.{AreLists}
-use Rattle.waiting_index.specs.WaitingTasks.{Waiting}
+use Rattle.link_table.specs.WaitingTasks.{Waiting}
 use Rattle.nested_masks.specs.Nodes.{NodeData, AreNodes, AreRows}
 use Rattle.nested_masks.specs.declared.counts.Counts.TheInside as counts
 use Rattle.nested_masks.specs.declared.held_counts.HeldCounts.TheInside as held
@@ -25,7 +25,7 @@ counts_view a = record {
 }
 
 -- the stored nodes, and how many tasks they hold
-abbrev pub held_view : held.Inside → HeldData
+abbrev pub held_view : held.Inside → HeldCountsData
 held_view a = record { nodes = a.nodes.items; held = a.held.items }
 
 -- each node has a depth and a count, nodes of one depth are apart, and the processors of the full nodes are right

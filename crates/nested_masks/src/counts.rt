@@ -12,10 +12,10 @@ use crate::fault::NestedFault;
 use crate::held_tasks::{empty_lists, write_at};
 use crate::node_counts::NodeCounts;
 use affinity_mask::{OutOfMemory, ProcSet};
+use link_table::WaitingTasks;
 use std::alloc::Global;
 use std::marker::Model;
 use task_set::TaskSet;
-use waiting_index::WaitingTasks;
 
 /// Columns by the number of the task.
 #[derive(Drop)]

@@ -28,9 +28,9 @@ pub(crate) struct HeldCounts {
 }
 
 impl Model for HeldCounts {
-    ghost use Rattle.nested_masks.specs.HeldCounts.{HeldData};
+    ghost use Rattle.nested_masks.specs.HeldCounts.{HeldCountsData};
 
-    ghost Value = { HeldData };
+    ghost Value = { HeldCountsData };
 
     ghost use Rattle.nested_masks.specs.Views.{held_view, AreStoredCounts};
 
@@ -40,7 +40,7 @@ impl Model for HeldCounts {
 }
 
 impl HeldCounts {
-    ghost use Rattle.nested_masks.specs.HeldCounts.{HeldData, IsFullUnion};
+    ghost use Rattle.nested_masks.specs.HeldCounts.{HeldCountsData, IsFullUnion};
 
     /// No node holds a task. By node, `around` has the numbers of the nodes that contain it.
     pub(crate) fn new(

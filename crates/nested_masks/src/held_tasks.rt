@@ -1,12 +1,12 @@
 //! Lists of the linked tasks that nodes hold, from the least urgent task on.
 ghost use Rattle.std.specs.Prelude.{◌≡◌, ℕ, ◌<◌, ◌≤◌, IfOk, length, get_or, slice_index};
-ghost use Rattle.waiting_index.specs.WaitingTasks.{Waiting};
+ghost use Rattle.link_table.specs.WaitingTasks.{Waiting};
 ghost use Rattle.nested_masks.specs.Nodes.{AreApart};
 ghost use Rattle.nested_masks.specs.HeldTasks.{AreReversed, AreEmptyLists, AreWrittenAt};
 
 use affinity_mask::{OutOfMemory, ProcSet};
+use link_table::WaitingTasks;
 use std::alloc::Global;
-use waiting_index::WaitingTasks;
 
 /// So many lists without a task.
 pub(crate) fn empty_lists(

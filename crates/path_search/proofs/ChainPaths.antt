@@ -1,8 +1,8 @@
 -- Chains and back chains as paths.
 use Rattle.std.proofs.Common.{◌≡◌, ℕ, ◌<◌, List, [], ◌∷◌, Option, Some, None, nat_eq, refl, sym, ◌∙◌, subst, IsTrue, ◌↔◌, eq-eqb, eqb-true}
 use Rattle.affinity_mask.specs.ProcSet.{has}
-use Rattle.link_state.specs.State.{State, IsState, IsIdle, task_on, effective_mask}
-use Rattle.link_state.specs.Chain.{IsPath, IsChainOf, IsBackChain, EndsIdle, EndsOnTask, EntersBy}
+use Rattle.strong_apa.specs.State.{State, IsState, IsIdle, task_on, effective_mask}
+use Rattle.strong_apa.specs.Chain.{IsPath, IsChainOf, IsBackChain, EndsIdle, EndsOnTask, EntersBy}
 use Rattle.path_search.specs.declared.direction.Direction.TheVariants.{Onward, Back}
 use Rattle.path_search.specs.Paths.{Steps, IsPathFrom, LeadsInto, IsLeastIfAny, EndsIn}
 

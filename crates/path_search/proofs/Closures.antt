@@ -3,8 +3,8 @@ use Rattle.std.proofs.Common.{◌≡◌, ℕ, false, not, ◌&&◌, ◌||◌, Li
 use Rattle.std.proofs.lemmas.Bool.{cases_Bool, or_cases, or_left, or_right, and_parts, and_from, not-true, not_from_false}
 use Rattle.affinity_mask.specs.ProcSet.{has, empty, Within}
 use Rattle.affinity_mask.proofs.Meetings.{no_member}
-use Rattle.link_state.specs.Chain.{IsPath}
-use Rattle.link_state.specs.State.{State, IsState}
+use Rattle.strong_apa.specs.Chain.{IsPath}
+use Rattle.strong_apa.specs.State.{State, IsState}
 use Rattle.path_search.specs.declared.direction.Direction.{Direction}
 use Rattle.path_search.specs.Paths.{IsPathFrom, LeadsTo, Steps}
 use Rattle.path_search.proofs.LeastPaths.{IsPathFrom-push}

@@ -3,10 +3,10 @@ use Rattle.std.proofs.Common.{◌≡◌, ℕ, ◌+◌, ◌<◌, ◌≤◌, false
 use Rattle.std.proofs.lemmas.Bool.{cases_Bool, cases_lt, or_cases, or_left, or_right, and_parts, and_from, not-true, not_from_false, true≢false}
 use Rattle.affinity_mask.specs.ProcSet.{has, empty, Meets}
 use Rattle.affinity_mask.proofs.Meetings.{no_member}
-use Rattle.link_state.specs.State.{State, IsState}
-use Rattle.link_state.specs.Chain.{IsPath}
-use Rattle.link_state.proofs.Shortest.{shortest_is_simple}
-use Rattle.link_state.proofs.Simple.{length-simple}
+use Rattle.strong_apa.specs.State.{State, IsState}
+use Rattle.strong_apa.specs.Chain.{IsPath}
+use Rattle.strong_apa.proofs.Shortest.{shortest_is_simple}
+use Rattle.strong_apa.proofs.Simple.{length-simple}
 use Rattle.path_search.specs.declared.direction.Direction.{Direction}
 use Rattle.path_search.specs.Paths.{Steps, IsPathFrom, LeadsInto}
 use Rattle.path_search.specs.Levels.{IsAway, IsLevel, IsWithin, IsOutOfReach, IsFirstMet}

@@ -2,10 +2,10 @@
 use Rattle.std.proofs.Common.{◌≡◌, ℕ, ◌+◌, ◌<◌, ◌&&◌, List, [], ◌∷◌, ◌++◌, length, length-append, refl, sym, ap, ◌∙◌, subst, inl, inr, ◌⊎◌, IsTrue, arith}
 use Rattle.std.proofs.lemmas.Bool.{cases_eq, and_parts, and_from}
 use Rattle.affinity_mask.specs.ProcSet.{has, IsLeastMember}
-use Rattle.link_state.specs.State.{State, IsState}
-use Rattle.link_state.specs.Chain.{IsPath, IsLess, IsLeastSuch}
-use Rattle.link_state.proofs.Paths.{IsPath-push}
-use Rattle.link_state.proofs.Simple.{AllBelow}
+use Rattle.strong_apa.specs.State.{State, IsState}
+use Rattle.strong_apa.specs.Chain.{IsPath, IsLess, IsLeastSuch}
+use Rattle.strong_apa.proofs.Paths.{IsPath-push}
+use Rattle.strong_apa.proofs.Simple.{AllBelow}
 use Rattle.path_search.specs.declared.direction.Direction.{Direction}
 use Rattle.path_search.specs.Paths.{Steps, IsPathFrom, LeadsInto}
 use Rattle.path_search.proofs.Moves.{Steps-below}

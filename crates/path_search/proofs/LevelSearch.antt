@@ -4,7 +4,7 @@ use Rattle.std.proofs.lemmas.Bool.{cases_lt, cases_Bool}
 use Rattle.std.proofs.lemmas.List.{get_or_append_left, get_or_push}
 use Rattle.affinity_mask.specs.ProcSet.{has, empty, Meets}
 use Rattle.affinity_mask.proofs.Sets.{empty_from_none}
-use Rattle.link_state.specs.State.{State, IsState}
+use Rattle.strong_apa.specs.State.{State, IsState}
 use Rattle.path_search.specs.declared.direction.Direction.{Direction}
 use Rattle.path_search.specs.Paths.{Steps}
 use Rattle.path_search.specs.Levels.{IsLevel, IsWithin, AreLevels, IsOutOfReach, IsFirstMet, EndsWhereItMeets}

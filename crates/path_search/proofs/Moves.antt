@@ -3,10 +3,10 @@ use Rattle.std.proofs.Common.{◌≡◌, ℕ, ◌<◌, ◌||◌, ◌&&◌, not, 
 use Rattle.std.proofs.lemmas.Bool.{cases_eq, or_cases, or_left, or_right, and_parts, and_from, not_from_false}
 use Rattle.affinity_mask.specs.ProcSet.{has, empty, Within}
 use Rattle.affinity_mask.proofs.Meetings.{no_member}
-use Rattle.link_state.specs.State.{State, IsState, task_on}
-use Rattle.link_state.specs.Chain.{CanShift}
-use Rattle.link_state.proofs.Linked.{occupied_number}
-use Rattle.link_state.proofs.Masks.{effective_mask_below, effective_mask_online}
+use Rattle.strong_apa.specs.State.{State, IsState, task_on}
+use Rattle.strong_apa.specs.Chain.{CanShift}
+use Rattle.strong_apa.proofs.Linked.{occupied_number}
+use Rattle.strong_apa.proofs.Masks.{effective_mask_below, effective_mask_online}
 use Rattle.path_search.specs.declared.direction.Direction.{Direction}
 use Rattle.path_search.specs.declared.direction.Direction.TheVariants.{Onward, Back}
 use Rattle.path_search.specs.Paths.{Steps}

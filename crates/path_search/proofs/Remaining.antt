@@ -4,8 +4,8 @@ use Rattle.std.proofs.Common.{◌≡◌, ℕ, ◌+◌, ◌-◌, ◌<◌, ◌≤�
 use Rattle.std.proofs.lemmas.Bool.{cases_eq, cases_lt, and_parts, and_from}
 use Rattle.affinity_mask.specs.ProcSet.{has, empty, IsLeastMember}
 use Rattle.affinity_mask.proofs.Meetings.{no_member}
-use Rattle.link_state.specs.State.{State}
-use Rattle.link_state.specs.Chain.{IsPath, IsLess, IsLeastSuch}
+use Rattle.strong_apa.specs.State.{State}
+use Rattle.strong_apa.specs.Chain.{IsPath, IsLess, IsLeastSuch}
 use Rattle.path_search.specs.declared.direction.Direction.{Direction}
 use Rattle.path_search.specs.declared.direction.Direction.TheVariants.{Onward, Back}
 use Rattle.path_search.specs.Paths.{Steps, opposite_of, IsPathFrom, LeadsInto}

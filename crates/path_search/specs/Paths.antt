@@ -4,8 +4,8 @@
 -- lists with the property, or nothing where there is none.
 use Rattle.std.specs.Prelude.{ℕ, List, [], ◌∷◌, Option, Some, None, IsTrue}
 use Rattle.affinity_mask.specs.ProcSet.{has}
-use Rattle.link_state.specs.State.{State}
-use Rattle.link_state.specs.Chain.{CanShift, IsPath, IsChainOf, IsLeastSuch}
+use Rattle.strong_apa.specs.State.{State}
+use Rattle.strong_apa.specs.Chain.{CanShift, IsPath, IsChainOf, IsLeastSuch}
 use Rattle.path_search.specs.declared.direction.Direction.{Direction}
 use Rattle.path_search.specs.declared.direction.Direction.TheVariants.{Onward, Back}
 

@@ -1,7 +1,7 @@
 //! Back chains to a processor.
 ghost use Rattle.std.specs.Prelude.{◌≡◌, ℕ, ◌<◌};
-ghost use Rattle.link_state.specs.State.{task_count};
-ghost use Rattle.link_state.specs.Chain.{IsBackReach, EntersBy};
+ghost use Rattle.strong_apa.specs.State.{task_count};
+ghost use Rattle.strong_apa.specs.Chain.{IsBackReach, EntersBy};
 ghost use Rattle.path_search.specs.Paths.{IsLeastIfAny};
 
 use crate::direction::Direction;

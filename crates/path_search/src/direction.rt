@@ -1,7 +1,7 @@
 //! The two directions in which paths are searched.
 ghost use Rattle.std.specs.Prelude.{◌≡◌, ℕ, ◌<◌, IsTrue, ◌↔◌};
 ghost use Rattle.affinity_mask.specs.ProcSet.{has};
-ghost use Rattle.link_state.specs.State.{IsState};
+ghost use Rattle.strong_apa.specs.State.{IsState};
 ghost use Rattle.path_search.specs.Paths.{Steps, StepsFrom, opposite_of};
 
 use affinity_mask::ProcSet;

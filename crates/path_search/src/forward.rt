@@ -1,8 +1,8 @@
 //! Chains of a task.
 ghost use Rattle.std.specs.Prelude.{◌≡◌, ℕ, ◌<◌, Some, IsTrue};
 ghost use Rattle.affinity_mask.specs.ProcSet.{has};
-ghost use Rattle.link_state.specs.State.{IsState, task_count, task_on};
-ghost use Rattle.link_state.specs.Chain.{IsReach, IsChainOf, EndsIdle, EndsOnTask};
+ghost use Rattle.strong_apa.specs.State.{IsState, task_count, task_on};
+ghost use Rattle.strong_apa.specs.Chain.{IsReach, IsChainOf, EndsIdle, EndsOnTask};
 ghost use Rattle.path_search.specs.Paths.{IsLeastIfAny, EndsIn};
 
 use crate::direction::Direction;

@@ -1,7 +1,7 @@
 //! The search for a least path.
 ghost use Rattle.std.specs.Prelude.{◌≡◌, ℕ, ◌<◌, [], ◌∷◌, IsTrue};
 ghost use Rattle.affinity_mask.specs.ProcSet.{has};
-ghost use Rattle.link_state.specs.Chain.{IsLeastSuch};
+ghost use Rattle.strong_apa.specs.Chain.{IsLeastSuch};
 ghost use Rattle.path_search.specs.Paths.{Steps, LeadsInto, IsLeastIfAny, opposite_of};
 ghost use Rattle.path_search.specs.Levels.{EndsWhereItMeets};
 

@@ -3,19 +3,19 @@ use Rattle.std.proofs.Common.{◌≡◌, ℕ, ◌<◌, List, [], ◌∷◌, get_
 use Rattle.task_set.specs.Context.{context_after_take, context_after_run}
 use Rattle.task_set.specs.declared.context.Context.{Context}
 use Rattle.task_set.specs.declared.event.Event.{Event}
-use Rattle.scheduler_reply.specs.declared.reply.Entry.{Entry}
-use Rattle.link_state.specs.State.{State, IsState, HasSameTasks, task_count}
-use Rattle.link_state.specs.Dispatch.{taken_between, places_of, tick_runs}
-use Rattle.link_state.specs.History.{effect_of}
-use Rattle.link_state.proofs.SameTasks.{same_tasks-effect, same_count}
-use Rattle.certificate_laws.specs.Certified.{HasCertificates}
+use Rattle.strong_apa.specs.declared.reply.Entry.{Entry}
+use Rattle.strong_apa.specs.State.{State, IsState, HasSameTasks, task_count}
+use Rattle.strong_apa.specs.Dispatch.{taken_between, places_of, tick_runs}
+use Rattle.strong_apa.specs.History.{effect_of}
+use Rattle.strong_apa.proofs.SameTasks.{same_tasks-effect, same_count}
+use Rattle.strong_apa.specs.Certified.{HasCertificates}
 use Rattle.reach_certificate.specs.Checker.{CheckerData, IsChecker}
 use Rattle.reach_certificate.specs.Contexts.{context_after_takes, context_after_all_runs, context_after_entry, EachBecomes}
-use Rattle.certificate_laws.specs.Laws.{LinkedIsBest}
-use Rattle.certificate_laws.specs.Passing.{Passes}
-use Rattle.certificate_laws.proofs.Best.{linked_is_best}
-use Rattle.certificate_laws.proofs.KeptStates.{passing_keeps_state}
-use Rattle.certificate_laws.proofs.Passed.{passing_keeps_certificates}
+use Rattle.strong_apa.specs.CertificateLaws.{LinkedIsBest}
+use Rattle.strong_apa.specs.Passing.{Passes}
+use Rattle.strong_apa.proofs.Best.{linked_is_best}
+use Rattle.strong_apa.proofs.KeptStates.{passing_keeps_state}
+use Rattle.strong_apa.proofs.Passed.{passing_keeps_certificates}
 
 -- ---- a context is always that of its task
 takes_keep_task : (c : Context) (places : List ℕ) → (context_after_takes c places).task ≡ c.task

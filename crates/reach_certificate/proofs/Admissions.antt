@@ -6,17 +6,17 @@ use Rattle.std.proofs.lemmas.Bool.{cases_eq, true≢false, or_cases, or_left, or
 use Rattle.std.proofs.lemmas.Option.{same_Some}
 use Rattle.affinity_mask.specs.ProcSet.{empty}
 use Rattle.affinity_mask.proofs.Sets.{has-zero}
-use Rattle.link_state.specs.State.{State, IsState, HasSameTasks, HasSameMasks, IsWaiting, task_count, is_ready, is_linked, task_on, state_with_ready, IsMoreUrgent}
-use Rattle.link_state.specs.Chain.{state_after_shift}
-use Rattle.link_state.specs.Certificate.{IsCertificate}
-use Rattle.link_state.proofs.Linked.{place_in, task_on-linked, is_linked-from_on, not_on}
-use Rattle.link_state.proofs.Shifts.{occupant_from, task_on-state_after_shift}
-use Rattle.link_state.proofs.Simple.{Avoids-none}
+use Rattle.strong_apa.specs.State.{State, IsState, HasSameTasks, HasSameMasks, IsWaiting, task_count, is_ready, is_linked, task_on, state_with_ready, IsMoreUrgent}
+use Rattle.strong_apa.specs.Chain.{state_after_shift}
+use Rattle.strong_apa.specs.Certificate.{IsCertificate}
+use Rattle.strong_apa.proofs.Linked.{place_in, task_on-linked, is_linked-from_on, not_on}
+use Rattle.strong_apa.proofs.Shifts.{occupant_from, task_on-state_after_shift}
+use Rattle.strong_apa.proofs.Simple.{Avoids-none}
 use Rattle.reach_certificate.specs.Admission.{Admitted}
-use Rattle.certificate_laws.specs.Certified.{HasCertificates}
+use Rattle.strong_apa.specs.Certified.{HasCertificates}
 use Rattle.reach_certificate.specs.Search.{IsWay, IsFull}
-use Rattle.certificate_laws.proofs.KeptByArrivals.{others_have}
-use Rattle.certificate_laws.proofs.KeptByShifts.{linked_or_out, kept_by_placing}
+use Rattle.strong_apa.proofs.KeptByArrivals.{others_have}
+use Rattle.strong_apa.proofs.KeptByShifts.{linked_or_out, kept_by_placing}
 
 -- two answers that follow from one another are the same
 pub same_answer : (a b : Bool) → (a ≡ true → b ≡ true) → (b ≡ true → a ≡ true) → a ≡ b

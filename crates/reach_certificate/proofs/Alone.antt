@@ -5,8 +5,8 @@ use Rattle.std.specs.List.{range_with_len}
 use Rattle.std.proofs.lemmas.Bool.{cases_eq, cases_Bool, true≢false, false_from_ne_true}
 use Rattle.std.proofs.lemmas.List.{get_or_default}
 use Rattle.std.proofs.lemmas.List.FromFn.{get_or-range_with_len, length-range_with_len}
-use Rattle.link_state.specs.Chain.{IsSimple}
-use Rattle.link_state.proofs.Simple.{IsSimple-head, IsSimple-tail}
+use Rattle.strong_apa.specs.Chain.{IsSimple}
+use Rattle.strong_apa.proofs.Simple.{IsSimple-head, IsSimple-tail}
 
 contains_none : (q : ℕ) → Contains {X = ℕ} [] q → ⊥
 contains_none q c = let lt = c.1 in omega arith

@@ -3,13 +3,13 @@
 use Rattle.std.proofs.Common.{◌≡◌, ◌≢◌, ℕ, zero, suc, ◌<◌, Bool, true, false, ◌||◌, nat_eq, if◌then◌else◌, refl, sym, ap, ◌∙◌, subst, inl, inr, IsTrue, arith, eq-eqb, ne_eqb, eqb-true}
 use Rattle.std.proofs.lemmas.Bool.{cases_Bool, cases_eq, true≢false, or_cases, or_parts, or_left}
 use Rattle.affinity_mask.specs.ProcSet.{has}
-use Rattle.link_state.specs.State.{State, IsState, IsMoreUrgent, task_count, priority_of, effective_mask}
-use Rattle.link_state.specs.Placement.{TaskTest, IsPlaceable, IsSubset, IsBest}
-use Rattle.link_state.proofs.Ends.{has_decided}
-use Rattle.link_state.proofs.Least.{Decided}
-use Rattle.link_state.proofs.Masks.{effective_mask_below}
-use Rattle.certificate_laws.proofs.Best.{latest}
-use Rattle.certificate_laws.proofs.FirstFound.{exists_below, both_decided}
+use Rattle.strong_apa.specs.State.{State, IsState, IsMoreUrgent, task_count, priority_of, effective_mask}
+use Rattle.strong_apa.specs.Placement.{TaskTest, IsPlaceable, IsSubset, IsBest}
+use Rattle.strong_apa.proofs.Ends.{has_decided}
+use Rattle.strong_apa.proofs.Least.{Decided}
+use Rattle.strong_apa.proofs.Masks.{effective_mask_below}
+use Rattle.strong_apa.proofs.Best.{latest}
+use Rattle.strong_apa.proofs.FirstFound.{exists_below, both_decided}
 use Rattle.reach_certificate.specs.Best.{BestExists}
 
 same_decided : (a b : Bool) → Decided (a ≡ b)

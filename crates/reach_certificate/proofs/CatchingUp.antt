@@ -7,8 +7,8 @@ use Rattle.std.proofs.lemmas.List.Sums.{fold-append}
 use Rattle.std.proofs.lemmas.Option.{same_Some}
 use Rattle.task_set.specs.Context.{context_after_take}
 use Rattle.task_set.specs.declared.context.Context.{Context}
-use Rattle.link_state.specs.State.{State, IsState, is_linked, is_task, task_on}
-use Rattle.link_state.proofs.Linked.{is_task-same, is_task-true, not_on, occupied_number, place_in, task_on-linked}
+use Rattle.strong_apa.specs.State.{State, IsState, is_linked, is_task, task_on}
+use Rattle.strong_apa.proofs.Linked.{is_task-same, is_task-true, not_on, occupied_number, place_in, task_on-linked}
 use Rattle.reach_certificate.specs.CaughtUp.{HaveCaughtUp, taken_among}
 use Rattle.reach_certificate.specs.Contexts.{ContextsData, context_after_takes, EachBecomes}
 use Rattle.reach_certificate.proofs.Alone.{contains_one, passes_nowhere, passes_alone}

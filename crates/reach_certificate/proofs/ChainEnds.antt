@@ -1,7 +1,7 @@
 -- A chain that fits is not empty, and has an end.
 use Rattle.std.proofs.Common.{◌≡◌, ◌≢◌, ℕ, List, [], ◌∷◌, length, Option, Some, refl, inl, arith}
-use Rattle.link_state.specs.State.{State, task_on}
-use Rattle.link_state.specs.Chain.{CanShift}
+use Rattle.strong_apa.specs.State.{State, task_on}
+use Rattle.strong_apa.specs.Chain.{CanShift}
 use Rattle.reach_certificate.specs.Defect.{AllFit, BeginsFor, DisplacedFits, MovesBack, FreedFits, last_processor}
 use Rattle.reach_certificate.proofs.ChainPlaces.{fit_is_not_empty, fit_ends}
 

@@ -3,19 +3,19 @@ use Rattle.std.proofs.Common.{◌≡◌, ℕ, ◌<◌, true, Option, Some, None,
 use Rattle.std.proofs.lemmas.Bool.{true≢false}
 use Rattle.task_set.specs.TaskSet.{IsMask}
 use Rattle.task_set.specs.declared.event.Event.TheVariants.{Affinity, Offline, Online}
-use Rattle.scheduler_reply.specs.declared.reply.Came.{Came}
-use Rattle.scheduler_reply.specs.declared.reply.Gone.{Gone}
-use Rattle.scheduler_reply.specs.declared.reply.Moved.{Moved}
-use Rattle.scheduler_reply.specs.declared.reply.Reply.{Reply}
-use Rattle.scheduler_reply.specs.declared.reply.Reply.TheVariants.{Remasked, Off, On}
-use Rattle.link_state.specs.State.{State, IsState, is_ready, task_count, state_with_mask, state_with_online, state_with_offline, state_after_leaving}
-use Rattle.link_state.specs.History.{state_after_left}
-use Rattle.link_state.proofs.Changes.{IsState-state_with_online}
-use Rattle.link_state.proofs.Leaving.{IsState-state_after_leaving}
-use Rattle.link_state.proofs.Linked.{is_linked-from_on, occupied_number}
-use Rattle.link_state.proofs.Steps.{IsState-moved, IsState-remasked}
-use Rattle.certificate_laws.specs.Passing.{CamePasses, LeavingPasses, AffinityPasses, OfflinePasses, OnlinePasses}
-use Rattle.certificate_laws.proofs.KeptStates.{left_by_passing}
+use Rattle.strong_apa.specs.declared.reply.Came.{Came}
+use Rattle.strong_apa.specs.declared.reply.Gone.{Gone}
+use Rattle.strong_apa.specs.declared.reply.Moved.{Moved}
+use Rattle.strong_apa.specs.declared.reply.Reply.{Reply}
+use Rattle.strong_apa.specs.declared.reply.Reply.TheVariants.{Remasked, Off, On}
+use Rattle.strong_apa.specs.State.{State, IsState, is_ready, task_count, state_with_mask, state_with_online, state_with_offline, state_after_leaving}
+use Rattle.strong_apa.specs.History.{state_after_left}
+use Rattle.strong_apa.proofs.Changes.{IsState-state_with_online}
+use Rattle.strong_apa.proofs.Leaving.{IsState-state_after_leaving}
+use Rattle.strong_apa.proofs.Linked.{is_linked-from_on, occupied_number}
+use Rattle.strong_apa.proofs.Steps.{IsState-moved, IsState-remasked}
+use Rattle.strong_apa.specs.Passing.{CamePasses, LeavingPasses, AffinityPasses, OfflinePasses, OnlinePasses}
+use Rattle.strong_apa.proofs.KeptStates.{left_by_passing}
 use Rattle.reach_certificate.specs.Defect.{GoneIsRight, IsGoneDefect, IsVacatedDefect, LeavesRightly, IsLeavingDefect, IsReturnDefect, IsMovedDefect, IsAllowedToAffinity, IsPartDefect}
 use Rattle.reach_certificate.specs.declared.defect.Defect.{Defect}
 use Rattle.reach_certificate.proofs.Fitting.{came_right, gone_right}

@@ -7,23 +7,23 @@ use Rattle.std.proofs.lemmas.Option.{same_Some}
 use Rattle.affinity_mask.specs.ProcSet.{has, all_below, Within}
 use Rattle.task_set.specs.TaskSet.{IsMask}
 use Rattle.task_set.specs.declared.event.Event.TheVariants.{Affinity, Offline, Online}
-use Rattle.scheduler_reply.specs.declared.reply.Came.{Came}
-use Rattle.scheduler_reply.specs.declared.reply.Came.TheVariants as came
-use Rattle.scheduler_reply.specs.declared.reply.Gone.{Gone}
-use Rattle.scheduler_reply.specs.declared.reply.Moved.{Moved}
-use Rattle.scheduler_reply.specs.declared.reply.Reply.{Reply}
-use Rattle.scheduler_reply.specs.declared.reply.Reply.TheVariants.{Masked, Remasked, AlreadyOff, AlreadyOn, Off, On}
-use Rattle.scheduler_reply.specs.Reply.{reply_of_came, came_sets, sets_of}
-use Rattle.link_state.specs.State.{State, IsState, is_ready, is_linked, task_count, task_on, state_with_mask, state_with_online, state_with_offline, state_after_leaving}
-use Rattle.link_state.specs.History.{state_after_left}
-use Rattle.link_state.proofs.Changes.{IsState-state_with_online}
-use Rattle.link_state.proofs.Leaving.{IsState-state_after_leaving}
-use Rattle.link_state.proofs.Least.{Decided}
-use Rattle.link_state.proofs.Linked.{task_on-linked, place_in, occupied_number}
-use Rattle.link_state.proofs.Masks.{effective_mask_online}
-use Rattle.link_state.proofs.Steps.{IsState-moved, IsState-remasked}
-use Rattle.certificate_laws.specs.Passing.{CamePasses, LeavingPasses, AffinityPasses, OfflinePasses, OnlinePasses}
-use Rattle.certificate_laws.proofs.KeptStates.{left_by_passing}
+use Rattle.strong_apa.specs.declared.reply.Came.{Came}
+use Rattle.strong_apa.specs.declared.reply.Came.TheVariants as came
+use Rattle.strong_apa.specs.declared.reply.Gone.{Gone}
+use Rattle.strong_apa.specs.declared.reply.Moved.{Moved}
+use Rattle.strong_apa.specs.declared.reply.Reply.{Reply}
+use Rattle.strong_apa.specs.declared.reply.Reply.TheVariants.{Masked, Remasked, AlreadyOff, AlreadyOn, Off, On}
+use Rattle.strong_apa.specs.Reply.{reply_of_came, came_sets, sets_of}
+use Rattle.strong_apa.specs.State.{State, IsState, is_ready, is_linked, task_count, task_on, state_with_mask, state_with_online, state_with_offline, state_after_leaving}
+use Rattle.strong_apa.specs.History.{state_after_left}
+use Rattle.strong_apa.proofs.Changes.{IsState-state_with_online}
+use Rattle.strong_apa.proofs.Leaving.{IsState-state_after_leaving}
+use Rattle.strong_apa.proofs.Least.{Decided}
+use Rattle.strong_apa.proofs.Linked.{task_on-linked, place_in, occupied_number}
+use Rattle.strong_apa.proofs.Masks.{effective_mask_online}
+use Rattle.strong_apa.proofs.Steps.{IsState-moved, IsState-remasked}
+use Rattle.strong_apa.specs.Passing.{CamePasses, LeavingPasses, AffinityPasses, OfflinePasses, OnlinePasses}
+use Rattle.strong_apa.proofs.KeptStates.{left_by_passing}
 use Rattle.reach_certificate.specs.Defect.{processor_count, IsVacatedDefect, IsLeavingDefect, IsReturnDefect, IsOfProcessors, IsAllowedToAffinity, IsAllowedToOffline, IsReplyDefect}
 use Rattle.reach_certificate.specs.Returning.{IsLeaving}
 use Rattle.reach_certificate.specs.declared.defect.Defect.{Defect}

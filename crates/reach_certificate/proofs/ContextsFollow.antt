@@ -4,12 +4,12 @@ use Rattle.std.specs.List.{range_with_len}
 use Rattle.std.proofs.lemmas.List.FromFn.{fill_by_all, get_or-map-range_with_len, length-map-range_with_len}
 use Rattle.task_set.specs.Context.{fresh_context}
 use Rattle.task_set.specs.declared.context.Context.{Context}
-use Rattle.scheduler_reply.specs.declared.reply.Entry.{Entry}
-use Rattle.link_state.specs.State.{State}
-use Rattle.link_state.specs.History.{state_after, effect_of}
-use Rattle.link_state.specs.Dispatch.{taken_between, places_of, tick_runs, processors_of, runs_of, context_from, context_of}
-use Rattle.link_state.proofs.Contexts.{context_from-take, context_from-run}
-use Rattle.link_state.proofs.Histories.{processors_of-push, runs_of-push}
+use Rattle.strong_apa.specs.declared.reply.Entry.{Entry}
+use Rattle.strong_apa.specs.State.{State}
+use Rattle.strong_apa.specs.History.{state_after, effect_of}
+use Rattle.strong_apa.specs.Dispatch.{taken_between, places_of, tick_runs, processors_of, runs_of, context_from, context_of}
+use Rattle.strong_apa.proofs.Contexts.{context_from-take, context_from-run}
+use Rattle.strong_apa.proofs.Histories.{processors_of-push, runs_of-push}
 use Rattle.reach_certificate.specs.Contexts.{context_after_takes, context_after_all_runs, context_after_entry, EachBecomes}
 
 takes_appended : (t : ℕ) (runs : List (ℕ × ℕ)) (taken places : List ℕ) → context_from t runs (taken ++ places) ≡ context_after_takes (context_from t runs taken) places

@@ -3,15 +3,15 @@ use Rattle.std.proofs.Common.{◌≡◌, ◌≢◌, ℕ, zero, suc, ◌+◌, ◌
 use Rattle.std.proofs.lemmas.Bool.{cases_eq, cases_lt, true≢false}
 use Rattle.std.proofs.lemmas.Option.{same_Some}
 use Rattle.affinity_mask.specs.ProcSet.{has, Within}
-use Rattle.link_state.specs.State.{State, IsState, task_on, task_count, effective_mask, priority_of}
-use Rattle.link_state.specs.Chain.{CanShift, CanEnterAt}
-use Rattle.link_state.specs.Step.{CanEnterInto, IsNobodyInto, IsMostUrgentInto}
-use Rattle.link_state.proofs.Ends.{has_decided, CanShift_decided}
-use Rattle.link_state.proofs.Least.{Decided}
-use Rattle.link_state.proofs.Masks.{effective_mask_below}
+use Rattle.strong_apa.specs.State.{State, IsState, task_on, task_count, effective_mask, priority_of}
+use Rattle.strong_apa.specs.Chain.{CanShift, CanEnterAt}
+use Rattle.strong_apa.specs.Step.{CanEnterInto, IsNobodyInto, IsMostUrgentInto}
+use Rattle.strong_apa.proofs.Ends.{has_decided, CanShift_decided}
+use Rattle.strong_apa.proofs.Least.{Decided}
+use Rattle.strong_apa.proofs.Masks.{effective_mask_below}
 use Rattle.reach_certificate.specs.Defect.{AllFit, IsFirstMisfit, FitsAt, MovesBack, ReachFits, BackFits, EntersRightly, EntersWrongly, last_processor}
 use Rattle.link_table.proofs.Leaders.{IsFoundInto, IsFound-nothing, IsComing, IsNotLessUrgent, into_more, into_passed, into_whole}
-use Rattle.certificate_laws.proofs.Fullness.{waiting_decided}
+use Rattle.strong_apa.proofs.Fullness.{waiting_decided}
 
 -- ---- what can be decided
 and_decided : {A B : Type 0} → Decided A → Decided B → Decided (A × B)

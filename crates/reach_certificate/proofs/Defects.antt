@@ -3,13 +3,13 @@ use Rattle.std.proofs.Common.{◌≡◌, ℕ, Some, sym, ◌∙◌, subst, inl, 
 use Rattle.std.proofs.lemmas.Bool.{true≢false}
 use Rattle.task_set.specs.declared.event.Event.{Event}
 use Rattle.task_set.specs.declared.event.Event.TheVariants.{Arrive, Depart, Tick, Affinity, Offline, Online}
-use Rattle.scheduler_reply.specs.declared.reply.Came.{Came}
-use Rattle.scheduler_reply.specs.declared.reply.Gone.{Gone}
-use Rattle.scheduler_reply.specs.declared.reply.Reply.{Reply}
-use Rattle.scheduler_reply.proofs.Replies.{one_came, one_gone}
-use Rattle.link_state.specs.State.{State, IsState}
-use Rattle.link_state.proofs.Linked.{is_linked-from_on, not_on}
-use Rattle.certificate_laws.specs.Passing.{ArrivalPasses, DeparturePasses, Passes}
+use Rattle.strong_apa.specs.declared.reply.Came.{Came}
+use Rattle.strong_apa.specs.declared.reply.Gone.{Gone}
+use Rattle.strong_apa.specs.declared.reply.Reply.{Reply}
+use Rattle.strong_apa.proofs.Replies.{one_came, one_gone}
+use Rattle.strong_apa.specs.State.{State, IsState}
+use Rattle.strong_apa.proofs.Linked.{is_linked-from_on, not_on}
+use Rattle.strong_apa.specs.Passing.{ArrivalPasses, DeparturePasses, Passes}
 use Rattle.reach_certificate.specs.Defect.{CameIsRight, IsCameDefect, LeavesRightly, IsVacatedDefect, IsAllowed, IsPartDefect}
 use Rattle.reach_certificate.specs.DefectLaws.{PassingHasNoDefect, DefectIsUnique}
 use Rattle.reach_certificate.specs.declared.defect.Defect.{Defect}

@@ -4,7 +4,7 @@ use Rattle.std.proofs.Math.Bool.{and-true}
 use Rattle.std.proofs.lemmas.Bool.{and_right, not_from_true}
 use Rattle.affinity_mask.specs.ProcSet.{has, empty}
 use Rattle.affinity_mask.proofs.Sets.{has-zero}
-use Rattle.certificate_laws.proofs.Counts.{count_below, count_below-one_more}
+use Rattle.strong_apa.proofs.Counts.{count_below, count_below-one_more}
 use Rattle.reach_certificate.specs.Defect.{AllFit, processor_count}
 
 -- how many of the processors are left

@@ -1,13 +1,13 @@
 -- The chain along which a task comes in where a processor has become idle.
 use Rattle.std.proofs.Common.{◌≡◌, ℕ, ◌<◌, reverse, Option, Some, sym, ap, subst}
-use Rattle.scheduler_reply.specs.declared.reply.Gone.{Gone}
-use Rattle.link_state.specs.State.{State, IsState, IsWaiting, task_count}
-use Rattle.link_state.specs.Chain.{IsChainOf, IsSimple, state_after_shift}
-use Rattle.link_state.specs.History.{state_after_entering, state_after_gone}
-use Rattle.link_state.proofs.Paths.{IsChainOf-reverse}
-use Rattle.link_state.proofs.Simple.{IsSimple-reverse}
-use Rattle.link_state.proofs.Unique.{ready_number}
-use Rattle.certificate_laws.specs.Passing.{EnteringPasses, GonePasses}
+use Rattle.strong_apa.specs.declared.reply.Gone.{Gone}
+use Rattle.strong_apa.specs.State.{State, IsState, IsWaiting, task_count}
+use Rattle.strong_apa.specs.Chain.{IsChainOf, IsSimple, state_after_shift}
+use Rattle.strong_apa.specs.History.{state_after_entering, state_after_gone}
+use Rattle.strong_apa.proofs.Paths.{IsChainOf-reverse}
+use Rattle.strong_apa.proofs.Simple.{IsSimple-reverse}
+use Rattle.strong_apa.proofs.Unique.{ready_number}
+use Rattle.strong_apa.specs.Passing.{EnteringPasses, GonePasses}
 
 module _ (s : State) (p : ℕ) (gone : Gone) (w : ℕ) (passes : GonePasses s p gone) (some : gone.entered ≡ Some w) where
   entry : EnteringPasses s p (Some w) gone.chain gone.back

@@ -4,8 +4,8 @@ use Rattle.std.proofs.Math.Bool.{and-true}
 use Rattle.std.proofs.lemmas.Bool.{cases_eq, and_left, and_right, not_from_true, or_cases, or_left, or_right, true≢false}
 use Rattle.affinity_mask.specs.ProcSet.{has, empty}
 use Rattle.affinity_mask.proofs.Sets.{has-zero}
-use Rattle.link_state.specs.State.{State}
-use Rattle.link_state.specs.Chain.{CanShift}
+use Rattle.strong_apa.specs.State.{State}
+use Rattle.strong_apa.specs.Chain.{CanShift}
 use Rattle.reach_certificate.specs.Judging.{ShiftsInto}
 
 -- found are those whose occupant may run on a processor of the set that is not left; those that are left are of the set

@@ -6,19 +6,19 @@ use Rattle.std.proofs.lemmas.List.Elements.{All-head}
 use Rattle.std.proofs.lemmas.Option.{same_Some}
 use Rattle.affinity_mask.specs.ProcSet.{has, all_below, Within}
 use Rattle.affinity_mask.proofs.Sets.{has-all_below}
-use Rattle.scheduler_reply.specs.declared.reply.Came.{Came}
-use Rattle.scheduler_reply.specs.declared.reply.Came.TheVariants.{Placed, Displaced, Waits}
-use Rattle.scheduler_reply.specs.declared.reply.Gone.{Gone}
-use Rattle.scheduler_reply.specs.Reply.{reply_of_came}
-use Rattle.link_state.specs.State.{State, IsState, task_on}
-use Rattle.link_state.specs.Chain.{CanShift, CanEnterAt, IsPath, IsChainOf, IsBackChain, IsSimple}
-use Rattle.link_state.specs.Certificate.{IsCertificate}
-use Rattle.link_state.proofs.Linked.{occupied_number}
-use Rattle.link_state.proofs.Masks.{effective_mask_below}
-use Rattle.link_state.proofs.Paths.{Reaches-online}
-use Rattle.link_state.proofs.Shifts.{chain_below}
-use Rattle.link_state.proofs.Simple.{IsSimple-cons}
-use Rattle.certificate_laws.specs.Passing.{PlacedPasses, DisplacedPasses, CamePasses, IsBackClosed, EnteringPasses, GonePasses}
+use Rattle.strong_apa.specs.declared.reply.Came.{Came}
+use Rattle.strong_apa.specs.declared.reply.Came.TheVariants.{Placed, Displaced, Waits}
+use Rattle.strong_apa.specs.declared.reply.Gone.{Gone}
+use Rattle.strong_apa.specs.Reply.{reply_of_came}
+use Rattle.strong_apa.specs.State.{State, IsState, task_on}
+use Rattle.strong_apa.specs.Chain.{CanShift, CanEnterAt, IsPath, IsChainOf, IsBackChain, IsSimple}
+use Rattle.strong_apa.specs.Certificate.{IsCertificate}
+use Rattle.strong_apa.proofs.Linked.{occupied_number}
+use Rattle.strong_apa.proofs.Masks.{effective_mask_below}
+use Rattle.strong_apa.proofs.Paths.{Reaches-online}
+use Rattle.strong_apa.proofs.Shifts.{chain_below}
+use Rattle.strong_apa.proofs.Simple.{IsSimple-cons}
+use Rattle.strong_apa.specs.Passing.{PlacedPasses, DisplacedPasses, CamePasses, IsBackClosed, EnteringPasses, GonePasses}
 use Rattle.reach_certificate.specs.Defect.{AllFit, FitsAt, BeginsFor, PlacedFits, MovesBack, FreedFits, ReachFits, BackFits, AgainstFits, IsNoLessUrgent, last_processor, processor_count, EntersRightly, DisplacedIsRight, CameIsRight, GoneIsRight, IsOfProcessors}
 use Rattle.reach_certificate.proofs.ChainPlaces.{path_map, path_last, fit_is_simple, fit_begins, fit_path, fit_ends, all_places_fit}
 

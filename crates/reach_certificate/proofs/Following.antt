@@ -9,17 +9,17 @@ use Rattle.task_set.specs.Context.{context_after_run}
 use Rattle.task_set.specs.declared.context.Context.{Context}
 use Rattle.task_set.specs.declared.event.Event.{Event}
 use Rattle.task_set.specs.declared.event.Event.TheVariants.{Arrive, Depart, Tick, Affinity, Offline, Online}
-use Rattle.scheduler_reply.specs.declared.reply.Reply.{Reply}
-use Rattle.scheduler_reply.specs.declared.reply.Entry.{Entry}
-use Rattle.scheduler_reply.specs.Reply.{chain_of}
-use Rattle.link_state.specs.State.{State, IsState, is_task, task_on}
-use Rattle.link_state.specs.Dispatch.{taken_between, places_of, tick_runs}
-use Rattle.link_state.specs.History.{effect_of, state_after_reply}
-use Rattle.link_state.proofs.SameTasks.{same_tasks-effect}
-use Rattle.certificate_laws.specs.Passing.{Passes}
-use Rattle.certificate_laws.specs.Touched.{StaysOutside, touched}
-use Rattle.certificate_laws.proofs.KeptStates.{passing_keeps_state}
-use Rattle.certificate_laws.proofs.Touched.{passing_stays_outside, stands_or_stays}
+use Rattle.strong_apa.specs.declared.reply.Reply.{Reply}
+use Rattle.strong_apa.specs.declared.reply.Entry.{Entry}
+use Rattle.strong_apa.specs.Reply.{chain_of}
+use Rattle.strong_apa.specs.State.{State, IsState, is_task, task_on}
+use Rattle.strong_apa.specs.Dispatch.{taken_between, places_of, tick_runs}
+use Rattle.strong_apa.specs.History.{effect_of, state_after_reply}
+use Rattle.strong_apa.proofs.SameTasks.{same_tasks-effect}
+use Rattle.strong_apa.specs.Passing.{Passes}
+use Rattle.strong_apa.specs.Touched.{StaysOutside, touched}
+use Rattle.strong_apa.proofs.KeptStates.{passing_keeps_state}
+use Rattle.strong_apa.proofs.Touched.{passing_stays_outside, stands_or_stays}
 use Rattle.reach_certificate.specs.CaughtUp.{HaveCaughtUp, taken_among}
 use Rattle.reach_certificate.specs.Contexts.{ContextsData, context_after_takes, context_after_all_runs, context_after_entry, EachBecomes, HaveFollowed}
 use Rattle.reach_certificate.proofs.CatchingUp.{EachBecomes-then, caught_up-then, taken_nowhere}

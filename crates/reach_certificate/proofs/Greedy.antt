@@ -8,18 +8,18 @@ use Rattle.std.proofs.lemmas.List.{length-map}
 use Rattle.std.proofs.lemmas.List.Folds.{list_any-append, list_any_at}
 use Rattle.std.proofs.lemmas.List.Quantifiers.{all_pairs_push}
 use Rattle.task_set.specs.TaskSet.{TaskData, SetData}
-use Rattle.link_state.specs.State.{State, IsState, HasSameTasks, HasSameMasks, task_count, priority_of, is_ready, is_linked, is_task, start_of, IsMoreUrgent}
-use Rattle.link_state.specs.Placement.{IsSubset, IsBest}
-use Rattle.link_state.proofs.Linked.{place_in, task_on-linked}
-use Rattle.link_state.proofs.SameTasks.{same_count}
+use Rattle.strong_apa.specs.State.{State, IsState, HasSameTasks, HasSameMasks, task_count, priority_of, is_ready, is_linked, is_task, start_of, IsMoreUrgent}
+use Rattle.strong_apa.specs.Placement.{IsSubset, IsBest}
+use Rattle.strong_apa.proofs.Linked.{place_in, task_on-linked}
+use Rattle.strong_apa.proofs.SameTasks.{same_count}
 use Rattle.reach_certificate.specs.Admission.{is_among, IsMostUrgentAbsent, Admitted}
-use Rattle.certificate_laws.specs.Certified.{HasCertificates}
+use Rattle.strong_apa.specs.Certified.{HasCertificates}
 use Rattle.reach_certificate.proofs.Admissions.{same_answer}
-use Rattle.certificate_laws.proofs.Best.{linked_is_best}
-use Rattle.certificate_laws.proofs.Counts.{count_below, count_below-one_more}
-use Rattle.certificate_laws.proofs.SameBest.{priority_of-same, IsBest-same}
-use Rattle.link_state.proofs.Start.{none_ready}
-use Rattle.certificate_laws.proofs.Kept.{HasCertificates-start}
+use Rattle.strong_apa.proofs.Best.{linked_is_best}
+use Rattle.strong_apa.proofs.Counts.{count_below, count_below-one_more}
+use Rattle.strong_apa.proofs.SameBest.{priority_of-same, IsBest-same}
+use Rattle.strong_apa.proofs.Start.{none_ready}
+use Rattle.strong_apa.proofs.Kept.{HasCertificates-start}
 use Rattle.reach_certificate.proofs.MostUrgent.{among_place}
 
 -- the listed tasks are admitted up to some priority, and the list `best` has the linked ones

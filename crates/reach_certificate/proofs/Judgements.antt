@@ -2,16 +2,16 @@
 use Rattle.std.proofs.Common.{◌≡◌, ℕ, true, false, Option, Some, None, refl, sym, ◌∙◌, subst, inl, inr, ◌⊎◌}
 use Rattle.std.proofs.lemmas.Bool.{cases_Bool, true≢false}
 use Rattle.task_set.specs.declared.event.Event.TheVariants.{Arrive, Depart, Tick, Affinity, Offline, Online}
-use Rattle.scheduler_reply.specs.declared.reply.Came.{Came}
-use Rattle.scheduler_reply.specs.declared.reply.Gone.{Gone}
-use Rattle.scheduler_reply.specs.declared.reply.Reply.{Reply}
-use Rattle.scheduler_reply.specs.declared.reply.Reply.TheVariants.{Left, Ticked, AlreadyReady, NotReady}
-use Rattle.scheduler_reply.specs.Reply.{came_of, gone_of}
-use Rattle.link_state.specs.State.{State, IsState, is_ready, is_linked}
-use Rattle.link_state.proofs.Least.{Decided}
-use Rattle.link_state.proofs.Linked.{task_on-linked, place_in}
-use Rattle.scheduler_reply.proofs.Replies.{came_said, came_says, gone_said, gone_says}
-use Rattle.certificate_laws.specs.Passing.{ArrivalPasses, DeparturePasses}
+use Rattle.strong_apa.specs.declared.reply.Came.{Came}
+use Rattle.strong_apa.specs.declared.reply.Gone.{Gone}
+use Rattle.strong_apa.specs.declared.reply.Reply.{Reply}
+use Rattle.strong_apa.specs.declared.reply.Reply.TheVariants.{Left, Ticked, AlreadyReady, NotReady}
+use Rattle.strong_apa.specs.Reply.{came_of, gone_of}
+use Rattle.strong_apa.specs.State.{State, IsState, is_ready, is_linked}
+use Rattle.strong_apa.proofs.Least.{Decided}
+use Rattle.strong_apa.proofs.Linked.{task_on-linked, place_in}
+use Rattle.strong_apa.proofs.Replies.{came_said, came_says, gone_said, gone_says}
+use Rattle.strong_apa.specs.Passing.{ArrivalPasses, DeparturePasses}
 use Rattle.reach_certificate.specs.Defect.{IsOfProcessors, IsReplyDefect}
 use Rattle.reach_certificate.specs.DefectLaws.{PassesOrHasDefect}
 use Rattle.reach_certificate.specs.declared.defect.Defect.{Defect}

@@ -5,8 +5,8 @@ use Rattle.std.proofs.lemmas.Bool.{true≢false}
 use Rattle.std.proofs.lemmas.List.{get_or_default}
 use Rattle.std.proofs.lemmas.List.Folds.{list_any_at, Any-from_list_any}
 use Rattle.std.proofs.lemmas.Option.{same_Some}
-use Rattle.link_state.specs.State.{State, task_count, priority_of, is_ready}
-use Rattle.link_state.specs.Placement.{IsSubset}
+use Rattle.strong_apa.specs.State.{State, task_count, priority_of, is_ready}
+use Rattle.strong_apa.specs.Placement.{IsSubset}
 use Rattle.reach_certificate.specs.Admission.{is_among, IsMostUrgentAbsent}
 
 -- a task of the list stands at some place of it

@@ -3,8 +3,8 @@ use Rattle.std.proofs.Common.{◌≡◌, ℕ, Bool, true, false, not, ◌&&◌, 
 use Rattle.std.proofs.lemmas.Bool.{cases_eq, true≢false}
 use Rattle.affinity_mask.specs.ProcSet.{has, with_member, without_member}
 use Rattle.affinity_mask.proofs.Sets.{has-with_member, has-without_member, same_set}
-use Rattle.link_state.specs.State.{State, IsState, task_on, state_with_online, state_with_offline}
-use Rattle.link_state.proofs.Masks.{effective_mask_online}
+use Rattle.strong_apa.specs.State.{State, IsState, task_on, state_with_online, state_with_offline}
+use Rattle.strong_apa.proofs.Masks.{effective_mask_online}
 
 pub off_has_nobody : (s : State) → IsState s → (p : ℕ) → has s.online p ≡ false → task_on s p ≡ None
 off_has_nobody s ok p off = go (task_on s p) refl

@@ -1,12 +1,12 @@
 -- What an arrival came to, and who came in, either is right or has one defect.
 use Rattle.std.proofs.Common.{◌≡◌, ℕ, true, List, length, Option, Some, None, sym, ap, ◌∙◌, subst, inl, inr, arith, le_antisymm}
 use Rattle.std.proofs.lemmas.Option.{same_Some}
-use Rattle.scheduler_reply.specs.declared.reply.Came.{Came}
-use Rattle.scheduler_reply.specs.declared.reply.Came.TheVariants.{Placed, Displaced, Waits}
-use Rattle.scheduler_reply.specs.declared.reply.Gone.{Gone}
-use Rattle.link_state.specs.State.{State, IsState, is_ready, priority_of}
-use Rattle.link_state.specs.Step.{IsNobodyInto, IsMostUrgentInto}
-use Rattle.link_state.proofs.Unique.{ready_number}
+use Rattle.strong_apa.specs.declared.reply.Came.{Came}
+use Rattle.strong_apa.specs.declared.reply.Came.TheVariants.{Placed, Displaced, Waits}
+use Rattle.strong_apa.specs.declared.reply.Gone.{Gone}
+use Rattle.strong_apa.specs.State.{State, IsState, is_ready, priority_of}
+use Rattle.strong_apa.specs.Step.{IsNobodyInto, IsMostUrgentInto}
+use Rattle.strong_apa.proofs.Unique.{ready_number}
 use Rattle.reach_certificate.specs.Defect.{AllFit, IsFirstMisfit, PlacedFits, DisplacedFits, FreedFits, ReachFits, BackFits, AgainstFits, IsNoLessUrgent, processor_count, OverFits, HasBadOver, EntersRightly, EntersWrongly, DisplacesRightly, DisplacesWrongly, DisplacedIsRight, CameIsRight, IsDisplacedDefect, IsCameDefect, GoneIsRight, IsGoneDefect}
 use Rattle.reach_certificate.specs.declared.defect.Defect.{Defect}
 use Rattle.reach_certificate.specs.declared.defect.Defect.TheVariants.{WrongReply, BadChain, BadSet, WrongTask}

@@ -1,13 +1,13 @@
 -- What an arrival came to, and who came in, is right or has a defect.
 use Rattle.std.proofs.Common.{◌≡◌, ℕ, ◌<◌, length, List, Some, None, sym, ap, ◌∙◌, subst, inl, inr, ◌⊎◌, arith}
 use Rattle.std.proofs.lemmas.Bool.{cases_eq, cases_lt}
-use Rattle.scheduler_reply.specs.declared.reply.Came.{Came}
-use Rattle.scheduler_reply.specs.declared.reply.Came.TheVariants.{Placed, Displaced, Waits}
-use Rattle.scheduler_reply.specs.declared.reply.Gone.{Gone}
-use Rattle.link_state.specs.State.{State, IsState, IsMoreUrgent, task_on, effective_mask, priority_of}
-use Rattle.link_state.specs.Chain.{CanShift}
-use Rattle.link_state.proofs.Ends.{has_decided, CanShift_decided}
-use Rattle.link_state.proofs.Least.{Decided}
+use Rattle.strong_apa.specs.declared.reply.Came.{Came}
+use Rattle.strong_apa.specs.declared.reply.Came.TheVariants.{Placed, Displaced, Waits}
+use Rattle.strong_apa.specs.declared.reply.Gone.{Gone}
+use Rattle.strong_apa.specs.State.{State, IsState, IsMoreUrgent, task_on, effective_mask, priority_of}
+use Rattle.strong_apa.specs.Chain.{CanShift}
+use Rattle.strong_apa.proofs.Ends.{has_decided, CanShift_decided}
+use Rattle.strong_apa.proofs.Least.{Decided}
 use Rattle.reach_certificate.specs.Defect.{AllFit, IsFirstMisfit, BeginsFor, MovesBack, PlacedFits, DisplacedFits, FreedFits, ReachFits, BackFits, AgainstFits, IsNoLessUrgent, processor_count, OverFits, HasBadOver, DisplacesRightly, DisplacesWrongly, CameIsRight, IsCameDefect, GoneIsRight, IsGoneDefect}
 use Rattle.reach_certificate.specs.declared.defect.Defect.{Defect}
 use Rattle.reach_certificate.specs.declared.defect.Defect.TheVariants.{BadChain, BadSet, WrongTask}

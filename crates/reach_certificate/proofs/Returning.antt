@@ -3,10 +3,10 @@ use Rattle.std.proofs.Common.{◌≡◌, ◌≢◌, ℕ, zero, suc, Bool, true, 
 use Rattle.std.specs.List.{range_with_len}
 use Rattle.std.proofs.lemmas.Bool.{cases_eq, false≢true}
 use Rattle.std.proofs.lemmas.List.FromFn.{fill_by_all}
-use Rattle.link_state.specs.State.{State, IsState, task_on, state_with_ready, state_after_leaving}
-use Rattle.link_state.specs.Chain.{occupant_after_shift, state_after_shift}
-use Rattle.link_state.proofs.Leaving.{task_on-stays, task_on-state_after_leaving}
-use Rattle.link_state.proofs.Shifts.{occupant-first, occupant-later}
+use Rattle.strong_apa.specs.State.{State, IsState, task_on, state_with_ready, state_after_leaving}
+use Rattle.strong_apa.specs.Chain.{occupant_after_shift, state_after_shift}
+use Rattle.strong_apa.proofs.Leaving.{task_on-stays, task_on-state_after_leaving}
+use Rattle.strong_apa.proofs.Shifts.{occupant-first, occupant-later}
 
 -- a flag that is lowered and raised again
 raised : (flags : List Bool) (t : ℕ) → get_or flags t false ≡ true → set (set flags t false) t true ≡ flags

@@ -5,11 +5,11 @@ use Rattle.std.proofs.lemmas.Bool.{cases_Bool, cases_eq, true≢false, or_cases,
 use Rattle.std.proofs.lemmas.List.{length-reverse}
 use Rattle.std.proofs.lemmas.List.Elements.{All-cons}
 use Rattle.affinity_mask.specs.ProcSet.{has, members, Within}
-use Rattle.link_state.specs.State.{State, IsState, task_on, effective_mask}
-use Rattle.link_state.proofs.Masks.{effective_mask_online, effective_mask_below}
-use Rattle.link_state.proofs.Simple.{IsSimple-cons}
+use Rattle.strong_apa.specs.State.{State, IsState, task_on, effective_mask}
+use Rattle.strong_apa.proofs.Masks.{effective_mask_online, effective_mask_below}
+use Rattle.strong_apa.proofs.Simple.{IsSimple-cons}
 use Rattle.reach_certificate.specs.Search.{IsWay, IsFull}
-use Rattle.certificate_laws.proofs.Counts.{count_below-bound, count_below-one_more, count_below-injection}
+use Rattle.strong_apa.proofs.Counts.{count_below-bound, count_below-one_more, count_below-injection}
 
 -- how many processors a set has
 abbrev pub size_of : ℕ → ℕ

@@ -3,9 +3,9 @@
 -- task is displaced, it is linked itself or not, and each waiting task has a certificate.
 use Rattle.std.specs.Prelude.{◌≡◌, ℕ, ◌≤◌, Bool, true, false, List, ◌==◌, ◌&&◌, ◌||◌}
 use Rattle.std.specs.List.{list_any}
-use Rattle.link_state.specs.State.{State, HasSameTasks, HasSameMasks, priority_of, is_ready, is_linked}
-use Rattle.link_state.specs.Placement.{TaskTest}
-use Rattle.certificate_laws.specs.Certified.{HasCertificates}
+use Rattle.strong_apa.specs.State.{State, HasSameTasks, HasSameMasks, priority_of, is_ready, is_linked}
+use Rattle.strong_apa.specs.Placement.{TaskTest}
+use Rattle.strong_apa.specs.Certified.{HasCertificates}
 
 -- whether a task is in the list
 abbrev pub is_among : List ℕ → TaskTest

@@ -1,7 +1,7 @@
--- Every set of tasks has a best subset. It is the only one: that is a law of link_state.
+-- Every set of tasks has a best subset. It is the only one: that is a law of strong_apa.
 use Rattle.std.specs.Prelude.{◌≡◌, ℕ, ◌<◌, true}
-use Rattle.link_state.specs.State.{State, IsState, task_count}
-use Rattle.link_state.specs.Placement.{TaskTest, IsBest}
+use Rattle.strong_apa.specs.State.{State, IsState, task_count}
+use Rattle.strong_apa.specs.Placement.{TaskTest, IsBest}
 
 -- a set of tasks of a state has a best subset
 abbrev pub BestExists : Type 0

@@ -1,7 +1,7 @@
 -- Contexts that catch up with the links at some processors. Private: contracts of this crate's own functions.
 use Rattle.std.specs.Prelude.{◌≡◌, ℕ, ◌⊎◌, ◌&&◌, not, List, length, get_or, filter, Contains, Option, None}
 use Rattle.std.specs.List.{range_with_len}
-use Rattle.link_state.specs.State.{State, task_on, is_task}
+use Rattle.strong_apa.specs.State.{State, task_on, is_task}
 use Rattle.reach_certificate.specs.Contexts.{ContextsData, context_after_takes, EachBecomes}
 
 -- the processors on which t is taken where the first occupants give way to the second ones

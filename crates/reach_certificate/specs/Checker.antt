@@ -2,8 +2,8 @@
 -- a certificate, and one context for each task.
 use Rattle.std.specs.Prelude.{◌≡◌, ℕ, ◌<◌, List, length, get_or}
 use Rattle.task_set.specs.declared.context.Context.{Context}
-use Rattle.link_state.specs.State.{State, IsState, task_count}
-use Rattle.certificate_laws.specs.Certified.{HasCertificates}
+use Rattle.strong_apa.specs.State.{State, IsState, task_count}
+use Rattle.strong_apa.specs.Certified.{HasCertificates}
 
 -- the links, and the contexts by the numbers of their tasks
 pub record CheckerData : Type 0 where

@@ -1,6 +1,6 @@
 -- What contracts see of the fields of a checker.
 use Rattle.std.specs.Prelude.{◌≡◌}
-use Rattle.link_state.specs.State.{HasSameTasks}
+use Rattle.strong_apa.specs.State.{HasSameTasks}
 use Rattle.reach_certificate.specs.Checker.{CheckerData, IsChecker}
 use Rattle.reach_certificate.specs.declared.checker.Checker.TheInside.{Inside}
 

@@ -4,8 +4,8 @@ use Rattle.std.specs.Prelude.{◌≡◌, ℕ, ◌<◌, List, length, get_or, fol
 use Rattle.task_set.specs.Context.{context_after_take, context_after_run}
 use Rattle.task_set.specs.declared.context.Context.{Context}
 use Rattle.task_set.specs.declared.event.Event.{Event}
-use Rattle.link_state.specs.State.{State}
-use Rattle.link_state.specs.Dispatch.{places_of, taken_between, tick_runs}
+use Rattle.strong_apa.specs.State.{State}
+use Rattle.strong_apa.specs.Dispatch.{places_of, taken_between, tick_runs}
 
 -- the contexts by the numbers of their tasks, and the occupant of each processor when they last followed an entry
 pub record ContextsData : Type 0 where

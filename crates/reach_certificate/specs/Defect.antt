@@ -7,18 +7,18 @@ use Rattle.std.specs.Prelude.{◌≡◌, ◌≢◌, ℕ, ◌+◌, ◌-◌, ◌<�
 use Rattle.affinity_mask.specs.ProcSet.{has, all_below, Within}
 use Rattle.task_set.specs.declared.event.Event.{Event}
 use Rattle.task_set.specs.declared.event.Event.TheVariants.{Arrive, Depart, Tick, Affinity, Offline, Online}
-use Rattle.scheduler_reply.specs.declared.reply.Came.{Came}
-use Rattle.scheduler_reply.specs.declared.reply.Came.TheVariants as came
-use Rattle.scheduler_reply.specs.declared.reply.Gone.{Gone}
-use Rattle.scheduler_reply.specs.declared.reply.Moved.{Moved}
-use Rattle.scheduler_reply.specs.declared.reply.Reply.{Reply}
-use Rattle.scheduler_reply.specs.declared.reply.Reply.TheVariants.{Left, Ticked, AlreadyReady, NotReady, Masked, Remasked, AlreadyOff, AlreadyOn, Off, On}
-use Rattle.scheduler_reply.specs.declared.reply.Entry.{Entry}
-use Rattle.scheduler_reply.specs.Reply.{reply_of_came, reply_of_gone, sets_of}
-use Rattle.link_state.specs.State.{State, effective_mask, task_on, is_ready, is_linked, priority_of, IsIdle, IsWaiting, IsMoreUrgent, state_with_mask, state_with_online, state_with_offline, state_after_leaving}
-use Rattle.link_state.specs.Chain.{CanShift, CanEnterAt}
-use Rattle.link_state.specs.Step.{IsNobodyInto, IsMostUrgentInto}
-use Rattle.link_state.specs.History.{state_after_left}
+use Rattle.strong_apa.specs.declared.reply.Came.{Came}
+use Rattle.strong_apa.specs.declared.reply.Came.TheVariants as came
+use Rattle.strong_apa.specs.declared.reply.Gone.{Gone}
+use Rattle.strong_apa.specs.declared.reply.Moved.{Moved}
+use Rattle.strong_apa.specs.declared.reply.Reply.{Reply}
+use Rattle.strong_apa.specs.declared.reply.Reply.TheVariants.{Left, Ticked, AlreadyReady, NotReady, Masked, Remasked, AlreadyOff, AlreadyOn, Off, On}
+use Rattle.strong_apa.specs.declared.reply.Entry.{Entry}
+use Rattle.strong_apa.specs.Reply.{reply_of_came, reply_of_gone, sets_of}
+use Rattle.strong_apa.specs.State.{State, effective_mask, task_on, is_ready, is_linked, priority_of, IsIdle, IsWaiting, IsMoreUrgent, state_with_mask, state_with_online, state_with_offline, state_after_leaving}
+use Rattle.strong_apa.specs.Chain.{CanShift, CanEnterAt}
+use Rattle.strong_apa.specs.Step.{IsNobodyInto, IsMostUrgentInto}
+use Rattle.strong_apa.specs.History.{state_after_left}
 use Rattle.reach_certificate.specs.declared.defect.Defect.{Defect}
 use Rattle.reach_certificate.specs.declared.defect.Defect.TheVariants.{WrongReply, BadChain, BadSet, WrongTask}
 

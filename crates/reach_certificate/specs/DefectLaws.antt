@@ -3,15 +3,15 @@ use Rattle.std.specs.Prelude.{◌≡◌, ℕ, ◌⊎◌, List, [], ◌∷◌, �
 use Rattle.std.specs.List.{range_with_len}
 use Rattle.task_set.specs.declared.context.Context.{Context}
 use Rattle.task_set.specs.declared.event.Event.{Event}
-use Rattle.scheduler_reply.specs.declared.reply.Reply.{Reply}
-use Rattle.scheduler_reply.specs.declared.reply.Entry.{Entry}
-use Rattle.link_state.specs.State.{State, IsState}
-use Rattle.link_state.specs.Step.{IsEventFor}
-use Rattle.link_state.specs.History.{effect_of, state_after}
-use Rattle.link_state.specs.Dispatch.{context_of}
+use Rattle.strong_apa.specs.declared.reply.Reply.{Reply}
+use Rattle.strong_apa.specs.declared.reply.Entry.{Entry}
+use Rattle.strong_apa.specs.State.{State, IsState}
+use Rattle.strong_apa.specs.Step.{IsEventFor}
+use Rattle.strong_apa.specs.History.{effect_of, state_after}
+use Rattle.strong_apa.specs.Dispatch.{context_of}
 use Rattle.reach_certificate.specs.Contexts.{EachBecomes, context_after_entry}
 use Rattle.reach_certificate.specs.Defect.{IsReplyDefect, IsOfProcessors}
-use Rattle.certificate_laws.specs.Passing.{Passes}
+use Rattle.strong_apa.specs.Passing.{Passes}
 use Rattle.reach_certificate.specs.declared.defect.Defect.{Defect}
 
 -- no reply passes and has a defect

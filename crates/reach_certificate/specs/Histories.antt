@@ -1,11 +1,11 @@
 -- The best set over histories whose replies pass, whoever gave them, and that no waiting task could be shifted in.
 use Rattle.std.specs.Prelude.{List}
 use Rattle.task_set.specs.TaskSet.{SetData, IsTaskSet}
-use Rattle.scheduler_reply.specs.declared.reply.Entry.{Entry}
-use Rattle.link_state.specs.History.{IsBestThroughout}
-use Rattle.certificate_laws.specs.Certified.{IsCertifiedThroughout}
-use Rattle.certificate_laws.specs.Improving.{HasNoImprovingChainThroughout}
-use Rattle.certificate_laws.specs.Passing.{IsPassing}
+use Rattle.strong_apa.specs.declared.reply.Entry.{Entry}
+use Rattle.strong_apa.specs.History.{IsBestThroughout}
+use Rattle.strong_apa.specs.Certified.{IsCertifiedThroughout}
+use Rattle.strong_apa.specs.Improving.{HasNoImprovingChainThroughout}
+use Rattle.strong_apa.specs.Passing.{IsPassing}
 
 -- after every entry of a history whose replies pass each waiting task has a certificate
 abbrev pub PassingHistoryHasCertificates : Type 0

@@ -2,8 +2,8 @@
 -- definitions of defects.
 use Rattle.std.specs.Prelude.{◌≡◌, ℕ, ◌+◌, ◌<◌, List, slice_index, IsTrue, Option, Some, None, MatchOption}
 use Rattle.affinity_mask.specs.ProcSet.{has, Within}
-use Rattle.link_state.specs.State.{State, effective_mask, task_on, IsMoreUrgent}
-use Rattle.link_state.specs.Chain.{CanShift}
+use Rattle.strong_apa.specs.State.{State, effective_mask, task_on, IsMoreUrgent}
+use Rattle.strong_apa.specs.Chain.{CanShift}
 use Rattle.reach_certificate.specs.Defect.{AllFit, IsFirstMisfit, FitsAt, BeginsFor, MovesBack, ReachFits, BackFits, IsNoLessUrgent, processor_count}
 use Rattle.reach_certificate.specs.declared.chain_rule.ChainRule.{ChainRule}
 use Rattle.reach_certificate.specs.declared.chain_rule.ChainRule.TheVariants.{ToIdle, ToOccupied, Back}
@@ -40,7 +40,7 @@ Ends s (ToOccupied t) = λ q. (u : ℕ) × (task_on s q ≡ Some u)
 Ends s (Back place entered) = λ q. Unit {0}
 
 -- the processor at place i begins the chain, or follows the one before it
-pub record GoesOn (s : State) (rule : ChainRule) (chain : List ℕ) (i : ℕ) : Type 0 where
+pub record IsNextInChain (s : State) (rule : ChainRule) (chain : List ℕ) (i : ℕ) : Type 0 where
   pub first : i ≡ 0 → Begins s rule (slice_index chain i)
   pub next : (k : ℕ) → i ≡ k + 1 → Follows s rule (slice_index chain k) (slice_index chain i)
 
@@ -60,14 +60,14 @@ IsSetRuleOf count (HeldOver t out) = (t < count) × (out < count)
 IsSetRuleOf count (LeadsBack place) = place < processor_count
 
 -- u holds its place by the rule
-abbrev pub Holds : State → SetRule → ℕ → Type 0
-Holds s (HeldAgainst t) u = IsMoreUrgent s u t
-Holds s (HeldOver t out) u = IsNoLessUrgent s u out
-Holds s (LeadsBack place) u = Unit {0}
+abbrev pub HoldsItsPlace : State → SetRule → ℕ → Type 0
+HoldsItsPlace s (HeldAgainst t) u = IsMoreUrgent s u t
+HoldsItsPlace s (HeldOver t out) u = IsNoLessUrgent s u out
+HoldsItsPlace s (LeadsBack place) u = Unit {0}
 
 -- the occupant of q may run only within the set, and holds its place there
 abbrev pub IsHeld : State → SetRule → ℕ → ℕ → Type 0
-IsHeld s rule set q = (u : ℕ) × (task_on s q ≡ Some u) × Within (effective_mask s u) set × Holds s rule u
+IsHeld s rule set q = (u : ℕ) × (task_on s q ≡ Some u) × Within (effective_mask s u) set × HoldsItsPlace s rule u
 
 -- the occupant of q may run on a processor of the set
 abbrev pub ShiftsInto : State → ℕ → ℕ → Type 0

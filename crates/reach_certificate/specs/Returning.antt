@@ -1,11 +1,11 @@
 -- A task that leaves and comes back. Private: contracts of this crate's own functions.
 use Rattle.std.specs.Prelude.{◌≡◌, ℕ, true, Option, Some, None}
-use Rattle.scheduler_reply.specs.declared.reply.Came.{Came}
-use Rattle.scheduler_reply.specs.declared.reply.Gone.{Gone}
-use Rattle.scheduler_reply.specs.declared.reply.Moved.{Moved}
-use Rattle.link_state.specs.State.{State, is_linked, IsWaiting, state_with_mask, state_with_offline, state_after_leaving}
-use Rattle.link_state.specs.History.{state_after_left}
-use Rattle.certificate_laws.specs.Passing.{CamePasses, LeavingPasses}
+use Rattle.strong_apa.specs.declared.reply.Came.{Came}
+use Rattle.strong_apa.specs.declared.reply.Gone.{Gone}
+use Rattle.strong_apa.specs.declared.reply.Moved.{Moved}
+use Rattle.strong_apa.specs.State.{State, is_linked, IsWaiting, state_with_mask, state_with_offline, state_after_leaving}
+use Rattle.strong_apa.specs.History.{state_after_left}
+use Rattle.strong_apa.specs.Passing.{CamePasses, LeavingPasses}
 
 -- t is where the reply says that it leaves: it waits, or is linked
 abbrev pub IsLeaving : State → ℕ → Option Gone → Type 0

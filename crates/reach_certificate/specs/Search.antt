@@ -4,8 +4,8 @@
 -- was not visited is occupied, and its occupant may run only within it as well.
 use Rattle.std.specs.Prelude.{◌≡◌, ℕ, ◌+◌, ◌≤◌, false, List, length, reverse, IsTrue, ◌⊎◌, Some, All}
 use Rattle.affinity_mask.specs.ProcSet.{has, members, Within}
-use Rattle.link_state.specs.State.{State, effective_mask, task_on}
-use Rattle.link_state.specs.Chain.{EndsIdle, IsSimple}
+use Rattle.strong_apa.specs.State.{State, effective_mask, task_on}
+use Rattle.strong_apa.specs.Chain.{EndsIdle, IsSimple}
 use Rattle.reach_certificate.specs.declared.search.Found.{Found}
 use Rattle.reach_certificate.specs.declared.search.Found.TheVariants.{Way, Full}
 

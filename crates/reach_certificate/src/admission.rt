@@ -1,9 +1,9 @@
 //! The best set of tasks, found by admitting one task after the other.
 ghost use Rattle.std.specs.Prelude.{◌≡◌, ℕ, ◌<◌, true, false, length, All, AllPairs, IfOk, MatchOption};
-ghost use Rattle.link_state.specs.State.{IsState, task_count, is_ready, start_of, IsMoreUrgent};
-ghost use Rattle.link_state.specs.Placement.{IsSubset, IsBest};
+ghost use Rattle.strong_apa.specs.State.{IsState, task_count, is_ready, start_of, IsMoreUrgent};
+ghost use Rattle.strong_apa.specs.Placement.{IsSubset, IsBest};
 ghost use Rattle.reach_certificate.specs.Admission.{is_among, IsMostUrgentAbsent, Admitted};
-ghost use Rattle.certificate_laws.specs.Certified.{HasCertificates};
+ghost use Rattle.strong_apa.specs.Certified.{HasCertificates};
 
 use crate::search::{Found, find_way};
 use affinity_mask::{OutOfMemory, ProcSet};

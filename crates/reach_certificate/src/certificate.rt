@@ -1,7 +1,7 @@
 //! The test of a certificate.
 ghost use Rattle.std.specs.Prelude.{◌<◌, ◌↔◌, IsTrue};
-ghost use Rattle.link_state.specs.State.{task_count};
-ghost use Rattle.link_state.specs.Certificate.{IsCertificate};
+ghost use Rattle.strong_apa.specs.State.{task_count};
+ghost use Rattle.strong_apa.specs.Certificate.{IsCertificate};
 
 use crate::set_rule::SetRule;
 use affinity_mask::ProcSet;

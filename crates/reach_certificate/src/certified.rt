@@ -1,8 +1,8 @@
 //! The test of a certificate for each waiting task.
 ghost use Rattle.std.specs.Prelude.{◌≡◌, ◌↔◌, length, IsTrue};
-ghost use Rattle.link_state.specs.State.{task_count};
-ghost use Rattle.certificate_laws.specs.Certified.{IsCertifiedBy};
-ghost use Rattle.certificate_laws.specs.Laws.{LinkedIsBest, LinkedIsLargest, LinkedIsAsUrgent};
+ghost use Rattle.strong_apa.specs.State.{task_count};
+ghost use Rattle.strong_apa.specs.Certified.{IsCertifiedBy};
+ghost use Rattle.strong_apa.specs.CertificateLaws.{LinkedIsBest, LinkedIsLargest, LinkedIsAsUrgent};
 
 use crate::is_certificate;
 use affinity_mask::ProcSet;

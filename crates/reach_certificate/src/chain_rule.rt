@@ -1,8 +1,8 @@
 //! The test of a chain.
 ghost use Rattle.std.specs.Prelude.{◌≡◌, ℕ, ◌<◌, ◌↔◌, length, IsTrue};
 ghost use Rattle.affinity_mask.specs.ProcSet.{has};
-ghost use Rattle.link_state.specs.State.{task_count};
-ghost use Rattle.reach_certificate.specs.Judging.{IsFirstMisfitIfAny, IsChainRuleOf, Begins, Follows, Ends, GoesOn, FitsChainRule, ComesBefore};
+ghost use Rattle.strong_apa.specs.State.{task_count};
+ghost use Rattle.reach_certificate.specs.Judging.{IsFirstMisfitIfAny, IsChainRuleOf, Begins, Follows, Ends, IsNextInChain, FitsChainRule, ComesBefore};
 
 use crate::occupants::{can_shift, occupant};
 use affinity_mask::ProcSet;
@@ -59,7 +59,7 @@ impl ChainRule {
     fn goes_on(self, links: &Links, chain: &Chain, i: usize) -> bool
         requires task { IsChainRuleOf (task_count links.now) self }
         requires place { i < length chain.now }
-        ensures { IsTrue result ↔ GoesOn links.now self chain.now i }
+        ensures { IsTrue result ↔ IsNextInChain links.now self chain.now i }
     {
         if i == 0 {
             self.begins(links, chain.at(i))

@@ -5,10 +5,10 @@ ghost use Rattle.std.specs.Prelude.{◌≡◌, ◌<◌, true, false, IfNone, IfS
 ghost use Rattle.affinity_mask.specs.ProcSet.{has};
 ghost use Rattle.task_set.specs.TaskSet.{IsMask};
 ghost use Rattle.task_set.specs.declared.event.Event.TheVariants.{Affinity, Offline, Online};
-ghost use Rattle.scheduler_reply.specs.declared.reply.Reply.TheVariants.{Remasked, Off};
-ghost use Rattle.link_state.specs.State.{HasSameTasks, task_count, task_on};
-ghost use Rattle.link_state.specs.History.{state_after_left, state_after_reply};
-ghost use Rattle.certificate_laws.specs.Passing.{AffinityPasses, LeavingPasses, OfflinePasses, OnlinePasses};
+ghost use Rattle.strong_apa.specs.declared.reply.Reply.TheVariants.{Remasked, Off};
+ghost use Rattle.strong_apa.specs.State.{HasSameTasks, task_count, task_on};
+ghost use Rattle.strong_apa.specs.History.{state_after_left, state_after_reply};
+ghost use Rattle.strong_apa.specs.Passing.{AffinityPasses, LeavingPasses, OfflinePasses, OnlinePasses};
 ghost use Rattle.reach_certificate.specs.Defect.{IsLeavingDefect, IsMovedDefect, IsReplyDefect, IsReturnDefect};
 ghost use Rattle.reach_certificate.specs.Returning.{IsLeaving, ReturnsRightly, MovesRightly};
 
@@ -16,7 +16,7 @@ use crate::defect::Defect;
 use crate::parts::{come, gone_defect, let_in, vacate};
 use affinity_mask::ProcSet;
 use link_table::{Came, Gone, Links, Reply};
-use scheduler_reply::Moved;
+use strong_apa::Moved;
 
 /// The defect of a reply to a change of the mask of a task.
 pub fn follow_affinity(

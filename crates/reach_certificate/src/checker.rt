@@ -2,14 +2,14 @@
 ghost use Rattle.std.specs.Prelude.{◌≡◌, ℕ, ◌<◌, map, Err, IsOk, IfOk, IfErr, OnOk, OnErr, slice_get, Some};
 ghost use Rattle.std.specs.List.{range_with_len};
 ghost use Rattle.task_set.specs.Context.{fresh_context};
-ghost use Rattle.link_state.specs.State.{State, IsState, start_of, task_count};
-ghost use Rattle.link_state.specs.Step.{IsEventFor, SchedulerStep};
-ghost use Rattle.link_state.specs.History.{effect_of};
+ghost use Rattle.strong_apa.specs.State.{State, IsState, start_of, task_count};
+ghost use Rattle.strong_apa.specs.Step.{IsEventFor, SchedulerStep};
+ghost use Rattle.strong_apa.specs.History.{effect_of};
 ghost use Rattle.reach_certificate.specs.Checker.{IsChecker};
 ghost use Rattle.reach_certificate.specs.Contexts.{EachBecomes, context_after_entry};
 ghost use Rattle.reach_certificate.specs.Defect.{IsDefect};
-ghost use Rattle.certificate_laws.specs.Laws.{LinkedIsBest};
-ghost use Rattle.certificate_laws.specs.Passing.{Passes};
+ghost use Rattle.strong_apa.specs.CertificateLaws.{LinkedIsBest};
+ghost use Rattle.strong_apa.specs.Passing.{Passes};
 ghost use Rattle.reach_certificate.specs.declared.defect.Defect.{Defect};
 
 use crate::contexts::Contexts;

@@ -4,11 +4,11 @@ ghost use Rattle.std.specs.Option.{ForSome};
 ghost use Rattle.std.specs.List.{range_with_len};
 ghost use Rattle.task_set.specs.Context.{fresh_context, context_after_take, context_after_run};
 ghost use Rattle.task_set.specs.declared.event.Event.{Event};
-ghost use Rattle.scheduler_reply.specs.Reply.{chain_of};
-ghost use Rattle.link_state.specs.State.{State, IsState, task_count, is_task};
-ghost use Rattle.link_state.specs.Dispatch.{places_of, tick_runs};
-ghost use Rattle.link_state.specs.History.{effect_of};
-ghost use Rattle.certificate_laws.specs.Passing.{Passes};
+ghost use Rattle.strong_apa.specs.Reply.{chain_of};
+ghost use Rattle.strong_apa.specs.State.{State, IsState, task_count, is_task};
+ghost use Rattle.strong_apa.specs.Dispatch.{places_of, tick_runs};
+ghost use Rattle.strong_apa.specs.History.{effect_of};
+ghost use Rattle.strong_apa.specs.Passing.{Passes};
 ghost use Rattle.reach_certificate.specs.CaughtUp.{HaveCaughtUp};
 ghost use Rattle.reach_certificate.specs.Contexts.{context_after_all_runs, EachBecomes, HaveFollowed};
 
@@ -158,11 +158,11 @@ fn take_occupant(contexts: &mut Vec<Context>, p: u8, linked: Option<u32>)
     }
 }
 
-/// Each linked task runs this many units.
-fn run_linked(contexts: &mut Vec<Context>, links: &Links, units: u32)
-    requires { vec_len contexts.old ≡ task_count links.now }
+/// Each linked task runs this many units. The contexts are borrowed as a slice, and so not found anew for each processor.
+fn run_linked(contexts: &mut [Context], links: &Links, units: u32)
+    requires { length contexts.old ≡ task_count links.now }
     ensures { EachBecomes (λ t c. context_after_all_runs c (tick_runs (Event.Tick units) (places_of links.now t)))
-        contexts.old.items contexts.new.items }
+        contexts.old contexts.new }
 {
     for p in 0..links.processors() {
         run_occupant(contexts, p, links.on(p), units);
@@ -170,11 +170,11 @@ fn run_linked(contexts: &mut Vec<Context>, links: &Links, units: u32)
 }
 
 /// The occupant of a processor, if there is one, runs this many units.
-fn run_occupant(contexts: &mut Vec<Context>, p: u8, linked: Option<u32>, units: u32)
+fn run_occupant(contexts: &mut [Context], p: u8, linked: Option<u32>, units: u32)
     requires processor { p < 64 }
-    requires known { ForSome linked (λ t. t < vec_len contexts.old) }
+    requires known { ForSome linked (λ t. t < length contexts.old) }
     ensures { EachBecomes (λ t c. if is_task t linked then context_after_run c p units else c)
-        contexts.old.items contexts.new.items }
+        contexts.old contexts.new }
 {
     if let Some(task) = linked {
         contexts[task as usize].ran(p, units);

@@ -1,10 +1,10 @@
 //! The judgement of an entry, which follows it where its reply passes.
 ghost use Rattle.std.specs.Prelude.{◌≡◌, ◌<◌, IfNone, IfSome, MatchOption};
 ghost use Rattle.task_set.specs.declared.event.Event.TheVariants.{Arrive, Depart};
-ghost use Rattle.link_state.specs.State.{HasSameTasks, task_count};
-ghost use Rattle.link_state.specs.Step.{IsEventFor};
-ghost use Rattle.link_state.specs.History.{effect_of, state_after_reply};
-ghost use Rattle.certificate_laws.specs.Passing.{Passes, ArrivalPasses, DeparturePasses};
+ghost use Rattle.strong_apa.specs.State.{HasSameTasks, task_count};
+ghost use Rattle.strong_apa.specs.Step.{IsEventFor};
+ghost use Rattle.strong_apa.specs.History.{effect_of, state_after_reply};
+ghost use Rattle.strong_apa.specs.Passing.{Passes, ArrivalPasses, DeparturePasses};
 ghost use Rattle.reach_certificate.specs.Defect.{IsDefect, IsReplyDefect};
 
 use crate::change::{follow_affinity, follow_offline, follow_online};

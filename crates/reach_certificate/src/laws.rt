@@ -1,8 +1,8 @@
 //! What holds of replies and of their defects, of each state whose waiting tasks all have a certificate, and of each history
 //! whose replies pass, whatever program judges them. Each law is the contract of a function that does nothing: a caller in a
 //! proof gets the law by its clause.
-ghost use Rattle.certificate_laws.specs.Improving.{HasNoImprovingChain};
-ghost use Rattle.certificate_laws.specs.Laws.{HoldsWhereCertified, LinkedIsBest, LinkedIsOnlyBest, LinkedIsLargest, LinkedKeepsUp, LinkedIsAsUrgent};
+ghost use Rattle.strong_apa.specs.Improving.{HasNoImprovingChain};
+ghost use Rattle.strong_apa.specs.CertificateLaws.{HoldsWhereCertified, LinkedIsBest, LinkedIsOnlyBest, LinkedIsLargest, LinkedKeepsUp, LinkedIsAsUrgent};
 ghost use Rattle.reach_certificate.specs.Best.{BestExists};
 ghost use Rattle.reach_certificate.specs.DefectLaws.{PassesOrHasDefect, PassingHasNoDefect, DefectIsUnique, ContextsFollow};
 ghost use Rattle.reach_certificate.specs.Histories.{PassingHistoryHasCertificates, PassingHistoryIsBest, PassingHistoryHasNoImprovingChain};
@@ -29,7 +29,7 @@ pub fn contexts_follow()
 {}
 
 /// Every set of tasks of a state, whatever its masks and the processors on line, has a best placeable subset. That it has
-/// no other is `best_is_unique` of link_state.
+/// no other is `best_is_unique` of strong_apa.
 pub fn best_exists()
     ensures { BestExists }
 {}

@@ -1,7 +1,7 @@
 //! Who is on a processor, whether the machine has it or not.
 ghost use Rattle.std.specs.Prelude.{◌≡◌, ◌<◌, ◌↔◌, IsTrue};
-ghost use Rattle.link_state.specs.State.{IsState, task_on};
-ghost use Rattle.link_state.specs.Chain.{CanShift};
+ghost use Rattle.strong_apa.specs.State.{IsState, task_on};
+ghost use Rattle.strong_apa.specs.Chain.{CanShift};
 
 use link_table::Links;
 

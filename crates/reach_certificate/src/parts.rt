@@ -2,12 +2,12 @@
 //! the links.
 ghost use Rattle.std.specs.Prelude.{◌≡◌, ◌≢◌, ◌↔◌, ℕ, ◌<◌, [], ◌∷◌, true, false, IsTrue, IfNone, IfSome, Some, MatchOption};
 ghost use Rattle.affinity_mask.specs.ProcSet.{has};
-ghost use Rattle.scheduler_reply.specs.declared.reply.Came.TheVariants as came;
-ghost use Rattle.link_state.specs.State.{IsMoreUrgent, is_ready, is_linked, task_count, task_on, effective_mask, state_with_ready, state_after_leaving};
-ghost use Rattle.link_state.specs.Chain.{IsChainOf, IsSimple, state_after_shift};
-ghost use Rattle.link_state.specs.Certificate.{IsCertificate};
-ghost use Rattle.link_state.specs.History.{state_after_came, state_after_gone, state_after_left};
-ghost use Rattle.certificate_laws.specs.Passing.{CamePasses, GonePasses, LeavingPasses, PlacedPasses, DisplacedPasses};
+ghost use Rattle.strong_apa.specs.declared.reply.Came.TheVariants as came;
+ghost use Rattle.strong_apa.specs.State.{IsMoreUrgent, is_ready, is_linked, task_count, task_on, effective_mask, state_with_ready, state_after_leaving};
+ghost use Rattle.strong_apa.specs.Chain.{IsChainOf, IsSimple, state_after_shift};
+ghost use Rattle.strong_apa.specs.Certificate.{IsCertificate};
+ghost use Rattle.strong_apa.specs.History.{state_after_came, state_after_gone, state_after_left};
+ghost use Rattle.strong_apa.specs.Passing.{CamePasses, GonePasses, LeavingPasses, PlacedPasses, DisplacedPasses};
 ghost use Rattle.reach_certificate.specs.Defect.{IsCameDefect, IsGoneDefect, IsVacatedDefect, last_processor};
 
 use crate::chain_rule::ChainRule;

@@ -1,6 +1,6 @@
 //! The search for an idle processor.
 ghost use Rattle.std.specs.Prelude.{◌<◌};
-ghost use Rattle.link_state.specs.State.{task_count};
+ghost use Rattle.strong_apa.specs.State.{task_count};
 ghost use Rattle.reach_certificate.specs.Search.{IsSearched};
 
 use affinity_mask::ProcSet;

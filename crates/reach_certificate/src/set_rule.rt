@@ -1,8 +1,8 @@
 //! The test of a set.
 ghost use Rattle.std.specs.Prelude.{◌≡◌, ℕ, ◌<◌, ◌↔◌, IsTrue, false};
 ghost use Rattle.affinity_mask.specs.ProcSet.{has, all_below, Within};
-ghost use Rattle.link_state.specs.State.{task_count};
-ghost use Rattle.reach_certificate.specs.Judging.{IsFirstMisfitIfAny, IsSetRuleOf, FitsSetRule, IsHeld, Holds, ShiftsInto};
+ghost use Rattle.strong_apa.specs.State.{task_count};
+ghost use Rattle.reach_certificate.specs.Judging.{IsFirstMisfitIfAny, IsSetRuleOf, FitsSetRule, IsHeld, HoldsItsPlace, ShiftsInto};
 
 use crate::occupants::occupant;
 use affinity_mask::ProcSet;
@@ -25,7 +25,9 @@ pub enum SetRule {
 }
 
 impl SetRule {
-    /// The least processor that does not fit a set.
+    /// The least processor that does not fit a set. Each caller names the rule, so this is laid into it with the calls
+    /// below, and does not ask at each processor which rule it is.
+    #[inline(always)]
     pub fn first_misfit(self, links: &Links, set: ProcSet) -> Option<u8>
         requires { IsSetRuleOf (task_count links.now) self }
         ensures test { IsFirstMisfitIfAny (FitsSetRule links.now self set) 64 result }
@@ -61,6 +63,7 @@ impl SetRule {
     }
 
     /// Whether q fits a set.
+    #[inline(always)]
     fn fits(self, links: &Links, set: ProcSet, q: u8) -> bool
         requires tasks { IsSetRuleOf (task_count links.now) self }
         requires processor { q < 64 }
@@ -85,6 +88,7 @@ impl SetRule {
     }
 
     /// Whether the occupant of q may run only within the set, and holds its place there.
+    #[inline(always)]
     fn is_held(self, links: &Links, set: ProcSet, q: u8) -> bool
         requires tasks { IsSetRuleOf (task_count links.now) self }
         ensures { IsTrue result ↔ IsHeld links.now self set q }
@@ -99,7 +103,7 @@ impl SetRule {
     fn holds(self, links: &Links, u: u32) -> bool
         requires tasks { IsSetRuleOf (task_count links.now) self }
         requires occupant { u < task_count links.now }
-        ensures { IsTrue result ↔ Holds links.now self u }
+        ensures { IsTrue result ↔ HoldsItsPlace links.now self u }
     {
         match self {
             SetRule::HeldAgainst(t) => links.is_more_urgent(u, t),

@@ -5,12 +5,12 @@ use Rattle.task_set.specs.TaskSet.{IsTaskSet}
 use Rattle.task_set.specs.Orders.{Stint, stints_in}
 use Rattle.task_set.specs.Context.{carried_context}
 use Rattle.task_set.specs.declared.context.Context.{Context}
-use Rattle.link_state.specs.State.{start_of}
-use Rattle.link_state.specs.History.{IsLegal}
-use Rattle.link_state.specs.Dispatch.{closed_orders_of, context_of, contexts_of}
-use Rattle.scheduler_reply.specs.declared.reply.Entry.{Entry}
-use Rattle.order_laws.specs.StintLaw.{stints_of_history}
-use Rattle.order_laws.proofs.CarriedThroughout.{stints_give_context}
+use Rattle.strong_apa.specs.State.{start_of}
+use Rattle.strong_apa.specs.History.{IsLegal}
+use Rattle.strong_apa.specs.Dispatch.{closed_orders_of, context_of, contexts_of}
+use Rattle.strong_apa.specs.declared.reply.Entry.{Entry}
+use Rattle.history_laws.specs.StintLaw.{stints_of_history}
+use Rattle.history_laws.proofs.CarriedThroughout.{stints_give_context}
 use Rattle.context_slots.specs.Carried.{AllCarried}
 use Rattle.context_slots.specs.Hands.{SlotsData, HandData, AreFreeFrom, all_ended}
 use Rattle.replay.specs.Places.{AllFrom}

@@ -4,9 +4,9 @@ use Rattle.std.specs.List.{range_with_len}
 use Rattle.std.proofs.lemmas.List.FromFn.{get_or-map-range_with_len, length-map-range_with_len}
 use Rattle.task_set.specs.TaskSet.{SetData}
 use Rattle.task_set.specs.declared.context.Context.{Context}
-use Rattle.scheduler_reply.specs.declared.reply.Entry.{Entry}
-use Rattle.link_state.specs.State.{start_of}
-use Rattle.link_state.specs.Dispatch.{context_of}
+use Rattle.strong_apa.specs.declared.reply.Entry.{Entry}
+use Rattle.strong_apa.specs.State.{start_of}
+use Rattle.strong_apa.specs.Dispatch.{context_of}
 
 pub contexts_count : (set : SetData) (entries : List Entry) (contexts : List Context) (n : ℕ) → contexts ≡ map (context_of (start_of set) entries) (range_with_len 0 n) → length contexts ≡ n
 contexts_count set entries contexts n each = ap length each ∙ length-map-range_with_len (context_of (start_of set) entries) 0 n

@@ -6,7 +6,9 @@ pub mod MergeLaws
 pub mod Passes
 pub mod Places
 pub mod Replayed
+pub mod Rooms
 pub mod Seats
+pub mod Sharing
 pub mod Sightings
 pub mod Streams
 pub mod Threading

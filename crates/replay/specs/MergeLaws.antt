@@ -1,6 +1,6 @@
 -- The laws about merges.
 use Rattle.std.specs.Prelude.{◌≡◌, ℕ, ◌<◌, List, length, map, All}
-use Rattle.scheduler_reply.specs.declared.reply.Entry.{Entry}
+use Rattle.strong_apa.specs.declared.reply.Entry.{Entry}
 use Rattle.trace_reader.specs.declared.posted.Posted.{Posted}
 use Rattle.replay.specs.Merge.{posted_of, IsMerge}
 

@@ -1,7 +1,7 @@
 -- The passes of a board while one caller uses them all, and publishes what the pass of caller 0 has seen.
 use Rattle.std.specs.Prelude.{◌≡◌, true, List, [], ◌∷◌}
 use mathlib.Core.List.{IsPrefix}
-use Rattle.scheduler_reply.specs.declared.reply.Entry.{Entry}
+use Rattle.strong_apa.specs.declared.reply.Entry.{Entry}
 use Rattle.order_queues.specs.Ends.{QueueData}
 use Rattle.event_history.specs.Boards.{AreEyesOf, Grown, PassData}
 

@@ -3,10 +3,10 @@
 use Rattle.std.specs.Prelude.{◌≡◌, ℕ, true, None, List, length}
 use Rattle.task_set.specs.TaskSet.{SetData}
 use Rattle.task_set.specs.Orders.{stints_in}
-use Rattle.link_state.specs.State.{start_of}
-use Rattle.link_state.specs.History.{IsLegal}
-use Rattle.link_state.specs.Dispatch.{closed_orders_of}
-use Rattle.scheduler_reply.specs.declared.reply.Entry.{Entry}
+use Rattle.strong_apa.specs.State.{start_of}
+use Rattle.strong_apa.specs.History.{IsLegal}
+use Rattle.strong_apa.specs.Dispatch.{closed_orders_of}
+use Rattle.strong_apa.specs.declared.reply.Entry.{Entry}
 use Rattle.trace_reader.specs.declared.posted.Posted.{Posted}
 use Rattle.sched_core.specs.CoreData.{CoreData}
 use Rattle.context_slots.specs.Hands.{SlotsData, HandData}

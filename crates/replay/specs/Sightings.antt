@@ -1,7 +1,7 @@
 -- What observers of a replay saw of its history.
 use Rattle.std.specs.Prelude.{◌≤◌, List, take}
 use Rattle.task_set.specs.TaskSet.{SetData}
-use Rattle.scheduler_reply.specs.declared.reply.Entry.{Entry}
+use Rattle.strong_apa.specs.declared.reply.Entry.{Entry}
 use Rattle.schedule_board.specs.Pictures.{IsPictureOf}
 use Rattle.replay.specs.declared.sighting.Sighting.{Sighting}
 

@@ -2,9 +2,9 @@
 use Rattle.std.specs.Prelude.{◌≡◌, ℕ, List, Result, IfSome, MatchResult}
 use Rattle.core.specs.declared.thread.PromisedHandle.{PromisedHandle}
 use mathlib.Core.List.{IsPrefix}
-use Rattle.scheduler_reply.specs.declared.reply.Entry.{Entry}
+use Rattle.strong_apa.specs.declared.reply.Entry.{Entry}
 use Rattle.schedule_board.specs.declared.picture.Picture.{Picture}
-use Rattle.schedule_board.specs.Boards.{BoardData, board_at, seen}
+use Rattle.schedule_board.specs.Boards.{PictureBoardData, board_at, seen}
 use Rattle.schedule_board.specs.Pictures.{IsPictureOf}
 use Rattle.replay.specs.declared.observing.Reads.{Reads}
 use Rattle.replay.specs.declared.observing.Watch.{Watch}
@@ -25,17 +25,17 @@ abbrev pub AreReadsOf : ℕ → List Entry → Reads → Type 0
 AreReadsOf m entries reads = ArePicturesOf m entries reads.first reads.last
 
 -- an observer of this board, which read what it has seen of it, unless it has not read yet
-pub record IsWatchOf (of : BoardData) (watch : Watch) : Type 0 where
+pub record IsWatchOf (of : PictureBoardData) (watch : Watch) : Type 0 where
   pub board : board_at watch.observer ≡ of
   pub reads : IfSome watch.reads (AreReadsOf of.processors (seen watch.observer))
 
 -- an observer of this board, which read what it has seen of it
-pub record IsObservedOf (of : BoardData) (observed : Observed) : Type 0 where
+pub record IsObservedOf (of : PictureBoardData) (observed : Observed) : Type 0 where
   pub board : board_at observed.observer ≡ of
   pub reads : AreReadsOf of.processors (seen observed.observer) observed.reads
 
 -- a thread that gives an observer of this board back; or one that came back at once
-abbrev pub IsWatcherOf : BoardData → Result (PromisedHandle Watch WatchOf) Watch → Type 0
+abbrev pub IsWatcherOf : PictureBoardData → Result (PromisedHandle Watch WatchOf) Watch → Type 0
 IsWatcherOf of watcher = MatchResult watcher (λ h. board_at h.promise.observer.value ≡ of) (IsWatchOf of)
 
 -- what was seen in the end begins with these entries, and the two reads before are of prefixes of it

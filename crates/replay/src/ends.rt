@@ -2,8 +2,8 @@
 ghost use Rattle.std.specs.Prelude.{◌≡◌, ◌≤◌, [], length, map, true, vec_capacity};
 ghost use mathlib.Core.List.{IsPrefix};
 ghost use Rattle.task_set.specs.Orders.{has_stop};
-ghost use Rattle.link_state.specs.State.{start_of};
-ghost use Rattle.link_state.specs.Dispatch.{closed_orders_of};
+ghost use Rattle.strong_apa.specs.State.{start_of};
+ghost use Rattle.strong_apa.specs.Dispatch.{closed_orders_of};
 ghost use Rattle.sched_core.specs.CoreData.{core_orders};
 ghost use Rattle.event_history.specs.Holdings.{SentBegins, queues_of};
 ghost use Rattle.processor_seat.specs.Stepping.{IsInStep};

@@ -4,7 +4,7 @@
 //! started, it comes back at once, and the caller lets it read after the posts.
 ghost use Rattle.std.specs.Prelude.{◌≡◌, ◌≤◌, [], All, length, vec_capacity, MatchResult};
 ghost use mathlib.Core.List.{IsPrefix};
-ghost use Rattle.schedule_board.specs.Boards.{board_at, seen, BoardData};
+ghost use Rattle.schedule_board.specs.Boards.{board_at, seen, PictureBoardData};
 ghost use Rattle.schedule_board.specs.Pictures.{IsPictureOf};
 ghost use Rattle.replay.specs.Watches.{AreReadsOf, IsWatchOf, IsWatcherOf, IsObservedOf};
 
@@ -142,7 +142,7 @@ pub fn start_all<'s, E, R: Threads + Wait + Sync, G: Gate + Sync>(
     requires few { length observers.items ≤ 8 }
     requires room { (watchers.items ≡ []) × (length observers.items ≤ vec_capacity watchers) }
     ensures count { length result.items ≡ length observers.items }
-    ensures each { (of : BoardData) → All (λ (o : Observer). board_at o ≡ of) observers.items
+    ensures each { (of : PictureBoardData) → All (λ (o : Observer). board_at o ≡ of) observers.items
         → All (IsWatcherOf of) result.items }
 {
     while let Some(observer) = observers.pop() {
@@ -155,7 +155,7 @@ pub fn start_all<'s, E, R: Threads + Wait + Sync, G: Gate + Sync>(
 
 /// Joins an observer's thread. An observer that has not read yet reads now.
 fn join<R: Threads + Wait, G: Gate>(rt: &R, gate: &G, who: u32, watcher: Watcher) -> Observed
-    ensures { (of : BoardData) → IsWatcherOf of watcher → IsObservedOf of result }
+    ensures { (of : PictureBoardData) → IsWatcherOf of watcher → IsObservedOf of result }
 {
     let Watch {
         mut observer,
@@ -181,7 +181,7 @@ pub fn join_all<R: Threads + Wait, G: Gate>(
     requires few { length watchers.items ≤ 8 }
     requires room { (observed.items ≡ []) × (length watchers.items ≤ vec_capacity observed) }
     ensures count { length result.items ≡ length watchers.items }
-    ensures each { (of : BoardData) → All (IsWatcherOf of) watchers.items
+    ensures each { (of : PictureBoardData) → All (IsWatcherOf of) watchers.items
         → All (IsObservedOf of) result.items }
 {
     while let Some(watcher) = watchers.pop() {

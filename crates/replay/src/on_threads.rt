@@ -1,19 +1,20 @@
 //! The replay of events on threads: a worker for each processor, and a thread for each stream that has events.
 ghost use Rattle.std.specs.Prelude.{◌≡◌, ◌≤◌, [], All, Bool, true, length, map, vec_capacity, IfOk};
-ghost use Rattle.event_history.specs.Boards.{AreAll, AreEyesOf, AreFor, Grown, IsMade};
+ghost use Rattle.event_history.specs.Boards.{AreAll, AreEyesOf, Grown};
 ghost use Rattle.event_history.specs.Closing.{AllTell, AreSendersOf, IsCoreOf};
 ghost use Rattle.replay.specs.Driving.{IsDone, seat_of};
 ghost use Rattle.replay.specs.Places.{AllFrom};
 ghost use Rattle.replay.specs.Replayed.{HaveAllStints, IsReplayOf};
-ghost use Rattle.replay.specs.Seats.{AreIdle, HasStoppedAt, IsSeated};
+ghost use Rattle.replay.specs.Seats.{AreIdle, IsSeated};
+ghost use Rattle.replay.specs.Sharing.{IsShared};
 ghost use Rattle.replay.specs.Streams.{IsForBoard, IsStreamedAt, IsUnused, SomeSawClose};
-ghost use Rattle.replay.specs.Threading.{AreThreaded, CanRun};
+ghost use Rattle.replay.specs.Threading.{AreThreaded, CanRun, CanStart};
 
 use crate::driving::drive;
 use crate::ends::end_all;
 use crate::flushing::flush_all;
-use crate::streams::Stream;
-use crate::workers::Worker;
+use crate::rooms::{Rooms, flags_and_hands, make_rooms};
+use crate::shared::Shared;
 use crate::{streams, workers};
 use affinity_mask::OutOfMemory;
 use context_slots::{Hand, Slots};
@@ -24,7 +25,6 @@ use processor_seat::{Gate, Processor};
 use sched_core::Core;
 use std::alloc::Global;
 use std::sync::Wait;
-use std::sync::atomic::AtomicBool;
 use std::thread;
 use std::thread::{Scope, Threads};
 use trace_reader::Posted;
@@ -47,139 +47,94 @@ pub struct Threaded {
 
 /// Closes the core with this pass. What is owed is sent, and the processors that have no thread are stepped.
 pub fn close_core<R: Wait, G: Gate>(
-    rt: &R,
-    board: &Board,
-    queues: &[Queue],
-    slots: &Slots,
-    gate: &G,
+    shared: &Shared<R, G>,
     pass: &mut Pass,
     left: &mut Vec<Processor>,
 )
-    requires board { pass.old.board ≡ board.now.id }
-    requires queues { queues.now ≡ board.now.queues }
-    requires eyes { AreEyesOf board.now.queues pass.old.eyes }
-    requires tasks { AreFor slots.now.set queues.now }
-    requires seated { All (IsSeated queues.now slots.now) left.old.items }
+    requires shared { IsShared shared.now }
+    requires board { pass.old.board ≡ shared.now.board.now.id }
+    requires eyes { AreEyesOf shared.now.board.now.queues pass.old.eyes }
+    requires seated { All (IsSeated shared.now.queues.now shared.now.slots.now) left.old.items }
     ensures grown { Grown pass.old pass.new }
     ensures mine { pass.new.mine ≡ pass.old.mine }
-    ensures eyes { AreEyesOf board.now.queues pass.new.eyes }
+    ensures eyes { AreEyesOf shared.now.board.now.queues pass.new.eyes }
     ensures closed { pass.new.saw_close ≡ true }
     ensures same { map seat_of left.new.items ≡ map seat_of left.old.items }
-    ensures done { All (IsDone queues.now slots.now) left.new.items }
+    ensures done { All (IsDone shared.now.queues.now shared.now.slots.now) left.new.items }
 {
-    board.finish(rt, pass);
-    drive(rt, board, pass, queues, slots, left, gate);
-    flush_all(rt, board, queues, pass);
+    let Shared {
+        rt,
+        board,
+        queues,
+        slots,
+        gate,
+        ..
+    } = shared;
+    board.finish(*rt, pass);
+    drive(*rt, board, pass, queues, slots, left, *gate);
+    flush_all(*rt, board, queues, pass);
 }
 
 /// The pass of the last caller closes the core; the passes come back in their order.
 fn close_by_last<R: Wait, G: Gate>(
-    rt: &R,
-    board: &Board,
-    queues: &[Queue],
-    events: &[Posted],
-    slots: &Slots,
-    gate: &G,
+    shared: &Shared<R, G>,
     passes: &mut Vec<Pass>,
     whole: bool,
     left: &mut Vec<Processor>,
 )
-    requires queues { queues.now ≡ board.now.queues }
-    requires tasks { AreFor slots.now.set queues.now }
-    requires callers { (1 ≤ board.now.callers) × (length passes.old.items ≡ board.now.callers) }
-    requires streamed { AllFrom (IsStreamedAt board.now events.now whole) 0 passes.old.items }
-    requires seated { All (IsSeated queues.now slots.now) left.old.items }
-    ensures callers { length passes.new.items ≡ board.now.callers }
-    ensures streamed { AllFrom (IsStreamedAt board.now events.now whole) 0 passes.new.items }
+    requires shared { IsShared shared.now }
+    requires callers { (1 ≤ shared.now.board.now.callers)
+        × (length passes.old.items ≡ shared.now.board.now.callers) }
+    requires streamed { AllFrom (IsStreamedAt shared.now.board.now shared.now.events.now whole)
+        0 passes.old.items }
+    requires seated { All (IsSeated shared.now.queues.now shared.now.slots.now) left.old.items }
+    ensures callers { length passes.new.items ≡ shared.now.board.now.callers }
+    ensures streamed { AllFrom (IsStreamedAt shared.now.board.now shared.now.events.now whole)
+        0 passes.new.items }
     ensures closed { SomeSawClose passes.new.items }
     ensures same { map seat_of left.new.items ≡ map seat_of left.old.items }
-    ensures done { All (IsDone queues.now slots.now) left.new.items }
+    ensures done { All (IsDone shared.now.queues.now shared.now.slots.now) left.new.items }
 {
     let Some(mut last) = passes.pop() else {
         unreachable!()
     };
-    close_core(rt, board, queues, slots, gate, &mut last, left);
+    close_core(shared, &mut last, left);
     if let Err(_full) = passes.push(last) {
         unreachable!()
     }
 }
 
-/// Room for the threads and for what they leave.
-#[derive(Drop)]
-struct Rooms<'s> {
-    started: Vec<Worker<'s>>,
-    left: Vec<Processor>,
-    posting: Vec<Stream<'s>>,
-    posted: Vec<Pass>,
-    stopped: Vec<Processor>,
-}
-
-/// Room for so many workers and streams.
-fn make_rooms<'s>(alloc: Global, workers: usize, streams: usize) -> Result<Rooms<'s>, OutOfMemory>
-    ensures started { IfOk result (λ rooms. (rooms.started.items ≡ [])
-        × (workers ≤ vec_capacity rooms.started)) }
-    ensures left { IfOk result (λ rooms. (rooms.left.items ≡ [])
-        × (workers ≤ vec_capacity rooms.left)) }
-    ensures posting { IfOk result (λ rooms. (rooms.posting.items ≡ [])
-        × (streams ≤ vec_capacity rooms.posting)) }
-    ensures posted { IfOk result (λ rooms. (rooms.posted.items ≡ [])
-        × (streams ≤ vec_capacity rooms.posted)) }
-    ensures stopped { IfOk result (λ rooms. (rooms.stopped.items ≡ [])
-        × (workers ≤ vec_capacity rooms.stopped)) }
-{
-    Ok(Rooms {
-        started: Vec::with_capacity(alloc, workers)?,
-        left: Vec::with_capacity(alloc, workers)?,
-        posting: Vec::with_capacity(alloc, streams)?,
-        posted: Vec::with_capacity(alloc, streams)?,
-        stopped: Vec::with_capacity(alloc, workers)?,
-    })
-}
-
 /// Starts all threads, closes the core once the streams are joined, and joins the workers. The streams are started first:
 /// they post while the workers are started, and none of them waits for a worker. All memory of the joins is taken before
 /// the first start, since a worker that was started waits for its `Stop`.
-fn run_threads<'s, E, R: Threads + Wait + Sync, G: Gate + Sync>(
+fn run_threads<'s, 'a: 's, 'b: 's, E, R: Threads + Wait + Sync, G: Gate + Sync>(
     scope: &Scope<'s, E>,
-    rt: &'s R,
-    alloc: Global,
-    board: &'s Board,
-    queues: &'s [Queue],
-    slots: &'s Slots,
-    events: &'s [Posted],
-    refused: &'s [AtomicBool],
-    gate: &'s G,
+    shared: &Shared<'a, 'b, R, G>,
     passes: Vec<Pass>,
     processors: Vec<Processor>,
 ) -> Result<Threaded, OutOfMemory>
-    requires run { CanRun board.now queues.now slots.now events.now passes.items processors.items }
-    requires flags { length refused.now ≡ length queues.now }
-    ensures { IfOk result (AreThreaded board.entry.now events.entry.now queues.entry.now slots.entry.now) }
+    requires run { CanRun shared.now passes.items processors.items }
+    ensures { IfOk result (AreThreaded shared.entry.now.board.now shared.entry.now.events.now
+        shared.entry.now.queues.now shared.entry.now.slots.now) }
 {
     let Rooms {
-        started,
+        workers,
         left,
-        posting,
-        posted,
         stopped,
-    } = make_rooms(alloc, queues.len(), passes.len())?;
-    let posting = streams::start_all(scope, rt, board, queues, events, gate, passes, posting);
-    let (started, mut left) = workers::start_all(
-        scope, rt, queues, slots, gate, refused, processors, started, left,
+        others,
+        back,
+    } = make_rooms(shared.alloc, shared.queues.len(), passes.len())?;
+    let posting = streams::start_all(scope, shared, passes, others);
+    let (workers, mut left) = workers::start_all(scope, shared, processors, workers, left);
+    let (mut passes, whole) = streams::join_all(
+        shared.rt,
+        shared.board,
+        shared.events,
+        posting,
+        back,
     );
-    let (mut passes, whole) = streams::join_all(rt, board, events, posting, posted);
-    close_by_last(
-        rt,
-        board,
-        queues,
-        events,
-        slots,
-        gate,
-        &mut passes,
-        whole,
-        &mut left,
-    );
-    let processors = workers::join_all(rt, queues, slots, gate, started, left, stopped);
+    close_by_last(shared, &mut passes, whole, &mut left);
+    let processors = workers::join_all(shared, workers, left, stopped);
     Ok(Threaded {
         passes,
         whole,
@@ -187,70 +142,54 @@ fn run_threads<'s, E, R: Threads + Wait + Sync, G: Gate + Sync>(
     })
 }
 
-/// Runs the threads in a scope of their own.
+/// Runs the threads in a scope of their own. The closure takes what is shared apart and puts it together again: of a
+/// closure that has it as one reference the scope's caller learns nothing.
 fn in_threads<R: Threads + Wait + Sync, G: Gate + Sync>(
-    rt: &R,
-    alloc: Global,
-    board: &Board,
-    queues: &[Queue],
-    slots: &Slots,
-    events: &[Posted],
-    refused: &[AtomicBool],
-    gate: &G,
+    shared: &Shared<R, G>,
     passes: Vec<Pass>,
     processors: Vec<Processor>,
 ) -> Result<Threaded, OutOfMemory>
-    requires run { CanRun board.now queues.now slots.now events.now passes.items processors.items }
-    requires flags { length refused.now ≡ length queues.now }
-    ensures { IfOk result (AreThreaded board.now events.now queues.now slots.now) }
+    requires run { CanRun shared.now passes.items processors.items }
+    ensures { IfOk result (AreThreaded shared.now.board.now shared.now.events.now
+        shared.now.queues.now shared.now.slots.now) }
 {
+    let (rt, alloc, gate) = (shared.rt, shared.alloc, shared.gate);
+    let (board, queues, slots) = (shared.board, shared.queues, shared.slots);
+    let (events, refused) = (shared.events, shared.refused);
     thread::scope(
         thread::scope_env(),
         rt,
         move |scope| -> Result<Threaded, OutOfMemory>
-            requires { CanRun board.now queues.now slots.now events.now passes.items processors.items × (length refused.now ≡ length queues.now) }
-            ensures { IfOk result (AreThreaded board.entry.now events.entry.now queues.entry.now slots.entry.now) }
+            requires { CanStart board.now queues.now slots.now events.now (length refused.now)
+                passes.items processors.items }
+            ensures { IfOk result (AreThreaded board.entry.now events.entry.now
+                queues.entry.now slots.entry.now) }
         {
-            run_threads(
-                scope, rt, alloc, board, queues, slots, events, refused, gate, passes, processors,
-            )
+            let shared = Shared {
+                rt,
+                alloc,
+                gate,
+                board,
+                queues,
+                slots,
+                events,
+                refused,
+            };
+            run_threads(scope, &shared, passes, processors)
         },
     )
 }
 
-/// Flags that are not raised, one for each thread that is to be started.
-pub fn flags(alloc: Global, count: usize) -> Result<Vec<AtomicBool>, OutOfMemory>
-    ensures { IfOk result (λ flags. length flags.items ≡ count) }
-{
-    let mut flags = Vec::with_capacity(alloc, count)?;
-    for _ in 0..count {
-        flags.push_reserved(AtomicBool::new(false));
-    }
-    Ok(flags)
-}
-
-/// As many flags that are not raised, and room for as many hands.
-pub fn flags_and_hands(
-    alloc: Global,
-    count: usize,
-) -> Result<(Vec<AtomicBool>, Vec<Hand>), OutOfMemory>
-    ensures flags { IfOk result (λ made. length made.0.items ≡ count) }
-    ensures hands { IfOk result (λ made. (made.1.items ≡ []) × (count ≤ vec_capacity made.1)) }
-{
-    let hands = Vec::with_capacity(alloc, count)?;
-    let flags = flags(alloc, count)?;
-    Ok((flags, hands))
-}
-
-/// The core and the senders of a board, once all its passes are back.
-fn closed(board: Board, passes: Vec<Pass>) -> Result<(Core, Vec<Sender>), OutOfMemory>
+/// The core and the senders of a board, once all its passes are back. Out of memory where not all events were posted.
+fn closed(board: Board, passes: Vec<Pass>, whole: bool) -> Result<(Core, Vec<Sender>), OutOfMemory>
     requires { AreAll board passes.items }
     ensures closed { IfOk result (λ back. IsCoreOf board passes.items back.0) }
     ensures senders { IfOk result (λ back. AreSendersOf board back.0 back.1.items) }
+    ensures whole { IfOk result (λ _. whole ≡ true) }
 {
     match board.close(passes) {
-        Ok(back) => Ok(back),
-        Err(_unfinished) => Err(OutOfMemory),
+        Ok(back) if whole => Ok(back),
+        _ => Err(OutOfMemory),
     }
 }
 
@@ -272,21 +211,20 @@ pub fn settle_replay(
     ensures core { IfOk result (λ made. IsReplayOf slots.now.set events.now made.core) }
     ensures hands { IfOk result (λ made. HaveAllStints slots.now made.core.history made.hands.items) }
     ensures told { IfOk result (λ made. AllTell made.core.history made.core.closed done.passes.items) }
+    ensures whole { IfOk result (λ _. done.whole ≡ true) }
 {
     let Threaded {
         passes,
         whole,
         processors,
     } = done;
-    let (core, senders) = match closed(board, passes) {
-        Ok(parts) => parts,
-        Err(none) => return Err(none),
-    };
-    let hands = end_all(slots, &core, queues, senders, processors, hands);
-    if !whole {
-        return Err(OutOfMemory);
+    match closed(board, passes, whole) {
+        Ok((core, senders)) => {
+            let hands = end_all(slots, &core, queues, senders, processors, hands);
+            Ok(Replayed { core, hands })
+        }
+        Err(none) => Err(none),
     }
-    Ok(Replayed { core, hands })
 }
 
 /// Replays events on threads. In a scope it starts a thread for each processor, which obeys the orders that come through
@@ -314,10 +252,60 @@ pub fn replay<R: Threads + Wait + Sync, G: Gate + Sync>(
     ensures core { IfOk result (λ done. IsReplayOf slots.now.set events.now done.core) }
     ensures hands { IfOk result (λ done. HaveAllStints slots.now done.core.history done.hands.items) }
 {
+    let parts = Parts {
+        board,
+        passes,
+        queues,
+        processors,
+    };
+    replay_parts(rt, alloc, parts, slots, events, gate)
+}
+
+/// What a replay takes by value: a board with its passes, and a queue and a processor for each processor of its set.
+struct Parts {
+    board: Board,
+    passes: Vec<Pass>,
+    queues: Vec<Queue>,
+    processors: Vec<Processor>,
+}
+
+/// Replays events on threads, as [`replay`] says.
+fn replay_parts<'a, R: Threads + Wait + Sync, G: Gate + Sync>(
+    rt: &'a R,
+    alloc: Global,
+    parts: Parts,
+    slots: &'a Slots,
+    events: &'a [Posted],
+    gate: &'a G,
+) -> Result<Replayed, OutOfMemory>
+    requires passes { AreAll parts.board parts.passes.items }
+    requires unused { All IsUnused parts.passes.items }
+    requires queues { parts.queues.items ≡ parts.board.queues }
+    requires idle { AreIdle parts.queues.items slots.now parts.processors.items }
+    requires one_set { slots.now.set ≡ parts.board.set }
+    requires events { All (IsForBoard parts.board) events.now }
+    ensures core { IfOk result (λ done. IsReplayOf slots.entry.now.set events.entry.now done.core) }
+    ensures hands { IfOk result (λ done.
+        HaveAllStints slots.entry.now done.core.history done.hands.items) }
+{
+    let Parts {
+        board,
+        passes,
+        queues,
+        processors,
+    } = parts;
     board_is_made(&board);
     let (refused, hands) = flags_and_hands(alloc, queues.len())?;
-    let done = in_threads(
-        rt, alloc, &board, &queues, slots, events, &refused, gate, passes, processors,
-    )?;
+    let shared = Shared {
+        rt,
+        alloc,
+        gate,
+        board: &board,
+        queues: &queues,
+        slots,
+        events,
+        refused: &refused,
+    };
+    let done = in_threads(&shared, passes, processors)?;
     settle_replay(board, queues, slots, events, done, hands)
 }

@@ -1,7 +1,7 @@
 //! From a set and its events to one history and the contexts that the workers carried.
 ghost use Rattle.std.specs.Prelude.{◌≡◌, All, IfOk};
-ghost use Rattle.link_state.specs.Dispatch.{contexts_of};
-ghost use Rattle.link_state.specs.History.{IsLegal};
+ghost use Rattle.strong_apa.specs.Dispatch.{contexts_of};
+ghost use Rattle.strong_apa.specs.History.{IsLegal};
 ghost use Rattle.replay.specs.Replayed.{HaveAllStints, IsReplayOf};
 ghost use Rattle.trace_reader.specs.Input.{IsPostedOf};
 
@@ -24,40 +24,6 @@ pub struct Schedule {
     pub contexts: Vec<Context>,
 }
 
-/// A replay of events of a set, and the slots of the contexts.
-#[derive(Drop)]
-struct Run {
-    slots: Slots,
-    replayed: Replayed,
-}
-
-/// Replays the events of a set.
-fn run_set<R: Threads + Wait + Sync, G: Gate + Sync>(
-    rt: &R,
-    alloc: Global,
-    set: &TaskSet,
-    events: &[Posted],
-    gate: &G,
-) -> Result<Run, OutOfMemory>
-    requires events { All (IsPostedOf set.now) events.now }
-    ensures set { IfOk result (λ run. run.slots.set ≡ set.now) }
-    ensures core { IfOk result (λ run. IsReplayOf set.now events.now run.replayed.core) }
-    ensures hands { IfOk result
-        (λ run. HaveAllStints run.slots run.replayed.core.history run.replayed.hands.items) }
-{
-    let Beginning {
-        board,
-        passes,
-        queues,
-        slots,
-        processors,
-    } = beginning_of(alloc, set, events)?;
-    let replayed = replay(
-        rt, alloc, board, passes, queues, &slots, processors, events, gate,
-    )?;
-    Ok(Run { slots, replayed })
-}
-
 /// The schedule of these events, run on threads: a worker for each processor, and a thread for each stream that has
 /// events. The gate is called around each post and before each take. Out of memory comes where memory is refused, and
 /// where an event could not be posted.
@@ -72,10 +38,39 @@ pub fn schedule_of<R: Threads + Wait + Sync, G: Gate + Sync>(
     ensures core { IfOk result (λ made. IsReplayOf set.now events.now made.core) }
     ensures contexts { IfOk result (λ made. made.contexts.items ≡ contexts_of set.now made.core.history) }
 {
-    let Run { slots, replayed } = run_set(rt, alloc, set, events, gate)?;
+    let Beginning {
+        board,
+        passes,
+        queues,
+        slots,
+        processors,
+    } = beginning_of(alloc, set, events)?;
+    match replay(
+        rt, alloc, board, passes, queues, &slots, processors, events, gate,
+    ) {
+        Ok(replayed) => with_contexts(alloc, set, slots, replayed),
+        Err(none) => Err(none),
+    }
+}
+
+/// The schedule of a replay of events of the set, once its slots are closed.
+pub fn with_contexts(
+    alloc: Global,
+    set: &TaskSet,
+    slots: Slots,
+    replayed: Replayed,
+) -> Result<Schedule, OutOfMemory>
+    requires set { slots.set ≡ set.now }
+    requires legal { IsLegal set.now replayed.core.history }
+    requires hands { HaveAllStints slots replayed.core.history replayed.hands.items }
+    ensures core { IfOk result (λ made. made.core ≡ replayed.core) }
+    ensures contexts { IfOk result (λ made. made.contexts.items ≡ contexts_of set.now made.core.history) }
+{
     let Replayed { core, hands } = replayed;
-    let contexts = carried_contexts(alloc, set, slots, &core, hands)?;
-    Ok(Schedule { core, contexts })
+    match carried_contexts(alloc, set, slots, &core, hands) {
+        Ok(contexts) => Ok(Schedule { core, contexts }),
+        Err(none) => Err(none),
+    }
 }
 
 /// The contexts as the last holders left them, in task order, where each hand has the stints of its processor's orders.

@@ -7,9 +7,11 @@ ghost use Rattle.task_set.specs.Event.{IsOfSystem};
 ghost use Rattle.event_history.specs.Boards.{AreAll, AreEyesOf, Grown};
 ghost use Rattle.replay.specs.Merge.{events_of_stream};
 ghost use Rattle.replay.specs.Places.{AllFrom};
+ghost use Rattle.replay.specs.Sharing.{IsShared};
 ghost use Rattle.replay.specs.Streams.{Adds, IsForBoard, IsPassAt, IsStreamedAt, IsUnused};
 
 use crate::flushing::flush;
+use crate::shared::Shared;
 use event_history::{Board, EndFault, Pass};
 use order_queues::Queue;
 use processor_seat::Gate;
@@ -39,52 +41,58 @@ impl<'a> Promise<(Pass, bool)> for StreamOf<'a> {
 /// A stream with its thread, or, where it has none, what was posted by the caller.
 pub type Stream<'a> = Result<PromisedHandle<(Pass, bool), StreamOf<'a>>, (Pass, bool)>;
 
+/// What a post needs.
+#[derive(Drop)]
+pub struct Poster<'a, R, G> {
+    pub rt: &'a R,
+    pub gate: &'a G,
+    pub board: &'a Board,
+    pub queues: &'a [Queue],
+}
+
 /// Posts an event between the gate's two points, and reports whether its reply may come with orders.
 fn post_one<R: Wait, G: Gate>(
-    rt: &R,
-    board: &Board,
-    gate: &G,
+    poster: &Poster<R, G>,
     pass: &mut Pass,
     event: Event,
 ) -> Result<bool, EndFault>
-    requires board { pass.old.board ≡ board.now.id }
-    requires known { IsOfSystem board.now.set.processors (length board.now.set.tasks) event }
+    requires board { pass.old.board ≡ poster.now.board.now.id }
+    requires known { IsOfSystem poster.now.board.now.set.processors
+        (length poster.now.board.now.set.tasks) event }
     ensures grown { Grown pass.old pass.new }
     ensures eyes { pass.new.eyes ≡ pass.old.eyes }
     ensures adds { IfOk result (λ _. Adds pass.old (event ∷ []) pass.new) }
 {
-    gate.at(pass.caller(), 0);
-    let unread = board.post_unread(rt, pass, event)?;
-    gate.at(pass.caller(), 1);
+    poster.gate.at(pass.caller(), 0);
+    let unread = poster.board.post_unread(poster.rt, pass, event)?;
+    poster.gate.at(pass.caller(), 1);
     Ok(unread.gives_orders)
 }
 
 /// Posts an event, and flushes where enough events gave orders. `owing` is how many did since the last flush, whoever
 /// posted them; it is answered as it is then, or None where the event could not be posted.
 pub fn post_next<R: Wait, G: Gate>(
-    rt: &R,
-    board: &Board,
-    queues: &[Queue],
-    gate: &G,
+    poster: &Poster<R, G>,
     pass: &mut Pass,
     event: Event,
     owing: u32,
 ) -> Option<u32>
-    requires board { pass.old.board ≡ board.now.id }
-    requires queues { queues.now ≡ board.now.queues }
-    requires eyes { AreEyesOf board.now.queues pass.old.eyes }
-    requires known { IsOfSystem board.now.set.processors (length board.now.set.tasks) event }
+    requires queues { poster.now.queues.now ≡ poster.now.board.now.queues }
+    requires board { pass.old.board ≡ poster.now.board.now.id }
+    requires eyes { AreEyesOf poster.now.board.now.queues pass.old.eyes }
+    requires known { IsOfSystem poster.now.board.now.set.processors
+        (length poster.now.board.now.set.tasks) event }
     requires owing { owing < 128 }
     ensures grown { Grown pass.old pass.new }
-    ensures eyes { AreEyesOf board.now.queues pass.new.eyes }
+    ensures eyes { AreEyesOf poster.now.board.now.queues pass.new.eyes }
     ensures adds { IfSome result (λ _. Adds pass.old (event ∷ []) pass.new) }
     ensures owing { IfSome result (λ owing. owing < 128) }
 {
-    match post_one(rt, board, gate, pass, event) {
+    match post_one(poster, pass, event) {
         Ok(false) => Some(owing),
         Ok(true) if owing + 1 < EVENTS_PER_FLUSH => Some(owing + 1),
         Ok(true) => {
-            flush(rt, board, queues, pass);
+            flush(poster.rt, poster.board, poster.queues, pass);
             Some(0)
         }
         Err(_fault) => None,
@@ -93,34 +101,32 @@ pub fn post_next<R: Wait, G: Gate>(
 
 /// Posts an event if it is on the pass's stream, as [`post_next`] does.
 fn post_if_own<R: Wait, G: Gate>(
-    rt: &R,
-    board: &Board,
-    queues: &[Queue],
-    gate: &G,
+    poster: &Poster<R, G>,
     pass: &mut Pass,
     posted: Posted,
     owing: u32,
 ) -> Option<u32>
-    requires pass { IsPassAt board.now pass.old.caller pass.old }
-    requires queues { queues.now ≡ board.now.queues }
-    requires known { IsOfSystem board.now.set.processors (length board.now.set.tasks) posted.event }
+    requires queues { poster.now.queues.now ≡ poster.now.board.now.queues }
+    requires pass { IsPassAt poster.now.board.now pass.old.caller pass.old }
+    requires known { IsForBoard poster.now.board.now posted }
     requires owing { owing < 128 }
-    ensures pass { IsPassAt board.now pass.old.caller pass.new }
-    ensures adds { IfSome result (λ _. Adds pass.old (events_of_stream pass.old.caller (posted ∷ [])) pass.new) }
+    ensures pass { IsPassAt poster.now.board.now pass.old.caller pass.new }
+    ensures adds { IfSome result (λ _. Adds pass.old
+        (events_of_stream pass.old.caller (posted ∷ [])) pass.new) }
     ensures owing { IfSome result (λ owing. owing < 128) }
 {
     if posted.stream != pass.caller() {
         return Some(owing);
     }
-    post_next(rt, board, queues, gate, pass, posted.event, owing)
+    post_next(poster, pass, posted.event, owing)
 }
 
 /// Posts the events of the pass's stream in their order, and reports whether all were posted.
-fn post_stream<R: Wait, G: Gate>(
-    rt: &R,
-    board: &Board,
-    queues: &[Queue],
-    gate: &G,
+fn post_stream<'a, R: Wait, G: Gate>(
+    rt: &'a R,
+    board: &'a Board,
+    queues: &'a [Queue],
+    gate: &'a G,
     mut pass: Pass,
     events: &[Posted],
 ) -> (Pass, bool)
@@ -128,11 +134,17 @@ fn post_stream<R: Wait, G: Gate>(
     requires unused { IsUnused pass }
     requires queues { queues.now ≡ board.now.queues }
     requires events { All (IsForBoard board.now) events.now }
-    ensures { IsStreamedAt board.now events.now result.1 pass.caller result.0 }
+    ensures { IsStreamedAt board.entry.now events.now result.1 pass.caller result.0 }
 {
+    let poster = Poster {
+        rt,
+        gate,
+        board,
+        queues,
+    };
     let mut owing = 0;
     for &posted in events {
-        match post_if_own(rt, board, queues, gate, &mut pass, posted, owing) {
+        match post_if_own(&poster, &mut pass, posted, owing) {
             Some(now) => owing = now,
             None => return (pass, false),
         }
@@ -147,23 +159,23 @@ fn has_events(events: &[Posted], caller: u32) -> bool {
 }
 
 /// Starts a stream's thread. A stream without events gets none; where none can be started, the caller posts the stream.
-fn start<'s, E, R: Threads + Wait + Sync, G: Gate + Sync>(
+fn start<'s, 'a: 's, 'b: 's, E, R: Threads + Wait + Sync, G: Gate + Sync>(
     scope: &Scope<'s, E>,
-    rt: &'s R,
-    board: &'s Board,
-    queues: &'s [Queue],
-    events: &'s [Posted],
-    gate: &'s G,
+    shared: &Shared<'a, 'b, R, G>,
     pass: Pass,
-) -> Stream<'s>
-    requires pass { IsPassAt board.now pass.caller pass }
+) -> Stream<'a>
+    requires shared { IsShared shared.now }
+    requires pass { IsPassAt shared.now.board.now pass.caller pass }
     requires unused { IsUnused pass }
-    requires queues { queues.now ≡ board.now.queues }
-    requires events { All (IsForBoard board.now) events.now }
     ensures { MatchResult result
-        (λ h. (h.promise.board.now ≡ board.entry.now) × (h.promise.events.now ≡ events.entry.now) × (h.promise.caller ≡ pass.caller))
-        (λ back. IsStreamedAt board.entry.now events.entry.now back.1 pass.caller back.0) }
+        (λ h. (h.promise.board.now ≡ shared.entry.now.board.now)
+        × (h.promise.events.now ≡ shared.entry.now.events.now)
+        × (h.promise.caller ≡ pass.caller))
+        (λ back. IsStreamedAt shared.entry.now.board.now shared.entry.now.events.now
+        back.1 pass.caller back.0) }
 {
+    let (rt, gate) = (shared.rt, shared.gate);
+    let (board, queues, events) = (shared.board, shared.queues, shared.events);
     let promise = StreamOf {
         board,
         events,
@@ -182,28 +194,25 @@ fn start<'s, E, R: Threads + Wait + Sync, G: Gate + Sync>(
 }
 
 /// Starts a thread for each stream that has events, from the last on, and gives the streams in order.
-pub fn start_all<'s, E, R: Threads + Wait + Sync, G: Gate + Sync>(
+pub fn start_all<'s, 'a: 's, 'b: 's, E, R: Threads + Wait + Sync, G: Gate + Sync>(
     scope: &Scope<'s, E>,
-    rt: &'s R,
-    board: &'s Board,
-    queues: &'s [Queue],
-    events: &'s [Posted],
-    gate: &'s G,
+    shared: &Shared<'a, 'b, R, G>,
     mut passes: Vec<Pass>,
-    mut streams: Vec<Stream<'s>>,
-) -> Vec<Stream<'s>>
-    requires passes { AreAll board.now passes.items }
+    mut streams: Vec<Stream<'a>>,
+) -> Vec<Stream<'a>>
+    requires shared { IsShared shared.now }
+    requires passes { AreAll shared.now.board.now passes.items }
     requires unused { All IsUnused passes.items }
-    requires queues { queues.now ≡ board.now.queues }
-    requires events { All (IsForBoard board.now) events.now }
-    requires room { (streams.items ≡ []) × (board.now.callers ≤ vec_capacity streams) }
-    ensures count { length result.items ≡ board.entry.now.callers }
+    requires room { (streams.items ≡ []) × (shared.now.board.now.callers ≤ vec_capacity streams) }
+    ensures count { length result.items ≡ shared.entry.now.board.now.callers }
     ensures each { AllFrom (λ n stream. MatchResult stream
-        (λ h. (h.promise.board.now ≡ board.entry.now) × (h.promise.events.now ≡ events.entry.now) × (h.promise.caller ≡ n))
-        (λ back. IsStreamedAt board.entry.now events.entry.now back.1 n back.0)) 0 result.items }
+        (λ h. (h.promise.board.now ≡ shared.entry.now.board.now)
+        × (h.promise.events.now ≡ shared.entry.now.events.now) × (h.promise.caller ≡ n))
+        (λ back. IsStreamedAt shared.entry.now.board.now shared.entry.now.events.now back.1 n back.0))
+        0 result.items }
 {
     while let Some(pass) = passes.pop() {
-        let stream = start(scope, rt, board, queues, events, gate, pass);
+        let stream = start(scope, shared, pass);
         if let Err(_full) = streams.insert(0, stream) {
             unreachable!()
         }

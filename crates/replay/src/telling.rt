@@ -1,6 +1,6 @@
 //! The end of a watched replay: each observer is told of the whole history, and reads once more.
 ghost use Rattle.std.specs.Prelude.{◌≡◌, ◌≤◌, List, All, true, length, IfOk};
-ghost use Rattle.scheduler_reply.specs.declared.reply.Entry.{Entry};
+ghost use Rattle.strong_apa.specs.declared.reply.Entry.{Entry};
 ghost use Rattle.schedule_board.specs.Boards.{board_of, published};
 ghost use Rattle.replay.specs.Places.{AllFrom};
 ghost use Rattle.replay.specs.Streams.{IsPassAt};
@@ -10,9 +10,10 @@ ghost use Rattle.replay.specs.declared.sighting.Sighting.{Sighting};
 
 use crate::observing::Observed;
 use crate::posting::publish_new;
+use crate::shared::Shared;
 use crate::sighting::Sighting;
 use affinity_mask::OutOfMemory;
-use event_history::{Board, Pass};
+use event_history::Pass;
 use schedule_board::Publisher;
 use std::alloc::Global;
 use std::sync::Wait;
@@ -59,25 +60,23 @@ fn tell_all<R: Wait, K: Wait + Drop>(
 }
 
 /// Publishes what is not published yet, and tells all observers of the whole.
-pub fn tell_whole<R: Wait, K: Wait + Drop>(
-    rt: &R,
-    alloc: Global,
-    board: &Board,
+pub fn tell_whole<R: Wait, K: Wait + Drop, G>(
+    shared: &Shared<R, G>,
     passes: &mut Vec<Pass>,
     mut publisher: Publisher<K>,
     observed: Vec<Observed>,
 ) -> Result<Vec<Sighting>, OutOfMemory>
-    requires passes { AllFrom (IsPassAt board.now) 0 passes.old.items }
+    requires passes { AllFrom (IsPassAt shared.now.board.now) 0 passes.old.items }
     requires published { FirstSaw (published publisher) passes.old.items }
     requires observed { All (IsObservedOf (board_of publisher)) observed.items }
-    ensures grown { HaveGrown board.now.queues passes.old.items passes.new.items }
+    ensures grown { HaveGrown shared.now.board.now.queues passes.old.items passes.new.items }
     ensures count { IfOk result (λ sightings. length sightings.items ≡ length observed.items) }
     ensures each { IfOk result (λ sightings. (whole : List Entry)
         × FirstSawJust whole passes.new.items
         × All (IsToldOf (board_of publisher).processors whole) sightings.items) }
 {
-    publish_new(rt, alloc, board, passes, &mut publisher)?;
-    tell_all(rt, alloc, &mut publisher, observed)
+    publish_new(shared, passes, &mut publisher)?;
+    tell_all(shared.rt, shared.alloc, &mut publisher, observed)
 }
 
 /// Whether no observer saw more entries in the end than this.

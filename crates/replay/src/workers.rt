@@ -7,7 +7,9 @@ ghost use Rattle.event_history.specs.Boards.{AreFor};
 ghost use Rattle.replay.specs.Crew.{IsCrew};
 ghost use Rattle.replay.specs.Places.{AllFrom};
 ghost use Rattle.replay.specs.Seats.{IsSeated, IsSeatedAt, HasStoppedAt, IsIdleAt, AreIdle};
+ghost use Rattle.replay.specs.Sharing.{IsShared};
 
+use crate::shared::Shared;
 use context_slots::Slots;
 use order_queues::Queue;
 use processor_seat::{Gate, Processor};
@@ -18,21 +20,21 @@ use std::thread::{Promise, PromisedHandle, Scope, Threads};
 
 /// What a worker's thread gives back: the processor of this number, of these queues and slots, in step.
 #[derive(Clone, Copy)]
-pub struct WorkOf<'a> {
+pub struct WorkOf<'a, 'b> {
     queues: &'a [Queue],
-    slots: &'a Slots,
+    slots: &'b Slots,
     number: u8,
 }
 
-impl<'a> Promise<Processor> for WorkOf<'a> {
+impl<'a, 'b> Promise<Processor> for WorkOf<'a, 'b> {
     ghost kept_by = { λ p processor. IsSeatedAt p.queues.now p.slots.now p.number processor };
 }
 
 /// The thread of a processor.
-type WorkerThread<'a> = PromisedHandle<Processor, WorkOf<'a>>;
+type WorkerThread<'a, 'b> = PromisedHandle<Processor, WorkOf<'a, 'b>>;
 
 /// The thread of a processor, if it has one. Where none could be started, the processor is with the caller.
-pub type Worker<'a> = Option<WorkerThread<'a>>;
+pub type Worker<'a, 'b> = Option<WorkerThread<'a, 'b>>;
 
 /// The queue of a processor.
 pub fn queue_of<'a>(queues: &'a [Queue], slots: &Slots, processor: &Processor) -> &'a Queue
@@ -82,26 +84,27 @@ fn work_unless<R: Wait, G: Gate>(
 
 /// Starts a worker. Where no thread can be started, the flag is raised, so that the closure that comes back gives the
 /// processor at once.
-fn start<'s, E, R: Threads + Wait + Sync, G: Gate + Sync>(
+fn start<'s, 'a: 's, 'b: 's, E, R: Threads + Wait + Sync, G: Gate + Sync>(
     scope: &Scope<'s, E>,
-    rt: &'s R,
-    queues: &'s [Queue],
-    slots: &'s Slots,
-    gate: &'s G,
+    shared: &Shared<'a, 'b, R, G>,
     refused: &'s AtomicBool,
     processor: Processor,
-) -> Result<WorkerThread<'s>, Processor>
-    requires seat { IsSeated queues.now slots.now processor }
-    requires tasks { AreFor slots.now.set queues.now }
+) -> Result<WorkerThread<'a, 'b>, Processor>
+    requires shared { IsShared shared.now }
+    requires seat { IsSeated shared.now.queues.now shared.now.slots.now processor }
     ensures { MatchResult result
-        (λ h. (h.promise.queues.now ≡ queues.entry.now) × (h.promise.slots.now ≡ slots.entry.now) × (h.promise.number ≡ processor.hand.number))
-        (IsSeatedAt queues.entry.now slots.entry.now processor.hand.number) }
+        (λ h. (h.promise.queues.now ≡ shared.entry.now.queues.now)
+        × (h.promise.slots.now ≡ shared.entry.now.slots.now)
+        × (h.promise.number ≡ processor.hand.number))
+        (IsSeatedAt shared.entry.now.queues.now shared.entry.now.slots.now processor.hand.number) }
 {
     let promise = WorkOf {
-        queues,
-        slots,
+        queues: shared.queues,
+        slots: shared.slots,
         number: processor.number(),
     };
+    let (rt, gate) = (shared.rt, shared.gate);
+    let (queues, slots) = (shared.queues, shared.slots);
     match scope.spawn_with(
         promise,
         move || work_unless(rt, queues, slots, gate, refused, processor),
@@ -115,9 +118,9 @@ fn start<'s, E, R: Threads + Wait + Sync, G: Gate + Sync>(
 }
 
 /// Puts a worker that was started before the others; a processor that came back before those that are left.
-fn put_first<'s>(
-    started: Result<WorkerThread<'s>, Processor>,
-    workers: &mut Vec<Worker<'s>>,
+fn put_first<'a, 'b>(
+    started: Result<WorkerThread<'a, 'b>, Processor>,
+    workers: &mut Vec<Worker<'a, 'b>>,
     left: &mut Vec<Processor>,
 )
     requires workers { length workers.old.items < vec_capacity workers.old }
@@ -146,78 +149,79 @@ fn put_first<'s>(
 
 /// Starts a worker for each processor, from the last on, and gives them in the order of their processors, and those
 /// processors for which no thread could be started, in their order.
-pub fn start_all<'s, E, R: Threads + Wait + Sync, G: Gate + Sync>(
+pub fn start_all<'s, 'a: 's, 'b: 's, E, R: Threads + Wait + Sync, G: Gate + Sync>(
     scope: &Scope<'s, E>,
-    rt: &'s R,
-    queues: &'s [Queue],
-    slots: &'s Slots,
-    gate: &'s G,
-    refused: &'s [AtomicBool],
+    shared: &Shared<'a, 'b, R, G>,
     mut processors: Vec<Processor>,
-    mut workers: Vec<Worker<'s>>,
+    mut workers: Vec<Worker<'a, 'b>>,
     mut left: Vec<Processor>,
-) -> (Vec<Worker<'s>>, Vec<Processor>)
-    requires idle { AreIdle queues.now slots.now processors.items }
-    requires tasks { AreFor slots.now.set queues.now }
-    requires flags { length refused.now ≡ length queues.now }
-    requires room { (workers.items ≡ []) × (length queues.now ≤ vec_capacity workers) }
-    requires left { (left.items ≡ []) × (length queues.now ≤ vec_capacity left) }
-    ensures count { length result.0.items ≡ length queues.entry.now }
+) -> (Vec<Worker<'a, 'b>>, Vec<Processor>)
+    requires shared { IsShared shared.now }
+    requires idle { AreIdle shared.now.queues.now shared.now.slots.now processors.items }
+    requires room { (workers.items ≡ []) × (length shared.now.queues.now ≤ vec_capacity workers) }
+    requires left { (left.items ≡ []) × (length shared.now.queues.now ≤ vec_capacity left) }
+    ensures count { length result.0.items ≡ length shared.entry.now.queues.now }
     ensures crew { IsCrew
-        (λ n h. (h.promise.queues.now ≡ queues.entry.now) × (h.promise.slots.now ≡ slots.entry.now) × (h.promise.number ≡ n))
-        (IsSeatedAt queues.entry.now slots.entry.now) 0 result.0.items result.1.items }
+        (λ n h. (h.promise.queues.now ≡ shared.entry.now.queues.now)
+        × (h.promise.slots.now ≡ shared.entry.now.slots.now) × (h.promise.number ≡ n))
+        (IsSeatedAt shared.entry.now.queues.now shared.entry.now.slots.now)
+        0 result.0.items result.1.items }
 {
     while let Some(processor) = processors.pop() {
-        let flag = &refused[processors.len()];
-        let started = start(scope, rt, queues, slots, gate, flag, processor);
+        let flag = &shared.refused[processors.len()];
+        let started = start(scope, shared, flag, processor);
         put_first(started, &mut workers, &mut left);
     }
     (workers, left)
 }
 
 /// Joins a worker's thread, and works its processor to the end, which a worker that was not refused has done.
-fn join<'s, R: Threads + Wait, G: Gate>(
-    rt: &R,
-    queues: &[Queue],
-    slots: &Slots,
-    gate: &G,
-    thread: WorkerThread<'s>,
+fn join<'a, 'b, R: Threads + Wait, G: Gate>(
+    shared: &Shared<R, G>,
+    thread: WorkerThread<'a, 'b>,
 ) -> Processor
-    requires tasks { AreFor slots.now.set queues.now }
-    requires thread { (thread.promise.queues.now ≡ queues.now) × (thread.promise.slots.now ≡ slots.now) }
-    ensures { HasStoppedAt queues.now slots.now thread.entry.promise.number result }
+    requires shared { IsShared shared.now }
+    requires thread { (thread.promise.queues.now ≡ shared.now.queues.now)
+        × (thread.promise.slots.now ≡ shared.now.slots.now) }
+    ensures { HasStoppedAt shared.now.queues.now shared.now.slots.now
+        thread.entry.promise.number result }
 {
-    let processor = thread.join(rt);
-    work(rt, queues, slots, gate, processor)
+    let processor = thread.join(shared.rt);
+    work(
+        shared.rt,
+        shared.queues,
+        shared.slots,
+        shared.gate,
+        processor,
+    )
 }
 
 /// The processor of the last worker, which is joined; or the last of those that are left, where it has no thread. None
 /// where there is no worker.
-fn end_last<'s, R: Threads + Wait, G: Gate>(
-    rt: &R,
-    queues: &[Queue],
-    slots: &Slots,
-    gate: &G,
-    workers: &mut Vec<Worker<'s>>,
+fn end_last<'a, 'b, R: Threads + Wait, G: Gate>(
+    shared: &Shared<R, G>,
+    workers: &mut Vec<Worker<'a, 'b>>,
     left: &mut Vec<Processor>,
 ) -> Option<Processor>
-    requires tasks { AreFor slots.now.set queues.now }
+    requires shared { IsShared shared.now }
     requires crew { IsCrew
-        (λ n h. (h.promise.queues.now ≡ queues.now) × (h.promise.slots.now ≡ slots.now) × (h.promise.number ≡ n))
-        (HasStoppedAt queues.now slots.now) 0 workers.old.items left.old.items }
+        (λ n h. (h.promise.queues.now ≡ shared.now.queues.now)
+        × (h.promise.slots.now ≡ shared.now.slots.now) × (h.promise.number ≡ n))
+        (HasStoppedAt shared.now.queues.now shared.now.slots.now) 0 workers.old.items left.old.items }
     ensures crew { IsCrew
-        (λ n h. (h.promise.queues.now ≡ queues.now) × (h.promise.slots.now ≡ slots.now) × (h.promise.number ≡ n))
-        (HasStoppedAt queues.now slots.now) 0 workers.new.items left.new.items }
+        (λ n h. (h.promise.queues.now ≡ shared.now.queues.now)
+        × (h.promise.slots.now ≡ shared.now.slots.now) × (h.promise.number ≡ n))
+        (HasStoppedAt shared.now.queues.now shared.now.slots.now) 0 workers.new.items left.new.items }
     ensures last { IfSome result
         (λ p. (length workers.old.items ≡ length workers.new.items + 1)
-        × HasStoppedAt queues.now slots.now (length workers.new.items) p) }
+        × HasStoppedAt shared.now.queues.now shared.now.slots.now (length workers.new.items) p) }
     ensures none { result ≡ None → workers.old.items ≡ [] }
 {
     let Some(worker) = workers.pop() else {
         return None;
     };
     match worker {
-        Some(thread) => Some(join(rt, queues, slots, gate, thread)),
+        Some(thread) => Some(join(shared, thread)),
         None => match left.pop() {
             Some(processor) => Some(processor),
             None => unreachable!(),
@@ -226,24 +230,22 @@ fn end_last<'s, R: Threads + Wait, G: Gate>(
 }
 
 /// Joins all workers, from the last on, and gives all processors in their order, those that were left among them.
-pub fn join_all<'s, R: Threads + Wait, G: Gate>(
-    rt: &R,
-    queues: &[Queue],
-    slots: &Slots,
-    gate: &G,
-    mut workers: Vec<Worker<'s>>,
+pub fn join_all<'a, 'b, R: Threads + Wait, G: Gate>(
+    shared: &Shared<R, G>,
+    mut workers: Vec<Worker<'a, 'b>>,
     mut left: Vec<Processor>,
     mut processors: Vec<Processor>,
 ) -> Vec<Processor>
-    requires tasks { AreFor slots.now.set queues.now }
+    requires shared { IsShared shared.now }
     requires crew { IsCrew
-        (λ n h. (h.promise.queues.now ≡ queues.now) × (h.promise.slots.now ≡ slots.now) × (h.promise.number ≡ n))
-        (HasStoppedAt queues.now slots.now) 0 workers.items left.items }
+        (λ n h. (h.promise.queues.now ≡ shared.now.queues.now)
+        × (h.promise.slots.now ≡ shared.now.slots.now) × (h.promise.number ≡ n))
+        (HasStoppedAt shared.now.queues.now shared.now.slots.now) 0 workers.items left.items }
     requires room { (processors.items ≡ []) × (length workers.items ≤ vec_capacity processors) }
     ensures count { length result.items ≡ length workers.entry.items }
-    ensures each { AllFrom (HasStoppedAt queues.now slots.now) 0 result.items }
+    ensures each { AllFrom (HasStoppedAt shared.now.queues.now shared.now.slots.now) 0 result.items }
 {
-    while let Some(processor) = end_last(rt, queues, slots, gate, &mut workers, &mut left) {
+    while let Some(processor) = end_last(shared, &mut workers, &mut left) {
         if let Err(_full) = processors.insert(0, processor) {
             unreachable!()
         }

@@ -1,11 +1,11 @@
 -- In every core the linked tasks are the best set: each waiting task has a certificate.
-use Rattle.certificate_laws.specs.Certified.{HasCertificates}
-use Rattle.certificate_laws.specs.Laws.{LinkedIsBest, LinkedIsLargest, LinkedIsAsUrgent}
-use Rattle.certificate_laws.proofs.Best.{linked_is_best, linked_is_largest}
-use Rattle.certificate_laws.proofs.Ranked.{linked_is_as_urgent}
+use Rattle.strong_apa.specs.Certified.{HasCertificates}
+use Rattle.strong_apa.specs.CertificateLaws.{LinkedIsBest, LinkedIsLargest, LinkedIsAsUrgent}
+use Rattle.strong_apa.proofs.Best.{linked_is_best, linked_is_largest}
+use Rattle.strong_apa.proofs.Ranked.{linked_is_as_urgent}
 use Rattle.sched_core.specs.CoreData.{CoreData, IsCore}
-use Rattle.certificate_laws.specs.Improving.{HasNoImprovingChain}
-use Rattle.certificate_laws.proofs.Improved.{no_improving_chain}
+use Rattle.strong_apa.specs.Improving.{HasNoImprovingChain}
+use Rattle.strong_apa.proofs.Improved.{no_improving_chain}
 
 pub core_certified : (core : CoreData) → IsCore core → HasCertificates core.links
 core_certified core kept = kept.certificates

@@ -2,20 +2,20 @@
 use Rattle.std.proofs.Common.{◌≡◌, ℕ, ◌+◌, ◌*◌, ◌<◌, ◌≤◌, false, not, ◌&&◌, List, [], ◌∷◌, ◌++◌, length, get_or, filter, Option, Some, refl, sym, ap, ◌∙◌, arith, append_assoc}
 use Rattle.std.specs.List.{range_with_len}
 use Rattle.std.proofs.lemmas.List.{length-append, get_or_push}
-use Rattle.scheduler_reply.specs.declared.reply.Entry.{Entry}
-use Rattle.link_state.specs.State.{State, IsState, task_on, is_task}
-use Rattle.link_state.specs.Step.{SchedulerStep}
-use Rattle.link_state.specs.History.{state_after, effect_of}
-use Rattle.link_state.specs.Dispatch.{processors_of, taken_between, orders_of}
-use Rattle.link_state.proofs.Histories.{state_after-push, IsLegalFrom-push, processors_of-push, orders_of-push}
-use Rattle.link_state.proofs.Steps.{reply_gives_new_state, step_keeps_state}
-use Rattle.certificate_laws.specs.Certified.{HasCertificates}
-use Rattle.certificate_laws.proofs.Kept.{step_keeps_certificates}
-use Rattle.order_laws.specs.Start.{NobodyIsReady}
+use Rattle.strong_apa.specs.declared.reply.Entry.{Entry}
+use Rattle.strong_apa.specs.State.{State, IsState, task_on, is_task}
+use Rattle.strong_apa.specs.Step.{SchedulerStep}
+use Rattle.strong_apa.specs.History.{state_after, effect_of}
+use Rattle.strong_apa.specs.Dispatch.{processors_of, taken_between, orders_of}
+use Rattle.strong_apa.proofs.Histories.{state_after-push, IsLegalFrom-push, processors_of-push, orders_of-push}
+use Rattle.strong_apa.proofs.Steps.{reply_gives_new_state, step_keeps_state}
+use Rattle.strong_apa.specs.Certified.{HasCertificates}
+use Rattle.strong_apa.proofs.Kept.{step_keeps_certificates}
+use Rattle.history_laws.specs.Start.{NobodyIsReady}
 use Rattle.sched_core.specs.CoreData.{CoreData, IsCore, core_orders, max_entries}
 use Rattle.sched_core.specs.CoreRows.{RowData, row_at, RowFollows, NumbersBecome, came, came_below}
 use Rattle.sched_core.proofs.RowLoops.{filtered_count-bound, filtered_count-same, change_orders-same_number}
-use Rattle.link_state.proofs.SameTasks.{same_tasks-effect, same_tasks-step}
+use Rattle.strong_apa.proofs.SameTasks.{same_tasks-effect, same_tasks-step}
 
 -- while a core is open its orders are those of the history
 pub core_orders-open : (core : CoreData) (p : ℕ) → core.closed ≡ false → core_orders core p ≡ orders_of core.start core.history p

@@ -3,11 +3,11 @@
 use Rattle.std.proofs.Common.{ℕ, ◌+◌, ◌*◌, ◌≤◌, Bool, true, false, length, arith, if◌then◌else◌, subst, sym}
 use Rattle.std.specs.Prelude.{All}
 use Rattle.task_set.specs.Orders.{IsObeyable, NamesTaskBelow, TakesBelow}
-use Rattle.link_state.specs.State.{task_count}
-use Rattle.link_state.specs.Dispatch.{orders_of, closed_orders_of}
-use Rattle.order_laws.proofs.OrderCounts.{orders_count-from}
-use Rattle.order_laws.proofs.OrderLists.{orders_obeyable-from}
-use Rattle.order_laws.proofs.OrderNames.{orders_name_tasks-from, take_numbers_small-from}
+use Rattle.strong_apa.specs.State.{task_count}
+use Rattle.strong_apa.specs.Dispatch.{orders_of, closed_orders_of}
+use Rattle.history_laws.proofs.OrderCounts.{orders_count-from}
+use Rattle.history_laws.proofs.OrderLists.{orders_obeyable-from}
+use Rattle.history_laws.proofs.OrderNames.{orders_name_tasks-from, take_numbers_small-from}
 use Rattle.sched_core.specs.CoreData.{CoreData, IsCore, core_orders}
 
 module _ (core : CoreData) (p : ℕ) (kept : IsCore core) where

@@ -1,6 +1,8 @@
 pub mod CoreBest
 pub mod CoreEntered
 mod CoreOrders
+mod RoomMade
+mod RowChanging
 pub mod RowLoops
 mod RowsChanged
 mod RowsFollowed

@@ -7,8 +7,8 @@ use Rattle.std.proofs.lemmas.Bool.{cases_Bool, cases_eq}
 use Rattle.std.proofs.lemmas.List.{length-set, get_or-set_same, get_or-set_other}
 use Rattle.std.proofs.lemmas.List.Elements.{All-nil, All-cons, All-head, All-tail, Contains-push, Contains-push_cases, Contains-append_left, Contains-append_right, Contains-append_cases}
 use Rattle.task_set.specs.declared.order.Order.{Order}
-use Rattle.link_state.specs.State.{State, task_on, is_task}
-use Rattle.link_state.proofs.Linked.{is_task-true, linked_number}
+use Rattle.strong_apa.specs.State.{State, task_on, is_task}
+use Rattle.strong_apa.proofs.Linked.{is_task-true, linked_number}
 use Rattle.sched_core.specs.CoreRows.{RowData, row_at, empty_row, RowChanges, RowChangesIn, RowsChange, CanFollow, NumbersBecome, came, came_between}
 use Rattle.sched_core.proofs.RowLoops.{filtered_count-at, filtered_count-none, filtered_count-split, change_orders-same_number}
 

@@ -5,12 +5,12 @@ use Rattle.std.specs.Prelude.{Contains}
 use Rattle.std.specs.List.{range_with_len}
 use Rattle.task_set.specs.declared.event.Event.{Event}
 use Rattle.task_set.specs.declared.event.Event.TheVariants.{Tick, Offline}
-use Rattle.scheduler_reply.specs.declared.reply.Reply.{Reply}
-use Rattle.scheduler_reply.specs.Reply.{chain_of}
-use Rattle.link_state.specs.State.{State, task_on}
-use Rattle.link_state.specs.Dispatch.{change_orders, tick_orders}
-use Rattle.certificate_laws.specs.Touched.{touched}
-use Rattle.order_laws.proofs.OrderLists.{change_orders-same}
+use Rattle.strong_apa.specs.declared.reply.Reply.{Reply}
+use Rattle.strong_apa.specs.Reply.{chain_of}
+use Rattle.strong_apa.specs.State.{State, task_on}
+use Rattle.strong_apa.specs.Dispatch.{change_orders, tick_orders}
+use Rattle.strong_apa.specs.Touched.{touched}
+use Rattle.history_laws.proofs.OrderLists.{change_orders-same}
 use Rattle.sched_core.specs.CoreRows.{RowData, row_at, RowFollows, RowsFollow, RowsRun, RowsChange, HoldOutside, NumbersBecome, came, came_below}
 use Rattle.sched_core.proofs.RowLoops.{filtered_count-none, filtered_count-same}
 use Rattle.sched_core.proofs.RowsChanged.{came-same, nothing_in}

@@ -2,10 +2,10 @@
 use Rattle.std.proofs.Common.{◌≡◌, ℕ, zero, suc, ◌<◌, List, [], length, get_or, replicate, refl, sym, ap, ◌∙◌}
 use Rattle.std.proofs.lemmas.List.{length-replicate}
 use Rattle.task_set.specs.TaskSet.{SetData}
-use Rattle.link_state.specs.State.{State, start_of, task_on}
-use Rattle.scheduler_reply.specs.declared.reply.Entry.{Entry}
-use Rattle.link_state.specs.Dispatch.{orders_of, processors_of}
-use Rattle.link_state.proofs.Start.{none_on}
+use Rattle.strong_apa.specs.State.{State, start_of, task_on}
+use Rattle.strong_apa.specs.declared.reply.Entry.{Entry}
+use Rattle.strong_apa.specs.Dispatch.{orders_of, processors_of}
+use Rattle.strong_apa.proofs.Start.{none_on}
 use Rattle.sched_core.specs.CoreRows.{RowData, row_at, empty_row, RowsOnlyGrew}
 
 row_made : (n p : ℕ) → row_at (replicate n empty_row) p ≡ empty_row

@@ -2,14 +2,14 @@
 use Rattle.std.proofs.Common.{◌≡◌, ℕ, [], ap, subst}
 use Rattle.task_set.specs.declared.event.Event.{Event}
 use Rattle.task_set.specs.declared.event.Event.TheVariants.{Tick}
-use Rattle.scheduler_reply.specs.declared.reply.Reply.{Reply}
-use Rattle.scheduler_reply.specs.Reply.{chain_of}
-use Rattle.link_state.specs.State.{State, IsState}
-use Rattle.link_state.specs.Step.{SchedulerStep}
-use Rattle.link_state.proofs.Steps.{reply_gives_new_state}
-use Rattle.certificate_laws.specs.Touched.{StaysOutside, touched}
-use Rattle.certificate_laws.proofs.StepsPass.{step_passes}
-use Rattle.certificate_laws.proofs.Touched.{passing_stays_outside}
+use Rattle.strong_apa.specs.declared.reply.Reply.{Reply}
+use Rattle.strong_apa.specs.Reply.{chain_of}
+use Rattle.strong_apa.specs.State.{State, IsState}
+use Rattle.strong_apa.specs.Step.{SchedulerStep}
+use Rattle.strong_apa.proofs.Steps.{reply_gives_new_state}
+use Rattle.strong_apa.specs.Touched.{StaysOutside, touched}
+use Rattle.strong_apa.proofs.StepsPass.{step_passes}
+use Rattle.strong_apa.proofs.Touched.{passing_stays_outside}
 
 pub step_stays_outside : (s : State) (event : Event) (reply : Reply) (new : State) → IsState s → SchedulerStep s event reply new → StaysOutside s new (touched event reply)
 step_stays_outside s event reply new ok step =

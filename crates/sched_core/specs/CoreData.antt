@@ -5,15 +5,15 @@ use Rattle.std.specs.Prelude.{◌≡◌, ◌≢◌, ℕ, ◌+◌, ◌≤◌, ◌
 use Rattle.std.specs.Result.{OnErr}
 use Rattle.task_set.specs.declared.event.Event.{Event}
 use Rattle.task_set.specs.declared.order.Order.{Order}
-use Rattle.scheduler_reply.specs.declared.reply.Reply.{Reply}
-use Rattle.scheduler_reply.specs.declared.reply.Entry.{Entry}
-use Rattle.link_state.specs.State.{State, IsState, task_count}
-use Rattle.link_state.specs.Step.{SchedulerStep}
-use Rattle.link_state.specs.History.{IsLegalFrom, state_after}
-use Rattle.link_state.specs.Dispatch.{orders_of, closed_orders_of}
-use Rattle.certificate_laws.specs.Certified.{HasCertificates}
-use Rattle.certificate_laws.specs.Justification.{HasJustification}
-use Rattle.order_laws.specs.Start.{NobodyIsReady}
+use Rattle.strong_apa.specs.declared.reply.Reply.{Reply}
+use Rattle.strong_apa.specs.declared.reply.Entry.{Entry}
+use Rattle.strong_apa.specs.State.{State, IsState, task_count}
+use Rattle.strong_apa.specs.Step.{SchedulerStep}
+use Rattle.strong_apa.specs.History.{IsLegalFrom, state_after}
+use Rattle.strong_apa.specs.Dispatch.{orders_of, closed_orders_of}
+use Rattle.strong_apa.specs.Certified.{HasCertificates}
+use Rattle.strong_apa.specs.Justification.{HasJustification}
+use Rattle.history_laws.specs.Start.{NobodyIsReady}
 use Rattle.sched_core.specs.declared.fault.CoreFault.{CoreFault}
 use Rattle.sched_core.specs.declared.fault.CoreFault.TheVariants.{Closed, Full, OutOfMemory}
 

@@ -8,8 +8,8 @@ use Rattle.task_set.specs.declared.event.Event.{Event}
 use Rattle.task_set.specs.declared.event.Event.TheVariants.{Tick}
 use Rattle.task_set.specs.declared.order.Order.{Order}
 use Rattle.task_set.specs.declared.order.Order.TheVariants.{Stop}
-use Rattle.link_state.specs.State.{State, IsState, is_task, task_count, task_on}
-use Rattle.link_state.specs.Dispatch.{change_orders, tick_orders, release_of}
+use Rattle.strong_apa.specs.State.{State, IsState, is_task, task_count, task_on}
+use Rattle.strong_apa.specs.Dispatch.{change_orders, tick_orders, release_of}
 
 -- the orders to one processor so far, the task that it holds after them, and for how many more there is room
 pub record RowData : Type 0 where

@@ -3,8 +3,8 @@
 -- the close.
 use Rattle.std.specs.Prelude.{◌≡◌, ℕ, ◌+◌, ◌*◌, ◌<◌, ◌≤◌, false, length, get_or}
 use Rattle.std.specs.Vec.{vec_len, vec_capacity}
-use Rattle.link_state.specs.State.{task_count, task_on}
-use Rattle.link_state.specs.Dispatch.{processors_of}
+use Rattle.strong_apa.specs.State.{task_count, task_on}
+use Rattle.strong_apa.specs.Dispatch.{processors_of}
 use Rattle.sched_core.specs.CoreData.{CoreData, IsCore, core_orders}
 use Rattle.sched_core.specs.CoreRows.{row_at}
 use Rattle.sched_core.specs.declared.scheduler.Core.TheInside.{Inside}

@@ -1,8 +1,8 @@
 //! The orders to each processor, which follow the links from event to event.
 ghost use Rattle.std.specs.Prelude.{◌≡◌, ℕ, ◌+◌, [], length, get_or, replicate, IfOk};
 ghost use Rattle.std.specs.Result.{OnOk};
-ghost use Rattle.scheduler_reply.specs.Reply.{chain_of};
-ghost use Rattle.certificate_laws.specs.Touched.{touched};
+ghost use Rattle.strong_apa.specs.Reply.{chain_of};
+ghost use Rattle.strong_apa.specs.Touched.{touched};
 ghost use Rattle.sched_core.specs.CoreRows.{HasRoomInEach, CanFollow, HoldOutside, RowsOnlyGrew, RowsRun, RowsChange, RowsFollow, RowsClose, NumbersBecome, came_below, empty_row};
 
 use crate::order_row::OrderRow;

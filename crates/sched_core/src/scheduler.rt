@@ -2,12 +2,12 @@
 ghost use Rattle.std.specs.Prelude.{◌≡◌, ℕ, ◌+◌, ◌*◌, ◌<◌, ◌≤◌, All, IfOk, true, false, [], length, if◌then◌else◌};
 ghost use Rattle.std.specs.Result.{OnOk, OnErr, IsOk};
 ghost use Rattle.task_set.specs.Orders.{IsObeyable, NamesTaskBelow, TakesBelow};
-ghost use Rattle.link_state.specs.State.{task_count, start_of};
-ghost use Rattle.link_state.specs.Step.{IsEventFor, SchedulerStep};
-ghost use Rattle.certificate_laws.specs.Certified.{HasCertificates};
-ghost use Rattle.certificate_laws.specs.Laws.{LinkedIsBest, LinkedIsLargest, LinkedIsAsUrgent};
+ghost use Rattle.strong_apa.specs.State.{task_count, start_of};
+ghost use Rattle.strong_apa.specs.Step.{IsEventFor, SchedulerStep};
+ghost use Rattle.strong_apa.specs.Certified.{HasCertificates};
+ghost use Rattle.strong_apa.specs.CertificateLaws.{LinkedIsBest, LinkedIsLargest, LinkedIsAsUrgent};
 ghost use Rattle.sched_core.specs.CoreData.{CoreData, IsCore, Applied, AppliedOrRefused, OnlyMadeRoom, core_orders, max_entries};
-ghost use Rattle.certificate_laws.specs.Improving.{HasNoImprovingChain};
+ghost use Rattle.strong_apa.specs.Improving.{HasNoImprovingChain};
 
 use crate::fault::CoreFault;
 use crate::order_row::OrderRow;

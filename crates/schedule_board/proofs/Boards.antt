@@ -6,7 +6,7 @@ use Rattle.left_right.specs.Register.{Admits, TurnsAt, Forks, Merges}
 use Rattle.atomic_table.proofs.Lists.{at_set, at_snoc}
 use Rattle.schedule_board.specs.declared.shown.Shown.{Shown}
 use Rattle.schedule_board.specs.declared.view.ObserverView.{ObserverView}
-use Rattle.schedule_board.specs.Views.{KeepsBoard, Fits, Sees, newcomer, informed, looked, GoesOn}
+use Rattle.schedule_board.specs.Views.{KeepsBoard, Fits, Sees, newcomer, informed, looked, ShownGoesOn}
 use Rattle.schedule_board.proofs.Prefixes.{prefix_self, prefix_trans}
 
 pub new_fits : (x : Shown) → Fits x newcomer
@@ -18,20 +18,20 @@ all_set x views seat w fits h j u e = ⊎_elim (λ (t : (j ≡ seat) × (w ≡ u
 all_snoc : (x : Shown) (views : List ObserverView) (w : ObserverView) → Fits x w → KeepsBoard x views → KeepsBoard x (views ++ w ∷ [])
 all_snoc x views w fits h j u e = ⊎_elim (h j u) (λ (same : w ≡ u). subst (Fits x) same fits) (at_snoc views w u j e)
 
-fits_on : (x y : Shown) (v : ObserverView) → GoesOn x y → Fits x v → Fits y v
+fits_on : (x y : Shown) (v : ObserverView) → ShownGoesOn x y → Fits x v → Fits y v
 fits_on x y v on fits e = record {
   processors = (fits e).processors ∙ sym on.processors;
   book = (fits e).book ∙ sym on.book;
   seen = prefix_trans v.seen.log x.reached.log y.reached.log (fits e).seen on.grows;
 }
 
-keeps_on : (x y : Shown) (views : List ObserverView) → GoesOn x y → KeepsBoard x views → KeepsBoard y views
+keeps_on : (x y : Shown) (views : List ObserverView) → ShownGoesOn x y → KeepsBoard x views → KeepsBoard y views
 keeps_on x y views on h j u e = fits_on x y u on (h j u e)
 
-pub stays : (x : Shown) → GoesOn x x
+pub stays : (x : Shown) → ShownGoesOn x x
 stays x = record { processors = refl; book = refl; grows = prefix_self x.reached.log }
 
-pub turns : (seat : ℕ) (v : ObserverView) (x y : Shown) → GoesOn x y → TurnsAt KeepsBoard seat v x y Sees
+pub turns : (seat : ℕ) (v : ObserverView) (x y : Shown) → ShownGoesOn x y → TurnsAt KeepsBoard seat v x y Sees
 turns seat v x y on views h at = (
   looked v y,
   all_set y views seat (looked v y) (λ e. record { processors = refl; book = refl; seen = prefix_self y.reached.log }) (keeps_on x y views on h),

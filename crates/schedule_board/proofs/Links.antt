@@ -3,16 +3,16 @@ use Rattle.std.proofs.Common.{◌≡◌, ℕ, ◌<◌, ◌≤◌, List, length, 
 use Rattle.std.specs.List.{range_with_len}
 use Rattle.std.proofs.lemmas.List.{get_or_past, drop_all}
 use Rattle.std.proofs.lemmas.List.FromFn.{get_or-map-range_with_len, length-map-range_with_len}
-use Rattle.scheduler_reply.specs.declared.reply.Came.{Came}
-use Rattle.scheduler_reply.specs.declared.reply.Came.TheVariants as came
-use Rattle.scheduler_reply.specs.declared.reply.Gone.{Gone}
-use Rattle.scheduler_reply.specs.declared.reply.Reply.{Reply}
-use Rattle.scheduler_reply.specs.Reply.{reply_of_came, came_of, gone_of}
-use Rattle.scheduler_reply.proofs.Replies.{came_says, gone_says}
+use Rattle.strong_apa.specs.declared.reply.Came.{Came}
+use Rattle.strong_apa.specs.declared.reply.Came.TheVariants as came
+use Rattle.strong_apa.specs.declared.reply.Gone.{Gone}
+use Rattle.strong_apa.specs.declared.reply.Reply.{Reply}
+use Rattle.strong_apa.specs.Reply.{reply_of_came, came_of, gone_of}
+use Rattle.strong_apa.proofs.Replies.{came_says, gone_says}
 use Rattle.task_set.specs.declared.event.Event.TheVariants.{Arrive, Depart}
-use Rattle.link_state.specs.State.{State, task_on, state_after_leaving, state_with_ready, state_with_mask, state_with_offline}
-use Rattle.link_state.specs.Chain.{occupant_after_shift, state_after_shift}
-use Rattle.link_state.specs.History.{state_after_reply, state_after_came, state_after_gone}
+use Rattle.strong_apa.specs.State.{State, task_on, state_after_leaving, state_with_ready, state_with_mask, state_with_offline}
+use Rattle.strong_apa.specs.Chain.{occupant_after_shift, state_after_shift}
+use Rattle.strong_apa.specs.History.{state_after_reply, state_after_came, state_after_gone}
 use Rattle.schedule_board.specs.declared.occupants.Occupants.{Occupants}
 use Rattle.schedule_board.specs.Links.{ShowsLinks}
 

@@ -1,11 +1,11 @@
 -- A picture follows the entries.
 use Rattle.std.proofs.Common.{◌≡◌, ℕ, ◌+◌, List, [], ◌∷◌, ◌++◌, refl, sym, ap, ◌∙◌, length-append}
 use Rattle.task_set.specs.TaskSet.{SetData}
-use Rattle.scheduler_reply.specs.declared.reply.Entry.{Entry}
-use Rattle.link_state.specs.State.{State, start_of, task_on}
-use Rattle.link_state.specs.History.{effect_of, state_after}
-use Rattle.link_state.proofs.Histories.{state_after-push}
-use Rattle.link_state.proofs.SameTasks.{same_tasks-effect, same_tasks-history}
+use Rattle.strong_apa.specs.declared.reply.Entry.{Entry}
+use Rattle.strong_apa.specs.State.{State, start_of, task_on}
+use Rattle.strong_apa.specs.History.{effect_of, state_after}
+use Rattle.strong_apa.proofs.Histories.{state_after-push}
+use Rattle.strong_apa.proofs.SameTasks.{same_tasks-effect, same_tasks-history}
 use Rattle.schedule_board.specs.declared.picture.Picture.{Picture}
 use Rattle.schedule_board.specs.Links.{ShowsLinks}
 use Rattle.schedule_board.specs.Pictures.{IsPictureOf}

@@ -1,7 +1,7 @@
 -- The rule of the chronicle, and what its one step says. A chronicle is a book of two words with a log of entries.
 use Rattle.std.specs.Prelude.{ℕ, ◌≡◌, ◌==◌, true, List, [], ◌∷◌, ◌++◌, length, MatchBool}
 use Rattle.logbook.specs.Pages.{Cell, Step, View, Book, Named}
-use Rattle.scheduler_reply.specs.declared.reply.Entry.{Entry}
+use Rattle.strong_apa.specs.declared.reply.Entry.{Entry}
 
 -- the first word is the number of entries; the second word stays at 0
 pub record IsKept (cells : List Cell) (log : List Entry) : Type 0 where

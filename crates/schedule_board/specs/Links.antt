@@ -1,6 +1,6 @@
 -- Who is on which processor, as a picture has it.
 use Rattle.std.specs.Prelude.{◌≡◌, ℕ, ◌<◌, length, get_or, None}
-use Rattle.link_state.specs.State.{State, task_on}
+use Rattle.strong_apa.specs.State.{State, task_on}
 use Rattle.schedule_board.specs.declared.occupants.Occupants.{Occupants}
 
 -- these are the links of the state, in 64 places: it has as many processors, and on each the task that is linked to it

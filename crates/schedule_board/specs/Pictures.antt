@@ -1,9 +1,9 @@
 -- Pictures: which task is linked to which processor after some entries.
 use Rattle.std.specs.Prelude.{◌≡◌, ℕ, ◌<◌, List, length, get_or, Option, None}
 use Rattle.task_set.specs.TaskSet.{SetData}
-use Rattle.scheduler_reply.specs.declared.reply.Entry.{Entry}
-use Rattle.link_state.specs.State.{start_of, task_on}
-use Rattle.link_state.specs.History.{state_after}
+use Rattle.strong_apa.specs.declared.reply.Entry.{Entry}
+use Rattle.strong_apa.specs.State.{start_of, task_on}
+use Rattle.strong_apa.specs.History.{state_after}
 use Rattle.schedule_board.specs.declared.picture.Picture.{Picture}
 
 -- the task that a picture shows on a processor

@@ -32,13 +32,13 @@ abbrev pub Sees : ObserverView → Shown → Shown → ObserverView → Type 0
 Sees v x y w = (w ≡ looked v y) × Fits y v
 
 -- what is shown goes on, on the same board
-pub record GoesOn (x y : Shown) : Type 0 where
+pub record ShownGoesOn (x y : Shown) : Type 0 where
   pub processors : y.picture.occupants.processors ≡ x.picture.occupants.processors
   pub book : y.reached.book ≡ x.reached.book
   pub grows : IsPrefix x.reached.log y.reached.log
 
 -- who has this view knows what is shown
-pub record Knows (x : Shown) (v : ObserverView) : Type 0 where
+pub record KnowsShown (x : Shown) (v : ObserverView) : Type 0 where
   pub bound : v.bound ≡ true
   pub processors : v.processors ≡ x.picture.occupants.processors
   pub seen : v.seen ≡ x.reached

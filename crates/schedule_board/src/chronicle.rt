@@ -1,11 +1,11 @@
 //! The entries that were published, which stand in the proofs alone. What is kept of them is their number.
 ghost use Rattle.std.specs.Prelude.{◌≡◌, ◌+◌, ◌<◌, ◌^◌, ◌++◌, List, [], length, MatchBool};
-ghost use Rattle.scheduler_reply.specs.declared.reply.Entry.{Entry};
+ghost use Rattle.strong_apa.specs.declared.reply.Entry.{Entry};
 ghost use Rattle.schedule_board.specs.Chronicles.{head_of};
 
 use logbook::{Gain, Offer, Plain, Play, Rule, Seen, Start, Word};
-use scheduler_reply::Entry;
 use std::marker::{Brand, PhantomData};
+use strong_apa::Entry;
 
 /// The rule of the chronicle.
 pub struct ChronicleRule;
@@ -40,7 +40,7 @@ impl Gain<Entry, u64> for NoGain {
 impl Plain<u64, Entry, u64> for NoGain {
     ghost use Rattle.std.specs.Prelude.{None, []};
     ghost use Rattle.task_set.specs.declared.event.Event.TheVariants.{Tick};
-    ghost use Rattle.scheduler_reply.specs.declared.reply.Reply.TheVariants.{Ticked};
+    ghost use Rattle.strong_apa.specs.declared.reply.Reply.TheVariants.{Ticked};
 
     ghost ask = { λ x. record { caller = 0; event = Tick 0; reply = Ticked } };
 

@@ -2,13 +2,13 @@
 ghost use Rattle.std.specs.Prelude.{◌≡◌, ℕ, ◌<◌, All, length, get_or, None, is_some, Option};
 ghost use Rattle.affinity_mask.specs.ProcSet.{has};
 ghost use Rattle.task_set.specs.declared.event.Event.TheVariants.{Arrive, Depart, Affinity, Offline, Online};
-ghost use Rattle.link_state.specs.State.{State, task_on, occupant_but, state_after_leaving};
-ghost use Rattle.link_state.specs.Chain.{occupant_after_shift, state_after_shift};
-ghost use Rattle.link_state.specs.History.{effect_of, state_after_reply, state_after_came, state_after_left, state_after_gone};
+ghost use Rattle.strong_apa.specs.State.{State, task_on, occupant_but, state_after_leaving};
+ghost use Rattle.strong_apa.specs.Chain.{occupant_after_shift, state_after_shift};
+ghost use Rattle.strong_apa.specs.History.{effect_of, state_after_reply, state_after_came, state_after_left, state_after_gone};
 ghost use Rattle.schedule_board.specs.Links.{ShowsLinks};
 
 use affinity_mask::ProcSet;
-use scheduler_reply::{Came, Entry, Gone, Reply};
+use strong_apa::{Came, Entry, Gone, Reply};
 use task_set::Event;
 
 /// How many processors there may be.

@@ -1,12 +1,12 @@
 //! Which task is linked to which processor after so many entries.
-ghost use Rattle.scheduler_reply.specs.declared.reply.Entry.{Entry};
+ghost use Rattle.strong_apa.specs.declared.reply.Entry.{Entry};
 ghost use Rattle.std.specs.Prelude.{List, ◌≡◌, ℕ, ◌+◌, ◌<◌, ◌^◌, ◌++◌, ◌∷◌, [], is_some};
 ghost use Rattle.affinity_mask.specs.ProcSet.{has};
 ghost use Rattle.schedule_board.specs.Pictures.{IsPictureOf, task_at};
 
 use crate::occupants::Occupants;
 use affinity_mask::ProcSet;
-use scheduler_reply::Entry;
+use strong_apa::Entry;
 
 /// The links after some entries of a history.
 #[derive(Clone, Copy)]

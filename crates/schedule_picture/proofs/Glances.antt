@@ -7,14 +7,14 @@ use Rattle.std.proofs.lemmas.List.{get_or_default, get_or_past}
 use Rattle.std.proofs.lemmas.List.Sums.{position_or_len_is, fails_before_first, passes_at_first}
 use Rattle.task_set.specs.declared.event.Event.{Event}
 use Rattle.task_set.specs.declared.event.Event.TheVariants.{Arrive, Depart, Affinity, Offline, Online}
-use Rattle.scheduler_reply.specs.declared.reply.Came.{Came}
-use Rattle.scheduler_reply.specs.declared.reply.Came.TheVariants as came
-use Rattle.scheduler_reply.specs.declared.reply.Gone.{Gone}
-use Rattle.scheduler_reply.specs.declared.reply.Reply.{Reply}
-use Rattle.scheduler_reply.specs.declared.reply.Reply.TheVariants.{Placed, Displaced, Waits, Freed, Left, Masked, Remasked, Off, On}
-use Rattle.link_state.specs.State.{State, IsState, task_on, is_task, is_ready, state_with_mask, state_with_online, state_with_offline, state_after_leaving}
-use Rattle.link_state.specs.History.{state_after_reply, state_after_came, state_after_entering, state_after_left}
-use Rattle.link_state.proofs.Linked.{is_task-same}
+use Rattle.strong_apa.specs.declared.reply.Came.{Came}
+use Rattle.strong_apa.specs.declared.reply.Came.TheVariants as came
+use Rattle.strong_apa.specs.declared.reply.Gone.{Gone}
+use Rattle.strong_apa.specs.declared.reply.Reply.{Reply}
+use Rattle.strong_apa.specs.declared.reply.Reply.TheVariants.{Placed, Displaced, Waits, Freed, Left, Masked, Remasked, Off, On}
+use Rattle.strong_apa.specs.State.{State, IsState, task_on, is_task, is_ready, state_with_mask, state_with_online, state_with_offline, state_after_leaving}
+use Rattle.strong_apa.specs.History.{state_after_reply, state_after_came, state_after_entering, state_after_left}
+use Rattle.strong_apa.proofs.Linked.{is_task-same}
 use Rattle.schedule_picture.specs.declared.span.Seen.{Seen}
 use Rattle.schedule_picture.specs.Spans.{row_of}
 use Rattle.schedule_picture.specs.Track.{TrackData, fresh_track, Sees}

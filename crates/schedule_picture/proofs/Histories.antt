@@ -6,14 +6,14 @@ use Rattle.std.proofs.lemmas.List.{take_more, length-map, length-replicate, get_
 use Rattle.std.proofs.lemmas.Option.{slice_get_within, slice_get_read, get_or_from_slice_get}
 use Rattle.affinity_mask.proofs.Sets.{has-all_below}
 use Rattle.task_set.specs.TaskSet.{SetData, TaskData}
-use Rattle.scheduler_reply.specs.declared.reply.Entry.{Entry}
-use Rattle.link_state.specs.State.{State, IsState, start_of, task_count, task_on, is_ready}
-use Rattle.link_state.specs.History.{state_at, state_after, effect_of}
-use Rattle.link_state.specs.Step.{IsEventFor}
-use Rattle.link_state.proofs.Start.{none_on, none_ready}
-use Rattle.link_state.proofs.Histories.{state_after-push}
-use Rattle.link_state.proofs.SameTasks.{same_tasks-history}
-use Rattle.certificate_laws.specs.Passing.{Passes, IsPassing, IsPassingFrom}
+use Rattle.strong_apa.specs.declared.reply.Entry.{Entry}
+use Rattle.strong_apa.specs.State.{State, IsState, start_of, task_count, task_on, is_ready}
+use Rattle.strong_apa.specs.History.{state_at, state_after, effect_of}
+use Rattle.strong_apa.specs.Step.{IsEventFor}
+use Rattle.strong_apa.proofs.Start.{none_on, none_ready}
+use Rattle.strong_apa.proofs.Histories.{state_after-push}
+use Rattle.strong_apa.proofs.SameTasks.{same_tasks-history}
+use Rattle.strong_apa.specs.Passing.{Passes, IsPassing, IsPassingFrom}
 use Rattle.schedule_text.specs.Schedule.{ScheduleData, IsSchedule, IsScheduled}
 use Rattle.schedule_picture.specs.declared.span.Seen.{Seen}
 use Rattle.schedule_picture.specs.declared.span.Seen.TheVariants.{Task}

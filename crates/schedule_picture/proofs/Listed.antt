@@ -10,7 +10,7 @@ use Rattle.std.proofs.lemmas.List.Quantifiers.{all_pairs_push}
 use Rattle.std.proofs.lemmas.List.Sorted.{All-permutation, Contains-permutation}
 use Rattle.std.proofs.lemmas.Map.Keys.{IsDistinct-from_apart, IsDistinct-IsPermutation, apart_from_distinct}
 use Rattle.task_set.specs.TaskSet.{SetData, TaskData, IsTaskSet, priorities}
-use Rattle.link_state.proofs.Start.{IsState-start}
+use Rattle.strong_apa.proofs.Start.{IsState-start}
 use Rattle.schedule_picture.specs.declared.span.Span.{Span}
 use Rattle.schedule_picture.specs.declared.window.Window.{Window}
 use Rattle.schedule_picture.specs.Listing.{AreByUrgency, AreFoundBelow, IsListing, is_ready_in, waits_in}

@@ -2,7 +2,7 @@
 use Rattle.std.proofs.Common.{◌≡◌, ℕ, ◌+◌, ◌≤◌, List, length, ap, ◌∙◌, subst}
 use Rattle.std.specs.Prelude.{slice_index}
 use Rattle.task_set.specs.TaskSet.{SetData}
-use Rattle.scheduler_reply.specs.declared.reply.Entry.{Entry}
+use Rattle.strong_apa.specs.declared.reply.Entry.{Entry}
 use Rattle.schedule_picture.specs.declared.axis.Axis.{Axis}
 use Rattle.schedule_picture.specs.declared.window.Window.{Window}
 use Rattle.schedule_picture.specs.declared.tracks.Tracks.{Tracks}

@@ -4,8 +4,8 @@ use Rattle.std.specs.List.{position_or_len}
 use Rattle.std.specs.Prelude.{position}
 use Rattle.std.proofs.lemmas.Bool.{cases_Bool, lt-ltb, le-ltb}
 use Rattle.std.proofs.lemmas.List.Sums.{position_or_len_is}
-use Rattle.link_state.specs.State.{State, IsState, task_on, is_task, is_ready, is_linked}
-use Rattle.link_state.proofs.Linked.{is_task-same, is_task-true, occupied_number, not_on}
+use Rattle.strong_apa.specs.State.{State, IsState, task_on, is_task, is_ready, is_linked}
+use Rattle.strong_apa.proofs.Linked.{is_task-same, is_task-true, occupied_number, not_on}
 use Rattle.schedule_picture.specs.declared.span.Seen.TheVariants.{Processor, Waiting}
 use Rattle.schedule_picture.specs.Spans.{row_of}
 

@@ -3,7 +3,7 @@ use Rattle.std.proofs.Common.{◌≡◌, ℕ, ◌-◌, List, [], ◌++◌, appen
 use Rattle.std.specs.Prelude.{codes}
 use Rattle.affinity_mask.specs.Number.{canonical_number}
 use Rattle.task_set.specs.TaskSet.{SetData}
-use Rattle.scheduler_reply.specs.declared.reply.Entry.{Entry}
+use Rattle.strong_apa.specs.declared.reply.Entry.{Entry}
 use Rattle.schedule_picture.specs.declared.tracks.Tracks.{Tracks}
 use Rattle.schedule_picture.specs.Chrome.{IsChrome, chrome_of, event_text}
 use Rattle.schedule_picture.specs.History.{HaveSpans}

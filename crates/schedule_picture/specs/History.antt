@@ -2,7 +2,7 @@
 -- and when it waited.
 use Rattle.std.specs.Prelude.{◌≡◌, ℕ, ◌<◌, List, length, get_or}
 use Rattle.task_set.specs.TaskSet.{SetData}
-use Rattle.scheduler_reply.specs.declared.reply.Entry.{Entry}
+use Rattle.strong_apa.specs.declared.reply.Entry.{Entry}
 use Rattle.schedule_picture.specs.Spans.{AreSpans, lane_at, absence_at, row_at}
 use Rattle.schedule_picture.specs.Track.{fresh_track}
 use Rattle.schedule_picture.specs.declared.tracks.Tracks.{Tracks}

@@ -4,9 +4,9 @@
 use Rattle.std.specs.Prelude.{◌≡◌, ◌≢◌, ℕ, ◌+◌, ◌-◌, ◌<◌, ◌≤◌, ◌⊎◌, List, Option, Some, None, All, AllPairs, Contains, position, option_map, if◌then◌else◌}
 use Rattle.affinity_mask.specs.ProcSet.{has}
 use Rattle.task_set.specs.TaskSet.{SetData}
-use Rattle.scheduler_reply.specs.declared.reply.Entry.{Entry}
-use Rattle.link_state.specs.State.{State, task_on, is_task, is_ready}
-use Rattle.link_state.specs.History.{state_at}
+use Rattle.strong_apa.specs.declared.reply.Entry.{Entry}
+use Rattle.strong_apa.specs.State.{State, task_on, is_task, is_ready}
+use Rattle.strong_apa.specs.History.{state_at}
 use Rattle.schedule_picture.specs.declared.span.Seen.{Seen}
 use Rattle.schedule_picture.specs.declared.span.Seen.TheVariants.{Task, OffLine, Processor, Waiting}
 use Rattle.schedule_picture.specs.declared.span.Span.{Span}

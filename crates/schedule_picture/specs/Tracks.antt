@@ -2,9 +2,9 @@
 use Rattle.std.specs.Prelude.{◌≡◌, ◌≢◌, ℕ, ◌<◌, ◌≤◌, ◌⊎◌, List, length, get_or, replicate, Option, Some, None}
 use Rattle.task_set.specs.declared.event.Event.{Event}
 use Rattle.task_set.specs.declared.event.Event.TheVariants.{Arrive, Depart, Tick, Affinity, Offline, Online}
-use Rattle.scheduler_reply.specs.declared.reply.Reply.{Reply}
-use Rattle.scheduler_reply.specs.declared.reply.Reply.TheVariants.{Off}
-use Rattle.link_state.specs.State.{State, task_on, is_ready}
+use Rattle.strong_apa.specs.declared.reply.Reply.{Reply}
+use Rattle.strong_apa.specs.declared.reply.Reply.TheVariants.{Off}
+use Rattle.strong_apa.specs.State.{State, task_on, is_ready}
 use Rattle.schedule_picture.specs.declared.span.Seen.{Seen}
 use Rattle.schedule_picture.specs.declared.tracks.Tracks.{Tracks}
 use Rattle.schedule_picture.specs.Spans.{lane_of, absence_of, row_of}

@@ -12,7 +12,7 @@ use crate::span::{Seen, Span};
 use crate::track::Track;
 use crate::tracks::Tracks;
 use affinity_mask::OutOfMemory;
-use scheduler_reply::Entry;
+use strong_apa::Entry;
 use task_set::Event;
 use text_fields::write_event_text;
 

@@ -5,8 +5,8 @@ ghost use Rattle.schedule_picture.specs.Picture.{units_of, places_of, columns_of
 
 use affinity_mask::OutOfMemory;
 use schedule_text::Schedule;
-use scheduler_reply::Entry;
 use std::alloc::Global;
+use strong_apa::Entry;
 use task_set::Event;
 
 /// What the axis of a picture counts.

@@ -1,7 +1,7 @@
 //! A schedule as a trace in Chrome's format, which Perfetto and chrome://tracing open.
 ghost use Rattle.std.specs.Prelude.{◌≡◌, ◌++◌, ◌<◌, OnOk, IfOk};
 ghost use Rattle.std.specs.List.{flat_map, range_with_len};
-ghost use Rattle.certificate_laws.specs.Passing.{IsPassing};
+ghost use Rattle.strong_apa.specs.Passing.{IsPassing};
 ghost use Rattle.text_fields.specs.EventText.{name_of};
 ghost use Rattle.schedule_picture.specs.Chrome.{IsChrome, chrome_of, event_of_span, event_text, lane_events};
 ghost use Rattle.schedule_picture.specs.History.{HaveSpans};

@@ -1,7 +1,7 @@
 //! The spans of a schedule, in one pass over its entries.
 ghost use Rattle.std.specs.Prelude.{◌≡◌, IfOk, OnOk, length};
-ghost use Rattle.link_state.specs.State.{start_of};
-ghost use Rattle.certificate_laws.specs.Passing.{IsPassing};
+ghost use Rattle.strong_apa.specs.State.{start_of};
+ghost use Rattle.strong_apa.specs.Passing.{IsPassing};
 ghost use Rattle.schedule_picture.specs.History.{HaveSpans};
 ghost use Rattle.schedule_picture.specs.Tracks.{AreFresh, AllEnd};
 

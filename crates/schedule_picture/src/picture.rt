@@ -1,6 +1,6 @@
 //! The picture of a schedule.
 ghost use Rattle.std.specs.Prelude.{◌≡◌, ◌≤◌, ◌+◌, All, length, slice_index, IfOk};
-ghost use Rattle.certificate_laws.specs.Passing.{IsPassing};
+ghost use Rattle.strong_apa.specs.Passing.{IsPassing};
 ghost use Rattle.schedule_text.specs.ScheduleText.{IsEntryOf};
 ghost use Rattle.schedule_picture.specs.History.{HaveSpans};
 ghost use Rattle.schedule_picture.specs.Picture.{IsPicture, HasGroupsOf, cut_window, places_of, end_of};
@@ -16,8 +16,8 @@ use crate::tracks::Tracks;
 use crate::window::Window;
 use affinity_mask::OutOfMemory;
 use schedule_text::Schedule;
-use scheduler_reply::Entry;
 use std::alloc::Global;
+use strong_apa::Entry;
 
 /// How many entries a window has at most whose moves, arrivals and departures are marked.
 const MARKED_ENTRIES: u32 = 400;

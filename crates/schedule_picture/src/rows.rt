@@ -1,7 +1,7 @@
 //! The tracks of the tasks. An entry changes something only of the task that comes or goes by it, and of those that are linked
 //! to another processor than before, or to none, or were to none. No other task is looked at.
 ghost use Rattle.std.specs.Prelude.{◌≡◌, ◌<◌, ℕ, Some, false, vec_len, length, OnOk};
-ghost use Rattle.link_state.specs.State.{task_count, task_on, is_task};
+ghost use Rattle.strong_apa.specs.State.{task_count, task_on, is_task};
 ghost use Rattle.schedule_picture.specs.Spans.{row_of};
 ghost use Rattle.schedule_picture.specs.Tracks.{EachSees, EachSeesOrStays, ShowBefore, last_on, moved_task, mover_of};
 
@@ -10,7 +10,7 @@ use crate::track::Track;
 use crate::tracks::see_one;
 use affinity_mask::OutOfMemory;
 use link_table::Links;
-use scheduler_reply::{Entry, Reply};
+use strong_apa::{Entry, Reply};
 use task_set::Event;
 
 /// The task that comes or goes by an entry, if there is one.

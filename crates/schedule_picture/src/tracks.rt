@@ -1,6 +1,6 @@
 //! The tracks of all processors and tasks, which follow the links from entry to entry.
 ghost use Rattle.std.specs.Prelude.{◌≡◌, ◌<◌, replicate, vec_len, IfOk, OnOk};
-ghost use Rattle.link_state.specs.State.{task_count};
+ghost use Rattle.strong_apa.specs.State.{task_count};
 ghost use Rattle.schedule_picture.specs.Spans.{lane_of, absence_of};
 ghost use Rattle.schedule_picture.specs.Track.{fresh_track};
 ghost use Rattle.schedule_picture.specs.Tracks.{EachSees, OneSees, AllSee, AreFresh, AreTracksOf, ShowBefore, EachEnds, OneEnds, AllEnd};

@@ -3,9 +3,9 @@ use Rattle.std.proofs.Common.{◌≡◌, ◌≢◌, ℕ, ◌<◌, ◌⊎◌, inl
 use Rattle.std.specs.Prelude.{codes}
 use Rattle.task_set.specs.TaskSet.{SetData}
 use Rattle.task_set.specs.Refusal.{IsNameOf}
-use Rattle.scheduler_reply.specs.declared.reply.Came.{Came}
-use Rattle.scheduler_reply.specs.declared.reply.Came.TheVariants as came
-use Rattle.scheduler_reply.specs.declared.reply.Gone.{Gone}
+use Rattle.strong_apa.specs.declared.reply.Came.{Came}
+use Rattle.strong_apa.specs.declared.reply.Came.TheVariants as came
+use Rattle.strong_apa.specs.declared.reply.Gone.{Gone}
 use Rattle.text_fields.specs.EventText.{name_of}
 use Rattle.schedule_text.specs.ScheduleText.{chain_text, set_text}
 use Rattle.schedule_text.specs.Schedule.{AreOfProcessors}

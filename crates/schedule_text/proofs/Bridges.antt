@@ -9,9 +9,9 @@ use Rattle.task_set.specs.TaskSet.{TaskData, SetData, IsTaskSet}
 use Rattle.task_set.specs.declared.context.Context.{Context}
 use Rattle.task_set.specs.declared.event.Event.{Event}
 use Rattle.task_set.specs.declared.event.Event.TheVariants.{Arrive, Depart, Tick, Affinity, Offline, Online}
-use Rattle.scheduler_reply.specs.declared.reply.Reply.{Reply}
-use Rattle.scheduler_reply.specs.declared.reply.Entry.{Entry}
-use Rattle.scheduler_reply.specs.Reply.{IsReplyOfVersion}
+use Rattle.strong_apa.specs.declared.reply.Reply.{Reply}
+use Rattle.strong_apa.specs.declared.reply.Entry.{Entry}
+use Rattle.strong_apa.specs.Reply.{IsReplyOfVersion}
 use Rattle.text_fields.specs.LineText.{line, task_line, task_fields}
 use Rattle.text_fields.specs.EventText.{name_of, event_text, IsAboutSet, event_fields}
 use Rattle.schedule_text.specs.ScheduleText.{number_text, reply_fields, context_fields, spaced, reply_text, entry_line, context_line, IsReplyOf}

@@ -5,7 +5,7 @@ use Rattle.std.specs.List.{join_with_byte}
 use Rattle.std.proofs.lemmas.List.{length-map, map-append, get_or-map}
 use Rattle.std.proofs.lemmas.List.Elements.{All-nil, All-push, All-weaker, All-map, All-get_or, All-head, All-tail}
 use Rattle.affinity_mask.specs.Number.{canonical_number}
-use Rattle.line_machine.specs.Fields.{texts}
+use Rattle.text_fields.specs.Fields.{texts}
 use Rattle.schedule_text.specs.ScheduleText.{chain_text}
 use Rattle.schedule_text.specs.Schedule.{IsProcessorList}
 use Rattle.schedule_text.specs.Fields.{links_of, IsNumberField, IsChainField, AreProcessorFields}

@@ -5,7 +5,7 @@ use Rattle.affinity_mask.specs.Number.{canonical_number}
 use Rattle.task_set.specs.TaskSet.{SetData}
 use Rattle.task_set.specs.declared.context.Context.{Context}
 use Rattle.text_fields.specs.EventText.{name_of}
-use Rattle.line_machine.specs.Fields.{texts}
+use Rattle.text_fields.specs.Fields.{texts}
 use Rattle.schedule_text.specs.ScheduleText.{number_text, context_fields}
 use Rattle.schedule_text.specs.Schedule.{IsContextOf}
 use Rattle.schedule_text.specs.Fields.{IsNumberField, IsLastField}

@@ -4,8 +4,8 @@ use Rattle.affinity_mask.specs.Number.{canonical_number}
 use Rattle.task_set.specs.TaskSet.{SetData, IsTaskSet}
 use Rattle.task_set.specs.declared.event.Event.{Event}
 use Rattle.task_set.specs.declared.event.Event.TheVariants.{Arrive, Depart, Tick, Affinity, Offline, Online}
-use Rattle.scheduler_reply.specs.declared.reply.Reply.{Reply}
-use Rattle.scheduler_reply.specs.declared.reply.Entry.{Entry}
+use Rattle.strong_apa.specs.declared.reply.Reply.{Reply}
+use Rattle.strong_apa.specs.declared.reply.Entry.{Entry}
 use Rattle.schedule_text.specs.ScheduleText.{reply_fields}
 use Rattle.schedule_text.specs.Fields.{IsNumberField}
 use Rattle.schedule_text.specs.LineFields.{IsSaid, IsEventFields, IsReplyFields, IsEntryFields, IsSomeEntry, IsEventSize, IsEventThen}

@@ -3,8 +3,8 @@ use Rattle.std.proofs.Common.{◌≡◌, ℕ, ◌<◌, ◌≤◌, List, [], ◌�
 use Rattle.std.specs.Prelude.{codes}
 use Rattle.task_set.specs.TaskSet.{SetData}
 use Rattle.task_set.specs.declared.event.Event.{Event}
-use Rattle.line_machine.specs.Fields.{texts}
-use Rattle.line_machine.proofs.FieldLists.{texts_two, texts_three}
+use Rattle.text_fields.specs.Fields.{texts}
+use Rattle.text_fields.proofs.FieldLists.{texts_two, texts_three}
 use Rattle.schedule_text.specs.declared.fault.TextKind.{TextKind}
 use Rattle.schedule_text.specs.LineFields.{IsEventFault}
 

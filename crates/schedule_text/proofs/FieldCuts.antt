@@ -11,7 +11,7 @@ use Rattle.std.proofs.lemmas.List.Elements.{All-from_get_or}
 use Rattle.std.proofs.lemmas.List.Splits.{slice_split_none, slice_split_at}
 use Rattle.std.proofs.lemmas.Nat.Bits.{bit_at-trailing_zeros, bit_at-zero}
 use Rattle.std.specs.Int.{trailing_zeros}
-use Rattle.line_machine.specs.Fields.{texts}
+use Rattle.text_fields.specs.Fields.{texts}
 use Rattle.schedule_text.specs.Fields.{spaced_fields_of}
 use Rattle.schedule_text.specs.Spacing.{AreSpaces}
 

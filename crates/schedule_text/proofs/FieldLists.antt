@@ -2,11 +2,11 @@
 use Rattle.std.proofs.Common.{◌≡◌, ℕ, zero, suc, ◌-◌, ◌<◌, ◌≤◌, List, [], ◌∷◌, length, take, drop, get_or, Bor, refl, sym, ap, ◌∙◌, ◌++◌, arith, append_assoc, length-append, ◌≢◌, Bool, false, nat_eq}
 use Rattle.std.specs.Prelude.{codes}
 use Rattle.std.proofs.lemmas.Bool.{true≢false}
-use Rattle.line_machine.specs.Fields.{texts}
+use Rattle.text_fields.specs.Fields.{texts}
 use Rattle.schedule_text.specs.ScheduleText.{spaced}
 use Rattle.schedule_text.specs.LineFields.{IsGoneThen}
 use Rattle.text_fields.proofs.Words.{head_same, tail_same}
-use Rattle.line_machine.proofs.FieldLists.{texts_first_one, texts_three, texts_four}
+use Rattle.text_fields.proofs.FieldLists.{texts_first_one, texts_three, texts_four}
 
 pub texts_five : (fields : List (Bor (List ℕ))) (d : Bor (List ℕ)) → 5 ≤ length fields → length fields < 6
     → texts fields ≡ (get_or fields 0 d).now ∷ (get_or fields 1 d).now ∷ (get_or fields 2 d).now

@@ -3,9 +3,9 @@ use Rattle.std.proofs.Common.{◌≡◌, ℕ, ◌+◌, ◌<◌, List, [], ◌++�
 use Rattle.std.proofs.lemmas.List.{map-append, length-map, get_or_append_left, get_or-append-add}
 use Rattle.std.proofs.lemmas.List.Elements.{All-append}
 use Rattle.task_set.specs.TaskSet.{TaskData, SetData, names}
-use Rattle.scheduler_reply.specs.declared.reply.Came.{Came}
-use Rattle.scheduler_reply.specs.declared.reply.Came.TheVariants as came
-use Rattle.scheduler_reply.specs.declared.reply.Gone.{Gone}
+use Rattle.strong_apa.specs.declared.reply.Came.{Came}
+use Rattle.strong_apa.specs.declared.reply.Came.TheVariants as came
+use Rattle.strong_apa.specs.declared.reply.Gone.{Gone}
 use Rattle.text_fields.specs.EventText.{name_of}
 use Rattle.schedule_text.specs.LineForms.{IsField, HasFields}
 use Rattle.schedule_text.specs.LineFields.{IsCameFields, IsGoneFields}

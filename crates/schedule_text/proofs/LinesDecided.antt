@@ -6,7 +6,7 @@ use Rattle.affinity_mask.specs.Number.{canonical_number}
 use Rattle.task_set.specs.TaskSet.{TaskData, SetData, IsTaskSet, with_task}
 use Rattle.task_set.specs.Refusal.{new_task}
 use Rattle.task_set.specs.declared.context.Context.{Context}
-use Rattle.scheduler_reply.specs.declared.reply.Entry.{Entry}
+use Rattle.strong_apa.specs.declared.reply.Entry.{Entry}
 use Rattle.schedule_text.specs.Schedule.{ScheduleData, IsSchedule, IsContextOf}
 use Rattle.schedule_text.specs.ScheduleFault.{IsLineFault, IsScheduleRefused}
 use Rattle.schedule_text.specs.Prefix.{Progress, whole, HeaderExpected, ProcessorsExpected, TasksExpected, EntriesExpected, ContextsExpected, Ended, IsPrefix, IsUnended}

@@ -12,14 +12,14 @@ use Rattle.task_set.proofs.Refusals.{CanAdd-IsRefusal, same_refusal}
 use Rattle.task_set.specs.declared.context.Context.{Context}
 use Rattle.task_set.specs.declared.event.Event.{Event}
 use Rattle.task_set.specs.declared.event.Event.TheVariants.{Arrive, Depart, Tick, Affinity, Offline, Online}
-use Rattle.scheduler_reply.specs.declared.reply.Reply.{Reply}
-use Rattle.scheduler_reply.specs.declared.reply.Reply.TheVariants.{Remasked, Off, On}
-use Rattle.scheduler_reply.specs.declared.reply.Came.{Came}
-use Rattle.scheduler_reply.specs.declared.reply.Came.TheVariants as came
-use Rattle.scheduler_reply.specs.declared.reply.Gone.{Gone}
-use Rattle.scheduler_reply.specs.declared.reply.Moved.{Moved}
-use Rattle.scheduler_reply.specs.Reply.{reply_of_came, reply_of_gone}
-use Rattle.scheduler_reply.specs.declared.reply.Entry.{Entry}
+use Rattle.strong_apa.specs.declared.reply.Reply.{Reply}
+use Rattle.strong_apa.specs.declared.reply.Reply.TheVariants.{Remasked, Off, On}
+use Rattle.strong_apa.specs.declared.reply.Came.{Came}
+use Rattle.strong_apa.specs.declared.reply.Came.TheVariants as came
+use Rattle.strong_apa.specs.declared.reply.Gone.{Gone}
+use Rattle.strong_apa.specs.declared.reply.Moved.{Moved}
+use Rattle.strong_apa.specs.Reply.{reply_of_came, reply_of_gone}
+use Rattle.strong_apa.specs.declared.reply.Entry.{Entry}
 use Rattle.text_fields.specs.EventText.{IsAboutSet, event_fields}
 use Rattle.schedule_text.specs.ScheduleText.{chain_text, set_text, somebody_text, reply_fields}
 use Rattle.schedule_text.specs.Schedule.{IsProcessorList, IsOfProcessors}

@@ -10,7 +10,7 @@ use Rattle.task_set.specs.TaskSet.{TaskData, SetData, with_task, IsMask}
 use Rattle.task_set.specs.Name.{IsName}
 use Rattle.task_set.proofs.Added.{IsTaskSet-push}
 use Rattle.task_set.specs.declared.context.Context.{Context}
-use Rattle.scheduler_reply.specs.declared.reply.Entry.{Entry}
+use Rattle.strong_apa.specs.declared.reply.Entry.{Entry}
 use Rattle.text_fields.specs.LineText.{line, processors_line, task_line}
 use Rattle.schedule_text.specs.ScheduleText.{entry_line, context_line, header, schedule_text}
 use Rattle.schedule_text.specs.Schedule.{ScheduleData, IsScheduled, IsContextOf, AreInOrder, IsScheduleSet, IsSchedule}

@@ -2,15 +2,15 @@
 use Rattle.std.proofs.Common.{◌≡◌, ◌≢◌, ℕ, ◌-◌, ◌≤◌, List, ◌∷◌, length, take, drop, get_or, None, Bor, Result, Ok, Err, IfOk, IfErr, refl, sym, ap, ◌∙◌, subst}
 use Rattle.std.specs.Prelude.{codes}
 use Rattle.task_set.specs.TaskSet.{SetData}
-use Rattle.scheduler_reply.specs.declared.reply.Came.{Came}
-use Rattle.scheduler_reply.specs.declared.reply.Reply.{Reply}
-use Rattle.scheduler_reply.specs.declared.reply.Reply.TheVariants.{Remasked}
-use Rattle.scheduler_reply.specs.Reply.{reply_of_gone, reply_of_came}
-use Rattle.line_machine.specs.Fields.{texts}
+use Rattle.strong_apa.specs.declared.reply.Came.{Came}
+use Rattle.strong_apa.specs.declared.reply.Reply.{Reply}
+use Rattle.strong_apa.specs.declared.reply.Reply.TheVariants.{Remasked}
+use Rattle.strong_apa.specs.Reply.{reply_of_gone, reply_of_came}
+use Rattle.text_fields.specs.Fields.{texts}
 use Rattle.schedule_text.specs.declared.fault.TextKind.{TextKind}
 use Rattle.schedule_text.specs.LineFields.{IsCameFields, IsCameFault, IsGoneFields, IsGoneFault, IsReplyFields, IsReplyFault}
 use Rattle.schedule_text.proofs.FieldLists.{texts_rest_two, headed}
-use Rattle.line_machine.proofs.FieldLists.{texts_first_one}
+use Rattle.text_fields.proofs.FieldLists.{texts_first_one}
 use Rattle.schedule_text.proofs.Parts.{same_fault}
 use Rattle.schedule_text.proofs.FirstWords.{IsOtherWord}
 use Rattle.schedule_text.proofs.Replies.{came_to, came_from, freed_to, freed_from, waiting_to, waiting_from}

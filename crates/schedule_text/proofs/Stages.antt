@@ -2,7 +2,7 @@
 use Rattle.std.proofs.Common.{◌≡◌, ℕ, ◌<◌, ◌⊎◌, inl, inr, List, [], ◌∷◌, ◌++◌, length, refl, sym, ap, ◌∙◌, subst, arith}
 use Rattle.std.specs.Prelude.{codes}
 use Rattle.task_set.specs.TaskSet.{SetData, IsTaskSet}
-use Rattle.scheduler_reply.specs.declared.reply.Entry.{Entry}
+use Rattle.strong_apa.specs.declared.reply.Entry.{Entry}
 use Rattle.schedule_text.specs.ScheduleFault.{IsLineFault}
 use Rattle.schedule_text.specs.Prefix.{TasksExpected, EntriesExpected}
 use Rattle.schedule_text.specs.LineForms.{IsHeaderForm, IsProcessorsForm, IsHistoryForm}

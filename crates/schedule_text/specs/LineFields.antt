@@ -8,11 +8,11 @@ use Rattle.task_set.specs.Refusal.{CanAdd, IsNewName, IsRefusal}
 use Rattle.task_set.specs.declared.context.Context.{Context}
 use Rattle.task_set.specs.declared.fault.TaskFault.{TaskFault}
 use Rattle.task_set.specs.declared.event.Event.{Event}
-use Rattle.scheduler_reply.specs.declared.reply.Came.{Came}
-use Rattle.scheduler_reply.specs.declared.reply.Gone.{Gone}
-use Rattle.scheduler_reply.specs.declared.reply.Reply.{Reply}
-use Rattle.scheduler_reply.specs.declared.reply.Entry.{Entry}
-use Rattle.scheduler_reply.specs.Reply.{came_chains, came_sets, came_tasks, IsReplyOfVersion}
+use Rattle.strong_apa.specs.declared.reply.Came.{Came}
+use Rattle.strong_apa.specs.declared.reply.Gone.{Gone}
+use Rattle.strong_apa.specs.declared.reply.Reply.{Reply}
+use Rattle.strong_apa.specs.declared.reply.Entry.{Entry}
+use Rattle.strong_apa.specs.Reply.{came_chains, came_sets, came_tasks, IsReplyOfVersion}
 use Rattle.text_fields.specs.LineText.{task_fields}
 use Rattle.text_fields.specs.EventText.{event_fields, IsAboutSet}
 use Rattle.schedule_text.specs.ScheduleText.{came_fields, gone_fields, reply_fields, context_fields, AreTasksOf, IsReplyOf}

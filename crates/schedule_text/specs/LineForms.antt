@@ -5,9 +5,9 @@ use Rattle.affinity_mask.specs.Number.{canonical_number}
 use Rattle.task_set.specs.TaskSet.{TaskData, SetData}
 use Rattle.task_set.specs.declared.context.Context.{Context}
 use Rattle.task_set.specs.declared.event.Event.{Event}
-use Rattle.scheduler_reply.specs.declared.reply.Reply.{Reply}
-use Rattle.scheduler_reply.specs.declared.reply.Entry.{Entry}
-use Rattle.scheduler_reply.specs.Reply.{IsReplyOfVersion}
+use Rattle.strong_apa.specs.declared.reply.Reply.{Reply}
+use Rattle.strong_apa.specs.declared.reply.Entry.{Entry}
+use Rattle.strong_apa.specs.Reply.{IsReplyOfVersion}
 use Rattle.text_fields.specs.LineText.{line, task_line}
 use Rattle.text_fields.specs.EventText.{event_text, IsAboutSet}
 use Rattle.text_fields.specs.Version.{IsVersion}

@@ -4,7 +4,7 @@ use Rattle.std.specs.List.{flat_map}
 use Rattle.affinity_mask.specs.Number.{canonical_number}
 use Rattle.task_set.specs.TaskSet.{SetData}
 use Rattle.task_set.specs.declared.context.Context.{Context}
-use Rattle.scheduler_reply.specs.declared.reply.Entry.{Entry}
+use Rattle.strong_apa.specs.declared.reply.Entry.{Entry}
 use Rattle.text_fields.specs.LineText.{line, processors_line, task_line}
 use Rattle.text_fields.specs.Version.{IsVersion}
 use Rattle.schedule_text.specs.ScheduleText.{entry_line, context_line, header, schedule_text}

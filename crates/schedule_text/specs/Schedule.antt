@@ -8,9 +8,9 @@ use Rattle.text_fields.specs.LineText.{PrioritiesFit}
 use Rattle.task_set.specs.TaskSet.{SetData, IsTaskSet}
 use Rattle.task_set.specs.declared.context.Context.{Context}
 use Rattle.task_set.specs.Event.{HasUnits}
-use Rattle.scheduler_reply.specs.declared.reply.Reply.{Reply}
-use Rattle.scheduler_reply.specs.declared.reply.Entry.{Entry}
-use Rattle.scheduler_reply.specs.Reply.{chains_of, sets_of}
+use Rattle.strong_apa.specs.declared.reply.Reply.{Reply}
+use Rattle.strong_apa.specs.declared.reply.Entry.{Entry}
+use Rattle.strong_apa.specs.Reply.{chains_of, sets_of}
 use Rattle.text_fields.specs.Version.{IsVersion}
 use Rattle.schedule_text.specs.ScheduleText.{IsEntryOf, IsEntryOfVersion}
 use Rattle.schedule_text.specs.declared.schedule.Schedule.TheInside.{Inside}

@@ -8,7 +8,7 @@ use Rattle.task_set.specs.TaskSet.{TaskData, SetData}
 use Rattle.task_set.specs.Refusal.{IsRefusal}
 use Rattle.task_set.specs.declared.fault.TaskFault.{TaskFault}
 use Rattle.task_set.specs.declared.fault.TaskFault.TheVariants as task
-use Rattle.scheduler_reply.specs.declared.reply.Entry.{Entry}
+use Rattle.strong_apa.specs.declared.reply.Entry.{Entry}
 use Rattle.text_fields.specs.LineText.{line}
 use Rattle.schedule_text.specs.Schedule.{ScheduleData, IsSchedule}
 use Rattle.schedule_text.specs.declared.fault.TextKind.{TextKind}

@@ -1,8 +1,8 @@
 //! The lines of entries.
 ghost use Rattle.std.specs.Prelude.{◌≡◌, ◌⊎◌, ◌∷◌, ◌++◌, [], List, ℕ, codes, IfOk, IfErr, OnOk, MatchOption};
-ghost use Rattle.scheduler_reply.specs.declared.reply.Entry.{Entry as EntryData};
-ghost use Rattle.scheduler_reply.specs.declared.reply.Reply.{Reply as ReplyData};
-ghost use Rattle.line_machine.specs.Fields.{texts};
+ghost use Rattle.strong_apa.specs.declared.reply.Entry.{Entry as EntryData};
+ghost use Rattle.strong_apa.specs.declared.reply.Reply.{Reply as ReplyData};
+ghost use Rattle.text_fields.specs.Fields.{texts};
 ghost use Rattle.schedule_text.specs.declared.fault.TextKind.TheVariants.{BadLine};
 ghost use Rattle.schedule_text.specs.Fields.{IsProcessorField};
 ghost use Rattle.schedule_text.specs.Reading.{IsOutOfMemory};
@@ -19,7 +19,7 @@ ghost use Rattle.schedule_text.specs.LineFields.{
 use crate::fault::TextKind;
 use crate::field::{fault_with, known_task, mask_of, number_of, processor_of};
 use crate::reply::{read_reply, waiting_reach};
-use scheduler_reply::{Entry, Reply};
+use strong_apa::{Entry, Reply};
 use task_set::{Event, TaskSet};
 use text_fields::limits::{LAST_VERSION, MAX_STREAM, MAX_UNITS};
 use text_fields::{EventWord, event_word, is_word, is_word_of};

@@ -1,6 +1,6 @@
 //! What a field says.
 ghost use Rattle.std.specs.Prelude.{◌≡◌, ◌≢◌, ℕ, codes, ◌⊎◌, ◌↔◌, ◌++◌, ◌∷◌, IsTrue, List, Contains, IfOk, IfErr, IfSome, MatchOption, MatchResult};
-ghost use Rattle.line_machine.specs.Fields.{texts};
+ghost use Rattle.text_fields.specs.Fields.{texts};
 ghost use Rattle.schedule_text.specs.LineForms.{IsField};
 ghost use Rattle.schedule_text.specs.Fields.{links_of, IsNumberField, IsProcessorField, IsListField, IsMaskField, IsSetField, IsChainField, AreProcessorFields, IsNumberAfter, IsSomebodyField, HasLeadingZero};
 ghost use Rattle.schedule_text.specs.LineFields.{IsNameFault, both_of, first_reported};
@@ -9,11 +9,10 @@ ghost use Rattle.schedule_text.specs.declared.fault.TextKind.TheVariants.{BadLin
 
 use crate::fault::TextKind;
 use affinity_mask::ProcSet;
-use line_machine::line_end;
-use scheduler_reply::Chain;
+use strong_apa::Chain;
 use task_set::TaskSet;
 use text_fields::limits::MAX_PROCESSOR;
-use text_fields::{is_word, read_number, task_of};
+use text_fields::{is_word, line_end, read_number, task_of};
 
 /// The most processors of a chain.
 const MAX_CHAIN: usize = 64;
@@ -89,7 +88,9 @@ fn has_leading_zero(field: &[u8]) -> bool
     field.len() > 1 && field[0] == b'0'
 }
 
-/// The processors of a canonical list, which has one at least.
+/// The processors of a canonical list, which has one at least. It is laid into its callers, since what it returns is taken
+/// apart there at once.
+#[inline(always)]
 pub fn list_of(field: &[u8]) -> Result<ProcSet, TextKind>
     ensures read { IfOk result (IsListField field.now) }
     ensures refused { IfErr result (λ kind. ((kind ≡ BadLine) × ((X : ℕ) → IsListField field.now X → ⊥))) }

@@ -1,7 +1,7 @@
 //! The lines of tasks and of contexts.
 ghost use Rattle.std.specs.Prelude.{◌≡◌, ℕ, ◌<◌, ◌⊎◌, ◌++◌, ◌↔◌, IsTrue, IfOk, IfErr, OnOk, MatchBool, MatchOption, Option, length};
 ghost use Rattle.task_set.specs.declared.context.Context.{Context};
-ghost use Rattle.line_machine.specs.Fields.{texts};
+ghost use Rattle.text_fields.specs.Fields.{texts};
 ghost use Rattle.affinity_mask.specs.Number.{canonical_number};
 ghost use Rattle.schedule_text.specs.LineForms.{IsContextText};
 ghost use Rattle.schedule_text.specs.Reading.{IsOutOfMemory};

@@ -1,10 +1,10 @@
 //! The reply of an entry.
 ghost use Rattle.std.specs.Prelude.{◌≡◌, ◌↔◌, IsTrue, ◌⊎◌, ◌∷◌, [], List, ℕ, codes, IfOk, IfErr, IfSome, MatchOption, MatchResult};
 ghost use Rattle.task_set.specs.TaskSet.{SetData};
-ghost use Rattle.scheduler_reply.specs.declared.reply.Came.{Came as CameData};
-ghost use Rattle.scheduler_reply.specs.declared.reply.Reply.TheVariants.{Waits};
-ghost use Rattle.scheduler_reply.specs.Reply.{reply_of_came};
-ghost use Rattle.line_machine.specs.Fields.{texts};
+ghost use Rattle.strong_apa.specs.declared.reply.Came.{Came as CameData};
+ghost use Rattle.strong_apa.specs.declared.reply.Reply.TheVariants.{Waits};
+ghost use Rattle.strong_apa.specs.Reply.{reply_of_came};
+ghost use Rattle.text_fields.specs.Fields.{texts};
 ghost use Rattle.schedule_text.specs.LineFields.{
   displaced_fields,
   gone_words,
@@ -23,7 +23,7 @@ ghost use Rattle.schedule_text.specs.declared.fault.TextKind.TheVariants.{BadLin
 use crate::fault::TextKind;
 use crate::field::{both, chain_of, known_task, set_of, somebody_of};
 use affinity_mask::ProcSet;
-use scheduler_reply::{Came, Gone, Moved, Reply};
+use strong_apa::{Came, Gone, Moved, Reply};
 use task_set::TaskSet;
 use text_fields::is_word;
 use text_fields::limits::LAST_VERSION;

@@ -1,8 +1,8 @@
 //! Schedules: tasks, the entries of a history, and a context for each task.
 ghost use Rattle.std.specs.Prelude.{◌≡◌};
 
-use scheduler_reply::Entry;
 use std::marker::Model;
+use strong_apa::Entry;
 use task_set::{Context, TaskSet};
 use text_fields::limits::MAX_EVENTS;
 

@@ -1,6 +1,6 @@
 //! The fields of a line: what stands between its spaces. Sixteen bytes are compared at once.
 ghost use Rattle.std.specs.Prelude.{◌≡◌, ◌≢◌, ℕ, ◌+◌, ◌<◌, ◌≤◌, length, min, IfOk};
-ghost use Rattle.line_machine.specs.Fields.{texts};
+ghost use Rattle.text_fields.specs.Fields.{texts};
 ghost use Rattle.schedule_text.specs.Fields.{spaced_fields_of};
 ghost use Rattle.schedule_text.specs.Spacing.{AreSpaces};
 
@@ -10,7 +10,8 @@ use std::simd::prelude::*;
 /// How many bytes are compared at once.
 const BLOCK: usize = 16;
 
-/// The fields of a line, in this room.
+/// The fields of a line, in this room. It is laid into its callers, since each line of a text asks it once.
+#[inline(always)]
 pub fn spaced_fields<'a, 'r>(
     text: &'a [u8],
     room: &'r mut Vec<&'a [u8]>,

@@ -1,7 +1,7 @@
 //! What was read so far, and what is expected.
 ghost use Rattle.std.specs.Prelude.{◌≡◌, ◌≢◌, ℕ, ◌<◌, ◌≤◌, ◌⊎◌, List, [], codes, length, IfOk, IfErr, OnOk, MatchResult};
 ghost use Rattle.task_set.specs.TaskSet.{SetData};
-ghost use Rattle.scheduler_reply.specs.declared.reply.Entry.{Entry};
+ghost use Rattle.strong_apa.specs.declared.reply.Entry.{Entry};
 ghost use Rattle.schedule_text.specs.ScheduleFault.{IsLineFault};
 ghost use Rattle.schedule_text.specs.LineForms.{IsCountForm};
 ghost use Rattle.schedule_text.specs.Prefix.{whole, IsPrefix, IsWholePrefix, HeaderExpected, ProcessorsExpected, TasksExpected, EntriesExpected, ContextsExpected};
@@ -15,8 +15,8 @@ use crate::field::number_after;
 use crate::line::{add_task, is_numbered, read_context};
 use crate::schedule::{MAX_ENTRIES, Schedule};
 use crate::spacing::spaced_fields;
-use scheduler_reply::Entry;
 use std::alloc::Global;
+use strong_apa::Entry;
 use task_set::{Context, TaskSet};
 use text_fields::is_word;
 use text_fields::limits::{FIRST_VERSION, LAST_VERSION, MAX_PROCESSORS};

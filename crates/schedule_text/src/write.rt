@@ -4,9 +4,9 @@ ghost use Rattle.std.specs.List.{flat_map};
 ghost use Rattle.affinity_mask.specs.Number.{canonical_number};
 ghost use Rattle.text_fields.specs.LineText.{line};
 ghost use Rattle.text_fields.specs.Version.{IsVersion};
-ghost use Rattle.scheduler_reply.specs.Reply.{came_tasks};
-ghost use Rattle.scheduler_reply.specs.declared.reply.Came.TheVariants as came;
-ghost use Rattle.scheduler_reply.specs.declared.reply.Reply.TheVariants.{Remasked, Off};
+ghost use Rattle.strong_apa.specs.Reply.{came_tasks};
+ghost use Rattle.strong_apa.specs.declared.reply.Came.TheVariants as came;
+ghost use Rattle.strong_apa.specs.declared.reply.Reply.TheVariants.{Remasked, Off};
 ghost use Rattle.schedule_text.specs.ScheduleText.{
   chain_text,
   set_text,
@@ -25,8 +25,8 @@ ghost use Rattle.schedule_text.specs.ScheduleText.{
 };
 
 use affinity_mask::{OutOfMemory, ProcSet};
-use scheduler_reply::{Came, Chain, Entry, Gone, Moved, Reply};
 use std::alloc::Global;
+use strong_apa::{Came, Chain, Entry, Gone, Moved, Reply};
 use task_set::{Context, TaskSet};
 use text_fields::{
     write_event_text, write_name, write_number, write_processors_line, write_task_lines,

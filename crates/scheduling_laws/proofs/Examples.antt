@@ -12,15 +12,15 @@ use Rattle.task_set.specs.declared.event.Event.{Event}
 use Rattle.task_set.specs.declared.event.Event.TheVariants.{Arrive, Tick, Affinity, Offline}
 use Rattle.task_set.specs.declared.order.Order.{Order}
 use Rattle.task_set.specs.declared.order.Order.TheVariants.{Release, Take, Run, Stop}
-use Rattle.scheduler_reply.specs.declared.reply.Reply.{Reply}
-use Rattle.scheduler_reply.specs.declared.reply.Reply.TheVariants.{Placed, Displaced, Ticked}
-use Rattle.scheduler_reply.specs.declared.reply.Entry.{Entry}
-use Rattle.link_state.specs.State.{State, IsWaiting, priority_of, effective_mask, start_of}
-use Rattle.link_state.specs.Chain.{Reaches, IsReach}
-use Rattle.link_state.specs.History.{linked_after, ready_after, state_at}
-use Rattle.link_state.specs.Placement.{TaskTest, IsSubset, IsPlaceable}
-use Rattle.link_state.specs.Dispatch.{closed_orders_of}
-use Rattle.link_state.proofs.Paths.{Reaches-online}
+use Rattle.strong_apa.specs.declared.reply.Reply.{Reply}
+use Rattle.strong_apa.specs.declared.reply.Reply.TheVariants.{Placed, Displaced, Ticked}
+use Rattle.strong_apa.specs.declared.reply.Entry.{Entry}
+use Rattle.strong_apa.specs.State.{State, IsWaiting, priority_of, effective_mask, start_of}
+use Rattle.strong_apa.specs.Chain.{Reaches, IsReach}
+use Rattle.strong_apa.specs.History.{linked_after, ready_after, state_at}
+use Rattle.strong_apa.specs.Placement.{TaskTest, IsSubset, IsPlaceable}
+use Rattle.strong_apa.specs.Dispatch.{closed_orders_of}
+use Rattle.strong_apa.proofs.Paths.{Reaches-online}
 use Rattle.trace_reader.specs.declared.posted.Posted.{Posted}
 use Rattle.job_release.specs.Jobs.{job_at}
 use Rattle.job_release.specs.JobInput.{JobInputData}

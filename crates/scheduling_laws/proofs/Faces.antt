@@ -4,23 +4,23 @@ use Rattle.std.proofs.Common.{◌≡◌, ◌≢◌, ℕ, ◌≤◌, List, true, 
 use Rattle.std.proofs.lemmas.Bool.{cases_Bool, cases_lt, cases_eq, true≢false}
 use Rattle.std.proofs.lemmas.Option.{same_Some}
 use Rattle.affinity_mask.specs.ProcSet.{has}
-use Rattle.link_state.specs.State.{State, IsState, IsWaiting, IsMoreUrgent, is_linked, task_on, priority_of}
-use Rattle.link_state.specs.Chain.{IsChainOf, IsSimple, state_after_shift}
-use Rattle.link_state.specs.Placement.{IsPlacement}
-use Rattle.link_state.proofs.Ends.{least_chain_to_idle, least_chain_to_task}
-use Rattle.link_state.proofs.Linked.{place_in, task_on-linked, is_linked-from_on, not_on, linked_number}
-use Rattle.link_state.proofs.Paths.{Reaches-online}
-use Rattle.link_state.proofs.Shifts.{IsState-state_after_shift, occupant_from, task_on-state_after_shift}
-use Rattle.link_state.proofs.Simple.{Avoids-none}
-use Rattle.link_state.proofs.Unique.{ready_number}
-use Rattle.certificate_laws.specs.Certified.{HasCertificates}
-use Rattle.certificate_laws.specs.Improving.{HasNoImprovingChain}
-use Rattle.certificate_laws.specs.Held.{IsHeldAgainst}
-use Rattle.certificate_laws.specs.Laws.{LinkedIsBest}
-use Rattle.certificate_laws.proofs.Best.{linked_is_best}
-use Rattle.certificate_laws.proofs.Closed.{IsReach-first, IsReach-closed}
-use Rattle.certificate_laws.proofs.Improved.{no_improving_chain}
-use Rattle.certificate_laws.proofs.KeptByShifts.{linked_or_out}
+use Rattle.strong_apa.specs.State.{State, IsState, IsWaiting, IsMoreUrgent, is_linked, task_on, priority_of}
+use Rattle.strong_apa.specs.Chain.{IsChainOf, IsSimple, state_after_shift}
+use Rattle.strong_apa.specs.Placement.{IsPlacement}
+use Rattle.strong_apa.proofs.Ends.{least_chain_to_idle, least_chain_to_task}
+use Rattle.strong_apa.proofs.Linked.{place_in, task_on-linked, is_linked-from_on, not_on, linked_number}
+use Rattle.strong_apa.proofs.Paths.{Reaches-online}
+use Rattle.strong_apa.proofs.Shifts.{IsState-state_after_shift, occupant_from, task_on-state_after_shift}
+use Rattle.strong_apa.proofs.Simple.{Avoids-none}
+use Rattle.strong_apa.proofs.Unique.{ready_number}
+use Rattle.strong_apa.specs.Certified.{HasCertificates}
+use Rattle.strong_apa.specs.Improving.{HasNoImprovingChain}
+use Rattle.strong_apa.specs.Held.{IsHeldAgainst}
+use Rattle.strong_apa.specs.CertificateLaws.{LinkedIsBest}
+use Rattle.strong_apa.proofs.Best.{linked_is_best}
+use Rattle.strong_apa.proofs.Closed.{IsReach-first, IsReach-closed}
+use Rattle.strong_apa.proofs.Improved.{no_improving_chain}
+use Rattle.strong_apa.proofs.KeptByShifts.{linked_or_out}
 use Rattle.history_laws.proofs.StepReach.{reach_exists}
 use Rattle.scheduling_laws.specs.Faces.{IsCertifiedByReach, BestIsCertified, CertifiedIsWithoutChain, CertifiedIsByReach}
 

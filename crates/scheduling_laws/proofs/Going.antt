@@ -10,20 +10,20 @@ use Rattle.std.proofs.Math.Seq.{take-length}
 use Rattle.std.proofs.lemmas.Option.{same_Some, slice_get_within}
 use Rattle.task_set.specs.declared.order.Order.{Order}
 use Rattle.task_set.specs.declared.order.Order.TheVariants.{Release, Take, Run, Stop}
-use Rattle.scheduler_reply.specs.declared.reply.Entry.{Entry}
-use Rattle.link_state.specs.State.{State, IsState, start_of, task_on, is_task}
-use Rattle.link_state.specs.History.{IsLegalFrom, effect_of}
-use Rattle.link_state.specs.Dispatch.{taken_between, release_of, orders_of, closed_orders_of}
-use Rattle.link_state.proofs.Histories.{entry_orders}
-use Rattle.link_state.proofs.Least.{Decided}
-use Rattle.link_state.proofs.Linked.{is_task-same, is_task-true}
-use Rattle.link_state.proofs.SameTasks.{same_tasks-effect}
-use Rattle.link_state.proofs.Start.{IsState-start}
-use Rattle.link_state.proofs.Steps.{step_keeps_state}
-use Rattle.certificate_laws.proofs.FirstFound.{both_decided, exists_below}
-use Rattle.order_laws.proofs.CarriedAlong.{is_task-other}
-use Rattle.order_laws.proofs.OrderLists.{close_orders, closed_orders_of-split}
-use Rattle.order_laws.proofs.Starts.{nobody_ready}
+use Rattle.strong_apa.specs.declared.reply.Entry.{Entry}
+use Rattle.strong_apa.specs.State.{State, IsState, start_of, task_on, is_task}
+use Rattle.strong_apa.specs.History.{IsLegalFrom, effect_of}
+use Rattle.strong_apa.specs.Dispatch.{taken_between, release_of, orders_of, closed_orders_of}
+use Rattle.strong_apa.proofs.Histories.{entry_orders}
+use Rattle.strong_apa.proofs.Least.{Decided}
+use Rattle.strong_apa.proofs.Linked.{is_task-same, is_task-true}
+use Rattle.strong_apa.proofs.SameTasks.{same_tasks-effect}
+use Rattle.strong_apa.proofs.Start.{IsState-start}
+use Rattle.strong_apa.proofs.Steps.{step_keeps_state}
+use Rattle.strong_apa.proofs.FirstFound.{both_decided, exists_below}
+use Rattle.history_laws.proofs.CarriedAlong.{is_task-other}
+use Rattle.history_laws.proofs.OrderLists.{close_orders, closed_orders_of-split}
+use Rattle.history_laws.proofs.Starts.{nobody_ready}
 use Rattle.scheduling_laws.specs.Going.{takes_task, releases_task, steps_of, obeyed, obeyed_count, times_taken, times_released, CanBeObeyed, IsRun, NeverStops, CanBeEnded, OrdersCanGoOnFrom, OrdersCanGoOn, OrdersCanBeEndedFrom, OrdersCanBeEnded, HasOrders, CanGoOn}
 use Rattle.scheduling_laws.proofs.GoingEntries.{IsFree, IsEnding, no_orders, none_ends, close_ends, event_takes, event_releases, IsTakeOf, take_in_event, release_in_event, all_orders, all_orders_are, all_obeyable, take_number_least, releases_bounded}
 use Rattle.scheduling_laws.proofs.GoingSums.{one_if, sum_below, range_sum, sum-add, sum-le, sum-zero, sum-at, sum-more, slice_get-left, slice_get-right, slice_get-is, count-cons, count_take-append, count_take-more}

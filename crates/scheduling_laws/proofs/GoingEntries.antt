@@ -7,12 +7,12 @@ use Rattle.task_set.specs.declared.event.Event.{Event}
 use Rattle.task_set.specs.declared.event.Event.TheVariants.{Tick}
 use Rattle.task_set.specs.declared.order.Order.{Order}
 use Rattle.task_set.specs.declared.order.Order.TheVariants.{Release, Take, Run, Stop}
-use Rattle.scheduler_reply.specs.declared.reply.Entry.{Entry}
-use Rattle.link_state.specs.State.{State, task_on, is_task}
-use Rattle.link_state.specs.History.{IsLegalFrom, effect_of, state_after}
-use Rattle.link_state.specs.Dispatch.{change_orders, tick_orders, release_of, taken_between, orders_from}
-use Rattle.link_state.proofs.Histories.{entry_orders}
-use Rattle.order_laws.proofs.OrderLists.{event_orders, close_orders, orders_then}
+use Rattle.strong_apa.specs.declared.reply.Entry.{Entry}
+use Rattle.strong_apa.specs.State.{State, task_on, is_task}
+use Rattle.strong_apa.specs.History.{IsLegalFrom, effect_of, state_after}
+use Rattle.strong_apa.specs.Dispatch.{change_orders, tick_orders, release_of, taken_between, orders_from}
+use Rattle.strong_apa.proofs.Histories.{entry_orders}
+use Rattle.history_laws.proofs.OrderLists.{event_orders, close_orders, orders_then}
 use Rattle.scheduling_laws.specs.Going.{takes_task, releases_task}
 use Rattle.scheduling_laws.proofs.GoingSums.{one_if, slice_get-left, slice_get-right, count-cons, count-append}
 

@@ -1,13 +1,13 @@
 -- A waiting task with a certificate has no improving chain; so no chain of it ends on an idle processor, nor on a less urgent task.
 use Rattle.std.proofs.Common.{◌∙◌, ℕ, Some, ap, inl, inr, arith}
 use Rattle.std.proofs.lemmas.Bool.{cases_eq, cases_lt}
-use Rattle.link_state.specs.State.{State, IsState, priority_of}
-use Rattle.link_state.specs.History.{state_at}
-use Rattle.link_state.proofs.Linked.{not_on, linked_number}
-use Rattle.link_state.proofs.Unique.{ready_number}
-use Rattle.certificate_laws.specs.Certified.{HasCertificates}
-use Rattle.certificate_laws.proofs.Improved.{no_improving_chain}
-use Rattle.certificate_laws.proofs.Kept.{legal_is_certified, passing_is_certified}
+use Rattle.strong_apa.specs.State.{State, IsState, priority_of}
+use Rattle.strong_apa.specs.History.{state_at}
+use Rattle.strong_apa.proofs.Linked.{not_on, linked_number}
+use Rattle.strong_apa.proofs.Unique.{ready_number}
+use Rattle.strong_apa.specs.Certified.{HasCertificates}
+use Rattle.strong_apa.proofs.Improved.{no_improving_chain}
+use Rattle.strong_apa.proofs.Kept.{legal_is_certified, passing_is_certified}
 use Rattle.scheduling_laws.specs.InReach.{IsWorkConserving, HasNoInversion, LegalConservesWork, PassingConservesWork, LegalHasNoInversion, PassingHasNoInversion}
 
 module _ (s : State) (ok : IsState s) (certified : HasCertificates s) where

@@ -5,11 +5,11 @@ use Rattle.std.proofs.lemmas.Bool.{cases_Bool, cases_lt, true≢false, and_from,
 use Rattle.std.proofs.lemmas.List.{length-map}
 use Rattle.std.proofs.Math.Bool.{and-true}
 use Rattle.task_set.specs.TaskSet.{TaskData}
-use Rattle.scheduler_reply.specs.declared.reply.Entry.{Entry}
-use Rattle.link_state.specs.State.{start_of, task_count, is_ready, is_linked}
-use Rattle.link_state.specs.Placement.{TaskTest, IsBest}
-use Rattle.link_state.proofs.BestOnce.{best_is_unique}
-use Rattle.certificate_laws.proofs.Counts.{count_below-more, count_below-same}
+use Rattle.strong_apa.specs.declared.reply.Entry.{Entry}
+use Rattle.strong_apa.specs.State.{start_of, task_count, is_ready, is_linked}
+use Rattle.strong_apa.specs.Placement.{TaskTest, IsBest}
+use Rattle.strong_apa.proofs.BestOnce.{best_is_unique}
+use Rattle.strong_apa.proofs.Counts.{count_below-more, count_below-same}
 use Rattle.job_release.specs.Jobs.{demand, goal_of}
 use Rattle.job_release.specs.JobInput.{JobInputData, IsJobInput, jobs_at}
 use Rattle.job_release.specs.declared.input.Job.{Job}

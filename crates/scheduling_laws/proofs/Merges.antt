@@ -1,6 +1,6 @@
 -- A merge has the events of each stream in their order, so all merges have the same events of each task and of each processor.
 use Rattle.std.proofs.Common.{◌≡◌, ℕ, true, List, sym, ◌∙◌}
-use Rattle.scheduler_reply.specs.declared.reply.Entry.{Entry}
+use Rattle.strong_apa.specs.declared.reply.Entry.{Entry}
 use Rattle.trace_reader.specs.declared.posted.Posted.{Posted}
 use Rattle.replay.specs.Merge.{IsMerge}
 use Rattle.replay.proofs.MergedCounts.{merge_posted}

@@ -10,25 +10,25 @@ use Rattle.affinity_mask.proofs.Sets.{has-intersection, has-with_member, has-wit
 use Rattle.task_set.specs.TaskSet.{SetData}
 use Rattle.task_set.specs.declared.event.Event.{Event}
 use Rattle.task_set.specs.declared.event.Event.TheVariants.{Arrive, Depart, Tick, Affinity, Offline, Online}
-use Rattle.scheduler_reply.specs.declared.reply.Came.{Came}
-use Rattle.scheduler_reply.specs.declared.reply.Came.TheVariants.{Placed, Displaced, Waits}
-use Rattle.scheduler_reply.specs.declared.reply.Gone.{Gone}
-use Rattle.scheduler_reply.specs.declared.reply.Reply.{Reply}
-use Rattle.scheduler_reply.specs.declared.reply.Entry.{Entry}
-use Rattle.link_state.specs.State.{State, IsState, start_of, is_ready, is_linked, mask_of, effective_mask, task_count, state_with_mask, state_with_online, state_with_offline, state_after_leaving}
-use Rattle.link_state.specs.Step.{SchedulerStep, ArriveStep, DepartStep, LeaveStep, AffinityStep, OfflineStep, OnlineStep}
-use Rattle.link_state.specs.History.{IsLegalFrom, effect_of, state_after, state_after_came, state_after_entering, state_after_left}
-use Rattle.link_state.proofs.BestOnce.{best_is_unique}
-use Rattle.link_state.proofs.Histories.{IsState-state_after}
-use Rattle.link_state.proofs.Linked.{linked_number}
-use Rattle.link_state.proofs.SameTasks.{same_tasks-history}
-use Rattle.link_state.proofs.Start.{IsState-start}
-use Rattle.link_state.proofs.Steps.{comes_effect, fills_effect, leave_effect, step_keeps_state}
-use Rattle.link_state.proofs.Unique.{ready_number}
-use Rattle.certificate_laws.specs.Laws.{LinkedIsBest}
-use Rattle.certificate_laws.proofs.SameBest.{priority_of-same}
+use Rattle.strong_apa.specs.declared.reply.Came.{Came}
+use Rattle.strong_apa.specs.declared.reply.Came.TheVariants.{Placed, Displaced, Waits}
+use Rattle.strong_apa.specs.declared.reply.Gone.{Gone}
+use Rattle.strong_apa.specs.declared.reply.Reply.{Reply}
+use Rattle.strong_apa.specs.declared.reply.Entry.{Entry}
+use Rattle.strong_apa.specs.State.{State, IsState, start_of, is_ready, is_linked, mask_of, effective_mask, task_count, state_with_mask, state_with_online, state_with_offline, state_after_leaving}
+use Rattle.strong_apa.specs.Step.{SchedulerStep, ArriveStep, DepartStep, LeaveStep, AffinityStep, OfflineStep, OnlineStep}
+use Rattle.strong_apa.specs.History.{IsLegalFrom, effect_of, state_after, state_after_came, state_after_entering, state_after_left}
+use Rattle.strong_apa.proofs.BestOnce.{best_is_unique}
+use Rattle.strong_apa.proofs.Histories.{IsState-state_after}
+use Rattle.strong_apa.proofs.Linked.{linked_number}
+use Rattle.strong_apa.proofs.SameTasks.{same_tasks-history}
+use Rattle.strong_apa.proofs.Start.{IsState-start}
+use Rattle.strong_apa.proofs.Steps.{comes_effect, fills_effect, leave_effect, step_keeps_state}
+use Rattle.strong_apa.proofs.Unique.{ready_number}
+use Rattle.strong_apa.specs.CertificateLaws.{LinkedIsBest}
+use Rattle.strong_apa.proofs.SameBest.{priority_of-same}
 use Rattle.history_laws.proofs.LegalHistories.{legal_is_best-from}
-use Rattle.order_laws.proofs.Starts.{nobody_ready}
+use Rattle.history_laws.proofs.Starts.{nobody_ready}
 use Rattle.scheduling_laws.specs.OneEnd.{is_of_task, is_of_processor, events_that, events_by, HaveSameEvents, AreBy, SameEventsHaveOneEnd, CallersGiveSameEvents}
 use Rattle.scheduling_laws.proofs.BestElsewhere.{IsBest-on}
 

@@ -6,13 +6,13 @@ use Rattle.std.proofs.lemmas.Bool.{cases_Bool, cases_eq, cases_lt, true≢false,
 use Rattle.std.proofs.lemmas.List.{get_or_past}
 use Rattle.std.proofs.lemmas.List.FromFn.{get_or-map-range_with_len, length-map-range_with_len}
 use Rattle.affinity_mask.specs.ProcSet.{has}
-use Rattle.link_state.specs.State.{State, IsState, task_count, task_on, is_ready, is_linked, effective_mask}
-use Rattle.link_state.specs.Placement.{TaskTest, IsPlacement, IsBest}
-use Rattle.link_state.proofs.Linked.{is_linked-from_on, not_linked-from_on}
-use Rattle.link_state.proofs.Masks.{effective_mask_below}
-use Rattle.certificate_laws.specs.Certified.{HasCertificates}
-use Rattle.certificate_laws.specs.Laws.{LinkedIsBest}
-use Rattle.certificate_laws.proofs.SameBest.{IsBest-same}
+use Rattle.strong_apa.specs.State.{State, IsState, task_count, task_on, is_ready, is_linked, effective_mask}
+use Rattle.strong_apa.specs.Placement.{TaskTest, IsPlacement, IsBest}
+use Rattle.strong_apa.proofs.Linked.{is_linked-from_on, not_linked-from_on}
+use Rattle.strong_apa.proofs.Masks.{effective_mask_below}
+use Rattle.strong_apa.specs.Certified.{HasCertificates}
+use Rattle.strong_apa.specs.CertificateLaws.{LinkedIsBest}
+use Rattle.strong_apa.proofs.SameBest.{IsBest-same}
 use Rattle.scheduling_laws.proofs.Faces.{best_is_certified}
 
 -- the last number below n that passes a test

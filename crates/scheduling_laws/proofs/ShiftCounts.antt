@@ -4,27 +4,27 @@ use Rattle.std.specs.Prelude.{All, sum_by}
 use Rattle.std.proofs.lemmas.List.Elements.{All-nil, All-cons}
 use Rattle.task_set.specs.TaskSet.{IsMask}
 use Rattle.task_set.specs.declared.event.Event.TheVariants.{Arrive, Depart, Tick, Affinity, Offline, Online}
-use Rattle.scheduler_reply.specs.declared.reply.Came.{Came}
-use Rattle.scheduler_reply.specs.declared.reply.Came.TheVariants.{Placed, Displaced, Waits}
-use Rattle.scheduler_reply.specs.declared.reply.Gone.{Gone}
-use Rattle.scheduler_reply.specs.declared.reply.Reply.{Reply}
-use Rattle.scheduler_reply.specs.declared.reply.Reply.TheVariants.{Remasked}
-use Rattle.scheduler_reply.specs.declared.reply.Entry.{Entry}
-use Rattle.scheduler_reply.specs.Reply.{reply_of_came, came_chain, came_chains}
-use Rattle.link_state.specs.State.{State, IsState, task_on, task_count, start_of, state_with_mask, state_with_offline, state_with_online, state_after_leaving}
-use Rattle.link_state.specs.Chain.{CanShift, IsChainOf, IsBackChain, IsPath, IsSimple}
-use Rattle.link_state.specs.History.{effect_of, state_after_left}
-use Rattle.link_state.proofs.Changes.{IsState-state_with_online}
-use Rattle.link_state.proofs.Ends.{chain_all_below}
-use Rattle.link_state.proofs.Leaving.{IsState-state_after_leaving}
-use Rattle.link_state.proofs.Linked.{occupied_number}
-use Rattle.link_state.proofs.SameTasks.{same_tasks-effect}
-use Rattle.link_state.proofs.Simple.{AllBelow, length-simple}
-use Rattle.link_state.proofs.Start.{IsState-start}
-use Rattle.link_state.proofs.Steps.{IsState-remasked, IsState-moved, same_tasks-left}
-use Rattle.certificate_laws.specs.Passing.{CamePasses, ArrivalPasses, DeparturePasses, EnteringPasses, GonePasses, LeavingPasses, AffinityPasses, OfflinePasses, OnlinePasses, IsPassingFrom}
-use Rattle.certificate_laws.proofs.Kept.{legal_passes}
-use Rattle.certificate_laws.proofs.KeptStates.{passing_keeps_state, left_by_passing}
+use Rattle.strong_apa.specs.declared.reply.Came.{Came}
+use Rattle.strong_apa.specs.declared.reply.Came.TheVariants.{Placed, Displaced, Waits}
+use Rattle.strong_apa.specs.declared.reply.Gone.{Gone}
+use Rattle.strong_apa.specs.declared.reply.Reply.{Reply}
+use Rattle.strong_apa.specs.declared.reply.Reply.TheVariants.{Remasked}
+use Rattle.strong_apa.specs.declared.reply.Entry.{Entry}
+use Rattle.strong_apa.specs.Reply.{reply_of_came, came_chain, came_chains}
+use Rattle.strong_apa.specs.State.{State, IsState, task_on, task_count, start_of, state_with_mask, state_with_offline, state_with_online, state_after_leaving}
+use Rattle.strong_apa.specs.Chain.{CanShift, IsChainOf, IsBackChain, IsPath, IsSimple}
+use Rattle.strong_apa.specs.History.{effect_of, state_after_left}
+use Rattle.strong_apa.proofs.Changes.{IsState-state_with_online}
+use Rattle.strong_apa.proofs.Ends.{chain_all_below}
+use Rattle.strong_apa.proofs.Leaving.{IsState-state_after_leaving}
+use Rattle.strong_apa.proofs.Linked.{occupied_number}
+use Rattle.strong_apa.proofs.SameTasks.{same_tasks-effect}
+use Rattle.strong_apa.proofs.Simple.{AllBelow, length-simple}
+use Rattle.strong_apa.proofs.Start.{IsState-start}
+use Rattle.strong_apa.proofs.Steps.{IsState-remasked, IsState-moved, same_tasks-left}
+use Rattle.strong_apa.specs.Passing.{CamePasses, ArrivalPasses, DeparturePasses, EnteringPasses, GonePasses, LeavingPasses, AffinityPasses, OfflinePasses, OnlinePasses, IsPassingFrom}
+use Rattle.strong_apa.proofs.Kept.{legal_passes}
+use Rattle.strong_apa.proofs.KeptStates.{passing_keeps_state, left_by_passing}
 use Rattle.scheduling_laws.specs.ShiftCounts.{shifts_of, most_shifts, PassingShiftsFew, LegalShiftsFew}
 
 -- ---- the chain of a task that comes

@@ -4,11 +4,11 @@
 use Rattle.std.proofs.Common.{◌≡◌, ℕ, suc, ◌-◌, ◌<◌, ◌≤◌, Bool, true, false, not, ◌&&◌, ◌||◌, ◌⊎◌, Option, Some, None, if◌then◌else◌, nat_le, refl, sym, ap, ◌∙◌, subst, inl, inr, IsTrue, arith}
 use Rattle.std.proofs.lemmas.Bool.{cases_Bool, cases_eq, cases_lt, true≢false, and_from, and_right, and_parts, or_left, or_right, or_cases, le-leb, lt-leb, leb-true}
 use Rattle.affinity_mask.specs.ProcSet.{has}
-use Rattle.link_state.specs.State.{State, IsState, IsWaiting, task_count, task_on, is_linked, priority_of, effective_mask}
-use Rattle.link_state.specs.Placement.{TaskTest, IsSubset, IsPlacement, IsBest}
-use Rattle.link_state.specs.Certificate.{IsCertificate}
-use Rattle.certificate_laws.proofs.Counts.{count_below, count_below-agree, count_below-one_more, IsInjection, count_below-injection}
-use Rattle.certificate_laws.proofs.Fullness.{linked_keeps_up}
+use Rattle.strong_apa.specs.State.{State, IsState, IsWaiting, task_count, task_on, is_linked, priority_of, effective_mask}
+use Rattle.strong_apa.specs.Placement.{TaskTest, IsSubset, IsPlacement, IsBest}
+use Rattle.strong_apa.specs.Certificate.{IsCertificate}
+use Rattle.strong_apa.proofs.Counts.{count_below, count_below-agree, count_below-one_more, IsInjection, count_below-injection}
+use Rattle.strong_apa.proofs.Fullness.{linked_keeps_up}
 use Rattle.scheduling_laws.specs.Staying.{BestStays}
 use Rattle.scheduling_laws.proofs.PlacedState.{placed_state, ready_is, on_is, linked_is, placed_ok, placed_certificates}
 

@@ -4,13 +4,13 @@ use Rattle.std.proofs.Common.{◌≡◌, ℕ, zero, suc, ◌+◌, ◌-◌, ◌<�
 use Rattle.std.proofs.lemmas.Bool.{cases_Bool, cases_lt, true≢false, and_from, and_parts, le-leb}
 use Rattle.std.proofs.lemmas.List.{length-map}
 use Rattle.task_set.specs.TaskSet.{TaskData}
-use Rattle.scheduler_reply.specs.declared.reply.Entry.{Entry}
-use Rattle.link_state.specs.State.{start_of, task_count, is_ready, is_linked}
-use Rattle.link_state.specs.Placement.{IsSubset}
-use Rattle.link_state.proofs.Start.{IsState-start}
-use Rattle.link_state.proofs.Least.{Decided}
-use Rattle.certificate_laws.proofs.Counts.{count_below-more, count_below-same}
-use Rattle.certificate_laws.proofs.FirstFound.{first_below}
+use Rattle.strong_apa.specs.declared.reply.Entry.{Entry}
+use Rattle.strong_apa.specs.State.{start_of, task_count, is_ready, is_linked}
+use Rattle.strong_apa.specs.Placement.{IsSubset}
+use Rattle.strong_apa.proofs.Start.{IsState-start}
+use Rattle.strong_apa.proofs.Least.{Decided}
+use Rattle.strong_apa.proofs.Counts.{count_below-more, count_below-same}
+use Rattle.strong_apa.proofs.FirstFound.{first_below}
 use Rattle.job_release.specs.Jobs.{job_at, demand, goal_of}
 use Rattle.job_release.specs.JobInput.{JobInputData, IsJobInput, AreJobs, jobs_at}
 use Rattle.job_release.specs.declared.input.Job.{Job}

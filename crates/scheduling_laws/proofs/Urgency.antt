@@ -3,7 +3,7 @@
 use Rattle.std.proofs.Common.{sym, ◌∙◌, inl, inr, arith}
 use Rattle.std.proofs.lemmas.Bool.{cases_Bool, cases_lt, true≢false, and_from, and_parts, le-leb, leb-true}
 use Rattle.std.proofs.Math.Bool.{and-true}
-use Rattle.link_state.specs.State.{priority_of}
+use Rattle.strong_apa.specs.State.{priority_of}
 use Rattle.scheduling_laws.specs.Urgency.{BestRestricts}
 
 pub best_restricts : BestRestricts

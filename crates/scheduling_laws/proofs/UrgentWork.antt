@@ -1,14 +1,14 @@
 -- The linked tasks keep up with each choice at every tick, and so do their sums.
 use Rattle.std.proofs.Common.{ℕ, suc, ◌≤◌, List, [], ◌∷◌, take, arith}
 use Rattle.std.proofs.Math.Nat.{mul-le-mul_left}
-use Rattle.scheduler_reply.specs.declared.reply.Entry.{Entry}
-use Rattle.link_state.specs.State.{State, IsState, start_of, is_linked}
-use Rattle.link_state.specs.History.{state_after, effect_of}
-use Rattle.link_state.specs.Placement.{TaskTest}
-use Rattle.certificate_laws.specs.Certified.{HasCertificates}
-use Rattle.certificate_laws.specs.Laws.{HoldsThroughout}
-use Rattle.certificate_laws.proofs.Fullness.{linked_keeps_up}
-use Rattle.certificate_laws.proofs.Kept.{legal_is_certified}
+use Rattle.strong_apa.specs.declared.reply.Entry.{Entry}
+use Rattle.strong_apa.specs.State.{State, IsState, start_of, is_linked}
+use Rattle.strong_apa.specs.History.{state_after, effect_of}
+use Rattle.strong_apa.specs.Placement.{TaskTest}
+use Rattle.strong_apa.specs.Certified.{HasCertificates}
+use Rattle.strong_apa.specs.CertificateLaws.{HoldsThroughout}
+use Rattle.strong_apa.proofs.Fullness.{linked_keeps_up}
+use Rattle.strong_apa.proofs.Kept.{legal_is_certified}
 use Rattle.job_release.specs.Moments.{units_of}
 use Rattle.scheduling_laws.specs.UrgentWork.{IsChoice, urgent_work, LinkedDoesMostWork}
 

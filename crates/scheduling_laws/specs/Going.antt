@@ -6,11 +6,11 @@ use Rattle.std.specs.List.{range_with_len}
 use Rattle.task_set.specs.TaskSet.{SetData, IsTaskSet}
 use Rattle.task_set.specs.declared.order.Order.{Order}
 use Rattle.task_set.specs.declared.order.Order.TheVariants.{Release, Take, Run, Stop}
-use Rattle.scheduler_reply.specs.declared.reply.Entry.{Entry}
-use Rattle.link_state.specs.State.{State, IsState, start_of}
-use Rattle.link_state.specs.History.{IsLegal, IsLegalFrom}
-use Rattle.link_state.specs.Dispatch.{orders_of, closed_orders_of}
-use Rattle.order_laws.specs.Start.{NobodyIsReady}
+use Rattle.strong_apa.specs.declared.reply.Entry.{Entry}
+use Rattle.strong_apa.specs.State.{State, IsState, start_of}
+use Rattle.strong_apa.specs.History.{IsLegal, IsLegalFrom}
+use Rattle.strong_apa.specs.Dispatch.{orders_of, closed_orders_of}
+use Rattle.history_laws.specs.Start.{NobodyIsReady}
 
 -- whether an order takes t
 abbrev pub takes_task : ℕ → Order → Bool

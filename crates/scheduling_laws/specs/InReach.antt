@@ -2,11 +2,11 @@
 -- task runs there.
 use Rattle.std.specs.Prelude.{◌≡◌, ℕ, ◌≤◌, List, length, Some}
 use Rattle.task_set.specs.TaskSet.{SetData, IsTaskSet}
-use Rattle.scheduler_reply.specs.declared.reply.Entry.{Entry}
-use Rattle.link_state.specs.State.{State, task_on, IsIdle, IsWaiting, IsMoreUrgent}
-use Rattle.link_state.specs.Chain.{Reaches}
-use Rattle.link_state.specs.History.{IsLegal, state_at}
-use Rattle.certificate_laws.specs.Passing.{IsPassing}
+use Rattle.strong_apa.specs.declared.reply.Entry.{Entry}
+use Rattle.strong_apa.specs.State.{State, task_on, IsIdle, IsWaiting, IsMoreUrgent}
+use Rattle.strong_apa.specs.Chain.{Reaches}
+use Rattle.strong_apa.specs.History.{IsLegal, state_at}
+use Rattle.strong_apa.specs.Passing.{IsPassing}
 
 -- work is conserved: no processor that a waiting task reaches is idle
 abbrev pub IsWorkConserving : State → Type 0

@@ -1,9 +1,9 @@
 -- Merges of events on streams, where all events of a task are on one stream, and all of a processor.
 use Rattle.std.specs.Prelude.{◌≡◌, ℕ, true, List, All}
 use Rattle.task_set.specs.TaskSet.{SetData, IsTaskSet}
-use Rattle.scheduler_reply.specs.declared.reply.Entry.{Entry}
-use Rattle.link_state.specs.State.{State, start_of, is_ready, is_linked}
-use Rattle.link_state.specs.History.{IsLegal, state_after}
+use Rattle.strong_apa.specs.declared.reply.Entry.{Entry}
+use Rattle.strong_apa.specs.State.{State, start_of, is_ready, is_linked}
+use Rattle.strong_apa.specs.History.{IsLegal, state_after}
 use Rattle.trace_reader.specs.declared.posted.Posted.{Posted}
 use Rattle.replay.specs.Merge.{IsMerge}
 use Rattle.scheduling_laws.specs.OneEnd.{is_of_task, is_of_processor}

@@ -4,12 +4,12 @@ use Rattle.std.specs.Prelude.{ℕ, ◌*◌, ◌-◌, ◌≤◌, List, length, su
 use Rattle.task_set.specs.TaskSet.{SetData, IsTaskSet}
 use Rattle.task_set.specs.declared.event.Event.{Event}
 use Rattle.task_set.specs.declared.event.Event.TheVariants.{Arrive, Depart, Tick, Affinity, Offline, Online}
-use Rattle.scheduler_reply.specs.declared.reply.Reply.{Reply}
-use Rattle.scheduler_reply.specs.declared.reply.Entry.{Entry}
-use Rattle.scheduler_reply.specs.Reply.{chains_of}
-use Rattle.link_state.specs.State.{State, IsState}
-use Rattle.link_state.specs.History.{IsLegal}
-use Rattle.certificate_laws.specs.Passing.{Passes}
+use Rattle.strong_apa.specs.declared.reply.Reply.{Reply}
+use Rattle.strong_apa.specs.declared.reply.Entry.{Entry}
+use Rattle.strong_apa.specs.Reply.{chains_of}
+use Rattle.strong_apa.specs.State.{State, IsState}
+use Rattle.strong_apa.specs.History.{IsLegal}
+use Rattle.strong_apa.specs.Passing.{Passes}
 
 -- how many occupants go on the next processor of their chain
 abbrev pub shifts_of : Reply → ℕ

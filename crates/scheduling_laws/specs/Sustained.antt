@@ -1,7 +1,7 @@
 -- Inputs of jobs of which one asks for less than the other: its jobs are shorter, or some of its tasks are missing.
 use Rattle.std.specs.Prelude.{◌≡◌, ℕ, ◌<◌, ◌≤◌, List, length}
-use Rattle.scheduler_reply.specs.declared.reply.Entry.{Entry}
-use Rattle.link_state.specs.State.{start_of, priority_of, mask_of}
+use Rattle.strong_apa.specs.declared.reply.Entry.{Entry}
+use Rattle.strong_apa.specs.State.{start_of, priority_of, mask_of}
 use Rattle.job_release.specs.Jobs.{job_at, goal_of}
 use Rattle.job_release.specs.JobInput.{JobInputData, IsJobInput, jobs_at}
 use Rattle.job_release.specs.declared.input.Job.{Job}

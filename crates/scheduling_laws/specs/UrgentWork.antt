@@ -3,11 +3,11 @@
 -- their units times the number of chosen tasks whose priority number is at most the bound.
 use Rattle.std.specs.Prelude.{ℕ, suc, ◌+◌, ◌*◌, ◌<◌, ◌≤◌, List, [], ◌∷◌, length, take}
 use Rattle.task_set.specs.TaskSet.{SetData, IsTaskSet}
-use Rattle.scheduler_reply.specs.declared.reply.Entry.{Entry}
-use Rattle.link_state.specs.State.{State, start_of, is_ready}
-use Rattle.link_state.specs.History.{IsLegal, effect_of, state_after, linked_after}
-use Rattle.link_state.specs.Placement.{TaskTest, IsSubset, IsPlaceable}
-use Rattle.certificate_laws.specs.Ranks.{tasks_within}
+use Rattle.strong_apa.specs.declared.reply.Entry.{Entry}
+use Rattle.strong_apa.specs.State.{State, start_of, is_ready}
+use Rattle.strong_apa.specs.History.{IsLegal, effect_of, state_after, linked_after}
+use Rattle.strong_apa.specs.Placement.{TaskTest, IsSubset, IsPlaceable}
+use Rattle.strong_apa.specs.Ranks.{tasks_within}
 use Rattle.job_release.specs.Moments.{units_of}
 
 -- after n entries the tasks `chosen n` are ready, and can be placed

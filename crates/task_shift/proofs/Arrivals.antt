@@ -1,12 +1,22 @@
 -- What an arrival does, by what the searches found.
-use Rattle.std.proofs.Common.{◌≡◌, ℕ, ◌<◌, ◌≤◌, false, List, Option, Some, None, refl, sym, ◌∙◌, subst, inl, inr, IsTrue, arith, le_antisymm}
+use Rattle.std.proofs.Common.{◌≡◌, ℕ, ◌<◌, ◌≤◌, false, List, Option, Some, None, refl, sym, ◌∙◌, subst, inl, inr, IsTrue, IsSome, IsNone, arith, le_antisymm}
 use Rattle.std.proofs.lemmas.Bool.{cases_lt, true≢false}
 use Rattle.affinity_mask.specs.ProcSet.{has}
-use Rattle.link_state.specs.State.{State, IsState, IsMoreUrgent, task_on, task_count, is_ready, priority_of}
-use Rattle.link_state.specs.Chain.{IsReach, EndsIdle, EndsOnTask}
-use Rattle.link_state.specs.Step.{IsOccupied, IsNobodyOn, IsLeastUrgentOn}
-use Rattle.link_state.proofs.Linked.{linked_number}
-use Rattle.link_state.proofs.Paths.{Reaches-online}
+use Rattle.strong_apa.specs.State.{State, IsState, IsMoreUrgent, task_on, task_count, is_ready, priority_of}
+use Rattle.strong_apa.specs.Chain.{IsReach, EndsIdle, EndsOnTask}
+use Rattle.strong_apa.specs.Step.{IsOccupied, IsNobodyOn, IsLeastUrgentOn}
+use Rattle.path_search.specs.Paths.{IsLeastIfAny}
+use Rattle.strong_apa.proofs.Linked.{linked_number}
+use Rattle.strong_apa.proofs.Paths.{Reaches-online}
+
+pub some_place : (place : Option ℕ) → (IsNone place → ⊥) → IsSome place
+some_place None none = absurd (none refl)
+some_place (Some p) none = refl
+
+-- where there is some chain, one is found
+pub chain_found : (Has : List ℕ → Type 0) (found : Option (List ℕ)) (chain : List ℕ) → Has chain → IsLeastIfAny Has found → IsSome found
+chain_found Has None chain has none = absurd (none chain has)
+chain_found Has (Some least) chain has is = refl
 
 module _ (s : State) (ok : IsState s) (t : ℕ) where
   module _ (reach : ℕ) (reached : IsReach s t reach) where

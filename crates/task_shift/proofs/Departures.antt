@@ -1,8 +1,8 @@
 -- What a departure does, by what the searches found.
 use Rattle.std.proofs.Common.{ℕ, List, Option, Some, None, IsSome, refl}
-use Rattle.link_state.specs.State.{State}
-use Rattle.link_state.specs.Chain.{IsBackReach, EntersBy}
-use Rattle.link_state.specs.Step.{IsMostUrgentInto}
+use Rattle.strong_apa.specs.State.{State}
+use Rattle.strong_apa.specs.Chain.{IsBackReach, EntersBy}
+use Rattle.strong_apa.specs.Step.{IsMostUrgentInto}
 use Rattle.path_search.specs.Paths.{IsLeastIfAny}
 
 -- who can enter into the back reach comes in by some back chain

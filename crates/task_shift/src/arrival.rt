@@ -1,7 +1,7 @@
 //! A task arrives.
 ghost use Rattle.std.specs.Prelude.{◌≡◌, ℕ, ◌<◌, false};
-ghost use Rattle.link_state.specs.State.{IsState, task_count, is_ready};
-ghost use Rattle.link_state.specs.Step.{ArriveStep, Comes};
+ghost use Rattle.strong_apa.specs.State.{IsState, task_count, is_ready};
+ghost use Rattle.strong_apa.specs.Step.{ArriveStep, Comes};
 
 use link_table::{Came, Links, Reply};
 use path_search::{chain_to, chain_to_idle, reach};

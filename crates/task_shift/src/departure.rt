@@ -1,7 +1,7 @@
 //! A task departs.
 ghost use Rattle.std.specs.Prelude.{◌≡◌, ◌<◌, true, [], ◌∷◌};
-ghost use Rattle.link_state.specs.State.{IsState, task_count, is_ready};
-ghost use Rattle.link_state.specs.Step.{DepartStep, LeaveStep, Fills};
+ghost use Rattle.strong_apa.specs.State.{IsState, task_count, is_ready};
+ghost use Rattle.strong_apa.specs.Step.{DepartStep, LeaveStep, Fills};
 
 use link_table::{Chain, Gone, Links, Reply};
 use path_search::{back_chain, back_set};

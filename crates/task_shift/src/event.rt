@@ -1,5 +1,5 @@
 //! Any event.
-ghost use Rattle.link_state.specs.Step.{IsEventFor, SchedulerStep};
+ghost use Rattle.strong_apa.specs.Step.{IsEventFor, SchedulerStep};
 
 use crate::arrival::arrive;
 use crate::departure::depart;

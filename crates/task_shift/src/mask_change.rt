@@ -1,8 +1,8 @@
 //! The mask of a task changes.
 ghost use Rattle.std.specs.Prelude.{◌<◌};
 ghost use Rattle.task_set.specs.TaskSet.{IsMask};
-ghost use Rattle.link_state.specs.State.{IsState, task_count};
-ghost use Rattle.link_state.specs.Step.{AffinityStep};
+ghost use Rattle.strong_apa.specs.State.{IsState, task_count};
+ghost use Rattle.strong_apa.specs.Step.{AffinityStep};
 
 use crate::arrival::come;
 use crate::departure::withdraw;

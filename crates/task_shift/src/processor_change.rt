@@ -1,7 +1,7 @@
 //! A processor goes off line, or comes on line.
 ghost use Rattle.std.specs.Prelude.{◌<◌};
-ghost use Rattle.link_state.specs.State.{IsState};
-ghost use Rattle.link_state.specs.Step.{OfflineStep, OnlineStep};
+ghost use Rattle.strong_apa.specs.State.{IsState};
+ghost use Rattle.strong_apa.specs.Step.{OfflineStep, OnlineStep};
 
 use crate::arrival::come;
 use crate::departure::fill;
@@ -9,7 +9,6 @@ use link_table::{Links, Moved, Reply};
 
 /// A processor goes off line. Its task, if it has one, comes to another processor, or waits. Nothing changes where it
 /// was off line before. No memory is taken.
-#[tactic(auto, using(link_state::proofs::Linked::linked_number))]
 pub fn offline(links: &mut Links, p: u8) -> Reply
     requires { p < links.old.processors }
     ensures step { OfflineStep links.old p result links.new }

@@ -4,9 +4,9 @@ use crate::stated::is_event_for;
 use reach_certificate::{Checker, Defect};
 use sched_core::{Core, CoreFault};
 use schedule_text::{Schedule, read_schedule};
-use scheduler_reply::Entry;
 use std::alloc::{AllocError, Global};
 use std::process::Abort;
+use strong_apa::Entry;
 use task_set::{Context, Event, Order, TaskSet};
 use trace_reader::{Input, read_input};
 

@@ -3,14 +3,13 @@
 use crate::best_tests::all_below;
 use crate::plain::{compare_all_searches, compare_links};
 use crate::stated::is_event_for;
-use generated_input::make_input;
 use link_table::{Links, Reply};
 use reach_certificate::{Checker, best_set};
 use sched_core::Core;
 use std::alloc::{AllocError, Global};
 use std::process::Abort;
 use task_set::{Event, TaskSet};
-use trace_reader::Input;
+use trace_reader::{Input, make_input};
 
 /// Adds a task that is ready and may run somewhere, with its effective mask, and notes its number in the links.
 fn add_ready(

@@ -1,8 +1,8 @@
 //! Sets, chains, tasks and states that tests write as texts.
 ghost use Rattle.std.specs.Prelude.{◌<◌, ℕ, IsTrue};
-ghost use Rattle.link_state.specs.State.{task_count};
-ghost use Rattle.link_state.specs.Chain.{IsChainOf, IsSimple};
-ghost use Rattle.link_state.specs.Step.{IsEventFor};
+ghost use Rattle.strong_apa.specs.State.{task_count};
+ghost use Rattle.strong_apa.specs.Chain.{IsChainOf, IsSimple};
+ghost use Rattle.strong_apa.specs.Step.{IsEventFor};
 
 use affinity_mask::ProcSet;
 use link_table::{Chain, Links};

@@ -2,10 +2,10 @@
 use affinity_mask::{MaskFault, OutOfMemory, ProcSet};
 use sched_core::CoreFault;
 use schedule_text::TextKind;
-use scheduler_reply::{Chain, Entry, Reply};
 use std::alloc::{AllocError, Global};
 use std::process::Abort;
 use std::str;
+use strong_apa::{Chain, Entry, Reply};
 use task_set::{Event, MAX_TASKS, TaskFault, TaskSet};
 use text_fields::{is_word, read_number, task_of, write_number};
 

@@ -9,7 +9,7 @@ use Rattle.task_set.specs.TaskSet.{TaskData, SetData, IsTaskSet, IsMask, Differ}
 use Rattle.task_set.specs.Refusal.{CanAdd, IsRefusal, IsNewName, IsNameOf, IsNewPriority, IsPriorityOf, IsLeastOutside}
 use Rattle.task_set.specs.declared.fault.TaskFault.{TaskFault}
 use Rattle.task_set.specs.declared.fault.TaskFault.TheVariants.{BadName, Many, SameName, SamePriority, EmptyMask, OutsideMask}
-use Rattle.line_machine.proofs.Decisions.{all_decided}
+use Rattle.text_fields.proofs.LineDecisions.{all_decided}
 use Rattle.text_fields.proofs.Decisions.{test_decided, bytes_decided, image_decided}
 
 -- a name is of a task, or is new

@@ -1,5 +1,13 @@
+pub mod Choice
+pub mod Cut
 pub mod EventText
 pub mod EventWord
+pub mod Fields
+pub mod Laws
+pub mod LineEnd
+pub mod LineRule
 pub mod LineText
+pub mod Lines
+pub mod Machine
 pub mod Number
 pub mod Version

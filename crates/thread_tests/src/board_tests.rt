@@ -2,7 +2,7 @@
 //! may be made from several threads at once.
 ghost use Rattle.std.specs.Prelude.{◌≡◌, ◌∷◌, [], length, map};
 ghost use Rattle.task_set.specs.Event.{IsOfSystem};
-ghost use Rattle.link_state.specs.State.{task_count};
+ghost use Rattle.strong_apa.specs.State.{task_count};
 ghost use Rattle.order_queues.specs.Ends.{new_sender};
 ghost use Rattle.event_history.specs.Boards.{AreAll, AreFor, Grown};
 

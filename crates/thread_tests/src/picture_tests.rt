@@ -4,11 +4,11 @@ ghost use Rattle.schedule_board.specs.Boards.{board_of, board_at, published};
 
 use affinity_mask::ProcSet;
 use schedule_board::{Observer, Picture, Publisher, make_board};
-use scheduler_reply::{Chain, Entry, Reply};
 use std::alloc::Global;
 use std::process::Abort;
 use std::sync::Wait;
 use std::thread::{Threads, join};
+use strong_apa::{Chain, Entry, Reply};
 use task_set::{Event, TaskSet};
 
 /// A list of two processors.

@@ -1,8 +1,7 @@
 //! Whole runs with gates: that streams and workers go on beside each other, and that the gate is called.
 ghost use Rattle.std.specs.Prelude.{◌<◌};
 
-use command_line::run;
-use commands::Status;
+use command_line::{Status, run};
 use processor_seat::{Gate, OpenGate};
 use shift_io::{MemSink, MemSource};
 use std::alloc::Global;

@@ -1,7 +1,7 @@
 //! The whole text of a run with observers, and what no clause says: that observers read beside the posts.
 ghost use Rattle.std.specs.Prelude.{◌<◌, ◌≤◌};
 
-use commands::watched_text;
+use command_line::watched_text;
 use processor_seat::Gate;
 use std::alloc::Global;
 use std::process::Abort;

@@ -3,7 +3,7 @@ use Rattle.std.proofs.Common.{◌≡◌, ℕ, ◌<◌, Bool, true, false, List, 
 use Rattle.std.specs.Prelude.{if◌then◌else◌}
 use Rattle.std.proofs.lemmas.List.{get_or-replicate}
 use Rattle.task_set.specs.declared.event.Event.TheVariants.{Arrive, Depart}
-use Rattle.link_state.specs.State.{HasSameTasks, task_count}
+use Rattle.strong_apa.specs.State.{HasSameTasks, task_count}
 use Rattle.live_core.specs.Live.{LiveData}
 use Rattle.live_core.specs.Slots.{is_in_use, IsEventInUse}
 use Rattle.trace_losses.specs.Rows.{AllInUse, event_of}

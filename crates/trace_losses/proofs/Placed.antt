@@ -5,18 +5,18 @@ use Rattle.std.proofs.lemmas.Bool.{cases_eq, true≢false}
 use Rattle.std.proofs.lemmas.List.{set-get_or}
 use Rattle.task_set.specs.TaskSet.{SetData, IsTaskSet}
 use Rattle.task_set.specs.declared.event.Event.TheVariants.{Arrive, Depart}
-use Rattle.scheduler_reply.specs.declared.reply.Came.{Came}
-use Rattle.scheduler_reply.specs.declared.reply.Came.TheVariants.{Placed, Displaced, Waits}
-use Rattle.scheduler_reply.specs.declared.reply.Reply.{Reply}
-use Rattle.link_state.specs.State.{State, IsState, HasSameTasks, HasSameMasks, start_of, is_ready, state_after_leaving}
-use Rattle.link_state.specs.History.{state_after_came, state_after_entering}
-use Rattle.link_state.specs.Placement.{TaskTest}
-use Rattle.link_state.specs.Step.{SchedulerStep, ArriveStep, DepartStep}
-use Rattle.link_state.proofs.SameTasks.{same_tasks-then, same_tasks-step, reply_keeps_masks}
-use Rattle.link_state.proofs.Start.{IsState-start, none_ready}
-use Rattle.link_state.proofs.Steps.{reply_gives_new_state, comes_effect, fills_effect}
-use Rattle.certificate_laws.specs.Laws.{LinkedIsBest}
-use Rattle.certificate_laws.proofs.Best.{linked_is_best}
+use Rattle.strong_apa.specs.declared.reply.Came.{Came}
+use Rattle.strong_apa.specs.declared.reply.Came.TheVariants.{Placed, Displaced, Waits}
+use Rattle.strong_apa.specs.declared.reply.Reply.{Reply}
+use Rattle.strong_apa.specs.State.{State, IsState, HasSameTasks, HasSameMasks, start_of, is_ready, state_after_leaving}
+use Rattle.strong_apa.specs.History.{state_after_came, state_after_entering}
+use Rattle.strong_apa.specs.Placement.{TaskTest}
+use Rattle.strong_apa.specs.Step.{SchedulerStep, ArriveStep, DepartStep}
+use Rattle.strong_apa.proofs.SameTasks.{same_tasks-then, same_tasks-step, reply_keeps_masks}
+use Rattle.strong_apa.proofs.Start.{IsState-start, none_ready}
+use Rattle.strong_apa.proofs.Steps.{reply_gives_new_state, comes_effect, fills_effect}
+use Rattle.strong_apa.specs.CertificateLaws.{LinkedIsBest}
+use Rattle.strong_apa.proofs.Best.{linked_is_best}
 use Rattle.trace_losses.specs.Passages.{ready_by, ready_after}
 use Rattle.trace_losses.specs.Rows.{IsPlaced}
 use Rattle.trace_losses.specs.declared.passage.Readiness.{Readiness}

@@ -5,11 +5,11 @@ use Rattle.std.proofs.lemmas.Bool.{cases_lt}
 use Rattle.std.proofs.lemmas.List.{get_or_past, length-map, length-replicate}
 use Rattle.std.proofs.lemmas.Option.{slice_get_within}
 use Rattle.task_set.specs.TaskSet.{SetData, TaskData}
-use Rattle.link_state.specs.Placement.{TaskTest}
-use Rattle.link_state.specs.State.{State, IsState, start_of, is_ready, is_linked}
-use Rattle.link_state.proofs.Linked.{not_linked-from_on}
-use Rattle.link_state.proofs.Unique.{ready_number}
-use Rattle.certificate_laws.proofs.SameBest.{IsBest-same}
+use Rattle.strong_apa.specs.Placement.{TaskTest}
+use Rattle.strong_apa.specs.State.{State, IsState, start_of, is_ready, is_linked}
+use Rattle.strong_apa.proofs.Linked.{not_linked-from_on}
+use Rattle.strong_apa.proofs.Unique.{ready_number}
+use Rattle.strong_apa.proofs.SameBest.{IsBest-same}
 use Rattle.trace_losses.specs.Book.{nothing_seen}
 use Rattle.trace_losses.specs.Passages.{ArePassages, IsSeenBetween, IsSeenAt, AreSeen, ready_after, turns_of, seen_of, best_of, moment_at}
 use Rattle.trace_losses.specs.Rows.{moments_of, AreRows, AreRowsUpTo, IsPlaced, IsRunning, IsSeenBy, held_at_end}

@@ -4,8 +4,8 @@
 use Rattle.std.specs.Prelude.{◌≡◌, ℕ, ◌-◌, ◌<◌, ◌≤◌, ◌↔◌, Bool, false, ◌==◌, List, [], ◌∷◌, length, map, take, drop, reverse, get_or, slice_get, Option, None, Some, IsTrue, if◌then◌else◌}
 use Rattle.std.specs.Option.{ForSome}
 use Rattle.task_set.specs.TaskSet.{SetData}
-use Rattle.link_state.specs.State.{start_of}
-use Rattle.link_state.specs.Placement.{TaskTest, IsBest}
+use Rattle.strong_apa.specs.State.{start_of}
+use Rattle.strong_apa.specs.Placement.{TaskTest, IsBest}
 use Rattle.trace_losses.specs.Book.{nothing_seen}
 use Rattle.trace_losses.specs.Runs.{AreTasks, runs_between}
 use Rattle.trace_losses.specs.declared.passage.Passage.{Passage}

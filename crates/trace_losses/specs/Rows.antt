@@ -4,9 +4,9 @@ use Rattle.std.specs.declared.alloc.Global.{Global}
 use Rattle.task_set.specs.TaskSet.{SetData}
 use Rattle.task_set.specs.declared.event.Event.{Event}
 use Rattle.task_set.specs.declared.event.Event.TheVariants.{Arrive, Depart}
-use Rattle.link_state.specs.State.{State, IsState, HasSameTasks, HasSameMasks, start_of, task_count, is_ready, is_linked}
-use Rattle.link_state.specs.Placement.{TaskTest}
-use Rattle.certificate_laws.specs.Laws.{LinkedIsBest}
+use Rattle.strong_apa.specs.State.{State, IsState, HasSameTasks, HasSameMasks, start_of, task_count, is_ready, is_linked}
+use Rattle.strong_apa.specs.Placement.{TaskTest}
+use Rattle.strong_apa.specs.CertificateLaws.{LinkedIsBest}
 use Rattle.live_core.specs.Live.{LiveData}
 use Rattle.live_core.specs.Slots.{is_in_use}
 use Rattle.trace_losses.specs.Passages.{AreSeen, seen_of, turns_of}

@@ -1,8 +1,8 @@
 //! What is seen between the passages of a trace, from the first one on.
 ghost use Rattle.std.specs.Prelude.{◌≡◌, ℕ, ◌+◌, ◌-◌, ◌<◌, ◌≤◌, Bool, [], List, ◌∷◌, ◌++◌, length, replicate, reverse, take, vec_len, IfOk, OnOk, Some};
 ghost use Rattle.task_set.specs.TaskSet.{SetData};
-ghost use Rattle.link_state.specs.State.{IsState, HasSameTasks, task_count, start_of};
-ghost use Rattle.link_state.specs.Placement.{TaskTest};
+ghost use Rattle.strong_apa.specs.State.{IsState, HasSameTasks, task_count, start_of};
+ghost use Rattle.strong_apa.specs.Placement.{TaskTest};
 ghost use Rattle.trace_losses.specs.Passages.{ArePassages, IsMentionOf, ready_by, ready_after, span_of};
 ghost use Rattle.trace_losses.specs.Rows.{moments_of, AllInUse, AreRows, AreRunning, AreRowsUpTo, IsPlaced, IsSeenBy, event_of};
 ghost use Rattle.trace_losses.specs.declared.passage.Passage.{Passage};

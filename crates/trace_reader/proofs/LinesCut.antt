@@ -1,6 +1,6 @@
 -- What a line adds to what the lines say.
 use Rattle.std.proofs.Common.{◌≡◌, ℕ, true, false, List, ◌∷◌, refl}
-use Rattle.line_machine.specs.Lines.{fields_of}
+use Rattle.text_fields.specs.Lines.{fields_of}
 use Rattle.trace_reader.specs.Lines.{is_skipped, said_by}
 
 -- a line that is not skipped says its fields, and a skipped one says nothing

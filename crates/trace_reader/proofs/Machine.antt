@@ -1,6 +1,6 @@
 -- The stages of the reader are a machine: a line comes to one outcome, and so does the end.
 use Rattle.std.proofs.Common.{◌≡◌, ℕ, List, [], ◌∷◌, ◌++◌, refl, sym, ap, ◌∙◌, inl, inr}
-use Rattle.line_machine.specs.Machine.{Outcome, Leads, Fails, IsMachine}
+use Rattle.text_fields.specs.Machine.{Outcome, Leads, Fails, IsMachine}
 use Rattle.trace_reader.specs.declared.fault.InputKind.{InputKind}
 use Rattle.trace_reader.specs.declared.fault.InputKind.TheVariants.{NoEnd}
 use Rattle.trace_reader.specs.Input.{InputData}

@@ -10,7 +10,7 @@ use Rattle.text_fields.specs.EventWord.{IsNoEventWord}
 use Rattle.trace_reader.specs.declared.posted.Posted.{Posted}
 use Rattle.trace_reader.specs.declared.fault.InputKind.{InputKind}
 use Rattle.trace_reader.specs.declared.fault.InputKind.TheVariants.{BadByte, LongLine}
-use Rattle.line_machine.specs.Lines.{fields_of}
+use Rattle.text_fields.specs.Lines.{fields_of}
 use Rattle.trace_reader.specs.Lines.{is_skipped, IsClean}
 use Rattle.trace_reader.specs.InputText.{IsTaskForm, IsOnStream, end_line}
 use Rattle.trace_reader.specs.InputFault.{IsFieldsFault, IsLineFault, kind_of_refusal}

@@ -4,12 +4,12 @@ use Rattle.std.specs.Prelude.{All}
 use Rattle.std.specs.List.{FoldsTo}
 use Rattle.std.proofs.lemmas.Bool.{cases_Bool}
 use Rattle.std.proofs.lemmas.List.Elements.{All-nil, All-cons, All-head, All-tail}
-use Rattle.line_machine.specs.LineRule.{IsLineOutcome}
-use Rattle.line_machine.specs.Machine.{Outcome, Leads, Fails, IsMachine, Leading}
-use Rattle.line_machine.specs.Machine as machine
-use Rattle.line_machine.specs.Laws.{IsTextOf, IsRefused}
-use Rattle.line_machine.proofs.LineRule.{lines_machine}
-use Rattle.line_machine.proofs.TextLaws as laws
+use Rattle.text_fields.specs.LineRule.{IsLineOutcome}
+use Rattle.text_fields.specs.Machine.{Outcome, Leads, Fails, IsMachine, Leading}
+use Rattle.text_fields.specs.Machine as machine
+use Rattle.text_fields.specs.Laws.{IsTextOf, IsRefused}
+use Rattle.text_fields.proofs.LineRule.{lines_machine}
+use Rattle.text_fields.proofs.TextLaws as laws
 use Rattle.task_set.specs.TaskSet.{SetData}
 use Rattle.trace_reader.specs.declared.posted.Posted.{Posted}
 use Rattle.trace_reader.specs.declared.fault.InputKind.{InputKind}
@@ -18,7 +18,7 @@ use Rattle.trace_reader.specs.Input.{InputData}
 use Rattle.trace_reader.specs.InputText.{IsInputText}
 use Rattle.trace_reader.specs.InputFault.{input_kind, IsLineFault, IsInputRefused}
 use Rattle.trace_reader.specs.Laws.{TextHasOneInput, TextHasOneFault, InputHasNoFault, AcceptedOrRefused}
-use Rattle.line_machine.specs.Lines.{lines_of, fields_of}
+use Rattle.text_fields.specs.Lines.{lines_of, fields_of}
 use Rattle.trace_reader.specs.Lines.{is_skipped, said_by, IsClean}
 use Rattle.trace_reader.specs.Progress.{Progress, HeaderExpected, ProcessorsExpected, Listed, Ended}
 use Rattle.trace_reader.specs.Reading.{Says, IsExpected, IsOutcome, IsEndOutcome}

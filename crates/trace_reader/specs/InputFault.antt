@@ -11,11 +11,11 @@ use Rattle.task_set.specs.declared.event.Event.TheVariants.{Affinity}
 use Rattle.task_set.specs.declared.fault.TaskFault.{TaskFault}
 use Rattle.task_set.specs.declared.fault.TaskFault.TheVariants as task
 use Rattle.trace_reader.specs.declared.posted.Posted.{Posted}
-use Rattle.line_machine.specs.declared.kind.LineKind.{LineKind}
-use Rattle.line_machine.specs.declared.kind.LineKind.TheVariants as line_kind
+use Rattle.text_fields.specs.declared.kind.LineKind.{LineKind}
+use Rattle.text_fields.specs.declared.kind.LineKind.TheVariants as line_kind
 use Rattle.trace_reader.specs.declared.fault.InputKind.{InputKind}
 use Rattle.trace_reader.specs.declared.fault.InputKind.TheVariants.{BadByte, LongLine, BadHeader, BadProcessors, BadTask, BadMask, TaskRefused, BadEvent, UnknownTask, ManyEvents, AfterEnd, NoEnd, OutsideAffinity, OutOfMemory}
-use Rattle.line_machine.specs.Lines.{lines_of, fields_of, IsPlain}
+use Rattle.text_fields.specs.Lines.{lines_of, fields_of, IsPlain}
 use Rattle.trace_reader.specs.Lines.{is_skipped, said_by, IsClean}
 use Rattle.trace_reader.specs.InputText.{IsHeader, IsProcessorsLine, IsTaskForm, IsEventLine, end_line}
 use Rattle.trace_reader.specs.Progress.{Progress, Expects, HeaderExpected, ProcessorsExpected, Listed, Ended}

@@ -1,4 +1,8 @@
 pub mod CanonicalText
+pub mod Drawing
+pub mod Generated
+pub mod GeneratedLaws
+pub mod Generator
 pub mod Input
 pub mod InputFault
 pub mod InputText

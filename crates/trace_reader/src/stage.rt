@@ -6,19 +6,18 @@ ghost use Rattle.trace_reader.specs.InputFault.{IsFieldsFault};
 ghost use Rattle.trace_reader.specs.LineForms.{BeginsTask, IsForTask};
 ghost use Rattle.trace_reader.specs.Progress.{HeaderExpected, ProcessorsExpected, Listed};
 ghost use Rattle.trace_reader.specs.Reading.{progress_of, progress_of_lists, Says, SaysTask, IsExpected, IsEndOutcome, IsOutOfMemory};
-ghost use Rattle.line_machine.specs.Machine.{Leads, Fails};
-ghost use Rattle.line_machine.specs.Fields.{texts};
+ghost use Rattle.text_fields.specs.Machine.{Leads, Fails};
+ghost use Rattle.text_fields.specs.Fields.{texts};
 
 use crate::event::{outside_of, read_event};
 use crate::fault::InputKind;
 use crate::input::{FIRST_VERSION, Input, LAST_VERSION, MAX_EVENTS, MAX_PRIORITY, MAX_PROCESSORS};
 use crate::posted::Posted;
 use affinity_mask::ProcSet;
-use line_machine::{LineKind, LineMachine};
 use std::alloc::Global;
 use std::str;
 use task_set::{TaskFault, TaskSet};
-use text_fields::{is_word, read_number};
+use text_fields::{LineKind, LineMachine, is_word, read_number};
 
 /// What some lines said, and so what is expected after them.
 #[derive(Drop)]

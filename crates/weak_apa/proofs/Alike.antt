@@ -2,7 +2,7 @@
 use Rattle.std.proofs.Common.{◌≡◌, ap, ◌∙◌, sym}
 use Rattle.task_set.specs.declared.event.Event.{Event}
 use Rattle.task_set.specs.declared.event.Event.TheVariants.{Arrive, Depart, Tick, Affinity, Offline, Online}
-use Rattle.link_state.specs.State.{State, HasSameTasks, state_with_ready, state_with_absent, state_with_mask, state_with_online, state_with_offline}
+use Rattle.strong_apa.specs.State.{State, HasSameTasks, state_with_ready, state_with_absent, state_with_mask, state_with_online, state_with_offline}
 use Rattle.weak_apa.specs.Step.{state_with_event, without_links, Follows}
 
 -- what an event says does not depend on the links

@@ -6,10 +6,10 @@ use Rattle.std.proofs.lemmas.List.{take_more, take_all, map-append, length-map, 
 use Rattle.task_set.specs.TaskSet.{SetData, TaskData}
 use Rattle.task_set.specs.declared.event.Event.{Event}
 use Rattle.task_set.specs.Event.{IsOfSystem}
-use Rattle.scheduler_reply.specs.declared.reply.Entry.{Entry}
-use Rattle.link_state.specs.State.{State, IsState, start_of, task_count}
-use Rattle.link_state.specs.Step.{IsEventFor}
-use Rattle.link_state.specs.History.{IsLegalFrom, effect_of, state_after}
+use Rattle.strong_apa.specs.declared.reply.Entry.{Entry}
+use Rattle.strong_apa.specs.State.{State, IsState, start_of, task_count}
+use Rattle.strong_apa.specs.Step.{IsEventFor}
+use Rattle.strong_apa.specs.History.{IsLegalFrom, effect_of, state_after}
 use Rattle.std.specs.Prelude.{codes}
 use Rattle.trace_reader.specs.declared.posted.Posted.{Posted}
 use Rattle.trace_reader.specs.Input.{InputData, IsInput}

@@ -5,10 +5,10 @@ use Rattle.std.specs.Option.{ForSome}
 use Rattle.std.proofs.lemmas.Bool.{cases_Bool, true≢false}
 use Rattle.std.proofs.lemmas.Option.{same_Some}
 use Rattle.affinity_mask.specs.ProcSet.{has, members}
-use Rattle.link_state.specs.State.{State, IsState, task_on, task_count, is_linked, priority_of}
-use Rattle.link_state.proofs.Linked.{place_in, task_on-linked, is_linked-from_on, linked_number, occupied_number}
+use Rattle.strong_apa.specs.State.{State, IsState, task_on, task_count, is_linked, priority_of}
+use Rattle.strong_apa.proofs.Linked.{place_in, task_on-linked, is_linked-from_on, linked_number, occupied_number}
 use Rattle.link_table.proofs.Leaders.{IsFound}
-use Rattle.certificate_laws.proofs.Counts.{count_below-injection}
+use Rattle.strong_apa.proofs.Counts.{count_below-injection}
 use Rattle.weak_apa.specs.Apart.{IsOnlyOn, IsFirstOnlyIn, IsNobodyOnlyIn}
 use Rattle.weak_apa.specs.Compared.{linked_count, IsFirstApart, IsInJustOne}
 

@@ -7,15 +7,15 @@ use Rattle.affinity_mask.specs.ProcSet.{has, with_member, without_member}
 use Rattle.affinity_mask.proofs.Sets.{same_set, has-with_member, has-without_member}
 use Rattle.task_set.specs.declared.event.Event.{Event}
 use Rattle.task_set.specs.declared.event.Event.TheVariants.{Arrive, Depart, Tick, Affinity, Offline, Online}
-use Rattle.scheduler_reply.specs.declared.reply.Came.{Came}
-use Rattle.scheduler_reply.specs.declared.reply.Came.TheVariants.{Placed, Displaced, Waits}
-use Rattle.scheduler_reply.specs.declared.reply.Gone.{Gone}
-use Rattle.scheduler_reply.specs.declared.reply.Reply.{Reply}
-use Rattle.link_state.specs.State.{State, IsState, is_ready, state_with_ready, state_with_absent, state_with_mask, state_with_online, state_with_offline, state_after_leaving}
-use Rattle.link_state.specs.Step.{Comes, Fills, LeaveStep, SchedulerStep}
-use Rattle.link_state.specs.History.{state_after_came, state_after_entering}
-use Rattle.link_state.proofs.Readiness.{ready_already}
-use Rattle.link_state.proofs.Steps.{comes_effect, fills_effect}
+use Rattle.strong_apa.specs.declared.reply.Came.{Came}
+use Rattle.strong_apa.specs.declared.reply.Came.TheVariants.{Placed, Displaced, Waits}
+use Rattle.strong_apa.specs.declared.reply.Gone.{Gone}
+use Rattle.strong_apa.specs.declared.reply.Reply.{Reply}
+use Rattle.strong_apa.specs.State.{State, IsState, is_ready, state_with_ready, state_with_absent, state_with_mask, state_with_online, state_with_offline, state_after_leaving}
+use Rattle.strong_apa.specs.Step.{Comes, Fills, LeaveStep, SchedulerStep}
+use Rattle.strong_apa.specs.History.{state_after_came, state_after_entering}
+use Rattle.strong_apa.proofs.Readiness.{ready_already}
+use Rattle.strong_apa.proofs.Steps.{comes_effect, fills_effect}
 use Rattle.weak_apa.specs.Step.{WeakStep, WeaklyComes, WeaklyFills, WeaklyLeaves, IsPlacedInTurns, without_links, Follows}
 
 -- ---- what changes nothing, and what is undone

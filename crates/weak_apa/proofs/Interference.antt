@@ -5,8 +5,8 @@ use Rattle.affinity_mask.specs.ProcSet.{has, all_below, intersection}
 use Rattle.affinity_mask.proofs.Sets.{has-pow}
 use Rattle.task_set.specs.TaskSet.{SetData, TaskData}
 use Rattle.task_set.specs.declared.event.Event.TheVariants.{Arrive}
-use Rattle.link_state.specs.State.{State, IsIdle, IsWaiting, is_linked, start_of, state_with_ready, effective_mask}
-use Rattle.link_state.specs.Chain.{state_after_shift}
+use Rattle.strong_apa.specs.State.{State, IsIdle, IsWaiting, is_linked, start_of, state_with_ready, effective_mask}
+use Rattle.strong_apa.specs.Chain.{state_after_shift}
 use Rattle.weak_apa.specs.Stable.{IsKeptOut}
 use Rattle.weak_apa.specs.Step.{WeakStep}
 

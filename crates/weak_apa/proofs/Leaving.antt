@@ -3,12 +3,12 @@ use Rattle.std.proofs.Common.{◌≡◌, ◌≢◌, ℕ, ◌<◌, true, false, n
 use Rattle.std.proofs.lemmas.Bool.{cases_eq, true≢false, and_parts, and_from}
 use Rattle.affinity_mask.specs.ProcSet.{has}
 use Rattle.affinity_mask.proofs.Sets.{has-intersection}
-use Rattle.link_state.specs.State.{State, IsState, IsWaiting, task_on, task_count, is_ready, mask_of, effective_mask, state_with_ready, state_with_absent, state_with_mask, state_with_online, state_with_offline, state_after_leaving}
-use Rattle.link_state.proofs.Changes.{effective_mask-offline, effective_mask-online, effective_mask-other}
-use Rattle.link_state.proofs.Masks.{effective_mask_online}
-use Rattle.link_state.proofs.Leaving.{task_on-stays}
-use Rattle.link_state.proofs.Linked.{not_linked-from_on, not_on}
-use Rattle.link_state.proofs.Readiness.{IsWaiting-state_with_ready}
+use Rattle.strong_apa.specs.State.{State, IsState, IsWaiting, task_on, task_count, is_ready, mask_of, effective_mask, state_with_ready, state_with_absent, state_with_mask, state_with_online, state_with_offline, state_after_leaving}
+use Rattle.strong_apa.proofs.Changes.{effective_mask-offline, effective_mask-online, effective_mask-other}
+use Rattle.strong_apa.proofs.Masks.{effective_mask_online}
+use Rattle.strong_apa.proofs.Leaving.{task_on-stays}
+use Rattle.strong_apa.proofs.Linked.{not_linked-from_on, not_on}
+use Rattle.strong_apa.proofs.Readiness.{IsWaiting-state_with_ready}
 use Rattle.weak_apa.specs.Stable.{IsWeaklyStable, IsStableBeside, IsToBePlaced}
 
 -- who waits is another task than one that is absent

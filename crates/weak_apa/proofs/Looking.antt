@@ -3,10 +3,10 @@ use Rattle.std.proofs.Common.{◌≡◌, ℕ, ◌<◌, ◌≤◌, ◌&&◌, Opti
 use Rattle.std.proofs.lemmas.Bool.{cases_lt, and_from}
 use Rattle.affinity_mask.specs.ProcSet.{has, empty}
 use Rattle.affinity_mask.proofs.Meetings.{no_member}
-use Rattle.link_state.specs.State.{State, IsState, IsWaiting, IsIdle, task_on, task_count, priority_of, effective_mask}
-use Rattle.link_state.specs.Step.{IsOccupied, IsNobodyOn, IsLeastUrgentOn, IsMostUrgentInto}
-use Rattle.link_state.proofs.Linked.{linked_number, not_on}
-use Rattle.link_state.proofs.Masks.{effective_mask_online}
+use Rattle.strong_apa.specs.State.{State, IsState, IsWaiting, IsIdle, task_on, task_count, priority_of, effective_mask}
+use Rattle.strong_apa.specs.Step.{IsOccupied, IsNobodyOn, IsLeastUrgentOn, IsMostUrgentInto}
+use Rattle.strong_apa.proofs.Linked.{linked_number, not_on}
+use Rattle.strong_apa.proofs.Masks.{effective_mask_online}
 use Rattle.weak_apa.specs.Stable.{IsKeptOut}
 use Rattle.weak_apa.specs.Step.{IsMostUrgentAt}
 

@@ -5,11 +5,11 @@ use Rattle.std.specs.Prelude.{IfSome}
 use Rattle.std.proofs.lemmas.Bool.{cases_Bool}
 use Rattle.std.proofs.lemmas.Option.{same_Some}
 use Rattle.affinity_mask.specs.ProcSet.{passing_below}
-use Rattle.link_state.specs.State.{State, IsState, task_on, task_count, is_linked, is_ready, effective_mask}
-use Rattle.link_state.specs.Placement.{IsPlaceable, IsSubset, IsBetter}
-use Rattle.link_state.proofs.Linked.{place_in, task_on-linked}
-use Rattle.certificate_laws.specs.Certified.{HasCertificates}
-use Rattle.certificate_laws.proofs.Best.{linked_is_best, linked_is_largest}
+use Rattle.strong_apa.specs.State.{State, IsState, task_on, task_count, is_linked, is_ready, effective_mask}
+use Rattle.strong_apa.specs.Placement.{IsPlaceable, IsSubset, IsBetter}
+use Rattle.strong_apa.proofs.Linked.{place_in, task_on-linked}
+use Rattle.strong_apa.specs.Certified.{HasCertificates}
+use Rattle.strong_apa.proofs.Best.{linked_is_best, linked_is_largest}
 use Rattle.weak_apa.specs.Stable.{IsWeaklyStable}
 use Rattle.weak_apa.specs.Step.{without_links}
 use Rattle.weak_apa.specs.Compared.{Compares, IsNoBetter, IsFirstApart, linked_count}

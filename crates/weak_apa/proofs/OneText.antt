@@ -3,14 +3,14 @@ use Rattle.std.proofs.Common.{◌≡◌, ℕ, true, List, [], ◌∷◌, map, Op
 use Rattle.std.specs.Prelude.{IfSome}
 use Rattle.task_set.specs.TaskSet.{SetData}
 use Rattle.task_set.specs.declared.event.Event.{Event}
-use Rattle.scheduler_reply.specs.declared.reply.Entry.{Entry}
-use Rattle.link_state.specs.State.{State, IsState, start_of, is_linked}
-use Rattle.link_state.specs.Step.{SchedulerStep}
-use Rattle.link_state.specs.History.{IsLegalFrom, effect_of}
-use Rattle.link_state.proofs.Linked.{place_in, task_on-linked, linked_number}
-use Rattle.link_state.proofs.Start.{IsState-start}
-use Rattle.link_state.proofs.Steps.{step_keeps_state}
-use Rattle.link_state.proofs.Unique.{step_is_unique}
+use Rattle.strong_apa.specs.declared.reply.Entry.{Entry}
+use Rattle.strong_apa.specs.State.{State, IsState, start_of, is_linked}
+use Rattle.strong_apa.specs.Step.{SchedulerStep}
+use Rattle.strong_apa.specs.History.{IsLegalFrom, effect_of}
+use Rattle.strong_apa.proofs.Linked.{place_in, task_on-linked, linked_number}
+use Rattle.strong_apa.proofs.Start.{IsState-start}
+use Rattle.strong_apa.proofs.Steps.{step_keeps_state}
+use Rattle.strong_apa.proofs.Unique.{step_is_unique}
 use Rattle.weak_apa.proofs.Unique.{weak_step_is_unique, weak_step_keeps_state}
 use Rattle.weak_apa.specs.Compared.{Compares, IsNoBetter, IsFirstApart, IsWeakRun, IsFoundOf, EachBeside, states_after}
 use Rattle.weak_apa.specs.Laws.{EventsHaveOneText}

@@ -4,13 +4,13 @@ use Rattle.std.proofs.lemmas.Bool.{cases_eq, cases_lt}
 use Rattle.std.proofs.lemmas.Option.{same_Some}
 use Rattle.std.proofs.lemmas.List.FromFn.{get_or-map-range_with_len}
 use Rattle.affinity_mask.specs.ProcSet.{has}
-use Rattle.link_state.specs.State.{State, IsState, IsWaiting, IsMoreUrgent, task_on, priority_of, effective_mask}
-use Rattle.link_state.specs.Chain.{IsChainOf, IsSimple, occupant_after_shift, state_after_shift}
-use Rattle.link_state.proofs.Linked.{not_linked-from_on, not_on, linked_number, occupied_number}
-use Rattle.link_state.proofs.Masks.{effective_mask_below}
-use Rattle.link_state.proofs.Shifts.{occupant-first, occupant-later, task_on-state_after_shift}
-use Rattle.link_state.proofs.Unique.{ready_number}
-use Rattle.certificate_laws.proofs.KeptByShifts.{waited}
+use Rattle.strong_apa.specs.State.{State, IsState, IsWaiting, IsMoreUrgent, task_on, priority_of, effective_mask}
+use Rattle.strong_apa.specs.Chain.{IsChainOf, IsSimple, occupant_after_shift, state_after_shift}
+use Rattle.strong_apa.proofs.Linked.{not_linked-from_on, not_on, linked_number, occupied_number}
+use Rattle.strong_apa.proofs.Masks.{effective_mask_below}
+use Rattle.strong_apa.proofs.Shifts.{occupant-first, occupant-later, task_on-state_after_shift}
+use Rattle.strong_apa.proofs.Unique.{ready_number}
+use Rattle.strong_apa.proofs.KeptByShifts.{waited}
 use Rattle.weak_apa.specs.Stable.{IsWeaklyStable, IsStableBut, IsStableBeside, IsKeptOut, IsToBePlaced}
 use Rattle.weak_apa.specs.Step.{IsMostUrgentAt}
 

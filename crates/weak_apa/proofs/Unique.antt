@@ -5,19 +5,19 @@ use Rattle.std.proofs.lemmas.Option.{same_Some}
 use Rattle.affinity_mask.specs.ProcSet.{has}
 use Rattle.task_set.specs.TaskSet.{IsMask}
 use Rattle.task_set.specs.declared.event.Event.TheVariants.{Arrive, Depart, Tick, Affinity, Offline, Online}
-use Rattle.link_state.specs.State.{State, IsState, IsWaiting, task_count, is_ready, priority_of, effective_mask, state_with_ready, state_with_mask, state_with_online, state_with_offline, state_after_leaving}
-use Rattle.link_state.specs.Chain.{state_after_shift}
-use Rattle.link_state.specs.Step.{IsOccupied, IsLeastUrgentOn}
-use Rattle.link_state.proofs.Changes.{IsState-state_with_mask, IsState-state_with_online, IsState-state_with_offline}
-use Rattle.link_state.proofs.Leaving.{IsState-state_with_absent, IsState-state_after_leaving}
-use Rattle.link_state.proofs.Linked.{linked_number, not_on}
-use Rattle.link_state.proofs.Readiness.{IsState-state_with_ready, IsWaiting-state_with_ready}
-use Rattle.link_state.proofs.Shifts.{IsState-state_after_shift}
-use Rattle.link_state.proofs.Steps.{HasLeft, IsState-remasked, IsState-moved, absent_moved}
-use Rattle.link_state.proofs.Unique.{ready_number}
+use Rattle.strong_apa.specs.State.{State, IsState, IsWaiting, task_count, is_ready, priority_of, effective_mask, state_with_ready, state_with_mask, state_with_online, state_with_offline, state_after_leaving}
+use Rattle.strong_apa.specs.Chain.{state_after_shift}
+use Rattle.strong_apa.specs.Step.{IsOccupied, IsLeastUrgentOn}
+use Rattle.strong_apa.proofs.Changes.{IsState-state_with_mask, IsState-state_with_online, IsState-state_with_offline}
+use Rattle.strong_apa.proofs.Leaving.{IsState-state_with_absent, IsState-state_after_leaving}
+use Rattle.strong_apa.proofs.Linked.{linked_number, not_on}
+use Rattle.strong_apa.proofs.Readiness.{IsState-state_with_ready, IsWaiting-state_with_ready}
+use Rattle.strong_apa.proofs.Shifts.{IsState-state_after_shift}
+use Rattle.strong_apa.proofs.Steps.{HasLeft, IsState-remasked, IsState-moved, absent_moved}
+use Rattle.strong_apa.proofs.Unique.{ready_number}
 use Rattle.weak_apa.specs.StepLaws.{WeakStepIsUnique, WeakStepKeepsState}
 use Rattle.weak_apa.specs.Stable.{IsKeptOut}
-use Rattle.weak_apa.specs.Step.{GoesOn, FindsIdle, Displaces, IsTurn, IsPlacedInTurns, WeaklyComes, WeaklyFills, WeaklyLeaves, WeaklyArrives, WeaklyDeparts, WeaklyMasks, WeaklyGoesOff, WeaklyComesOn}
+use Rattle.weak_apa.specs.Step.{TakesProcessor, FindsIdle, WeaklyDisplaces, IsTurn, IsPlacedInTurns, WeaklyComes, WeaklyFills, WeaklyLeaves, WeaklyArrives, WeaklyDeparts, WeaklyMasks, WeaklyGoesOff, WeaklyComesOn}
 use Rattle.weak_apa.proofs.Followed.{leaves_known, leaves_ready}
 use Rattle.weak_apa.proofs.Leaving.{absent_then, nobody_offline}
 use Rattle.weak_apa.proofs.Placing.{one_is_simple, displaced_waits}
@@ -38,7 +38,7 @@ module _ (s : State) (ok : IsState s) (x : ℕ) where
   idle_is_not_occupied new finds occupied = let runs = occupied finds.place finds.there in let on = runs.1 in let idle = finds.idle.1 in cc
 
   -- who is kept out finds nobody less urgent
-  kept_out_displaces_none : (out : ℕ) (new : State) → IsKeptOut s x → Displaces s x out new → ⊥
+  kept_out_displaces_none : (out : ℕ) (new : State) → IsKeptOut s x → WeaklyDisplaces s x out new → ⊥
   kept_out_displaces_none out new kept_out displaces =
       let there = displaces.out_there.there in
       let runs = kept_out there.0 there.1 in
@@ -55,7 +55,7 @@ module _ (s : State) (ok : IsState s) (x : ℕ) where
       ok.distinct out other (linked_number s here.0 out ok here.2) (linked_number s there.0 other ok there.2)
       (le_antisymm (two.least_urgent here.0 out here.1 here.2) (one.least_urgent there.0 other there.1 there.2))
 
-  displaces_once : (out : ℕ) (new next : State) → Displaces s x out new → Displaces s x out next → new ≡ next
+  displaces_once : (out : ℕ) (new next : State) → WeaklyDisplaces s x out new → WeaklyDisplaces s x out next → new ≡ next
   displaces_once out new next one other =
       one.goes ∙ ap (λ (p : ℕ). state_after_shift s x (p ∷ [])) (ok.once one.place other.place out one.on other.on) ∙ sym other.goes
 
@@ -65,27 +65,27 @@ module _ (s : State) (ok : IsState s) (x : ℕ) where
   last_once new next (inr one) (inl other) = absurd (idle_keeps_none_out next other one.0)
   last_once new next (inr one) (inr other) = one.1 ∙ sym other.1
 
-  last_displaces_none : (out : ℕ) (new next : State) → IsTurn s x None new → Displaces s x out next → ⊥
+  last_displaces_none : (out : ℕ) (new next : State) → IsTurn s x None new → WeaklyDisplaces s x out next → ⊥
   last_displaces_none out new next (inl finds) displaces = idle_is_not_occupied new finds displaces.occupied
   last_displaces_none out new next (inr keeps) displaces = kept_out_displaces_none out next keeps.0 displaces
 
   module _ (waits : IsWaiting s x) where
-    goes_keeps : (p : ℕ) (new : State) → IsTrue (has (effective_mask s x) p) → GoesOn s x p new → IsState new
+    goes_keeps : (p : ℕ) (new : State) → IsTrue (has (effective_mask s x) p) → TakesProcessor s x p new → IsState new
     goes_keeps p new there goes = subst IsState (sym goes) (IsState-state_after_shift s ok x (p ∷ []) p waits (there, refl) (one_is_simple p))
 
     last_keeps : (new : State) → IsTurn s x None new → IsState new
     last_keeps new (inl finds) = goes_keeps finds.place new finds.there finds.goes
     last_keeps new (inr keeps) = subst IsState (sym keeps.1) ok
 
-    place_inside : (out : ℕ) (new : State) → (displaces : Displaces s x out new) → IsTrue (has (effective_mask s x) displaces.place)
+    place_inside : (out : ℕ) (new : State) → (displaces : WeaklyDisplaces s x out new) → IsTrue (has (effective_mask s x) displaces.place)
     place_inside out new displaces =
         let there = displaces.out_there.there in
         subst (λ (p : ℕ). IsTrue (has (effective_mask s x) p)) (ok.once there.0 displaces.place out there.2 displaces.on) there.1
 
-    displaces_keeps : (out : ℕ) (new : State) → Displaces s x out new → IsState new
+    displaces_keeps : (out : ℕ) (new : State) → WeaklyDisplaces s x out new → IsState new
     displaces_keeps out new displaces = goes_keeps displaces.place new (place_inside out new displaces) displaces.goes
 
-    out_waits : (out : ℕ) (new : State) → Displaces s x out new → IsWaiting new out
+    out_waits : (out : ℕ) (new : State) → WeaklyDisplaces s x out new → IsWaiting new out
     out_waits out new displaces =
         subst (λ (after : State). IsWaiting after out) (sym displaces.goes) (displaced_waits s ok x displaces.place waits (place_inside out new displaces) out displaces.on)
 
@@ -96,7 +96,7 @@ placed_once [] (out ∷ rest) s ok x waits new next one two = absurd (last_displ
 placed_once (out ∷ rest) [] s ok x waits new next one two = absurd (last_displaces_none s ok x out next one.0 two one.1)
 placed_once (out ∷ rest) (out' ∷ rest') s ok x waits new next one two =
     let task : out' ≡ out = least_once s ok x out' out two.1.out_there one.1.out_there in
-    let second : Displaces s x out two.0 = subst (λ (d : ℕ). Displaces s x d two.0) task two.1 in
+    let second : WeaklyDisplaces s x out two.0 = subst (λ (d : ℕ). WeaklyDisplaces s x d two.0) task two.1 in
     let between : two.0 ≡ one.0 = displaces_once s ok x out two.0 one.0 second one.1 in
     let placed : IsPlacedInTurns two.0 out rest' next = subst (λ (d : ℕ). IsPlacedInTurns two.0 d rest' next) task two.2 in
     placed_once rest rest' one.0 (displaces_keeps s ok x waits out one.0 one.1) out (out_waits s ok x waits out one.0 one.1) new next one.2

@@ -1,6 +1,6 @@
 -- The tasks that are linked in one state and not in another, over the same tasks.
 use Rattle.std.specs.Prelude.{◌≡◌, ℕ, ◌≤◌, true, false, Some}
-use Rattle.link_state.specs.State.{State, task_on, is_linked, priority_of}
+use Rattle.strong_apa.specs.State.{State, task_on, is_linked, priority_of}
 
 -- t is linked to p in one state, and not linked in the other
 abbrev pub IsOnlyOn : State → State → ℕ → ℕ → Type 0

@@ -3,12 +3,12 @@
 use Rattle.std.specs.Prelude.{◌≡◌, ◌≢◌, ℕ, ◌≤◌, true, List, [], ◌∷◌, length, map, Option, Some, None, IfSome}
 use Rattle.task_set.specs.TaskSet.{SetData}
 use Rattle.task_set.specs.declared.event.Event.{Event}
-use Rattle.scheduler_reply.specs.declared.reply.Entry.{Entry}
-use Rattle.link_state.specs.State.{State, start_of, is_linked, priority_of}
-use Rattle.link_state.specs.Placement.{IsBetter}
-use Rattle.link_state.specs.History.{IsLegal, effect_of}
-use Rattle.certificate_laws.specs.Laws.{LinkedIsBest}
-use Rattle.certificate_laws.specs.Ranks.{tasks_of}
+use Rattle.strong_apa.specs.declared.reply.Entry.{Entry}
+use Rattle.strong_apa.specs.State.{State, start_of, is_linked, priority_of}
+use Rattle.strong_apa.specs.Placement.{IsBetter}
+use Rattle.strong_apa.specs.History.{IsLegal, effect_of}
+use Rattle.strong_apa.specs.CertificateLaws.{LinkedIsBest}
+use Rattle.strong_apa.specs.Ranks.{tasks_of}
 use Rattle.weak_apa.specs.Stable.{IsWeaklyStable}
 use Rattle.weak_apa.specs.Step.{WeakStep}
 use Rattle.weak_apa.specs.declared.comparison.Comparison.{Comparison}

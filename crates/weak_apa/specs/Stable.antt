@@ -2,7 +2,7 @@
 -- asked of a waiting task is that each of these has a more urgent one.
 use Rattle.std.specs.Prelude.{◌≡◌, ◌≢◌, ℕ, ◌<◌, IsTrue, Some}
 use Rattle.affinity_mask.specs.ProcSet.{has}
-use Rattle.link_state.specs.State.{State, task_count, effective_mask, task_on, IsWaiting, IsMoreUrgent}
+use Rattle.strong_apa.specs.State.{State, task_count, effective_mask, task_on, IsWaiting, IsMoreUrgent}
 
 -- the occupant of p is more urgent than w
 abbrev pub RunsMoreUrgent : State → ℕ → ℕ → Type 0

@@ -1,7 +1,7 @@
 -- Where the strong scheduler begins. Private: the contracts of this crate's own functions.
 use Rattle.std.specs.Prelude.{[], false}
 use Rattle.task_set.specs.TaskSet.{SetData}
-use Rattle.link_state.specs.State.{start_of}
+use Rattle.strong_apa.specs.State.{start_of}
 use Rattle.sched_core.specs.CoreData.{CoreData}
 
 -- a core of a set that was given no event

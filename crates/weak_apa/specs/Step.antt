@@ -8,14 +8,14 @@ use Rattle.affinity_mask.specs.ProcSet.{has}
 use Rattle.task_set.specs.TaskSet.{IsMask}
 use Rattle.task_set.specs.declared.event.Event.{Event}
 use Rattle.task_set.specs.declared.event.Event.TheVariants.{Arrive, Depart, Tick, Affinity, Offline, Online}
-use Rattle.link_state.specs.State.{State, task_on, task_count, is_ready, priority_of, effective_mask, IsIdle, IsWaiting, IsMoreUrgent, state_with_ready, state_with_absent, state_with_mask, state_with_online, state_with_offline, state_after_leaving}
-use Rattle.link_state.specs.Chain.{CanEnterAt, Shifted}
-use Rattle.link_state.specs.Step.{IsOccupied, IsLeastUrgentOn}
+use Rattle.strong_apa.specs.State.{State, task_on, task_count, is_ready, priority_of, effective_mask, IsIdle, IsWaiting, IsMoreUrgent, state_with_ready, state_with_absent, state_with_mask, state_with_online, state_with_offline, state_after_leaving}
+use Rattle.strong_apa.specs.Chain.{CanEnterAt, Shifted}
+use Rattle.strong_apa.specs.Step.{IsOccupied, IsLeastUrgentOn}
 use Rattle.weak_apa.specs.Stable.{IsKeptOut}
 
 -- x goes on p, and whoever was there waits then: a shift along the chain of this one processor
-abbrev pub GoesOn : State → ℕ → ℕ → State → Type 0
-GoesOn s x p new = Shifted s x (p ∷ []) new
+abbrev pub TakesProcessor : State → ℕ → ℕ → State → Type 0
+TakesProcessor s x p new = Shifted s x (p ∷ []) new
 
 -- x finds an idle processor in its effective mask, and goes on the least one
 pub record FindsIdle (s : State) (x : ℕ) (new : State) : Type 0 where
@@ -23,17 +23,17 @@ pub record FindsIdle (s : State) (x : ℕ) (new : State) : Type 0 where
   pub there : IsTrue (has (effective_mask s x) place)
   pub idle : IsIdle s place
   pub least : (p : ℕ) → IsTrue (has (effective_mask s x) p) → IsIdle s p → place ≤ p
-  pub goes : GoesOn s x place new
+  pub goes : TakesProcessor s x place new
 
 -- x finds no idle processor in its effective mask, and takes the processor of the least urgent task there, which is less
 -- urgent
-pub record Displaces (s : State) (x out : ℕ) (new : State) : Type 0 where
+pub record WeaklyDisplaces (s : State) (x out : ℕ) (new : State) : Type 0 where
   pub occupied : IsOccupied s (effective_mask s x)
   pub out_there : IsLeastUrgentOn s (effective_mask s x) out
   pub out_less_urgent : IsMoreUrgent s x out
   pub place : ℕ
   pub on : task_on s place ≡ Some out
-  pub goes : GoesOn s x place new
+  pub goes : TakesProcessor s x place new
 
 -- x finds more urgent tasks alone on the processors of its effective mask, and waits
 abbrev pub KeepsWaiting : State → ℕ → State → Type 0
@@ -42,7 +42,7 @@ KeepsWaiting s x new = IsKeptOut s x × (new ≡ s)
 -- one turn of x, which waits: it displaces a task; or it finds an idle processor, or waits, and displaces none
 abbrev pub IsTurn : State → ℕ → Option ℕ → State → Type 0
 IsTurn s x None new = FindsIdle s x new ⊎ KeepsWaiting s x new
-IsTurn s x (Some out) new = Displaces s x out new
+IsTurn s x (Some out) new = WeaklyDisplaces s x out new
 
 -- x is placed in turns: it displaces the first task of the list, which has the next turn, and so on; the last one
 -- displaces none
@@ -66,7 +66,7 @@ IsNobodyAt s p = (w : ℕ) → IsWaiting s w → CanEnterAt s w p → ⊥
 
 -- p has become idle in the state s: the most urgent waiting task that may run on p goes on it, or there is none
 abbrev pub WeaklyFills : State → ℕ → State → Type 0
-WeaklyFills s p new = (IsNobodyAt s p × (new ≡ s)) ⊎ ((w : ℕ) × IsMostUrgentAt s p w × GoesOn s w p new)
+WeaklyFills s p new = (IsNobodyAt s p × (new ≡ s)) ⊎ ((w : ℕ) × IsMostUrgentAt s p w × TakesProcessor s w p new)
 
 -- t, which is linked, leaves its processor, which another one may fill
 pub record LeavesProcessor (s : State) (t : ℕ) (new : State) : Type 0 where

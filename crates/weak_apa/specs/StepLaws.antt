@@ -2,7 +2,7 @@
 -- `laws`.
 use Rattle.std.specs.Prelude.{◌≡◌}
 use Rattle.task_set.specs.declared.event.Event.{Event}
-use Rattle.link_state.specs.State.{State, IsState}
+use Rattle.strong_apa.specs.State.{State, IsState}
 use Rattle.weak_apa.specs.Step.{WeakStep}
 
 -- one state and one event have at most one new state

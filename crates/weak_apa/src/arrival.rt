@@ -1,9 +1,9 @@
 //! A task arrives at the weak scheduler.
 ghost use Rattle.std.specs.Prelude.{◌≡◌, ℕ, ◌<◌, ◌^◌, List, IfSome, MatchOption, true, false};
-ghost use Rattle.link_state.specs.State.{IsState, IsWaiting, task_count, is_ready, effective_mask, priority_of};
+ghost use Rattle.strong_apa.specs.State.{IsState, IsWaiting, task_count, is_ready, effective_mask, priority_of};
 ghost use Rattle.affinity_mask.specs.ProcSet.{has};
 ghost use Rattle.weak_apa.specs.Stable.{IsWeaklyStable, IsToBePlaced};
-ghost use Rattle.weak_apa.specs.Step.{WeaklyComes, IsPlacedInTurns, IsTurn, GoesOn};
+ghost use Rattle.weak_apa.specs.Step.{WeaklyComes, IsPlacedInTurns, IsTurn, TakesProcessor};
 
 use link_table::{Chain, Links};
 
@@ -64,7 +64,7 @@ pub(crate) fn go_on(links: &mut Links, x: u32, p: u8)
     requires waits { IsWaiting links.old x }
     requires there { has (effective_mask links.old x) p ≡ true }
     requires processor { p < 64 }
-    ensures goes { GoesOn links.old x p links.new }
+    ensures goes { TakesProcessor links.old x p links.new }
     ensures valid { IsState links.new }
 {
     let mut chain = Chain::new();

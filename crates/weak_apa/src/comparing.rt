@@ -1,7 +1,7 @@
 //! The events of an input, given to both schedulers.
 ghost use Rattle.std.specs.Prelude.{◌≡◌, ◌<◌, false, length, IfOk, OnOk};
-ghost use Rattle.link_state.specs.State.{start_of};
-ghost use Rattle.link_state.specs.Step.{IsEventFor};
+ghost use Rattle.strong_apa.specs.State.{start_of};
+ghost use Rattle.strong_apa.specs.Step.{IsEventFor};
 ghost use Rattle.sched_core.specs.CoreData.{Applied, max_entries};
 ghost use Rattle.weak_apa.specs.Start.{new_core};
 ghost use Rattle.weak_apa.specs.WeakText.{IsWeakTextOf, weak_heading};

@@ -2,7 +2,7 @@
 ghost use Rattle.std.specs.Prelude.{◌≡◌, ◌<◌, ◌++◌, length, OnOk, IsSome, MatchOption};
 ghost use Rattle.std.specs.Option.{ForSome};
 ghost use Rattle.task_set.specs.TaskSet.{SetData};
-ghost use Rattle.link_state.specs.State.{HasSameTasks, IsState};
+ghost use Rattle.strong_apa.specs.State.{HasSameTasks, IsState};
 ghost use Rattle.weak_apa.specs.Apart.{IsOnlyOn, IsNobodyOnlyOn, IsFirstOnlyIn, IsNobodyOnlyIn};
 ghost use Rattle.weak_apa.specs.Compared.{Compares, IsFirstApart, linked_count};
 ghost use Rattle.weak_apa.specs.WeakText.{comparison_line, name_or_dash};

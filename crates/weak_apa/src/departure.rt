@@ -1,6 +1,6 @@
 //! A task leaves the weak scheduler.
 ghost use Rattle.std.specs.Prelude.{◌≡◌, ◌<◌, true, false};
-ghost use Rattle.link_state.specs.State.{IsState, HasSameTasks, task_count, is_ready, task_on};
+ghost use Rattle.strong_apa.specs.State.{IsState, HasSameTasks, task_count, is_ready, task_on};
 ghost use Rattle.weak_apa.specs.Stable.{IsWeaklyStable, IsStableBeside};
 ghost use Rattle.weak_apa.specs.Step.{WeaklyLeaves, WeaklyFills};
 

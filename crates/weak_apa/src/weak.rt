@@ -1,8 +1,8 @@
 //! The weak scheduler on one thread.
 ghost use Rattle.std.specs.Prelude.{◌≡◌, ◌<◌, IfOk};
 ghost use Rattle.task_set.specs.TaskSet.{IsMask};
-ghost use Rattle.link_state.specs.State.{IsState, start_of, task_count};
-ghost use Rattle.link_state.specs.Step.{IsEventFor};
+ghost use Rattle.strong_apa.specs.State.{IsState, start_of, task_count};
+ghost use Rattle.strong_apa.specs.Step.{IsEventFor};
 ghost use Rattle.weak_apa.specs.Stable.{IsWeaklyStable};
 ghost use Rattle.weak_apa.specs.Step.{WeakStep, Follows, WeaklyArrives, WeaklyDeparts, WeaklyMasks, WeaklyGoesOff, WeaklyComesOn};
 
@@ -21,7 +21,7 @@ pub struct Weak {
 }
 
 impl Model for Weak {
-    ghost use Rattle.link_state.specs.State.{State};
+    ghost use Rattle.strong_apa.specs.State.{State};
 
     ghost Value = { State };
 
@@ -127,7 +127,7 @@ fn affinity(links: &mut Links, t: u32, mask: ProcSet)
 }
 
 /// A processor goes off line. Its task, if it has one, is placed elsewhere, or waits.
-#[tactic(auto, using(link_state::proofs::Linked::linked_number))]
+#[tactic(auto, using(strong_apa::proofs::Linked::linked_number))]
 fn offline(links: &mut Links, p: u8)
     requires processor { p < links.old.processors }
     requires stable { IsWeaklyStable links.old }

@@ -96,8 +96,9 @@ fn history_once<J: Over>(
         (data_at turn.now.table_id state.new)
         × (into.new.items ≡ into.old.items)) }
 {
-    let Ok(held) = begin::<J>(turn, state) else {
-        return Ok(false);
+    let held = match begin::<J>(turn, state) {
+        Ok(held) => held,
+        Err(_busy) => return Ok(false),
     };
     let copied = copy_entries(&held.history()[from as usize..], into);
     leave(turn, state, held);

@@ -1,7 +1,7 @@
 //! What makes a board.
 ghost use Rattle.std.specs.Prelude.{◌≡◌, ◌≤◌, true, [], length, All, IfOk};
 ghost use Rattle.left_right.specs.Sides.{view};
-ghost use Rattle.schedule_board.specs.Views.{Knows};
+ghost use Rattle.schedule_board.specs.Views.{KnowsShown};
 ghost use Rattle.schedule_board.specs.Boards.{board_shown, board_of, published, IsNewObserver};
 
 use super::publishing::show;
@@ -70,7 +70,7 @@ fn open_desk<R: Wait>(
 ) -> Result<Desk, OutOfMemory>
     requires { (1 ≤ observers) × (observers ≤ 8) }
     ensures shown { IfOk result (λ desk. desk.desk.shown.value ≡ first) }
-    ensures knows { IfOk result (λ desk. Knows first (view desk.desk.place)) }
+    ensures knows { IfOk result (λ desk. KnowsShown first (view desk.desk.place)) }
 {
     let second = first.again();
     let one = first.again();
@@ -89,7 +89,7 @@ fn open_desk<R: Wait>(
 
 /// An observer that knows nothing but its board.
 fn make_observer(desk: &mut Desk) -> Result<Observer, OutOfMemory>
-    requires knows { Knows desk.old.desk.shown.value (view desk.old.desk.place) }
+    requires knows { KnowsShown desk.old.desk.shown.value (view desk.old.desk.place) }
     requires empty { desk.old.desk.shown.value.reached.log ≡ [] }
     ensures desk { (desk.new.desk.shown ≡ desk.old.desk.shown)
         × (view desk.new.desk.place ≡ view desk.old.desk.place) }
@@ -117,7 +117,7 @@ fn make_observers(
     desk: &mut Desk,
     observers: u32,
 ) -> Result<Vec<Observer>, OutOfMemory>
-    requires knows { Knows desk.old.desk.shown.value (view desk.old.desk.place) }
+    requires knows { KnowsShown desk.old.desk.shown.value (view desk.old.desk.place) }
     requires empty { desk.old.desk.shown.value.reached.log ≡ [] }
     ensures desk { desk.new.desk.shown ≡ desk.old.desk.shown }
     ensures made { IfOk result (λ all. (length all.items ≡ observers)

@@ -1,7 +1,7 @@
 //! What a publisher does.
 ghost use Rattle.std.specs.Prelude.{◌≡◌, ◌+◌, ◌≤◌, ◌++◌, true, length, drop, fold, MatchResult};
 ghost use Rattle.left_right.specs.Sides.{view};
-ghost use Rattle.schedule_board.specs.Views.{GoesOn, Knows};
+ghost use Rattle.schedule_board.specs.Views.{ShownGoesOn, KnowsShown};
 ghost use Rattle.schedule_board.specs.Boards.{board_of, published, board_at, seen, told, looks};
 ghost use Rattle.schedule_board.specs.declared.shown.Shown.{Shown};
 
@@ -11,8 +11,8 @@ use crate::rule::{Desk, Looks};
 use crate::shown::Shown;
 use affinity_mask::OutOfMemory;
 use core::mem::replace_with;
-use scheduler_reply::Entry;
 use std::sync::Wait;
+use strong_apa::Entry;
 
 impl<K: Wait + Drop> Publisher<K> {
     /// How many entries are published.
@@ -81,11 +81,11 @@ fn shown_after(shown: &Shown, more: &[Entry], reached: Reached) -> Shown
 
 /// Shows what was appended last.
 pub(super) fn show<R: Wait>(desk: Desk, rt: &R) -> (Desk, ())
-    requires { GoesOn desk.desk.shown.value
+    requires { ShownGoesOn desk.desk.shown.value
         (fold (λ s o. o) desk.desk.shown.value (drop desk.behind desk.log.items)) }
     ensures shown { result.0.desk.shown.value
         ≡ fold (λ s o. o) desk.desk.shown.value (drop desk.behind desk.log.items) }
-    ensures knows { Knows result.0.desk.shown.value (view result.0.desk.place) }
+    ensures knows { KnowsShown result.0.desk.shown.value (view result.0.desk.place) }
 {
     let (desk, _shown) = desk.publish_as::<Looks, R>(rt);
     (desk, ())

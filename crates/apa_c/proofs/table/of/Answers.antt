@@ -1,6 +1,6 @@
 use Rattle.std.proofs.Common.{◌≡◌, ℕ, ◌<◌, ◌≤◌, false, refl, sym, ap, subst, inl, arith}
-use Rattle.link_state.specs.State.{State, IsState, task_count, is_linked}
-use Rattle.link_state.proofs.Linked.{linked_number, not_linked-from_on}
+use Rattle.strong_apa.specs.State.{State, IsState, task_count, is_linked}
+use Rattle.strong_apa.proofs.Linked.{linked_number, not_linked-from_on}
 use Rattle.apa_c.specs.declared.table.Stage.{Stage}
 use Rattle.apa_c.specs.Calls.{IsPlaceAt, running_of}
 use Rattle.apa_c.proofs.table.of.Goals as goal

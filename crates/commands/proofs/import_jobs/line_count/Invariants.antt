@@ -1,5 +1,5 @@
 use Rattle.std.proofs.Common.{◌≡◌, ◌-◌, ◌≤◌, length, drop}
-use Rattle.line_machine.specs.Lines.{lines_of}
+use Rattle.text_fields.specs.Lines.{lines_of}
 use Rattle.commands.proofs.import_jobs.line_count.Given as goal
 
 abbrev pub invariant-loop-i : goal.invariant-loop-i

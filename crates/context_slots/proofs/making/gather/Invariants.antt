@@ -3,14 +3,14 @@ use Rattle.std.specs.Prelude.{All}
 use Rattle.task_set.specs.Orders.{Stint}
 use Rattle.task_set.specs.Sum.{total}
 use Rattle.context_slots.specs.Hands.{AreFreeFrom, all_ended}
-use Rattle.context_slots.specs.HandSteps.{IsFree}
+use Rattle.context_slots.specs.HandSteps.{HoldsNothing}
 use Rattle.context_slots.proofs.making.gather.Given as goal
 
 abbrev pub invariant-loop-hand : goal.invariant-loop-hand
 invariant-loop-hand l = record {
   table : l.all.seat.table_id ≡ l.initial.all.seat.table_id;
   rest : AreFreeFrom l.words.table.shared.table_id 0 l.hands.items;
-  free : IsFree l.all.seat.me;
+  free : HoldsNothing l.all.seat.me;
   number : l.all.number ≡ l.all.seat.me.0.number;
   parts : l.all.seat.me.0.parts + length l.hands.items ≡ 1 + length l.initial.hands.items;
   some_part : 0 < l.all.seat.me.0.parts;

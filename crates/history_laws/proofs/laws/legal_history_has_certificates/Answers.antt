@@ -1,5 +1,5 @@
-use Rattle.link_state.specs.State.{IsState}
-use Rattle.certificate_laws.specs.Certified.{HasCertificates}
+use Rattle.strong_apa.specs.State.{IsState}
+use Rattle.strong_apa.specs.Certified.{HasCertificates}
 use Rattle.history_laws.proofs.LegalHistories.{legal_is_certified-from, throughout_legal-set}
 use Rattle.history_laws.proofs.laws.legal_history_has_certificates.Goals as goal
 

@@ -1,4 +1,4 @@
-use Rattle.certificate_laws.specs.Improving.{HasNoImprovingChain}
+use Rattle.strong_apa.specs.Improving.{HasNoImprovingChain}
 use Rattle.history_laws.proofs.LegalHistories.{legal_has_no_improving_chain-from, throughout_legal-set}
 use Rattle.history_laws.proofs.laws.legal_history_has_no_improving_chain.Goals as goal
 

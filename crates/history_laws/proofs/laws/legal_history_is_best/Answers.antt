@@ -1,4 +1,4 @@
-use Rattle.certificate_laws.specs.Laws.{LinkedIsBest}
+use Rattle.strong_apa.specs.CertificateLaws.{LinkedIsBest}
 use Rattle.history_laws.proofs.LegalHistories.{legal_is_best-from, throughout_legal-set}
 use Rattle.history_laws.proofs.laws.legal_history_is_best.Goals as goal
 

@@ -1,4 +1,4 @@
-use Rattle.certificate_laws.specs.Laws.{LinkedIsLargest, LinkedIsAsUrgent}
+use Rattle.strong_apa.specs.CertificateLaws.{LinkedIsLargest, LinkedIsAsUrgent}
 use Rattle.history_laws.proofs.LegalHistories.{legal_is_most_urgent-from, throughout_legal-set}
 use Rattle.history_laws.proofs.laws.legal_history_is_most_urgent.Goals as goal
 

@@ -1,5 +1,5 @@
 use Rattle.std.proofs.Common.{◌≡◌, ℕ, ◌<◌, ◌≤◌, length, get_or}
-use Rattle.link_state.specs.State.{is_linked, task_count}
+use Rattle.strong_apa.specs.State.{is_linked, task_count}
 use Rattle.job_release.specs.Driving.{RowRuns}
 use Rattle.job_release.specs.Moves.{place_of}
 use Rattle.job_release.specs.declared.row.JobRow.{JobRow}

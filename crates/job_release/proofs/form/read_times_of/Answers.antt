@@ -1,5 +1,5 @@
 use Rattle.std.proofs.Common.{arith}
-use Rattle.line_machine.proofs.FieldLists.{texts_three}
+use Rattle.text_fields.proofs.FieldLists.{texts_three}
 use Rattle.job_release.proofs.Decided.{no_time_fields, no_times_of}
 use Rattle.job_release.proofs.form.read_times_of.Goals as goal
 

@@ -1,5 +1,5 @@
 use Rattle.std.proofs.Common.{◌≡◌, ◌≤◌, ℕ, IfSome, refl, sym, subst}
-use Rattle.link_state.specs.State.{start_of}
+use Rattle.strong_apa.specs.State.{start_of}
 use Rattle.text_fields.specs.EventText.{name_of}
 use Rattle.text_fields.proofs.NamedTasks.{named_task}
 use Rattle.job_release.specs.Jobs.{no_job, goal_of}

@@ -1,5 +1,5 @@
 use Rattle.std.proofs.Common.{refl}
-use Rattle.link_state.specs.State.{start_of}
+use Rattle.strong_apa.specs.State.{start_of}
 use Rattle.job_release.specs.JobsText.{lines_of_task}
 use Rattle.job_release.specs.Moments.{state_at}
 use Rattle.job_release.proofs.JobsWritten.{pieces_more}

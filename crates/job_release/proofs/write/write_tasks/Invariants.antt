@@ -1,6 +1,6 @@
 use Rattle.std.proofs.Common.{◌≡◌, ◌++◌, length}
 use Rattle.std.specs.List.{flat_map, range_with_len}
-use Rattle.link_state.specs.State.{start_of}
+use Rattle.strong_apa.specs.State.{start_of}
 use Rattle.job_release.specs.JobsText.{lines_of_task}
 use Rattle.job_release.specs.Moments.{state_at}
 use Rattle.job_release.proofs.write.write_tasks.Given as goal

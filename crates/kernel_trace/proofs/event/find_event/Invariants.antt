@@ -1,5 +1,5 @@
 use Rattle.std.proofs.Common.{◌≡◌, length}
-use Rattle.line_machine.specs.Lines.{fields_of}
+use Rattle.text_fields.specs.Lines.{fields_of}
 use Rattle.kernel_trace.specs.TraceLine.{first_event}
 use Rattle.kernel_trace.proofs.event.find_event.Given as goal
 

@@ -1,6 +1,6 @@
 use Rattle.std.proofs.Common.{◌≡◌, length}
 use Rattle.std.specs.Prelude.{fold}
-use Rattle.line_machine.specs.Lines.{fields_of}
+use Rattle.text_fields.specs.Lines.{fields_of}
 use Rattle.kernel_trace.specs.Reading.{fields_view}
 use Rattle.kernel_trace.specs.TraceLine.{event_fields, event_fields_after}
 use Rattle.kernel_trace.proofs.event.read_fields.Given as goal

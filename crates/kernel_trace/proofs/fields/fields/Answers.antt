@@ -2,8 +2,8 @@ use Rattle.std.proofs.Common.{ap, ◌∙◌, rules}
 use Rattle.std.specs.Prelude.{filter, not}
 use Rattle.std.proofs.lemmas.Iterator.Splits.{YieldsList-from_slice_split}
 use Rattle.std.proofs.lemmas.Iterator.Consumers.{YieldsList-end}
-use Rattle.line_machine.specs.Lines.{is_blank, is_nothing}
-use Rattle.line_machine.specs.Fields.{texts}
+use Rattle.text_fields.specs.Lines.{is_blank, is_nothing}
+use Rattle.text_fields.specs.Fields.{texts}
 use Rattle.kernel_trace.proofs.fields.fields.Goals as goal
 
 pub returns : goal.returns

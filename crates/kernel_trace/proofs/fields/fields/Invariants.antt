@@ -1,7 +1,7 @@
 use Rattle.std.proofs.Common.{◌≡◌}
 use Rattle.std.specs.Prelude.{filter, not}
-use Rattle.line_machine.specs.Lines.{is_nothing}
-use Rattle.line_machine.specs.Fields.{texts}
+use Rattle.text_fields.specs.Lines.{is_nothing}
+use Rattle.text_fields.specs.Fields.{texts}
 use Rattle.kernel_trace.proofs.fields.fields.Given as goal
 
 abbrev pub invariant-loop-field : goal.invariant-loop-field

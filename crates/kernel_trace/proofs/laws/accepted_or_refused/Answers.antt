@@ -1,5 +1,5 @@
-use Rattle.line_machine.specs.Lines.{lines_of}
-use Rattle.line_machine.proofs.TextLaws.{always_one}
+use Rattle.text_fields.specs.Lines.{lines_of}
+use Rattle.text_fields.proofs.TextLaws.{always_one}
 use Rattle.kernel_trace.proofs.Decided.{trace_machine}
 use Rattle.kernel_trace.proofs.laws.accepted_or_refused.Goals as goal
 

@@ -1,5 +1,5 @@
-use Rattle.line_machine.specs.Lines.{lines_of}
-use Rattle.line_machine.proofs.TextLaws.{one_fault}
+use Rattle.text_fields.specs.Lines.{lines_of}
+use Rattle.text_fields.proofs.TextLaws.{one_fault}
 use Rattle.kernel_trace.proofs.Decided.{trace_machine}
 use Rattle.kernel_trace.proofs.laws.text_has_one_fault.Goals as goal
 

@@ -1,5 +1,5 @@
 use Rattle.std.proofs.Common.{◌≡◌, length}
-use Rattle.line_machine.specs.Lines.{fields_of}
+use Rattle.text_fields.specs.Lines.{fields_of}
 use Rattle.kernel_trace.specs.Processor.{processor_of, named_before}
 use Rattle.kernel_trace.proofs.processor.read_processor.Given as goal
 

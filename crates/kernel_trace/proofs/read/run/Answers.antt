@@ -1,9 +1,9 @@
 use Rattle.std.proofs.Common.{◌≡◌, ◌≢◌, [], ap, inl, inr, arith, rules}
 use Rattle.std.proofs.lemmas.List.{nil_from_length}
-use Rattle.line_machine.specs.Lines.{lines_of}
-use Rattle.line_machine.specs.Machine.{Leads, Fails, IsText, Refuses}
+use Rattle.text_fields.specs.Lines.{lines_of}
+use Rattle.text_fields.specs.Machine.{Leads, Fails, IsText, Refuses}
 use Rattle.kernel_trace.proofs.LinesRead.{first_of_lines, rest_is_shorter}
-use Rattle.line_machine.proofs.TextLaws as lawful
+use Rattle.text_fields.proofs.TextLaws as lawful
 use Rattle.kernel_trace.specs.Reading.{progress_of}
 use Rattle.kernel_trace.proofs.Decided.{trace_machine}
 use Rattle.kernel_trace.proofs.read.run.Goals as goal

@@ -1,7 +1,7 @@
 use Rattle.std.proofs.Common.{◌+◌, ◌≤◌, length}
 use Rattle.trace_reader.specs.Input.{InputData}
-use Rattle.line_machine.specs.Lines.{lines_of}
-use Rattle.line_machine.specs.Machine.{Answer, IsAnswer}
+use Rattle.text_fields.specs.Lines.{lines_of}
+use Rattle.text_fields.specs.Machine.{Answer, IsAnswer}
 use Rattle.kernel_trace.specs.Reading.{progress_of, IsValid}
 use Rattle.kernel_trace.specs.TraceText.{HeaderExpected, IsLine, IsEndOutcome}
 use Rattle.kernel_trace.specs.declared.fault.TraceKind.{TraceKind}

@@ -1,6 +1,6 @@
 use Rattle.std.proofs.lemmas.Result.{IfOk-weaker}
-use Rattle.line_machine.specs.Lines.{lines_of}
-use Rattle.line_machine.proofs.TextLaws.{answers_value, answers_fault}
+use Rattle.text_fields.specs.Lines.{lines_of}
+use Rattle.text_fields.proofs.TextLaws.{answers_value, answers_fault}
 use Rattle.kernel_trace.specs.Passage.{IsTaskTraceText}
 use Rattle.kernel_trace.specs.Passages.{IsTaskTrace}
 use Rattle.kernel_trace.specs.Reading.{IsOutOfMemory}

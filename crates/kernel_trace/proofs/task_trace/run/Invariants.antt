@@ -1,7 +1,7 @@
 use Rattle.std.proofs.Common.{◌+◌, ◌≤◌, length}
 use Rattle.kernel_trace.specs.Passage.{TaskTraceData}
-use Rattle.line_machine.specs.Lines.{lines_of}
-use Rattle.line_machine.specs.Machine.{Answer, IsAnswer}
+use Rattle.text_fields.specs.Lines.{lines_of}
+use Rattle.text_fields.specs.Machine.{Answer, IsAnswer}
 use Rattle.kernel_trace.specs.PassageView.{following_of, CanFollow}
 use Rattle.kernel_trace.specs.Passage.{nothing_followed, IsFollowed, IsFollowedEnd}
 use Rattle.kernel_trace.specs.declared.fault.TraceKind.{TraceKind}

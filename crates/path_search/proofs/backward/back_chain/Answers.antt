@@ -1,6 +1,6 @@
 use Rattle.std.proofs.Common.{ℕ, subst, IsTrue}
 use Rattle.affinity_mask.specs.ProcSet.{has}
-use Rattle.link_state.proofs.Masks.{effective_mask_below}
+use Rattle.strong_apa.proofs.Masks.{effective_mask_below}
 use Rattle.path_search.proofs.ChainPaths.{back_chain_answer}
 use Rattle.path_search.proofs.backward.back_chain.Goals as goal
 

@@ -1,4 +1,4 @@
-use Rattle.link_state.specs.Chain.{IsChainOf, EndsOnTask}
+use Rattle.strong_apa.specs.Chain.{IsChainOf, EndsOnTask}
 use Rattle.path_search.specs.Paths.{EndsIn}
 use Rattle.path_search.proofs.ChainPaths.{IsLeastIfAny-same, EndsIn-one, one-EndsIn, EndsIn-task, task-EndsIn, start_below}
 use Rattle.path_search.proofs.forward.chain_to.Goals as goal

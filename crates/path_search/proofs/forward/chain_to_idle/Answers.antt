@@ -1,5 +1,5 @@
-use Rattle.link_state.specs.Chain.{EndsIdle}
-use Rattle.link_state.proofs.Masks.{online_below}
+use Rattle.strong_apa.specs.Chain.{EndsIdle}
+use Rattle.strong_apa.proofs.Masks.{online_below}
 use Rattle.path_search.specs.Paths.{EndsIn}
 use Rattle.path_search.proofs.ChainPaths.{IsLeastIfAny-same, EndsIn-idle, idle-EndsIn}
 use Rattle.path_search.proofs.forward.chain_to_idle.Goals as goal

@@ -1,6 +1,6 @@
 use Rattle.std.proofs.Common.{ℕ, List, sym, subst}
 use Rattle.affinity_mask.proofs.Meetings.{no_member}
-use Rattle.link_state.specs.Chain.{IsLeastSuch}
+use Rattle.strong_apa.specs.Chain.{IsLeastSuch}
 use Rattle.path_search.specs.Paths.{Steps, LeadsInto}
 use Rattle.path_search.proofs.LeastPaths.{least_one}
 use Rattle.path_search.proofs.least_path.least_path.Goals as goal

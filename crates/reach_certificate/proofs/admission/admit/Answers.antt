@@ -1,7 +1,7 @@
 use Rattle.std.proofs.Common.{◌≡◌, ℕ, false, true, reverse, sym, ap, ◌∙◌, subst}
 use Rattle.affinity_mask.specs.ProcSet.{empty}
-use Rattle.link_state.specs.State.{State, IsState, IsWaiting, state_with_ready}
-use Rattle.link_state.specs.Chain.{state_after_shift}
+use Rattle.strong_apa.specs.State.{State, IsState, IsWaiting, state_with_ready}
+use Rattle.strong_apa.specs.Chain.{state_after_shift}
 use Rattle.reach_certificate.specs.Admission.{Admitted}
 use Rattle.reach_certificate.specs.Search.{IsWay, IsFull}
 use Rattle.reach_certificate.proofs.Admissions.{Admitted-full, Admitted-way}

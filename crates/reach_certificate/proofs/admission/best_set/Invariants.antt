@@ -1,6 +1,6 @@
 use Rattle.std.proofs.Common.{not}
-use Rattle.link_state.specs.State.{is_ready, task_count}
-use Rattle.certificate_laws.proofs.Counts.{count_below}
+use Rattle.strong_apa.specs.State.{is_ready, task_count}
+use Rattle.strong_apa.proofs.Counts.{count_below}
 use Rattle.reach_certificate.proofs.Greedy.{IsGreedy}
 use Rattle.reach_certificate.proofs.admission.best_set.Given as goal
 

@@ -2,8 +2,8 @@ use Rattle.std.proofs.Common.{◌≡◌, ℕ, Bool, not, Option, Some, None, IsT
 use Rattle.std.specs.Prelude.{MatchOption, is_some}
 use Rattle.std.proofs.lemmas.Bool.{not-true, not-false, true≢false}
 use Rattle.affinity_mask.specs.ProcSet.{all_below, Within}
-use Rattle.link_state.specs.State.{State, IsState}
-use Rattle.link_state.specs.Certificate.{IsCertificate}
+use Rattle.strong_apa.specs.State.{State, IsState}
+use Rattle.strong_apa.specs.Certificate.{IsCertificate}
 use Rattle.reach_certificate.specs.Defect.{AllFit, IsFirstMisfit, AgainstFits, processor_count}
 use Rattle.reach_certificate.proofs.ChainPlaces.{all_fit_no_misfit}
 use Rattle.reach_certificate.proofs.Fitting.{waits_fits, waits_passes}

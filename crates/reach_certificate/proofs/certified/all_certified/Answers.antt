@@ -1,12 +1,12 @@
 use Rattle.std.proofs.Common.{ℕ, ◌<◌, ◌≤◌, List, get_or, sym, ◌∙◌, subst, below_more, arith}
 use Rattle.std.proofs.lemmas.Bool.{false≢true}
 use Rattle.std.proofs.lemmas.List.{get_or_default}
-use Rattle.link_state.specs.State.{State, IsState, IsWaiting, task_count}
-use Rattle.link_state.specs.Certificate.{IsCertificate}
-use Rattle.link_state.proofs.Unique.{ready_number}
-use Rattle.certificate_laws.specs.Certified.{HasCertificates}
-use Rattle.certificate_laws.proofs.Best.{linked_is_best, linked_is_largest}
-use Rattle.certificate_laws.proofs.Ranked.{linked_is_as_urgent}
+use Rattle.strong_apa.specs.State.{State, IsState, IsWaiting, task_count}
+use Rattle.strong_apa.specs.Certificate.{IsCertificate}
+use Rattle.strong_apa.proofs.Unique.{ready_number}
+use Rattle.strong_apa.specs.Certified.{HasCertificates}
+use Rattle.strong_apa.proofs.Best.{linked_is_best, linked_is_largest}
+use Rattle.strong_apa.proofs.Ranked.{linked_is_as_urgent}
 use Rattle.reach_certificate.proofs.certified.all_certified.Goals as goal
 use Rattle.reach_certificate.proofs.certified.all_certified.Goals.{else-is_waiting-via-then-is_waiting+else-not-is_certificate, else-is_waiting-via-else-is_waiting}
 

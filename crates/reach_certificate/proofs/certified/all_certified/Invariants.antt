@@ -1,6 +1,6 @@
 use Rattle.std.proofs.Common.{ℕ, ◌<◌, get_or}
-use Rattle.link_state.specs.State.{IsWaiting}
-use Rattle.link_state.specs.Certificate.{IsCertificate}
+use Rattle.strong_apa.specs.State.{IsWaiting}
+use Rattle.strong_apa.specs.Certificate.{IsCertificate}
 use Rattle.reach_certificate.proofs.certified.all_certified.Given as goal
 
 abbrev pub invariant-loop-t : goal.invariant-loop-t

@@ -1,5 +1,5 @@
 use Rattle.std.proofs.Common.{sym, ap, ◌∙◌}
-use Rattle.link_state.specs.State.{State, state_with_offline}
+use Rattle.strong_apa.specs.State.{State, state_with_offline}
 use Rattle.reach_certificate.proofs.Online.{off_has_nobody, off_again}
 use Rattle.reach_certificate.proofs.change.follow_online.Goals as goal
 

@@ -1,4 +1,4 @@
-use Rattle.link_state.proofs.Linked.{linked_number}
+use Rattle.strong_apa.proofs.Linked.{linked_number}
 use Rattle.reach_certificate.proofs.change.move_off.Goals as goal
 
 pub leave-requires-clause-number : goal.leave-requires-clause-number

@@ -1,10 +1,10 @@
 use Rattle.std.proofs.Common.{◌≡◌, ℕ, Option, Some, None, ◌∙◌, ap, subst, inr}
 use Rattle.std.specs.Prelude.{MatchOption}
-use Rattle.scheduler_reply.specs.declared.reply.Came.{Came}
-use Rattle.scheduler_reply.specs.declared.reply.Gone.{Gone}
-use Rattle.link_state.specs.State.{State, IsState, state_with_mask}
-use Rattle.link_state.specs.History.{state_after_left}
-use Rattle.certificate_laws.specs.Passing.{CamePasses, LeavingPasses}
+use Rattle.strong_apa.specs.declared.reply.Came.{Came}
+use Rattle.strong_apa.specs.declared.reply.Gone.{Gone}
+use Rattle.strong_apa.specs.State.{State, IsState, state_with_mask}
+use Rattle.strong_apa.specs.History.{state_after_left}
+use Rattle.strong_apa.specs.Passing.{CamePasses, LeavingPasses}
 use Rattle.reach_certificate.specs.Defect.{IsCameDefect, IsReturnDefect}
 use Rattle.reach_certificate.specs.Returning.{ReturnsRightly}
 use Rattle.reach_certificate.specs.declared.defect.Defect.{Defect}

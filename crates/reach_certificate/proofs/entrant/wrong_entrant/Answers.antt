@@ -1,4 +1,4 @@
-use Rattle.link_state.proofs.Unique.{ready_number}
+use Rattle.strong_apa.proofs.Unique.{ready_number}
 use Rattle.reach_certificate.proofs.entrant.wrong_entrant.Goals as goal
 
 pub effective-requires : goal.effective-requires

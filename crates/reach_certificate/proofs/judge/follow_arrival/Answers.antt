@@ -1,11 +1,11 @@
 use Rattle.std.proofs.Common.{◌≡◌, ℕ, false, Option, None, Some, MatchOption, sym, ◌∙◌, inr}
 use Rattle.task_set.specs.declared.event.Event.TheVariants.{Arrive}
-use Rattle.scheduler_reply.specs.declared.reply.Came.{Came}
-use Rattle.scheduler_reply.specs.declared.reply.Came.TheVariants as came
-use Rattle.scheduler_reply.specs.declared.reply.Reply.{Reply}
-use Rattle.scheduler_reply.specs.Reply.{reply_of_came}
-use Rattle.link_state.specs.State.{State, is_ready}
-use Rattle.certificate_laws.specs.Passing.{CamePasses, ArrivalPasses}
+use Rattle.strong_apa.specs.declared.reply.Came.{Came}
+use Rattle.strong_apa.specs.declared.reply.Came.TheVariants as came
+use Rattle.strong_apa.specs.declared.reply.Reply.{Reply}
+use Rattle.strong_apa.specs.Reply.{reply_of_came}
+use Rattle.strong_apa.specs.State.{State, is_ready}
+use Rattle.strong_apa.specs.Passing.{CamePasses, ArrivalPasses}
 use Rattle.reach_certificate.specs.Defect.{IsCameDefect, IsReplyDefect}
 use Rattle.reach_certificate.specs.declared.defect.Defect.{Defect}
 use Rattle.reach_certificate.proofs.judge.follow_arrival.Goals as goal

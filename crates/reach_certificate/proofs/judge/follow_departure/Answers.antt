@@ -1,9 +1,9 @@
 use Rattle.std.proofs.Common.{rules, ◌≡◌, ℕ, false, refl, sym, ◌∙◌, inl, inr}
 use Rattle.std.proofs.lemmas.Bool.{true≢false}
-use Rattle.scheduler_reply.specs.declared.reply.Reply.{Reply}
-use Rattle.scheduler_reply.specs.declared.reply.Reply.TheVariants.{NotReady}
-use Rattle.link_state.specs.State.{State, IsState, is_ready}
-use Rattle.link_state.proofs.Linked.{task_on-linked, place_in}
+use Rattle.strong_apa.specs.declared.reply.Reply.{Reply}
+use Rattle.strong_apa.specs.declared.reply.Reply.TheVariants.{NotReady}
+use Rattle.strong_apa.specs.State.{State, IsState, is_ready}
+use Rattle.strong_apa.proofs.Linked.{task_on-linked, place_in}
 use Rattle.reach_certificate.specs.Defect.{IsAllowedToDeparture}
 use Rattle.reach_certificate.proofs.judge.follow_departure.Goals as goal
 

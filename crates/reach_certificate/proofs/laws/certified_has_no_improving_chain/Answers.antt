@@ -1,4 +1,4 @@
-use Rattle.certificate_laws.proofs.Improved.{no_improving_chain}
+use Rattle.strong_apa.proofs.Improved.{no_improving_chain}
 use Rattle.reach_certificate.proofs.laws.certified_has_no_improving_chain.Goals as goal
 
 pub returns : goal.returns

@@ -1,4 +1,4 @@
-use Rattle.certificate_laws.proofs.Best.{linked_is_best, linked_is_only_best}
+use Rattle.strong_apa.proofs.Best.{linked_is_best, linked_is_only_best}
 use Rattle.reach_certificate.proofs.laws.certified_is_best.Goals as goal
 
 pub returns-clause-best : goal.returns-clause-best

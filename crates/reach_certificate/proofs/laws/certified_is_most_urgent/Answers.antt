@@ -1,6 +1,6 @@
-use Rattle.certificate_laws.proofs.Best.{linked_is_largest}
-use Rattle.certificate_laws.proofs.Fullness.{linked_keeps_up}
-use Rattle.certificate_laws.proofs.Ranked.{linked_is_as_urgent}
+use Rattle.strong_apa.proofs.Best.{linked_is_largest}
+use Rattle.strong_apa.proofs.Fullness.{linked_keeps_up}
+use Rattle.strong_apa.proofs.Ranked.{linked_is_as_urgent}
 use Rattle.reach_certificate.proofs.laws.certified_is_most_urgent.Goals as goal
 
 pub returns-clause-largest : goal.returns-clause-largest

@@ -1,4 +1,4 @@
-use Rattle.certificate_laws.proofs.Kept.{passing_is_best}
+use Rattle.strong_apa.proofs.Kept.{passing_is_best}
 use Rattle.reach_certificate.proofs.laws.passing_history_is_best.Goals as goal
 
 pub returns : goal.returns

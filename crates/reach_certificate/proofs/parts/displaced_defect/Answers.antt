@@ -1,5 +1,5 @@
 use Rattle.std.proofs.Common.{Some, ap, ◌∙◌, sym, subst, ℕ}
-use Rattle.link_state.specs.State.{IsMoreUrgent}
+use Rattle.strong_apa.specs.State.{IsMoreUrgent}
 use Rattle.reach_certificate.proofs.Fitting.{displaced_passes}
 use Rattle.reach_certificate.proofs.ChainEnds.{displaced_not_empty, displaced_end}
 use Rattle.reach_certificate.proofs.parts.displaced_defect.Goals as goal

@@ -1,4 +1,4 @@
-use Rattle.link_state.proofs.Readiness.{absent_not_linked}
+use Rattle.strong_apa.proofs.Readiness.{absent_not_linked}
 use Rattle.reach_certificate.proofs.parts.enter.Goals as goal
 
 pub enter-requires-clause-not_linked : goal.enter-requires-clause-not_linked

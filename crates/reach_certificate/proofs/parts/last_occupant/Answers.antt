@@ -1,6 +1,6 @@
 use Rattle.std.proofs.Common.{sym, ap, ◌∙◌}
-use Rattle.link_state.specs.State.{task_on}
-use Rattle.link_state.proofs.Linked.{linked_number}
+use Rattle.strong_apa.specs.State.{task_on}
+use Rattle.strong_apa.proofs.Linked.{linked_number}
 use Rattle.reach_certificate.specs.Defect.{last_processor}
 use Rattle.reach_certificate.proofs.parts.last_occupant.Goals as goal
 

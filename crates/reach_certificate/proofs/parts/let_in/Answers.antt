@@ -1,5 +1,5 @@
 use Rattle.std.proofs.Common.{◌∙◌, ℕ, List, sym, ap, subst}
-use Rattle.link_state.specs.Chain.{IsChainOf, IsSimple, state_after_shift}
+use Rattle.strong_apa.specs.Chain.{IsChainOf, IsSimple, state_after_shift}
 use Rattle.reach_certificate.proofs.Entering.{entering_waits, entering_number, entering_chain, entering_simple, entered_state}
 use Rattle.reach_certificate.proofs.parts.let_in.Goals as goal
 

@@ -1,6 +1,6 @@
 use Rattle.std.proofs.Common.{[], ◌∷◌, ap, ◌∙◌}
-use Rattle.link_state.specs.State.{State, state_with_ready}
-use Rattle.link_state.specs.Chain.{state_after_shift}
+use Rattle.strong_apa.specs.State.{State, state_with_ready}
+use Rattle.strong_apa.specs.Chain.{state_after_shift}
 use Rattle.reach_certificate.proofs.Returning.{came_back}
 use Rattle.reach_certificate.proofs.parts.vacate.Goals as goal
 

@@ -1,7 +1,7 @@
 use Rattle.std.proofs.Common.{◌≡◌, ◌-◌, ◌<◌, ℕ, List, ◌++◌, ◌∷◌, [], reverse, sym, ap, ◌∙◌, subst, arith}
 use Rattle.std.proofs.lemmas.List.{reverse-append}
 use Rattle.affinity_mask.specs.ProcSet.{has}
-use Rattle.link_state.proofs.Linked.{linked_number}
+use Rattle.strong_apa.proofs.Linked.{linked_number}
 use Rattle.reach_certificate.specs.Search.{IsWay}
 use Rattle.reach_certificate.proofs.Searches.{size_of, IsWay-idle, IsWay-more, way_room, IsFull-seen, added_falls}
 use Rattle.reach_certificate.proofs.search.+find_way.Goals as goal

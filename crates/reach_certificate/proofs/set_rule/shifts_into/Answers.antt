@@ -1,5 +1,5 @@
 use Rattle.std.proofs.Common.{sym}
-use Rattle.link_state.proofs.Linked.{linked_number}
+use Rattle.strong_apa.proofs.Linked.{linked_number}
 use Rattle.reach_certificate.proofs.set_rule.shifts_into.Goals as goal
 
 pub effective-requires : goal.effective-requires

@@ -3,10 +3,10 @@ use mathlib.Core.List.{IsPrefix}
 use Rattle.task_set.specs.declared.order.Order.{Order}
 use Rattle.task_set.specs.Orders.{IsObeyable, has_stop}
 use Rattle.task_set.proofs.Obeyable.{nothing_after_stop}
-use Rattle.link_state.specs.State.{start_of}
-use Rattle.link_state.specs.Dispatch.{orders_of, closed_orders_of}
+use Rattle.strong_apa.specs.State.{start_of}
+use Rattle.strong_apa.specs.Dispatch.{orders_of, closed_orders_of}
 use Rattle.sched_core.specs.CoreData.{core_orders}
-use Rattle.order_laws.proofs.OrderLists.{orders_obeyable}
+use Rattle.history_laws.proofs.OrderLists.{orders_obeyable}
 use Rattle.replay.proofs.ends.settle_one.Goals as goal
 
 pub returns : goal.returns

@@ -1,5 +1,5 @@
 use Rattle.std.proofs.Common.{◌∙◌, subst}
-use Rattle.schedule_board.specs.Boards.{BoardData, seen}
+use Rattle.schedule_board.specs.Boards.{PictureBoardData, seen}
 use Rattle.schedule_board.specs.Pictures.{IsPictureOf}
 use Rattle.schedule_board.proofs.Prefixes.{prefix_self}
 use Rattle.replay.proofs.observing.read_beside.Goals as goal
@@ -15,8 +15,8 @@ returns-clause-reads g c =
     record {
       at_first = first;
       at_last = last;
-      first_of = subst (λ (b : BoardData). IsPictureOf b.processors first c.look-first.result) c.look-first.ensures.board i.first;
-      last_of = subst (λ (b : BoardData). IsPictureOf b.processors last c.loop.last) c.look-first.ensures.board i.last;
+      first_of = subst (λ (b : PictureBoardData). IsPictureOf b.processors first c.look-first.result) c.look-first.ensures.board i.first;
+      last_of = subst (λ (b : PictureBoardData). IsPictureOf b.processors last c.loop.last) c.look-first.ensures.board i.last;
       later = i.later;
       within = prefix_self last;
     }

@@ -1,7 +1,7 @@
 use Rattle.std.proofs.Common.{arith, ◌≡◌, Some, [], ◌∷◌, length, length-append, sym, ap, subst, All}
 use Rattle.std.proofs.lemmas.List.Elements.{All-nil, All-pop, All-push}
 use Rattle.schedule_board.specs.declared.board.Observer.{Observer}
-use Rattle.schedule_board.specs.Boards.{BoardData, board_at}
+use Rattle.schedule_board.specs.Boards.{PictureBoardData, board_at}
 use Rattle.replay.specs.Watches.{IsWatcherOf}
 use Rattle.replay.proofs.observing.start_all.Goals as goal
 
@@ -25,7 +25,7 @@ loop-observer-preserved g c =
           let popped = All-pop (λ (o : Observer). board_at o ≡ of) c.loop-observer.observers.items left (Some c.in-Some.observer) c.in-Some.ensures.items both.0 in (
             popped.0,
             subst (All (IsWatcherOf of)) (sym c.push_reserved.ensures.items) (All-push (IsWatcherOf of) c.loop-observer.watchers.items watcher both.1
-                (subst (λ (b : BoardData). IsWatcherOf b watcher) popped.1 c.start-watcher.ensures)),
+                (subst (λ (b : PictureBoardData). IsWatcherOf b watcher) popped.1 c.start-watcher.ensures)),
           );
     }
 

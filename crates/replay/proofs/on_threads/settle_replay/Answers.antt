@@ -1,7 +1,7 @@
-use Rattle.std.proofs.Common.{rules, ◌≡◌, ◌∙◌, Bool, true, sym, ap, subst}
+use Rattle.std.proofs.Common.{◌∙◌, Bool, sym, ap, subst}
 use Rattle.task_set.specs.TaskSet.{SetData}
-use Rattle.link_state.specs.State.{start_of}
-use Rattle.link_state.specs.History.{IsLegal}
+use Rattle.strong_apa.specs.State.{start_of}
+use Rattle.strong_apa.specs.History.{IsLegal}
 use Rattle.replay.specs.Places.{AllFrom}
 use Rattle.replay.specs.Streams.{IsStreamedAt}
 use Rattle.replay.proofs.Merging.{all_passes, merged, saw_closed}
@@ -17,21 +17,20 @@ end_all-hands-requires-clause-core c =
     let is = c.in-Ok.ensures.closed in
     record {
       start = is.start ∙ ap start_of (sym c.requires.one_set);
-      legal = subst (λ (set : SetData). IsLegal set c.in-Ok.parts.0.history) (sym c.requires.one_set) is.legal;
-      closed = saw_closed c.in-Ok.parts.0.history c.in-Ok.parts.0.closed c.args.done.passes.items is.told c.requires.threaded.closed;
+      legal = subst (λ (set : SetData). IsLegal set c.in-Ok.core.history) (sym c.requires.one_set) is.legal;
+      closed = saw_closed c.in-Ok.core.history c.in-Ok.core.closed c.args.done.passes.items is.told c.requires.threaded.closed;
     }
 
-pub returns-clause-core : goal.returns-clause-core
-returns-clause-core c =
+pub returns-in-Ok-clause-core : goal.returns-in-Ok-clause-core
+returns-in-Ok-clause-core c =
     let is = c.in-Ok.ensures.closed in
     let done = c.requires.threaded in
-    let all : c.args.done.whole ≡ true = search rules in
     record {
       over = record {
         start = is.start ∙ ap start_of (sym c.requires.one_set);
-        legal = subst (λ (set : SetData). IsLegal set c.in-Ok.parts.0.history) (sym c.requires.one_set) is.legal;
-        closed = saw_closed c.in-Ok.parts.0.history c.in-Ok.parts.0.closed c.args.done.passes.items is.told done.closed;
+        legal = subst (λ (set : SetData). IsLegal set c.in-Ok.core.history) (sym c.requires.one_set) is.legal;
+        closed = saw_closed c.in-Ok.core.history c.in-Ok.core.closed c.args.done.passes.items is.told done.closed;
       };
-      merge = merged c.args.board c.args.events.now c.args.done.passes.items c.in-Ok.parts.0 c.requires.events done.callers
-          (subst (λ (whole : Bool). AllFrom (IsStreamedAt c.args.board c.args.events.now whole) 0 c.args.done.passes.items) all done.streamed) is;
+      merge = merged c.args.board c.args.events.now c.args.done.passes.items c.in-Ok.core c.requires.events done.callers
+          (subst (λ (whole : Bool). AllFrom (IsStreamedAt c.args.board c.args.events.now whole) 0 c.args.done.passes.items) c.in-Ok.ensures.whole done.streamed) is;
     }

@@ -8,7 +8,7 @@ use Rattle.replay.proofs.posting.post_all.Given as goal
 abbrev pub invariant-loop-posted : goal.invariant-loop-posted
 invariant-loop-posted g l = record {
   callers : length l.passes.items ≡ length l.initial.passes.items;
-  streamed : AllFrom (IsStreamedAt l.board (take l.posted-index l.events) true) 0 l.passes.items;
+  streamed : AllFrom (IsStreamedAt l.shared.board.now (take l.posted-index l.shared.events.now) true) 0 l.passes.items;
   board : board_of l.publisher ≡ board_of l.initial.publisher;
   published : FirstSaw (published l.publisher) l.passes.items;
   owing : l.owing < 128;

@@ -1,7 +1,7 @@
 use Rattle.std.proofs.Common.{◌≡◌, sym, ap, ◌∙◌, subst}
 use Rattle.task_set.specs.TaskSet.{SetData, IsTaskSet}
-use Rattle.link_state.specs.Dispatch.{contexts_of}
-use Rattle.link_state.specs.History.{IsLegal}
+use Rattle.strong_apa.specs.Dispatch.{contexts_of}
+use Rattle.strong_apa.specs.History.{IsLegal}
 use Rattle.replay.proofs.Carrying.{free_hands, contexts_carried}
 use Rattle.replay.proofs.schedule.carried_contexts.Goals as goal
 

@@ -10,7 +10,7 @@ use Rattle.replay.proofs.streams.start_all.Goals as goal
 pub loop-pass-init : goal.loop-pass-init
 loop-pass-init g c = record {
   count = omega (arith, c.requires.passes.0, ap length c.requires.room.0);
-  passes = passes_at c.args.board.now 0 c.args.passes.items c.requires.passes.1;
+  passes = passes_at c.args.shared.now.board.now 0 c.args.passes.items c.requires.passes.1;
   unused = c.requires.unused;
   room = c.requires.room.1;
   each = subst (AllFrom _ (length c.args.passes.items)) (sym c.requires.room.0) tt;
@@ -18,14 +18,14 @@ loop-pass-init g c = record {
 
 pub start-stream-requires-clause-pass : goal.start-stream-requires-clause-pass
 start-stream-requires-clause-pass g c κs within =
-    let board = c.args.board.now in
+    let board = c.args.shared.now.board.now in
     let last = AllFrom-last (IsPassAt board) 0 c.pop.new.self.items c.in-Some.pass (subst (AllFrom (IsPassAt board) 0) c.in-Some.ensures.items c.loop-pass.invariant.passes) in
     subst (λ (n : ℕ). IsPassAt board n c.in-Some.pass) (sym last.1.caller) last.1
 
 pub loop-pass-preserved : goal.loop-pass-preserved
 loop-pass-preserved g c =
-    let board = c.args.board.now in
-    let events = c.args.events.now in
+    let board = c.args.shared.now.board.now in
+    let events = c.args.shared.now.events.now in
     let i = c.loop-pass.invariant in
     let left : List PassData = c.pop.new.self.items in
     let last = AllFrom-last (IsPassAt board) 0 left c.in-Some.pass (subst (AllFrom (IsPassAt board) 0) c.in-Some.ensures.items i.passes) in

@@ -1,7 +1,7 @@
 use Rattle.std.proofs.Common.{◌∙◌, List, subst}
 use mathlib.Core.List.{IsPrefix}
-use Rattle.scheduler_reply.specs.declared.reply.Entry.{Entry}
-use Rattle.schedule_board.specs.Boards.{BoardData, seen}
+use Rattle.strong_apa.specs.declared.reply.Entry.{Entry}
+use Rattle.schedule_board.specs.Boards.{PictureBoardData, seen}
 use Rattle.schedule_board.specs.Pictures.{IsPictureOf}
 use Rattle.replay.proofs.Seeing.{reads_further}
 use Rattle.replay.proofs.telling.tell_one.Goals as goal
@@ -18,6 +18,6 @@ returns-clause-told g c =
     record {
       all = seen new;
       begins = subst (λ (l : List Entry). IsPrefix l (seen new)) c.tell.ensures.told c.read-told.ensures.told;
-      told = subst (λ (b : BoardData). IsPictureOf b.processors (seen new) c.read-told.result) (c.tell.ensures.same.0 ∙ c.requires.board) c.read-told.ensures.picture;
+      told = subst (λ (b : PictureBoardData). IsPictureOf b.processors (seen new) c.read-told.result) (c.tell.ensures.same.0 ∙ c.requires.board) c.read-told.ensures.picture;
       reads = reads_further _ _ _ _ _ _ c.requires.reads c.tell.ensures.same.1 c.read-told.ensures.later;
     }

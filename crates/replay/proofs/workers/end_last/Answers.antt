@@ -22,7 +22,7 @@ returns-in-Some-worker-clause-last g c =
     let last = crew_ends_with_thread _ _ 0 c.args.workers.now.items rest c.in-Some.worker c.in-Some-worker.thread c.args.left.now.items c.in-Some.ensures.items c.in-Some-worker.is c.requires.crew in
     let place : 0 + length rest ≡ length rest = omega arith in (
       omega (arith, ap length c.in-Some.ensures.items, length-append rest (c.in-Some.worker ∷ [])),
-      subst (λ (n : ℕ). HasStoppedAt c.args.queues.now c.args.slots.now n c.join.result) (last.1.2 ∙ place) c.join.ensures,
+      subst (λ (n : ℕ). HasStoppedAt c.args.shared.now.queues.now c.args.shared.now.slots.now n c.join.result) (last.1.2 ∙ place) c.join.ensures,
     )
 
 pub returns-in-Some-pop-clause-crew : goal.returns-in-Some-pop-clause-crew
@@ -35,5 +35,5 @@ returns-in-Some-pop-clause-last g c =
     let last = crew_ends_with_left _ _ 0 c.args.workers.now.items rest c.in-Some.worker c.args.left.now.items c.pop-in-None.new.self.items c.in-Some-pop.processor c.in-Some.ensures.items c.in-None.is c.in-Some-pop.ensures.items c.requires.crew in
     let place : 0 + length rest ≡ length rest = omega arith in (
       omega (arith, ap length c.in-Some.ensures.items, length-append rest (c.in-Some.worker ∷ [])),
-      subst (λ (n : ℕ). HasStoppedAt c.args.queues.now c.args.slots.now n c.in-Some-pop.processor) place last.1,
+      subst (λ (n : ℕ). HasStoppedAt c.args.shared.now.queues.now c.args.shared.now.slots.now n c.in-Some-pop.processor) place last.1,
     )

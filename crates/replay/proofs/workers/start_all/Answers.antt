@@ -11,15 +11,15 @@ use Rattle.replay.proofs.workers.start_all.Goals as goal
 
 pub start-started-requires-clause-seat : goal.start-started-requires-clause-seat
 start-started-requires-clause-seat g c κs within =
-    let queues = c.args.queues.now in
-    let slots = c.args.slots.now in
+    let queues = c.args.shared.now.queues.now in
+    let slots = c.args.shared.now.slots.now in
     let idle = AllFrom-last (IsIdleAt queues slots) 0 c.pop.new.self.items c.in-Some.processor (subst (AllFrom (IsIdleAt queues slots) 0) c.in-Some.ensures.items c.loop-processor.invariant.idle) in
     (idle_seated queues slots _ c.in-Some.processor idle.1).seated
 
 pub loop-processor-preserved : goal.loop-processor-preserved
 loop-processor-preserved g c =
-    let queues = c.args.queues.now in
-    let slots = c.args.slots.now in
+    let queues = c.args.shared.now.queues.now in
+    let slots = c.args.shared.now.slots.now in
     let i = c.loop-processor.invariant in
     let rest : List ProcessorData = c.pop.new.self.items in
     let idle = AllFrom-last (IsIdleAt queues slots) 0 rest c.in-Some.processor (subst (AllFrom (IsIdleAt queues slots) 0) c.in-Some.ensures.items i.idle) in

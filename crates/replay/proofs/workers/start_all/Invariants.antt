@@ -7,11 +7,11 @@ use Rattle.replay.proofs.workers.start_all.Given as goal
 
 abbrev pub invariant-loop-processor : goal.invariant-loop-processor
 invariant-loop-processor g l = record {
-  count : length l.processors.items + length l.workers.items ≡ length l.queues;
+  count : length l.processors.items + length l.workers.items ≡ length l.shared.queues.now;
   few : length l.left.items ≤ length l.workers.items;
-  idle : AllFrom (IsIdleAt l.queues l.slots) 0 l.processors.items;
-  room : (length l.queues ≤ vec_capacity l.workers) × (length l.queues ≤ vec_capacity l.left);
-  crew : IsCrew (λ n h. (h.promise.queues.now ≡ l.queues) × (h.promise.slots.now ≡ l.slots) × (h.promise.number ≡ n)) (IsSeatedAt l.queues l.slots) (length l.processors.items) l.workers.items l.left.items;
+  idle : AllFrom (IsIdleAt l.shared.queues.now l.shared.slots.now) 0 l.processors.items;
+  room : (length l.shared.queues.now ≤ vec_capacity l.workers) × (length l.shared.queues.now ≤ vec_capacity l.left);
+  crew : IsCrew (λ n h. (h.promise.queues.now ≡ l.shared.queues.now) × (h.promise.slots.now ≡ l.shared.slots.now) × (h.promise.number ≡ n)) (IsSeatedAt l.shared.queues.now l.shared.slots.now) (length l.processors.items) l.workers.items l.left.items;
 }
 
 abbrev pub decreases-loop-processor : goal.decreases-loop-processor

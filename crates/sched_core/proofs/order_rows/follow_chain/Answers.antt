@@ -1,7 +1,7 @@
 use Rattle.std.proofs.Common.{◌≡◌, ◌<◌, ◌+◌, ℕ, List, [], ◌∷◌, ◌++◌, length, get_or, take, take_all, sym, ◌∙◌, subst, arith, if◌then◌else◌}
 use Rattle.std.proofs.lemmas.List.{get_or_default, take_more}
-use Rattle.link_state.specs.State.{task_on}
-use Rattle.link_state.proofs.Linked.{linked_number}
+use Rattle.strong_apa.specs.State.{task_on}
+use Rattle.strong_apa.proofs.Linked.{linked_number}
 use Rattle.sched_core.specs.CoreRows.{RowData, row_at, empty_row, RowChanges, RowsChange, NumbersBecome, came}
 use Rattle.sched_core.proofs.RowsChanged.{rows_change-none, rows_change-one, rows_change-then, can_follow-after}
 use Rattle.sched_core.proofs.order_rows.follow_chain.Goals as goal

@@ -1,8 +1,8 @@
 use Rattle.std.proofs.Common.{◌≡◌, [], ◌∷◌, ℕ, ap}
 use Rattle.task_set.specs.declared.event.Event.{Event}
 use Rattle.task_set.specs.declared.event.Event.TheVariants.{Tick}
-use Rattle.scheduler_reply.specs.Reply.{chain_of}
-use Rattle.certificate_laws.specs.Touched.{touched}
+use Rattle.strong_apa.specs.Reply.{chain_of}
+use Rattle.strong_apa.specs.Touched.{touched}
 use Rattle.sched_core.specs.CoreRows.{RowsChange}
 use Rattle.sched_core.proofs.RowsChanged.{can_follow-later, rows_change-then}
 use Rattle.sched_core.proofs.RowsFollowed.{all_hold, numbers_stay, touched_by_chains, rows_follow-change, numbers_follow}

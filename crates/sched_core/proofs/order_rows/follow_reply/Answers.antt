@@ -1,6 +1,6 @@
 use Rattle.std.proofs.Common.{refl}
 use Rattle.sched_core.specs.CoreRows.{RowsChange}
-use Rattle.scheduler_reply.specs.Reply.{chain_of, filling_chain, coming_chain}
+use Rattle.strong_apa.specs.Reply.{chain_of, filling_chain, coming_chain}
 use Rattle.sched_core.proofs.RowsChanged.{can_follow-first, can_follow-later, rows_change-then}
 use Rattle.sched_core.proofs.order_rows.follow_reply.Goals as goal
 

@@ -1,5 +1,5 @@
 use Rattle.std.proofs.Common.{◌≡◌, false, sym, ◌∙◌}
-use Rattle.link_state.specs.State.{is_task}
+use Rattle.strong_apa.specs.State.{is_task}
 use Rattle.schedule_picture.proofs.Glances.{looks_more}
 use Rattle.schedule_picture.proofs.rows.see_occupants.Goals as goal
 

@@ -1,5 +1,5 @@
 use Rattle.std.proofs.Common.{◌≡◌, ℕ, ◌<◌, arith}
-use Rattle.link_state.specs.State.{task_on, is_task}
+use Rattle.strong_apa.specs.State.{task_on, is_task}
 use Rattle.schedule_picture.specs.Tracks.{last_on}
 use Rattle.schedule_picture.proofs.Glances.{looks_none, looks_next, looks_whole}
 use Rattle.schedule_picture.proofs.rows.see_relinked.Goals as goal

@@ -1,5 +1,5 @@
 use Rattle.std.proofs.Common.{◌≡◌, ℕ, ◌<◌}
-use Rattle.link_state.specs.State.{task_on, is_task}
+use Rattle.strong_apa.specs.State.{task_on, is_task}
 use Rattle.schedule_picture.specs.Tracks.{EachSeesOrStays, last_on}
 use Rattle.schedule_picture.proofs.rows.see_relinked.Given as goal
 

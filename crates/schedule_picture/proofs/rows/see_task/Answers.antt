@@ -1,5 +1,5 @@
 use Rattle.std.proofs.Common.{◌≡◌, false, ap}
-use Rattle.link_state.specs.State.{is_task}
+use Rattle.strong_apa.specs.State.{is_task}
 use Rattle.schedule_picture.proofs.Glances.{looks_none}
 use Rattle.schedule_picture.proofs.rows.see_task.Goals as goal
 

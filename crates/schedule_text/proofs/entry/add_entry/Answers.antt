@@ -1,13 +1,13 @@
 use Rattle.std.proofs.Common.{refl, sym, subst, inl, inr, ◌≡◌, ◌⊎◌, ◌∷◌, ◌++◌, ℕ, List, Result, Ok, Err, IfOk, IfErr}
-use Rattle.line_machine.specs.Fields.{texts}
+use Rattle.text_fields.specs.Fields.{texts}
 use Rattle.task_set.specs.TaskSet.{SetData, IsTaskSet}
 use Rattle.task_set.specs.declared.event.Event.{Event}
-use Rattle.scheduler_reply.specs.declared.reply.Reply.{Reply}
+use Rattle.strong_apa.specs.declared.reply.Reply.{Reply}
 use Rattle.schedule_text.specs.declared.fault.TextKind.{TextKind}
 use Rattle.schedule_text.specs.Fields.{IsNumberField}
 use Rattle.schedule_text.specs.Reading.{IsOutOfMemory}
 use Rattle.schedule_text.specs.LineFields.{IsEventFields, IsEventFault, IsEventSize, IsReplyFields, IsReplyFault, IsEntryFault, both_of}
-use Rattle.line_machine.proofs.FieldLists.{texts_first_one}
+use Rattle.text_fields.proofs.FieldLists.{texts_first_one}
 use Rattle.schedule_text.proofs.Parts.{fault_of_both, fault_first, fault_second}
 use Rattle.schedule_text.proofs.Entries.{entry_cut, entry_parts, entry_listed}
 use Rattle.schedule_text.proofs.entry.add_entry.Goals as goal

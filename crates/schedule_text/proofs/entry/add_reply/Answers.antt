@@ -1,5 +1,5 @@
-use Rattle.scheduler_reply.specs.declared.reply.Reply.TheVariants.{Waits}
-use Rattle.line_machine.specs.Fields.{texts}
+use Rattle.strong_apa.specs.declared.reply.Reply.TheVariants.{Waits}
+use Rattle.text_fields.specs.Fields.{texts}
 use Rattle.schedule_text.specs.LineFields.{IsReplyFields}
 use Rattle.schedule_text.proofs.Entries.{reply_listed}
 use Rattle.schedule_text.proofs.entry.add_reply.Goals as goal

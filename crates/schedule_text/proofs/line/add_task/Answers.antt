@@ -1,6 +1,6 @@
 use Rattle.std.proofs.Common.{inr, refl}
 use Rattle.std.proofs.lemmas.Result.{err_from_is_err_and}
-use Rattle.line_machine.proofs.FieldLists.{texts_four}
+use Rattle.text_fields.proofs.FieldLists.{texts_four}
 use Rattle.text_fields.proofs.Names.{name_is_text}
 use Rattle.schedule_text.proofs.Tasks.{task_form, list_fault, task_refused}
 use Rattle.schedule_text.proofs.line.add_task.Goals as goal

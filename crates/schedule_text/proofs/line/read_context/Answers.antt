@@ -1,5 +1,5 @@
 use Rattle.std.proofs.Common.{inr, refl, sym, ◌≡◌, List, ℕ, subst}
-use Rattle.line_machine.specs.Fields.{texts}
+use Rattle.text_fields.specs.Fields.{texts}
 use Rattle.schedule_text.specs.Fields.{spaced_fields_of}
 use Rattle.schedule_text.specs.LineFields.{IsContextFields}
 use Rattle.schedule_text.proofs.Bridges.{context_to_fields, context_to_text}

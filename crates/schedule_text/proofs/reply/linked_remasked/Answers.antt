@@ -1,6 +1,6 @@
 use Rattle.std.proofs.Common.{◌∷◌, ℕ, List, inl, refl, sym, subst}
 use Rattle.std.specs.Prelude.{codes}
-use Rattle.line_machine.specs.Fields.{texts}
+use Rattle.text_fields.specs.Fields.{texts}
 use Rattle.schedule_text.specs.LineFields.{IsGoneFields, IsCameFields, IsReplyFault}
 use Rattle.schedule_text.proofs.Names.{set_fields}
 use Rattle.schedule_text.proofs.Parts.{read_of_both, fault_of_both}

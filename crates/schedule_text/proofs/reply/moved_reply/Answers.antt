@@ -1,6 +1,6 @@
 use Rattle.std.proofs.Common.{ℕ, refl}
 use Rattle.task_set.specs.Refusal.{IsNameOf}
-use Rattle.line_machine.specs.Fields.{texts}
+use Rattle.text_fields.specs.Fields.{texts}
 use Rattle.text_fields.proofs.NamedTasks.{named_task}
 use Rattle.schedule_text.specs.LineFields.{IsCameFields}
 use Rattle.schedule_text.proofs.Names.{set_fields, named_fault}

@@ -1,8 +1,8 @@
 use Rattle.std.proofs.Common.{◌≡◌, ◌∷◌, arith}
 use Rattle.std.specs.Prelude.{codes}
 use Rattle.std.proofs.lemmas.Result.{err_from_is_err_and}
-use Rattle.scheduler_reply.specs.declared.reply.Reply.TheVariants.{On}
-use Rattle.line_machine.specs.Fields.{texts}
+use Rattle.strong_apa.specs.declared.reply.Reply.TheVariants.{On}
+use Rattle.text_fields.specs.Fields.{texts}
 use Rattle.schedule_text.specs.LineFields.{IsGoneFields, IsReplyFields}
 use Rattle.schedule_text.proofs.Parts.{same_fault}
 use Rattle.schedule_text.proofs.Replies.{on_to, on_from}

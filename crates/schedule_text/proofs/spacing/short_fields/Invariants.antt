@@ -1,5 +1,5 @@
 use Rattle.std.proofs.Common.{◌≡◌}
-use Rattle.line_machine.specs.Fields.{texts}
+use Rattle.text_fields.specs.Fields.{texts}
 use Rattle.schedule_text.proofs.spacing.short_fields.Given as goal
 
 abbrev pub invariant-loop-field : goal.invariant-loop-field

@@ -1,7 +1,7 @@
 use Rattle.std.proofs.Common.{◌≡◌, ◌⊎◌, ℕ, ◌+◌, ◌/◌, ◌^◌, length, min, inl, inr, refl, subst, ap, ◌∙◌, arith, w64}
 use Rattle.std.specs.Int.{trailing_zeros}
 use Rattle.std.proofs.lemmas.Bool.{cases_lt}
-use Rattle.line_machine.specs.Fields.{texts}
+use Rattle.text_fields.specs.Fields.{texts}
 use Rattle.schedule_text.specs.Spacing.{AreSpaces}
 use Rattle.schedule_text.proofs.FieldCuts.{next_space, no_more_spaces, later_spaces, cut_at_space, cut_past, cut_whole}
 use Rattle.schedule_text.proofs.spacing.spaced_fields.Goals as goal

@@ -1,5 +1,5 @@
 use Rattle.std.proofs.lemmas.Result.{err_from_is_err_and}
-use Rattle.line_machine.specs.Fields.{texts}
+use Rattle.text_fields.specs.Fields.{texts}
 use Rattle.schedule_text.proofs.Stages.{history_read, task_read, task_refused_line}
 use Rattle.schedule_text.proofs.stage.read_task.Goals as goal
 

@@ -1,5 +1,5 @@
 use Rattle.std.proofs.Common.{inr, ap, ◌∙◌}
-use Rattle.line_machine.specs.Fields.{texts}
+use Rattle.text_fields.specs.Fields.{texts}
 use Rattle.schedule_text.specs.Prefix.{TasksExpected}
 use Rattle.schedule_text.specs.Reading.{progress_of}
 use Rattle.schedule_text.proofs.Stages.{processors_none, processors_read}

@@ -1,10 +1,10 @@
 use Rattle.std.proofs.Common.{sym, ◌∙◌}
 use Rattle.std.proofs.lemmas.Bool.{true≢false}
-use Rattle.link_state.specs.Chain.{IsLeastSuch, EndsOnTask}
-use Rattle.link_state.proofs.Ends.{least_chain_to_idle, least_chain_to_task}
-use Rattle.link_state.proofs.Linked.{linked_number}
-use Rattle.link_state.proofs.Readiness.{absent_not_linked}
-use Rattle.task_shift.proofs.Arrivals.{occupied_reach, more_urgent_reach, nobody_reached}
+use Rattle.strong_apa.specs.Chain.{IsLeastSuch, EndsOnTask}
+use Rattle.strong_apa.proofs.Ends.{least_chain_to_idle, least_chain_to_task}
+use Rattle.strong_apa.proofs.Linked.{linked_number, occupied_number, is_linked-from_on}
+use Rattle.strong_apa.proofs.Readiness.{absent_not_linked}
+use Rattle.task_shift.proofs.Arrivals.{chain_found, chain_to_least_urgent, some_place, occupied_reach, more_urgent_reach, nobody_reached}
 use Rattle.task_shift.proofs.arrival.come.Goals as goal
 use Rattle.task_shift.proofs.arrival.come.Goals.{After-unwrap-chain, in_default-least_urgent_on-via-in-Some-least_urgent_on+else-is_more_urgent, in_default-least_urgent_on-via-in_default-least_urgent_on}
 
@@ -52,3 +52,31 @@ returns-in_default-least_urgent_on-clause-comes c =
       ];
       waits = c.make_ready.ensures.ready;
     }
+
+pub of-requires : goal.of-requires
+of-requires c = linked_number c.args.links.now _ c.in-Some-least_urgent_on.out c.chain_to_idle.ensures.valid c.in-Some-least_urgent_on.ensures.test.there.2
+
+pub unwrap-p-requires : goal.unwrap-p-requires
+unwrap-p-requires c =
+    let on = is_linked-from_on c.args.links.now _ c.in-Some-least_urgent_on.out c.in-Some-least_urgent_on.ensures.test.there.2 in
+    some_place c.of.result (λ none. true≢false (sym on ∙ c.of.ensures.none.0 none))
+
+pub chain_to-requires-clause-processor : goal.chain_to-requires-clause-processor
+chain_to-requires-clause-processor c = occupied_number c.args.links.now c.unwrap-p.result c.in-Some-least_urgent_on.out c.chain_to_idle.ensures.valid (rw c.unwrap-p.ensures at c.of.ensures.place)
+
+pub unwrap-chain-requires : goal.unwrap-chain-requires
+unwrap-chain-requires c =
+    let s = c.args.links.now in
+    let out = c.in-Some-least_urgent_on.out in
+    let path = chain_to_least_urgent s c.chain_to_idle.ensures.valid c.args.t c.reach-reach.result c.reach-reach.ensures out c.in-Some-least_urgent_on.ensures.test in
+    chain_found (EndsOnTask s c.args.t out) c.chain_to.result path.0 path.1 (c.chain_to.ensures.occupant out (rw c.unwrap-p.ensures at c.of.ensures.place))
+
+pub enter-requires-clause-chain : goal.enter-requires-clause-chain
+enter-requires-clause-chain c = let found = c.in-Some.ensures.least.itself in (found.0, found.1)
+
+pub enter-requires-in-Some-least_urgent_on-clause-chain : goal.enter-requires-in-Some-least_urgent_on-clause-chain
+enter-requires-in-Some-least_urgent_on-clause-chain c =
+    let found = (least (goal.at.enter-requires-in-Some-least_urgent_on-clause-chain c).After-unwrap-chain).itself in (found.0, found.1)
+
+pub returns-in-Some-clause-comes : goal.returns-in-Some-clause-comes
+returns-in-Some-clause-comes c = record { least = c.in-Some.ensures.least; shifted = c.enter.ensures.shifted }

@@ -1,8 +1,9 @@
 use Rattle.std.proofs.Common.{refl}
-use Rattle.link_state.specs.Chain.{IsLeastSuch, EntersBy}
-use Rattle.link_state.proofs.Ends.{least_back_chain}
-use Rattle.link_state.proofs.Paths.{IsChainOf-reverse}
-use Rattle.link_state.proofs.Simple.{IsSimple-reverse}
+use Rattle.strong_apa.specs.Chain.{IsLeastSuch, EntersBy}
+use Rattle.strong_apa.proofs.Ends.{least_back_chain}
+use Rattle.strong_apa.proofs.Paths.{IsChainOf-reverse}
+use Rattle.strong_apa.proofs.Simple.{IsSimple-reverse}
+use Rattle.strong_apa.proofs.Unique.{ready_number}
 use Rattle.task_shift.proofs.Departures.{back_chain_found}
 use Rattle.task_shift.proofs.departure.fill.Goals as goal
 use Rattle.task_shift.proofs.departure.fill.Goals.{After-unwrap-chain}
@@ -37,3 +38,15 @@ returns-clause-fills c = record {
   reached = c.back_set-back.ensures;
   enters = (c.in-Some.ensures.test, least (goal.at.returns-clause-fills c).After-unwrap-chain, rw c.reversed.ensures at c.shift.ensures.links);
 }
+
+pub back_chain-requires-clause-task : goal.back_chain-requires-clause-task
+back_chain-requires-clause-task c = ready_number c.args.links.now c.in-Some.ensures.valid c.in-Some.w c.in-Some.ensures.test.waits.ready
+
+pub shift-requires-clause-number : goal.shift-requires-clause-number
+shift-requires-clause-number c = ready_number c.args.links.now c.in-Some.ensures.valid c.in-Some.w c.in-Some.ensures.test.waits.ready
+
+pub shift-requires-clause-waits : goal.shift-requires-clause-waits
+shift-requires-clause-waits c = c.in-Some.ensures.test.waits
+
+pub returns-clause-valid : goal.returns-clause-valid
+returns-clause-valid c = c.shift.ensures.valid

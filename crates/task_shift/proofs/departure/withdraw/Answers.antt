@@ -1,7 +1,7 @@
 use Rattle.std.proofs.Common.{sym, ◌∙◌, subst, ◌<◌}
 use Rattle.std.proofs.lemmas.Bool.{true≢false}
-use Rattle.link_state.specs.State.{State}
-use Rattle.link_state.proofs.Linked.{linked_from_not_waiting, occupied_number}
+use Rattle.strong_apa.specs.State.{State}
+use Rattle.strong_apa.proofs.Linked.{linked_from_not_waiting, occupied_number}
 use Rattle.task_shift.proofs.departure.withdraw.Goals as goal
 
 pub leave-p-requires-clause-linked : goal.leave-p-requires-clause-linked

@@ -1,8 +1,8 @@
 use Rattle.std.proofs.Common.{◌≡◌, ℕ, false, Option, Some, None, refl, sym, ◌∙◌}
 use Rattle.std.proofs.lemmas.Bool.{true≢false}
 use Rattle.affinity_mask.specs.ProcSet.{has}
-use Rattle.link_state.specs.State.{State, IsState, task_on}
-use Rattle.link_state.proofs.Masks.{effective_mask_online}
+use Rattle.strong_apa.specs.State.{State, IsState, task_on}
+use Rattle.strong_apa.proofs.Masks.{effective_mask_online}
 use Rattle.task_shift.proofs.processor_change.online.Goals as goal
 
 -- nobody is linked to a processor that is off line

@@ -3,10 +3,10 @@ use Rattle.std.specs.Prelude.{slice_get}
 use Rattle.std.proofs.lemmas.List.{take_more}
 use Rattle.std.proofs.lemmas.Option.{get_or_from_slice_get}
 use Rattle.affinity_mask.specs.ProcSet.{has}
-use Rattle.link_state.specs.State.{State, IsState, effective_mask, task_on}
-use Rattle.link_state.specs.Chain.{CanShift, IsChainOf}
-use Rattle.link_state.proofs.Linked.{linked_number}
-use Rattle.link_state.proofs.Paths.{IsChainOf-push}
+use Rattle.strong_apa.specs.State.{State, IsState, effective_mask, task_on}
+use Rattle.strong_apa.specs.Chain.{CanShift, IsChainOf}
+use Rattle.strong_apa.proofs.Linked.{linked_number}
+use Rattle.strong_apa.proofs.Paths.{IsChainOf-push}
 use Rattle.tests.proofs.stated.is_chain.Goals as goal
 
 pub effective-requires-in-loop-i : goal.effective-requires-in-loop-i

@@ -1,5 +1,5 @@
 use Rattle.std.proofs.Common.{◌-◌, get_or, take}
-use Rattle.link_state.specs.Chain.{IsChainOf}
+use Rattle.strong_apa.specs.Chain.{IsChainOf}
 use Rattle.tests.proofs.stated.is_chain.Given as goal
 
 abbrev pub invariant-loop-i : goal.invariant-loop-i

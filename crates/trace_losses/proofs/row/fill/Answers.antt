@@ -1,7 +1,7 @@
 use Rattle.std.proofs.Common.{◌≡◌, ℕ, ◌+◌, ◌-◌, ◌<◌, Bool, List, [], length, take, vec_len, sym, ap, ◌∙◌, subst, arith, get_or}
 use Rattle.std.specs.Prelude.{reverse}
 use Rattle.std.proofs.lemmas.Option.{slice_get-get_or}
-use Rattle.link_state.specs.State.{State}
+use Rattle.strong_apa.specs.State.{State}
 use Rattle.trace_losses.specs.Passages.{ready_after, moment_at}
 use Rattle.trace_losses.specs.Rows.{IsPlaced, IsSeenBy, AreRows, AreRowsUpTo}
 use Rattle.trace_losses.specs.declared.passage.Passage.{Passage}

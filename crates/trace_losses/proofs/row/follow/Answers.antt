@@ -1,7 +1,7 @@
 use Rattle.std.proofs.Common.{Option, refl, sym, subst}
 use Rattle.task_set.specs.declared.event.Event.{Event}
-use Rattle.link_state.specs.Step.{SchedulerStep}
-use Rattle.link_state.proofs.SameTasks.{same_tasks-step}
+use Rattle.strong_apa.specs.Step.{SchedulerStep}
+use Rattle.strong_apa.proofs.SameTasks.{same_tasks-step}
 use Rattle.live_core.specs.Slots.{IsEventInUse}
 use Rattle.trace_losses.specs.Passages.{ready_by}
 use Rattle.trace_losses.specs.Rows.{IsPlaced}

@@ -1,7 +1,7 @@
 use Rattle.std.proofs.Common.{length, ap, ◌∙◌}
 use Rattle.std.proofs.lemmas.List.{length-map}
 use Rattle.task_set.specs.TaskSet.{TaskData}
-use Rattle.link_state.specs.State.{task_count}
+use Rattle.strong_apa.specs.State.{task_count}
 use Rattle.live_core.specs.Live.{LiveData}
 use Rattle.trace_losses.proofs.InUse.{all_at_first}
 use Rattle.trace_losses.proofs.row.rows_of.Goals as goal

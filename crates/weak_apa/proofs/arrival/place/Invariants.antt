@@ -1,5 +1,5 @@
 use Rattle.std.proofs.Common.{ℕ, ◌-◌, ◌^◌, List}
-use Rattle.link_state.specs.State.{State, priority_of}
+use Rattle.strong_apa.specs.State.{State, priority_of}
 use Rattle.weak_apa.specs.Stable.{IsToBePlaced}
 use Rattle.weak_apa.specs.Step.{IsPlacedInTurns}
 use Rattle.weak_apa.proofs.arrival.place.Given as goal

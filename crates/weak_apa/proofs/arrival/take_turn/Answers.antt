@@ -1,8 +1,8 @@
 use Rattle.std.proofs.Common.{◌≡◌, refl, sym, ◌∙◌, inr, IsTrue, Some}
 use Rattle.std.proofs.lemmas.Bool.{and_parts}
 use Rattle.affinity_mask.specs.ProcSet.{has}
-use Rattle.link_state.specs.State.{effective_mask, task_on}
-use Rattle.link_state.proofs.Linked.{linked_number}
+use Rattle.strong_apa.specs.State.{effective_mask, task_on}
+use Rattle.strong_apa.proofs.Linked.{linked_number}
 use Rattle.weak_apa.proofs.Looking.{own_occupied, kept_out_by_none, kept_out_by_least}
 use Rattle.weak_apa.proofs.Placing.{stable_on_idle, stable_displacing, stable_waiting}
 use Rattle.weak_apa.proofs.arrival.take_turn.Goals as goal

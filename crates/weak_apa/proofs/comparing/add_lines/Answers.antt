@@ -1,6 +1,6 @@
 use Rattle.std.proofs.Common.{◌≡◌, ◌<◌, length, get_or, ap, ◌∙◌, arith}
 use Rattle.trace_reader.specs.declared.posted.Posted.{Posted}
-use Rattle.link_state.specs.State.{task_count}
+use Rattle.strong_apa.specs.State.{task_count}
 use Rattle.weak_apa.proofs.Alike.{same_tasks_alike}
 use Rattle.weak_apa.proofs.ComparedSoFar.{compared_none, posted_known, known_weak, history_length, alike_next, compared_more, compared_whole, core_count}
 use Rattle.weak_apa.proofs.Counted.{apart_number}

@@ -1,5 +1,5 @@
 use Rattle.std.proofs.Common.{ℕ, List, get_or, ap}
-use Rattle.link_state.proofs.Linked.{linked_number, place_in, task_on-linked}
+use Rattle.strong_apa.proofs.Linked.{linked_number, place_in, task_on-linked}
 use Rattle.weak_apa.proofs.Counted.{only_number, first_of_both, first_of_strong}
 use Rattle.weak_apa.proofs.comparison.first_apart.Goals as goal
 

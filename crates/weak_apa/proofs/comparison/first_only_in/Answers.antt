@@ -1,6 +1,6 @@
 use Rattle.std.proofs.Common.{◌<◌, ◌≤◌}
-use Rattle.link_state.specs.State.{task_count, priority_of}
-use Rattle.link_state.proofs.Linked.{linked_number}
+use Rattle.strong_apa.specs.State.{task_count, priority_of}
+use Rattle.strong_apa.proofs.Linked.{linked_number}
 use Rattle.link_table.proofs.Leaders.{found_at}
 use Rattle.weak_apa.specs.Apart.{IsOnlyOn}
 use Rattle.weak_apa.proofs.Counted.{found_only}

@@ -1,5 +1,5 @@
 use Rattle.std.proofs.Common.{sym}
-use Rattle.link_state.proofs.Linked.{linked_number}
+use Rattle.strong_apa.proofs.Linked.{linked_number}
 use Rattle.weak_apa.proofs.comparison.only_on.Goals as goal
 
 pub of-requires : goal.of-requires

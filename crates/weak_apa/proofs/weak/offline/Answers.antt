@@ -1,6 +1,6 @@
 use Rattle.std.proofs.Common.{sym}
-use Rattle.link_state.specs.State.{state_after_leaving}
-use Rattle.link_state.proofs.Linked.{linked_number}
+use Rattle.strong_apa.specs.State.{state_after_leaving}
+use Rattle.strong_apa.proofs.Linked.{linked_number}
 use Rattle.weak_apa.proofs.Leaving.{beside_from_stable, stable_left, stable_offline}
 use Rattle.weak_apa.proofs.weak.offline.Goals as goal
 

@@ -1,6 +1,6 @@
 use Rattle.std.proofs.Common.{arith, ◌∙◌, ◌∷◌, ◌≤◌, ap, sym, subst, length}
-use Rattle.link_state.specs.State.{start_of}
-use Rattle.link_state.specs.History.{IsLegal}
+use Rattle.strong_apa.specs.State.{start_of}
+use Rattle.strong_apa.specs.History.{IsLegal}
 use Rattle.task_set.specs.TaskSet.{SetData}
 use Rattle.event_history.specs.Boards.{BoardData}
 use Rattle.event_history.specs.Gathering.{AllOf}

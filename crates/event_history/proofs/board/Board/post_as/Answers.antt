@@ -9,6 +9,12 @@ loop-preserved g c =
 pub returns-in-Ok-Ok-clause-grown : goal.returns-in-Ok-Ok-clause-grown
 returns-in-Ok-Ok-clause-grown g c = grown_more _ _ _ c.loop.invariant.0.grown c.try_post_as.ensures.grown
 
+pub returns-in-Ok-Ok-clause-eyes : goal.returns-in-Ok-Ok-clause-eyes
+returns-in-Ok-Ok-clause-eyes g c = c.try_post_as.ensures.eyes ∙ c.loop.invariant.1
+
+pub returns-in-Ok-Err-clause-eyes : goal.returns-in-Ok-Err-clause-eyes
+returns-in-Ok-Err-clause-eyes g c = c.try_post_as.ensures.eyes ∙ c.loop.invariant.1
+
 pub returns-in-Ok-Ok-clause-posted : goal.returns-in-Ok-Ok-clause-posted
 returns-in-Ok-Ok-clause-posted g c =
     let told = rw c.in-Ok-Ok.field-0-is at c.in-Ok-Ok.ensures.posted in

@@ -1,5 +1,5 @@
 use Rattle.std.proofs.Common.{refl}
-use Rattle.link_state.specs.State.{IsState}
+use Rattle.strong_apa.specs.State.{IsState}
 use Rattle.job_release.proofs.Fresh.{driving_fresh, fresh_jobs}
 use Rattle.job_release.proofs.driver.Driver.new.Goals as goal
 

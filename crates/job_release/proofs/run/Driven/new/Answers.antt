@@ -1,5 +1,5 @@
 use Rattle.std.proofs.Common.{arith}
-use Rattle.link_state.specs.State.{is_ready}
+use Rattle.strong_apa.specs.State.{is_ready}
 use Rattle.job_release.specs.Driving.{row_at}
 use Rattle.job_release.proofs.Runs.{row_at_end}
 use Rattle.job_release.proofs.run.Driven.new.Goals as goal

@@ -1,6 +1,6 @@
 use Rattle.std.proofs.Common.{◌≡◌, ℕ, true, List, inl, inr}
-use Rattle.line_machine.specs.LineRule.{IsLineOutcome}
-use Rattle.line_machine.specs.Machine.{Fails}
+use Rattle.text_fields.specs.LineRule.{IsLineOutcome}
+use Rattle.text_fields.specs.Machine.{Fails}
 use Rattle.kernel_trace.specs.Course.{CourseData}
 use Rattle.kernel_trace.specs.Reading.{course_of, progress_at, IsRefusedBy}
 use Rattle.kernel_trace.specs.TraceFault.{trace_kind}

@@ -1,6 +1,6 @@
 use Rattle.std.proofs.Common.{◌≡◌, ℕ, true, List, Option, refl, inl, inr}
-use Rattle.line_machine.specs.LineRule.{IsLineOutcome}
-use Rattle.line_machine.specs.Machine.{Leads, Fails}
+use Rattle.text_fields.specs.LineRule.{IsLineOutcome}
+use Rattle.text_fields.specs.Machine.{Leads, Fails}
 use Rattle.kernel_trace.specs.Course.{CourseData}
 use Rattle.kernel_trace.specs.Passage.{FollowingData, head_outcome, IsFollowed}
 use Rattle.kernel_trace.specs.PassageView.{following_of, IsRefusedBy as IsRefusedAs}

@@ -1,6 +1,6 @@
 use Rattle.std.proofs.Common.{◌≡◌, ◌⊎◌, IfErr, sym, ◌∙◌, subst}
 use Rattle.std.specs.Prelude.{OnOk}
-use Rattle.line_machine.specs.Machine.{Leads, Fails}
+use Rattle.text_fields.specs.Machine.{Leads, Fails}
 use Rattle.kernel_trace.specs.Passage.{FollowingOutcome}
 use Rattle.kernel_trace.specs.PassageView.{following_of}
 use Rattle.kernel_trace.specs.Reading.{course_of, IsOutOfMemory}

@@ -3,17 +3,17 @@ use Rattle.std.specs.Option.{ForSome}
 use Rattle.std.proofs.lemmas.List.{take_more}
 use Rattle.std.proofs.lemmas.Option.{get_or_from_slice_get}
 use Rattle.affinity_mask.specs.ProcSet.{has, empty}
-use Rattle.link_state.specs.State.{State, IsState, IsWaiting, task_count, is_linked, state_with_ready}
-use Rattle.link_state.specs.Chain.{IsChainOf, IsSimple, state_after_shift}
+use Rattle.strong_apa.specs.State.{State, IsState, IsWaiting, task_count, is_linked, state_with_ready}
+use Rattle.strong_apa.specs.Chain.{IsChainOf, IsSimple, state_after_shift}
 use Rattle.link_table.specs.Layout.{Layout, layout_of, mask_has}
 use Rattle.link_table.specs.LinksView.{AreAwaited, links_view}
-use Rattle.waiting_index.specs.WaitingTasks.{masks_with}
+use Rattle.link_table.specs.WaitingTasks.{masks_with}
 use Rattle.link_table.proofs.Awaiting.{AreAwaited-enter}
 use Rattle.link_table.proofs.Feeding.{mask_has-same}
-use Rattle.link_state.proofs.Simple.{Avoids-none, Avoids-take}
-use Rattle.link_state.proofs.Shifts.{IsState-state_after_shift, chain_below, handed_on, handed_on-end, handed_on-read, handed_on-number, handed_on-apart, place_in_table, table_after, table_after-nothing, table_after-push}
-use Rattle.link_state.proofs.Readiness.{IsState-state_with_ready, is_ready-state_with_ready}
-use Rattle.link_state.proofs.Steps.{IsChainOf-state_with_ready}
+use Rattle.strong_apa.proofs.Simple.{Avoids-none, Avoids-take}
+use Rattle.strong_apa.proofs.Shifts.{IsState-state_after_shift, chain_below, handed_on, handed_on-end, handed_on-read, handed_on-number, handed_on-apart, place_in_table, table_after, table_after-nothing, table_after-push}
+use Rattle.strong_apa.proofs.Readiness.{IsState-state_with_ready, is_ready-state_with_ready}
+use Rattle.strong_apa.proofs.Steps.{IsChainOf-state_with_ready}
 use Rattle.link_table.proofs.links.Links.enter.Goals as goal
 use Rattle.link_table.proofs.links.Links.enter.Goals.{After-exchange}
 

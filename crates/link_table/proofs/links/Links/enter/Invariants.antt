@@ -1,7 +1,7 @@
 use Rattle.std.proofs.Common.{◌≡◌, Some, true, set, take}
-use Rattle.link_state.specs.State.{state_with_ready}
+use Rattle.strong_apa.specs.State.{state_with_ready}
 use Rattle.link_table.specs.LinksView.{AreAwaited}
-use Rattle.link_state.proofs.Shifts.{table_after, handed_on}
+use Rattle.strong_apa.proofs.Shifts.{table_after, handed_on}
 use Rattle.link_table.proofs.links.Links.enter.Given as goal
 
 abbrev pub invariant-loop-i : goal.invariant-loop-i

@@ -1,5 +1,5 @@
 use Rattle.std.proofs.Common.{◌<◌, sym, subst}
-use Rattle.link_state.specs.State.{State, task_count}
+use Rattle.strong_apa.specs.State.{State, task_count}
 use Rattle.link_table.specs.LinksView.{links_view}
 use Rattle.link_table.proofs.Priorities.{after, after_count, IsState-state_with_exchange, AreAwaited-priorities}
 use Rattle.link_table.proofs.links.Links.exchange_priorities.Goals as goal

@@ -1,7 +1,7 @@
 use Rattle.std.proofs.Common.{ℕ, ◌↔◌, IsTrue, subst}
 use Rattle.affinity_mask.specs.ProcSet.{has}
-use Rattle.link_state.specs.State.{State}
-use Rattle.link_state.specs.Chain.{CanShift}
+use Rattle.strong_apa.specs.State.{State}
+use Rattle.strong_apa.specs.Chain.{CanShift}
 use Rattle.link_table.specs.LinksView.{links_view}
 use Rattle.link_table.proofs.Feeding.{fed_from_test, nobody_feeds}
 use Rattle.link_table.proofs.links.Links.feeders.Goals as goal

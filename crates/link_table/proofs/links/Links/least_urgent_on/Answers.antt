@@ -1,5 +1,5 @@
 use Rattle.std.proofs.Common.{refl, sym, ◌∙◌}
-use Rattle.link_state.proofs.Linked.{linked_number, occupied_number}
+use Rattle.strong_apa.proofs.Linked.{linked_number, occupied_number}
 use Rattle.link_table.proofs.Leaders.{on_first, on_more, on_number, on_whole, rest_first, rest_fewer}
 use Rattle.link_table.proofs.Rests.{rest_grows}
 use Rattle.link_table.proofs.links.Links.least_urgent_on.Goals as goal

@@ -1,9 +1,9 @@
 use Rattle.std.proofs.Common.{◌≡◌, ◌<◌, Some, true, refl, sym, ap, ◌∙◌, subst}
-use Rattle.link_state.specs.State.{State, IsState, task_count, task_on, is_linked, state_with_idle, state_with_absent, state_after_leaving}
+use Rattle.strong_apa.specs.State.{State, IsState, task_count, task_on, is_linked, state_with_idle, state_with_absent, state_after_leaving}
 use Rattle.link_table.specs.LinksView.{AreAwaited, links_view}
 use Rattle.link_table.proofs.Awaiting.{AreAwaited-leaving}
-use Rattle.link_state.proofs.Leaving.{left_state, IsState-state_after_leaving}
-use Rattle.link_state.proofs.Linked.{occupied_number}
+use Rattle.strong_apa.proofs.Leaving.{left_state, IsState-state_after_leaving}
+use Rattle.strong_apa.proofs.Linked.{occupied_number}
 use Rattle.link_table.proofs.links.Links.leave.Goals as goal
 
 pub invariant_of-self : goal.invariant_of-self

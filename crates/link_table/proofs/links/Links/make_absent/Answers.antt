@@ -1,8 +1,8 @@
 use Rattle.std.proofs.Common.{◌<◌, sym, subst}
-use Rattle.link_state.specs.State.{State, IsWaiting, task_count}
+use Rattle.strong_apa.specs.State.{State, IsWaiting, task_count}
 use Rattle.link_table.specs.LinksView.{links_view}
 use Rattle.link_table.proofs.Awaiting.{AreAwaited-absent}
-use Rattle.link_state.proofs.Leaving.{IsState-state_with_absent}
+use Rattle.strong_apa.proofs.Leaving.{IsState-state_with_absent}
 use Rattle.link_table.proofs.links.Links.make_absent.Goals as goal
 
 pub invariant_of-self : goal.invariant_of-self

@@ -1,8 +1,8 @@
 use Rattle.std.proofs.Common.{◌≡◌, ◌<◌, false, sym, subst}
-use Rattle.link_state.specs.State.{State, task_count, is_ready}
+use Rattle.strong_apa.specs.State.{State, task_count, is_ready}
 use Rattle.link_table.specs.LinksView.{links_view}
 use Rattle.link_table.proofs.Awaiting.{AreAwaited-ready}
-use Rattle.link_state.proofs.Readiness.{IsState-state_with_ready, IsWaiting-state_with_ready}
+use Rattle.strong_apa.proofs.Readiness.{IsState-state_with_ready, IsWaiting-state_with_ready}
 use Rattle.link_table.proofs.links.Links.make_ready.Goals as goal
 
 pub invariant_of-self : goal.invariant_of-self

@@ -1,9 +1,9 @@
 use Rattle.std.proofs.Common.{◌≡◌, ℕ, ◌&&◌, refl, subst}
 use Rattle.std.specs.Prelude.{MatchOption}
 use Rattle.affinity_mask.specs.ProcSet.{has}
-use Rattle.link_state.specs.State.{State}
+use Rattle.strong_apa.specs.State.{State}
 use Rattle.link_table.specs.LinksView.{links_view}
-use Rattle.link_state.specs.Step.{IsNobodyInto, IsMostUrgentInto}
+use Rattle.strong_apa.specs.Step.{IsNobodyInto, IsMostUrgentInto}
 use Rattle.link_table.proofs.Awaiting.{most_urgent_from_first}
 use Rattle.link_table.proofs.links.Links.most_urgent_in.Goals as goal
 

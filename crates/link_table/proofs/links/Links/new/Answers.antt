@@ -3,10 +3,10 @@ use Rattle.std.proofs.lemmas.Bool.{cases_lt, lt-ltb, true≢false}
 use Rattle.std.proofs.lemmas.List.{get_or_past}
 use Rattle.affinity_mask.specs.ProcSet.{has, empty, all_below, Within}
 use Rattle.affinity_mask.proofs.Sets.{has-zero, has-all_below}
-use Rattle.link_state.specs.State.{State, IsState, mask_of}
+use Rattle.strong_apa.specs.State.{State, IsState, mask_of}
 use Rattle.link_table.specs.LinksView.{AreAwaited}
 use Rattle.link_table.proofs.Awaiting.{AreAwaited-start}
-use Rattle.link_state.proofs.Start.{IsState-start, start_of-columns}
+use Rattle.strong_apa.proofs.Start.{IsState-start, start_of-columns}
 use Rattle.link_table.proofs.links.Links.new.Goals as goal
 
 -- the masks of a set have processors of the machine alone

@@ -1,8 +1,8 @@
 use Rattle.std.proofs.Common.{◌≡◌, ◌↔◌, false, subst}
 use Rattle.std.specs.Prelude.{IsNone}
-use Rattle.link_state.specs.State.{State, is_linked}
+use Rattle.strong_apa.specs.State.{State, is_linked}
 use Rattle.link_table.specs.LinksView.{links_view}
-use Rattle.link_state.proofs.Linked.{none_from_place}
+use Rattle.strong_apa.proofs.Linked.{none_from_place}
 use Rattle.link_table.proofs.links.Links.of.Goals as goal
 
 pub returns-clause-none : goal.returns-clause-none

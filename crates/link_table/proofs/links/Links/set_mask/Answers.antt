@@ -2,8 +2,8 @@ use Rattle.std.proofs.Common.{◌≡◌, ◌<◌, false, refl, sym, ◌∙◌, s
 use Rattle.std.proofs.lemmas.Bool.{lt-ltb}
 use Rattle.affinity_mask.proofs.Sets.{has-all_below}
 use Rattle.task_set.specs.TaskSet.{IsMask}
-use Rattle.link_state.specs.State.{State, task_count, is_ready}
-use Rattle.link_state.proofs.Changes.{occupant_is_other, IsState-state_with_mask}
+use Rattle.strong_apa.specs.State.{State, task_count, is_ready}
+use Rattle.strong_apa.proofs.Changes.{occupant_is_other, IsState-state_with_mask}
 use Rattle.link_table.specs.LinksView.{links_view}
 use Rattle.link_table.proofs.Awaiting.{AreAwaited-masked}
 use Rattle.link_table.proofs.links.Links.set_mask.Goals as goal

@@ -1,7 +1,7 @@
 use Rattle.std.proofs.Common.{◌≡◌, ℕ, ◌<◌, Bool, true, false, None, sym, subst, if◌then◌else◌}
 use Rattle.affinity_mask.specs.ProcSet.{with_member, without_member}
-use Rattle.link_state.specs.State.{State, IsState, task_on}
-use Rattle.link_state.proofs.Changes.{IsState-state_with_online, IsState-state_with_offline}
+use Rattle.strong_apa.specs.State.{State, IsState, task_on}
+use Rattle.strong_apa.proofs.Changes.{IsState-state_with_online, IsState-state_with_offline}
 use Rattle.link_table.specs.LinksView.{links_view}
 use Rattle.link_table.proofs.Awaiting.{AreAwaited-online}
 use Rattle.link_table.proofs.links.Links.set_online.Goals as goal

@@ -1,5 +1,5 @@
 use Rattle.std.proofs.Common.{◌<◌, sym, subst, length-set}
-use Rattle.link_state.specs.State.{State, task_count}
+use Rattle.strong_apa.specs.State.{State, task_count}
 use Rattle.link_table.specs.LinksView.{links_view}
 use Rattle.link_table.specs.Priorities.{IsFreeFor}
 use Rattle.link_table.proofs.Priorities.{IsState-state_with_priority, AreAwaited-priorities}

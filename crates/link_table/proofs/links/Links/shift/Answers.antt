@@ -1,7 +1,7 @@
 use Rattle.std.proofs.Common.{ap, ◌∙◌}
-use Rattle.link_state.specs.State.{State}
-use Rattle.link_state.specs.Chain.{state_after_shift, task_put_out}
-use Rattle.link_state.proofs.Readiness.{ready_already}
+use Rattle.strong_apa.specs.State.{State}
+use Rattle.strong_apa.specs.Chain.{state_after_shift, task_put_out}
+use Rattle.strong_apa.proofs.Readiness.{ready_already}
 use Rattle.link_table.proofs.links.Links.shift.Goals as goal
 
 pub returns-clause-links : goal.returns-clause-links

@@ -1,9 +1,9 @@
 use Rattle.std.proofs.Common.{◌≡◌, Some, sym, ◌∙◌, arith}
-use Rattle.link_state.specs.State.{task_on}
+use Rattle.strong_apa.specs.State.{task_on}
 use Rattle.link_table.specs.LinksView.{links_view}
 use Rattle.link_table.proofs.Awaiting.{AreAwaited-idle}
-use Rattle.link_state.proofs.Idling.{IsState-state_with_idle, IsWaiting-state_with_idle}
-use Rattle.link_state.proofs.Linked.{linked_number}
+use Rattle.strong_apa.proofs.Idling.{IsState-state_with_idle, IsWaiting-state_with_idle}
+use Rattle.strong_apa.proofs.Linked.{linked_number}
 use Rattle.link_table.proofs.links.Links.unlink.Goals as goal
 
 pub invariant_of-self : goal.invariant_of-self

@@ -1,10 +1,10 @@
 use Rattle.std.proofs.Common.{ℕ, List, Option, refl, sym, subst, ◌∙◌}
-use Rattle.link_state.proofs.SameTasks.{same_count, same_tasks-step}
-use Rattle.link_state.proofs.Steps.{step_keeps_state}
-use Rattle.certificate_laws.proofs.Best.{linked_is_best, linked_is_largest}
-use Rattle.certificate_laws.proofs.Improved.{no_improving_chain}
-use Rattle.certificate_laws.proofs.Kept.{step_keeps_certificates}
-use Rattle.certificate_laws.proofs.Ranked.{linked_is_as_urgent}
+use Rattle.strong_apa.proofs.SameTasks.{same_count, same_tasks-step}
+use Rattle.strong_apa.proofs.Steps.{step_keeps_state}
+use Rattle.strong_apa.proofs.Best.{linked_is_best, linked_is_largest}
+use Rattle.strong_apa.proofs.Improved.{no_improving_chain}
+use Rattle.strong_apa.proofs.Kept.{step_keeps_certificates}
+use Rattle.strong_apa.proofs.Ranked.{linked_is_as_urgent}
 use Rattle.live_core.specs.Live.{LiveData}
 use Rattle.live_core.specs.LiveView.{live_view}
 use Rattle.live_core.specs.Moves.{Replays}

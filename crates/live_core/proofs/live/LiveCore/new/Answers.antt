@@ -1,10 +1,10 @@
 use Rattle.std.proofs.Common.{ℕ, List, Bool, Option, None, length, replicate, sym, ap, subst, ◌∙◌, arith}
 use Rattle.std.proofs.lemmas.List.{length-map, length-replicate}
 use Rattle.task_set.specs.TaskSet.{TaskData}
-use Rattle.link_state.specs.State.{State, IsState, task_count, is_ready}
-use Rattle.link_state.proofs.Start.{IsState-start, none_ready}
-use Rattle.certificate_laws.specs.Certified.{HasCertificates}
-use Rattle.certificate_laws.proofs.Kept.{HasCertificates-start}
+use Rattle.strong_apa.specs.State.{State, IsState, task_count, is_ready}
+use Rattle.strong_apa.proofs.Start.{IsState-start, none_ready}
+use Rattle.strong_apa.specs.Certified.{HasCertificates}
+use Rattle.strong_apa.proofs.Kept.{HasCertificates-start}
 use Rattle.live_core.specs.MoveData.{MoveData}
 use Rattle.live_core.proofs.live.LiveCore.new.Goals as goal
 

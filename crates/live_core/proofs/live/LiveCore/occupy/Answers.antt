@@ -1,5 +1,5 @@
 use Rattle.std.proofs.Common.{◌≡◌, true, false, length-set, sym, ap, ◌∙◌, subst}
-use Rattle.link_state.specs.State.{State, is_ready}
+use Rattle.strong_apa.specs.State.{State, is_ready}
 use Rattle.live_core.specs.Live.{LiveData}
 use Rattle.live_core.specs.Slots.{IsFreeSlot}
 use Rattle.live_core.proofs.ComingAndGoing.{optimal, certified_after_admit, count_after_admit, free_after_admit}

@@ -1,6 +1,6 @@
 use Rattle.std.proofs.Common.{◌≡◌, Bool, false, get_or, length-set, set, sym, ap, ◌∙◌, subst}
-use Rattle.link_state.specs.State.{State, is_ready, task_count, priority_of}
-use Rattle.certificate_laws.specs.Certified.{HasCertificates}
+use Rattle.strong_apa.specs.State.{State, is_ready, task_count, priority_of}
+use Rattle.strong_apa.specs.Certified.{HasCertificates}
 use Rattle.live_core.specs.Live.{LiveData}
 use Rattle.live_core.specs.Optimal.{IsOptimal}
 use Rattle.live_core.proofs.ComingAndGoing.{optimal, kept_by_exchange}

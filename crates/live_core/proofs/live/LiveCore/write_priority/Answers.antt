@@ -1,6 +1,6 @@
 use Rattle.std.proofs.Common.{◌≡◌, false, length-set, sym, ap, ◌∙◌, subst}
-use Rattle.link_state.specs.State.{State, is_ready, task_count}
-use Rattle.certificate_laws.specs.Certified.{HasCertificates}
+use Rattle.strong_apa.specs.State.{State, is_ready, task_count}
+use Rattle.strong_apa.specs.Certified.{HasCertificates}
 use Rattle.live_core.specs.Live.{LiveData}
 use Rattle.live_core.proofs.ComingAndGoing.{optimal, kept_by_priority}
 use Rattle.live_core.proofs.live.LiveCore.write_priority.Goals as goal

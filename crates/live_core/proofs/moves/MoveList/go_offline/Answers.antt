@@ -1,5 +1,5 @@
 use Rattle.std.proofs.Common.{Option, refl, sym, subst, arith}
-use Rattle.scheduler_reply.specs.declared.reply.Moved.{Moved}
+use Rattle.strong_apa.specs.declared.reply.Moved.{Moved}
 use Rattle.live_core.specs.MoveData.{OfflinePasses}
 use Rattle.live_core.proofs.Replaying.{DoesMore-nothing, DoesMore-fewer}
 use Rattle.live_core.proofs.StepPasses.{Passes-same}

@@ -1,5 +1,5 @@
 use Rattle.std.proofs.Common.{◌≡◌, ℕ, ◌<◌, length, get_or, sym, subst, arith}
-use Rattle.waiting_index.specs.WaitingTasks.{Waiting}
+use Rattle.link_table.specs.WaitingTasks.{Waiting}
 use Rattle.nested_masks.specs.HeldTasks.{IsListOf}
 use Rattle.nested_masks.specs.Views.{counts_view}
 use Rattle.nested_masks.proofs.FullNodes.{in_nodes, in_row_too}

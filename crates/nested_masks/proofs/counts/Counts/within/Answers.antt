@@ -1,6 +1,6 @@
 use Rattle.std.proofs.Common.{◌≤◌, sym, refl, arith}
 use Rattle.std.proofs.lemmas.Bool.{false≢true}
-use Rattle.certificate_laws.proofs.Counts.{count_below-zero, count_below-bound}
+use Rattle.strong_apa.proofs.Counts.{count_below-zero, count_below-bound}
 use Rattle.nested_masks.specs.NestedData.{linked_of, mask_in}
 use Rattle.nested_masks.proofs.Scanned.{held_one_more, held_no_more}
 use Rattle.nested_masks.proofs.counts.Counts.within.Goals as goal

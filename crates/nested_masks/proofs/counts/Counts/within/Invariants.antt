@@ -1,5 +1,5 @@
 use Rattle.std.proofs.Common.{◌≡◌, ◌&&◌}
-use Rattle.certificate_laws.proofs.Counts.{count_below}
+use Rattle.strong_apa.proofs.Counts.{count_below}
 use Rattle.nested_masks.specs.Laminar.{is_within}
 use Rattle.nested_masks.specs.NestedData.{linked_of, mask_in}
 use Rattle.nested_masks.proofs.counts.Counts.within.Given as goal

@@ -1,7 +1,7 @@
 use Rattle.std.proofs.Common.{ℕ, IsTrue, ◌↔◌, sym, subst}
 use Rattle.affinity_mask.specs.ProcSet.{has}
 use Rattle.affinity_mask.proofs.Meetings.{no_member}
-use Rattle.link_state.proofs.Linked.{linked_number}
+use Rattle.strong_apa.proofs.Linked.{linked_number}
 use Rattle.path_search.specs.declared.direction.Direction.{Direction}
 use Rattle.path_search.specs.Paths.{Steps}
 use Rattle.path_search.proofs.Moves.{CanShift-idle}

@@ -1,8 +1,8 @@
 use Rattle.std.proofs.Common.{Err, length, sym, ap, ◌∙◌, subst, arith}
-use Rattle.certificate_laws.specs.Laws.{LinkedIsBest}
-use Rattle.certificate_laws.specs.Passing.{Passes}
-use Rattle.certificate_laws.proofs.Best.{linked_is_best}
-use Rattle.certificate_laws.proofs.StepsPass.{step_passes}
+use Rattle.strong_apa.specs.CertificateLaws.{LinkedIsBest}
+use Rattle.strong_apa.specs.Passing.{Passes}
+use Rattle.strong_apa.proofs.Best.{linked_is_best}
+use Rattle.strong_apa.proofs.StepsPass.{step_passes}
 use Rattle.reach_certificate.specs.Checker.{CheckerData, IsChecker}
 use Rattle.reach_certificate.specs.CheckerView.{checker_view}
 use Rattle.reach_certificate.specs.Contexts.{EachBecomes, HaveFollowed, context_after_entry}

@@ -1,7 +1,7 @@
 use Rattle.std.proofs.Common.{subst}
 use Rattle.reach_certificate.specs.Checker.{CheckerData}
-use Rattle.certificate_laws.specs.Laws.{LinkedIsBest}
-use Rattle.certificate_laws.proofs.Best.{linked_is_best}
+use Rattle.strong_apa.specs.CertificateLaws.{LinkedIsBest}
+use Rattle.strong_apa.proofs.Best.{linked_is_best}
 use Rattle.reach_certificate.proofs.checker.Checker.links.Goals as goal
 
 pub returns-clause-best : goal.returns-clause-best

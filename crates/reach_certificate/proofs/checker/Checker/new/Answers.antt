@@ -2,9 +2,9 @@ use Rattle.std.proofs.Common.{List, length, get_or, sym, ap, ◌∙◌, subst, a
 use Rattle.std.proofs.lemmas.List.FromFn.{get_or-map-range_with_len, length-map-range_with_len}
 use Rattle.task_set.specs.Context.{fresh_context}
 use Rattle.task_set.specs.declared.context.Context.{Context}
-use Rattle.link_state.specs.State.{State, HasSameTasks, task_count}
-use Rattle.certificate_laws.specs.Certified.{HasCertificates}
-use Rattle.certificate_laws.proofs.Kept.{HasCertificates-start}
+use Rattle.strong_apa.specs.State.{State, HasSameTasks, task_count}
+use Rattle.strong_apa.specs.Certified.{HasCertificates}
+use Rattle.strong_apa.proofs.Kept.{HasCertificates-start}
 use Rattle.reach_certificate.specs.Checker.{IsChecker}
 use Rattle.reach_certificate.proofs.checker.Checker.new.Goals as goal
 use Rattle.reach_certificate.proofs.checker.Checker.new.Goals.{In_ok-links}

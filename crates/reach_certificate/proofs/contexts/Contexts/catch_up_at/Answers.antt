@@ -1,7 +1,7 @@
 use Rattle.std.proofs.Common.{◌≡◌, ◌≢◌, ℕ, ◌<◌, ◌≤◌, List, [], ◌∷◌, length, get_or, set, Option, None, refl, sym, ◌∙◌, subst, arith}
 use Rattle.std.proofs.lemmas.List.{get_or_default, get_or_past}
-use Rattle.link_state.specs.State.{State, IsState, task_on}
-use Rattle.link_state.proofs.Linked.{linked_number}
+use Rattle.strong_apa.specs.State.{State, IsState, task_on}
+use Rattle.strong_apa.proofs.Linked.{linked_number}
 use Rattle.reach_certificate.specs.CaughtUp.{HaveCaughtUp}
 use Rattle.reach_certificate.specs.Contexts.{ContextsData}
 use Rattle.reach_certificate.specs.ContextsView.{contexts_view}

@@ -1,16 +1,25 @@
-use Rattle.std.proofs.Common.{ℕ, List, subst, sym, ap}
+use Rattle.std.proofs.Common.{ℕ, List, subst, sym, ap, arith}
+use Rattle.std.proofs.lemmas.List.{with_items_is}
 use Rattle.reach_certificate.specs.CaughtUp.{HaveCaughtUp}
+use Rattle.task_set.specs.declared.context.Context.{Context}
 use Rattle.task_set.specs.declared.event.Event.TheVariants.{Tick}
-use Rattle.link_state.specs.Dispatch.{places_of, tick_runs}
-use Rattle.reach_certificate.specs.Contexts.{ContextsData, context_after_all_runs, EachBecomes}
+use Rattle.strong_apa.specs.Dispatch.{places_of, tick_runs}
+use Rattle.reach_certificate.specs.Contexts.{ContextsData, context_after_all_runs, EachBecomes, HaveFollowed}
 use Rattle.reach_certificate.proofs.Following.{followed_tick, followed_other, followed_offline, touches_chains}
 use Rattle.reach_certificate.proofs.contexts.Contexts.follow.Goals as goal
 
 pub returns-in-Tick : goal.returns-in-Tick
 returns-in-Tick c = λ old ok passes effect held.
-    let after : ContextsData = record { each = c.run_linked.new.contexts.items; held = c.self.inside.held.items } in
-    followed_tick old ok c.args.entry.now passes c.args.links.now effect c.args.self.now after held c.in-Tick.units c.in-Tick.is (ap (λ (a : ContextsData). a.held) c.self.view_is)
-    (subst (λ (a : ContextsData). EachBecomes (λ t context. context_after_all_runs context (tick_runs (Tick c.in-Tick.units) (places_of c.args.links.now t))) a.each c.run_linked.new.contexts.items) c.self.view_is c.run_linked.ensures)
+    let inside = c.self.inside in
+    let units = c.in-Tick.units in
+    let runs : (List Context → Type 0) =
+    λ each. EachBecomes (λ t context. context_after_all_runs context (tick_runs (Tick units) (places_of c.args.links.now t))) each c.run_linked.new.contexts in
+    let ran : runs inside.each.items = subst runs c.deref_mut.ensures.value c.run_linked.ensures in
+    let kept = with_items_is inside.each c.run_linked.new.contexts (omega (arith, ran.count, inside.each.ok.0)) in
+    subst (λ (each : List Context). HaveFollowed old c.args.links.now c.args.entry.now.event c.args.self.now (record { each = each; held = inside.held.items })) (sym kept)
+    (followed_tick old ok c.args.entry.now passes c.args.links.now effect c.args.self.now (record { each = c.run_linked.new.contexts; held = inside.held.items }) held units c.in-Tick.is
+    (ap (λ (a : ContextsData). a.held) c.self.view_is)
+    (subst (λ (a : ContextsData). runs a.each) c.self.view_is ran))
 
 pub returns-in-Offline : goal.returns-in-Offline
 returns-in-Offline c = λ old ok passes effect held.

@@ -1,19 +1,19 @@
 use Rattle.std.proofs.Common.{◌≡◌, ℕ, ◌-◌, ◌<◌, ◌≤◌, List, length, get_or, false, refl, sym, ap, ◌∙◌, subst, arith}
 use Rattle.std.specs.Prelude.{All}
-use Rattle.scheduler_reply.specs.declared.reply.Entry.{Entry}
-use Rattle.link_state.specs.State.{IsState, task_count}
-use Rattle.link_state.specs.History.{effect_of}
-use Rattle.link_state.specs.Dispatch.{orders_of, processors_of}
-use Rattle.link_state.proofs.Linked.{linked_number}
-use Rattle.link_state.proofs.Steps.{reply_gives_new_state, step_keeps_state}
-use Rattle.certificate_laws.proofs.Kept.{step_has_justification}
+use Rattle.strong_apa.specs.declared.reply.Entry.{Entry}
+use Rattle.strong_apa.specs.State.{IsState, task_count}
+use Rattle.strong_apa.specs.History.{effect_of}
+use Rattle.strong_apa.specs.Dispatch.{orders_of, processors_of}
+use Rattle.strong_apa.proofs.Linked.{linked_number}
+use Rattle.strong_apa.proofs.Steps.{reply_gives_new_state, step_keeps_state}
+use Rattle.strong_apa.proofs.Kept.{step_has_justification}
 use Rattle.sched_core.specs.CoreData.{CoreData, IsCore, Applied, entry_of, max_entries}
 use Rattle.sched_core.specs.CoreView.{core_view}
-use Rattle.certificate_laws.specs.Touched.{touched}
+use Rattle.strong_apa.specs.Touched.{touched}
 use Rattle.sched_core.specs.CoreRows.{row_at, RowsFollow}
 use Rattle.sched_core.proofs.StepTouches.{step_stays_outside, tick_has_no_chain}
 use Rattle.sched_core.proofs.CoreEntered.{takes_bound, read_last, core_entered, core_orders-open, orders_entered, takes_entered}
-use Rattle.link_state.proofs.SameTasks.{same_tasks-step}
+use Rattle.strong_apa.proofs.SameTasks.{same_tasks-step}
 use Rattle.sched_core.proofs.scheduler.Core.enter.Goals as goal
 
 pub follow_links-requires-clause-can : goal.follow_links-requires-clause-can

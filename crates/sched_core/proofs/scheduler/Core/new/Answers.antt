@@ -1,12 +1,12 @@
 use Rattle.std.proofs.Common.{rules, ◌≡◌, false, sym, ap, ◌∙◌, subst, length}
 use Rattle.std.proofs.lemmas.List.{length-map, length-replicate}
 use Rattle.task_set.specs.TaskSet.{TaskData}
-use Rattle.link_state.specs.State.{State, IsState, task_count}
-use Rattle.link_state.proofs.Start.{IsState-start}
-use Rattle.certificate_laws.specs.Certified.{HasCertificates}
-use Rattle.certificate_laws.proofs.Kept.{HasCertificates-start}
-use Rattle.order_laws.specs.Start.{NobodyIsReady}
-use Rattle.order_laws.proofs.Starts.{nobody_ready}
+use Rattle.strong_apa.specs.State.{State, IsState, task_count}
+use Rattle.strong_apa.proofs.Start.{IsState-start}
+use Rattle.strong_apa.specs.Certified.{HasCertificates}
+use Rattle.strong_apa.proofs.Kept.{HasCertificates-start}
+use Rattle.history_laws.specs.Start.{NobodyIsReady}
+use Rattle.history_laws.proofs.Starts.{nobody_ready}
 use Rattle.sched_core.specs.CoreView.{IsKept}
 use Rattle.sched_core.proofs.CoreEntered.{core_started}
 use Rattle.sched_core.proofs.RowsStarted.{rows_counted, rows_say_nothing, nobody_is_held, never_taken}

@@ -2,7 +2,7 @@ use Rattle.std.proofs.Common.{◌+◌, ◌*◌, ◌≤◌, List, length, sym, su
 use Rattle.std.specs.Prelude.{All}
 use Rattle.task_set.specs.declared.order.Order.{Order}
 use Rattle.task_set.specs.Orders.{IsObeyable, NamesTaskBelow, TakesBelow}
-use Rattle.link_state.specs.State.{task_count}
+use Rattle.strong_apa.specs.State.{task_count}
 use Rattle.sched_core.proofs.CoreOrders.{core_obeyable, core_few, core_names_tasks, core_takes_small}
 use Rattle.sched_core.proofs.scheduler.Core.orders.Goals as goal
 

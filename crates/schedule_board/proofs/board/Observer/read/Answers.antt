@@ -1,6 +1,6 @@
 use Rattle.std.proofs.Common.{rules, ◌≡◌, ◌≤◌, ap, sym, subst, arith, List, length}
 use mathlib.Core.List.{IsPrefix}
-use Rattle.scheduler_reply.specs.declared.reply.Entry.{Entry}
+use Rattle.strong_apa.specs.declared.reply.Entry.{Entry}
 use Rattle.left_right.specs.Sides.{view}
 use Rattle.schedule_board.proofs.Prefixes.{prefix_shorter}
 use Rattle.schedule_board.proofs.board.Observer.read.Goals.{then-count-self, else-count-self}

@@ -1,6 +1,6 @@
 use Rattle.std.proofs.Common.{sym, ap, rules}
 use Rattle.task_set.specs.declared.event.Event.TheVariants.{Tick}
-use Rattle.scheduler_reply.specs.declared.reply.Reply.TheVariants.{Ticked}
+use Rattle.strong_apa.specs.declared.reply.Reply.TheVariants.{Ticked}
 use Rattle.schedule_board.proofs.Entering.{adds_moves}
 use Rattle.schedule_board.proofs.chronicle.Chronicle.add_as.Goals as goal
 

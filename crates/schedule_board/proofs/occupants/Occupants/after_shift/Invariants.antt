@@ -1,6 +1,6 @@
 use Rattle.std.proofs.Common.{◌≡◌, drop, Some}
-use Rattle.link_state.specs.State.{State}
-use Rattle.link_state.specs.Chain.{occupant_after_shift}
+use Rattle.strong_apa.specs.State.{State}
+use Rattle.strong_apa.specs.Chain.{occupant_after_shift}
 use Rattle.schedule_board.specs.Links.{ShowsLinks}
 use Rattle.schedule_board.proofs.occupants.Occupants.after_shift.Given as goal
 

@@ -1,4 +1,4 @@
-use Rattle.link_state.specs.State.{state_with_ready}
+use Rattle.strong_apa.specs.State.{state_with_ready}
 use Rattle.schedule_board.proofs.Links.{shows_with_ready}
 use Rattle.schedule_board.proofs.occupants.Occupants.come.Goals as goal
 

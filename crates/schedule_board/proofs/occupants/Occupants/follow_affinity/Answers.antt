@@ -1,5 +1,5 @@
-use Rattle.link_state.specs.State.{state_with_mask}
-use Rattle.link_state.specs.History.{state_after_left}
+use Rattle.strong_apa.specs.State.{state_with_mask}
+use Rattle.strong_apa.specs.History.{state_after_left}
 use Rattle.schedule_board.proofs.Links.{shows_with_mask}
 use Rattle.schedule_board.proofs.occupants.Occupants.follow_affinity.Goals as goal
 

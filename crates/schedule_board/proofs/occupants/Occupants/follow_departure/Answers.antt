@@ -1,6 +1,6 @@
 use Rattle.std.proofs.Common.{sym}
 use Rattle.schedule_board.proofs.Links.{departed}
-use Rattle.link_state.specs.State.{state_after_leaving}
+use Rattle.strong_apa.specs.State.{state_after_leaving}
 use Rattle.schedule_board.proofs.occupants.Occupants.follow_departure.Goals as goal
 
 pub returns-in-Some : goal.returns-in-Some

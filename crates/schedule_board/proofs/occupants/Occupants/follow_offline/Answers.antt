@@ -1,4 +1,4 @@
-use Rattle.link_state.specs.State.{state_after_leaving, state_with_offline}
+use Rattle.strong_apa.specs.State.{state_after_leaving, state_with_offline}
 use Rattle.schedule_board.proofs.Links.{shows_with_offline}
 use Rattle.schedule_board.proofs.occupants.Occupants.follow_offline.Goals as goal
 

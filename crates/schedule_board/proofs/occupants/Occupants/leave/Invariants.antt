@@ -1,5 +1,5 @@
 use Rattle.std.proofs.Common.{◌≡◌, ℕ, ◌<◌, length, get_or, None}
-use Rattle.link_state.specs.State.{occupant_but}
+use Rattle.strong_apa.specs.State.{occupant_but}
 use Rattle.schedule_board.proofs.occupants.Occupants.leave.Given as goal
 
 -- the task is on none of the processors so far

@@ -1,6 +1,6 @@
 use Rattle.std.proofs.Common.{◌≡◌, ℕ, ◌<◌, length, get_or, None}
-use Rattle.link_state.specs.State.{State, task_on}
-use Rattle.link_state.specs.Chain.{state_after_shift}
+use Rattle.strong_apa.specs.State.{State, task_on}
+use Rattle.strong_apa.specs.Chain.{state_after_shift}
 use Rattle.schedule_board.specs.Links.{ShowsLinks}
 use Rattle.schedule_board.proofs.occupants.Occupants.shift.Given as goal
 

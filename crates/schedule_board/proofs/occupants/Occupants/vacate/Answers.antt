@@ -1,4 +1,4 @@
-use Rattle.link_state.specs.State.{state_after_leaving}
+use Rattle.strong_apa.specs.State.{state_after_leaving}
 use Rattle.schedule_board.proofs.occupants.Occupants.vacate.Goals as goal
 
 pub returns-in-Some : goal.returns-in-Some

@@ -1,9 +1,0 @@
-pub mod Certified
-pub mod Held
-pub mod Improving
-pub mod Justification
-pub mod Laws
-pub mod Passing
-pub mod PassingLaws
-pub mod Ranks
-pub mod Touched

@@ -1,9 +1,0 @@
-use Rattle.std.proofs.Common.{◌≡◌, ◌+◌, ap, sym, ◌∙◌}
-use Rattle.generated_input.specs.Generator.{generator_step, state_after, drawn_at}
-use Rattle.generated_input.proofs.Draws.{state_after_more}
-use Rattle.generated_input.proofs.generator.Generator.draw.Goals as goal
-
-pub returns-clause-draws : goal.returns-clause-draws
-returns-clause-draws c = λ number k at.
-    let here : c.step.new.self.state ≡ state_after number (k + 1) = c.step.ensures ∙ ap generator_step at ∙ sym (state_after_more number k) in
-    record { gives = rw c.from.ensures (ap (λ state. drawn_at state c.args.bound) here); state = here }

@@ -1,4 +1,0 @@
-pub mod Drawing
-pub mod Generated
-pub mod Generator
-pub mod Laws

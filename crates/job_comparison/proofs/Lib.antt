@@ -1,7 +1,0 @@
-mod Counted
-mod Entered
-mod Latest
-mod Runs
-mod Seen
-mod Serving
-mod Written

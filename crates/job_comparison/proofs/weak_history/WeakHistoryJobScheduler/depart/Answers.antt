@@ -1,6 +1,0 @@
-use Rattle.std.proofs.Common.{Result, Ok, Err, OnOk}
-use Rattle.job_comparison.proofs.Seen.{departs, on_ok}
-use Rattle.job_comparison.proofs.weak_history.WeakHistoryJobScheduler.depart.Goals as goal
-
-pub returns : goal.returns
-returns c = on_ok c.enter.result (departs c.args.self.now c.enter.new.self c.args.t c.enter.ensures.valid_before c.requires.number) c.enter.ensures.continues

@@ -1,6 +1,0 @@
-use Rattle.std.proofs.Common.{Result, Ok, Err, OnOk}
-use Rattle.job_comparison.proofs.Seen.{passes, on_ok}
-use Rattle.job_comparison.proofs.weak_history.WeakHistoryJobScheduler.pass.Goals as goal
-
-pub returns : goal.returns
-returns c = on_ok c.enter.result (passes c.args.self.now c.enter.new.self c.args.units c.enter.ensures.valid_before) c.enter.ensures.continues

@@ -1,5 +1,0 @@
-use Rattle.line_machine.proofs.LineEnds.{line_end_is}
-use Rattle.line_machine.proofs.feed.line_end.Goals as goal
-
-pub returns : goal.returns
-returns c = line_end_is c.args.bytes.now c.memchr.result c.memchr.ensures

@@ -1,8 +1,0 @@
-use Rattle.std.proofs.Common.{◌≡◌}
-use Rattle.std.specs.Prelude.{filter, not}
-use Rattle.line_machine.specs.Lines.{is_nothing}
-use Rattle.line_machine.specs.Fields.{texts}
-use Rattle.line_machine.proofs.fields.fields.Given as goal
-
-abbrev pub invariant-loop-field : goal.invariant-loop-field
-invariant-loop-field l = texts l.room.items ≡ filter (λ piece. not (is_nothing piece)) (texts l.yielded)

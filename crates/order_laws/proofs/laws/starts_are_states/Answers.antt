@@ -1,9 +1,0 @@
-use Rattle.link_state.proofs.Start.{IsState-start}
-use Rattle.order_laws.proofs.Starts.{nobody_ready}
-use Rattle.order_laws.proofs.laws.starts_are_states.Goals as goal
-
-pub returns-clause-state : goal.returns-clause-state
-returns-clause-state c = IsState-start
-
-pub returns-clause-nobody : goal.returns-clause-nobody
-returns-clause-nobody c = nobody_ready

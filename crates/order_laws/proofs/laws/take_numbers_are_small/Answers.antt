@@ -1,8 +1,0 @@
-use Rattle.order_laws.proofs.OrderNames as orders
-use Rattle.order_laws.proofs.laws.take_numbers_are_small.Goals as goal
-
-pub returns-clause-from_start : goal.returns-clause-from_start
-returns-clause-from_start c = orders.take_numbers_small-from
-
-pub returns-clause-of_set : goal.returns-clause-of_set
-returns-clause-of_set c = orders.take_numbers_small

@@ -1,5 +1,0 @@
-pub mod OrderLaws
-pub mod PartLaws
-pub mod SentLaws
-pub mod Start
-pub mod StintLaw

@@ -1,5 +1,0 @@
-use Rattle.std.proofs.Common.{◌≡◌, take, reverse}
-use Rattle.scheduler_reply.proofs.chain.Chain.reversed.Given as goal
-
-abbrev pub invariant-loop-i : goal.invariant-loop-i
-invariant-loop-i l = l.reversed ≡ take l.i (reverse l.self)

@@ -1,0 +1,5 @@
+use Rattle.strong_apa.proofs.SameTasks as same
+use Rattle.strong_apa.proofs.laws.reply_keeps_tasks.Goals as goal
+
+pub returns : goal.returns
+returns c = same.reply_keeps_tasks

@@ -1,0 +1,5 @@
+use Rattle.strong_apa.proofs.Passed as passed
+use Rattle.strong_apa.proofs.passing_laws.passing_has_justification.Goals as goal
+
+pub returns : goal.returns
+returns c = passed.passing_has_justification

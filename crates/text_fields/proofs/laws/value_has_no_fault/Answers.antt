@@ -1,0 +1,8 @@
+use Rattle.text_fields.specs.Lines.{lines_of}
+use Rattle.text_fields.proofs.TextLaws as lawful
+use Rattle.text_fields.proofs.LineRule.{lines_machine}
+use Rattle.text_fields.proofs.laws.value_has_no_fault.Goals as goal
+
+pub returns : goal.returns
+returns g c =
+    lawful.never_both (lines_machine g.M.LineMachine.LONGEST_LINE g.M.LineMachine.HAS_COMMENTS g.M.LineMachine.kind_of c.requires) lines_of

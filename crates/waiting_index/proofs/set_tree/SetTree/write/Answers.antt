@@ -1,9 +1,0 @@
-use Rattle.std.proofs.Common.{ℕ, ◌+◌, ◌<◌, List, set, length, sym, subst}
-use Rattle.waiting_index.proofs.Trees.{IsHalfWritten, written_begins}
-use Rattle.waiting_index.proofs.set_tree.SetTree.write.Goals as goal
-
-pub loop-k-init : goal.loop-k-init
-loop-k-init c =
-    let s = c.self.inside in
-    subst (λ (row : List ℕ). IsHalfWritten s.width (set s.nodes.items (s.width + c.args.r) c.args.item) (set row c.args.r c.args.item) (s.width + c.args.r)) c.self.view_is
-    (written_begins s.width s.nodes.items c.self.invariant c.args.r c.args.item (subst (λ (row : List ℕ). c.args.r < length row) (sym c.self.view_is) c.requires))

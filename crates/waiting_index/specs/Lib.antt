@@ -1,4 +1,0 @@
-pub mod Reordering
-pub mod SetTree
-pub mod UrgencyOrder
-pub mod WaitingTasks
