@@ -1,5 +1,5 @@
 -- The lines as they are written, piece by piece.
-use Rattle.std.proofs.Common.{◌≡◌, ℕ, List, [], ◌∷◌, ◌++◌, length, codes, Option, append_assoc, refl, sym, ap, ◌∙◌}
+use Rattle.std.proofs.Common.{◌≡◌, ℕ, List, [], ◌∷◌, ◌++◌, length, codes, Option, append_assoc, refl}
 use Rattle.std.specs.List.{flat_map, range_with_len}
 use Rattle.affinity_mask.specs.Number.{canonical_number}
 use Rattle.text_fields.specs.LineText.{line}

@@ -1,11 +1,10 @@
 -- A job that is finished after it is due is late, and one that is finished by then is not.
-use Rattle.std.proofs.Common.{◌≡◌, ℕ, zero, suc, ◌+◌, ◌-◌, ◌<◌, ◌≤◌, Bool, true, false, ◌&&◌, nat_le, nat_lt, Option, Some, None, MatchOption, IfSome, refl, sym, ap, ◌∙◌, inl, inr, arith}
+use Rattle.std.proofs.Common.{◌≡◌, ℕ, zero, suc, ◌+◌, ◌-◌, ◌≤◌, true, false, ◌&&◌, nat_le, nat_lt, Option, Some, None, MatchOption, IfSome, sym, ap, ◌∙◌, inl, inr, arith}
 use Rattle.std.proofs.lemmas.Bool.{cases_lt, cases_Bool}
 use Rattle.std.proofs.lemmas.Bool.Decides.{nat_tests}
-use Rattle.strong_apa.specs.State.{State, is_linked}
+use Rattle.strong_apa.specs.State.{is_linked}
 use Rattle.strong_apa.proofs.Counts.{count_below-more, count_below-same}
 use Rattle.job_release.specs.Moments.{Timeline, service_of, IsFinish, IsUnfinished}
-use Rattle.job_release.specs.WeakJobsText.{is_late_at}
 
 -- the service never falls
 service_more : (states : Timeline) (t x d : ℕ) → service_of states t x ≤ service_of states t (x + d)

@@ -1,11 +1,11 @@
 -- What an event leaves of the weak scheduler, as of any scheduler that jobs are driven with.
-use Rattle.std.proofs.Common.{◌≡◌, ◌≢◌, ℕ, ◌+◌, ◌<◌, ◌≤◌, Bool, true, false, List, [], ◌∷◌, ◌++◌, length, set, get_or, Result, Ok, Err, OnOk, refl, sym, ap, ◌∙◌, subst, arith}
+use Rattle.std.proofs.Common.{◌≡◌, ℕ, ◌+◌, ◌<◌, ◌≤◌, Bool, true, false, List, [], ◌∷◌, ◌++◌, length, set, get_or, Result, Ok, Err, OnOk, refl, ap, ◌∙◌, arith}
 use Rattle.std.proofs.lemmas.List.{get_or-set_same, get_or-set_other}
 use Rattle.task_set.specs.declared.event.Event.{Event}
 use Rattle.task_set.specs.declared.event.Event.TheVariants.{Arrive, Depart, Tick}
-use Rattle.strong_apa.specs.State.{State, IsState, task_count, is_ready}
+use Rattle.strong_apa.specs.State.{State, IsState, task_count}
 use Rattle.weak_apa.specs.Compared.{IsWeakRun}
-use Rattle.weak_apa.specs.Step.{WeakStep, Follows}
+use Rattle.weak_apa.specs.Step.{Follows}
 use Rattle.weak_apa.proofs.Followed.{weak_step_follows}
 use Rattle.weak_apa.proofs.Unique.{weak_step_keeps_state}
 use Rattle.job_release.specs.Moments.{units_of}

@@ -1,15 +1,14 @@
 -- Runs of the weak scheduler, and the states of single moments, as one event more comes.
-use Rattle.std.proofs.Common.{◌≡◌, ℕ, zero, suc, ◌+◌, ◌-◌, ◌<◌, ◌≤◌, Bool, true, false, List, [], ◌∷◌, ◌++◌, length, replicate, nat_lt, All, None, if◌then◌else◌, refl, sym, ap, ◌∙◌, subst, inl, inr, arith}
+use Rattle.std.proofs.Common.{◌≡◌, ℕ, ◌+◌, ◌-◌, ◌<◌, ◌≤◌, true, false, List, [], ◌∷◌, ◌++◌, nat_lt, refl, inl, inr, arith}
 use Rattle.std.proofs.lemmas.Bool.Decides.{nat_tests}
 use Rattle.std.proofs.lemmas.Bool.{cases_Bool}
 use Rattle.std.proofs.lemmas.List.Sums.{sum_by-cons, sum_by_push}
-use Rattle.task_set.specs.TaskSet.{SetData}
 use Rattle.task_set.specs.declared.event.Event.{Event}
-use Rattle.strong_apa.specs.State.{State, IsState, task_count, start_of}
+use Rattle.strong_apa.specs.State.{State}
 use Rattle.weak_apa.specs.Compared.{IsWeakRun}
 use Rattle.weak_apa.specs.Step.{WeakStep}
 use Rattle.job_release.specs.Moments.{units_of}
-use Rattle.job_release.specs.WeakRuns.{IsRunFrom, begun_before, last_state, state_then, elapsed_at}
+use Rattle.job_release.specs.WeakRuns.{last_state, state_then, elapsed_at}
 
 -- ---- the states after the events
 pub last_push : (s : State) (states : List State) (new : State) → last_state s (states ++ new ∷ []) ≡ new

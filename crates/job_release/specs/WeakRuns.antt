@@ -1,6 +1,6 @@
 -- Runs of the weak scheduler at arrivals, departures and ticks, in time. Time passes in ticks alone, which change nothing: the state of
 -- a moment is that after all events that are no later.
-use Rattle.std.specs.Prelude.{◌≡◌, ℕ, ◌-◌, false, List, [], ◌∷◌, All, length, replicate, nat_lt, None, if◌then◌else◌}
+use Rattle.std.specs.Prelude.{◌≡◌, ℕ, ◌-◌, false, List, [], ◌∷◌, All, replicate, nat_lt, None, if◌then◌else◌}
 use Rattle.std.specs.List.{sum_by}
 use Rattle.task_set.specs.declared.event.Event.{Event}
 use Rattle.strong_apa.specs.State.{State, IsState, task_count}

@@ -3,6 +3,7 @@ ghost use Rattle.std.specs.Prelude.{◌≡◌, ◌≢◌, ◌+◌, ℕ, ◌≤�
 ghost use Rattle.job_release.specs.JobInput.{IsJob, IsJobTask, IsJobInput, last_release, total_jobs};
 ghost use Rattle.job_release.specs.JobText.{IsWorded, IsTaskOutcome, IsTaskLineOutcome, IsJobOutcome, IsJobLineOutcome, IsListedOutcome, IsOutcome, IsForTask, BeginsTask, HeaderExpected, ProcessorsExpected, HorizonExpected, Listed, end_line, max_horizon, jobs_of_times};
 ghost use Rattle.job_release.specs.Reading.{progress_of, line_of, job_line_of, IsValid, IsVersion, IsRefusedBy};
+ghost use Rattle.job_release.specs.declared.stage.Stage.TheVariants as stage;
 ghost use Rattle.text_fields.specs.Fields.{texts};
 ghost use Rattle.text_fields.specs.Machine.{Leads};
 
@@ -73,36 +74,19 @@ impl LineMachine for Stage {
 
     fn after(&mut self, alloc: Global, fields: &[&[u8]]) -> Result<(), JobKind> {
         match self {
-            Stage::HeaderExpected => {
-                let version = read_header(fields)?;
-                *self = Stage::ProcessorsExpected { version };
-                Ok(())
-            }
+            Stage::HeaderExpected => self.after_header(fields),
             Stage::ProcessorsExpected { version } => {
-                let processors = read_processors(*version, fields)?;
-                *self = Stage::HorizonExpected {
-                    version: *version,
-                    processors,
-                };
-                Ok(())
+                let version = *version;
+                self.after_processors(version, fields)
             }
             Stage::HorizonExpected {
                 version,
                 processors,
             } => {
-                *self = start(alloc, *version, *processors, fields)?;
-                Ok(())
+                let (version, processors) = (*version, *processors);
+                self.after_horizon(alloc, version, processors, fields)
             }
-            Stage::Listed { input, is_ended } => {
-                if *is_ended {
-                    Err(JobKind::AfterEnd)
-                } else if is_end(fields) {
-                    *is_ended = true;
-                    Ok(())
-                } else {
-                    list_line(alloc, input, fields)
-                }
-            }
+            Stage::Listed { input, is_ended } => after_listed(alloc, input, is_ended, fields),
         }
     }
 
@@ -114,6 +98,95 @@ impl LineMachine for Stage {
             } => Ok(input),
             _ => Err(JobKind::NoEnd),
         }
+    }
+}
+
+impl Stage {
+    /// Goes on to the next stage.
+    fn go_on(&mut self, next: Stage)
+        ensures { self.new ≡ next }
+    {
+        *self = next;
+    }
+
+    /// Goes on by the header.
+    fn after_header(&mut self, fields: &[&[u8]]) -> Result<(), JobKind>
+        ensures read { OnOk result (IsOutcome HeaderExpected (texts fields.now)
+            (Leads (progress_of self.new))) }
+        ensures refused { IfErr result (IsRefusedBy (IsOutcome HeaderExpected (texts fields.now))) }
+    {
+        match read_header(fields) {
+            Ok(version) => {
+                self.go_on(Stage::ProcessorsExpected { version });
+                Ok(())
+            }
+            Err(kind) => Err(kind),
+        }
+    }
+
+    /// Goes on by the number of processors.
+    fn after_processors(&mut self, version: u8, fields: &[&[u8]]) -> Result<(), JobKind>
+        ensures read { OnOk result (IsOutcome (ProcessorsExpected version) (texts fields.now)
+            (Leads (progress_of self.new))) }
+        ensures refused { IfErr result (IsRefusedBy (IsOutcome (ProcessorsExpected version)
+            (texts fields.now))) }
+    {
+        match read_processors(version, fields) {
+            Ok(processors) => {
+                self.go_on(Stage::HorizonExpected {
+                    version,
+                    processors,
+                });
+                Ok(())
+            }
+            Err(kind) => Err(kind),
+        }
+    }
+
+    /// Goes on by the horizon.
+    fn after_horizon(
+        &mut self,
+        alloc: Global,
+        version: u8,
+        processors: u8,
+        fields: &[&[u8]],
+    ) -> Result<(), JobKind>
+        requires version { IsVersion version }
+        requires processors { (1 ≤ processors) × (processors ≤ 64) }
+        ensures read { OnOk result (IsOutcome (HorizonExpected version processors) (texts fields.now)
+            (Leads (progress_of self.new))) }
+        ensures refused { IfErr result (IsRefusedBy (IsOutcome (HorizonExpected version processors)
+            (texts fields.now))) }
+    {
+        match start(alloc, version, processors, fields) {
+            Ok(next) => {
+                self.go_on(next);
+                Ok(())
+            }
+            Err(kind) => Err(kind),
+        }
+    }
+}
+
+/// Goes on by a line where tasks, jobs and the end are expected, or where the end came.
+fn after_listed(
+    alloc: Global,
+    input: &mut JobInput,
+    is_ended: &mut bool,
+    fields: &[&[u8]],
+) -> Result<(), JobKind>
+    ensures read { OnOk result (IsOutcome (progress_of (stage.Listed input.old is_ended.old))
+        (texts fields.now) (Leads (progress_of (stage.Listed input.new is_ended.new)))) }
+    ensures refused { IfErr result (IsRefusedBy
+        (IsOutcome (progress_of (stage.Listed input.old is_ended.old)) (texts fields.now))) }
+{
+    if *is_ended {
+        Err(JobKind::AfterEnd)
+    } else if is_end(fields) {
+        *is_ended = true;
+        Ok(())
+    } else {
+        list_line(alloc, input, fields)
     }
 }
 

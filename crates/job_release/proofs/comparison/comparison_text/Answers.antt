@@ -1,7 +1,7 @@
 use Rattle.std.proofs.Common.{◌≡◌, ℕ, List, length, ap, ◌∙◌}
 use Rattle.job_release.specs.Moves.{moves_of_all}
 use Rattle.job_release.specs.declared.input.Job.{Job}
-use Rattle.job_release.specs.WeakJobsText.{weak_jobs_heading, all_moves}
+use Rattle.job_release.specs.WeakJobsText.{all_moves}
 use Rattle.job_release.proofs.ComparisonWritten.{text_written}
 use Rattle.job_release.proofs.comparison.comparison_text.Goals as goal
 

@@ -1,9 +1,6 @@
-use Rattle.std.proofs.Common.{◌≡◌, ℕ, List, ◌++◌, codes, ap, ◌∙◌, append_assoc}
-use Rattle.affinity_mask.specs.Number.{canonical_number}
 use Rattle.text_fields.specs.EventText.{name_of}
 use Rattle.job_release.specs.Jobs.{job_at}
 use Rattle.job_release.specs.JobInput.{jobs_at}
-use Rattle.job_release.specs.declared.input.Job.{Job}
 use Rattle.job_release.proofs.ComparisonWritten.{head_written}
 use Rattle.job_release.proofs.comparison.write_head.Goals as goal
 

@@ -1,9 +1,8 @@
-use Rattle.std.proofs.Common.{◌≡◌, ℕ, List, Bool, Option, ◌++◌, refl, ap, ◌∙◌}
+use Rattle.std.proofs.Common.{refl}
 use Rattle.text_fields.specs.EventText.{name_of}
-use Rattle.text_fields.specs.LineText.{line}
 use Rattle.job_release.specs.Jobs.{job_at}
 use Rattle.job_release.specs.JobInput.{jobs_at}
-use Rattle.job_release.specs.WeakJobsText.{row_of_job, job_head, outcomes_text, mark_text}
+use Rattle.job_release.specs.WeakJobsText.{row_of_job, job_head}
 use Rattle.job_release.proofs.JobsWritten.{pieces_more}
 use Rattle.job_release.proofs.ComparisonWritten.{row_written}
 use Rattle.job_release.proofs.comparison.write_rows.Goals as goal

@@ -1,4 +1,4 @@
-use Rattle.std.proofs.Common.{◌≡◌, length}
+use Rattle.std.proofs.Common.{length}
 use Rattle.text_fields.specs.EventText.{name_of}
 use Rattle.job_release.specs.JobInput.{jobs_at}
 use Rattle.job_release.specs.WeakJobsText.{figures_text}

@@ -4,7 +4,7 @@ use Rattle.text_fields.proofs.Names.{name_is_text}
 use Rattle.task_set.specs.declared.fault.TaskFault.TheVariants.{BadName}
 use Rattle.job_release.specs.Reading.{line_of}
 use Rattle.job_release.proofs.Inputs.{jobs_of_times_valid}
-use Rattle.job_release.proofs.Listing.{task_refused}
+use Rattle.job_release.proofs.Listing.{task_listed, task_refused, too_many}
 use Rattle.job_release.proofs.stage.list_task.Goals as goal
 
 pub returns-in_default-clause-refused : goal.returns-in_default-clause-refused
@@ -23,3 +23,20 @@ returns-in_err-add_task-in-None-clause-refused c =
     let p = err_from_is_err_and c.from_residual-in_err-add_task-in-None.result c.from_residual-in_err-add_task-in-None.ensures.1 in
     rw (p.1, p.2) (task_refused c.args.input.now (line_of c.args.form.now) c.in-Ok.name.now c.in_ok-mask.mask c.in_err-add_task-in-None.field-0.0 c.in-Ok.ensures.cases.0
     c.in_ok-mask.ensures.read c.in_err-add_task-in-None.ensures.refused)
+
+pub returns-in_err-add_task-in-Some-clause-refused : goal.returns-in_err-add_task-in-Some-clause-refused
+returns-in_err-add_task-in-Some-clause-refused c =
+    let p = err_from_is_err_and c.from_residual-in_err-add_task-in-Some.result c.from_residual-in_err-add_task-in-Some.ensures.1 in
+    rw (p.1, p.2) (task_refused c.args.input.now (line_of c.args.form.now) c.in-Ok.name.now c.in_ok-mask.mask c.in_err-add_task-in-Some.field-0.0 c.in-Ok.ensures.cases.0
+    c.in_ok-mask.ensures.read c.in_err-add_task-in-Some.ensures.refused)
+
+pub returns-in_ok-add_task-in-None-clause-refused : goal.returns-in_ok-add_task-in-None-clause-refused
+returns-in_ok-add_task-in-None-clause-refused c =
+    inr (too_many c.args.input.now (line_of c.args.form.now) c.in-Ok.name.now c.in_ok-mask.mask c.in-Ok.ensures.cases.0
+    c.in_ok-mask.ensures.read c.in_ok-add_task-in-None.ensures.allowed (rw c.in-None.is at c.in_ok-jobs.ensures.found))
+
+pub returns-in_ok-add_task-in-Some-clause-read : goal.returns-in_ok-add_task-in-Some-clause-read
+returns-in_ok-add_task-in-Some-clause-read c =
+    let found = rw c.in-Some.is at c.in_ok-jobs.ensures.found in
+    task_listed c.args.input.now (line_of c.args.form.now) c.in-Ok.name.now c.in_ok-mask.mask c.in-Ok.ensures.cases.0 c.in_ok-mask.ensures.read
+    c.in_ok-add_task-in-Some.ensures.allowed c.in-Some.jobs.items c.add_task.new.self found.0 found.1 c.in_ok-add_task-in-Some.ensures.added

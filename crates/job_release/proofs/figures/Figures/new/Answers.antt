@@ -1,7 +1,6 @@
-use Rattle.std.proofs.Common.{◌≡◌, ◌<◌, ◌≤◌, ℕ, IfSome, length, ap, arith, subst, sym}
+use Rattle.std.proofs.Common.{length, ap, arith}
 use Rattle.std.proofs.lemmas.Bool.Decides.{nat_tests}
 use Rattle.job_release.specs.Jobs.{job_at}
-use Rattle.job_release.specs.JobInput.{jobs_at}
 use Rattle.job_release.specs.declared.input.Job.{Job}
 use Rattle.std.specs.Prelude.{List}
 use Rattle.job_release.proofs.Counted.{figures_none, figures_more, few_finished, few_late, few_jobs}

@@ -1,4 +1,4 @@
-use Rattle.std.proofs.Common.{◌≡◌, ℕ, List, ◌++◌, append_assoc}
+use Rattle.std.proofs.Common.{append_assoc}
 use Rattle.job_release.specs.WeakJobsText.{figures_text}
 use Rattle.job_release.proofs.figures.Figures.write.Goals as goal
 

@@ -1,7 +1,5 @@
-use Rattle.std.proofs.Common.{◌≡◌, ℕ, List, ◌++◌, length, codes, sym, ap, ◌∙◌, append_assoc, arith}
+use Rattle.std.proofs.Common.{◌≡◌, ℕ, List, ◌++◌, length, sym, ap, ◌∙◌, append_assoc, arith}
 use Rattle.std.proofs.lemmas.Bool.Decides.{nat_tests}
-use Rattle.affinity_mask.specs.Number.{canonical_number}
-use Rattle.job_release.specs.WeakJobsText.{responses_text}
 use Rattle.job_release.proofs.Counted.{no_responses, some_responses}
 use Rattle.job_release.proofs.figures.Figures.write_responses.Goals as goal
 

@@ -1,4 +1,4 @@
-use Rattle.std.proofs.Common.{◌≡◌, ℕ, List, Option, sym, ap, ◌∙◌}
+use Rattle.std.proofs.Common.{◌≡◌, ℕ, List, ap, ◌∙◌}
 use Rattle.job_release.specs.Jobs.{goal_of, due_of}
 use Rattle.job_release.specs.JobInput.{jobs_at}
 use Rattle.job_release.specs.declared.input.Job.{Job}

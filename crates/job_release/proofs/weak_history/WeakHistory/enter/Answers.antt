@@ -1,6 +1,5 @@
-use Rattle.std.proofs.Common.{◌≡◌, ℕ, List, [], ◌∷◌, ◌++◌, Result, Ok, Err, OnOk, sym, ap, ◌∙◌, subst}
+use Rattle.std.proofs.Common.{sym}
 use Rattle.std.proofs.lemmas.Grind.{merely}
-use Rattle.job_release.specs.WeakHistory.{WeakHistoryData, Continues}
 use Rattle.job_release.proofs.Entered.{entered, stored_are, continued}
 use Rattle.job_release.proofs.weak_history.WeakHistory.enter.Goals as goal
 

@@ -1,9 +1,6 @@
-use Rattle.std.proofs.Common.{◌≡◌, ℕ, List, [], sym, ap, ◌∙◌, subst}
+use Rattle.std.proofs.Common.{[], sym, ap, ◌∙◌}
 use Rattle.std.proofs.lemmas.Grind.{merely}
-use Rattle.strong_apa.specs.State.{State, IsState, start_of}
-use Rattle.weak_apa.specs.Stable.{IsWeaklyStable}
-use Rattle.task_set.specs.declared.event.Event.{Event}
-use Rattle.job_release.specs.WeakHistory.{WeakHistoryData}
+use Rattle.strong_apa.specs.State.{State}
 use Rattle.job_release.specs.WeakRuns.{begun_before}
 use Rattle.job_release.proofs.Entered.{none_yet, begun_start, stored_are, only_states}
 use Rattle.job_release.proofs.weak_history.WeakHistory.new.Goals as goal

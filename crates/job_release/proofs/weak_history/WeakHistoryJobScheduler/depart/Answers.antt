@@ -1,4 +1,3 @@
-use Rattle.std.proofs.Common.{Result, Ok, Err, OnOk}
 use Rattle.job_release.proofs.Seen.{departs, on_ok}
 use Rattle.job_release.proofs.weak_history.WeakHistoryJobScheduler.depart.Goals as goal
 
