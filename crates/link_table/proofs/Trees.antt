@@ -255,6 +255,12 @@ beside_even h k e = ap (λ n. bit_xor n 1) (sym e) ∙ xor_one-even h
 beside_odd : (h k : ℕ) → h + h + 1 ≡ k → bit_xor k 1 ≡ h + h
 beside_odd h k e = ap (λ n. bit_xor n 1) (sym e) ∙ xor_one-odd h
 
+pub beside_within : (k width : ℕ) → k < width + width → bit_xor k 1 < width + width
+beside_within k width high = elim (halves k) [
+  | inl e ↦ let beside = beside_even (k / 2) k e in omega arith
+  | inr e ↦ let beside = beside_odd (k / 2) k e in omega arith
+]
+
 module _ (width : ℕ) (nodes row : List ℕ) (k sum : ℕ) (half : IsHalfWritten width nodes row k sum) where
   -- the place had that set already, or is above the root
   pub written_whole : (0 < k → sum ≡ get_or nodes k empty) → IsTree width nodes

@@ -56,16 +56,9 @@ impl Places {
           on = replicate processors None;
         }) }
     {
-        let mut of = Vec::new(alloc);
-        for _t in 0..masks.len() {
-            of.push(None)?;
-        }
-        let mut on = Vec::new(alloc);
-        let mut feeders = Vec::new(alloc);
-        for _p in 0..processors {
-            on.push(None)?;
-            feeders.push(ProcSet::empty())?;
-        }
+        let of = vec![in alloc; None; masks.len()]?;
+        let on = vec![in alloc; None; processors as usize]?;
+        let feeders = vec![in alloc; ProcSet::empty(); processors as usize]?;
         Ok(Places {
             masks,
             online: ProcSet::first(processors),
