@@ -1,5 +1,5 @@
 -- The result of an arrival, and who came in at a processor: what their fields say, and their faults.
-use Rattle.std.proofs.Common.{◌≡◌, ◌≢◌, ℕ, ◌<◌, ◌⊎◌, inl, inr, List, [], ◌∷◌, length, Option, Some, None, refl, sym, ap, ◌∙◌, subst, arith}
+use Rattle.std.proofs.Common.{◌≡◌, ◌≢◌, ℕ, ◌<◌, ◌⊎◌, inl, inr, List, [], ◌∷◌, length, Option, Some, None, Result, Ok, Err, IfOk, IfErr, refl, sym, ap, ◌∙◌, subst, arith}
 use Rattle.std.specs.Prelude.{codes}
 use Rattle.task_set.specs.TaskSet.{SetData}
 use Rattle.task_set.specs.Refusal.{IsNameOf}
@@ -10,6 +10,7 @@ use Rattle.text_fields.specs.EventText.{name_of}
 use Rattle.schedule_text.specs.ScheduleText.{chain_text, set_text}
 use Rattle.schedule_text.specs.Schedule.{AreOfProcessors}
 use Rattle.schedule_text.specs.declared.fault.TextKind.{TextKind}
+use Rattle.schedule_text.specs.declared.fault.TextKind.TheVariants.{BadLine}
 use Rattle.schedule_text.specs.Fields.{IsSetField, IsChainField, IsSomebodyField}
 use Rattle.schedule_text.specs.LineFields.{IsSaid, IsNameFault, IsCameFields, IsCameFault, IsGoneFields, IsGoneFault, displaced_fields, gone_words}
 use Rattle.text_fields.proofs.Words.{head_same, tail_same, other_word}
@@ -75,6 +76,23 @@ pub two_none : (word value : List ℕ) → word ≢ codes "placed" → word ≢ 
     → IsSaid (IsCameFields (word ∷ value ∷ [])) → ⊥
 two_none word value no_chain no_set (tasks, arrival, names, f) =
     elim (two_cases word value tasks arrival f) [ inl found ↦ no_chain found.0 | inr found ↦ no_set found.0 ]
+
+-- what is read of a word and a value is read of the fields that they are
+pub two_read : (set : SetData) (fields : List (List ℕ)) (word value : List ℕ) (result : Result Came TextKind)
+    → fields ≡ word ∷ value ∷ []
+    → IfOk result (λ came. (tasks : SetData) → IsCameFields (word ∷ value ∷ []) tasks came)
+    → IfOk result (IsCameFields fields set)
+two_read set fields word value (Ok came) two read =
+    subst (λ (fs : List (List ℕ)). IsCameFields fs set came) (sym two) (read set)
+two_read set fields word value (Err kind) two read = tt
+
+pub two_refused : (set : SetData) (fields : List (List ℕ)) (word value : List ℕ) (result : Result Came TextKind)
+    → fields ≡ word ∷ value ∷ []
+    → IfErr result (λ kind. (kind ≡ BadLine) × (IsSaid (IsCameFields (word ∷ value ∷ [])) → ⊥))
+    → IfErr result (IsCameFault fields set)
+two_refused set fields word value (Ok came) two refused = tt
+two_refused set fields word value (Err kind) two refused =
+    subst (λ (fs : List (List ℕ)). IsCameFault fs set kind) (sym two) (inl refused)
 
 -- ---- a displaced task
 

@@ -1,5 +1,5 @@
 -- The fields of a line, taken one by one, and cut in two.
-use Rattle.std.proofs.Common.{◌≡◌, ℕ, zero, suc, ◌-◌, ◌<◌, ◌≤◌, List, [], ◌∷◌, length, take, drop, get_or, Bor, refl, sym, ap, ◌∙◌, ◌++◌, arith, append_assoc, length-append, ◌≢◌, Bool, false, nat_eq}
+use Rattle.std.proofs.Common.{◌≡◌, ℕ, zero, suc, ◌-◌, ◌<◌, ◌≤◌, List, [], ◌∷◌, length, take, drop, get_or, Bor, refl, sym, ap, ◌∙◌, ◌++◌, arith, append_assoc, length-append, ◌≢◌, Bool, true, false, nat_eq, eqb-true}
 use Rattle.std.specs.Prelude.{codes}
 use Rattle.std.proofs.lemmas.Bool.{true≢false}
 use Rattle.text_fields.specs.Fields.{texts}
@@ -44,6 +44,19 @@ pub more_than_one : (fields : List (Bor (List ℕ))) (none : Bool)
 more_than_one [] none is differs one = omega (arith, one)
 more_than_one (x ∷ []) none is differs one = true≢false (sym is ∙ differs)
 more_than_one (x ∷ y ∷ fields) none is differs one = omega (arith, one)
+
+-- there are none
+pub only_one : (fields : List (Bor (List ℕ))) (d : Bor (List ℕ)) (none : Bool) → 1 ≤ length fields
+    → none ≡ nat_eq (length (take (length fields - 1) (drop 1 fields))) 0 → none ≡ true
+    → texts fields ≡ (get_or fields 0 d).now ∷ []
+only_one fields d none some is all =
+    texts_first_one fields d some
+    ∙ ap (λ (rest : List (List ℕ)). (get_or fields 0 d).now ∷ rest)
+    (no_texts (take (length fields - 1) (drop 1 fields)) (sym is ∙ all))
+  where
+    no_texts : (rest : List (Bor (List ℕ))) → nat_eq (length rest) 0 ≡ true → texts rest ≡ []
+    no_texts [] e = refl
+    no_texts (x ∷ xs) e = absurd (omega (arith, eqb-true (length (x ∷ xs)) 0 e))
 
 -- the first two fields, and the others
 pub texts_rest_two : (fields : List (Bor (List ℕ))) (d : Bor (List ℕ)) → 2 ≤ length fields

@@ -1,18 +1,20 @@
 -- Replies by the fields as the code cuts them.
-use Rattle.std.proofs.Common.{◌≡◌, ◌≢◌, ℕ, ◌-◌, ◌≤◌, List, ◌∷◌, length, take, drop, get_or, None, Bor, Result, Ok, Err, IfOk, IfErr, refl, sym, ap, ◌∙◌, subst}
+use Rattle.std.proofs.Common.{◌≡◌, ◌≢◌, ℕ, ◌-◌, ◌≤◌, List, ◌∷◌, length, take, drop, get_or, None, Bor, Result, Ok, Err, IfOk, IfErr, refl, sym, ap, ◌∙◌, subst, arith, [], ◌<◌, inl, MatchResult}
 use Rattle.std.specs.Prelude.{codes}
 use Rattle.task_set.specs.TaskSet.{SetData}
 use Rattle.strong_apa.specs.declared.reply.Came.{Came}
 use Rattle.strong_apa.specs.declared.reply.Reply.{Reply}
+use Rattle.strong_apa.specs.declared.reply.Gone.{Gone}
 use Rattle.strong_apa.specs.declared.reply.Reply.TheVariants.{Remasked}
 use Rattle.strong_apa.specs.Reply.{reply_of_gone, reply_of_came}
 use Rattle.text_fields.specs.Fields.{texts}
 use Rattle.schedule_text.specs.declared.fault.TextKind.{TextKind}
-use Rattle.schedule_text.specs.LineFields.{IsCameFields, IsCameFault, IsGoneFields, IsGoneFault, IsReplyFields, IsReplyFault}
+use Rattle.schedule_text.specs.declared.fault.TextKind.TheVariants.{BadLine}
+use Rattle.schedule_text.specs.LineFields.{IsSaid, IsCameFields, IsCameFault, IsGoneFields, IsGoneFault, IsReplyFields, IsReplyFault}
 use Rattle.schedule_text.proofs.FieldLists.{texts_rest_two, headed}
 use Rattle.text_fields.proofs.FieldLists.{texts_first_one}
 use Rattle.schedule_text.proofs.Parts.{same_fault}
-use Rattle.schedule_text.proofs.FirstWords.{IsOtherWord}
+use Rattle.schedule_text.proofs.FirstWords.{IsOtherWord, said}
 use Rattle.schedule_text.proofs.Replies.{came_to, came_from, freed_to, freed_from, waiting_to, waiting_from}
 
 -- what is refused
@@ -24,6 +26,21 @@ pub refused_at : (version other : ℕ) (fields others : List (List ℕ)) (set : 
 refused_at version other fields others set result same is refused =
     subst (λ (fs : List (List ℕ)). IsRefused other fs set result) is
     (subst (λ (v : ℕ). IsRefused v fields set result) same refused)
+
+-- what is read of the fields is read of those that they are
+pub read_at : (version : ℕ) (fields others : List (List ℕ)) (set : SetData) (result : Result Reply TextKind)
+    → fields ≡ others → IfOk result (IsReplyFields version fields set) → IfOk result (IsReplyFields version others set)
+read_at version fields others set result is read =
+    subst (λ (fs : List (List ℕ)). IfOk result (IsReplyFields version fs set)) is read
+
+-- no fields are no reply
+no_reply : (version : ℕ) → IsSaid (IsReplyFields version []) → ⊥
+no_reply version (tasks, reply, names, f) = said version [] tasks reply f
+
+pub empty_refused : (version : ℕ) (set : SetData) (fields : List (Bor (List ℕ))) → length fields < 1
+    → IsReplyFault version (texts fields) set BadLine
+empty_refused version set [] few = inl (refl, no_reply version)
+empty_refused version set (x ∷ xs) few = absurd (omega arith)
 
 -- the rest of the fields
 abbrev rest_of : List (Bor (List ℕ)) → List (List ℕ)
@@ -60,6 +77,34 @@ freed_refused version set fields d kind some is refused =
     (same_fault (IsGoneFields (rest_of fields)) (IsReplyFields version (codes "freed" ∷ rest_of fields)) set kind
     (λ tasks gone f. (reply_of_gone gone, freed_to version (rest_of fields) tasks gone f))
     (freed_from version (rest_of fields)) refused)
+
+pub freed_read : (version : ℕ) (set : SetData) (fields : List (Bor (List ℕ))) (d : Bor (List ℕ)) (gone : Gone)
+    → 1 ≤ length fields → (get_or fields 0 d).now ≡ codes "freed"
+    → IsGoneFields (rest_of fields) set gone
+    → IsReplyFields version (texts fields) set (reply_of_gone gone)
+freed_read version set fields d gone some is f =
+    subst (λ (all : List (List ℕ)). IsReplyFields version all set (reply_of_gone gone))
+    (headed fields d (codes "freed") some is) (freed_to version (rest_of fields) set gone f)
+
+-- one word
+abbrev pub IsWordAnswer : ℕ → List ℕ → Result Reply TextKind → Type 0
+IsWordAnswer version word result =
+    MatchResult result (λ reply. (tasks : SetData) → IsReplyFields version (word ∷ []) tasks reply)
+    (λ kind. (kind ≡ BadLine) × (IsSaid (IsReplyFields version (word ∷ [])) → ⊥))
+
+pub word_read_at : (version : ℕ) (set : SetData) (fields : List (List ℕ)) (word : List ℕ)
+    (result : Result Reply TextKind) → fields ≡ word ∷ [] → IsWordAnswer version word result
+    → IfOk result (IsReplyFields version fields set)
+word_read_at version set fields word (Ok reply) one answer =
+    subst (λ (fs : List (List ℕ)). IsReplyFields version fs set reply) (sym one) (answer set)
+word_read_at version set fields word (Err kind) one answer = tt
+
+pub word_refused_at : (version : ℕ) (set : SetData) (fields : List (List ℕ)) (word : List ℕ)
+    (result : Result Reply TextKind) → fields ≡ word ∷ [] → IsWordAnswer version word result
+    → IsRefused version fields set result
+word_refused_at version set fields word (Ok reply) one answer = tt
+word_refused_at version set fields word (Err kind) one answer =
+    subst (λ (fs : List (List ℕ)). IsReplyFault version fs set kind) (sym one) (inl answer)
 
 -- the reply that is what an arrival came to
 pub came_said : (version : ℕ) (set : SetData) (fields : List (Bor (List ℕ))) (result : Result Reply TextKind)
