@@ -7,8 +7,10 @@ use Rattle.task_set.specs.Orders.{IsObeyable, NamesTaskBelow, has_stop, stint_or
 use Rattle.std.specs.Prelude.{All}
 use Rattle.order_queues.specs.Ends.{QueueData, ReceiverData, Receives}
 use Rattle.context_slots.specs.Hands.{HandData}
-use Rattle.processor_seat.specs.Obeying.{orders_under_way, orders_obeyed}
-use Rattle.processor_seat.specs.Stepping.{ProcessorData, IsInStep, IsFinished, stop_if}
+use Rattle.processor_seat.specs.Obeying.{orders_under_way, orders_obeyed, Obeys, IsMissed}
+use Rattle.processor_seat.specs.Stepping.{ProcessorData, IsInStep, IsFinished, IsFetched, StepAnswer, TryAnswer, stop_if}
+use Rattle.processor_seat.specs.declared.answer.Step.{Step}
+use Rattle.processor_seat.specs.declared.answer.Step.TheVariants.{Did, Empty, NotTurn, Stopped}
 use Rattle.processor_seat.specs.ProcessorParts.{AllOn}
 use Rattle.processor_seat.proofs.Orders.{stop_at_end, free_at_stop, stints_read}
 
@@ -53,6 +55,36 @@ at_stop p step with_stop =
     step.received
     ∙ ap (λ (o : Option Order). orders_obeyed p.hand ++ (option_to_list o ++ stop_if (has_stop p.receiver.received))) (step.stopped with_stop)
     ∙ ap (λ (b : Bool). orders_obeyed p.hand ++ stop_if b) with_stop
+
+-- what a try of the order that came last answers, a step that fetched the order answers
+pub tried : (old mid new : ProcessorData) (order : Order) (step : Step) → mid.hand ≡ old.hand → order ≢ Stop
+    → IsFetched old order mid.receiver → new.receiver ≡ mid.receiver → TryAnswer mid order step new → StepAnswer old step new
+tried old mid new order (Did done) same other fetched kept answer = record {
+  order_is = λ is. other (sym answer.0 ∙ is);
+  fetched = subst (λ (o : Order). IsFetched old o new.receiver) (sym answer.0)
+      (subst (λ (r : ReceiverData). IsFetched old order r) (sym kept) fetched);
+  obeyed = subst (λ (o : Order). Obeys o old.hand new.hand) (sym answer.0)
+      (subst (λ (h : HandData). Obeys order h new.hand) same answer.1);
+  pending = answer.2;
+}
+tried old mid new order Empty same other fetched kept answer = absurd answer
+tried old mid new order (NotTurn task found) same other fetched kept answer = record {
+  order = order;
+  fetched = subst (λ (r : ReceiverData). IsFetched old order r) (sym kept) fetched;
+  missed = subst (λ (h : HandData). IsMissed order task found h new.hand) same answer.0;
+  pending = answer.1;
+}
+tried old mid new order Stopped same other fetched kept answer = absurd answer
+
+-- a look that found nothing leaves the processor in step
+pub in_step_none : (p : ProcessorData) (receiver : ReceiverData) → IsInStep p → receiver.received ≡ p.receiver.received
+    → IsInStep (seat p.hand p.pending receiver)
+in_step_none p receiver step same = record {
+  received = same ∙ step.received
+      ∙ ap (λ (l : List Order). orders_obeyed p.hand ++ (option_to_list p.pending ++ stop_if (has_stop l))) (sym same);
+  stopped = λ with_stop. step.stopped (ap has_stop (sym same) ∙ with_stop);
+  pending = step.pending;
+}
 
 -- a processor that has finished holds nothing
 pub finished_free : (p : ProcessorData) → IsObeyable p.receiver.received → IsFinished p → p.hand.holds ≡ None
