@@ -1,11 +1,11 @@
 -- The processors of the full nodes are right by depth while counts change, and their union has those of all full nodes.
-use Rattle.std.proofs.Common.{◌≡◌, ℕ, ◌+◌, ◌<◌, ◌⊎◌, Bool, true, false, ◌||◌, List, length, get_or, replicate, IsTrue, sym, ◌∙◌, inl, inr, arith, subst, below_more}
-use Rattle.std.proofs.lemmas.Bool.{cases_Bool}
+use Rattle.std.proofs.Common.{◌≡◌, ℕ, ◌+◌, ◌<◌, ◌⊎◌, Bool, true, false, ◌||◌, List, length, get_or, set, replicate, IsTrue, sym, ap, ◌∙◌, inl, inr, arith, subst, below_more, length-set, get_or-set_same, get_or-set_other}
+use Rattle.std.proofs.lemmas.Bool.{cases_Bool, cases_eq, true≢false}
 use Rattle.std.proofs.lemmas.List.{length-replicate, get_or-replicate}
-use Rattle.affinity_mask.specs.ProcSet.{has, empty}
+use Rattle.affinity_mask.specs.ProcSet.{has, empty, members}
 use Rattle.affinity_mask.proofs.Meetings.{no_member}
 use Rattle.nested_masks.specs.Laminar.{mask_at}
-use Rattle.nested_masks.specs.HeldCounts.{AreFullByDepth, IsUnionOf, IsFullUnion}
+use Rattle.nested_masks.specs.HeldCounts.{AreFullByDepth, IsWithNode, IsUnionOf, IsFullUnion}
 use Rattle.nested_masks.specs.Views.{AreCountedByDepth}
 use Rattle.nested_masks.proofs.Passing.{place_of}
 
@@ -21,6 +21,61 @@ full-start nodes depths m = record {
       let there = some.1 in
       absurd (omega arith);
 }
+
+-- ---- a node holds another count
+module _ (nodes depths held full : List ℕ) (are : AreCountedByDepth nodes depths held full) (k count X : ℕ) (number : k < length nodes) (changed : IsWithNode (get_or full (get_or depths k 0) empty) (mask_at nodes k) count X) where
+  abbrev depth : ℕ
+  depth = get_or depths k 0
+
+  held_here : get_or (set held k count) k 0 ≡ count
+  held_here = let same = are.held_count in get_or-set_same held k count 0 (omega arith)
+
+  full_here : get_or (set full depth X) depth empty ≡ X
+  full_here = get_or-set_same full depth X empty (are.deep k number)
+
+  -- a full node of the depth has each processor that was there, or it is this one
+  inside_then : (h p : ℕ) → h < length (set full depth X) → IsTrue (has (get_or (set full depth X) h empty) p)
+      → (l : ℕ) × (l < length nodes) × (get_or depths l 0 ≡ h) × (get_or (set held k count) l 0 ≡ length (members (mask_at nodes l))) × IsTrue (has (mask_at nodes l) p)
+  inside_then h p lt member = elim (cases_eq h depth) [
+    | inl same ↦
+        let of_new : IsTrue (has X p) = ap (λ (Y : ℕ). has Y p) (sym (ap (λ (j : ℕ). get_or (set full depth X) j empty) same ∙ full_here)) ∙ member in
+        elim (cases_Bool (has (mask_at nodes k) p)) [
+          | inl own ↦ (k, number, sym same, held_here ∙ (changed.inside p own).0 of_new, own)
+          | inr bare ↦
+              let at = are.by_depth.inside depth p (are.deep k number) (sym (changed.outside p (λ own. true≢false (sym own ∙ bare))) ∙ of_new) in
+              (at.0, at.1, at.2 ∙ sym same, get_or-set_other held k at.0 count 0 (λ e. true≢false (sym at.4 ∙ ap (λ (j : ℕ). has (mask_at nodes j) p) e ∙ bare)) ∙ at.3, at.4)
+        ]
+    | inr other ↦
+        let short = length-set full depth X in
+        let at = are.by_depth.inside h p (omega arith) (ap (λ (Y : ℕ). has Y p) (sym (get_or-set_other full depth h X empty other)) ∙ member) in
+        (at.0, at.1, at.2, get_or-set_other held k at.0 count 0 (λ e. other (sym at.2 ∙ ap (λ (j : ℕ). get_or depths j 0) e)) ∙ at.3, at.4)
+  ]
+
+  -- and each full node has its processors at its depth
+  around_then : (l p : ℕ) → l < length nodes → get_or (set held k count) l 0 ≡ length (members (mask_at nodes l)) → p < 64 → IsTrue (has (mask_at nodes l) p)
+      → IsTrue (has (get_or (set full depth X) (get_or depths l 0) empty) p)
+  around_then l p lt is small member = elim (cases_eq l k) [
+    | inl same ↦ rw same (ap (λ (Y : ℕ). has Y p) full_here
+        ∙ (changed.inside p (ap (λ (j : ℕ). has (mask_at nodes j) p) (sym same) ∙ member)).1
+        (sym held_here ∙ ap (λ (j : ℕ). get_or (set held k count) j 0) (sym same) ∙ is ∙ ap (λ (j : ℕ). length (members (mask_at nodes j))) same))
+    | inr other ↦
+        let before = are.by_depth.around l p lt (sym (get_or-set_other held k l count 0 other) ∙ is) small member in
+        elim (cases_eq (get_or depths l 0) depth) [
+          | inl level ↦ ap (λ (Y : ℕ). has Y p) (ap (λ (j : ℕ). get_or (set full depth X) j empty) level ∙ full_here)
+              ∙ changed.outside p (λ own. are.apart l k p lt number other level member own)
+              ∙ ap (λ (j : ℕ). has (get_or full j empty) p) (sym level) ∙ before
+          | inr apart ↦ ap (λ (Y : ℕ). has Y p) (get_or-set_other full depth (get_or depths l 0) X empty apart) ∙ before
+        ]
+  ]
+
+  pub full-written : AreCountedByDepth nodes depths (set held k count) (set full depth X)
+  full-written = record {
+    held_count = length-set held k count ∙ are.held_count;
+    depths_count = are.depths_count;
+    deep = λ l lt. (let below = are.deep l lt in let short = length-set full depth X in omega arith);
+    apart = are.apart;
+    by_depth = record { inside = inside_then; around = around_then };
+  }
 
 -- ---- the union
 pub union-none : (full : List ℕ) (X : ℕ) → X ≡ empty → IsUnionOf full 0 X
