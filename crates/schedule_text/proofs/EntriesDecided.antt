@@ -26,8 +26,9 @@ use Rattle.schedule_text.proofs.Parts.{IsDecided, parts_decided, same_decided, n
 use Rattle.schedule_text.proofs.Shapes.{tick_none, first_none, no_processor, no_event, tick_read, offline_read, online_read, three_none, mask_of_some, affinity_read, event_length, arrival_read, departure_read, arrival_fault, departure_fault, affinity_fault}
 use Rattle.schedule_text.proofs.Arrivals.{placed_read, waits_read, placed_none, waits_none, two_none, displaced_read, displaced_parts, displaced_fault, six_words, six_none, came_length, gone_read, gone_parts, gone_fault, five_words, five_none, gone_length}
 use Rattle.schedule_text.proofs.Replies.{came_to, came_from, freed_to, freed_from, on_to, on_from, on_none, unmoved_read, off_none, off_other, moved_parts, moved_written, waiting_to, waiting_from, waiting_other, linked_parts, linked_to, linked_other, remasked_none, remasked_other, moved_reply}
+use Rattle.schedule_text.proofs.ReplyFields.{no_fields}
 use Rattle.schedule_text.proofs.FieldLists.{short_gone}
-use Rattle.schedule_text.proofs.FirstWords.{word_replies, reply_named, none_some, some_same, version_decided, word_read, word_told, said}
+use Rattle.schedule_text.proofs.FirstWords.{word_replies, reply_named, none_some, some_same, version_decided, word_read, word_told}
 use Rattle.schedule_text.proofs.Entries.{some_stream, some_event_then, entry_of_parts, entry_parts}
 
 -- ---- names
@@ -343,12 +344,8 @@ module _ (version : ℕ) (set : SetData) (fields : HasFields set) where
             other (subst (IsReplyOfVersion version) (some_same (sym told.0 ∙ is)) told.1))
       ]
 
-  -- a reply has a field
-  no_fields : IsSaid (IsReplyFields version []) → ⊥
-  no_fields (tasks, reply, names, f) = said version [] tasks reply f
-
   reply_decided : (line : List (List ℕ)) → IsReplyDecided line
-  reply_decided [] = no_reply [] no_fields
+  reply_decided [] = no_reply [] (no_fields version)
   reply_decided (word ∷ rest) = elim (bytes_decided word (codes "freed")) [
     | inl is ↦ subst (λ (first : List ℕ). IsReplyDecided (first ∷ rest)) (sym is)
         (same_decided (IsGoneFields rest) (IsReplyFields version (codes "freed" ∷ rest)) set

@@ -33,13 +33,13 @@ pub read_at : (version : ℕ) (fields others : List (List ℕ)) (set : SetData) 
 read_at version fields others set result is read =
     subst (λ (fs : List (List ℕ)). IfOk result (IsReplyFields version fs set)) is read
 
--- no fields are no reply
-no_reply : (version : ℕ) → IsSaid (IsReplyFields version []) → ⊥
-no_reply version (tasks, reply, names, f) = said version [] tasks reply f
+-- a reply has a field
+pub no_fields : (version : ℕ) → IsSaid (IsReplyFields version []) → ⊥
+no_fields version (tasks, reply, names, f) = said version [] tasks reply f
 
 pub empty_refused : (version : ℕ) (set : SetData) (fields : List (Bor (List ℕ))) → length fields < 1
     → IsReplyFault version (texts fields) set BadLine
-empty_refused version set [] few = inl (refl, no_reply version)
+empty_refused version set [] few = inl (refl, no_fields version)
 empty_refused version set (x ∷ xs) few = absurd (omega arith)
 
 -- the rest of the fields
