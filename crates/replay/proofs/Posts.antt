@@ -4,6 +4,7 @@ use Rattle.task_set.specs.declared.event.Event.{Event}
 use Rattle.trace_reader.specs.declared.posted.Posted.{Posted}
 use Rattle.event_history.specs.Boards.{BoardData, PassData, Grown, AreEyesOf, AreFrom}
 use Rattle.event_history.specs.Merging.{AreEventsAt}
+use Rattle.event_history.specs.Posting.{TookTurn, turn_looks}
 use Rattle.event_history.proofs.Merging.{posted_events_stay}
 use Rattle.event_history.proofs.Prefixes.{prefix_trans}
 use Rattle.replay.specs.Merge.{events_of_stream}
@@ -24,6 +25,13 @@ grown_further old mid new first then = record {
   close = λ saw. then.close (first.close saw);
   looks = (first.looks.0 ++ then.looks.0, then.looks.1 ∙ ap (λ (l : List ℕ). l ++ then.looks.0) first.looks.1 ∙ append_assoc old.looks first.looks.0 then.looks.0);
 }
+
+-- a turn that came after what the pass had then gained
+pub turn_further : (old mid new : PassData) (count : ℕ) → Grown old mid → TookTurn mid new count → TookTurn old new count
+turn_further old mid new count grown took = (
+  grown.looks.0 ++ took.0,
+  took.1 ∙ ap (λ (l : List ℕ). turn_looks l count) (ap (λ (l : List ℕ). l ++ took.0) grown.looks.1 ∙ append_assoc old.looks grown.looks.0 took.0),
+)
 
 -- nothing was posted
 pub adds_none : (old new : PassData) (events : List Event) → new ≡ old → events ≡ [] → Adds old events new

@@ -1,6 +1,8 @@
 //! Flushes: orders that are owed go to the queues.
-ghost use Rattle.std.specs.Prelude.{◌≡◌};
+ghost use Rattle.std.specs.Prelude.{◌≡◌, ◌≢◌, ℕ, false, length};
 ghost use Rattle.event_history.specs.Boards.{AreEyesOf, Grown};
+ghost use Rattle.event_history.specs.Flushing.{Flushed};
+ghost use Rattle.event_history.specs.Posting.{SawAll, TookTurn};
 
 use event_history::{Board, Pass};
 use order_queues::Queue;
@@ -14,7 +16,11 @@ pub fn flush<R: Wait>(rt: &R, board: &Board, queues: &[Queue], pass: &mut Pass) 
     requires eyes { AreEyesOf board.now.queues pass.old.eyes }
     ensures grown { Grown pass.old pass.new }
     ensures mine { pass.new.mine ≡ pass.old.mine }
+    ensures seen { SawAll board.now.set pass.old pass.new }
+    ensures turn { TookTurn pass.old pass.new (length pass.new.seen) }
     ensures eyes { AreEyesOf board.now.queues pass.new.eyes }
+    ensures owed { result ≡ false → (owed : ℕ) × (owed ≢ 0)
+        × Flushed board.now.set pass.old pass.new owed }
 {
     let owed = board.flush(rt, pass, queues);
     if owed > 0 {
@@ -30,6 +36,8 @@ pub fn flush_all<R: Wait>(rt: &R, board: &Board, queues: &[Queue], pass: &mut Pa
     requires eyes { AreEyesOf board.now.queues pass.old.eyes }
     ensures grown { Grown pass.old pass.new }
     ensures mine { pass.new.mine ≡ pass.old.mine }
+    ensures seen { SawAll board.now.set pass.old pass.new }
+    ensures turn { TookTurn pass.old pass.new (length pass.new.seen) }
     ensures eyes { AreEyesOf board.now.queues pass.new.eyes }
 {
     for _ in rt.forever() {

@@ -1,5 +1,5 @@
 //! The end of a watched replay: each observer is told of the whole history, and reads once more.
-ghost use Rattle.std.specs.Prelude.{◌≡◌, ◌≤◌, List, All, true, length, IfOk};
+ghost use Rattle.std.specs.Prelude.{◌≡◌, ◌≤◌, ◌↔◌, List, All, IsTrue, length, IfOk};
 ghost use Rattle.strong_apa.specs.declared.reply.Entry.{Entry};
 ghost use Rattle.schedule_board.specs.Boards.{board_of, published};
 ghost use Rattle.replay.specs.Places.{AllFrom};
@@ -81,7 +81,7 @@ pub fn tell_whole<R: Wait, K: Wait + Drop, G>(
 
 /// Whether no observer saw more entries in the end than this.
 pub fn none_beyond(sightings: &[Sighting], count: usize) -> bool
-    ensures { result ≡ true → All (λ (s : Sighting). s.told.count ≤ count) sightings.now }
+    ensures { IsTrue result ↔ All (λ (s : Sighting). s.told.count ≤ count) sightings.now }
 {
     sightings
         .iter()
