@@ -13,6 +13,7 @@ use Rattle.strong_apa.specs.Step.{IsEventFor, SchedulerStep}
 use Rattle.strong_apa.specs.Certified.{HasCertificates}
 use Rattle.strong_apa.specs.Improving.{HasNoImprovingChain}
 use Rattle.strong_apa.specs.CertificateLaws.{LinkedIsBest, LinkedIsLargest, LinkedIsAsUrgent}
+use Rattle.strong_apa.specs.declared.reply.Reply.TheVariants.{Ticked}
 use Rattle.live_core.specs.Live.{LiveData}
 use Rattle.live_core.specs.Moves.{Replays}
 use Rattle.live_core.specs.Optimal.{IsOptimal}
@@ -96,7 +97,7 @@ Added old priority mask result new = AddedAt old.stage old priority mask result 
 abbrev pub StartedAt : Stage → Apa → ℕ → Apa → Type 0
 StartedAt Empty old result new = IsNotNow old result new
 StartedAt (Running live) old result new = IsNotNow old result new
-StartedAt (Draft set) old result new = IsShort old result new ⊎ ((result ≡ 0) × ((live : LiveData) × (new.stage ≡ Running live) × (live.links ≡ start_of set) × (live.moves ≡ []) × (live.in_use ≡ replicate (length set.tasks) true)))
+StartedAt (Draft set) old result new = IsShort old result new ⊎ ((result ≡ 0) × ((live : LiveData) × (new.stage ≡ Running live) × (live.links ≡ start_of set) × (live.last ≡ Ticked) × (live.moves ≡ []) × (live.in_use ≡ replicate (length set.tasks) true)))
 
 -- every task is absent then, and its slot is in use
 abbrev pub Started : Apa → ℕ → Apa → Type 0
