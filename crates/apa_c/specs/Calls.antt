@@ -8,7 +8,7 @@ use Rattle.task_set.specs.Name.{IsName}
 use Rattle.task_set.specs.Refusal.{AddsTask, IsPriorityOf, IsNameOf, new_task}
 use Rattle.task_set.specs.declared.event.Event.{Event}
 use Rattle.task_set.specs.declared.event.Event.TheVariants.{Arrive, Depart, Tick, Affinity, Offline, Online}
-use Rattle.strong_apa.specs.State.{start_of, task_on, mask_of, is_ready, is_linked}
+use Rattle.strong_apa.specs.State.{IsState, start_of, task_on, mask_of, is_ready, is_linked}
 use Rattle.strong_apa.specs.Step.{IsEventFor, SchedulerStep}
 use Rattle.strong_apa.specs.Certified.{HasCertificates}
 use Rattle.strong_apa.specs.Improving.{HasNoImprovingChain}
@@ -16,6 +16,7 @@ use Rattle.strong_apa.specs.CertificateLaws.{LinkedIsBest, LinkedIsLargest, Link
 use Rattle.strong_apa.specs.declared.reply.Reply.TheVariants.{Ticked}
 use Rattle.live_core.specs.Live.{LiveData}
 use Rattle.live_core.specs.Moves.{Replays}
+use Rattle.live_core.specs.Needed.{AreNeeded}
 use Rattle.live_core.specs.Optimal.{IsOptimal}
 use Rattle.live_core.specs.Slots.{is_in_use, IsEventInUse, AreAllInUse, IsInUseWith, Admits, GetsPriority, data_with_free}
 use Rattle.live_core.specs.declared.moves.Move.{Move}
@@ -135,11 +136,13 @@ pub record Steps (old : LiveData) (kind number mask result : ℕ) (new : LiveDat
   pub step : SchedulerStep old.links event new.last new.links
   pub moves : Replays old.links.on new.moves new.links.on
   pub few : length new.moves ≤ 130
+  pub needed : AreNeeded event new.last old.links.on new.links.on new.moves
   pub certified : HasCertificates new.links
   pub unimprovable : HasNoImprovingChain new.links
   pub best : LinkedIsBest new.links
   pub largest : LinkedIsLargest new.links
   pub rank_by_rank : LinkedIsAsUrgent new.links
+  pub valid : IsState new.links
   pub slots : new.in_use ≡ old.in_use
 
 abbrev pub AppliedAt : Stage → Apa → ℕ → ℕ → ℕ → ℕ → Apa → Type 0

@@ -1,14 +1,16 @@
 -- A driver from step to step.
-use Rattle.std.proofs.Common.{◌≡◌, ◌≢◌, ℕ, ◌+◌, ◌*◌, ◌<◌, ◌≤◌, Bool, true, false, List, length, get_or, set, Some, refl, sym, ap, ◌∙◌, subst, inl, inr, arith}
+use Rattle.std.proofs.Common.{◌≡◌, ◌≢◌, ℕ, ◌+◌, ◌-◌, ◌*◌, ◌<◌, ◌≤◌, Bool, true, false, List, length, get_or, set, Some, refl, sym, ap, ◌∙◌, subst, inl, inr, arith}
 use Rattle.std.proofs.Math.Seq.{map-set_same}
-use Rattle.std.proofs.lemmas.Bool.{cases_lt, cases_eq, true≢false}
+use Rattle.std.proofs.lemmas.Bool.{cases_Bool, cases_lt, cases_eq, true≢false}
 use Rattle.std.proofs.lemmas.Option.{get_or_from_slice_get, slice_get-get_or}
 use Rattle.std.proofs.lemmas.List.{length-map, length-set, get_or-set_same, get_or-set_other}
 use Rattle.std.proofs.lemmas.List.Sums.{sum_by-set}
 use Rattle.strong_apa.specs.State.{IsState, task_count, is_ready}
-use Rattle.job_release.specs.Driving.{DriverData, IsDriving, IsRow, IsRowAt, Mark, grown, settled, supplied, row_at, work_of, done_of, HasCost, HasWork, Finishes, Releases}
+use Rattle.job_release.specs.EventOrder.{IsInTurn, AreInOrder, turn_after, turn_after_all, event_of}
+use Rattle.job_release.specs.Driving.{turn_of, DriverData, IsDriving, IsRow, IsRowAt, Mark, grown, settled, supplied, row_at, work_of, done_of, HasCost, HasWork, Finishes, Releases}
 use Rattle.job_release.specs.Scheduler.{SchedulerData, Readies}
 use Rattle.job_release.specs.declared.row.JobRow.{JobRow}
+use Rattle.job_release.proofs.EventOrders.{order_push, turn_push}
 use Rattle.job_release.proofs.RowSteps.{Agree, row_kept}
 use Rattle.job_release.proofs.RowChanges.{row_not_settled, row_settled, row_supplied}
 use Rattle.job_release.proofs.WorkSums.{sum_within, total_of_rows, work_most, work_settled, work_supplied, work_more_supplied}
@@ -40,6 +42,8 @@ module _ (from now : DriverData) (n : ℕ) (moved left : Mark) (driving : IsDriv
     pub tasks : task_count after.now ≡ task_count now.scheduler.now
     pub agree : Agree now.scheduler.states after.states now.moment
     pub others : (u : ℕ) → u ≢ n → is_ready after.now u ≡ is_ready now.scheduler.now u
+    pub in_order : AreInOrder (length now.rows) 0 after.events
+    pub turn : turn_after_all (length now.rows) 0 after.events ≤ turn_of moved left (length now.rows) (n + 1)
 
   pub no_event : Leaves now.scheduler
   no_event = record {
@@ -49,16 +53,22 @@ module _ (from now : DriverData) (n : ℕ) (moved left : Mark) (driving : IsDriv
     tasks = refl;
     agree = λ x below. refl;
     others = λ u differs. refl;
+    in_order = driving.in_order;
+    turn = (let turn = driving.turn in omega arith);
   }
 
-  pub one_event : (flag : Bool) (after : SchedulerData) → Readies n flag now.scheduler after → Leaves after
-  one_event flag after readies = record {
+  pub one_event : (flag : Bool) (after : SchedulerData) → Readies n flag now.scheduler after
+      → IsInTurn (length now.rows) (turn_after_all (length now.rows) 0 now.scheduler.events) (event_of n flag)
+      → turn_after (length now.rows) (turn_after_all (length now.rows) 0 now.scheduler.events) (event_of n flag) ≤ turn_of moved left (length now.rows) (n + 1) → Leaves after
+  one_event flag after readies in_turn next = record {
     begins = readies.keeps.start ∙ driving.begins;
     state = readies.keeps.state;
     at_moment = readies.elapsed ∙ driving.at_moment;
     tasks = readies.keeps.tasks;
     agree = λ x below. let at = driving.at_moment in readies.keeps.past x (omega arith);
     others = readies.others;
+    in_order = rw readies.given (order_push (length now.rows) 0 now.scheduler.events (event_of n flag) driving.in_order in_turn);
+    turn = rw (readies.given, turn_push) next;
   }
 
   module _ (after : SchedulerData) (leaves : Leaves after) (row : JobRow) (within : n < length now.rows) where
@@ -98,13 +108,22 @@ module _ (from now : DriverData) (n : ℕ) (moved left : Mark) (driving : IsDriv
               subst P (sym (get_or-set_other now.rows n t row d other))
               (row_kept now.scheduler.states after.states now.moment leaves.agree t now.horizon (is_ready now.scheduler.now t) (is_ready after.now t) left (row_at now.rows t d) (leaves.others t other)
               (driving.rows_left t d (omega arith) fits_then));
+          in_order = rw (length-set now.rows n row) leaves.in_order;
+          turn = rw (length-set now.rows n row) leaves.turn;
           room = (let room = driving.room in omega (arith, exchanged, gained));
           room_before = λ before. let room = driving.room_before before in omega (arith, exchanged, gained);
         }
 
 -- ---- all rows are done
-pub all_moved : (from now : DriverData) (n : ℕ) (moved left : Mark) → n ≡ length from.rows → IsDriving from now n moved left → IsDriving from now (length now.rows) moved moved
-all_moved from now n moved left all driving =
+-- a round is over
+rounds : (less more count : ℕ) → less ≤ more → less * count + (more - less) * count ≡ more * count
+rounds less more count le =
+    let e : less + (more - less) ≡ more = omega arith in
+    let sum : less * count + (more - less) * count ≡ (less + (more - less)) * count = omega arith in
+    sum ∙ ap (λ (k : ℕ). k * count) e
+
+pub all_moved : (from now : DriverData) (n : ℕ) (moved left : Mark) → n ≡ length from.rows → left.phase ≤ moved.phase → IsDriving from now n moved left → IsDriving from now (length now.rows) moved moved
+all_moved from now n moved left all phases driving =
     let count : length now.rows ≡ length from.rows =
     sym (length-map now.rows (λ (row : JobRow). row.jobs.items)) ∙ ap length driving.same_jobs ∙ length-map from.rows (λ (row : JobRow). row.jobs.items) in
     record {
@@ -119,6 +138,11 @@ all_moved from now n moved left all driving =
       few = driving.few;
       rows_moved = λ t d below fits. driving.rows_moved t d (omega arith) fits;
       rows_left = λ t d from fits. absurd (omega arith);
+      in_order = driving.in_order;
+      turn =
+          let round = rounds left.phase moved.phase (length now.rows) phases in
+          let turn = rw (let e : n ≡ length now.rows = omega arith in e) at driving.turn in
+          omega (arith, round, turn);
       room = driving.room;
       room_before = driving.room_before;
     }
@@ -155,6 +179,9 @@ module _ (from now : DriverData) (n : ℕ) (within : n < length now.rows) (read 
         (no_event from now n (settled now.moment) (grown now.moment) driving) read within (same_items read refl)
         (row_not_settled now.scheduler.states now.horizon (is_ready now.scheduler.now n) now.moment n read own none) (gains _ _ read (omega arith))
 
+    pub is_ready_then : HasCost read → is_ready now.scheduler.now n ≡ true
+    is_ready_then has = own.ready.1 has.0
+
     module _ (has : HasCost read) (row : JobRow) (ends : Finishes now.moment read row) where
       pub one_settled : HasWork row → IsDriving from (then_of now.scheduler row) (n + 1) (settled now.moment) (grown now.moment)
       one_settled work =
@@ -165,7 +192,8 @@ module _ (from now : DriverData) (n : ℕ) (within : n < length now.rows) (read 
 
       pub last_settled : (HasWork row → ⊥) → (after : SchedulerData) → Readies n false now.scheduler after → IsDriving from (then_of after row) (n + 1) (settled now.moment) (grown now.moment)
       last_settled none after departs =
-          let leaves = one_event from now n (settled now.moment) (grown now.moment) driving false after departs in
+          let turn = driving.turn in
+          let leaves = one_event from now n (settled now.moment) (grown now.moment) driving false after departs (omega arith, within) (omega arith) in
           let room = departs.keeps.room in
           let kept = row_kept now.scheduler.states after.states now.moment leaves.agree n now.horizon (is_ready now.scheduler.now n) (is_ready now.scheduler.now n) (grown now.moment) read refl own in
           one_row_moved from now n (settled now.moment) (grown now.moment) driving after leaves row within (same_items row ends.jobs)
@@ -174,6 +202,15 @@ module _ (from now : DriverData) (n : ℕ) (within : n < length now.rows) (read 
           (gains _ _ row (let more = work_settled now.moment read row ends in omega arith))
 
   -- ---- jobs are released
+  pub is_absent_then : IsDriving from now n (supplied now.moment) (settled now.moment) → (HasWork read → ⊥) → is_ready now.scheduler.now n ≡ false
+  is_absent_then driving none =
+      let P : JobRow → Type 0 = λ r. IsRowAt now.scheduler.states now.horizon (is_ready now.scheduler.now n) now.moment (settled now.moment) n r in
+      let at = subst P (is read) (driving.rows_left n read (omega arith) within) in
+      elim (cases_Bool (is_ready now.scheduler.now n)) [
+        | inl h ↦ absurd (none (at.ready.0 h))
+        | inr h ↦ h
+      ]
+
   module _ (driving : IsDriving from now n (supplied now.moment) (settled now.moment)) (row : JobRow) (begins : Releases now.moment read row) where
     own_then : IsRowAt now.scheduler.states now.horizon (is_ready now.scheduler.now n) now.moment (settled now.moment) n read
     own_then =
@@ -214,7 +251,8 @@ module _ (from now : DriverData) (n : ℕ) (within : n < length now.rows) (read 
 
     pub one_arrives : (HasWork read → ⊥) → HasWork row → (after : SchedulerData) → Readies n true now.scheduler after → IsDriving from (then_of after row) (n + 1) (supplied now.moment) (settled now.moment)
     one_arrives none work after arrives =
-        let leaves = one_event from now n (supplied now.moment) (settled now.moment) driving true after arrives in
+        let turn = driving.turn in
+        let leaves = one_event from now n (supplied now.moment) (settled now.moment) driving true after arrives (omega arith) (omega arith) in
         let room = arrives.keeps.room in
         let few = own_then.sizes.few in
         let idle : done_of read ≡ read.released = elim (cases_lt (done_of read) read.released) [ inl is_work ↦ absurd (none is_work) | inr no_work ↦ omega arith ] in

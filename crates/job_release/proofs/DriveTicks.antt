@@ -1,5 +1,6 @@
 -- Time passes: it leads from a moment to the next one at which something is to be done.
 use Rattle.std.proofs.Common.{◌≡◌, ℕ, suc, ◌+◌, ◌*◌, ◌-◌, ◌^◌, ◌<◌, ◌≤◌, true, List, [], ◌∷◌, length, get_or, All, refl, sym, ap, ◌∙◌, subst, inl, inr, arith}
+use Rattle.task_set.specs.declared.event.Event.TheVariants.{Tick}
 use Rattle.strong_apa.specs.State.{State, IsState, is_ready, is_linked}
 use Rattle.strong_apa.proofs.Linked.{task_on-linked, place_in}
 use Rattle.job_release.specs.Jobs.{goal_of}
@@ -8,6 +9,7 @@ use Rattle.job_release.specs.Driving.{DriverData, IsDriving, IsRowAt, grown, sup
 use Rattle.job_release.specs.Moves.{place_of}
 use Rattle.job_release.specs.Scheduler.{SchedulerData, Passes}
 use Rattle.job_release.specs.declared.row.JobRow.{JobRow}
+use Rattle.job_release.proofs.EventOrders.{order_push, turn_push}
 use Rattle.job_release.proofs.Moments.{service_within}
 use Rattle.job_release.proofs.Moves.{moves_within}
 use Rattle.job_release.proofs.RowSteps.{Agree, row_kept, row_ran}
@@ -117,6 +119,8 @@ module _ (from now : DriverData) (driving : IsDriving from now (length now.rows)
           few = rw listed driving.few;
           rows_moved = λ t d below fits. new_row t d (let count = runs.count in omega arith);
           rows_left = λ t d since fits. absurd (omega arith);
+          in_order = rw (runs.count, passes.given) (order_push (length now.rows) 0 now.scheduler.events (Tick (next - now.moment)) driving.in_order (omega arith));
+          turn = rw (runs.count, passes.given) (let pushed = turn_push (length now.rows) 0 now.scheduler.events (Tick (next - now.moment)) in omega arith);
           room = omega (arith, so_far, each, room);
           room_before = λ before.
               let due = is_next.due before in

@@ -13,8 +13,8 @@ use Rattle.weak_apa.specs.Step.{WeakStep, Follows}
 use Rattle.job_release.specs.Driven.{IsJobEvent}
 use Rattle.job_release.specs.WeakHistory.{WeakHistoryData, Continues}
 use Rattle.job_release.specs.OneRun.{StatesOf-prop}
-use Rattle.job_release.specs.WeakRuns.{IsRunFrom, AreStatesOf, StatesOf, begun_before, last_state}
-use Rattle.job_release.proofs.WeakHistories.{last_push, run_push}
+use Rattle.job_release.specs.WeakRuns.{IsNeededIn, IsRunFrom, AreStatesOf, StatesOf, begun_before, last_state}
+use Rattle.job_release.proofs.WeakHistories.{last_push, run_push, needed_push}
 
 -- ---- the list that is stored is the only one
 pub only_states : (now : State) (events : List Event) (stored : StatesOf now events) (states : List State) → AreStatesOf now events states → states ≡ stored.0
@@ -34,6 +34,7 @@ none_yet set now events is none ok stable =
         begins = subst IsState (sym begun) ok;
         run = tt;
         each_event = All-nil IsJobEvent;
+        needed = tt;
         stable_first = subst IsWeaklyStable (sym begun) stable;
         stable = All-nil IsWeaklyStable;
       }),
@@ -56,23 +57,24 @@ pub record Entered (taken : Type 0 → Type 0) (old new : State) (events : List 
   pub begun : taken (begun_before new ≡ begun_before old)
   pub grown : taken (states ≡ before ++ new ∷ [])
 
-pub entered : {E : Type 0} (result : Result (Unit {0}) E) (event : Event) (old new : State) (events more : List Event) (before : List State) → AreStatesOf old events before → IsJobEvent event
+pub entered : {E : Type 0} (result : Result (Unit {0}) E) (event : Event) (old new : State) (events more : List Event) (before : List State) → AreStatesOf old events before → IsJobEvent event → IsNeededIn old event
     → OnOk result (WeakStep old event new) → OnOk result (Follows old event new) → OnOk result (IsWeaklyStable new) → OnOk result (more ≡ events ++ event ∷ [])
     → OnErr result (new ≡ old) → OnErr result (more ≡ events) → Entered (OnOk result) old new more before
-entered (Ok x) event old new events more before are of_jobs step follows stable listed same same_events =
+entered (Ok x) event old new events more before are of_jobs needed step follows stable listed same same_events =
     let begun = begun_kept old event new of_jobs follows in
     let step' : WeakStep (last_state (begun_before old) before) event new = subst (λ (s : State). WeakStep s event new) are.1 step in
     let run : IsRunFrom (begun_before old) (events ++ event ∷ []) (before ++ new ∷ []) = record {
       begins = are.0.begins;
       run = run_push (begun_before old) events before event new are.0.run step';
       each_event = All-push IsJobEvent events event are.0.each_event of_jobs;
+      needed = needed_push (begun_before old) events before event new are.0.needed are.0.run (subst (λ (s : State). IsNeededIn s event) are.1 needed);
       stable_first = are.0.stable_first;
       stable = All-push IsWeaklyStable before new are.0.stable stable;
     } in
     let all : IsRunFrom (begun_before new) more (before ++ new ∷ []) =
     subst (λ (s : State). IsRunFrom s more (before ++ new ∷ [])) (sym begun) (subst (λ (list : List Event). IsRunFrom (begun_before old) list (before ++ new ∷ [])) (sym listed) run) in
     record { states = before ++ new ∷ []; are = (all, sym (last_push (begun_before new) before new)); begun = begun; grown = refl }
-entered (Err e) event old new events more before are of_jobs step follows stable listed same same_events =
+entered (Err e) event old new events more before are of_jobs needed step follows stable listed same same_events =
     record {
       states = before;
       are = subst (λ (s : State). AreStatesOf s more before) (sym same) (subst (λ (list : List Event). AreStatesOf old list before) (sym same_events) are);

@@ -102,6 +102,8 @@ driving_fresh input scheduler rows valid state new fresh =
       few = rw jobs valid.few;
       rows_moved = λ t d below within. at t d within;
       rows_left = λ t d from within. absurd (omega arith);
+      in_order = rw new.events tt;
+      turn = rw new.events (omega arith);
       room = omega arith;
       room_before = λ before. omega arith;
     }

@@ -5,6 +5,7 @@ pub mod Demands
 mod DriveSteps
 mod DriveTicks
 mod Entered
+mod EventOrders
 mod FieldLists
 pub mod Finishes
 mod Fresh

@@ -1,5 +1,5 @@
 -- What an event leaves of the weak scheduler, as of any scheduler that jobs are driven with.
-use Rattle.std.proofs.Common.{◌≡◌, ℕ, ◌+◌, ◌<◌, ◌≤◌, Bool, true, false, List, [], ◌∷◌, ◌++◌, length, set, get_or, Result, Ok, Err, OnOk, refl, ap, ◌∙◌, arith}
+use Rattle.std.proofs.Common.{◌≡◌, ℕ, ◌+◌, ◌<◌, ◌≤◌, Bool, true, false, List, [], ◌∷◌, ◌++◌, length, set, get_or, Result, Ok, Err, OnOk, refl, ap, subst, ◌∙◌, arith}
 use Rattle.std.proofs.lemmas.List.{get_or-set_same, get_or-set_other}
 use Rattle.task_set.specs.declared.event.Event.{Event}
 use Rattle.task_set.specs.declared.event.Event.TheVariants.{Arrive, Depart, Tick}
@@ -8,6 +8,7 @@ use Rattle.weak_apa.specs.Compared.{IsWeakRun}
 use Rattle.weak_apa.specs.Step.{Follows}
 use Rattle.weak_apa.proofs.Followed.{weak_step_follows}
 use Rattle.weak_apa.proofs.Unique.{weak_step_keeps_state}
+use Rattle.job_release.specs.EventOrder.{event_of}
 use Rattle.job_release.specs.Moments.{units_of}
 use Rattle.job_release.specs.Scheduler.{Keeps, Readies, Passes}
 use Rattle.job_release.specs.WeakHistory.{WeakHistoryData, IsWeakHistory, Continues, state_now, weak_seen}
@@ -62,11 +63,12 @@ module _ (old new : WeakHistoryData) (t : ℕ) (valid : IsWeakHistory old) (numb
   within : t < length (state_now old).ready
   within = let count = (now_is_state old valid).ready_count in omega arith
 
-  readies : (event : Event) (flag : Bool) → Continues old event new → units_of event ≡ 0 → task_count (state_now new) ≡ task_count (state_now old)
+  readies : (event : Event) (flag : Bool) → event ≡ event_of t flag → Continues old event new → units_of event ≡ 0 → task_count (state_now new) ≡ task_count (state_now old)
       → (state_now new).ready ≡ set (state_now old).ready t flag → Readies t flag (weak_seen old) (weak_seen new)
-  readies event flag continues none tasks ready = record {
+  readies event flag is continues none tasks ready = record {
     keeps = keeps old new event valid continues tasks;
     elapsed = elapsed_more old new event valid continues ∙ (let same : elapsed_at old.events + units_of event ≡ elapsed_at old.events = omega (arith, none) in same);
+    given = subst (λ (e : Event). new.events ≡ old.events ++ e ∷ []) is continues.events;
     own = ap (λ (list : List Bool). get_or list t false) ready ∙ get_or-set_same (state_now old).ready t flag false within;
     others = λ u other. ap (λ (list : List Bool). get_or list u false) ready ∙ get_or-set_other (state_now old).ready t u flag false other;
   }
@@ -74,18 +76,19 @@ module _ (old new : WeakHistoryData) (t : ℕ) (valid : IsWeakHistory old) (numb
   pub arrives : Continues old (Arrive t) new → Readies t true (weak_seen old) (weak_seen new)
   arrives continues =
       let kept = follows old new (Arrive t) valid continues in
-      readies (Arrive t) true continues refl (ap (λ (s : State). task_count s) kept) (ap (λ (s : State). s.ready) kept)
+      readies (Arrive t) true refl continues refl (ap (λ (s : State). task_count s) kept) (ap (λ (s : State). s.ready) kept)
 
   pub departs : Continues old (Depart t) new → Readies t false (weak_seen old) (weak_seen new)
   departs continues =
       let kept = follows old new (Depart t) valid continues in
-      readies (Depart t) false continues refl (ap (λ (s : State). task_count s) kept) (ap (λ (s : State). s.ready) kept)
+      readies (Depart t) false refl continues refl (ap (λ (s : State). task_count s) kept) (ap (λ (s : State). s.ready) kept)
 
 -- ---- time passes
 pub passes : (old new : WeakHistoryData) (units : ℕ) → IsWeakHistory old → Continues old (Tick units) new → Passes units (weak_seen old) (weak_seen new)
 passes old new units valid continues = record {
   keeps = keeps old new (Tick units) valid continues (ap (λ (s : State). task_count s) continues.step);
   elapsed = elapsed_more old new (Tick units) valid continues;
+  given = continues.events;
   same = continues.step;
   passed = passed old new (Tick units) valid continues;
 }

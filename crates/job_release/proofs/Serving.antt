@@ -15,7 +15,7 @@ use Rattle.task_set.specs.TaskSet.{SetData}
 use Rattle.job_release.specs.Scheduler.{IsNewFor}
 use Rattle.job_release.specs.WeakHistory.{begun_with, WeakHistoryData, IsWeakHistory, weak_seen}
 use Rattle.job_release.specs.WeakJobsText.{weak_jobs_text}
-use Rattle.job_release.specs.WeakRuns.{state_then}
+use Rattle.job_release.specs.WeakRuns.{state_then, AreNeededFrom}
 use Rattle.job_release.specs.WeakServes.{WeakServes, IsWeakJobsTextOf, weak_timeline}
 
 -- ---- the weak one
@@ -34,9 +34,11 @@ weak_serves input driven is valid =
     record {
       run = subst (λ (s : State). IsWeakRun s history.events history.states) is.start valid.run;
       each_event = valid.each_event;
+      needed = subst (λ (s : State). AreNeededFrom s history.events history.states) is.start valid.needed;
       whole = is.whole;
       stable = λ x below. then_stable (start_of input.set) history.events history.states x (subst IsWeaklyStable is.start valid.stable_first) valid.stable;
       served = subst (λ (s : State). ServesJobs input (state_then s history.events history.states)) is.start is.served;
+      order = is.order;
     }
 
 -- ---- the strong one
@@ -47,6 +49,7 @@ strong_driven input run is = record {
   start = is.of_input.start;
   whole = is.runs.whole;
   served = subst (λ (s : State). ServesJobs input (state_at s run.core.history)) (sym is.of_input.start) is.runs.served;
+  order = is.runs.order;
 }
 
 -- ---- both
@@ -64,4 +67,4 @@ text_of_both input weak strong text weak_is valid strong_is runs is = record {
 }
 
 pub new_weak : (set : SetData) (scheduler : WeakHistoryData) → scheduler ≡ begun_with set → IsNewFor set (weak_seen scheduler)
-new_weak set scheduler is = rw is (record { start = refl; now = refl; elapsed = refl; room = omega arith })
+new_weak set scheduler is = rw is (record { start = refl; now = refl; elapsed = refl; events = refl; room = omega arith })

@@ -29,5 +29,6 @@ run_of_driven input driven valid core opened served =
             let best = legal_is_best set valid history legal prefix.0 prefix.1 in
             subst RunsTheBest (sym prefix.2) best;
         served = (let P : State → Type 0 = λ s. ServesJobs input (state_at s history) in subst P served.start served.served);
+        order = served.order;
       };
     }

@@ -1,5 +1,6 @@
 -- What an event leaves of the strong scheduler.
-use Rattle.std.proofs.Common.{◌≡◌, ℕ, ◌+◌, true, false, List, [], ◌∷◌, ◌++◌, length, All, refl, sym, ap, ◌∙◌, subst, arith, length-append}
+use Rattle.std.proofs.Common.{◌≡◌, ℕ, ◌+◌, true, false, List, [], ◌∷◌, ◌++◌, length, map, All, refl, sym, ap, ◌∙◌, subst, arith, length-append}
+use Rattle.std.proofs.lemmas.List.{map-append}
 use Rattle.std.proofs.lemmas.List.Elements.{All-push}
 use Rattle.task_set.specs.declared.event.Event.{Event}
 use Rattle.task_set.specs.declared.event.Event.TheVariants.{Arrive, Depart, Tick}
@@ -41,6 +42,9 @@ module _ (old new : CoreData) (before : IsCore old) (valid : IsCore new) where
           tasks = same_count old.links new.links (same_tasks-step old.links event applied.reply new.links applied.step);
         }
 
+    given : map (λ (e : Entry). e.event) new.history ≡ map (λ (e : Entry). e.event) old.history ++ event ∷ []
+    given = ap (map (λ (e : Entry). e.event)) applied.history ∙ map-append (λ (e : Entry). e.event) old.history (entry ∷ [])
+
     time : elapsed new.history ≡ elapsed old.history + units_of event
     time = ap elapsed applied.history ∙ elapsed_push old.history entry
 
@@ -48,6 +52,7 @@ module _ (old new : CoreData) (before : IsCore old) (valid : IsCore new) where
   arrives t applied = record {
     keeps = keeps (Arrive t) applied;
     elapsed = time (Arrive t) applied ∙ omega arith;
+    given = given (Arrive t) applied;
     own = ready_arrived old.links t applied.reply new.links before.state applied.step;
     others = ready_beside_arrived old.links t applied.reply new.links before.state applied.step;
   }
@@ -56,6 +61,7 @@ module _ (old new : CoreData) (before : IsCore old) (valid : IsCore new) where
   departs t applied = record {
     keeps = keeps (Depart t) applied;
     elapsed = time (Depart t) applied ∙ omega arith;
+    given = given (Depart t) applied;
     own = ready_departed old.links t applied.reply new.links before.state applied.step;
     others = ready_beside_departed old.links t applied.reply new.links before.state applied.step;
   }
@@ -64,6 +70,7 @@ module _ (old new : CoreData) (before : IsCore old) (valid : IsCore new) where
   passes units applied = record {
     keeps = keeps (Tick units) applied;
     elapsed = time (Tick units) applied;
+    given = given (Tick units) applied;
     same = applied.step.1;
     passed = λ x from below. states_are (Tick units) applied x old.links
         (state_with_tick old.start old.history (entry (Tick units) applied) x refl ∙ state_from old.start old.history x from ∙ sym before.links);

@@ -8,7 +8,7 @@ use Rattle.strong_apa.specs.State.{State}
 use Rattle.weak_apa.specs.Compared.{IsWeakRun}
 use Rattle.weak_apa.specs.Step.{WeakStep}
 use Rattle.job_release.specs.Moments.{units_of}
-use Rattle.job_release.specs.WeakRuns.{last_state, state_then, elapsed_at}
+use Rattle.job_release.specs.WeakRuns.{last_state, state_then, elapsed_at, IsNeededIn, AreNeededFrom}
 
 -- ---- the states after the events
 pub last_push : (s : State) (states : List State) (new : State) → last_state s (states ++ new ∷ []) ≡ new
@@ -21,6 +21,13 @@ run_push s [] [] event new run step = (step, tt)
 run_push s [] (after ∷ states) event new run step = absurd run
 run_push s (first ∷ events) [] event new run step = absurd run
 run_push s (first ∷ events) (after ∷ states) event new run step = (run.0, run_push after events states event new run.1 step)
+
+pub needed_push : (s : State) (events : List Event) (states : List State) (event : Event) (new : State) → AreNeededFrom s events states → IsWeakRun s events states
+    → IsNeededIn (last_state s states) event → AreNeededFrom s (events ++ event ∷ []) (states ++ new ∷ [])
+needed_push s [] [] event new needed run one = (one, tt)
+needed_push s [] (after ∷ states) event new needed run one = absurd run
+needed_push s (first ∷ events) [] event new needed run one = absurd run
+needed_push s (first ∷ events) (after ∷ states) event new needed run one = (needed.0, needed_push after events states event new needed.1 run.1 one)
 
 -- ---- the state of a moment
 pub elapsed_push : (events : List Event) (event : Event) → elapsed_at (events ++ event ∷ []) ≡ elapsed_at events + units_of event

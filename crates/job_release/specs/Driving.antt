@@ -1,6 +1,6 @@
 -- How far a driver of jobs has come: per task, the jobs released and finished so far, and the service it got. Private: the contracts
 -- of this crate's own functions.
-use Rattle.std.specs.Prelude.{◌≡◌, ℕ, ◌+◌, ◌*◌, ◌^◌, ◌<◌, ◌≤◌, ◌⊎◌, ◌↔◌, ◌==◌, ◌++◌, Bool, true, List, [], ◌∷◌, length, get_or, map, take, sum_by, nat_lt, Option, None, if◌then◌else◌}
+use Rattle.std.specs.Prelude.{◌≡◌, ℕ, ◌+◌, ◌-◌, ◌*◌, ◌^◌, ◌<◌, ◌≤◌, ◌⊎◌, ◌↔◌, ◌==◌, ◌++◌, Bool, true, List, [], ◌∷◌, length, get_or, map, take, sum_by, nat_lt, Option, None, if◌then◌else◌}
 use Rattle.strong_apa.specs.State.{State, IsState, start_of, task_count, is_ready, is_linked}
 use Rattle.job_release.specs.Jobs.{job_at, cost_of, goal_of}
 use Rattle.job_release.specs.JobInput.{JobInputData, AreJobs, jobs_at, total_jobs}
@@ -8,6 +8,7 @@ use Rattle.job_release.specs.declared.input.Job.{Job}
 use Rattle.job_release.specs.Driven.{IsReadyWhileWorkIsLeft, GetsNoMore, RunsOnlyReady}
 use Rattle.job_release.specs.Moments.{Timeline, service_of, IsFinish}
 use Rattle.job_release.specs.Moves.{place_of, later_place, last_place, is_other_place, moves_of}
+use Rattle.job_release.specs.EventOrder.{AreInOrder, turn_after_all}
 use Rattle.job_release.specs.Scheduler.{SchedulerData, enough_room}
 use Rattle.job_release.specs.declared.driver.Driver.{Driver}
 use Rattle.job_release.specs.declared.row.JobRow.{JobRow}
@@ -88,22 +89,23 @@ pub record RowRuns (linked : Bool) (here : Option ℕ) (units : ℕ) (old new : 
 
 -- ---- a row at a moment
 -- what was done at a moment so far: by how much the service may exceed that of an unfinished job, and below which moment jobs were
--- released
+-- released, and how many rounds of all tasks there were at the moment
 pub record Mark : Type 0 where
   pub slack : ℕ
   pub upto : ℕ
+  pub phase : ℕ
 
 -- time has passed up to the moment
 abbrev pub grown : ℕ → Mark
-grown moment = record { slack = 1; upto = moment }
+grown moment = record { slack = 1; upto = moment; phase = 0 }
 
 -- jobs with their cost are finished
 abbrev pub settled : ℕ → Mark
-settled moment = record { slack = 0; upto = moment }
+settled moment = record { slack = 0; upto = moment; phase = 1 }
 
 -- jobs that begin at the moment are released
 abbrev pub supplied : ℕ → Mark
-supplied moment = record { slack = 0; upto = moment + 1 }
+supplied moment = record { slack = 0; upto = moment + 1; phase = 2 }
 
 -- the row of task t says what the moments so far give
 pub record IsRowAt (states : Timeline) (horizon : ℕ) (is_ready_now : Bool) (moment : ℕ) (mark : Mark) (t : ℕ) (row : JobRow) : Type 0 where
@@ -157,6 +159,10 @@ driver_of seen driver = record {
   moment = driver.moment;
 }
 
+-- the turn of task n, of so many tasks, where those below it are at one mark and the others at another
+abbrev pub turn_of : Mark → Mark → ℕ → ℕ → ℕ
+turn_of moved left count n = left.phase * count + (moved.phase - left.phase) * n
+
 -- a driver that began with these parts has come so far: the rows of the tasks below n are at one mark, and the others at another
 pub record IsDriving (from now : DriverData) (n : ℕ) (moved left : Mark) : Type 0 where
   pub begins : now.scheduler.start ≡ from.scheduler.start
@@ -172,6 +178,8 @@ pub record IsDriving (from now : DriverData) (n : ℕ) (moved left : Mark) : Typ
       → IsRowAt now.scheduler.states now.horizon (is_ready now.scheduler.now t) now.moment moved t (row_at now.rows t d)
   pub rows_left : (t : ℕ) (d : JobRow) → n ≤ t → t < length now.rows
       → IsRowAt now.scheduler.states now.horizon (is_ready now.scheduler.now t) now.moment left t (row_at now.rows t d)
+  pub in_order : AreInOrder (length now.rows) 0 now.scheduler.events
+  pub turn : turn_after_all (length now.rows) 0 now.scheduler.events ≤ turn_of moved left (length now.rows) n
   pub room : enough_room ≤ now.scheduler.room + sum_by (work_of now.moment) now.rows + 1
   pub room_before : now.moment < now.horizon → enough_room ≤ now.scheduler.room + sum_by (work_of now.moment) now.rows
 

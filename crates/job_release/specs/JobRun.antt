@@ -1,10 +1,11 @@
 -- Runs of jobs: the horizon, the jobs of each task, and the scheduler that ran them, or the core of the strong one.
-use Rattle.std.specs.Prelude.{◌≡◌, ℕ, List}
+use Rattle.std.specs.Prelude.{◌≡◌, ℕ, List, length}
 use Rattle.strong_apa.specs.State.{start_of}
 use Rattle.sched_core.specs.CoreData.{CoreData, IsCore}
 use Rattle.job_release.specs.JobInput.{JobInputData}
 use Rattle.job_release.specs.declared.input.Job.{Job}
 use Rattle.job_release.specs.Driven.{RunsJobs, ServesJobs}
+use Rattle.job_release.specs.EventOrder.{AreInOrder}
 use Rattle.job_release.specs.Scheduler.{SchedulerData}
 
 -- ---- any scheduler
@@ -14,13 +15,15 @@ pub record DrivenData (S : Type 0) : Type 0 where
   pub jobs : List (List Job)
   pub scheduler : S
 
--- the scheduler began with the tasks of the input, all moments up to its horizon have passed, and at each of them its jobs were served
+-- the scheduler began with the tasks of the input, all moments up to its horizon have passed, at each of them its jobs were served,
+-- and the events of each came in their order
 pub record IsDrivenOf {S : Type 0} (seen : S → SchedulerData) (input : JobInputData) (driven : DrivenData S) : Type 0 where
   pub horizon : driven.horizon ≡ input.horizon
   pub jobs : driven.jobs ≡ input.jobs
   pub start : (seen driven.scheduler).start ≡ start_of input.set
   pub whole : (seen driven.scheduler).elapsed ≡ input.horizon
   pub served : ServesJobs input (seen driven.scheduler).states
+  pub order : AreInOrder (length input.jobs) 0 (seen driven.scheduler).events
 
 -- ---- the strong one
 -- what contracts see of a run

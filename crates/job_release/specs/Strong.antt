@@ -1,5 +1,5 @@
 -- The strong scheduler, as one that jobs are driven with: a core that is open, and whose events are arrivals, departures and ticks.
-use Rattle.std.specs.Prelude.{◌≡◌, ◌-◌, false, length, All}
+use Rattle.std.specs.Prelude.{◌≡◌, ◌-◌, false, length, map, All}
 use Rattle.strong_apa.specs.declared.reply.Entry.{Entry}
 use Rattle.sched_core.specs.CoreData.{CoreData, max_entries}
 use Rattle.job_release.specs.Driven.{IsJobEvent}
@@ -18,5 +18,6 @@ strong_seen core = record {
   now = core.links;
   states = state_at core.start core.history;
   elapsed = elapsed core.history;
+  events = map (λ (entry : Entry). entry.event) core.history;
   room = max_entries - length core.history;
 }

@@ -50,5 +50,6 @@ weak_seen history = record {
   now = state_now history;
   states = state_then history.start history.events history.states;
   elapsed = elapsed_at history.events;
+  events = history.events;
   room = enough_room;
 }

@@ -1,9 +1,10 @@
 -- Runs of the weak scheduler at arrivals, departures and ticks, in time. Time passes in ticks alone, which change nothing: the state of
 -- a moment is that after all events that are no later.
-use Rattle.std.specs.Prelude.{◌≡◌, ℕ, ◌-◌, false, List, [], ◌∷◌, All, replicate, nat_lt, None, if◌then◌else◌}
+use Rattle.std.specs.Prelude.{◌≡◌, ℕ, ◌-◌, true, false, List, [], ◌∷◌, All, replicate, nat_lt, None, if◌then◌else◌}
 use Rattle.std.specs.List.{sum_by}
 use Rattle.task_set.specs.declared.event.Event.{Event}
-use Rattle.strong_apa.specs.State.{State, IsState, task_count}
+use Rattle.task_set.specs.declared.event.Event.TheVariants.{Arrive, Depart, Tick}
+use Rattle.strong_apa.specs.State.{State, IsState, task_count, is_ready}
 use Rattle.weak_apa.specs.Compared.{IsWeakRun}
 use Rattle.weak_apa.specs.Stable.{IsWeaklyStable}
 use Rattle.job_release.specs.Driven.{IsJobEvent}
@@ -28,11 +29,25 @@ state_then s _ _ x = s
 abbrev pub elapsed_at : List Event → ℕ
 elapsed_at events = sum_by units_of events
 
+-- an arrival finds its task absent, and a departure finds it ready
+abbrev pub IsNeededIn : State → Event → Type 0
+IsNeededIn s (Arrive t) = is_ready s t ≡ false
+IsNeededIn s (Depart t) = is_ready s t ≡ true
+IsNeededIn s (Tick units) = Unit {0}
+IsNeededIn s _ = ⊥
+
+-- each of the events does, where these are the states after each of them
+abbrev pub AreNeededFrom : State → List Event → List State → Type 0
+AreNeededFrom s (event ∷ events) (after ∷ states) = IsNeededIn s event × AreNeededFrom after events states
+AreNeededFrom s [] states = Unit {0}
+AreNeededFrom s (event ∷ events) [] = ⊥
+
 -- the weak scheduler's states after each of these events, which are arrivals, departures and ticks; in each of them it is stable
 pub record IsRunFrom (start : State) (events : List Event) (states : List State) : Type 0 where
   pub begins : IsState start
   pub run : IsWeakRun start events states
   pub each_event : All IsJobEvent events
+  pub needed : AreNeededFrom start events states
   pub stable_first : IsWeaklyStable start
   pub stable : All IsWeaklyStable states
 

@@ -1,6 +1,6 @@
 //! The schedulers that jobs can be driven with.
 ghost use Rattle.std.specs.Prelude.{◌≡◌, ◌<◌, ◌≤◌, OnOk, true, false};
-ghost use Rattle.strong_apa.specs.State.{IsState, task_count};
+ghost use Rattle.strong_apa.specs.State.{IsState, task_count, is_ready};
 ghost use Rattle.job_release.specs.Scheduler.{SchedulerData, Readies, Passes};
 
 use affinity_mask::OutOfMemory;
@@ -16,15 +16,17 @@ pub trait JobScheduler: Drop {
         ensures value { result.now ≡ (seen self.now).now }
         ensures valid { IsState result.now };
 
-    /// A task becomes ready. Refused only when out of memory.
+    /// An absent task becomes ready. Refused only when out of memory.
     fn arrive(&mut self, t: u32) -> Result<(), OutOfMemory>
         requires number { t < task_count (seen self.old).now }
+        requires absent { is_ready (seen self.old).now t ≡ false }
         requires room { 1 ≤ (seen self.old).room }
         ensures { OnOk result (Readies t true (seen self.old) (seen self.new)) };
 
-    /// A task becomes absent. Refused only when out of memory.
+    /// A ready task becomes absent. Refused only when out of memory.
     fn depart(&mut self, t: u32) -> Result<(), OutOfMemory>
         requires number { t < task_count (seen self.old).now }
+        requires ready { is_ready (seen self.old).now t ≡ true }
         requires room { 1 ≤ (seen self.old).room }
         ensures { OnOk result (Readies t false (seen self.old) (seen self.new)) };
 

@@ -37,6 +37,7 @@ impl Model for WeakHistory {
 impl WeakHistory {
     ghost use Rattle.std.specs.Prelude.{IfOk};
     ghost use Rattle.job_release.specs.Driven.{IsJobEvent};
+    ghost use Rattle.job_release.specs.WeakRuns.{IsNeededIn};
     ghost use Rattle.job_release.specs.WeakHistory.{Continues, IsWeakHistory, begun_with, state_now};
 
     /// No event yet: every task of the set is absent, and every processor idle. Refused only when out of memory.
@@ -61,6 +62,7 @@ impl WeakHistory {
     fn enter(&mut self, event: Event) -> Result<(), OutOfMemory>
         requires known { IsEventFor (state_now self.old) event }
         requires of_jobs { IsJobEvent event }
+        requires needed { IsNeededIn (state_now self.old) event }
         ensures valid_before { IsWeakHistory self.old }
         ensures continues { OnOk result (Continues self.old event self.new) }
         ensures valid { IsWeakHistory self.new }

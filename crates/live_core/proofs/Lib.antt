@@ -3,3 +3,4 @@ pub mod PassingOn
 pub mod ShiftPasses
 pub mod StepPasses
 pub mod ComingAndGoing
+pub mod Counted

@@ -1,11 +1,11 @@
 -- Occupants that are passed on along a chain, from its end on.
-use Rattle.std.proofs.Common.{◌≡◌, ◌≢◌, ℕ, zero, suc, ◌+◌, ◌-◌, ◌<◌, List, [], ◌∷◌, length, get_or, set, drop, Option, Some, None, refl, sym, ap, subst, ◌∙◌, inl, inr, ◌⊎◌, arith, eq-eqb, ne_eqb, get_or-set_same, get_or-set_other, length-set, drop-cons}
+use Rattle.std.proofs.Common.{◌≡◌, ◌≢◌, ℕ, zero, suc, ◌+◌, ◌-◌, ◌<◌, List, [], ◌∷◌, ◌++◌, length, get_or, set, drop, Option, Some, None, refl, sym, ap, subst, ◌∙◌, inl, inr, ◌⊎◌, arith, eq-eqb, ne_eqb, get_or-set_same, get_or-set_other, length-set, drop-cons}
 use Rattle.std.proofs.lemmas.Bool.{cases_eq}
 use Rattle.std.proofs.lemmas.List.{drop_all, ext_get_or, get_or-drop, length-drop}
 use Rattle.strong_apa.specs.Chain.{IsSimple}
 use Rattle.strong_apa.proofs.Simple.{IsSimple-head, IsSimple-tail}
 use Rattle.live_core.specs.Moves.{occupant_at, IsNowhere}
-use Rattle.live_core.specs.MoveData.{CanPassOn, Passes, occupant_passed}
+use Rattle.live_core.specs.MoveData.{CanPassOn, Passes, occupant_passed, shifts_along, shift_of}
 
 -- at the first processor of the chain, and at another one
 pub passed-first : (on : List (Option ℕ)) (guest : Option ℕ) (x : ℕ) (rest : List ℕ) → occupant_passed on guest (x ∷ rest) x ≡ guest
@@ -107,6 +107,7 @@ advance_begins on chain len is some nobody p =
 pub record IsTurn (on now : List (Option ℕ)) (chain : List ℕ) (k next : ℕ) : Type 0 where
   pub somebody : (t : ℕ) × (occupant_at now (get_or chain k 0) ≡ Some t)
   pub nobody : occupant_at now (get_or chain next 0) ≡ None
+  pub listed : shifts_along on (drop next chain) ++ shift_of (occupant_at now (get_or chain k 0)) (get_or chain k 0) (get_or chain next 0) ≡ shifts_along on (drop k chain)
   pub after : (p : ℕ) → occupant_at (set (set now (get_or chain k 0) None) (get_or chain next 0) (occupant_at now (get_or chain k 0))) p ≡ occupant_passed on None (drop k chain) p
 
 turn_at : (on now : List (Option ℕ)) (chain : List ℕ) (k : ℕ) → CanPassOn on chain → suc k < length chain → length now ≡ length on
@@ -123,6 +124,10 @@ turn_at on now chain k can fits same before =
     record {
       somebody = (here.0, then from ∙ passed-later on None to rest from apart ∙ passed-outside on (occupant_at on to) rest from out ∙ here.1);
       nobody = then to ∙ passed-first on None to rest;
+      listed =
+          ap (λ (o : Option ℕ). shifts_along on (drop (suc k) chain) ++ shift_of o from to) (then from ∙ passed-later on None to rest from apart ∙ passed-outside on (occupant_at on to) rest from out)
+          ∙ ap (λ (c : List ℕ). shifts_along on c ++ shift_of (occupant_at on from) from to) e
+          ∙ sym (ap (λ (c : List ℕ). shifts_along on c) (drop-cons chain k 0 (omega arith) ∙ ap (λ (c : List ℕ). from ∷ c) e));
       after = λ p.
           one_more on now from to rest apart out (rw same (can.below k (omega arith))) (rw same (can.below (suc k) fits)) then p
           ∙ sym (ap (λ (c : List ℕ). occupant_passed on None c p) (drop-cons chain k 0 (omega arith) ∙ ap (λ (c : List ℕ). from ∷ c) e));

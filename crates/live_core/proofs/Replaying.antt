@@ -1,10 +1,10 @@
 -- Lists of moves that are added to.
-use Rattle.std.proofs.Common.{◌≡◌, ℕ, ◌+◌, ◌≤◌, List, [], ◌∷◌, ◌++◌, length, set, Option, Some, None, refl, sym, ap, ◌∙◌, arith, append_assoc, length-append, length-set}
+use Rattle.std.proofs.Common.{◌≡◌, ◌≢◌, ℕ, zero, suc, ◌⊎◌, inl, inr, ◌+◌, ◌≤◌, List, [], ◌∷◌, ◌++◌, length, set, Option, Some, None, refl, sym, ap, ◌∙◌, arith, append_assoc, length-append, length-set}
 use Rattle.std.proofs.lemmas.List.{append-nil}
 use Rattle.live_core.specs.declared.moves.Move.{Move}
 use Rattle.live_core.specs.declared.moves.Move.TheVariants.{Start, Shift, Stop}
-use Rattle.live_core.specs.Moves.{Replays, occupants_after}
-use Rattle.live_core.specs.MoveData.{MoveData, DoesMore}
+use Rattle.live_core.specs.Moves.{Replays, CanMove, IsNowhere, occupant_at, occupants_after}
+use Rattle.live_core.specs.MoveData.{MoveData, DoesMore, IsOnce}
 
 pub Replays-append : (a : List (Option ℕ)) (xs : List Move) (b : List (Option ℕ)) (ys : List Move) (c : List (Option ℕ)) → Replays a xs b → Replays b ys c → Replays a (xs ++ ys) c
 Replays-append a [] b ys c first then = rw first then
@@ -47,3 +47,58 @@ pub DoesMore-replays : (n : ℕ) (a b : MoveData) → a.moves ≡ [] → DoesMor
 DoesMore-replays n a b none does =
     let e : b.moves ≡ does.more = does.added ∙ ap (λ (moves : List Move). moves ++ does.more) none in
     rw e (does.replays, does.few)
+
+-- ---- no task is on two processors
+-- whoever is on p then was put there, or was there
+pub occupant-set : (on : List (Option ℕ)) (q p : ℕ) (o : Option ℕ) → ((occupant_at (set on q o) p ≡ o) × (p ≡ q)) ⊎ (occupant_at (set on q o) p ≡ occupant_at on p)
+occupant-set [] q p o = inr refl
+occupant-set (x ∷ on) zero zero o = inl (refl, refl)
+occupant-set (x ∷ on) zero (suc p) o = inr refl
+occupant-set (x ∷ on) (suc q) zero o = inr refl
+occupant-set (x ∷ on) (suc q) (suc p) o = elim (occupant-set on q p o) [
+  | inl there ↦ inl (there.0, ap suc there.1)
+  | inr same ↦ inr same
+]
+
+pub occupant-set_none : (on : List (Option ℕ)) (q : ℕ) → occupant_at (set on q None) q ≡ None
+occupant-set_none [] q = refl
+occupant-set_none (x ∷ on) zero = refl
+occupant-set_none (x ∷ on) (suc q) = occupant-set_none on q
+
+pub None≢Some : (t : ℕ) → None ≢ Some t
+None≢Some t e = cc
+
+-- whoever is there after a stop was there before
+pub there_before : (on : List (Option ℕ)) (q p t : ℕ) → occupant_at (set on q None) p ≡ Some t → occupant_at on p ≡ Some t
+there_before on q p t e = elim (occupant-set on q p None) [
+  | inl there ↦ absurd (None≢Some t (sym there.0 ∙ e))
+  | inr same ↦ sym same ∙ e
+]
+
+pub stopped_once : (on : List (Option ℕ)) (q : ℕ) → IsOnce on → IsOnce (set on q None)
+stopped_once on q once x y t e f = once x y t (there_before on q x t e) (there_before on q y t f)
+
+-- the task of a processor is on none after its stop
+pub stopped_nowhere : (on : List (Option ℕ)) (q t : ℕ) → IsOnce on → occupant_at on q ≡ Some t → IsNowhere (set on q None) t
+stopped_nowhere on q t once here p there =
+    let same : p ≡ q = once p q t (there_before on q p t there) here in
+    None≢Some t (sym (occupant-set_none on q) ∙ (rw same at there))
+
+started_once : (on : List (Option ℕ)) (q t : ℕ) → IsOnce on → IsNowhere on t → IsOnce (set on q (Some t))
+started_once on q t once nowhere x y u e f = go (occupant-set on q x (Some t)) (occupant-set on q y (Some t))
+  where
+    go : ((occupant_at (set on q (Some t)) x ≡ Some t) × (x ≡ q)) ⊎ (occupant_at (set on q (Some t)) x ≡ occupant_at on x)
+        → ((occupant_at (set on q (Some t)) y ≡ Some t) × (y ≡ q)) ⊎ (occupant_at (set on q (Some t)) y ≡ occupant_at on y) → x ≡ y
+    go (inl a) (inl b) = a.1 ∙ sym b.1
+    go (inl a) (inr b) = absurd (nowhere y (sym b ∙ f ∙ sym e ∙ a.0))
+    go (inr a) (inl b) = absurd (nowhere x (sym a ∙ e ∙ sym f ∙ b.0))
+    go (inr a) (inr b) = once x y u (sym a ∙ e) (sym b ∙ f)
+
+once_after : (on : List (Option ℕ)) (move : Move) → IsOnce on → CanMove on move → IsOnce (occupants_after on move)
+once_after on (Start t to) once can = started_once on to t once can.2
+once_after on (Shift t from to) once can = started_once (set on from None) to t (stopped_once on from once) (stopped_nowhere on from t once can.2)
+once_after on (Stop t from) once can = stopped_once on from once
+
+pub Replays-once : (a : List (Option ℕ)) (moves : List Move) (b : List (Option ℕ)) → Replays a moves b → IsOnce a → IsOnce b
+Replays-once a [] b replays once = rw (← replays) once
+Replays-once a (move ∷ rest) b replays once = Replays-once (occupants_after a move) rest b replays.1 (once_after a move once replays.0)

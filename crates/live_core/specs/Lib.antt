@@ -3,5 +3,6 @@ pub mod LiveView
 pub mod MoveData
 pub mod MoveView
 pub mod Moves
+pub mod Needed
 pub mod Optimal
 pub mod Slots

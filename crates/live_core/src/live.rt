@@ -8,6 +8,7 @@ ghost use Rattle.strong_apa.specs.Certified.{HasCertificates};
 ghost use Rattle.strong_apa.specs.Improving.{HasNoImprovingChain};
 ghost use Rattle.strong_apa.specs.CertificateLaws.{LinkedIsBest, LinkedIsLargest, LinkedIsAsUrgent};
 ghost use Rattle.live_core.specs.Moves.{Replays};
+ghost use Rattle.live_core.specs.Needed.{AreNeeded};
 ghost use Rattle.live_core.specs.Optimal.{IsOptimal};
 ghost use Rattle.live_core.specs.Slots.{is_in_use, IsEventInUse, AreFreeAbsent, IsSlotFor, Admits, IsAdmitFault, GetsPriority, IsPriorityFault, data_with_free};
 
@@ -72,6 +73,7 @@ impl LiveCore {
         ensures step { SchedulerStep self.old.links event self.new.last self.new.links }
         ensures moves { Replays self.old.links.on self.new.moves self.new.links.on }
         ensures few { length self.new.moves ≤ 130 }
+        ensures needed { AreNeeded event self.new.last self.old.links.on self.new.links.on self.new.moves }
         ensures certified { HasCertificates self.new.links }
         ensures unimprovable { HasNoImprovingChain self.new.links }
         ensures best { LinkedIsBest self.new.links }

@@ -1,5 +1,5 @@
 //! What an event asks for, move by move.
-ghost use Rattle.std.specs.Prelude.{◌≡◌, ℕ, ◌+◌, ◌-◌, ◌<◌, ◌≤◌, List, [], Option, Some, None, set, length, reverse, replicate, IfOk, slice_index};
+ghost use Rattle.std.specs.Prelude.{◌≡◌, ℕ, ◌+◌, ◌-◌, ◌<◌, ◌≤◌, List, [], ◌∷◌, ◌++◌, Option, Some, None, set, length, reverse, replicate, IfOk, slice_index};
 ghost use Rattle.std.specs.Option.{option_copied};
 ghost use Rattle.strong_apa.specs.Reply.{filling_chain, coming_chain};
 ghost use Rattle.live_core.specs.MoveData.{entered_by, moved_of};
@@ -50,7 +50,8 @@ impl Model for MoveList {
 
 impl MoveList {
     ghost use Rattle.live_core.specs.Moves.{Replays, occupant_at, IsNowhere};
-    ghost use Rattle.live_core.specs.MoveData.{DoesMore, CanPassOn, Passes, PassesTwice, OfflinePasses, LeadsTo, occupant_passed};
+    ghost use Rattle.live_core.specs.MoveData.{DoesMore, CanPassOn, Passes, PassesTwice, OfflinePasses, LeadsTo, occupant_passed, AreMovesFor, AreMovesTwice, AreOfflineMoves, passing_moves, shifts_along, shift_of, stop_of};
+    ghost use Rattle.live_core.specs.declared.moves.Move.TheVariants.{Start};
 
     /// Nobody is on any of so many processors.
     pub(crate) fn new(alloc: Global, processors: u8) -> Result<MoveList, OutOfMemory>
@@ -81,6 +82,7 @@ impl MoveList {
         ensures few { length self.new.moves ≤ 130 }
         ensures occupants { (after : List (Option ℕ))
             → LeadsTo self.old.occupants event.now reply.now after → self.new.occupants ≡ after }
+        ensures exact { AreMovesFor self.old.occupants event.now reply.now self.new.moves }
     {
         self.clear();
         self.add(event, reply);
@@ -100,6 +102,7 @@ impl MoveList {
         ensures more { DoesMore 130 self.old self.new }
         ensures occupants { (after : List (Option ℕ))
             → LeadsTo self.old.occupants event.now reply.now after → self.new.occupants ≡ after }
+        ensures exact { AreMovesFor self.old.occupants event.now reply.now self.new.moves }
     {
         match event {
             Event::Arrive(t) => self.pass_on(Some(*t), reply.coming_chain()),
@@ -120,6 +123,8 @@ impl MoveList {
         ensures occupants { (after : List (Option ℕ)) → PassesTwice self.old.occupants (entered_by reply.now)
             (reverse (filling_chain reply.now)) (Some task) (coming_chain reply.now) after
             → self.new.occupants ≡ after }
+        ensures exact { AreMovesTwice self.old.occupants (entered_by reply.now)
+            (reverse (filling_chain reply.now)) (Some task) (coming_chain reply.now) self.new.moves }
     {
         let entered = entered_by(reply);
         let filling = reversed_filling(reply);
@@ -135,6 +140,7 @@ impl MoveList {
         ensures more { DoesMore 130 self.old self.new }
         ensures occupants { (after : List (Option ℕ))
             → OfflinePasses self.old.occupants p (moved_of reply.now) after → self.new.occupants ≡ after }
+        ensures exact { AreOfflineMoves self.old.occupants p (moved_of reply.now) self.new.moves }
     {
         if let Some(moved) = moved_by(reply) {
             let two = moved.came.chain();
@@ -151,6 +157,8 @@ impl MoveList {
         ensures more { DoesMore 65 self.old self.new }
         ensures occupants { (after : List (Option ℕ)) → Passes self.old.occupants (entered_by reply.now)
             (reverse (filling_chain reply.now)) after → self.new.occupants ≡ after }
+        ensures added { self.new.moves ≡ self.old.moves
+            ++ passing_moves self.old.occupants (entered_by reply.now) (reverse (filling_chain reply.now)) }
     {
         let entered = entered_by(reply);
         let filling = reply.filling_chain();
@@ -172,6 +180,7 @@ impl MoveList {
         ensures occupants { (after : List (Option ℕ))
             → PassesTwice self.old.occupants first one.now (Some second) two.now after
             → self.new.occupants ≡ after }
+        ensures exact { AreMovesTwice self.old.occupants first one.now (Some second) two.now self.new.moves }
     {
         self.pass_on(first, one);
         self.pass_on(Some(second), two);
@@ -185,6 +194,7 @@ impl MoveList {
         ensures more { DoesMore 65 self.old self.new }
         ensures occupants { (after : List (Option ℕ))
             → Passes self.old.occupants guest chain.now after → self.new.occupants ≡ after }
+        ensures added { self.new.moves ≡ self.old.moves ++ passing_moves self.old.occupants guest chain.now }
     {
         if chain.is_empty() {
             return;
@@ -205,6 +215,7 @@ impl MoveList {
         ensures more { DoesMore (length chain.now - 1) self.old self.new }
         ensures occupants { (p : ℕ) → occupant_at self.new.occupants p
             ≡ occupant_passed self.old.occupants None chain.now p }
+        ensures added { self.new.moves ≡ self.old.moves ++ shifts_along self.old.occupants chain.now }
     {
         for i in 1..chain.len() {
             let to = chain.len() - i;
@@ -222,6 +233,7 @@ impl MoveList {
         ensures more { DoesMore 1 self.old self.new }
         ensures occupants { self.new.occupants
             ≡ set (set self.old.occupants from None) to (occupant_at self.old.occupants from) }
+        ensures added { self.new.moves ≡ self.old.moves ++ shift_of (occupant_at self.old.occupants from) from to }
     {
         let occupant = self.occupants[from as usize];
         let task = occupant.unwrap();
@@ -238,6 +250,7 @@ impl MoveList {
         requires room { length self.old.moves < 130 }
         ensures more { DoesMore 1 self.old self.new }
         ensures occupants { self.new.occupants ≡ set self.old.occupants to (Some task) }
+        ensures added { self.new.moves ≡ self.old.moves ++ Start task to ∷ [] }
     {
         self.moves.push_reserved(Move::Start { task, to });
         self.occupants[to as usize] = Some(task);
@@ -249,6 +262,7 @@ impl MoveList {
         requires room { length self.old.moves < 130 }
         ensures more { DoesMore 1 self.old self.new }
         ensures occupants { self.new.occupants ≡ set self.old.occupants from None }
+        ensures added { self.new.moves ≡ self.old.moves ++ stop_of (occupant_at self.old.occupants from) from }
     {
         if let Some(task) = self.occupants[from as usize] {
             self.moves.push_reserved(Move::Stop { task, from });

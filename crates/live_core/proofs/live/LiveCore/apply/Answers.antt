@@ -8,7 +8,10 @@ use Rattle.strong_apa.proofs.Ranked.{linked_is_as_urgent}
 use Rattle.live_core.specs.Live.{LiveData}
 use Rattle.live_core.specs.LiveView.{live_view}
 use Rattle.live_core.specs.Moves.{Replays}
+use Rattle.live_core.specs.MoveData.{AreMovesFor, LeadsTo}
+use Rattle.live_core.specs.Needed.{AreNeeded}
 use Rattle.live_core.specs.Slots.{IsEventInUse}
+use Rattle.live_core.proofs.Counted.{needed}
 use Rattle.live_core.proofs.ComingAndGoing.{free_absent_after_step}
 use Rattle.live_core.proofs.live.LiveCore.apply.Goals as goal
 
@@ -71,6 +74,33 @@ returns-clause-moves c =
     subst (λ (d : LiveData). Replays d.links.on c.follow.new.self.moves reply.new.links.on) c.self.view_is
     (subst (λ (on : List (Option ℕ)). Replays on c.follow.new.self.moves reply.new.links.on) c.self.invariant.occupants
     (subst (λ (on : List (Option ℕ)). Replays c.self.inside.moves.occupants c.follow.new.self.moves on) same c.follow.ensures.moves))
+
+pub returns-clause-needed : goal.returns-clause-needed
+returns-clause-needed c =
+    let reply = c.reply_to-self-inside in
+    let on = c.self.inside.links.on in
+    let leads : LeadsTo on c.args.event reply.result reply.new.links.on = record {
+      old = c.self.inside.links;
+      new = reply.new.links;
+      state = c.self.invariant.state;
+      before = refl;
+      step = reply.ensures;
+      links = refl;
+    } in
+    let same = c.follow.ensures.occupants reply.new.links.on record {
+      old = c.self.inside.links;
+      new = reply.new.links;
+      state = c.self.invariant.state;
+      before = sym c.self.invariant.occupants;
+      step = reply.ensures;
+      links = refl;
+    } in
+    let exact = subst (λ (o : List (Option ℕ)). AreMovesFor o c.args.event reply.result c.follow.new.self.moves) c.self.invariant.occupants c.follow.ensures.exact in
+    let replays : Replays on c.follow.new.self.moves reply.new.links.on =
+    subst (λ (o : List (Option ℕ)). Replays o c.follow.new.self.moves reply.new.links.on) c.self.invariant.occupants
+    (subst (λ (o : List (Option ℕ)). Replays c.self.inside.moves.occupants c.follow.new.self.moves o) same c.follow.ensures.moves) in
+    subst (λ (d : LiveData). AreNeeded c.args.event reply.result d.links.on reply.new.links.on c.follow.new.self.moves) c.self.view_is
+    (needed on c.args.event reply.result reply.new.links.on c.follow.new.self.moves leads exact replays)
 
 pub returns-clause-unimprovable : goal.returns-clause-unimprovable
 returns-clause-unimprovable c = no_improving_chain c.reply_to-self-inside.new.links (returns-clause-certified c)

@@ -1,4 +1,6 @@
-use Rattle.std.proofs.Common.{refl, arith}
+use Rattle.std.proofs.Common.{refl, sym, subst, arith}
+use Rattle.task_set.specs.declared.event.Event.{Event}
+use Rattle.live_core.specs.MoveData.{AreMovesFor}
 use Rattle.live_core.proofs.Replaying.{DoesMore-nothing, DoesMore-fewer}
 use Rattle.live_core.proofs.StepPasses.{Passes-same, arrival_leads, departure_leads, tick_leads, mask_leads, offline_leads, online_leads}
 use Rattle.live_core.proofs.moves.MoveList.add.Goals as goal
@@ -49,3 +51,6 @@ returns-in-Tick-clause-more c = DoesMore-fewer 0 130 c.args.self.now c.args.self
 
 pub returns-in-Tick-clause-occupants : goal.returns-in-Tick-clause-occupants
 returns-in-Tick-clause-occupants c = λ after leads. tick_leads _ _ _ _ leads _ c.in-Tick.is
+
+pub returns-in-Affinity-clause-exact : goal.returns-in-Affinity-clause-exact
+returns-in-Affinity-clause-exact c = subst (λ (event : Event). AreMovesFor c.args.self.now.occupants event c.args.reply.now c.remask.new.self.moves) (sym c.in-Affinity.is) c.remask.ensures.exact

@@ -1,5 +1,7 @@
-use Rattle.std.proofs.Common.{◌≡◌, ℕ, ◌+◌, ◌-◌, List, Option, length, ap, ◌∙◌, arith}
+use Rattle.std.proofs.Common.{◌≡◌, ℕ, ◌+◌, ◌-◌, List, Option, ◌++◌, length, get_or, drop, ap, ◌∙◌, arith, append_assoc}
 use Rattle.live_core.specs.Moves.{occupant_at}
+use Rattle.live_core.specs.MoveData.{shifts_along, shift_of}
+use Rattle.live_core.specs.declared.moves.Move.{Move}
 use Rattle.live_core.proofs.Replaying.{DoesMore-then, DoesMore-length}
 use Rattle.live_core.proofs.PassingOn.{advance_turn}
 use Rattle.live_core.proofs.moves.MoveList.advance.Goals as goal
@@ -34,6 +36,10 @@ loop-i-preserved c =
     let turn = advance_turn c.args.self.now.occupants c.loop-i.self.occupants chain (length chain - i - 1) (length chain - i) (omega arith) c.requires.can (omega arith) same c.loop-i.invariant.passed in
     let e : length chain - (i + 1) ≡ length chain - i - 1 = omega arith in
     record {
+      added =
+          c.shift.ensures.added ∙ ap (λ (moves : List Move). moves ++ shift_of (occupant_at c.loop-i.self.occupants (get_or chain (length chain - i - 1) 0)) (get_or chain (length chain - i - 1) 0) (get_or chain (length chain - i) 0)) c.loop-i.invariant.added
+          ∙ append_assoc c.args.self.now.moves (shifts_along c.args.self.now.occupants (drop (length chain - i) chain)) _
+          ∙ ap (λ (moves : List Move). c.args.self.now.moves ++ moves) (rw e turn.listed);
       more = DoesMore-then (i - 1) 1 (i + 1 - 1) c.args.self.now c.loop-i.self c.shift.new.self c.loop-i.invariant.more c.shift.ensures.more (omega arith);
       passed = λ p. ap (λ (on : List (Option ℕ)). occupant_at on p) c.shift.ensures.occupants ∙ rw e (turn.after p);
     }

@@ -1,6 +1,6 @@
-use Rattle.std.proofs.Common.{Option, refl, sym, subst, arith}
+use Rattle.std.proofs.Common.{ℕ, List, [], ◌∷◌, None, Some, Option, refl, sym, subst, arith}
 use Rattle.strong_apa.specs.declared.reply.Moved.{Moved}
-use Rattle.live_core.specs.MoveData.{OfflinePasses}
+use Rattle.live_core.specs.MoveData.{OfflinePasses, AreOfflineMoves, AreMovesTwice}
 use Rattle.live_core.proofs.Replaying.{DoesMore-nothing, DoesMore-fewer}
 use Rattle.live_core.proofs.StepPasses.{Passes-same}
 use Rattle.live_core.proofs.moves.MoveList.go_offline.Goals as goal
@@ -21,3 +21,8 @@ returns-in_default-clause-more c = DoesMore-fewer 0 130 c.args.self.now c.args.s
 pub returns-in_default-clause-occupants : goal.returns-in_default-clause-occupants
 returns-in_default-clause-occupants c = λ after passes.
     subst (λ (m : Option Moved). OfflinePasses c.args.self.now.occupants c.args.p m after) (sym c.in_default.ensures) passes
+
+pub returns-in-Some-clause-exact : goal.returns-in-Some-clause-exact
+returns-in-Some-clause-exact c =
+    subst (λ (m : Option Moved). AreOfflineMoves c.args.self.now.occupants c.args.p m c.pass_on_twice.new.self.moves) c.in-Some.ensures
+    (subst (λ (two : List ℕ). AreMovesTwice c.args.self.now.occupants None (c.args.p ∷ []) (Some c.in-Some.moved.now.task) two c.pass_on_twice.new.self.moves) c.chain-two.ensures.value c.pass_on_twice.ensures.exact)

@@ -1,5 +1,7 @@
-use Rattle.std.proofs.Common.{length, ap, refl, arith}
-use Rattle.live_core.proofs.Replaying.{DoesMore-then, DoesMore-count}
+use Rattle.std.proofs.Common.{List, Option, ℕ, Some, ◌++◌, length, ap, refl, subst, ◌∙◌, arith}
+use Rattle.live_core.specs.MoveData.{passing_moves, IsOnce}
+use Rattle.live_core.specs.declared.moves.Move.{Move}
+use Rattle.live_core.proofs.Replaying.{Replays-once, DoesMore-then, DoesMore-count}
 use Rattle.live_core.proofs.StepPasses.{Passes-same}
 use Rattle.live_core.proofs.moves.MoveList.pass_on_twice.Goals as goal
 
@@ -23,3 +25,14 @@ returns-clause-more c =
 pub returns-clause-occupants : goal.returns-clause-occupants
 returns-clause-occupants c = λ after twice.
     c.pass_on-2.ensures.occupants after (Passes-same _ _ _ _ _ _ _ (c.pass_on.ensures.occupants twice.0 twice.1) refl refl twice.2)
+
+pub returns-clause-exact : goal.returns-clause-exact
+returns-clause-exact c = λ between passes.
+    let on = c.args.self.now.occupants in
+    let one = passing_moves on c.args.first c.args.one.now in
+    let same = c.pass_on.ensures.occupants between passes in (
+      c.pass_on-2.ensures.added
+          ∙ ap (λ (moves : List Move). moves ++ passing_moves c.pass_on.new.self.occupants (Some c.args.second) c.args.two.now) (c.pass_on.ensures.added ∙ ap (λ (moves : List Move). moves ++ one) c.requires.none)
+          ∙ ap (λ (o : List (Option ℕ)). one ++ passing_moves o (Some c.args.second) c.args.two.now) same,
+      λ once. subst IsOnce same (Replays-once on c.pass_on.ensures.more.more c.pass_on.new.self.occupants c.pass_on.ensures.more.replays once),
+    )
