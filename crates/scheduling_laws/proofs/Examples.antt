@@ -1,7 +1,7 @@
 -- The definitions on one example, worked by hand. Two processors; a may run on both, b on 1 alone, and c, the least urgent, on both.
 -- They arrive as c, a, b. So c takes processor 0 and a processor 1, and then a moves aside for b, and c waits.
 use Rattle.std.proofs.Common.{◌≡◌, ℕ, zero, suc, ◌<◌, ◌≤◌, Bool, true, false, List, [], ◌∷◌, map, Some, None, refl, sym, ap, ◌∙◌, IsTrue, arith, eqb-true}
-use Rattle.std.specs.Prelude.{All, length}
+use Rattle.std.specs.Prelude.{All, length, nat_lt}
 use Rattle.std.proofs.lemmas.Bool.{ltb-true, false≢true}
 use Rattle.std.proofs.lemmas.List.Elements.{All-nil, All-cons}
 use Rattle.std.proofs.lemmas.Option.{same_Some}
@@ -24,17 +24,22 @@ use Rattle.strong_apa.proofs.Paths.{Reaches-online}
 use Rattle.trace_reader.specs.declared.posted.Posted.{Posted}
 use Rattle.job_release.specs.Jobs.{job_at}
 use Rattle.job_release.specs.JobInput.{JobInputData}
+use Rattle.job_release.specs.Moments as moments
 use Rattle.job_release.specs.declared.input.Job.{Job}
 use Rattle.scheduling_laws.specs.Faces.{IsCertifiedByReach}
 use Rattle.scheduling_laws.specs.Going.{IsRun, times_taken, times_released, CanBeObeyed}
+use Rattle.scheduling_laws.specs.Hall.{confined_count, IsCrowded}
 use Rattle.scheduling_laws.specs.InReach.{IsWorkConserving, HasNoInversion}
 use Rattle.scheduling_laws.specs.Isolation.{IsUrgent, IsSameTask, AgreeUpTo}
 use Rattle.scheduling_laws.specs.Merges.{HaveStreams, HaveSameTasksLinked}
+use Rattle.scheduling_laws.specs.MoreProcessors.{HasMoreRoom, HasMoreRoomUpTo}
 use Rattle.scheduling_laws.specs.OneEnd.{is_of_task, is_of_processor, events_that, events_by, HaveSameEvents, HaveCallers}
+use Rattle.scheduling_laws.specs.Response.{can_interfere, width_of, waiting_of, interference_of, interfering_demand}
 use Rattle.scheduling_laws.specs.ShiftCounts.{shifts_of, most_shifts}
 use Rattle.scheduling_laws.specs.Sustained.{IsNoLonger, AsksNoMore, AsksNoMoreUpTo}
 use Rattle.scheduling_laws.specs.Urgency.{urgent_of}
 use Rattle.scheduling_laws.specs.UrgentWork.{IsChoice, urgent_work}
+use Rattle.scheduling_laws.specs.Weights.{weight_of}
 
 -- a mask is written as the number whose ones are its processors; names play no part
 abbrev task : ℕ → ℕ → TaskData
@@ -124,6 +129,46 @@ work_done = refl
 other_work : urgent_work (start_of three_tasks) moved_aside a_and_c 2 ≡ 5
 unfolding passing_below
 other_work = refl
+
+-- ---- by weights of 4, 2 and 1 the linked a and b weigh 6, and a and c, had a stayed where it was, 5
+abbrev weights_of : ℕ → ℕ
+weights_of zero = 4
+weights_of (suc zero) = 2
+weights_of (suc (suc t)) = 1
+
+linked_weight : weight_of (start_of three_tasks) weights_of (linked_after three_tasks moved_aside 3) ≡ 6
+unfolding passing_below
+linked_weight = refl
+
+other_weight : weight_of (start_of three_tasks) weights_of (a_and_c 3) ≡ 5
+unfolding passing_below
+other_weight = refl
+
+-- ---- c can run on two processors, and waits for all 5 moments of the tick; a and b, which can interfere, get 10 units there
+interfere : map (can_interfere (start_of three_tasks) 2) (0 ∷ 1 ∷ 2 ∷ []) ≡ true ∷ true ∷ false ∷ []
+unfolding intersection
+interfere = refl
+
+width : width_of (start_of three_tasks) 2 ≡ 2
+unfolding passing_below has
+width = refl
+
+waited : waiting_of (moments.state_at (start_of three_tasks) moved_aside) 2 5 ≡ 5
+unfolding passing_below
+waited = refl
+
+interfered : interference_of (start_of three_tasks) (moments.state_at (start_of three_tasks) moved_aside) 2 0 5 ≡ 10
+unfolding passing_below intersection
+interfered = refl
+
+-- ---- all three are confined to processors 0 and 1, so that they crowd them; to processor 1 b alone is
+crowded : IsCrowded (start_of three_tasks) (λ t. nat_lt t 3) 3
+unfolding passing_below has intersection all_below
+crowded = omega arith
+
+confined : confined_count (start_of three_tasks) (λ t. nat_lt t 3) 2 ≡ 1
+unfolding passing_below intersection all_below
+confined = refl
 
 -- ---- the events of a, and those of the only caller
 events_of_a : events_that (is_of_task 0) moved_aside ≡ Arrive 0 ∷ []
@@ -326,3 +371,32 @@ same_linked = record { ready = λ t. refl; linked = λ t. refl }
 
 without_b : HaveSameTasksLinked placed_so (record placed_so { on = Some 0 ∷ None ∷ [] }) → ⊥
 without_b same = absurd (false≢true (sym (same.linked 1)))
+
+-- ---- of two processors the one input has the first alone: of the mask 0-1 of a it has 0
+abbrev on_one : JobInputData
+on_one = record { version = 2; set = record { processors = 1; tasks = task 1 1 ∷ [] }; horizon = 30; jobs = two_jobs 3 ∷ [] }
+
+abbrev on_two : JobInputData
+on_two = record { version = 2; set = record { processors = 2; tasks = task 1 3 ∷ [] }; horizon = 30; jobs = two_jobs 3 ∷ [] }
+
+more_room : HasMoreRoomUpTo 2 on_one on_two
+unfolding intersection all_below
+more_room = record { processors = omega arith; horizon = refl; urgent = λ t urgent. is_urgent t urgent; each = λ t urgent. each t urgent.0 }
+  where
+    is_urgent : (t : ℕ) → IsUrgent on_two 2 t → IsUrgent on_one 2 t
+    is_urgent zero h = (omega arith, omega arith)
+    is_urgent (suc t) h = absurd (let beyond = h.0 in omega arith)
+
+    no_longer : (k : ℕ) → k < 2 → IsNoLonger (job_at (two_jobs 3) k) (job_at (two_jobs 3) k)
+    no_longer zero lt = record { release = refl; cost = omega arith }
+    no_longer (suc zero) lt = record { release = refl; cost = omega arith }
+    no_longer (suc (suc k)) lt = absurd (omega arith)
+
+    each : (t : ℕ) → t < 1 → HasMoreRoom on_one on_two t
+    each zero lt = record { priority = refl; mask = refl; count = refl; each = no_longer }
+    each (suc t) lt = absurd (omega arith)
+
+-- ---- with_c: c asks for 5 units at 0 and at 9; a and b ask for 3 and 4 before 9, and so c is done by 8, as 7 < 2 * (8 + 1 - 5)
+demanded : interfering_demand with_c 2 7 ≡ 7
+unfolding passing_below intersection
+demanded = refl

@@ -4,13 +4,16 @@ pub mod Faces
 pub mod Going
 pub mod GoingEntries
 pub mod GoingSums
+pub mod Hall
 pub mod InReach
 pub mod Isolation
 pub mod Merges
 pub mod OneEnd
 pub mod PlacedState
+pub mod Response
 pub mod ShiftCounts
 pub mod Staying
 pub mod Sustained
 pub mod Urgency
 pub mod UrgentWork
+pub mod Weights

@@ -1,21 +1,24 @@
 -- Say that t is in the best set of R, and not in that of a smaller set to which it belongs. A set X of processors certifies
 -- that t is left out there. Of the best set of R, let those whom its placement puts on X make way for the occupants of X: no
 -- fewer tasks are placed then, all more urgent than t. But the best set keeps up with every placeable one.
-use Rattle.std.proofs.Common.{◌≡◌, ℕ, suc, ◌-◌, ◌<◌, ◌≤◌, Bool, true, false, not, ◌&&◌, ◌||◌, ◌⊎◌, Option, Some, None, if◌then◌else◌, nat_le, refl, sym, ap, ◌∙◌, subst, inl, inr, IsTrue, arith}
-use Rattle.std.proofs.lemmas.Bool.{cases_Bool, cases_eq, cases_lt, true≢false, and_from, and_right, and_parts, or_left, or_right, or_cases, le-leb, lt-leb, leb-true}
-use Rattle.affinity_mask.specs.ProcSet.{has}
+use Rattle.std.proofs.Common.{◌≡◌, ℕ, suc, ◌-◌, ◌<◌, ◌≤◌, Bool, true, false, not, ◌&&◌, ◌||◌, ◌⊎◌, Option, Some, None, if◌then◌else◌, nat_le, nat_lt, refl, sym, ap, ◌∙◌, subst, inl, inr, IsTrue, arith}
+use Rattle.std.proofs.lemmas.Bool.{cases_Bool, cases_eq, cases_lt, true≢false, and_from, and_left, and_right, and_parts, or_left, or_right, or_cases, le-leb, lt-leb, leb-true, lt-ltb}
+use Rattle.affinity_mask.specs.ProcSet.{has, Within}
 use Rattle.strong_apa.specs.State.{State, IsState, IsWaiting, task_count, task_on, is_linked, priority_of, effective_mask}
 use Rattle.strong_apa.specs.Placement.{TaskTest, IsSubset, IsPlacement, IsBest}
 use Rattle.strong_apa.specs.Certificate.{IsCertificate}
 use Rattle.strong_apa.proofs.Counts.{count_below, count_below-agree, count_below-one_more, IsInjection, count_below-injection}
 use Rattle.strong_apa.proofs.Fullness.{linked_keeps_up}
+use Rattle.strong_apa.proofs.Masks.{effective_mask_below}
 use Rattle.scheduling_laws.specs.Staying.{BestStays}
 use Rattle.scheduling_laws.proofs.PlacedState.{placed_state, ready_is, on_is, linked_is, placed_ok, placed_certificates}
 
-module _ (s : State) (ok : IsState s) (R fewer best best' : TaskTest) (number : (t : ℕ) → R t ≡ true → t < task_count s) (subset : IsSubset fewer R) (is_best : IsBest s R best) (is_best' : IsBest s fewer best') where
-  number' : (t : ℕ) → fewer t ≡ true → t < task_count s
-  number' t h = number t (subset t h)
+-- the tasks that count have the same priorities in both states, and the first one has what its processors leave of their effective masks
+pub record IsNarrower (s s' : State) (tasks : TaskTest) : Type 0 where
+  pub priority : (t : ℕ) → tasks t ≡ true → priority_of s' t ≡ priority_of s t
+  pub mask : (t : ℕ) → tasks t ≡ true → (p : ℕ) → has (effective_mask s t) p ≡ (has (effective_mask s' t) p && nat_lt p s.processors)
 
+module _ (s s' : State) (ok : IsState s) (ok' : IsState s') (R fewer best best' : TaskTest) (number : (t : ℕ) → R t ≡ true → t < task_count s) (number' : (t : ℕ) → fewer t ≡ true → t < task_count s') (subset : IsSubset fewer R) (is_best : IsBest s R best) (is_best' : IsBest s' fewer best') (narrower : IsNarrower s s' fewer) where
   abbrev here : ℕ → ℕ
   here u = is_best.placeable.0 u
 
@@ -24,45 +27,59 @@ module _ (s : State) (ok : IsState s) (R fewer best best' : TaskTest) (number : 
 
   -- the state of the smaller set
   abbrev smaller : State
-  smaller = placed_state s ok fewer number' best' is_best'
+  smaller = placed_state s' ok' fewer number' best' is_best'
 
   module _ (t : ℕ) (member : best t ≡ true) (inside : fewer t ≡ true) (out : best' t ≡ false) where
     waits : IsWaiting smaller t
     waits = record {
-      ready = ready_is s ok fewer number' best' is_best' t ∙ inside;
-      not_linked = linked_is s ok fewer number' best' is_best' t ∙ out;
+      ready = ready_is s' ok' fewer number' best' is_best' t ∙ inside;
+      not_linked = linked_is s' ok' fewer number' best' is_best' t ∙ out;
     }
 
     abbrev X : ℕ
-    X = (placed_certificates s ok fewer number' best' is_best' t waits).0
+    X = (placed_certificates s' ok' fewer number' best' is_best' t waits).0
 
     certificate : IsCertificate smaller t X
-    certificate = (placed_certificates s ok fewer number' best' is_best' t waits).1
+    certificate = (placed_certificates s' ok' fewer number' best' is_best' t waits).1
+
+    -- whether a processor of X is one of the first state
+    abbrev in_X : ℕ → Bool
+    in_X p = has X p && nat_lt p s.processors
+
+    -- what stays within X stays there in the first state
+    stays_within : (w : ℕ) → fewer w ≡ true → Within (effective_mask s' w) X → (q : ℕ) → IsTrue (has (effective_mask s w) q) → IsTrue (in_X q)
+    stays_within w h within q there =
+        let parts = and_parts (has (effective_mask s' w) q) (nat_lt q s.processors) (sym (narrower.mask w h q) ∙ there) in
+        and_from _ _ (within q parts.0) parts.1
 
     -- t itself stands on X
-    t_on_X : IsTrue (has X (here t))
-    t_on_X = certificate.within (here t) (is_best.placeable.1.allowed t member)
+    t_on_X : IsTrue (in_X (here t))
+    t_on_X = stays_within t inside certificate.within (here t) (is_best.placeable.1.allowed t member)
 
     -- the occupant of a processor of X in the state of the smaller set
     record Holds (p w : ℕ) : Type 0 where
       chosen : best' w ≡ true
       place : there w ≡ p
       urgent : priority_of s w < priority_of s t
-      within : (q : ℕ) → IsTrue (has (effective_mask s w) q) → IsTrue (has X q)
+      within : (q : ℕ) → IsTrue (has (effective_mask s w) q) → IsTrue (in_X q)
       on : task_on smaller p ≡ Some w
 
-    holder : (p : ℕ) → IsTrue (has X p) → (w : ℕ) × Holds p w
-    holder p on_X =
-        let held = certificate.occupied p on_X in
-        let is = on_is s ok fewer number' best' is_best' p held.0 held.1 in
-        (held.0, record { chosen = is.0; place = is.1; urgent = held.2; within = held.3; on = held.1 })
+    holder : (p : ℕ) → IsTrue (in_X p) → (w : ℕ) × Holds p w
+    holder p there =
+        let held = certificate.occupied p (and_parts (has X p) (nat_lt p s.processors) there).0 in
+        let is = on_is s' ok' fewer number' best' is_best' p held.0 held.1 in
+        let h = is_best'.subset held.0 is.0 in
+        let a = narrower.priority held.0 h in
+        let b = narrower.priority t inside in
+        let less = held.2 in
+        (held.0, record { chosen = is.0; place = is.1; urgent = omega arith; within = stays_within held.0 h held.3; on = held.1 })
 
     -- the tasks that make way, and those that do not
     abbrev comes : ℕ → Bool
-    comes u = best' u && has X (there u)
+    comes u = best' u && in_X (there u)
 
     abbrev stays : ℕ → Bool
-    stays u = best u && not (has X (here u))
+    stays u = best u && not (in_X (here u))
 
     abbrev D : TaskTest
     D u = comes u || stays u
@@ -82,8 +99,8 @@ module _ (s : State) (ok : IsState s) (R fewer best best' : TaskTest) (number : 
       | inr k ↦ k
     ]
 
-    off_X : (u : ℕ) → stays u ≡ true → has X (here u) ≡ false
-    off_X u h = elim (cases_Bool (has X (here u))) [
+    off_X : (u : ℕ) → stays u ≡ true → in_X (here u) ≡ false
+    off_X u h = elim (cases_Bool (in_X (here u))) [
       | inl on_X ↦ absurd (true≢false (sym (and_parts (best u) _ h).1 ∙ ap not on_X))
       | inr off ↦ off
     ]
@@ -97,16 +114,16 @@ module _ (s : State) (ok : IsState s) (R fewer best best' : TaskTest) (number : 
     D-placement : IsPlacement s D place_of
     D-placement = record {
       allowed = λ u h. elim (cases_Bool (comes u)) [
-        | inl c ↦ subst (λ (q : ℕ). IsTrue (has (effective_mask s u) q)) (sym (place-comes u c)) (is_best'.placeable.1.allowed u (and_parts (best' u) _ c).0)
+        | inl c ↦ subst (λ (q : ℕ). IsTrue (has (effective_mask s u) q)) (sym (place-comes u c)) (narrower.mask u (is_best'.subset u (and_parts (best' u) _ c).0) (there u) ∙ and_from _ _ (is_best'.placeable.1.allowed u (and_parts (best' u) _ c).0) (and_parts (has X (there u)) _ (and_parts (best' u) _ c).1).1)
         | inr k ↦ subst (λ (q : ℕ). IsTrue (has (effective_mask s u) q)) (sym (place-stays u k)) (is_best.placeable.1.allowed u (and_parts (best u) _ (stays-from u h k)).0)
       ];
       apart = λ u v hu hv e. elim (cases_Bool (comes u)) [
         | inl c ↦ elim (cases_Bool (comes v)) [
           | inl d ↦ is_best'.placeable.1.apart u v (and_parts (best' u) _ c).0 (and_parts (best' v) _ d).0 (sym (place-comes u c) ∙ e ∙ place-comes v d)
-          | inr d ↦ absurd (true≢false (sym (and_parts (best' u) _ c).1 ∙ ap (has X) (sym (place-comes u c) ∙ e ∙ place-stays v d) ∙ off_X v (stays-from v hv d)))
+          | inr d ↦ absurd (true≢false (sym (and_parts (best' u) _ c).1 ∙ ap in_X (sym (place-comes u c) ∙ e ∙ place-stays v d) ∙ off_X v (stays-from v hv d)))
         ]
         | inr c ↦ elim (cases_Bool (comes v)) [
-          | inl d ↦ absurd (true≢false (sym (and_parts (best' v) _ d).1 ∙ ap (has X) (sym (place-comes v d) ∙ sym e ∙ place-stays u c) ∙ off_X u (stays-from u hu c)))
+          | inl d ↦ absurd (true≢false (sym (and_parts (best' v) _ d).1 ∙ ap in_X (sym (place-comes v d) ∙ sym e ∙ place-stays u c) ∙ off_X u (stays-from u hu c)))
           | inr d ↦ is_best.placeable.1.apart u v (and_parts (best u) _ (stays-from u hu c)).0 (and_parts (best v) _ (stays-from v hv d)).0 (sym (place-stays u c) ∙ e ∙ place-stays v d)
         ]
       ];
@@ -124,7 +141,7 @@ module _ (s : State) (ok : IsState s) (R fewer best best' : TaskTest) (number : 
     more_urgent u h le = elim (cases_eq (priority_of s u) (priority_of s t)) [
       | inl e ↦ absurd (
           let same = ok.distinct u t (number u (is_best.subset u (and_parts (best u) _ h).0)) (number t (is_best.subset t member)) e in
-          true≢false (sym t_on_X ∙ ap (λ (x : ℕ). has X (here x)) (sym same) ∙ off_X u h))
+          true≢false (sym t_on_X ∙ ap (λ (x : ℕ). in_X (here x)) (sym same) ∙ off_X u h))
       | inr ne ↦ (let some = later in omega arith)
     ]
 
@@ -132,22 +149,22 @@ module _ (s : State) (ok : IsState s) (R fewer best best' : TaskTest) (number : 
     record IsPartner (u w : ℕ) : Type 0 where
       in_D : D w ≡ true
       early : priority_of s w ≤ bound
-      which : (IsTrue (has X (here u)) × Holds (here u) w) ⊎ ((has X (here u) ≡ false) × (w ≡ u))
+      which : (IsTrue (in_X (here u)) × Holds (here u) w) ⊎ ((in_X (here u) ≡ false) × (w ≡ u))
 
     abbrev who : Option ℕ → ℕ
     who None = 0
     who (Some w) = w
 
     abbrev partner : ℕ → ℕ
-    partner u = if has X (here u) then who (task_on smaller (here u)) else u
+    partner u = if in_X (here u) then who (task_on smaller (here u)) else u
 
     is_partner : (u : ℕ) → best u ≡ true → priority_of s u ≤ priority_of s t → IsPartner u (partner u)
-    is_partner u in_best le = elim (cases_Bool (has X (here u))) [
+    is_partner u in_best le = elim (cases_Bool (in_X (here u))) [
       | inl on_X ↦ (
           let w = holder (here u) on_X in
           let it : partner u ≡ w.0 = rw on_X (ap who w.1.on) in
           subst (IsPartner u) (sym it) record {
-            in_D = or_left _ _ (and_from _ _ w.1.chosen (ap (has X) w.1.place ∙ on_X));
+            in_D = or_left _ _ (and_from _ _ w.1.chosen (ap in_X w.1.place ∙ on_X));
             early = (let lt = w.1.urgent in omega arith);
             which = inl (on_X, w.1);
           })
@@ -158,16 +175,16 @@ module _ (s : State) (ok : IsState s) (R fewer best best' : TaskTest) (number : 
     ]
 
     -- the placement puts such an occupant on X as well
-    put_on_X : (p w : ℕ) → Holds p w → best w ≡ true → IsTrue (has X (here w))
+    put_on_X : (p w : ℕ) → Holds p w → best w ≡ true → IsTrue (in_X (here w))
     put_on_X p w holds in_best = holds.within (here w) (is_best.placeable.1.allowed w in_best)
 
     partners_differ : (u v w : ℕ) → best u ≡ true → best v ≡ true → IsPartner u w → IsPartner v w → u ≡ v
     partners_differ u v w hu hv a b = go a.which b.which
       where
-        go : (IsTrue (has X (here u)) × Holds (here u) w) ⊎ ((has X (here u) ≡ false) × (w ≡ u)) → (IsTrue (has X (here v)) × Holds (here v) w) ⊎ ((has X (here v) ≡ false) × (w ≡ v)) → u ≡ v
+        go : (IsTrue (in_X (here u)) × Holds (here u) w) ⊎ ((in_X (here u) ≡ false) × (w ≡ u)) → (IsTrue (in_X (here v)) × Holds (here v) w) ⊎ ((in_X (here v) ≡ false) × (w ≡ v)) → u ≡ v
         go (inl x) (inl y) = is_best.placeable.1.apart u v hu hv (sym x.1.place ∙ y.1.place)
-        go (inl x) (inr y) = absurd (true≢false (sym (put_on_X (here u) w x.1 (ap best y.1 ∙ hv)) ∙ ap (λ (z : ℕ). has X (here z)) y.1 ∙ y.0))
-        go (inr x) (inl y) = absurd (true≢false (sym (put_on_X (here v) w y.1 (ap best x.1 ∙ hu)) ∙ ap (λ (z : ℕ). has X (here z)) x.1 ∙ x.0))
+        go (inl x) (inr y) = absurd (true≢false (sym (put_on_X (here u) w x.1 (ap best y.1 ∙ hv)) ∙ ap (λ (z : ℕ). in_X (here z)) y.1 ∙ y.0))
+        go (inr x) (inl y) = absurd (true≢false (sym (put_on_X (here v) w y.1 (ap best x.1 ∙ hu)) ∙ ap (λ (z : ℕ). in_X (here z)) x.1 ∙ x.0))
         go (inr x) (inr y) = sym x.1 ∙ y.1
 
     -- the tasks of a set up to the priority of t, and those before it
@@ -211,8 +228,19 @@ module _ (s : State) (ok : IsState s) (R fewer best best' : TaskTest) (number : 
     left_out : ⊥
     left_out = let more = one_more in let most = keeps_up in let few = count_below-injection (upto best) (task_count s) (before D) (task_count s) partner partners in omega arith
 
-pub best_stays : BestStays
-best_stays s R fewer best best' ok number subset is_best is_best' t member inside = elim (cases_Bool (best' t)) [
+pub stays_with_more : (s s' : State) → IsState s → IsState s' → (R fewer best best' : TaskTest) → ((t : ℕ) → R t ≡ true → t < task_count s) → ((t : ℕ) → fewer t ≡ true → t < task_count s')
+    → IsSubset fewer R → IsBest s R best → IsBest s' fewer best' → IsNarrower s s' fewer → (t : ℕ) → best t ≡ true → fewer t ≡ true → best' t ≡ true
+stays_with_more s s' ok ok' R fewer best best' number number' subset is_best is_best' narrower t member inside = elim (cases_Bool (best' t)) [
   | inl chosen ↦ chosen
-  | inr out ↦ absurd (left_out s ok R fewer best best' number subset is_best is_best' t member inside out)
+  | inr out ↦ absurd (left_out s s' ok ok' R fewer best best' number number' subset is_best is_best' narrower t member inside out)
 ]
+
+pub best_stays : BestStays
+best_stays s R fewer best best' ok number subset is_best is_best' =
+    stays_with_more s s ok ok R fewer best best' number (λ t h. number t (subset t h)) subset is_best is_best' record {
+      priority = λ t h. refl;
+      mask = λ t h p. elim (cases_Bool (has (effective_mask s t) p)) [
+        | inl there ↦ there ∙ sym (and_from _ _ there (lt-ltb _ _ (effective_mask_below s ok t p there)))
+        | inr out ↦ out ∙ sym (and_left (has (effective_mask s t) p) (nat_lt p s.processors) out)
+      ];
+    }

@@ -1,11 +1,13 @@
 -- Where the urgent jobs ask for less, each task has as many of its jobs done: whoever is ready is ready in the longer run too, and
 -- so a task that is linked there is linked here, or has nothing left to do.
-use Rattle.std.proofs.Common.{◌≡◌, ℕ, zero, suc, ◌+◌, ◌-◌, ◌<◌, ◌≤◌, ◌⊎◌, true, false, List, [], ◌∷◌, length, refl, sym, ap, ◌∙◌, inl, inr, arith}
-use Rattle.std.proofs.lemmas.Bool.{cases_Bool, cases_lt, true≢false, and_from, and_parts, le-leb}
+use Rattle.std.proofs.Common.{◌≡◌, ℕ, zero, suc, ◌+◌, ◌-◌, ◌<◌, ◌≤◌, ◌⊎◌, ◌&&◌, Bool, true, false, nat_lt, List, [], ◌∷◌, length, refl, sym, ap, ◌∙◌, inl, inr, arith}
+use Rattle.std.proofs.lemmas.Bool.{cases_Bool, cases_lt, true≢false, and_from, and_parts, le-leb, lt-ltb, ltb-true}
 use Rattle.std.proofs.lemmas.List.{length-map}
+use Rattle.affinity_mask.specs.ProcSet.{has, all_below, intersection, Within}
+use Rattle.affinity_mask.proofs.Sets.{has-all_below, has-intersection, intersection-all_below}
 use Rattle.task_set.specs.TaskSet.{TaskData}
 use Rattle.strong_apa.specs.declared.reply.Entry.{Entry}
-use Rattle.strong_apa.specs.State.{start_of, task_count, is_ready, is_linked}
+use Rattle.strong_apa.specs.State.{start_of, task_count, is_ready, is_linked, mask_of, effective_mask}
 use Rattle.strong_apa.specs.Placement.{IsSubset}
 use Rattle.strong_apa.proofs.Start.{IsState-start}
 use Rattle.strong_apa.proofs.Least.{Decided}
@@ -20,16 +22,16 @@ use Rattle.job_release.specs.Moments.{Timeline, state_at, service_of}
 use Rattle.job_release.proofs.Demands.{asked_more, asked_past, asked_upto, released_later, demand_is}
 use Rattle.job_release.proofs.Moments.{no_service}
 use Rattle.scheduling_laws.specs.Isolation.{IsUrgent}
+use Rattle.scheduling_laws.specs.MoreProcessors.{HasMoreRoomUpTo, MoreProcessorsKeepUp, MoreProcessorsFinishNoLater}
 use Rattle.scheduling_laws.specs.Sustained.{IsNoLonger, AsksNoMoreUpTo, ShorterJobsKeepUp, ShorterJobsFinishNoLater}
 use Rattle.scheduling_laws.proofs.Isolation.{urgent_ready, urgent_linked, ready_is_urgent, urgent_best}
-use Rattle.scheduling_laws.proofs.BestElsewhere.{IsBest-on}
-use Rattle.scheduling_laws.proofs.Staying.{best_stays}
+use Rattle.scheduling_laws.proofs.Staying.{stays_with_more}
 
 -- one moment more of service
-service_more : (states : Timeline) (t x : ℕ) → is_linked (states x) t ≡ true → service_of states t (suc x) ≡ suc (service_of states t x)
+pub service_more : (states : Timeline) (t x : ℕ) → is_linked (states x) t ≡ true → service_of states t (suc x) ≡ suc (service_of states t x)
 service_more states t x linked = count_below-more (λ y. is_linked (states y) t) x linked
 
-service_same : (states : Timeline) (t x : ℕ) → is_linked (states x) t ≡ false → service_of states t (suc x) ≡ service_of states t x
+pub service_same : (states : Timeline) (t x : ℕ) → is_linked (states x) t ≡ false → service_of states t (suc x) ≡ service_of states t x
 service_same states t x not_linked = count_below-same (λ y. is_linked (states y) t) x not_linked
 
 -- ---- lists of jobs that are released at the same moments
@@ -71,12 +73,12 @@ asked_no_more jobs jobs' shorter (suc k) =
     omega arith
 
 -- how many of the first n jobs are released by a moment, where none is released before an earlier one
-record AreReleased (jobs : List Job) (x r : ℕ) : Type 0 where
-  few : r ≤ length jobs
-  before : (k : ℕ) → k < r → (job_at jobs k).release ≤ x
-  after : (k : ℕ) → r ≤ k → k < length jobs → x < (job_at jobs k).release
+pub record AreReleased (jobs : List Job) (x r : ℕ) : Type 0 where
+  pub few : r ≤ length jobs
+  pub before : (k : ℕ) → k < r → (job_at jobs k).release ≤ x
+  pub after : (k : ℕ) → r ≤ k → k < length jobs → x < (job_at jobs k).release
 
-released_among : (horizon : ℕ) (jobs : List Job) → AreJobs horizon jobs → (x n : ℕ) → n ≤ length jobs → ((k : ℕ) → n ≤ k → k < length jobs → x < (job_at jobs k).release)
+pub released_among : (horizon : ℕ) (jobs : List Job) → AreJobs horizon jobs → (x n : ℕ) → n ≤ length jobs → ((k : ℕ) → n ≤ k → k < length jobs → x < (job_at jobs k).release)
     → (r : ℕ) × AreReleased jobs x r
 released_among horizon jobs valid x zero within after = (0, record { few = omega arith; before = λ k below. absurd (omega arith); after = after })
 released_among horizon jobs valid x (suc n) within after = elim (cases_lt x (job_at jobs n).release) [
@@ -154,7 +156,14 @@ module _ (jobs jobs' : List Job) (shorter : AreNoLonger jobs jobs') where
           ]
 
 -- ---- two runs
-module _ (bound : ℕ) (one other : JobInputData) (agree : AsksNoMoreUpTo bound one other) (valid : IsJobInput one) (also_valid : IsJobInput other) (history also : List Entry) (runs : RunsJobs one history) (also_runs : RunsJobs other also) where
+twice : (a b c : Bool) → (b ≡ true → c ≡ true) → ((a && b) && b) ≡ ((a && c) && b)
+twice false b c up = refl
+twice true false false up = refl
+twice true false true up = refl
+twice true true false up = sym (up refl)
+twice true true true up = refl
+
+module _ (bound : ℕ) (one other : JobInputData) (agree : HasMoreRoomUpTo bound one other) (valid : IsJobInput one) (also_valid : IsJobInput other) (history also : List Entry) (runs : RunsJobs one history) (also_runs : RunsJobs other also) where
   abbrev states : Timeline
   states = state_at (start_of one.set) history
 
@@ -206,19 +215,34 @@ module _ (bound : ℕ) (one other : JobInputData) (agree : AsksNoMoreUpTo bound 
       let each = valid.one_each in
       omega arith
 
+  also_numbers : (x t : ℕ) → urgent_ready other also bound x t ≡ true → t < task_count (start_of other.set)
+  also_numbers x t h =
+      let number = (ready_is_urgent other also_valid also also_runs bound x t h).0 in
+      let all : task_count (start_of other.set) ≡ length other.set.tasks = length-map other.set.tasks (λ (task : TaskData). task.priority) in
+      let each = also_valid.one_each in
+      omega arith
+
+  -- the one input has what its processors leave of the mask
+  narrower : (u p : ℕ) → IsUrgent other bound u → has (effective_mask (start_of one.set) u) p ≡ (has (effective_mask (start_of other.set) u) p && nat_lt p one.set.processors)
+  narrower u p urgent =
+      ap (λ (X : ℕ). has (intersection X (all_below one.set.processors)) p) (agree.each u urgent).mask
+      ∙ has-intersection (intersection (mask_of (start_of other.set) u) (all_below one.set.processors)) (all_below one.set.processors) p
+      ∙ ap (λ (b : Bool). b && has (all_below one.set.processors) p) (has-intersection (mask_of (start_of other.set) u) (all_below one.set.processors) p)
+      ∙ ap (λ (b : Bool). (has (mask_of (start_of other.set) u) p && b) && b) (has-all_below one.set.processors p)
+      ∙ twice (has (mask_of (start_of other.set) u) p) (nat_lt p one.set.processors) (nat_lt p other.set.processors) (λ h. lt-ltb _ _ (let lt = ltb-true p one.set.processors h in let more = agree.processors in omega arith))
+      ∙ ap (λ (b : Bool). (has (mask_of (start_of other.set) u) p && b) && nat_lt p one.set.processors) (sym (has-all_below other.set.processors p))
+      ∙ ap (λ (b : Bool). b && nat_lt p one.set.processors) (sym (has-intersection (mask_of (start_of other.set) u) (all_below other.set.processors) p))
+
   -- whoever is linked in the one run, and ready in the other, is linked there too
   linked_too : (x : ℕ) → x < one.horizon → AllKeepUp x → (t : ℕ) → IsUrgent other bound t → is_linked (state_at (start_of one.set) history x) t ≡ true → is_ready (state_at (start_of other.set) also x) t ≡ true
       → is_linked (state_at (start_of other.set) also x) t ≡ true
   linked_too x below keeps t there linked ready =
       let urgent = agree.urgent t there in
       let is_urgent : (u : ℕ) → urgent_ready other also bound x u ≡ true → IsUrgent other bound u = λ u h. (ready_is_urgent other also_valid also also_runs bound x u h) in
-      let moved = IsBest-on (start_of other.set) (start_of one.set) (urgent_ready other also bound x) (urgent_ready other also bound x) (urgent_linked other also bound x)
-      (record {
-        priority = λ u h. (agree.each u (is_urgent u h)).priority;
-        mask = λ u h p. rw (agree.processors, (agree.each u (is_urgent u h)).mask) refl;
-      }) (λ u. refl) (urgent_best other also_valid also also_runs bound x (far x below)) in
-      let chosen = best_stays (start_of one.set) (urgent_ready one history bound x) (urgent_ready other also bound x) (urgent_linked one history bound x) (urgent_linked other also bound x)
-      (IsState-start one.set valid.valid) (numbers x) (fewer_ready x below keeps) (urgent_best one valid history runs bound x below) moved t
+      let chosen = stays_with_more (start_of one.set) (start_of other.set) (IsState-start one.set valid.valid) (IsState-start other.set also_valid.valid)
+      (urgent_ready one history bound x) (urgent_ready other also bound x) (urgent_linked one history bound x) (urgent_linked other also bound x)
+      (numbers x) (also_numbers x) (fewer_ready x below keeps) (urgent_best one valid history runs bound x below) (urgent_best other also_valid also also_runs bound x (far x below))
+      (record { priority = λ u h. sym (agree.each u (is_urgent u h)).priority; mask = λ u h p. narrower u p (is_urgent u h) }) t
       (and_from _ _ linked (le-leb _ _ urgent.1)) (and_from _ _ ready (le-leb _ _ there.1)) in
       (and_parts (is_linked (state_at (start_of other.set) also x) t) _ chosen).0
 
@@ -256,15 +280,15 @@ module _ (bound : ℕ) (one other : JobInputData) (agree : AsksNoMoreUpTo bound 
   keep_up (suc x) within t urgent = keep_up-more x (omega arith) (keep_up x (omega arith)) t urgent
 
 -- ---- the laws
-pub shorter_jobs_keep_up : ShorterJobsKeepUp
-shorter_jobs_keep_up bound one other history also t valid also_valid agree runs also_runs urgent k x within done =
+pub more_processors_keep_up : MoreProcessorsKeepUp
+more_processors_keep_up bound one other history also t valid also_valid agree runs also_runs urgent k x within done =
     let h = keep_up bound one other agree valid also_valid history also runs also_runs x within t urgent (k + 1) 0 (omega arith) (omega arith) in omega arith
 
-pub shorter_jobs_finish_no_later : ShorterJobsFinishNoLater
-shorter_jobs_finish_no_later bound one other history also t valid also_valid agree runs also_runs urgent k x finish =
+pub more_processors_finish_no_later : MoreProcessorsFinishNoLater
+more_processors_finish_no_later bound one other history also t valid also_valid agree runs also_runs urgent k x finish =
     let goal = goal_of (jobs_at other.jobs t) k in
     let states' = state_at (start_of other.set) also in
-    let done = shorter_jobs_keep_up bound one other history also t valid also_valid agree runs also_runs urgent k x finish.within finish.got in
+    let done = more_processors_keep_up bound one other history also t valid also_valid agree runs also_runs urgent k x finish.within finish.got in
     elim (first_below (λ y. goal ≤ service_of states' t y) (λ y. decided goal (service_of states' t y)) (λ y z. y ≤ z) either (λ a b c le more. omega arith) (suc x)) [
       | inl found ↦ (
         found.0,
@@ -286,3 +310,32 @@ shorter_jobs_finish_no_later bound one other history also t valid also_valid agr
 
     either : (a b : ℕ) → (a ≤ b) ⊎ (b ≤ a)
     either a b = elim (cases_lt a b) [ inl lt ↦ inl (omega arith) | inr ge ↦ inr ge ]
+
+-- with the same processors
+same_room : (bound : ℕ) (one other : JobInputData) → IsJobInput other → AsksNoMoreUpTo bound one other → HasMoreRoomUpTo bound one other
+same_room bound one other also_valid agree = record {
+  processors = (let e = agree.processors in omega arith);
+  horizon = agree.horizon;
+  urgent = agree.urgent;
+  each = λ t urgent. let how = agree.each t urgent in record {
+    priority = how.priority;
+    mask = how.mask ∙ sym (intersection-all_below (mask_of (start_of other.set) t) one.set.processors (within t urgent));
+    count = how.count;
+    each = how.each;
+  };
+}
+  where
+    within : (t : ℕ) → IsUrgent other bound t → Within (mask_of (start_of other.set) t) (all_below one.set.processors)
+    within t urgent p there =
+        let all : task_count (start_of other.set) ≡ length other.set.tasks = length-map other.set.tasks (λ (task : TaskData). task.priority) in
+        let one_each = also_valid.one_each in
+        let number = urgent.0 in
+        let below = ((IsState-start other.set also_valid.valid).masks t (omega arith)).below p there in
+        let e = agree.processors in
+        has-all_below one.set.processors p ∙ lt-ltb _ _ (omega arith)
+
+pub shorter_jobs_keep_up : ShorterJobsKeepUp
+shorter_jobs_keep_up bound one other history also t valid also_valid agree = more_processors_keep_up bound one other history also t valid also_valid (same_room bound one other also_valid agree)
+
+pub shorter_jobs_finish_no_later : ShorterJobsFinishNoLater
+shorter_jobs_finish_no_later bound one other history also t valid also_valid agree = more_processors_finish_no_later bound one other history also t valid also_valid (same_room bound one other also_valid agree)

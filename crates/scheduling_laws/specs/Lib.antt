@@ -1,11 +1,15 @@
 pub mod Faces
 pub mod Going
+pub mod Hall
 pub mod InReach
 pub mod Isolation
 pub mod Merges
+pub mod MoreProcessors
 pub mod OneEnd
+pub mod Response
 pub mod ShiftCounts
 pub mod Staying
 pub mod Sustained
 pub mod Urgency
 pub mod UrgentWork
+pub mod Weights

@@ -2,15 +2,19 @@
 //! the law by its clause.
 ghost use Rattle.scheduling_laws.specs.Faces.{BestIsCertified, CertifiedIsWithoutChain, CertifiedIsByReach};
 ghost use Rattle.scheduling_laws.specs.Going.{OrdersCanGoOnFrom, OrdersCanGoOn, OrdersCanBeEndedFrom, OrdersCanBeEnded};
+ghost use Rattle.scheduling_laws.specs.Hall.{PlaceableIsUncrowded, PlaceableOrCrowded};
 ghost use Rattle.scheduling_laws.specs.InReach.{LegalConservesWork, PassingConservesWork, LegalHasNoInversion, PassingHasNoInversion};
 ghost use Rattle.scheduling_laws.specs.Isolation.{UrgentServiceIsIsolated, UrgentFinishIsIsolated};
 ghost use Rattle.scheduling_laws.specs.Merges.{MergesHaveOneEnd};
+ghost use Rattle.scheduling_laws.specs.MoreProcessors.{MoreProcessorsKeepUp, MoreProcessorsFinishNoLater};
 ghost use Rattle.scheduling_laws.specs.OneEnd.{SameEventsHaveOneEnd, CallersGiveSameEvents};
+ghost use Rattle.scheduling_laws.specs.Response.{WaitingIsInterference, LittleInterferenceIsInTime, SmallDemandIsInTime};
 ghost use Rattle.scheduling_laws.specs.ShiftCounts.{PassingShiftsFew, LegalShiftsFew};
 ghost use Rattle.scheduling_laws.specs.Staying.{BestStays};
 ghost use Rattle.scheduling_laws.specs.Sustained.{ShorterJobsKeepUp, ShorterJobsFinishNoLater};
 ghost use Rattle.scheduling_laws.specs.Urgency.{BestRestricts};
 ghost use Rattle.scheduling_laws.specs.UrgentWork.{LinkedDoesMostWork};
+ghost use Rattle.scheduling_laws.specs.Weights.{BestWeighsMost, LegalWeighsMost, PassingWeighsMost};
 
 // ---- the best set
 
@@ -31,6 +35,13 @@ pub fn best_stays()
     ensures { BestStays }
 {}
 
+/// Hall's theorem for masks: a set of tasks is placeable exactly where no more of them are confined to any set of processors than it has
+/// members. Where a set is not placeable, such a set of processors is the reason.
+pub fn placeable_is_uncrowded()
+    ensures hall { PlaceableIsUncrowded }
+    ensures reason { PlaceableOrCrowded }
+{}
+
 // ---- after every entry of a history
 
 /// Work is conserved: no processor idles that a waiting task reaches.
@@ -49,6 +60,13 @@ pub fn no_priority_inversion()
 /// up to any priority.
 pub fn most_urgent_work_is_done()
     ensures { LinkedDoesMostWork }
+{}
+
+/// The linked tasks are an assignment of maximum weight, for all weights at once that fall with urgency.
+pub fn linked_weighs_most()
+    ensures best { BestWeighsMost }
+    ensures legal { LegalWeighsMost }
+    ensures passing { PassingWeighsMost }
 {}
 
 /// On m processors at most m - 1 running tasks are shifted at an event, and at most twice as many at a change of a mask.
@@ -72,6 +90,21 @@ pub fn urgent_tasks_are_isolated()
 pub fn shorter_jobs_finish_no_later()
     ensures done { ShorterJobsKeepUp }
     ensures finish { ShorterJobsFinishNoLater }
+{}
+
+/// With more processors nothing is finished later, and with fewer nothing earlier. Where another input has the same processors and more,
+/// which its masks may have too, each task up to a priority has as many jobs done before every moment, and finishes each no later.
+pub fn more_processors_finish_no_later()
+    ensures done { MoreProcessorsKeepUp }
+    ensures finish { MoreProcessorsFinishNoLater }
+{}
+
+/// A task that waits has each processor of its mask busy with more urgent tasks. So where those get, or ask for, less in a window than
+/// its processors can give beside what is left of a job, the job is finished by the end of the window: a response-time test.
+pub fn little_interference_is_in_time()
+    ensures waiting { WaitingIsInterference }
+    ensures service { LittleInterferenceIsInTime }
+    ensures demand { SmallDemandIsInTime }
 {}
 
 // ---- between threads
