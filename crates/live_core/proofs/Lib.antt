@@ -4,3 +4,10 @@ pub mod ShiftPasses
 pub mod StepPasses
 pub mod ComingAndGoing
 pub mod Counted
+pub mod SeenTables
+pub mod Noting
+pub mod Helping
+pub mod Losing
+pub mod Settling
+pub mod Counting
+pub mod Copying

@@ -5,4 +5,6 @@ pub mod MoveView
 pub mod Moves
 pub mod Needed
 pub mod Optimal
+pub mod Seen
+pub mod SeenView
 pub mod Slots

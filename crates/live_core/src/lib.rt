@@ -9,8 +9,10 @@
 
 mod live;
 mod moves;
+mod seen;
 mod slots;
 
 pub use live::LiveCore;
 pub use moves::Move;
+pub use seen::SeenPlacement;
 pub use slots::SlotFault;

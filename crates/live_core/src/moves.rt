@@ -5,6 +5,7 @@ ghost use Rattle.strong_apa.specs.Reply.{filling_chain, coming_chain};
 ghost use Rattle.live_core.specs.MoveData.{entered_by, moved_of};
 
 use affinity_mask::OutOfMemory;
+use link_table::Links;
 use std::alloc::Global;
 use std::marker::Model;
 use strong_apa::{Chain, Moved, Reply};
@@ -86,6 +87,27 @@ impl MoveList {
     {
         self.clear();
         self.add(event, reply);
+    }
+
+    /// The occupants are those of a table, and the moves are forgotten.
+    pub(crate) fn begin_at(&mut self, links: &Links)
+        requires { length self.old.occupants ≡ links.now.processors }
+        ensures { self.new ≡ record { occupants = links.now.on; moves = [] } }
+    {
+        self.moves.clear();
+        copy_occupants(&mut self.occupants, links);
+    }
+
+    /// A task starts on the first processor of a chain, on whose last nobody is, and each occupant goes on the next one.
+    pub(crate) fn let_in(&mut self, task: u32, chain: &[u8])
+        requires can { (after : List (Option ℕ)) × Passes self.old.occupants (Some task) chain.now after }
+        requires none { self.old.moves ≡ [] }
+        ensures moves { Replays self.old.occupants self.new.moves self.new.occupants }
+        ensures few { length self.new.moves ≤ 65 }
+        ensures occupants { (after : List (Option ℕ))
+            → Passes self.old.occupants (Some task) chain.now after → self.new.occupants ≡ after }
+    {
+        self.pass_on(Some(task), chain);
     }
 
     /// The moves are forgotten.
@@ -308,5 +330,15 @@ fn moved_by(reply: &Reply) -> Option<&Moved>
     match reply {
         Reply::Off { moved } => moved.as_ref(),
         _ => None,
+    }
+}
+
+/// Who is on each processor of a table.
+fn copy_occupants(occupants: &mut [Option<u32>], links: &Links)
+    requires { length occupants.old ≡ links.now.processors }
+    ensures { occupants.new ≡ links.now.on }
+{
+    for p in 0..links.processors() {
+        occupants[p as usize] = links.on(p);
     }
 }
