@@ -15,11 +15,12 @@ use Rattle.strong_apa.specs.Step.{OfflineStep}
 use Rattle.strong_apa.specs.Chain.{IsSimple}
 use Rattle.strong_apa.proofs.Simple.{IsSimple-head, IsSimple-tail}
 use Rattle.live_core.specs.Moves.{Replays, CanMove, IsNowhere, occupant_at, occupants_after}
-use Rattle.live_core.specs.MoveData.{Passes, OfflinePasses, LeadsTo, entered_by, moved_of, stop_of, shift_of, start_of_guest, shifts_along, last_of, passing_moves, IsOnce, AreOfflineMoves, AreMovesFor}
+use Rattle.live_core.specs.MoveData.{Passes, OfflinePasses, LeadsTo, entered_by, moved_of, stop_of, shift_of, start_of_guest, shifts_along, last_of, passing_moves, IsOnce, AreOfflineMoves, AreMovesFor, guest_who_stays}
 use Rattle.live_core.specs.Needed.{task_in, count_of, Stays, MovesOnce, AreNeeded}
 use Rattle.live_core.specs.declared.moves.Move.{Move}
 use Rattle.live_core.specs.declared.moves.Move.TheVariants.{Start, Shift, Stop}
 use Rattle.live_core.proofs.Replaying.{occupant-set, occupant-set_none, None≢Some, there_before, stopped_once, stopped_nowhere}
+use Rattle.live_core.proofs.Netting.{stays_out, guest_is_somewhere}
 use Rattle.live_core.proofs.StepPasses.{arrival_leads, departure_leads, mask_leads, offline_leads, online_leads}
 
 count-append : (t : ℕ) (xs ys : List Move) → count_of t (xs ++ ys) ≡ count_of t xs + count_of t ys
@@ -92,6 +93,10 @@ moved a (move ∷ rest) b t replays most stays = elim (cases_eq (task_in move) t
 
 moves_once : (a : List (Option ℕ)) (moves : List Move) (b : List (Option ℕ)) (t : ℕ) → Replays a moves b → count_of t moves ≤ 1 → MovesOnce a b moves t
 moves_once a moves b t replays most = record { most = most; stays = (unmoved a moves b t replays, moved a moves b t replays most) }
+
+-- one that runs neither before nor after them, where it has one at most
+moved_not : (a : List (Option ℕ)) (moves : List Move) (b : List (Option ℕ)) (t : ℕ) → Replays a moves b → count_of t moves ≤ 1 → IsNowhere a t → IsNowhere b t → count_of t moves ≡ 0
+moved_not a moves b t replays most before after = moved a moves b t replays most (λ p. (λ e. absurd (before p e), λ e. absurd (after p e)))
 
 -- ---- the moves along a chain
 count-stop : (t : ℕ) (o : Option ℕ) (p : ℕ) → o ≢ Some t → count_of t (stop_of o p) ≡ 0
@@ -187,6 +192,21 @@ passing-once on guest (p ∷ rest) t once simple nowhere = go (is_it guest t) (i
         let d = count-start t guest p another in
         omega (arith, total, a, b, d)
 
+-- of a task that is on no processor, and is not the guest
+passing-none : (on : List (Option ℕ)) (guest : Option ℕ) (chain : List ℕ) (t : ℕ) → IsNowhere on t → guest ≢ Some t → count_of t (passing_moves on guest chain) ≡ 0
+passing-none on guest [] t nowhere another = refl
+passing-none on guest (p ∷ rest) t nowhere another =
+    let last = last_of (p ∷ rest) in
+    let stops = stop_of (occupant_at on last) last in
+    let shifts = shifts_along (set on last None) (p ∷ rest) in
+    let starts = start_of_guest guest p in
+    let a = count-stop t (occupant_at on last) last (nowhere last) in
+    let b = shifts-none (set on last None) (p ∷ rest) t (λ i fits there. nowhere (get_or (p ∷ rest) i 0) (there_before on last (get_or (p ∷ rest) i 0) t there)) in
+    let d = count-start t guest p another in
+    let one = count-append t (stops ++ shifts) starts in
+    let two = count-append t stops shifts in
+    omega (arith, a, b, d, one, two)
+
 -- ---- how many moves
 stop-length : (o : Option ℕ) (p : ℕ) → length (stop_of o p) ≤ 1
 stop-length None p = omega arith
@@ -228,6 +248,7 @@ module _ (on : List (Option ℕ)) (after : List (Option ℕ)) (moves : List Move
         once = λ event_is t stays. moves_once on moves after t replays (most t);
         twice = λ t. let m = most t in omega arith;
         few = (let e = ap length exact in omega arith);
+        idle = λ t. moved_not on moves after t replays (most t);
       }
 
   needed_none : (event : Event) (reply : Reply) → moves ≡ [] → AreNeeded event reply on after moves
@@ -237,6 +258,7 @@ module _ (on : List (Option ℕ)) (after : List (Option ℕ)) (moves : List Move
         once = λ event_is t stays. moves_once on moves after t replays (most t);
         twice = λ t. let m = most t in omega arith;
         few = rw none (omega arith);
+        idle = λ t. moved_not on moves after t replays (most t);
       }
 
   twice_at_most : (first : Option ℕ) (one : List ℕ) (second : Option ℕ) (two : List ℕ) (between : List (Option ℕ)) → Passes on first one between → Passes between second two after
@@ -319,7 +341,20 @@ offline_needed on p reply after moves leads replays (Some moved) e passes exact 
           let f = first-length on p in
           let count = ap (λ (list : List Move). length list) both.0 in
           omega (arith, length-append (passing_moves on None (p ∷ [])) (passing_moves between (Some moved.task) (came_chain moved.came)));
+      idle = λ t before then.
+          let none = count-first on p t (before p) in
+          let m = most t in
+          moved_not on moves after t replays (omega arith) before then;
     }
+
+-- the first chain moves nobody who runs neither before nor after both
+first_of_none : (on : List (Option ℕ)) (guest : Option ℕ) (one : List ℕ) (t : ℕ) (two : List ℕ) (between after : List (Option ℕ)) (u : ℕ) → IsOnce between → IsNowhere on u → IsNowhere after u
+    → Passes on (guest_who_stays guest one two) one between → Passes between (Some t) two after → count_of u (passing_moves on (guest_who_stays guest one two) one) ≡ 0
+first_of_none on guest [] t two between after u once before then first second = refl
+first_of_none on guest (p ∷ rest) t two between after u once before then first second = elim (is_it (guest_who_stays guest (p ∷ rest) two) u) [
+  | inl own ↦ absurd (guest_is_somewhere on guest p rest t two between after u once own first second then)
+  | inr another ↦ passing-none on (guest_who_stays guest (p ∷ rest) two) (p ∷ rest) u before another
+]
 
 -- no move is needless
 pub needed : (on : List (Option ℕ)) (event : Event) (reply : Reply) (after : List (Option ℕ)) (moves : List Move) → LeadsTo on event reply after → AreMovesFor on event reply moves → Replays on moves after → AreNeeded event reply on after moves
@@ -334,21 +369,26 @@ needed on (Online p) reply after moves leads exact replays =
 needed on (Tick units) reply after moves leads exact replays = needed_none on after moves (once_before on (Tick units) reply after leads) replays (Tick units) reply exact
 needed on (Affinity t mask) reply after moves leads exact replays =
     let once = once_before on (Affinity t mask) reply after leads in
-    let passes = mask_leads on (Affinity t mask) reply after leads t mask refl in
+    let one = reverse (filling_chain reply) in
+    let guest = guest_who_stays (entered_by reply) one (coming_chain reply) in
+    let passes = stays_out on (entered_by reply) one t (coming_chain reply) after (mask_leads on (Affinity t mask) reply after leads t mask refl) in
     let between = passes.0 in
     let both = exact between passes.1 in
-    let one = reverse (filling_chain reply) in
-    let most = twice_at_most on after moves once replays (entered_by reply) one (Some t) (coming_chain reply) between passes.1 passes.2 both in
-    let first = passing-length on (entered_by reply) one in
+    let most = twice_at_most on after moves once replays guest one (Some t) (coming_chain reply) between passes.1 passes.2 both in
+    let first = passing-length on guest one in
     let later = passing-length between (Some t) (coming_chain reply) in
     record {
       once = λ masked. absurd masked;
       twice = λ u.
           let m = most u in
-          let f = passing-once on (entered_by reply) one u once passes.1.can.simple passes.1.nowhere in
+          let f = passing-once on guest one u once passes.1.can.simple passes.1.nowhere in
           omega arith;
       few =
           let count = ap (λ (list : List Move). length list) both.0 in
-          omega (arith, length-append (passing_moves on (entered_by reply) one) (passing_moves between (Some t) (coming_chain reply)), length-append (filling_chain reply) (coming_chain reply), length-reverse (filling_chain reply));
+          omega (arith, length-append (passing_moves on guest one) (passing_moves between (Some t) (coming_chain reply)), length-append (filling_chain reply) (coming_chain reply), length-reverse (filling_chain reply));
+      idle = λ u before then.
+          let none = first_of_none on (entered_by reply) one t (coming_chain reply) between after u (both.1 once) before then passes.1 passes.2 in
+          let m = most u in
+          moved_not on moves after u replays (omega arith) before then;
     }
 needed on (Offline p) reply after moves leads exact replays = offline_needed on p reply after moves leads replays (moved_of reply) refl (offline_leads on (Offline p) reply after leads p refl) exact

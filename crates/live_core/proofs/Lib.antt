@@ -3,6 +3,7 @@ pub mod PassingOn
 pub mod ShiftPasses
 pub mod StepPasses
 pub mod ComingAndGoing
+pub mod Netting
 pub mod Counted
 pub mod SeenTables
 pub mod Noting

@@ -123,6 +123,12 @@ abbrev pub AreOfflineMoves : List (Option ℕ) → ℕ → Option Moved → List
 AreOfflineMoves on p None moves = moves ≡ []
 AreOfflineMoves on p (Some moved) moves = AreMovesTwice on None (p ∷ []) (Some moved.task) (came_chain moved.came) moves
 
+-- the guest of a first chain; nobody, where a second chain ends on the processor on which the guest would start, and so would stop at once
+abbrev pub guest_who_stays : Option ℕ → List ℕ → List ℕ → Option ℕ
+guest_who_stays guest [] two = guest
+guest_who_stays guest (p ∷ rest) [] = guest
+guest_who_stays guest (p ∷ rest) (q ∷ more) = if p == last_of (q ∷ more) then None else guest
+
 -- the moves of an event with its reply
 abbrev pub AreMovesFor : List (Option ℕ) → Event → Reply → List Move → Type 0
 AreMovesFor on (Arrive t) reply moves = moves ≡ passing_moves on (Some t) (coming_chain reply)
@@ -130,5 +136,6 @@ AreMovesFor on (Depart t) reply moves = moves ≡ passing_moves on (entered_by r
 AreMovesFor on (Online p) reply moves = moves ≡ passing_moves on (entered_by reply) (reverse (filling_chain reply))
 AreMovesFor on (Tick units) reply moves = moves ≡ []
 AreMovesFor on (Affinity t mask) reply moves =
-    AreMovesTwice on (entered_by reply) (reverse (filling_chain reply)) (Some t) (coming_chain reply) moves
+    AreMovesTwice on (guest_who_stays (entered_by reply) (reverse (filling_chain reply)) (coming_chain reply)) (reverse (filling_chain reply)) (Some t)
+    (coming_chain reply) moves
 AreMovesFor on (Offline p) reply moves = AreOfflineMoves on p (moved_of reply) moves

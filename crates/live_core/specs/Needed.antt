@@ -1,12 +1,12 @@
 -- No move is needless. At all events but a change of a mask a task has one move where its processor changes, and else none; only the
--- task of a processor that goes off line may stop and start again.
+-- task of a processor that goes off line may stop and start again. At no event has a task a move that runs neither before nor after it.
 use Rattle.std.specs.Prelude.{◌≡◌, ℕ, ◌+◌, ◌≤◌, ◌↔◌, List, [], ◌∷◌, length, Option, Some, None, if◌then◌else◌, ◌==◌}
 use Rattle.task_set.specs.declared.event.Event.{Event}
 use Rattle.task_set.specs.declared.event.Event.TheVariants.{Arrive, Depart, Tick, Affinity, Offline, Online}
 use Rattle.strong_apa.specs.declared.reply.Reply.{Reply}
 use Rattle.strong_apa.specs.declared.reply.Moved.{Moved}
 use Rattle.strong_apa.specs.Reply.{chain_of}
-use Rattle.live_core.specs.Moves.{occupant_at}
+use Rattle.live_core.specs.Moves.{occupant_at, IsNowhere}
 use Rattle.live_core.specs.MoveData.{moved_of}
 use Rattle.live_core.specs.declared.moves.Move.{Move}
 use Rattle.live_core.specs.declared.moves.Move.TheVariants.{Start, Shift, Stop}
@@ -50,3 +50,4 @@ pub record AreNeeded (event : Event) (reply : Reply) (old new : List (Option ℕ
   pub once : IsNoMaskChange event → (t : ℕ) → ¬ HadToLeave (moved_of reply) t → MovesOnce old new moves t
   pub twice : (t : ℕ) → count_of t moves ≤ 2
   pub few : length moves ≤ length (chain_of reply) + 2
+  pub idle : (t : ℕ) → IsNowhere old t → IsNowhere new t → count_of t moves ≡ 0

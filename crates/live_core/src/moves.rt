@@ -2,7 +2,7 @@
 ghost use Rattle.std.specs.Prelude.{◌≡◌, ℕ, ◌+◌, ◌-◌, ◌<◌, ◌≤◌, List, [], ◌∷◌, ◌++◌, Option, Some, None, set, length, reverse, replicate, IfOk, slice_index};
 ghost use Rattle.std.specs.Option.{option_copied};
 ghost use Rattle.strong_apa.specs.Reply.{filling_chain, coming_chain};
-ghost use Rattle.live_core.specs.MoveData.{entered_by, moved_of};
+ghost use Rattle.live_core.specs.MoveData.{entered_by, moved_of, guest_who_stays};
 
 use affinity_mask::OutOfMemory;
 use link_table::Links;
@@ -51,7 +51,7 @@ impl Model for MoveList {
 
 impl MoveList {
     ghost use Rattle.live_core.specs.Moves.{Replays, occupant_at, IsNowhere};
-    ghost use Rattle.live_core.specs.MoveData.{DoesMore, CanPassOn, Passes, PassesTwice, OfflinePasses, LeadsTo, occupant_passed, AreMovesFor, AreMovesTwice, AreOfflineMoves, passing_moves, shifts_along, shift_of, stop_of};
+    ghost use Rattle.live_core.specs.MoveData.{DoesMore, CanPassOn, Passes, PassesTwice, OfflinePasses, LeadsTo, guest_who_stays, occupant_passed, AreMovesFor, AreMovesTwice, AreOfflineMoves, passing_moves, shifts_along, shift_of, stop_of};
     ghost use Rattle.live_core.specs.declared.moves.Move.TheVariants.{Start};
 
     /// Nobody is on any of so many processors.
@@ -136,7 +136,8 @@ impl MoveList {
         }
     }
 
-    /// A ready task whose mask has changed leaves its processor, if it has one, which is filled, and it comes back.
+    /// A ready task whose mask has changed leaves its processor, if it has one, which is filled, and it comes back. Whoever
+    /// would fill the processor and be displaced by the return does not start.
     fn remask(&mut self, task: u32, reply: &Reply)
         requires can { (after : List (Option ℕ)) × PassesTwice self.old.occupants (entered_by reply.now)
             (reverse (filling_chain reply.now)) (Some task) (coming_chain reply.now) after }
@@ -145,14 +146,16 @@ impl MoveList {
         ensures occupants { (after : List (Option ℕ)) → PassesTwice self.old.occupants (entered_by reply.now)
             (reverse (filling_chain reply.now)) (Some task) (coming_chain reply.now) after
             → self.new.occupants ≡ after }
-        ensures exact { AreMovesTwice self.old.occupants (entered_by reply.now)
+        ensures exact { AreMovesTwice self.old.occupants
+            (guest_who_stays (entered_by reply.now) (reverse (filling_chain reply.now)) (coming_chain reply.now))
             (reverse (filling_chain reply.now)) (Some task) (coming_chain reply.now) self.new.moves }
     {
         let entered = entered_by(reply);
         let filling = reversed_filling(reply);
         let one = filling.processors();
         let two = reply.coming_chain();
-        self.pass_on_twice(entered, one, task, two);
+        let first = guest_who_stays(entered, one, two);
+        self.pass_on_twice(first, one, task, two);
     }
 
     /// The task of a processor that goes off line, if it has one, leaves it and comes back.
@@ -321,6 +324,16 @@ fn reversed_filling(reply: &Reply) -> Chain
         Reply::On { parts } => parts.chain.reversed(),
         _ => Chain::new(),
     }
+}
+
+/// The guest of a first chain; nobody, where a second chain ends on the processor on which the guest would start.
+fn guest_who_stays(guest: Option<u32>, one: &[u8], two: &[u8]) -> Option<u32>
+    ensures { result ≡ guest_who_stays guest one.now two.now }
+{
+    if one.is_empty() || two.is_empty() || one[0] != two[two.len() - 1] {
+        return guest;
+    }
+    None
 }
 
 /// The task that had to leave a processor that went off line.
