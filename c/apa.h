@@ -7,6 +7,8 @@
  *
  * What is proved, and what is only tested, is in docs/LIBRARY.md. The caller owes, and nothing checks:
  *   - the pointer is one on which apa_init or apa_new was called, in room of apa_size bytes that nobody else writes;
+ *   - no second apa_init before apa_close, and no call at all after apa_free;
+ *   - no copy of the room is used beside the first (it may be moved, if only the new place is used from then on);
  *   - no two calls on one apa overlap (it may go from thread to thread; different apas are independent).
  * Every other number may be wrong: a call that cannot use one answers a fault and changes nothing.
  *

@@ -9,7 +9,8 @@ mod answer;
 mod table;
 
 ghost use Rattle.std.specs.Borrow.{sem};
-ghost use Rattle.apa_c.specs.Handle.{apa_at, apa_after, apa_room};
+ghost use Rattle.std.specs.Prelude.{◌≡◌};
+ghost use Rattle.apa_c.specs.Handle.{apa_at, apa_after, apa_bytes, apa_room};
 ghost use Rattle.apa_c.specs.Calls.{Made, Opened, Added, Started, Applied, Admitted, Retired, Reordered, Closed, OnAnswer, OfAnswer, ReadyAnswer, MaskAnswer, OccupiedAnswer, OnLineAnswer, CountAnswer, TaskAnswer, FromAnswer, ToAnswer, MoveAnswer, SetAnswer, BackAnswer};
 
 use std::alloc::Global;
@@ -17,7 +18,9 @@ use table::Apa;
 
 /// How many bytes a scheduler takes, besides what it asks the heap for.
 #[unsafe(no_mangle)]
-pub extern "C" fn apa_size() -> usize {
+pub extern "C" fn apa_size() -> usize
+    ensures { result ≡ apa_bytes }
+{
     may_change_thread::<Apa>();
     std::mem::size_of::<Apa>()
 }

@@ -1,6 +1,6 @@
 -- A guest who would start and be displaced at once is left out: the chains lead to the same occupants without it. Any other occupant
 -- that is passed on along a chain, but for that of the last processor, is on some processor then.
-use Rattle.std.proofs.Common.{◌≡◌, ◌≢◌, ℕ, zero, suc, ◌+◌, ◌-◌, ◌<◌, List, [], ◌∷◌, length, get_or, set, Option, Some, None, refl, sym, subst, ◌∙◌, inl, inr, arith, eq-eqb, ne_eqb, get_or-set_other, length-set}
+use Rattle.std.proofs.Common.{◌≡◌, ◌≢◌, ℕ, zero, suc, ◌+◌, ◌-◌, ◌<◌, ◌⊎◌, List, [], ◌∷◌, length, get_or, set, Option, Some, None, refl, sym, subst, ◌∙◌, inl, inr, arith, eq-eqb, ne_eqb, get_or-set_other, length-set}
 use Rattle.std.proofs.lemmas.Bool.{cases_eq}
 use Rattle.strong_apa.specs.Chain.{IsSimple}
 use Rattle.strong_apa.proofs.Simple.{IsSimple-head, IsSimple-tail}

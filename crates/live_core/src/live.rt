@@ -66,7 +66,7 @@ impl LiveCore {
         })
     }
 
-    /// Applies an event, for which no memory is taken. The reply and the moves stay until the next event.
+    /// Applies an event. The reply and the moves stay until the next event.
     pub fn apply(&mut self, event: Event)
         requires event { IsEventFor self.old.links event }
         requires in_use { IsEventInUse self.old event }
