@@ -140,7 +140,8 @@ static void departures_and_changes(void) {
     expect("changes: on: back", apa_back(a), 3);
     expect("changes: on: occupied", apa_occupied(a), 3);
     expect("changes: v again", apa_set_mask(a, 2, 2), APA_REMASKED);
-    expect_moves(a, "changes: v again", "2:1>- 3:->1 3:1>- 2:->1");
+    /* w would fill processor 1 and be displaced at once by the return of v: it does not move. */
+    expect_moves(a, "changes: v again", "2:1>- 2:->1");
     expect("changes: v again: reached", apa_reached(a), 2);
     expect("changes: v again: back", apa_back(a), 3);
     expect("changes: close", apa_close(a), APA_DONE);

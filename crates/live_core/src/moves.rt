@@ -94,7 +94,7 @@ impl MoveList {
         requires { length self.old.occupants ≡ links.now.processors }
         ensures { self.new ≡ record { occupants = links.now.on; moves = [] } }
     {
-        self.moves.clear();
+        self.clear();
         copy_occupants(&mut self.occupants, links);
     }
 
