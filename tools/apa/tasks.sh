@@ -1,0 +1,81 @@
+# The word tasks. `apa` reads this file where it is asked for.
+# shellcheck shell=sh disable=SC2086 # ids
+
+# Where the kernel shows its threads. The tests have a folder of their own.
+proc=${APA_PROC:-/proc}
+
+# threads PID..: NAME PRIORITY LIST ID of each thread of SCHED_FIFO or SCHED_RR of these processes. The name is the thread's own,
+# with `_` for each byte that a name may not have, and the priority the one that a trace prints.
+threads() {
+    for process in "$@"; do
+        for thread in "$proc/$process"/task/[0-9]*; do
+            line=$(cat -- "$thread/stat" 2>/dev/null) || continue
+            # After the name, which may have blanks and parentheses, comes the third field.
+            # shellcheck disable=SC2086 # fields
+            set -- ${line##*)}
+            case ${39-} in
+            1 | 2) ;;
+            *) continue ;;
+            esac
+            name=$(tr -c 'A-Za-z0-9_.\n-' _ <"$thread/comm" | tr '\n' _ | sed 's/_$//; s/^[^A-Za-z_]/_&/; s/^$/_/') || continue
+            list=$(sed -n 's/^Cpus_allowed_list:[[:space:]]*//p' "$thread/status") || continue
+            echo "$name $((99 - ${38})) $list ${thread##*/}"
+        done
+    done 2>/dev/null
+}
+
+# The ids of the processes that these words are or name, a name as pidof takes it. The kernel keeps 15 bytes of a name.
+processes() {
+    for word in "$@"; do
+        case $word in
+        *[!0-9]*)
+            found=$(cd -- "$proc" && for file in $(grep -lxF -e "$(printf '%.15s' "$word")" -- [0-9]*/comm 2>/dev/null); do
+                ! is_other "${file%/comm}" "$word" || continue
+                echo "${file%/comm}"
+            done)
+            [ -n "$found" ] || fail "there is no process of the name $word"
+            printf '%s\n' "$found"
+            ;;
+        *)
+            [ -d "$proc/$word" ] || fail "there is no process $word"
+            echo "$word"
+            ;;
+        esac
+    done
+}
+
+# is_other PROCESS NAME: the first 15 bytes of the name are those of the process, and the rest is not.
+is_other() {
+    [ ${#2} -gt 15 ] || return
+    first=$(tr '\0' '\n' <"$1/cmdline" 2>/dev/null | head -n 1)
+    [ -n "$first" ] && [ "${first##*/}" != "$2" ]
+}
+
+# The task lines of these processes, or of all, by thread id. A name has at most 32 bytes, and one that several threads have is made
+# distinct by the thread's id.
+print_tasks() {
+    among=${1:+ among these}
+    # Words are numbers here.
+    # shellcheck disable=SC2046
+    if [ $# -eq 0 ]; then
+        tell 'apa: no NAME or PID is given, so the threads of the whole machine are listed'
+        set -- $(cd -- "$proc" && echo [0-9]*)
+    else
+        ids=$(processes "$@") || exit
+        set -- $ids
+    fi
+    threads "$@" | LC_ALL=C sort -n -k 4 | awk '
+        { name[NR] = substr($1, 1, 32); rest[NR] = $2 " " $3; id[NR] = $4; count[name[NR]]++ }
+        END {
+            for (n = 1; n <= NR; n++) {
+                own = name[n]
+                mark = ""
+                if (count[own] > 1) do {
+                    mark = mark "." id[n]
+                    own = substr(name[n], 1, 32 - length(mark)) mark
+                } while (own in count || own in used)
+                used[own]
+                print "task", own, rest[n], id[n]
+            }
+        }' | grep . || fail "there is no thread of SCHED_FIFO or SCHED_RR$among"
+}

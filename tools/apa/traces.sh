@@ -1,0 +1,33 @@
+# What is wrong with a file, before the program reads it. `apa` reads this part where it is asked for.
+# shellcheck shell=sh
+
+# Why this is not a file that can be read.
+cannot_read() {
+    if [ -d "$1" ]; then
+        echo "$1 is a folder, and not a file that can be read"
+    elif [ -e "$1" ]; then
+        echo "$1 is not a file that can be read"
+    else
+        echo "$1 is not a file that can be read: there is none of this name"
+    fi
+}
+
+# refuse FILE WHY: of a trace that is none, before any answer. The status is that of a text that is refused.
+refuse() {
+    tell "apa: $1 $2"
+    exit 3
+}
+
+# A recorder's own file, a packed one or an empty one has no line that is read, and an answer of zeros would be a wrong one.
+refuse_other_files() {
+    [ -f "$1" ] || return 0
+    [ -s "$1" ] || refuse "$1" 'is empty; a trace is what `cat trace` of tracefs, `trace-cmd report -N` or `perf script` prints'
+    case $(head -c 12 -- "$1" | od -A n -c | tr -d ' \n') in
+    '027\bDtracing'*) refuse "$1" "is trace-cmd's own file; \`trace-cmd report -N -i $1\` prints the text that is read" ;;
+    PERFILE2*) refuse "$1" "is perf's own file; \`perf script -i $1\` prints the text that is read" ;;
+    '037213'*) refuse "$1" "is packed by gzip; \`gunzip $1\` unpacks it" ;;
+    BZh* | '375'7zXZ* | '('265/375*) refuse "$1" 'is a packed file; unpack it first' ;;
+    177ELF*) refuse "$1" 'is a program, and not a trace' ;;
+    esac
+    [ "$(head -c 4096 -- "$1" | tr -d '\000' | wc -c)" -eq "$(head -c 4096 -- "$1" | wc -c)" ] || refuse "$1" 'is a binary file, and not the text of a trace'
+}
