@@ -1,0 +1,57 @@
+# What a refusal means, where it is, and what can be done. `apa` reads this file after an answer that is none.
+# shellcheck shell=sh disable=SC2154 # variables of apa
+
+# in_words WORD FAULT COLUMN: the column of the row of tools/apa/kinds.txt for the kind or defect of that word.
+in_words() {
+    awk -F '|' -v word="$1" -v fault="$2" -v column="$3" '
+        BEGIN {
+            above["weakjobs"] = "jobs"; above["importjobs"] = "lost"; above["lost"] = "import"
+            for (rank = 9; word != ""; word = above[word]) ranks[word " " fault] = rank--
+            ranks["any " fault] = 1
+        }
+        $1 in ranks && $column != "" && ranks[$1] > best { best = ranks[$1]; text = $column }
+        END { if (text != "") print text }' "$parts/kinds.txt"
+}
+
+# Where a line of the text stands: sets file, number and text, the file that has it, or nothing where that cannot be read again. Of a
+# text of two files the first has so many lines.
+find_place() {
+    if [ "$1" -le "$head_lines" ]; then
+        file=$head number=$1 text=$folder/head
+    else
+        file=$input number=$(($1 - head_lines)) text=$input
+    fi
+    [ "$text" != '<stdin>' ] || text=/dev/stdin
+    [ -f "$text" ] || text=''
+}
+
+# explain WORD..: what the program said of these words, once more for a reader: the place as compilers name it, the fault in words, the
+# line with its mark, the cause, and what to do.
+explain() {
+    fault=${said##*, }
+    case $status:$said in
+    '3:input: more than '*) tell '    = a text has at most 16777216 bytes, and a trace 268435456: take a part of it' ;;
+    1:invalid:* | 3:input:*) explain_fault "${1-}" ;;
+    2:*) read_part usage && explain_usage "$@" ;;
+    [03-6]:*) ;;
+    *) explain_stop ;;
+    esac
+}
+
+explain_fault() {
+    words=$(in_words "$1" "$fault" 2)
+    [ -n "$words" ] || return 0
+    place=${said#*line }
+    find_place "${place%%,*}"
+    tell "$file:$number: $fault: $words"
+    [ -z "$text" ] || LC_ALL=C awk -v line="$number" -v fault="$fault" -v word="$1" -f "$parts/near.awk" -f "$parts/causes.awk" "$text" >&2
+    advice=$(in_words "$1" "$fault" 3)
+    [ -z "$advice" ] || tell "    = $advice"
+}
+
+explain_stop() {
+    [ "$program" = "$unproved/program" ] || return 0
+    [ ! -e "$unproved/checked" ] ||
+        fail "the build without proofs was stopped; it wants an address space without a limit, and more memory than the proved program"
+    fail "the build without proofs was stopped, with status $status"
+}
