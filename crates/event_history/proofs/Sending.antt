@@ -9,7 +9,7 @@ use Rattle.task_set.specs.declared.order.Order.{Order}
 use Rattle.task_set.specs.Orders.{IsObeyable, NamesTaskBelow}
 use Rattle.order_queues.specs.Ends.{SenderData, EyeData, Looks, queue_room}
 use Rattle.sched_core.specs.CoreData.{CoreData, core_orders}
-use Rattle.event_history.specs.Flushing.{EyeFlushed, AllFlushed}
+use Rattle.event_history.specs.Flushing.{EyeFlushed, AllFlushed, AllOwed}
 use Rattle.event_history.specs.Holdings.{SentBegins}
 use Rattle.event_history.proofs.Lists.{at_cases, at_low, same_at, set_same, set_other, sum_snoc}
 
@@ -54,21 +54,22 @@ begins_set core l p s all new = λ k x at. dite (ℕ_discrete k p)
     (λ ne. all k x (sym (set_other l p k s ne) ∙ at))
 
 -- the first p processors were served, and the eyes at the others are as they were
-pub record FlushedSoFar (orders : ℕ → ℕ) (old new : List EyeData) (p answer : ℕ) : Type 0 where
+pub record FlushedSoFar (orders : ℕ → ℕ) (old new : List EyeData) (senders : List SenderData) (p answer : ℕ) : Type 0 where
   pub owed : List ℕ
   pub count : length owed ≡ p
   pub total : answer ≡ sum owed
   pub each : AllFlushed orders old new owed
+  pub rest : AllOwed orders senders owed
   pub others : (k : ℕ) → p ≤ k → slice_get new k ≡ slice_get old k
   pub long : length new ≡ length old
 
-pub flushed_none : (orders : ℕ → ℕ) (old : List EyeData) → FlushedSoFar orders old old 0 0
-flushed_none orders old = record { owed = []; count = refl; total = refl; each = λ p k e e' none a b. absurd (cc none); others = λ k low. refl; long = refl }
+pub flushed_none : (orders : ℕ → ℕ) (old : List EyeData) (senders : List SenderData) → FlushedSoFar orders old old senders 0 0
+flushed_none orders old senders = record { owed = []; count = refl; total = refl; each = λ p k e e' none a b. absurd (cc none); rest = λ p k s none a. absurd (cc none); others = λ k low. refl; long = refl }
 
 -- one processor more was served
-pub flushed_next : (orders : ℕ → ℕ) (old new : List EyeData) (p answer answer' left : ℕ) (e0 e1 : EyeData) → FlushedSoFar orders old new p answer → slice_get new p ≡ Some e0 → EyeFlushed e0 e1 (orders p) left → answer' ≡ answer + left
-    → FlushedSoFar orders old (set new p e1) (p + 1) answer'
-flushed_next orders old new p answer answer' left e0 e1 so at one is = record {
+pub flushed_next : (orders : ℕ → ℕ) (old new : List EyeData) (senders : List SenderData) (p answer answer' left : ℕ) (e0 e1 : EyeData) (s1 : SenderData) → FlushedSoFar orders old new senders p answer → slice_get new p ≡ Some e0
+    → EyeFlushed e0 e1 (orders p) left → length s1.sent + left ≡ orders p → answer' ≡ answer + left → FlushedSoFar orders old (set new p e1) (set senders p s1) (p + 1) answer'
+flushed_next orders old new senders p answer answer' left e0 e1 s1 so at one all is = record {
   owed = so.owed ++ left ∷ [];
   count = omega (arith, length-append so.owed (left ∷ []), so.count);
   total = omega (arith, is, so.total, sum_snoc so.owed left);
@@ -82,6 +83,13 @@ flushed_next orders old new p answer answer' left e0 e1 so at one is = record {
       (subst (λ n. EyeFlushed e e' (orders p) n) now.1
       (subst (λ (y : EyeData). EyeFlushed y e' (orders p) left) old_eye
       (subst (λ (y : EyeData). EyeFlushed e0 y (orders p) left) (set_same new p e1 e' d') one))))
+      (at_cases so.owed left q k a);
+  rest = λ q k s a d. ⊎_elim
+      (λ was. let low : q < length so.owed = at_low so.owed q k was in let ne : q ≢ p = λ same. absurd (omega (arith, so.count)) in so.rest q k s was (sym (set_other senders p q s1 ne) ∙ d))
+      (λ now. let same : q ≡ p = now.0 ∙ so.count in
+      let d' : slice_get (set senders p s1) p ≡ Some s = ap (slice_get (set senders p s1)) (sym same) ∙ d in
+      subst (λ n. length s.sent + k ≡ orders n) (sym same)
+      (subst (λ n. length s.sent + n ≡ orders p) now.1 (subst (λ (y : SenderData). length y.sent + left ≡ orders p) (set_same senders p s1 s d') all)))
       (at_cases so.owed left q k a);
   others = λ k low. let ne : k ≢ p = λ same. absurd (omega arith) in set_other new p k e1 ne ∙ so.others k (omega arith);
   long = length-set new p e1 ∙ so.long;

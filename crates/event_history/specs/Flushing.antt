@@ -1,7 +1,7 @@
 -- How many orders a flush leaves owed, and the looks that justify it.
 use Rattle.std.specs.Prelude.{◌≡◌, ◌≢◌, ℕ, ◌+◌, ◌≤◌, List, [], ◌∷◌, ◌++◌, length, sum, slice_get, Some}
 use Rattle.task_set.specs.TaskSet.{SetData}
-use Rattle.order_queues.specs.Ends.{EyeData, queue_room}
+use Rattle.order_queues.specs.Ends.{EyeData, SenderData, queue_room}
 use Rattle.event_history.specs.Boards.{PassData}
 use Rattle.event_history.specs.Ordering.{orders_seen}
 
@@ -35,6 +35,15 @@ pub record EyesFlushed (orders : ℕ → ℕ) (old new : List EyeData) (answer :
   pub count : length owed ≡ length old
   pub total : answer ≡ sum owed
   pub each : AllFlushed orders old new owed
+
+-- what is owed to each of the first processors is what its sender did not send of so many orders
+abbrev pub AllOwed : (ℕ → ℕ) → List SenderData → List ℕ → Type 0
+AllOwed orders senders owed = (p k : ℕ) (s : SenderData) → slice_get owed p ≡ Some k → slice_get senders p ≡ Some s → length s.sent + k ≡ orders p
+
+-- the same, and these senders sent all orders but those that are owed
+pub record SendersFlushed (orders : ℕ → ℕ) (old new : List EyeData) (senders : List SenderData) (answer : ℕ) : Type 0 where
+  pub flushed : EyesFlushed orders old new answer
+  pub rest : AllOwed orders senders flushed.owed
 
 -- the answer is how many orders are still owed, of those that follow from what the pass has then seen
 abbrev pub Flushed : SetData → PassData → PassData → ℕ → Type 0

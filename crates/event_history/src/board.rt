@@ -1,5 +1,5 @@
 //! The board that the callers share, and the calls that they make with their passes.
-ghost use Rattle.std.specs.Prelude.{◌≡◌, ◌≤◌, length, map, true, IfOk, IfErr, OnOk};
+ghost use Rattle.std.specs.Prelude.{◌≡◌, ◌≤◌, length, map, true, IfOk, IfErr, OnOk, IsOk};
 ghost use Rattle.order_queues.specs.Ends.{new_eye, new_sender};
 ghost use Rattle.event_history.specs.Boards.{AreNew, AreAll, AreEyesOf, AreFor, Grown, IsMade};
 ghost use Rattle.event_history.specs.Holdings.{queues_of};
@@ -206,9 +206,10 @@ impl Board {
     }
 
     /// The core with the whole history, and the senders. All passes come back, in the order of their callers, so nobody
-    /// posts or sends any more. Takes no memory, so it is never refused; the Err is there for a board that would need some.
+    /// posts or sends any more. It is never refused; the Err is there for a board that would need memory.
     pub fn close(self, mut passes: Vec<Pass>) -> Result<(Core, Vec<Sender>), Unfinished>
         requires { AreAll self passes.items }
+        ensures never_refused { IsOk result }
         ensures closed { IfOk result (λ back. IsCoreOf self passes.items back.0) }
         ensures senders { IfOk result (λ back. AreSendersOf self back.0 back.1.items) }
         ensures made { IsMade self }

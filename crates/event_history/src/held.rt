@@ -6,7 +6,7 @@ ghost use Rattle.order_queues.specs.Ends.{EyeData};
 ghost use Rattle.sched_core.specs.CoreData.{IsCore, core_orders};
 ghost use Rattle.event_history.specs.Boards.{AreEyesOf};
 ghost use Rattle.event_history.specs.Entering.{Entered, IsNoEntry, IsTaken};
-ghost use Rattle.event_history.specs.Flushing.{EyesFlushed};
+ghost use Rattle.event_history.specs.Flushing.{SendersFlushed};
 ghost use Rattle.event_history.specs.Holdings.{SentBegins, queues_of};
 ghost use Rattle.event_history.specs.Owing.{AllMaySend};
 
@@ -100,8 +100,8 @@ impl Held {
         ensures queues { queues_of self.new.senders ≡ queues_of self.old.senders }
         ensures eyes { map (λ (e : EyeData). e.received_word) eyes.new ≡ map
             (λ (e : EyeData). e.received_word) eyes.old }
-        ensures flushed { EyesFlushed
-            (λ p. length (core_orders self.old.core p)) eyes.old eyes.new result }
+        ensures flushed { SendersFlushed (λ p. length (core_orders self.old.core p))
+            eyes.old eyes.new self.new.senders result }
     {
         send_all(rt, &self.core, queues, &mut self.senders, &mut eyes.row)
     }

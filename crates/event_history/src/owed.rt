@@ -4,7 +4,7 @@ ghost use mathlib.Core.List.{IsPrefix};
 ghost use Rattle.order_queues.specs.Ends.{EyeData};
 ghost use Rattle.sched_core.specs.CoreData.{core_orders};
 ghost use Rattle.event_history.specs.Boards.{AreEyesOf};
-ghost use Rattle.event_history.specs.Flushing.{EyeFlushed, EyesFlushed};
+ghost use Rattle.event_history.specs.Flushing.{EyeFlushed, SendersFlushed};
 ghost use Rattle.event_history.specs.Holdings.{SentBegins, queues_of};
 ghost use Rattle.event_history.specs.Owing.{MaySend, AllMaySend};
 
@@ -56,8 +56,8 @@ pub fn send_all<R: Wait>(
     ensures eyes { map (λ (e : EyeData). e.received_word) eyes.new.items ≡ map
         (λ (e : EyeData). e.received_word) eyes.old.items }
     ensures sent { SentBegins core.now senders.new.items }
-    ensures flushed { EyesFlushed
-        (λ p. length (core_orders core.now p)) eyes.old.items eyes.new.items result }
+    ensures flushed { SendersFlushed (λ p. length (core_orders core.now p))
+        eyes.old.items eyes.new.items senders.new.items result }
 {
     let mut owed = 0u64;
     for p in 0..core.links().processors() {

@@ -12,5 +12,5 @@ invariant-loop-p g l = record {
   eyes : map (λ (e : EyeData). e.received_word) l.eyes.items ≡ map (λ (e : EyeData). e.received_word) l.initial.eyes.items;
   begins : SentBegins l.core l.senders.items;
   low : l.owed ≤ l.p * most_orders;
-  flushed : FlushedSoFar (λ q. length (core_orders l.core q)) l.initial.eyes.items l.eyes.items l.p l.owed;
+  flushed : FlushedSoFar (λ q. length (core_orders l.core q)) l.initial.eyes.items l.eyes.items l.senders.items l.p l.owed;
 }

@@ -44,5 +44,5 @@ returns-clause-flushed g c =
     let start = c.in-Ok.ensures.turn.start ∙ ap (λ (s : Setting). start_of s.set) c.requires.setting in (
       left_saw g.J.Over.setting c.args.turn.now.table_id c.args.state.now.eyes c.leave.new.state.eyes c.args.state.now.seat.me.0 c.begin.new.state.seat.me c.leave.new.state.seat.me c.in-Ok.held c.flush-owed.new.self.core c.args.turn.now.key.set.value c.in-Ok.ensures.turn (ap (λ (x : CoreData). x.history) c.flush-owed.ensures.core) c.leave.ensures.view c.leave.ensures.legal,
       flushed_lem c.args.turn.now.key.set.value c.in-Ok.held.core c.flush-owed.new.self.core c.args.turn.now.table_id c.args.state.now.seat.me.0 c.begin.new.state.seat.me.0 c.leave.new.state.seat.me.0
-          c.begin.new.state.eyes c.args.state.now.eyes c.flush-owed.new.eyes c.leave.new.state.eyes c.flush-owed.result start c.flush-owed.ensures.core (ap (λ (m : TurnSeat). m.0) c.leave.ensures.view) c.in-Ok.ensures.same.1 c.leave.ensures.same.1 c.flush-owed.ensures.flushed,
+          c.begin.new.state.eyes c.args.state.now.eyes c.flush-owed.new.eyes c.leave.new.state.eyes c.flush-owed.result start c.flush-owed.ensures.core (ap (λ (m : TurnSeat). m.0) c.leave.ensures.view) c.in-Ok.ensures.same.1 c.leave.ensures.same.1 c.flush-owed.ensures.flushed.flushed,
     )
