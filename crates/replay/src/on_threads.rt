@@ -187,9 +187,12 @@ fn closed(board: Board, passes: Vec<Pass>, whole: bool) -> Result<(Core, Vec<Sen
     ensures senders { IfOk result (λ back. AreSendersOf board back.0 back.1.items) }
     ensures whole { IfOk result (λ _. whole ≡ true) }
 {
+    if !whole {
+        return Err(OutOfMemory);
+    }
     match board.close(passes) {
-        Ok(back) if whole => Ok(back),
-        _ => Err(OutOfMemory),
+        Ok(back) => Ok(back),
+        Err(_never) => unreachable!(),
     }
 }
 
