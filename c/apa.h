@@ -19,7 +19,12 @@
  *
  * Tasks that come and go: apa_start_with_slots makes free slots beside the tasks. apa_admit gives one to a new task, whose
  * number is that of the slot, and apa_retire makes it free again. There is no task of a free slot: an event of one answers
- * APA_NO_TASK, and apa_mask answers 0. */
+ * APA_NO_TASK, and apa_mask answers 0.
+ *
+ * Beside another scheduler, as that of the kernel: apa_seen says on whose queue it has a task. A processor is held by the most
+ * urgent of the tasks that are to run, are seen there and may run there. Who is to run and holds none is lost: apa_lost answers the
+ * most urgent one. apa_help gives it a processor by the moves of a shortest chain; each task is seen then where the moves lead.
+ * Whoever held a processor holds one then, so that as many helps as there are processors leave nobody lost. */
 #ifndef APA_H
 #define APA_H
 #include <stddef.h>
@@ -75,7 +80,10 @@ uint32_t apa_apply(apa *, uint32_t kind, uint32_t number, uint64_t mask);
 uint32_t apa_admit(apa *, uint32_t priority, uint64_t mask);     /* APA_SLOT and the number of a new task, which is absent */
 uint32_t apa_retire(apa *, uint32_t task);                       /* an absent task goes: its slot is free */
 uint32_t apa_set_priority(apa *, uint32_t task, uint32_t priority); /* of an absent task; no link and no move changes */
-uint32_t apa_moves(apa *);                                       /* of the last event: 0 to APA_MOST_MOVES */
+uint32_t apa_seen(apa *, uint32_t task, uint32_t processor);     /* where another scheduler has it; APA_NONE: nobody knows */
+uint32_t apa_lost(apa *);                                        /* who is to run, and does not where it is seen; or APA_NONE */
+uint32_t apa_help(apa *);                                        /* the same, and the moves that let it run; or APA_NONE */
+uint32_t apa_moves(apa *);                                       /* of the last event, or of apa_help after it */
 uint32_t apa_move_task(apa *, uint32_t i);
 uint32_t apa_move_from(apa *, uint32_t i);                       /* APA_NONE: the task starts */
 uint32_t apa_move_to(apa *, uint32_t i);                         /* APA_NONE: the task stops */

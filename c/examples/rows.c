@@ -239,6 +239,57 @@ static void tasks_that_come_and_go(void) {
     apa_free(a);
 }
 
+/* Another scheduler has them elsewhere. Of three processors x may run on 0 and 1, y on 0, z on 1 and 2; x is the most urgent, then y. */
+static void seen_elsewhere(void) {
+    apa *a = apa_new(3);
+    apa_add_task(a, 1, 3);
+    apa_add_task(a, 2, 1);
+    apa_add_task(a, 3, 6);
+    apa_add_task(a, 4, 7);
+    expect("seen: too early", apa_seen(a, 0, 0), APA_NOT_NOW);
+    expect("seen: nobody runs", apa_lost(a), APA_NONE);
+    expect("seen: nobody is helped", apa_help(a), APA_NONE);
+    apa_start(a);
+    expect("seen: nobody is linked", apa_lost(a), APA_NONE);
+    for (uint32_t t = 0; t < 3; t++) apa_arrive(a, t);
+    expect("seen: no task", apa_seen(a, 4, 0), APA_NO_TASK);
+    expect("seen: no processor", apa_seen(a, 0, 3), APA_NO_PROCESSOR);
+    expect("seen: all are lost", apa_lost(a), 0);
+    expect("seen: x", apa_seen(a, 0, 0), APA_DONE);
+    expect("seen: y", apa_seen(a, 1, 0), APA_DONE);
+    expect("seen: z", apa_seen(a, 2, 1), APA_DONE);
+    /* x holds 0 and z holds 1, so y is lost: x goes to 1 for it, and z to 2. */
+    expect("seen: y is lost", apa_lost(a), 1);
+    expect("seen: y is lost still", apa_lost(a), 1);
+    expect("seen: y is helped", apa_help(a), 1);
+    expect_moves(a, "seen: y is helped", "2:1>2 0:0>1 1:->0");
+    expect("seen: nobody is lost", apa_lost(a), APA_NONE);
+    expect_moves(a, "seen: the moves stay", "2:1>2 0:0>1 1:->0");
+    expect("seen: nobody is to be helped", apa_help(a), APA_NONE);
+    expect_moves(a, "seen: no moves", "");
+    /* The fourth waits: it is not lost, wherever it is seen. */
+    expect("seen: v", apa_arrive(a, 3), APA_WAITS);
+    expect("seen: v on 0", apa_seen(a, 3, 0), APA_DONE);
+    expect("seen: v is not lost", apa_lost(a), APA_NONE);
+    /* Outside of its mask, or nowhere, x is lost, and 1 is free for it. */
+    expect("seen: x outside", apa_seen(a, 0, 2), APA_DONE);
+    expect("seen: x is lost", apa_lost(a), 0);
+    expect("seen: x nowhere", apa_seen(a, 0, APA_NONE), APA_DONE);
+    expect("seen: x is helped", apa_help(a), 0);
+    expect_moves(a, "seen: x is helped", "0:->1");
+    /* y departs, and v is to run on 0, where it is seen. Then processor 2 goes off line: z is to run on 1, x on 0, and v waits. */
+    expect("seen: y departs", apa_depart(a, 1), APA_FREED);
+    expect("seen: v holds 0", apa_lost(a), APA_NONE);
+    expect("seen: off", apa_offline(a, 2), APA_OFF);
+    expect("seen: z is lost", apa_lost(a), 2);
+    expect("seen: z is helped", apa_help(a), 2);
+    expect_moves(a, "seen: z is helped", "0:1>0 2:->1");
+    expect("seen: close", apa_close(a), APA_DONE);
+    expect("seen: closed", apa_seen(a, 0, 0), APA_NOT_NOW);
+    expect("seen: closed: nobody", apa_help(a), APA_NONE);
+    apa_free(a);
+}
+
 /* No slots, and as many as there can be; the priorities that free slots have are nobody's. */
 static void few_slots_and_many(void) {
     static unsigned char given[1024];
@@ -312,6 +363,7 @@ int main(void) {
     departures_and_changes();
     tasks_that_come_and_go();
     few_slots_and_many();
+    seen_elsewhere();
     equal_priorities();
     refusals();
     if (failed) return 1;

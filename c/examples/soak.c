@@ -132,6 +132,23 @@ static const char *come_or_go(apa *a) {
     return r == 0 ? admit(a) : r == 1 ? set_priority(a) : retire(a);
 }
 
+static unsigned long helps;
+
+/* Tasks are seen somewhere; each that is lost is helped, in as many turns as there are processors at most. */
+static const char *mend(apa *a) {
+    for (int i = 0; i < 8; i++) apa_seen(a, (uint32_t)draw(TASKS + 6), draw(8) ? (uint32_t)draw(PROCESSORS + 2) : APA_NONE);
+    uint32_t lost, turns = 0;
+    while ((lost = apa_lost(a)) != APA_NONE) {
+        if (apa_of(a, lost) == APA_NONE) return "a task is lost that is not to run";
+        if (apa_help(a) != lost) return "another task is helped than the one that is lost";
+        uint32_t count = apa_moves(a);
+        if (!count || apa_move_task(a, count - 1) != lost || apa_move_from(a, count - 1) != APA_NONE) return "the lost task does not start";
+        if (++turns > PROCESSORS) return "more helps than processors";
+    }
+    helps += turns;
+    return NULL;
+}
+
 int main(int argc, char **argv) {
     unsigned long events = argc > 1 ? strtoul(argv[1], NULL, 10) : 10000000, moves = 0, faults = 0;
     uint32_t on[PROCESSORS], most = 0;
@@ -164,6 +181,7 @@ int main(int argc, char **argv) {
         if (count > most) most = count;
         fault = follow(a, on);
         if (!fault && i % 16 == 0) fault = compare(a, on);
+        if (!fault && i % 64 == 0) fault = mend(a);
         if (fault) {
             printf("FAILED event %lu: %s\n", i, fault);
             return 1;
@@ -171,7 +189,7 @@ int main(int argc, char **argv) {
     }
     const char *fault = compare(a, on);
     printf("%lu events, %lu refused; %lu moves, at most %u at one event; %lu tasks came, %lu went, %lu got another priority; "
-           "memory asked for since apa_start: %lu times\n", events, faults, moves, most, came, went, reordered, asked - before);
+           "%lu were helped; memory asked for since apa_start: %lu times\n", events, faults, moves, most, came, went, reordered, helps, asked - before);
     apa_free(a);
-    return fault || asked != before || (events >= 20000 && !(came && went && reordered));
+    return fault || asked != before || (events >= 20000 && !(came && went && reordered && helps));
 }

@@ -30,6 +30,9 @@ mod raw {
         pub fn apa_admit(apa: *mut u8, priority: u32, mask: u64) -> u32;
         pub fn apa_retire(apa: *mut u8, task: u32) -> u32;
         pub fn apa_set_priority(apa: *mut u8, task: u32, priority: u32) -> u32;
+        pub fn apa_seen(apa: *mut u8, task: u32, processor: u32) -> u32;
+        pub fn apa_lost(apa: *mut u8) -> u32;
+        pub fn apa_help(apa: *mut u8) -> u32;
         pub fn apa_moves(apa: *mut u8) -> u32;
         pub fn apa_whole_move(apa: *mut u8, i: u32) -> u64;
         pub fn apa_on(apa: *mut u8, processor: u32) -> u32;
@@ -298,7 +301,25 @@ impl Scheduler {
         done(unsafe { raw::apa_set_priority(self.room.at(), task, priority) })
     }
 
-    /// The moves of the last event, in their order. Whoever does them one by one never has two tasks on one processor.
+    /// Another scheduler has a task on a processor, or nobody knows where.
+    pub fn see(&mut self, task: u32, processor: Option<u32>) -> Result<(), Fault> {
+        // SAFETY: the room holds an apa.
+        done(unsafe { raw::apa_seen(self.room.at(), task, processor.unwrap_or(NONE)) })
+    }
+
+    /// The most urgent task that is to run and is not the first one where it is seen.
+    pub fn lost(&mut self) -> Option<u32> {
+        // SAFETY: the room holds an apa.
+        some(unsafe { raw::apa_lost(self.room.at()) })
+    }
+
+    /// Gives that task a processor, and answers it: the moves are those of a shortest chain, and each task is seen then where they lead.
+    pub fn help(&mut self) -> Option<u32> {
+        // SAFETY: the room holds an apa.
+        some(unsafe { raw::apa_help(self.room.at()) })
+    }
+
+    /// The moves of the last event, or of the last help after it, in their order. Whoever does them one by one never has two tasks on one processor.
     pub fn moves(&self) -> impl Iterator<Item = Move> + '_ {
         // SAFETY: the room holds an apa, here and below; the calls change nothing.
         let count = unsafe { raw::apa_moves(self.room.at()) };

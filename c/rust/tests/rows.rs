@@ -66,6 +66,27 @@ fn tasks_that_come_and_go() {
 }
 
 #[test]
+fn a_lost_task_is_helped() {
+    let mut draft = Draft::new(2).unwrap();
+    let wide = draft.add_task(1, 0b11).unwrap();
+    let narrow = draft.add_task(2, 0b01).unwrap();
+    let mut scheduler = draft.start().unwrap();
+    scheduler.arrive(wide).unwrap();
+    scheduler.arrive(narrow).unwrap();
+    assert_eq!(scheduler.see(2, Some(0)), Err(Fault::NoTask));
+    assert_eq!(scheduler.see(wide, Some(2)), Err(Fault::NoProcessor));
+    assert_eq!(scheduler.see(wide, Some(0)), Ok(()));
+    assert_eq!(scheduler.see(narrow, Some(0)), Ok(()));
+    assert_eq!(scheduler.lost(), Some(narrow));
+    assert_eq!(scheduler.help(), Some(narrow));
+    let moves: Vec<Move> = scheduler.moves().collect();
+    assert_eq!(moves, [Move { task: wide, from: Some(0), to: Some(1) }, Move { task: narrow, from: None, to: Some(0) }]);
+    assert_eq!(scheduler.lost(), None);
+    assert_eq!(scheduler.see(narrow, None), Ok(()));
+    assert_eq!(scheduler.lost(), Some(narrow));
+}
+
+#[test]
 fn it_goes_from_thread_to_thread() {
     let mut draft = Draft::new(1).unwrap();
     draft.add_task(1, 1).unwrap();

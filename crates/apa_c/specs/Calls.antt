@@ -1,6 +1,6 @@
 -- What each call does. A call that is refused answers the number of its fault, comes only with the cause of it, and
 -- changes nothing. Any other call that is not a question does what it says.
-use Rattle.std.specs.Prelude.{◌≡◌, ◌≢◌, ℕ, ◌+◌, ◌<◌, ◌≤◌, ◌⊎◌, Result, Ok, Err, List, [], ◌++◌, length, codes, replicate, slice_get, Option, Some, None, Bool, true, false, is_some, if◌then◌else◌}
+use Rattle.std.specs.Prelude.{◌≡◌, ◌≢◌, ℕ, ◌+◌, ◌<◌, ◌≤◌, ◌⊎◌, Result, Ok, Err, List, [], ◌++◌, length, codes, replicate, slice_get, Option, Some, None, Bool, true, false, is_some, if◌then◌else◌, ◌==◌}
 use Rattle.affinity_mask.specs.ProcSet.{has}
 use Rattle.affinity_mask.specs.Number.{canonical_number}
 use Rattle.task_set.specs.TaskSet.{SetData, IsMask}
@@ -15,6 +15,7 @@ use Rattle.strong_apa.specs.Improving.{HasNoImprovingChain}
 use Rattle.strong_apa.specs.CertificateLaws.{LinkedIsBest, LinkedIsLargest, LinkedIsAsUrgent}
 use Rattle.strong_apa.specs.declared.reply.Reply.TheVariants.{Ticked}
 use Rattle.live_core.specs.Live.{LiveData}
+use Rattle.live_core.specs.Lost.{FindsLost, HelpsLost, data_with_seen}
 use Rattle.live_core.specs.Moves.{Replays}
 use Rattle.live_core.specs.Needed.{AreNeeded}
 use Rattle.live_core.specs.Optimal.{IsOptimal}
@@ -98,9 +99,9 @@ Added old priority mask result new = AddedAt old.stage old priority mask result 
 abbrev pub StartedAt : Stage → Apa → ℕ → Apa → Type 0
 StartedAt Empty old result new = IsNotNow old result new
 StartedAt (Running live) old result new = IsNotNow old result new
-StartedAt (Draft set) old result new = IsShort old result new ⊎ ((result ≡ 0) × ((live : LiveData) × (new.stage ≡ Running live) × (live.links ≡ start_of set) × (live.last ≡ Ticked) × (live.moves ≡ []) × (live.in_use ≡ replicate (length set.tasks) true)))
+StartedAt (Draft set) old result new = IsShort old result new ⊎ ((result ≡ 0) × ((live : LiveData) × (new.stage ≡ Running live) × (live.links ≡ start_of set) × (live.last ≡ Ticked) × (live.moves ≡ []) × (live.in_use ≡ replicate (length set.tasks) true) × (live.seen ≡ replicate (length set.tasks) None) × (live.holders ≡ None)))
 
--- every task is absent then, and its slot is in use
+-- every task is absent then, its slot is in use, and it is seen nowhere
 abbrev pub Started : Apa → ℕ → Apa → Type 0
 Started old result new = StartedAt old.stage old result new
 
@@ -144,6 +145,8 @@ pub record Steps (old : LiveData) (kind number mask result : ℕ) (new : LiveDat
   pub rank_by_rank : LinkedIsAsUrgent new.links
   pub valid : IsState new.links
   pub slots : new.in_use ≡ old.in_use
+  pub seen : new.seen ≡ old.seen
+  pub holders : new.holders ≡ None
 
 abbrev pub AppliedAt : Stage → Apa → ℕ → ℕ → ℕ → ℕ → Apa → Type 0
 AppliedAt Empty old kind number mask result new = IsNotNow old result new
@@ -220,6 +223,51 @@ ReorderedAt (Running live) old t priority result new = (after : LiveData) × (ne
 -- an absent task gets another priority
 abbrev pub Reordered : Apa → ℕ → ℕ → ℕ → Apa → Type 0
 Reordered old t priority result new = ReorderedAt old.stage old t priority result new
+
+-- ---- where another scheduler has the tasks
+-- the processor of a number, or none
+abbrev pub place_of : ℕ → Option ℕ
+place_of number = if number == nothing then None else Some number
+
+-- why a task is not seen there: there is none of this number, or no such processor
+abbrev pub IsSightFault : LiveData → ℕ → ℕ → ℕ → Type 0
+IsSightFault live t number result = ((result ≡ 4) × (is_in_use live t ≡ false)) ⊎ ((result ≡ 3) × (live.links.processors ≤ number) × (number ≢ nothing))
+
+-- the task is seen there then, or nothing has changed
+abbrev pub Sees : LiveData → ℕ → ℕ → ℕ → LiveData → Type 0
+Sees old t number result new =
+    ((result ≡ 0) × (is_in_use old t ≡ true) × (new ≡ data_with_seen old t (place_of number))) ⊎ ((new ≡ old) × IsSightFault old t number result)
+
+abbrev pub SeenAt : Stage → Apa → ℕ → ℕ → ℕ → Apa → Type 0
+SeenAt Empty old t number result new = IsNotNow old result new
+SeenAt (Draft set) old t number result new = IsNotNow old result new
+SeenAt (Running live) old t number result new = (after : LiveData) × (new.stage ≡ Running after) × Sees live t number result after
+
+-- a task is seen on a processor, or nowhere
+abbrev pub Seen : Apa → ℕ → ℕ → ℕ → Apa → Type 0
+Seen old t number result new = SeenAt old.stage old t number result new
+
+-- nobody is lost, and nobody is helped, where nothing runs
+abbrev pub IsNobody : Apa → ℕ → Apa → Type 0
+IsNobody old result new = (result ≡ nothing) × (new ≡ old)
+
+abbrev pub LostAt : Stage → Apa → ℕ → Apa → Type 0
+LostAt Empty old result new = IsNobody old result new
+LostAt (Draft set) old result new = IsNobody old result new
+LostAt (Running live) old result new = (after : LiveData) × (new.stage ≡ Running after) × ((found : Option ℕ) × (result ≡ number_of found) × FindsLost live found after)
+
+-- the most urgent lost task, if any is lost; all else stays
+abbrev pub Lost : Apa → ℕ → Apa → Type 0
+Lost old result new = LostAt old.stage old result new
+
+abbrev pub HelpedAt : Stage → Apa → ℕ → Apa → Type 0
+HelpedAt Empty old result new = IsNobody old result new
+HelpedAt (Draft set) old result new = IsNobody old result new
+HelpedAt (Running live) old result new = (after : LiveData) × (new.stage ≡ Running after) × ((found : Option ℕ) × (result ≡ number_of found) × HelpsLost live found after)
+
+-- the most urgent lost task, if any is lost, is helped: the moves are those of a shortest chain that gives it a processor
+abbrev pub Helped : Apa → ℕ → Apa → Type 0
+Helped old result new = HelpedAt old.stage old result new
 
 -- ---- closing
 abbrev pub Closed : Apa → ℕ → Apa → Type 0

@@ -11,7 +11,7 @@ mod table;
 ghost use Rattle.std.specs.Borrow.{sem};
 ghost use Rattle.std.specs.Prelude.{◌≡◌};
 ghost use Rattle.apa_c.specs.Handle.{apa_at, apa_after, apa_bytes, apa_room};
-ghost use Rattle.apa_c.specs.Calls.{Made, Opened, Added, Started, Applied, Admitted, Retired, Reordered, Closed, OnAnswer, OfAnswer, ReadyAnswer, MaskAnswer, OccupiedAnswer, OnLineAnswer, CountAnswer, TaskAnswer, FromAnswer, ToAnswer, MoveAnswer, SetAnswer, BackAnswer};
+ghost use Rattle.apa_c.specs.Calls.{Made, Opened, Added, Started, Applied, Admitted, Retired, Reordered, Seen, Lost, Helped, Closed, OnAnswer, OfAnswer, ReadyAnswer, MaskAnswer, OccupiedAnswer, OnLineAnswer, CountAnswer, TaskAnswer, FromAnswer, ToAnswer, MoveAnswer, SetAnswer, BackAnswer};
 
 use std::alloc::Global;
 use table::Apa;
@@ -109,6 +109,36 @@ pub unsafe extern "C" fn apa_set_priority(at: *mut u8, task: u32, priority: u32)
     table::set_priority(&mut *(at as *mut Apa), task, priority)
 }
 
+/// Another scheduler has a task on a processor, or nobody knows where.
+#[unsafe(no_mangle)]
+pub unsafe extern "C" fn apa_seen(at: *mut u8, task: u32, place: u32) -> u32
+    ghost value: { Apa }
+    requires* { sem 𝓛 (apa_at at value) }
+    ensures* { sem 𝓛 (apa_after at (Seen value task place result)) }
+{
+    table::seen(&mut *(at as *mut Apa), task, place)
+}
+
+/// The most urgent task that is to run and is not the first one where it is seen.
+#[unsafe(no_mangle)]
+pub unsafe extern "C" fn apa_lost(at: *mut u8) -> u32
+    ghost value: { Apa }
+    requires* { sem 𝓛 (apa_at at value) }
+    ensures* { sem 𝓛 (apa_after at (Lost value result)) }
+{
+    table::lost(&mut *(at as *mut Apa))
+}
+
+/// That task gets a processor by the moves of a shortest chain, and all are seen then where these lead.
+#[unsafe(no_mangle)]
+pub unsafe extern "C" fn apa_help(at: *mut u8) -> u32
+    ghost value: { Apa }
+    requires* { sem 𝓛 (apa_at at value) }
+    ensures* { sem 𝓛 (apa_after at (Helped value result)) }
+{
+    table::help(&mut *(at as *mut Apa))
+}
+
 /// Gives all memory back. `apa_open` may follow.
 #[unsafe(no_mangle)]
 pub unsafe extern "C" fn apa_close(at: *mut u8) -> u32
@@ -179,7 +209,7 @@ pub unsafe extern "C" fn apa_on_line(at: *mut u8) -> u64
     table::on_line(&mut *(at as *mut Apa))
 }
 
-/// How many moves the last event asks for.
+/// How many moves the last event asks for, or a help after it.
 #[unsafe(no_mangle)]
 pub unsafe extern "C" fn apa_moves(at: *mut u8) -> u32
     ghost value: { Apa }

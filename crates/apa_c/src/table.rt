@@ -1,7 +1,8 @@
 //! What lies behind the pointer.
 ghost use Rattle.std.specs.Prelude.{◌≡◌, ℕ, ◌<◌, ◌≤◌, MatchOption, slice_get};
 ghost use Rattle.task_set.specs.TaskSet.{IsMask};
-ghost use Rattle.apa_c.specs.Calls.{Opened, Added, AddsTo, Started, Applied, IsEventHere, IsBadMask, Admitted, AdmitsTo, Retired, RetiresFrom, Reordered, Reorders, IsAbsent, IsPresenceFault, Closed, OnAnswer, OfAnswer, ReadyAnswer, MaskAnswer, OccupiedAnswer, OnLineAnswer, CountAnswer, TaskAnswer, FromAnswer, ToAnswer, MoveAnswer, SetAnswer, BackAnswer, moves_of, running_of};
+ghost use Rattle.apa_c.specs.Stages.{number_of};
+ghost use Rattle.apa_c.specs.Calls.{Opened, Added, AddsTo, Started, Applied, IsEventHere, IsBadMask, Admitted, AdmitsTo, Retired, RetiresFrom, Reordered, Reorders, IsAbsent, IsPresenceFault, Seen, Sees, Lost, Helped, Closed, OnAnswer, OfAnswer, ReadyAnswer, MaskAnswer, OccupiedAnswer, OnLineAnswer, CountAnswer, TaskAnswer, FromAnswer, ToAnswer, MoveAnswer, SetAnswer, BackAnswer, moves_of, running_of};
 
 use crate::answer::{
     BAD_MASK, DONE, FIRST_SLOT, NO_EVENT, NO_MEMORY, NO_MOVE, NO_NAME, NO_PROCESSOR, NO_SLOT,
@@ -203,6 +204,64 @@ fn presence_fault(live: &LiveCore, t: u32) -> Option<u32>
         return Some(STILL_READY);
     }
     None
+}
+
+/// A task is seen on a processor, or nowhere.
+pub fn seen(apa: &mut Apa, t: u32, place: u32) -> u32
+    ensures { Seen apa.old t place result apa.new }
+{
+    let Stage::Running(live) = &mut apa.stage else {
+        return NOT_NOW;
+    };
+    see(live, t, place)
+}
+
+/// A task is seen on a processor, or nowhere, or a fault.
+fn see(live: &mut LiveCore, t: u32, place: u32) -> u32
+    ensures { Sees live.old t place result live.new }
+{
+    if !live.is_in_use(t) {
+        return NO_TASK;
+    }
+    if place == NOTHING {
+        live.see(t, None);
+        return DONE;
+    }
+    if place >= live.links().processors() as u32 {
+        return NO_PROCESSOR;
+    }
+    live.see(t, Some(place as u8));
+    DONE
+}
+
+/// The most urgent lost task.
+pub fn lost(apa: &mut Apa) -> u32
+    ensures { Lost apa.old result apa.new }
+{
+    let Stage::Running(live) = &mut apa.stage else {
+        return NOTHING;
+    };
+    number_of(live.lost())
+}
+
+/// The most urgent lost task gets a processor.
+pub fn help(apa: &mut Apa) -> u32
+    ensures { Helped apa.old result apa.new }
+{
+    let Stage::Running(live) = &mut apa.stage else {
+        return NOTHING;
+    };
+    number_of(live.help())
+}
+
+/// The number of a task, or that there is none.
+fn number_of(task: Option<u32>) -> u32
+    ensures { result ≡ number_of task }
+{
+    match task {
+        Some(t) => t,
+        None => NOTHING,
+    }
 }
 
 /// Gives all memory back.

@@ -207,6 +207,11 @@ passing-none on guest (p ∷ rest) t nowhere another =
     let two = count-append t stops shifts in
     omega (arith, a, b, d, one, two)
 
+-- a task has one where its processor changes, and else none
+pub passing-moves_once : (on : List (Option ℕ)) (guest : Option ℕ) (chain : List ℕ) (after : List (Option ℕ)) (moves : List Move) → IsOnce on → Passes on guest chain after → moves ≡ passing_moves on guest chain
+    → Replays on moves after → (t : ℕ) → MovesOnce on after moves t
+passing-moves_once on guest chain after moves once passes exact replays t = moves_once on moves after t replays (rw exact (passing-once on guest chain t once passes.can.simple passes.nowhere))
+
 -- ---- how many moves
 stop-length : (o : Option ℕ) (p : ℕ) → length (stop_of o p) ≤ 1
 stop-length None p = omega arith
@@ -227,7 +232,7 @@ shifts-length on p (q ∷ rest) =
     let one = shift-length (occupant_at on p) p q in
     omega (arith, length-append (shifts_along on (q ∷ rest)) (shift_of (occupant_at on p) p q))
 
-passing-length : (on : List (Option ℕ)) (guest : Option ℕ) (chain : List ℕ) → length (passing_moves on guest chain) ≤ length chain + 1
+pub passing-length : (on : List (Option ℕ)) (guest : Option ℕ) (chain : List ℕ) → length (passing_moves on guest chain) ≤ length chain + 1
 passing-length on guest [] = omega arith
 passing-length on guest (p ∷ rest) =
     let last = last_of (p ∷ rest) in

@@ -1,5 +1,5 @@
 -- A lost task is helped: who holds a processor then, and where it is seen.
-use Rattle.std.proofs.Common.{◌≡◌, ◌≢◌, ℕ, ◌<◌, ◌≤◌, Bool, true, false, suc, not, ◌&&◌, List, length, map, Option, Some, None, refl, sym, ap, ◌∙◌, subst, inl, inr, ◌⊎◌, arith}
+use Rattle.std.proofs.Common.{◌≡◌, ◌≢◌, ℕ, ◌+◌, ◌<◌, ◌≤◌, Bool, true, false, suc, not, ◌&&◌, List, length, map, Option, Some, None, refl, sym, ap, ◌∙◌, subst, inl, inr, ◌⊎◌, arith}
 use Rattle.std.specs.List.{range_with_len}
 use Rattle.std.proofs.lemmas.Bool.{cases_Bool}
 use Rattle.std.proofs.lemmas.Option.{same_Some}
@@ -12,13 +12,15 @@ use Rattle.strong_apa.proofs.Closed.{chain_fills}
 use Rattle.strong_apa.proofs.KeptByShifts.{linked_or_out}
 use Rattle.strong_apa.proofs.Shifts.{occupant_from, task_on-state_after_shift}
 use Rattle.strong_apa.proofs.Simple.{Avoids-none}
+use Rattle.live_core.specs.declared.moves.Move.{Move}
 use Rattle.live_core.specs.Moves.{Replays}
+use Rattle.live_core.specs.Needed.{MovesOnce}
 use Rattle.live_core.specs.MoveData.{Passes}
 use Rattle.live_core.proofs.ShiftPasses.{shift_passes, AreOn-itself}
 use Rattle.live_core.specs.Seen.{SeenData, seen_at, Claims, IsTable, IsLost, Helps, lost_count}
 use Rattle.live_core.proofs.SeenTables.{same_mask}
 
-module _ (s : State) (t : ℕ) (old : SeenData) (chain : List ℕ) (new : SeenData) (is_table : IsTable s old.seen old.table) (lost : IsLost s old.table t) (waits : IsWaiting old.table t)
+module _ (s : State) (t : ℕ) (old : SeenData) (chain : List ℕ) (moves : List Move) (new : SeenData) (is_table : IsTable s old.seen old.table) (lost : IsLost s old.table t) (waits : IsWaiting old.table t)
     (least : IsLeastSuch (EndsIdle old.table t) chain) (simple : IsSimple chain) (shifted : new.table ≡ state_after_shift old.table t chain) (ok : IsState new.table)
     (moved : (q u : ℕ) → task_on new.table q ≡ Some u → seen_at new.seen u ≡ Some q) (others : (u : ℕ) → is_linked new.table u ≡ false → seen_at new.seen u ≡ seen_at old.seen u) where
   is_chain : IsChainOf old.table t chain least.itself.0
@@ -96,13 +98,15 @@ module _ (s : State) (t : ℕ) (old : SeenData) (chain : List ℕ) (new : SeenDa
       (rw (lost.linked, held_then t (inl refl)) refl)
       (λ u lt ne. ap (λ (b : Bool). is_linked s u && not b) (sym (lost_then u ne)))
 
-  pub helps : IsState s → Replays old.table.on new.moves new.table.on → length new.moves ≤ 65 → Helps s t old chain new
-  helps ok_s replays few = record {
+  pub helps : IsState s → Replays old.table.on moves new.table.on → length moves ≤ length chain + 1 → ((u : ℕ) → MovesOnce old.table.on new.table.on moves u) → Helps s t old chain moves new
+  helps ok_s replays few once = record {
+    lost = lost;
     least = least;
     simple = simple;
     shifted = shifted;
     replays = replays;
     few = few;
+    once = once;
     moved = moved;
     others = others;
     table = record { same = same_then; state = ok; holds = holds_then; covers = covers_then };

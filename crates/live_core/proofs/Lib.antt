@@ -10,5 +10,7 @@ pub mod Noting
 pub mod Helping
 pub mod Losing
 pub mod Settling
+pub mod Unsettled
+pub mod Finding
 pub mod Counting
 pub mod Copying

@@ -1,5 +1,6 @@
 pub mod Live
 pub mod LiveView
+pub mod Lost
 pub mod MoveData
 pub mod MoveView
 pub mod Moves

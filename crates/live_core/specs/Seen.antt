@@ -1,19 +1,20 @@
 -- Where another scheduler has the tasks. Each task is seen on a processor, or nowhere. A linked task claims the processor on
 -- which it is seen, where its effective mask has it. A table says who of the claimants of each processor holds it: it is the
 -- state of the links, with the holders in place of the linked tasks. A linked task that holds no processor is lost.
-use Rattle.std.specs.Prelude.{◌≡◌, ◌≢◌, ℕ, ◌≤◌, ◌⊎◌, ◌&&◌, not, suc, true, false, List, length, get_or, Option, Some, None, IsTrue}
+use Rattle.std.specs.Prelude.{◌≡◌, ◌≢◌, ℕ, ◌+◌, ◌≤◌, ◌⊎◌, ◌&&◌, not, zero, suc, Bool, true, false, List, length, get_or, Option, Some, None, IsTrue}
 use Rattle.affinity_mask.specs.ProcSet.{has}
 use Rattle.strong_apa.specs.State.{State, IsState, task_on, is_linked, is_ready, effective_mask, priority_of, IsMoreUrgent}
 use Rattle.strong_apa.specs.Ranks.{tasks_of}
 use Rattle.strong_apa.specs.Chain.{IsLeastSuch, IsSimple, EndsIdle, state_after_shift}
 use Rattle.live_core.specs.Moves.{Replays}
+use Rattle.live_core.specs.Needed.{MovesOnce}
 use Rattle.live_core.specs.declared.moves.Move.{Move}
 
--- by task the processor on which it is seen, if on any; the table of the holders, and the moves of the last help
+-- by task the processor on which it is seen, if on any; the table of the holders, and whether it is one of the links and of what is seen
 pub record SeenData : Type 0 where
   pub seen : List (Option ℕ)
   pub table : State
-  pub moves : List Move
+  pub is_settled : Bool
 
 -- the processor on which t is seen
 abbrev pub seen_at : List (Option ℕ) → ℕ → Option ℕ
@@ -74,19 +75,27 @@ abbrev pub lost_count : State → State → ℕ
 lost_count s table = length (tasks_of s (λ t. is_linked s t && not (is_linked table t)))
 
 -- a lost task gets a processor along a chain: the least one to a processor that nobody claims. Whoever held a processor
--- holds one then, and is seen there; whoever holds none stays where it was seen
-pub record Helps (s : State) (t : ℕ) (old : SeenData) (chain : List ℕ) (new : SeenData) : Type 0 where
+-- holds one then, and is seen there; whoever holds none stays where it was seen. The moves lead to the new holders, and a task has
+-- one move where its processor changes, and else none
+pub record Helps (s : State) (t : ℕ) (old : SeenData) (chain : List ℕ) (moves : List Move) (new : SeenData) : Type 0 where
+  pub lost : IsLost s old.table t
   pub least : IsLeastSuch (EndsIdle old.table t) chain
   pub simple : IsSimple chain
   pub shifted : new.table ≡ state_after_shift old.table t chain
-  pub replays : Replays old.table.on new.moves new.table.on
-  pub few : length new.moves ≤ 65
+  pub replays : Replays old.table.on moves new.table.on
+  pub few : length moves ≤ length chain + 1
+  pub once : (u : ℕ) → MovesOnce old.table.on new.table.on moves u
   pub moved : (q u : ℕ) → task_on new.table q ≡ Some u → seen_at new.seen u ≡ Some q
   pub others : (u : ℕ) → is_linked new.table u ≡ false → seen_at new.seen u ≡ seen_at old.seen u
   pub table : IsTable s new.seen new.table
   pub runs : is_linked new.table t ≡ true
   pub fewer : lost_count s old.table ≡ suc (lost_count s new.table)
   pub go_on : (u : ℕ) → is_linked old.table u ≡ true → is_linked new.table u ≡ true
+
+-- there are at most n helps, one after another, and after n of them nobody is lost
+abbrev pub EndsWithin : ℕ → State → SeenData → Type 0
+EndsWithin zero s d = IsNobodyLost s d.table
+EndsWithin (suc n) s d = (t : ℕ) (chain : List ℕ) (moves : List Move) (new : SeenData) → Helps s t d chain moves new → EndsWithin n s new
 
 -- w is ready, and seen on q, which is on line and in its mask
 pub record IsQueuedOn (s : State) (seen : List (Option ℕ)) (w q : ℕ) : Type 0 where

@@ -6,9 +6,8 @@ use Rattle.live_core.specs.declared.seen.SeenPlacement.TheInside.{Inside}
 
 -- the parts that are stored
 abbrev pub seen_view : Inside → SeenData
-seen_view a = record { seen = a.seen.items; table = a.table; moves = a.moves.moves }
+seen_view a = record { seen = a.seen.items; table = a.table; is_settled = a.is_settled }
 
--- each task of the table has a place in the list of those seen, and each processor one in the list of moves
-pub record IsSeenKept (a : Inside) : Type 0 where
-  pub places : length a.seen.items ≡ task_count a.table
-  pub processors : length a.moves.occupants ≡ a.table.processors
+-- each task of the table has a place in the list of those seen
+abbrev pub IsSeenKept : Inside → Type 0
+IsSeenKept a = length a.seen.items ≡ task_count a.table

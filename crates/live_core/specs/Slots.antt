@@ -1,6 +1,6 @@
 -- Slots. The number of a task is that of its slot. A slot is in use from the admission of a task until the task retires, and is
 -- free otherwise. A free slot has no task, so no event is of it. It keeps a mask and a priority, which count for nothing.
-use Rattle.std.specs.Prelude.{◌≡◌, ◌≢◌, ℕ, ◌<◌, Bool, true, false, List, length, set, get_or}
+use Rattle.std.specs.Prelude.{◌≡◌, ◌≢◌, ℕ, ◌<◌, Bool, true, false, List, None, length, set, get_or}
 use Rattle.task_set.specs.declared.event.Event.{Event}
 use Rattle.task_set.specs.declared.event.Event.TheVariants.{Arrive, Depart, Tick, Affinity, Offline, Online}
 use Rattle.strong_apa.specs.State.{State, task_count, priority_of, is_ready, state_with_mask}
@@ -45,10 +45,11 @@ pub record IsSlotFor (d : LiveData) (priority t : ℕ) : Type 0 where
   pub slot : IsFreeSlot d.in_use t
   pub is_new : IsFreeFor d.links t priority
 
--- t was free; it is in use with this priority and this mask, and all else stays: the links among it, and every other task
+-- t was free; it is in use with this priority and this mask, and seen nowhere, and all else stays: the links among it, and every
+-- other task
 pub record Admits (old : LiveData) (priority mask t : ℕ) (new : LiveData) : Type 0 where
   pub slot : IsFreeSlot old.in_use t
-  pub admitted : new ≡ record old { links = state_with_mask (state_with_priority old.links t priority) t mask; in_use = set old.in_use t true }
+  pub admitted : new ≡ record old { links = state_with_mask (state_with_priority old.links t priority) t mask; in_use = set old.in_use t true; seen = set old.seen t None; holders = None }
 
 -- why no task of this priority is admitted: no slot is free, or a task in use has the priority
 abbrev pub IsAdmitFault : LiveData → ℕ → SlotFault → Type 0
@@ -64,7 +65,7 @@ pub record GetsPriority (old : LiveData) (t priority : ℕ) (new : LiveData) : T
   pub count : task_count new.links ≡ task_count old.links
   pub has_it : priority_of new.links t ≡ priority
   pub others : (u : ℕ) → is_in_use old u ≡ true → u ≢ t → priority_of new.links u ≡ priority_of old.links u
-  pub rest : new ≡ record old { links = record old.links { priorities = new.links.priorities } }
+  pub rest : new ≡ record old { links = record old.links { priorities = new.links.priorities }; holders = None }
 
 -- why t does not get the priority: another task in use has it
 abbrev pub IsPriorityFault : LiveData → ℕ → ℕ → SlotFault → Type 0

@@ -14,5 +14,4 @@ mod slots;
 
 pub use live::LiveCore;
 pub use moves::Move;
-pub use seen::SeenPlacement;
 pub use slots::SlotFault;

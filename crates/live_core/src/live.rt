@@ -1,5 +1,5 @@
 //! The scheduler without a history.
-ghost use Rattle.std.specs.Prelude.{◌≡◌, ◌≢◌, ◌<◌, ◌≤◌, [], true, false, length, replicate, IsTrue, IfOk, IfErr, OnOk, OnErr};
+ghost use Rattle.std.specs.Prelude.{◌≡◌, ◌≢◌, ◌<◌, ◌≤◌, ℕ, List, Option, Some, None, [], true, false, length, replicate, IsTrue, IfOk, IfErr, OnOk, OnErr};
 ghost use Rattle.task_set.specs.TaskSet.{IsMask};
 ghost use Rattle.strong_apa.specs.State.{IsState, start_of, is_ready, task_count, priority_of};
 ghost use Rattle.link_table.specs.Priorities.{IsFreeFor};
@@ -7,12 +7,15 @@ ghost use Rattle.strong_apa.specs.Step.{IsEventFor, SchedulerStep};
 ghost use Rattle.strong_apa.specs.Certified.{HasCertificates};
 ghost use Rattle.strong_apa.specs.Improving.{HasNoImprovingChain};
 ghost use Rattle.strong_apa.specs.CertificateLaws.{LinkedIsBest, LinkedIsLargest, LinkedIsAsUrgent};
+ghost use Rattle.live_core.specs.Lost.{FindsLost, HelpsLost, HelpsTask, HelpsNobody, AreHolders, state_held, data_with_seen};
 ghost use Rattle.live_core.specs.Moves.{Replays};
 ghost use Rattle.live_core.specs.Needed.{AreNeeded};
 ghost use Rattle.live_core.specs.Optimal.{IsOptimal};
+ghost use Rattle.live_core.specs.Seen.{IsLost};
 ghost use Rattle.live_core.specs.Slots.{is_in_use, IsEventInUse, AreFreeAbsent, IsSlotFor, Admits, IsAdmitFault, GetsPriority, IsPriorityFault, data_with_free};
 
 use crate::moves::{Move, MoveList};
+use crate::seen::SeenPlacement;
 use crate::slots::{SlotFault, first_free, slots_in_use};
 use affinity_mask::{OutOfMemory, ProcSet};
 use link_table::{Links, Reply};
@@ -30,6 +33,9 @@ pub struct LiveCore {
 
     /// By task: whether its slot is in use.
     in_use: Vec<bool>,
+
+    /// Where another scheduler has the tasks.
+    seen: SeenPlacement,
 }
 
 impl Model for LiveCore {
@@ -52,17 +58,21 @@ impl LiveCore {
           last = Reply.Ticked;
           moves = [];
           in_use = replicate (length set.now.tasks) true;
+          seen = replicate (length set.now.tasks) None;
+          holders = None;
         }) }
     {
         let processors = set.processors();
         let in_use = slots_in_use(alloc, set.len())?;
-        let links = Links::new(alloc, set)?;
         let moves = MoveList::new(alloc, processors)?;
+        let seen = SeenPlacement::new(alloc, set)?;
+        let links = Links::new(alloc, set)?;
         Ok(LiveCore {
             links,
             last: Reply::Ticked,
             moves,
             in_use,
+            seen,
         })
     }
 
@@ -81,9 +91,12 @@ impl LiveCore {
         ensures rank_by_rank { LinkedIsAsUrgent self.new.links }
         ensures valid { IsState self.new.links }
         ensures slots { self.new.in_use ≡ self.old.in_use }
+        ensures seen { self.new.seen ≡ self.old.seen }
+        ensures holders { self.new.holders ≡ None }
     {
         self.last = reply_to(&mut self.links, &event);
         self.moves.follow(&event, &self.last);
+        self.seen.unsettle();
     }
 
     /// Admits a task, which is absent then: a free slot is in use, with this priority and this mask. The answer is its number.
@@ -136,6 +149,8 @@ impl LiveCore {
         self.links.set_priority(t, priority);
         self.links.set_mask(t, mask);
         self.in_use[t as usize] = true;
+        self.seen.set_priority(t, priority);
+        self.seen.see(t, None);
     }
 
     /// An absent task retires: its slot is free.
@@ -182,6 +197,7 @@ impl LiveCore {
             return Err(SlotFault::SamePriority(u));
         }
         self.links.exchange_priorities(t, u);
+        self.seen.exchange_priorities(t, u);
         Ok(())
     }
 
@@ -194,6 +210,53 @@ impl LiveCore {
         ensures optimal { IsOptimal self.new.links }
     {
         self.links.set_priority(t, priority);
+        self.seen.set_priority(t, priority);
+    }
+
+    /// A task is seen on a processor, or nowhere: there another scheduler has it.
+    pub fn see(&mut self, t: u32, place: Option<u8>)
+        requires { is_in_use self.old t ≡ true }
+        ensures { self.new ≡ data_with_seen self.old t place }
+    {
+        let _count = self.links.len();
+        self.seen.see(t, place);
+    }
+
+    /// The most urgent linked task that holds no processor, if there is one. A processor is held by the most urgent linked task that
+    /// is seen there and may run there; after a help, and until an event or a call of `see`, by whoever held it then.
+    pub fn lost(&mut self) -> Option<u32>
+        ensures { FindsLost self.old result self.new }
+    {
+        self.seen.settle(&self.links);
+        self.seen.lost(&self.links)
+    }
+
+    /// Helps the most urgent lost task, if any is lost: the moves are those of a shortest chain that gives it a processor, and all
+    /// are seen then where they lead. Answers the task.
+    pub fn help(&mut self) -> Option<u32>
+        ensures { HelpsLost self.old result self.new }
+    {
+        match self.lost() {
+            Some(t) => {
+                self.help_task(t);
+                Some(t)
+            }
+            None => {
+                self.moves.clear();
+                None
+            }
+        }
+    }
+
+    /// Helps a lost task.
+    fn help_task(&mut self, t: u32)
+        requires { (on : List (Option ℕ)) × (self.old.holders ≡ Some on)
+            × IsLost self.old.links (state_held self.old.links on) t }
+        ensures { (on : List (Option ℕ)) → self.old.holders ≡ Some on → HelpsTask self.old on t self.new }
+    {
+        let _valid = self.links.processors();
+        self.seen.help(&self.links, t, &mut self.moves);
+        self.moves.stand_at(&self.links);
     }
 
     /// Whether there is a slot of this number, and it is in use.
@@ -205,7 +268,7 @@ impl LiveCore {
         (t as usize) < self.in_use.len() && self.in_use[t as usize]
     }
 
-    /// The moves of the last event, in their order. There are none before the first event.
+    /// The moves of the last event, or of a help after it, in their order. There are none before the first event.
     pub fn moves(&self) -> &[Move]
         ensures value { result.now ≡ self.now.moves }
         ensures few { length result.now ≤ 130 }

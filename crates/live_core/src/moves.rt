@@ -103,15 +103,24 @@ impl MoveList {
         requires can { (after : List (Option ℕ)) × Passes self.old.occupants (Some task) chain.now after }
         requires none { self.old.moves ≡ [] }
         ensures moves { Replays self.old.occupants self.new.moves self.new.occupants }
-        ensures few { length self.new.moves ≤ 65 }
+        ensures few { length self.new.moves ≤ 130 }
         ensures occupants { (after : List (Option ℕ))
             → Passes self.old.occupants (Some task) chain.now after → self.new.occupants ≡ after }
+        ensures exact { self.new.moves ≡ passing_moves self.old.occupants (Some task) chain.now }
     {
         self.pass_on(Some(task), chain);
     }
 
+    /// The occupants are those of a table, and the moves stay.
+    pub(crate) fn stand_at(&mut self, links: &Links)
+        requires { length self.old.occupants ≡ links.now.processors }
+        ensures { self.new ≡ record self.old { occupants = links.now.on } }
+    {
+        copy_occupants(&mut self.occupants, links);
+    }
+
     /// The moves are forgotten.
-    fn clear(&mut self)
+    pub(crate) fn clear(&mut self)
         ensures { self.new ≡ record self.old { moves = [] } }
     {
         self.moves.clear();

@@ -1,12 +1,12 @@
 //! Where another scheduler has the tasks, and how it gets each linked task to run.
-ghost use Rattle.std.specs.Prelude.{◌≡◌, ◌<◌, ◌≤◌, ◌⊎◌, ◌↔◌, ℕ, Some, None, [], false, length, replicate, set, MatchOption, IfOk, IfNone, IfSome, IsTrue};
+ghost use Rattle.std.specs.Prelude.{◌≡◌, ◌<◌, ◌≤◌, ◌⊎◌, ◌↔◌, ℕ, Some, None, true, false, length, replicate, set, MatchOption, IfOk, IfNone, IfSome, IsTrue};
 ghost use Rattle.affinity_mask.specs.ProcSet.{has};
 ghost use Rattle.strong_apa.specs.State.{IsState, start_of, IsWaiting, HasSameTasks, task_count, task_on, is_linked, priority_of, effective_mask};
 ghost use Rattle.strong_apa.specs.Chain.{IsLeastSuch, IsSimple, EndsIdle};
 ghost use Rattle.strong_apa.specs.Certified.{HasCertificates};
-ghost use Rattle.live_core.specs.Seen.{seen_at, lost_count, IsTable, IsFresh, RunsOn, IsTaken, IsLost, IsNobodyLost, IsMostUrgentLost, AreAllApart, RunsJustLinked, Helps};
+ghost use Rattle.live_core.specs.Seen.{seen_at, lost_count, IsTable, IsFresh, RunsOn, IsTaken, IsLost, IsNobodyLost, IsMostUrgentLost, AreAllApart, RunsJustLinked, Helps, EndsWithin};
 
-use crate::moves::{Move, MoveList};
+use crate::moves::MoveList;
 use affinity_mask::OutOfMemory;
 use link_table::{Chain, Links};
 use path_search::{chain_to_idle, reach};
@@ -16,12 +16,12 @@ use task_set::TaskSet;
 
 /// By task the processor on which it is seen, and who holds each processor.
 #[derive(Drop)]
-pub struct SeenPlacement {
+pub(crate) struct SeenPlacement {
     table: Links,
     seen: Vec<Option<u8>>,
 
-    /// The moves of the last help.
-    moves: MoveList,
+    /// Whether the table is one of the links and of what is seen: nothing has changed since.
+    is_settled: bool,
 }
 
 impl Model for SeenPlacement {
@@ -37,76 +37,107 @@ impl Model for SeenPlacement {
 }
 
 impl SeenPlacement {
-    /// Every task is seen nowhere, and nobody holds a processor. Refused only where memory runs out.
-    pub fn new(alloc: Global, set: &TaskSet) -> Result<SeenPlacement, OutOfMemory>
+    ghost use Rattle.live_core.specs.MoveData.{MoveData};
+    ghost use Rattle.link_table.specs.Priorities.{IsFreeFor, state_with_priority, state_with_exchange};
+
+    /// Every task is seen nowhere, and who holds which processor is to be found. Refused only where memory runs out.
+    pub(crate) fn new(alloc: Global, set: &TaskSet) -> Result<SeenPlacement, OutOfMemory>
         ensures { IfOk result (λ placement. placement ≡ record {
           seen = replicate (length set.now.tasks) None;
           table = start_of set.now;
-          moves = [];
+          is_settled = false;
         }) }
     {
         let seen = vec![in alloc; None; set.len() as usize]?;
         let table = Links::new(alloc, set)?;
-        let moves = MoveList::new(alloc, set.processors())?;
-        Ok(SeenPlacement { table, seen, moves })
+        Ok(SeenPlacement {
+            table,
+            seen,
+            is_settled: false,
+        })
     }
 
     /// A task is seen on a processor, or nowhere.
-    pub fn see(&mut self, t: u32, place: Option<u8>)
+    pub(crate) fn see(&mut self, t: u32, place: Option<u8>)
         requires { t < task_count self.old.table }
-        ensures { self.new ≡ record self.old { seen = set self.old.seen t place } }
+        ensures { self.new ≡ record self.old { seen = set self.old.seen t place; is_settled = false } }
     {
         let _count = self.table.len();
         self.seen[t as usize] = place;
+        self.is_settled = false;
     }
 
-    /// The processor on which a task is seen.
-    pub fn place(&self, t: u32) -> Option<u8>
-        requires { t < task_count self.now.table }
-        ensures { result ≡ seen_at self.now.seen t }
+    /// The links have changed.
+    pub(crate) fn unsettle(&mut self)
+        ensures { self.new ≡ record self.old { is_settled = false } }
     {
-        let _count = self.table.len();
-        self.seen[t as usize]
+        self.is_settled = false;
     }
 
-    /// The moves of the last help, in their order. There are none before the first.
-    pub fn moves(&self) -> &[Move]
-        ensures { result.now ≡ self.now.moves }
+    /// The priority of a task has changed.
+    pub(crate) fn set_priority(&mut self, t: u32, priority: u32)
+        requires number { t < task_count self.old.table }
+        requires free { IsFreeFor self.old.table t priority }
+        ensures { self.new ≡ record self.old {
+          table = state_with_priority self.old.table t priority;
+          is_settled = false;
+        } }
     {
-        self.moves.moves()
+        self.table.set_priority(t, priority);
+        self.is_settled = false;
     }
 
-    /// The task that holds a processor. After help it is the one that moved there, where the chain has the processor.
-    pub fn holder(&self, p: u8) -> Option<u32>
-        requires { p < self.now.table.processors }
-        ensures { result ≡ task_on self.now.table p }
+    /// Two tasks have exchanged their priorities.
+    pub(crate) fn exchange_priorities(&mut self, t: u32, u: u32)
+        requires number { t < task_count self.old.table }
+        requires other { u < task_count self.old.table }
+        ensures { self.new ≡ record self.old {
+          table = state_with_exchange self.old.table t u;
+          is_settled = false;
+        } }
     {
-        self.table.on(p)
+        self.table.exchange_priorities(t, u);
+        self.is_settled = false;
+    }
+
+    /// Who holds which processor, where that is to be found.
+    pub(crate) fn settle(&mut self, links: &Links)
+        requires tasks { HasSameTasks self.old.table links.now }
+        requires table { self.old.is_settled ≡ true → IsTable links.now self.old.seen self.old.table }
+        ensures table { IsTable links.now self.new.seen self.new.table }
+        ensures seen { self.new.seen ≡ self.old.seen }
+        ensures settled { self.new.is_settled ≡ true }
+        ensures same { self.old.is_settled ≡ true → self.new ≡ self.old }
+        ensures runs { self.old.is_settled ≡ false → (q t : ℕ)
+            → (task_on self.new.table q ≡ Some t) ↔ RunsOn links.now self.new.seen t q }
+    {
+        if !self.is_settled {
+            self.settle_anew(links);
+        }
     }
 
     /// Who holds which processor, anew: of the linked tasks that are seen there and may run there the most urgent one.
-    pub fn settle(&mut self, links: &Links)
+    fn settle_anew(&mut self, links: &Links)
         requires { HasSameTasks self.old.table links.now }
         ensures table { IsTable links.now self.old.seen self.new.table }
-        ensures fresh { IsFresh links.now self.old.seen self.new.table }
         ensures runs { (q t : ℕ) → (task_on self.new.table q ≡ Some t) ↔ RunsOn links.now self.old.seen t q }
         ensures seen { self.new.seen ≡ self.old.seen }
+        ensures settled { self.new.is_settled ≡ true }
     {
         let _valid = links.processors();
         self.table.set_to(links);
         clear(&mut self.table);
         fill(&mut self.table, links, &self.seen);
+        self.is_settled = true;
     }
 
     /// The most urgent lost task, if any is lost. There is none exactly where all linked tasks are seen on processors of their
     /// masks that are on line, no two on one; and then each is more urgent than all other ready tasks that are seen there.
-    pub fn lost(&self, links: &Links) -> Option<u32>
+    pub(crate) fn lost(&self, links: &Links) -> Option<u32>
         requires { IsTable links.now self.now.seen self.now.table }
         ensures first { MatchOption result (IsNobodyLost links.now self.now.table) (IsMostUrgentLost links.now self.now.table) }
         ensures apart { MatchOption result (AreAllApart links.now self.now.seen) (λ t. AreAllApart links.now self.now.seen → ⊥) }
-        ensures none_left { IfNone result (lost_count links.now self.now.table ≡ 0) }
-        ensures some_left { IfSome result (λ t. 0 < lost_count links.now self.now.table) }
-        ensures few { lost_count links.now self.now.table ≤ links.now.processors }
+        ensures soon { EndsWithin links.now.processors links.now self.now }
         ensures just_linked { HasCertificates links.now → IfNone result (RunsJustLinked links.now self.now.seen) }
     {
         let _valid = links.processors();
@@ -115,15 +146,19 @@ impl SeenPlacement {
 
     /// A lost task gets a processor along a shortest chain, which is answered. The task goes on the first processor, and the
     /// holder of each processor on the next one; nobody is linked and seen on the last.
-    pub fn help(&mut self, links: &Links, t: u32) -> Chain
+    pub(crate) fn help(&mut self, links: &Links, t: u32, moves: &mut MoveList) -> Chain
         requires table { IsTable links.now self.old.seen self.old.table }
         requires lost { IsLost links.now self.old.table t }
-        ensures helps { Helps links.now t self.old result self.new }
+        requires processors { length moves.old.occupants ≡ links.now.processors }
+        ensures helps { Helps links.now t self.old result moves.new.moves self.new }
+        ensures settled { self.new.is_settled ≡ self.old.is_settled }
+        ensures few { length moves.new.moves ≤ 130 }
+        ensures occupants { length moves.new.occupants ≡ links.now.processors }
     {
         let _valid = links.processors();
         let chain = chain_of_lost(&self.table, links, &self.seen, t);
-        self.moves.begin_at(&self.table);
-        self.moves.let_in(t, chain.processors());
+        moves.begin_at(&self.table);
+        moves.let_in(t, chain.processors());
         self.table.shift(t, &chain);
         note_holders(&mut self.seen, &self.table);
         chain

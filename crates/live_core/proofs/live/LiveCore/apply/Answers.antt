@@ -1,4 +1,4 @@
-use Rattle.std.proofs.Common.{ℕ, List, Option, refl, sym, subst, ◌∙◌}
+use Rattle.std.proofs.Common.{ℕ, List, Option, refl, sym, ap, subst, ◌∙◌}
 use Rattle.strong_apa.proofs.SameTasks.{same_count, same_tasks-step}
 use Rattle.strong_apa.proofs.Steps.{step_keeps_state}
 use Rattle.strong_apa.proofs.Best.{linked_is_best, linked_is_largest}
@@ -12,7 +12,9 @@ use Rattle.live_core.specs.MoveData.{AreMovesFor, LeadsTo}
 use Rattle.live_core.specs.Needed.{AreNeeded}
 use Rattle.live_core.specs.Slots.{IsEventInUse}
 use Rattle.live_core.proofs.Counted.{needed}
+use Rattle.live_core.specs.Seen.{SeenData}
 use Rattle.live_core.proofs.ComingAndGoing.{free_absent_after_step}
+use Rattle.live_core.proofs.Unsettled.{not_settled, same_then, same_of}
 use Rattle.live_core.proofs.live.LiveCore.apply.Goals as goal
 
 pub follow-requires : goal.follow-requires
@@ -58,6 +60,11 @@ invariant_of-self c =
       free_absent =
           free_absent_after_step (live_view c.self.inside) c.args.event reply.result reply.new.links c.self.invariant.state
           (subst (λ (d : LiveData). IsEventInUse d c.args.event) (sym c.self.view_is) c.requires.in_use) reply.ensures c.self.invariant.free_absent;
+      tasks =
+          same_of c.self.inside.seen.table c.unsettle.new.self.table reply.new.links (ap (λ (d : SeenData). d.table) c.unsettle.ensures)
+          (same_then c.self.inside.seen.table c.self.inside.links reply.new.links c.self.invariant.tasks
+          (same_tasks-step c.self.inside.links c.args.event reply.result reply.new.links reply.ensures));
+      settled = not_settled reply.new.links c.unsettle.new.self (ap (λ (d : SeenData). d.is_settled) c.unsettle.ensures);
     }
 
 pub returns-clause-moves : goal.returns-clause-moves

@@ -1,4 +1,5 @@
-use Rattle.std.proofs.Common.{ℕ, List, Bool, Option, None, length, replicate, sym, ap, subst, ◌∙◌, arith}
+use Rattle.std.proofs.Common.{ℕ, List, Bool, Option, None, length, replicate, refl, sym, ap, subst, ◌∙◌, arith}
+use Rattle.std.proofs.lemmas.Bool.{false≢true}
 use Rattle.std.proofs.lemmas.List.{length-map, length-replicate}
 use Rattle.task_set.specs.TaskSet.{TaskData}
 use Rattle.strong_apa.specs.State.{State, IsState, task_count, is_ready}
@@ -6,6 +7,7 @@ use Rattle.strong_apa.proofs.Start.{IsState-start, none_ready}
 use Rattle.strong_apa.specs.Certified.{HasCertificates}
 use Rattle.strong_apa.proofs.Kept.{HasCertificates-start}
 use Rattle.live_core.specs.MoveData.{MoveData}
+use Rattle.live_core.specs.Seen.{SeenData}
 use Rattle.live_core.proofs.live.LiveCore.new.Goals as goal
 
 pub invariant_of-result : goal.invariant_of-result
@@ -24,4 +26,6 @@ invariant_of-result c = record {
       ∙ sym (length-map c.args.set.now.tasks (λ (task : TaskData). task.priority))
       ∙ sym (ap task_count c.in_ok-links.ensures);
   free_absent = λ t free. ap (λ (s : State). is_ready s t) c.in_ok-links.ensures ∙ none_ready (length c.args.set.now.tasks) t;
+  tasks = rw (c.in_ok-links.ensures, c.in_ok-seen.ensures) record { processors = refl; priorities = refl };
+  settled = λ settled. absurd (false≢true (sym (ap (λ (d : SeenData). d.is_settled) c.in_ok-seen.ensures) ∙ settled));
 }

@@ -2,8 +2,10 @@ use Rattle.std.proofs.Common.{◌≡◌, Bool, false, get_or, length-set, set, s
 use Rattle.strong_apa.specs.State.{State, is_ready, task_count, priority_of}
 use Rattle.strong_apa.specs.Certified.{HasCertificates}
 use Rattle.live_core.specs.Live.{LiveData}
+use Rattle.live_core.specs.Seen.{SeenData}
 use Rattle.live_core.specs.Optimal.{IsOptimal}
 use Rattle.live_core.proofs.ComingAndGoing.{optimal, kept_by_exchange}
+use Rattle.live_core.proofs.Unsettled.{not_settled, same_with_exchange}
 use Rattle.live_core.proofs.live.LiveCore.take_priority.Goals as goal
 
 pub invariant_of-self : goal.invariant_of-self
@@ -22,6 +24,8 @@ invariant_of-self c =
       few = kept.few;
       slots = kept.slots ∙ sym (ap task_count changed ∙ length-set (set s.priorities t (priority_of s u)) u (priority_of s t) ∙ length-set s.priorities t (priority_of s u));
       free_absent = λ v free. ap (λ (x : State). is_ready x v) changed ∙ kept.free_absent v free;
+      tasks = same_with_exchange c.self.inside.seen.table s c.exchange_priorities-2.new.self.table c.exchange_priorities.new.self t u kept.tasks (ap (λ (d : SeenData). d.table) c.exchange_priorities-2.ensures) changed;
+      settled = not_settled c.exchange_priorities.new.self c.exchange_priorities-2.new.self (ap (λ (d : SeenData). d.is_settled) c.exchange_priorities-2.ensures);
     }
 
 pub returns-clause-optimal : goal.returns-clause-optimal

@@ -1,7 +1,8 @@
-use Rattle.std.proofs.Common.{subst}
+use Rattle.std.proofs.Common.{subst, ℕ, arith}
+use Rattle.strong_apa.specs.State.{State}
 use Rattle.live_core.specs.Seen.{SeenData, IsNobodyLost, IsMostUrgentLost}
 use Rattle.std.specs.Prelude.{MatchOption}
-use Rattle.live_core.proofs.Counting.{lost_few, none_left, some_left}
+use Rattle.live_core.proofs.Counting.{lost_few, ends_within}
 use Rattle.live_core.proofs.Losing.{apart_answer, just_linked_answer}
 use Rattle.live_core.proofs.seen.SeenPlacement.lost.Goals as goal
 
@@ -12,4 +13,4 @@ returns c =
     let first = subst (λ (d : SeenData). MatchOption found (IsNobodyLost s d.table) (IsMostUrgentLost s d.table)) c.self.view_is c.most_urgent_lost.ensures in
     let apart = apart_answer s c.args.self.now.table c.args.self.now.seen c.requires found first in
     let ok = c.processors-valid.ensures.valid in
-    record { first = first; apart = apart; none_left = none_left s c.args.self.now.table found first; some_left = some_left s c.args.self.now.table ok found first; few = lost_few s c.args.self.now.table ok; just_linked = just_linked_answer s c.args.self.now.seen c.processors-valid.ensures.valid found apart }
+    record { first = first; apart = apart; soon = ends_within s.processors s ok c.args.self.now (lost_few s c.args.self.now.table ok); just_linked = just_linked_answer s c.args.self.now.seen ok found apart }

@@ -1,11 +1,9 @@
-use Rattle.std.proofs.Common.{subst, List, Option, ℕ}
-use Rattle.live_core.specs.Seen.{SeenData, IsTable, IsFresh}
-use Rattle.live_core.proofs.Losing.{holds_just_where_runs}
+use Rattle.std.proofs.Common.{◌≡◌, ℕ, List, Option, Some, sym, subst}
+use Rattle.std.specs.Prelude.{◌↔◌}
+use Rattle.strong_apa.specs.State.{task_on}
+use Rattle.live_core.specs.Seen.{RunsOn}
 use Rattle.live_core.proofs.seen.SeenPlacement.settle.Goals as goal
 
-pub returns-clause-runs : goal.returns-clause-runs
-returns-clause-runs c =
-    let s = c.args.links.now in
-    let table = subst (λ (d : SeenData). IsTable s d.seen c.fill.new.table) c.self.view_is (subst (λ (seen : List (Option ℕ)). IsTable s seen c.fill.new.table) c.deref.ensures.value c.fill.ensures.table) in
-    let fresh = subst (λ (d : SeenData). IsFresh s d.seen c.fill.new.table) c.self.view_is (subst (λ (seen : List (Option ℕ)). IsFresh s seen c.fill.new.table) c.deref.ensures.value c.fill.ensures.fresh) in
-    holds_just_where_runs s c.fill.new.table c.args.self.now.seen c.processors-valid.ensures.valid table fresh
+pub returns-then-not-self-clause-runs : goal.returns-then-not-self-clause-runs
+returns-then-not-self-clause-runs c = λ anew.
+    subst (λ (seen : List (Option ℕ)). (q t : ℕ) → (task_on c.settle_anew.new.self.table q ≡ Some t) ↔ RunsOn c.args.links.now seen t q) (sym c.settle_anew.ensures.seen) c.settle_anew.ensures.runs
