@@ -1,18 +1,27 @@
 -- Time passes: it leads from a moment to the next one at which something is to be done.
-use Rattle.std.proofs.Common.{◌≡◌, ℕ, suc, ◌+◌, ◌*◌, ◌-◌, ◌^◌, ◌<◌, ◌≤◌, true, List, [], ◌∷◌, length, get_or, All, refl, sym, ap, ◌∙◌, subst, inl, inr, arith}
+use Rattle.std.proofs.Common.{◌≡◌, ℕ, suc, ◌+◌, ◌*◌, ◌-◌, ◌^◌, ◌<◌, ◌≤◌, Bool, true, false, List, [], ◌∷◌, ◌++◌, length, get_or, All, refl, sym, ap, ◌∙◌, subst, inl, inr, arith}
+use Rattle.std.proofs.lemmas.List.{get_or-map}
+use Rattle.task_set.specs.declared.event.Event.{Event}
 use Rattle.task_set.specs.declared.event.Event.TheVariants.{Tick}
 use Rattle.strong_apa.specs.State.{State, IsState, is_ready, is_linked}
 use Rattle.strong_apa.proofs.Linked.{task_on-linked, place_in}
 use Rattle.job_release.specs.Jobs.{goal_of}
+use Rattle.job_release.specs.EventCauses.{HasCause}
+use Rattle.job_release.specs.EventOrder.{own_turn}
+use Rattle.job_release.specs.JobInput.{jobs_at}
 use Rattle.job_release.specs.declared.input.Job.{Job}
-use Rattle.job_release.specs.Driving.{DriverData, IsDriving, IsRowAt, grown, supplied, row_at, work_of, jobs_of, done_of, HasCost, BeginsAt, IsNextMoment, IsDueAt, RunFits, RowsRun, RowRuns}
+use Rattle.job_release.specs.Driving.{AreCausedUpTo, turn_of, DriverData, IsDriving, IsRowAt, grown, supplied, row_at, work_of, jobs_of, done_of, HasCost, BeginsAt, IsNextMoment, IsDueAt, RunFits, RowsRun, RowRuns}
 use Rattle.job_release.specs.Moves.{place_of}
 use Rattle.job_release.specs.Scheduler.{SchedulerData, Passes}
 use Rattle.job_release.specs.declared.row.JobRow.{JobRow}
+use Rattle.job_release.specs.WeakRuns.{elapsed_at}
+use Rattle.job_release.proofs.Causes.{causes_after}
 use Rattle.job_release.proofs.EventOrders.{order_push, turn_push}
 use Rattle.job_release.proofs.Moments.{service_within}
 use Rattle.job_release.proofs.Moves.{moves_within}
-use Rattle.job_release.proofs.RowSteps.{Agree, row_kept, row_ran}
+use Rattle.job_release.proofs.NextMoments.{some_row}
+use Rattle.job_release.proofs.RowSteps.{Agree, row_kept, row_ran, no_cause}
+use Rattle.job_release.proofs.WeakHistories.{elapsed_push}
 use Rattle.job_release.proofs.WorkSums.{sum_of_less, sum_of_one_less, work_least, work_without, work_with_release, work_with_finish}
 
 -- rows of the same jobs
@@ -99,6 +108,19 @@ module _ (from now : DriverData) (driving : IsDriving from now (length now.rows)
         let due : HasCost (row_at ran t d) = rw (run.jobs, run.released, run.finishes) (work, cost) in
         omega (arith, nothing_due t d within, same_counts t d within, work_with_finish next (row_at ran t d) due)
 
+    -- each turn of the moment has come, and no cause comes before the next moment
+    all_turns : (t : ℕ) (flag : Bool) → t < length now.rows → own_turn (length now.rows) t flag < turn_of (supplied now.moment) (supplied now.moment) (length now.rows) (length now.rows)
+    all_turns t true within = omega arith
+    all_turns t false within = omega arith
+
+    nothing_caused : (t x : ℕ) (flag : Bool) → t < length now.rows → now.moment < x → x < next → HasCause after.states t (jobs_at (jobs_of now.rows) t) flag x → ⊥
+    nothing_caused t x flag within since before cause =
+        let d = some_row now.rows t within in
+        let listed : jobs_at (jobs_of now.rows) t ≡ (row_at now.rows t d).jobs.items = get_or-map (λ (row : JobRow). row.jobs.items) now.rows t d [] within in
+        let P : List Job → Type 0 = λ jobs. HasCause after.states t jobs flag x in
+        no_cause after.states now.horizon now.scheduler.now now.moment next is_next.later still t (row_at now.rows t d) (linked_is_ready now.scheduler.now t driving.state) (old_row t d within)
+        (is_next.not_after t d within) x flag since before (subst P listed cause)
+
     pub ticked : IsDriving from (record { scheduler = after; rows = ran; horizon = now.horizon; moment = next }) (length ran) (grown next) (grown next)
     ticked =
         let later = is_next.later in
@@ -119,8 +141,15 @@ module _ (from now : DriverData) (driving : IsDriving from now (length now.rows)
           few = rw listed driving.few;
           rows_moved = λ t d below fits. new_row t d (let count = runs.count in omega arith);
           rows_left = λ t d since fits. absurd (omega arith);
+          timed = ap (λ (events : List Event). elapsed_at events) passes.given ∙ elapsed_push now.scheduler.events (Tick (next - now.moment)) ∙ (let timed = driving.timed in omega arith);
           in_order = rw (runs.count, passes.given) (order_push (length now.rows) 0 now.scheduler.events (Tick (next - now.moment)) driving.in_order (omega arith));
           turn = rw (runs.count, passes.given) (let pushed = turn_push (length now.rows) 0 now.scheduler.events (Tick (next - now.moment)) in omega arith);
+          caused =
+              let turn : 0 ≡ turn_of (grown next) (grown next) (length now.rows) (length now.rows) = omega arith in
+              let P : ℕ → Type 0 = λ turn. AreCausedUpTo (length now.rows) next turn (jobs_of now.rows) (now.scheduler.events ++ Tick (next - now.moment) ∷ []) after.states in
+              rw (runs.count, listed, passes.given)
+              (subst P turn (causes_after (length now.rows) now.moment (turn_of (supplied now.moment) (supplied now.moment) (length now.rows) (length now.rows)) next (next - now.moment)
+              (jobs_of now.rows) now.scheduler.events now.scheduler.states after.states driving.caused all_turns driving.timed agree nothing_caused));
           room = omega (arith, so_far, each, room);
           room_before = λ before.
               let due = is_next.due before in

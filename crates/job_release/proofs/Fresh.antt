@@ -1,5 +1,5 @@
 -- Rows before anything has happened.
-use Rattle.std.proofs.Common.{◌≡◌, ℕ, suc, ◌+◌, ◌<◌, ◌≤◌, Bool, false, List, [], ◌∷◌, ◌++◌, length, take, drop, refl, sym, ap, ◌∙◌, subst, inl, inr, arith, length-append}
+use Rattle.std.proofs.Common.{◌≡◌, ℕ, suc, ◌+◌, ◌<◌, ◌≤◌, Bool, true, false, List, [], ◌∷◌, ◌++◌, length, take, drop, refl, sym, ap, ◌∙◌, subst, inl, inr, arith, length-append}
 use Rattle.std.proofs.lemmas.Bool.{cases_lt, true≢false}
 use Rattle.std.proofs.lemmas.Grind.{common_steps}
 use Rattle.std.proofs.lemmas.List.{get_or_append_left, get_or_at, length-map}
@@ -9,10 +9,11 @@ use Rattle.strong_apa.specs.State.{IsState, task_count, is_ready}
 use Rattle.strong_apa.proofs.Start.{none_ready}
 use Rattle.job_release.specs.JobInput.{JobInputData, IsJobInput, AreJobs, jobs_at}
 use Rattle.job_release.specs.declared.input.Job.{Job}
-use Rattle.job_release.specs.Driving.{DriverData, AreFresh, IsFresh, IsRowAt, IsDriving, jobs_of, row_at, settled}
+use Rattle.job_release.specs.Driving.{AreCausedUpTo, turn_of, DriverData, AreFresh, IsFresh, IsRowAt, IsDriving, jobs_of, row_at, settled}
 use Rattle.job_release.specs.Moments.{Timeline}
 use Rattle.job_release.specs.Scheduler.{SchedulerData, IsNewFor}
 use Rattle.job_release.specs.declared.row.JobRow.{JobRow}
+use Rattle.job_release.proofs.Causes.{no_cause_yet}
 use Rattle.job_release.proofs.Moments.{no_service}
 use Rattle.job_release.proofs.Moves.{no_place, no_moves}
 
@@ -71,12 +72,18 @@ fresh_row states horizon t jobs row flag fresh valid few absent =
       low = omega arith;
       high = λ work. absurd (omega arith);
       idle = λ all. service ∙ sym asked;
+      rested = λ slack. absurd (omega arith);
       ready = (λ h. absurd (true≢false (sym h ∙ absent)), λ work. absurd (omega arith));
       place = fresh.place ∙ sym (no_place states t);
       moves = fresh.moves ∙ sym (no_moves states t);
     }
 
 -- ---- a driver at moment 0
+-- no event has come at the first moment, and no task has a cause to depart
+nothing_caused : (count turn : ℕ) (jobs : List (List Job)) (states : Timeline) → turn ≤ count → AreCausedUpTo count 0 turn jobs [] states
+nothing_caused count turn jobs states few t x false within upto turns = (λ comes. absurd comes, λ cause. absurd (no_cause_yet states t (jobs_at jobs t) x upto cause))
+nothing_caused count turn jobs states few t x true within upto turns = absurd (let early = turns (omega arith) in omega arith)
+
 pub driving_fresh : (input : JobInputData) (scheduler : SchedulerData) (rows : List JobRow) → IsJobInput input → IsState scheduler.now → IsNewFor input.set scheduler → AreFresh input.jobs (length input.jobs) rows
     → let driver : DriverData = record { scheduler = scheduler; rows = rows; horizon = input.horizon; moment = 0 } in IsDriving driver driver (length rows) (settled 0) (settled 0)
 driving_fresh input scheduler rows valid state new fresh =
@@ -102,8 +109,10 @@ driving_fresh input scheduler rows valid state new fresh =
       few = rw jobs valid.few;
       rows_moved = λ t d below within. at t d within;
       rows_left = λ t d from within. absurd (omega arith);
+      timed = rw new.events refl;
       in_order = rw new.events tt;
       turn = rw new.events (omega arith);
+      caused = rw new.events (nothing_caused (length rows) (turn_of (settled 0) (settled 0) (length rows) (length rows)) (jobs_of rows) scheduler.states (omega arith));
       room = omega arith;
       room_before = λ before. omega arith;
     }

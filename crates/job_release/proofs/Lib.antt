@@ -1,3 +1,4 @@
+mod Causes
 mod ComparisonWritten
 mod Counted
 pub mod Decided
@@ -18,10 +19,13 @@ pub mod Moments
 mod Moves
 mod NextMoments
 pub mod OneRun
+pub mod OneTimeline
+pub mod OneWeakText
 mod Outcomes
 pub mod Periodic
 pub mod Readied
 pub mod Released
+mod RowCauses
 mod RowChanges
 mod RowSteps
 mod Runs

@@ -16,7 +16,7 @@ abbrev units : Entry → ℕ
 units entry = units_of entry.event
 
 -- ---- one more entry
-tick_changes_nothing : (s : State) (event : Event) (reply : Reply) → is_tick event ≡ true → state_after_reply s event reply ≡ s
+pub tick_changes_nothing : (s : State) (event : Event) (reply : Reply) → is_tick event ≡ true → state_after_reply s event reply ≡ s
 tick_changes_nothing s (Tick units) reply tick = refl
 tick_changes_nothing s (Arrive t) reply tick = absurd (true≢false (sym tick))
 tick_changes_nothing s (Depart t) reply tick = absurd (true≢false (sym tick))
@@ -37,7 +37,7 @@ changes_push x m (first ∷ rest) entry =
     ∙ sym (append_assoc (change_by x m first) (changes_by x (m + units first) rest) _)
     ∙ ap (λ (k : ℕ). change_by x m first ++ changes_by x (m + units first) rest ++ change_by x k entry) later
 
-change_of_tick : (x m : ℕ) (entry : Entry) → is_tick entry.event ≡ true → change_by x m entry ≡ []
+pub change_of_tick : (x m : ℕ) (entry : Entry) → is_tick entry.event ≡ true → change_by x m entry ≡ []
 change_of_tick x m entry tick = rw tick refl
 
 change_after : (x m : ℕ) (entry : Entry) → x < m → change_by x m entry ≡ []
@@ -133,7 +133,7 @@ pub service_within : (states : Timeline) (t x : ℕ) → service_of states t x �
 service_within states t x = count_below-bound (λ y. is_linked (states y) t) x
 
 -- ---- the state of a moment is that after some of the entries
-none_later : (x m : ℕ) (history : List Entry) → x < m → changes_by x m history ≡ []
+pub none_later : (x m : ℕ) (history : List Entry) → x < m → changes_by x m history ≡ []
 none_later x m [] later = refl
 none_later x m (first ∷ rest) later = rw (change_after x m first later) (none_later x (m + units first) rest (omega arith))
 

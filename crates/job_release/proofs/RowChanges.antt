@@ -37,6 +37,7 @@ module _ (states : Timeline) (horizon : ℕ) (flag : Bool) (moment t : ℕ) (row
         let high = old.high work in
         omega (arith, differs);
     idle = old.idle;
+    rested = λ slack. absurd (omega arith);
     ready = old.ready;
     place = old.place;
     moves = old.moves;
@@ -44,7 +45,7 @@ module _ (states : Timeline) (horizon : ℕ) (flag : Bool) (moment t : ℕ) (row
 
   -- ---- a job is finished
   module _ (old : IsRowAt states horizon flag moment (grown moment) t row) (has : HasCost row) (new : JobRow) (ends : Finishes moment row new) (flag' : Bool) where
-    one_more : done_of new ≡ done + 1
+    pub one_more : done_of new ≡ done + 1
     one_more = ap length ends.finishes ∙ length-append row.finishes.items (moment ∷ [])
 
     within : done < length jobs
@@ -102,6 +103,7 @@ module _ (states : Timeline) (horizon : ℕ) (flag : Bool) (moment t : ℕ) (row
           low = omega arith;
           high = λ still. rw more (let grows = goal_more horizon jobs old.jobs (done + 1) (omega (arith, more)) in omega arith);
           idle = λ all. service ∙ sym asked;
+          rested = λ slack. absurd (omega arith);
           ready = ready_then;
           place = ends.place ∙ old.place;
           moves = ends.moves ∙ old.moves;
@@ -109,13 +111,19 @@ module _ (states : Timeline) (horizon : ℕ) (flag : Bool) (moment t : ℕ) (row
 
   -- ---- jobs are released
   module _ (old : IsRowAt states horizon flag moment (settled moment) t row) (new : JobRow) (begins : Releases moment row new) (flag' : Bool) where
-    listed_then : new.released ≤ length jobs
+    pub listed_then : new.released ≤ length jobs
     listed_then = elim (cases_lt row.released new.released) [
       | inl more ↦ (let last = begins.begin (new.released - 1) (omega arith) (omega arith) in let inside = last.0 in omega arith)
       | inr same ↦ (let listed = old.sizes.listed in omega arith)
     ]
 
-    not_yet : new.released < length jobs → moment + 1 ≤ (job_at jobs new.released).release
+    pub released_then : (k : ℕ) → k < new.released → (job_at jobs k).release < moment + 1
+    released_then k below = elim (cases_lt k row.released) [
+      | inl before ↦ (let due = old.due_before k before in omega arith)
+      | inr from ↦ (let here = (begins.begin k from below).1 in omega arith)
+    ]
+
+    pub not_yet : new.released < length jobs → moment + 1 ≤ (job_at jobs new.released).release
     not_yet inside =
         let more = begins.more in
         let before = old.due_next (omega arith) in
@@ -138,10 +146,7 @@ module _ (states : Timeline) (horizon : ℕ) (flag : Bool) (moment t : ℕ) (row
           service = begins.service ∙ old.service;
           finishes = old.finishes;
           unfinished = old.unfinished;
-          due_before = λ k below. elim (cases_lt k row.released) [
-            | inl before ↦ (let due = old.due_before k before in omega arith)
-            | inr from ↦ (let here = (begins.begin k from below).1 in omega arith)
-          ];
+          due_before = released_then;
           due_next = not_yet;
           low = (let low = old.low in let asked = begins.asked in let service = begins.service in omega arith);
           high = λ work.
@@ -149,6 +154,7 @@ module _ (states : Timeline) (horizon : ℕ) (flag : Bool) (moment t : ℕ) (row
               let service = begins.service in
               omega arith;
           idle = λ all. begins.service ∙ old.idle (omega arith) ∙ sym begins.asked;
+          rested = λ slack. absurd (omega arith);
           ready = ready_then;
           place = begins.place ∙ old.place;
           moves = begins.moves ∙ old.moves;

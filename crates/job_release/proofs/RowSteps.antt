@@ -5,10 +5,12 @@ use Rattle.strong_apa.specs.State.{State, is_ready, is_linked}
 use Rattle.job_release.specs.Jobs.{goal_of, demand}
 use Rattle.job_release.specs.Driven.{IsReadyWhileWorkIsLeft, GetsNoMore, RunsOnlyReady}
 use Rattle.job_release.specs.Driving.{IsRowAt, Mark, done_of, asked_by, HasWork, grown, supplied, IsNotAfter, RowRuns}
+use Rattle.job_release.specs.EventCauses.{HasCause, earlier_demand}
 use Rattle.job_release.specs.Moments.{Timeline, service_of, IsFinish}
 use Rattle.job_release.specs.Moves.{place_of, later_place, is_other_place, last_place, moves_of}
 use Rattle.job_release.specs.declared.input.Job.{Job}
 use Rattle.job_release.specs.declared.row.JobRow.{JobRow}
+use Rattle.job_release.proofs.Causes.{earlier_is}
 use Rattle.job_release.proofs.Demands.{released_later, goal_more, asked_upto, demand_is}
 use Rattle.job_release.proofs.Moments.{same_service, service_while}
 use Rattle.job_release.proofs.Moves.{same_place, same_moves, place_while, moves_while}
@@ -64,6 +66,7 @@ module _ (states longer : Timeline) (moment : ℕ) (agree : Agree states longer 
     low = old.low;
     high = old.high;
     idle = old.idle;
+    rested = λ slack idle. old.rested slack idle ∙ sym (serves (moment - 1) (omega arith));
     ready = (λ h. old.ready.0 (sym same ∙ h), λ h. same ∙ old.ready.1 h);
     place = old.place ∙ sym (same_place longer states t moment agree);
     moves = old.moves ∙ sym (same_moves longer states t moment agree);
@@ -202,6 +205,26 @@ module _ (states : Timeline) (horizon : ℕ) (links : State) (moment next : ℕ)
     | inr from ↦ (let P : State → Type 0 = λ s. is_linked s t ≡ true → is_ready s t ≡ true in subst P (sym (still x from below)) runs_ready)
   ]
 
+  -- the task has no cause to depart or to arrive on the way
+  pub no_cause : (x : ℕ) (change : Bool) → moment < x → x < next → HasCause states t jobs change x → ⊥
+  no_cause x change after_moment below cause =
+      let earlier : earlier_demand jobs x ≡ asked_by jobs row.released =
+      earlier_is jobs row.released x old.sizes.listed (λ k few. let due = old.due_before k few in omega arith)
+      (λ k later within.
+      let next_one = not_after.release (omega arith) in
+      let order = released_later horizon jobs old.jobs row.released k later within in
+      omega arith) in
+      by change cause earlier
+    where
+      by : (change : Bool) → HasCause states t jobs change x → earlier_demand jobs x ≡ asked_by jobs row.released → ⊥
+      by true cause earlier = let more = cause.1 in let asked = asked_here x (omega arith) below in omega (arith, earlier, more, asked)
+      by false cause earlier =
+          let less = cause.1 in
+          let meets = cause.0 in
+          let ready = (ready_here (x - 1) (omega arith) (omega arith)).1 (omega (arith, less, earlier)) in
+          let short = (ready_here x (omega arith) below).0 ready in
+          omega (arith, short, meets, earlier)
+
   module _ (new : JobRow) (ran : RowRuns (is_linked links t) (place_of links t) (next - moment) row new) where
     ran_service : new.service ≡ service_of states t next
     ran_service = elim (cases_Bool (is_linked links t)) [
@@ -267,6 +290,7 @@ module _ (states : Timeline) (horizon : ℕ) (links : State) (moment next : ℕ)
           low = (let low = old.low in let same = ran.asked in omega (arith, low, ran_more));
           high = ran_high;
           idle = λ idle. ran_idle idle ∙ old.idle idle ∙ sym ran.asked;
+          rested = λ slack idle. ran_service ∙ idle_service idle next (omega arith) (omega arith) ∙ sym (idle_service idle (next - 1) (omega arith) (omega arith));
           ready = old.ready;
           place = ran_place;
           moves = ran_moves;

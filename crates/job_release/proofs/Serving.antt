@@ -1,12 +1,14 @@
 -- What a driver made of the jobs with the weak scheduler and with the strong one.
-use Rattle.std.proofs.Common.{◌≡◌, ℕ, suc, ◌-◌, nat_lt, List, [], ◌∷◌, All, refl, sym, ap, ◌∙◌, subst, inl, inr, arith}
+use Rattle.std.proofs.Common.{◌≡◌, ℕ, suc, ◌-◌, nat_lt, List, [], ◌∷◌, map, All, refl, sym, ap, ◌∙◌, subst, inl, inr, arith}
 use Rattle.std.proofs.lemmas.Bool.{cases_Bool}
 use Rattle.task_set.specs.declared.event.Event.{Event}
+use Rattle.strong_apa.specs.declared.reply.Entry.{Entry}
 use Rattle.strong_apa.specs.State.{State, start_of}
 use Rattle.weak_apa.specs.Compared.{IsWeakRun}
 use Rattle.weak_apa.specs.Stable.{IsWeaklyStable}
 use Rattle.sched_core.specs.CoreData.{CoreData}
 use Rattle.job_release.specs.Driven.{RunsJobs, ServesJobs}
+use Rattle.job_release.specs.EventCauses.{AreAskedFor}
 use Rattle.job_release.specs.JobInput.{JobInputData}
 use Rattle.job_release.specs.JobRun.{DrivenData, JobRunData, IsDrivenOf, IsJobRunOf}
 use Rattle.job_release.specs.Moments.{state_at, units_of}
@@ -38,7 +40,7 @@ weak_serves input driven is valid =
       whole = is.whole;
       stable = λ x below. then_stable (start_of input.set) history.events history.states x (subst IsWeaklyStable is.start valid.stable_first) valid.stable;
       served = subst (λ (s : State). ServesJobs input (state_then s history.events history.states)) is.start is.served;
-      order = is.order;
+      asked = subst (λ (s : State). AreAskedFor input history.events (state_then s history.events history.states)) is.start is.asked;
     }
 
 -- ---- the strong one
@@ -49,7 +51,7 @@ strong_driven input run is = record {
   start = is.of_input.start;
   whole = is.runs.whole;
   served = subst (λ (s : State). ServesJobs input (state_at s run.core.history)) (sym is.of_input.start) is.runs.served;
-  order = is.runs.order;
+  asked = subst (λ (s : State). AreAskedFor input (map (λ (entry : Entry). entry.event) run.core.history) (state_at s run.core.history)) (sym is.of_input.start) is.asked;
 }
 
 -- ---- both
@@ -62,6 +64,7 @@ text_of_both input weak strong text weak_is valid strong_is runs is = record {
   history = strong.scheduler.history;
   weak = weak_serves input weak weak_is valid;
   strong = runs;
+  strong_asked = subst (λ (s : State). AreAskedFor input (map (λ (entry : Entry). entry.event) strong.scheduler.history) (state_at s strong.scheduler.history)) strong_is.start strong_is.asked;
   is_text = is ∙ ap (λ (s : State). weak_jobs_text input (state_then s weak.scheduler.events weak.scheduler.states) (strong_seen strong.scheduler).states) weak_is.start
       ∙ ap (λ (s : State). weak_jobs_text input (weak_timeline input weak.scheduler.events weak.scheduler.states) (state_at s strong.scheduler.history)) strong_is.start;
 }

@@ -1,10 +1,12 @@
 -- What the strong scheduler leaves at the horizon: its history runs the jobs.
-use Rattle.std.proofs.Common.{sym, subst}
+use Rattle.std.proofs.Common.{map, sym, subst}
 use Rattle.task_set.specs.TaskSet.{IsTaskSet}
+use Rattle.strong_apa.specs.declared.reply.Entry.{Entry}
 use Rattle.strong_apa.specs.State.{State, start_of}
 use Rattle.strong_apa.specs.History.{IsLegal, IsLegalFrom}
 use Rattle.strong_apa.proofs.Kept.{legal_is_best}
 use Rattle.sched_core.specs.CoreData.{CoreData, IsCore}
+use Rattle.job_release.specs.EventCauses.{AreAskedFor}
 use Rattle.job_release.specs.JobInput.{JobInputData}
 use Rattle.job_release.specs.JobRun.{DrivenData, IsDrivenOf, IsJobRunOf}
 use Rattle.job_release.specs.Driven.{ServesJobs, RunsTheBest}
@@ -29,6 +31,6 @@ run_of_driven input driven valid core opened served =
             let best = legal_is_best set valid history legal prefix.0 prefix.1 in
             subst RunsTheBest (sym prefix.2) best;
         served = (let P : State → Type 0 = λ s. ServesJobs input (state_at s history) in subst P served.start served.served);
-        order = served.order;
       };
+      asked = (let P : State → Type 0 = λ s. AreAskedFor input (map (λ (entry : Entry). entry.event) history) (state_at s history) in subst P served.start served.asked);
     }

@@ -1,13 +1,12 @@
 -- What jobs get of a scheduler. Some ready tasks are linked at each moment: nothing more is said of the scheduler here. At each moment
 -- below the horizon a task is ready exactly where its released jobs ask for more than the service it got, and it never gets more.
-use Rattle.std.specs.Prelude.{◌≡◌, ℕ, ◌<◌, ◌≤◌, ◌↔◌, true, List, length, map, All}
+use Rattle.std.specs.Prelude.{◌≡◌, ℕ, ◌<◌, ◌≤◌, ◌↔◌, true, List, length, All}
 use Rattle.task_set.specs.declared.event.Event.{Event}
 use Rattle.task_set.specs.declared.event.Event.TheVariants.{Arrive, Depart, Tick}
 use Rattle.strong_apa.specs.declared.reply.Entry.{Entry}
 use Rattle.strong_apa.specs.State.{State, start_of, is_ready, is_linked}
 use Rattle.strong_apa.specs.History.{IsLegal}
 use Rattle.strong_apa.specs.Placement.{IsBest}
-use Rattle.job_release.specs.EventOrder.{AreInOrder}
 use Rattle.job_release.specs.Jobs.{demand}
 use Rattle.job_release.specs.JobInput.{JobInputData, jobs_at}
 use Rattle.job_release.specs.declared.input.Job.{Job}
@@ -43,12 +42,10 @@ abbrev pub RunsTheBest : State → Type 0
 RunsTheBest s = IsBest s (is_ready s) (is_linked s)
 
 -- the history runs the jobs of the input under strong scheduling: each entry is an arrival, a departure or a tick, the ticks sum to the
--- horizon, the jobs are served, the linked tasks are at each moment the best set of the ready ones, and at each moment come departures by
--- task and then arrivals by task, of each task one at most
+-- horizon, the jobs are served, and the linked tasks are at each moment the best set of the ready ones
 pub record RunsJobs (input : JobInputData) (history : List Entry) : Type 0 where
   pub legal : IsLegal input.set history
   pub events : All (λ (entry : Entry). IsJobEvent entry.event) history
   pub whole : elapsed history ≡ input.horizon
   pub best : (x : ℕ) → x < input.horizon → RunsTheBest (state_at (start_of input.set) history x)
   pub served : ServesJobs input (state_at (start_of input.set) history)
-  pub order : AreInOrder (length input.jobs) 0 (map (λ (entry : Entry). entry.event) history)

@@ -8,8 +8,11 @@ use Rattle.job_release.specs.declared.input.Job.{Job}
 use Rattle.job_release.specs.Driven.{IsReadyWhileWorkIsLeft, GetsNoMore, RunsOnlyReady}
 use Rattle.job_release.specs.Moments.{Timeline, service_of, IsFinish}
 use Rattle.job_release.specs.Moves.{place_of, later_place, last_place, is_other_place, moves_of}
-use Rattle.job_release.specs.EventOrder.{AreInOrder, turn_after_all}
+use Rattle.job_release.specs.EventCauses.{ComesAt, HasCause}
+use Rattle.job_release.specs.EventOrder.{AreInOrder, turn_after_all, event_of, own_turn}
 use Rattle.job_release.specs.Scheduler.{SchedulerData, enough_room}
+use Rattle.job_release.specs.WeakRuns.{elapsed_at}
+use Rattle.task_set.specs.declared.event.Event.{Event}
 use Rattle.job_release.specs.declared.driver.Driver.{Driver}
 use Rattle.job_release.specs.declared.row.JobRow.{JobRow}
 
@@ -123,6 +126,7 @@ pub record IsRowAt (states : Timeline) (horizon : ℕ) (is_ready_now : Bool) (mo
   pub low : row.asked ≤ row.service
   pub high : HasWork row → row.service < goal_of row.jobs.items (done_of row) + mark.slack
   pub idle : done_of row ≡ row.released → row.service ≡ row.asked
+  pub rested : mark.slack ≡ 1 → done_of row ≡ row.released → row.service ≡ service_of states t (moment - 1)
   pub ready : (is_ready_now ≡ true) ↔ HasWork row
   pub place : row.place ≡ last_place states t moment
   pub moves : row.moves ≡ moves_of states t moment
@@ -163,6 +167,12 @@ driver_of seen driver = record {
 abbrev pub turn_of : Mark → Mark → ℕ → ℕ → ℕ
 turn_of moved left count n = left.phase * count + (moved.phase - left.phase) * n
 
+-- up to this turn of a moment, of so many tasks, each event has come that has a cause, and no other one
+abbrev pub AreCausedUpTo : ℕ → ℕ → ℕ → List (List Job) → List Event → Timeline → Type 0
+AreCausedUpTo count moment turn jobs events states =
+    (t x : ℕ) (flag : Bool) → t < count → x ≤ moment → (x ≡ moment → own_turn count t flag < turn)
+    → ComesAt events (event_of t flag) x ↔ HasCause states t (jobs_at jobs t) flag x
+
 -- a driver that began with these parts has come so far: the rows of the tasks below n are at one mark, and the others at another
 pub record IsDriving (from now : DriverData) (n : ℕ) (moved left : Mark) : Type 0 where
   pub begins : now.scheduler.start ≡ from.scheduler.start
@@ -178,8 +188,10 @@ pub record IsDriving (from now : DriverData) (n : ℕ) (moved left : Mark) : Typ
       → IsRowAt now.scheduler.states now.horizon (is_ready now.scheduler.now t) now.moment moved t (row_at now.rows t d)
   pub rows_left : (t : ℕ) (d : JobRow) → n ≤ t → t < length now.rows
       → IsRowAt now.scheduler.states now.horizon (is_ready now.scheduler.now t) now.moment left t (row_at now.rows t d)
+  pub timed : elapsed_at now.scheduler.events ≡ now.moment
   pub in_order : AreInOrder (length now.rows) 0 now.scheduler.events
   pub turn : turn_after_all (length now.rows) 0 now.scheduler.events ≤ turn_of moved left (length now.rows) n
+  pub caused : AreCausedUpTo (length now.rows) now.moment (turn_of moved left (length now.rows) n) (jobs_of now.rows) now.scheduler.events now.scheduler.states
   pub room : enough_room ≤ now.scheduler.room + sum_by (work_of now.moment) now.rows + 1
   pub room_before : now.moment < now.horizon → enough_room ≤ now.scheduler.room + sum_by (work_of now.moment) now.rows
 

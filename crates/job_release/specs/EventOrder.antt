@@ -7,7 +7,7 @@ use Rattle.task_set.specs.declared.event.Event.TheVariants.{Arrive, Depart, Tick
 -- each of n tasks has two turns at a moment: turn t for its departure, and turn n + t for its arrival. From this turn on the event may come
 abbrev pub IsInTurn : ℕ → ℕ → Event → Type 0
 IsInTurn n turn (Depart t) = (turn ≤ t) × (t < n)
-IsInTurn n turn (Arrive t) = turn ≤ n + t
+IsInTurn n turn (Arrive t) = (turn ≤ n + t) × (t < n)
 IsInTurn n turn (Tick units) = 0 < units
 IsInTurn n turn _ = ⊥
 
@@ -34,3 +34,8 @@ AreInOrder n turn (event ∷ rest) = IsInTurn n turn event × AreInOrder n (turn
 abbrev pub event_of : ℕ → Bool → Event
 event_of t true = Arrive t
 event_of t false = Depart t
+
+-- its turn at a moment
+abbrev pub own_turn : ℕ → ℕ → Bool → ℕ
+own_turn n t true = n + t
+own_turn n t false = t

@@ -1,14 +1,17 @@
 -- Laws of schedulers that serve the jobs of an input, and of the histories that run them. They rest on nothing but the definitions that
 -- they name.
 use Rattle.std.specs.Prelude.{◌≡◌, ℕ, ◌+◌, ◌<◌, ◌≤◌, List, length}
+use Rattle.task_set.specs.declared.event.Event.{Event}
 use Rattle.strong_apa.specs.declared.reply.Entry.{Entry}
-use Rattle.strong_apa.specs.State.{start_of}
+use Rattle.strong_apa.specs.State.{State, start_of}
 use Rattle.job_release.specs.Jobs.{job_at, goal_of}
 use Rattle.job_release.specs.JobInput.{JobInputData, IsJobInput, jobs_at}
 use Rattle.job_release.specs.declared.input.Job.{Job}
 use Rattle.job_release.specs.Driven.{RunsJobs, ServesJobs}
+use Rattle.job_release.specs.JobRun.{HasEventsOf}
 use Rattle.job_release.specs.JobsText.{jobs_text}
 use Rattle.job_release.specs.Moments.{Timeline, state_at, service_of, IsFinish}
+use Rattle.job_release.specs.WeakServes.{WeakServes, IsWeakJobsTextOf, weak_timeline}
 
 -- a job that is finished was released at least its cost before, where only ready tasks are linked
 abbrev pub FinishFollowsRelease : Type 0
@@ -43,3 +46,24 @@ abbrev pub InputHasOneText : Type 0
 InputHasOneText =
     (input : JobInputData) (one other : List Entry)
     → IsJobInput input → RunsJobs input one → RunsJobs input other → jobs_text input one ≡ jobs_text input other
+
+-- with the events that the jobs ask for they have the same state at each moment: neither these nor their order are left open
+abbrev pub InputHasOneTimeline : Type 0
+InputHasOneTimeline =
+    (input : JobInputData) (one other : List Entry) (x : ℕ)
+    → IsJobInput input → RunsJobs input one → HasEventsOf input one → RunsJobs input other → HasEventsOf input other
+    → state_at (start_of input.set) one x ≡ state_at (start_of input.set) other x
+
+-- ---- under weak scheduling
+-- runs of the weak scheduler with the jobs of an input have the same state at each moment
+abbrev pub InputHasOneWeakTimeline : Type 0
+InputHasOneWeakTimeline =
+    (input : JobInputData) (events others : List Event) (states after : List State) (x : ℕ)
+    → IsJobInput input → WeakServes input events states → WeakServes input others after
+    → weak_timeline input events states x ≡ weak_timeline input others after x
+
+-- the comparison of an input is one text
+abbrev pub WeakJobsTextIsUnique : Type 0
+WeakJobsTextIsUnique =
+    (input : JobInputData) (text other : List ℕ)
+    → IsJobInput input → IsWeakJobsTextOf input text → IsWeakJobsTextOf input other → text ≡ other

@@ -1,5 +1,6 @@
 pub mod Driven
 pub mod Driving
+pub mod EventCauses
 pub mod EventOrder
 pub mod Figures
 pub mod JobFault

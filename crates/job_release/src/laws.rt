@@ -1,7 +1,7 @@
 //! What holds of the texts of jobs, whatever program reads them, and of every scheduler that serves the jobs of an input,
 //! whatever program it is. Each law is the contract of a function that does nothing: a caller in a proof gets the law by its
 //! clause.
-ghost use Rattle.job_release.specs.Laws.{FinishFollowsRelease, FinishedJobsRanTheirCosts, NextJobRanItsCost, InputHasOneService, InputHasOneText};
+ghost use Rattle.job_release.specs.Laws.{FinishFollowsRelease, FinishedJobsRanTheirCosts, NextJobRanItsCost, InputHasOneService, InputHasOneText, InputHasOneTimeline, InputHasOneWeakTimeline, WeakJobsTextIsUnique};
 ghost use Rattle.job_release.specs.PeriodicLaws.{PeriodicDemand, PeriodicGoals, PeriodicDueTimes};
 ghost use Rattle.job_release.specs.TextLaws.{TextHasOneInput, TextHasOneFault, InputHasNoFault, AcceptedOrRefused, TextIsOfValidInput};
 
@@ -72,4 +72,16 @@ pub fn finished_job_ran_its_cost()
 pub fn input_has_one_text()
     ensures service { InputHasOneService }
     ensures text { InputHasOneText }
+{}
+
+/// Histories that run the jobs of one input, with the events that these ask for, have the same state at every moment.
+pub fn input_has_one_timeline()
+    ensures { InputHasOneTimeline }
+{}
+
+/// The weak scheduler has no choice either: with the jobs of one input it has one state at every moment, and the comparison with the
+/// strong scheduler is one text.
+pub fn weak_jobs_text_is_unique()
+    ensures timeline { InputHasOneWeakTimeline }
+    ensures text { WeakJobsTextIsUnique }
 {}

@@ -11,6 +11,7 @@ pub mod HeldLists
 pub mod Kept
 pub mod KeptByDepartures
 pub mod NestedSteps
+pub mod OneNestedText
 pub mod Passing
 pub mod Placeables
 pub mod Replayed

@@ -1,9 +1,6 @@
-use Rattle.std.proofs.Common.{ℕ, length, sym, ap, subst, ◌∙◌, arith}
-use Rattle.std.proofs.lemmas.List.{length-map}
-use Rattle.job_release.specs.EventOrder.{AreInOrder}
-use Rattle.job_release.specs.declared.row.JobRow.{JobRow}
+use Rattle.std.proofs.Common.{◌∙◌, arith}
 use Rattle.job_release.specs.Driving.{driver_of}
-use Rattle.job_release.proofs.Runs.{serves_jobs}
+use Rattle.job_release.proofs.Runs.{serves_jobs, asked_at_end}
 use Rattle.job_release.proofs.run.drive.Goals as goal
 
 pub returns : goal.returns
@@ -25,8 +22,5 @@ returns g c =
       start = driving.begins ∙ begun.start;
       whole = driving.at_moment ∙ omega arith;
       served = serves_jobs input from now begun.jobs (omega arith) driving;
-      order =
-          let listed = ap length (driving.same_jobs ∙ begun.jobs) in
-          let count = length-map now.rows (λ (row : JobRow). row.jobs.items) in
-          subst (λ (n : ℕ). AreInOrder n 0 now.scheduler.events) (sym count ∙ listed) driving.in_order;
+      asked = asked_at_end input from now begun.jobs (omega arith) (same ∙ horizon) driving;
     })
