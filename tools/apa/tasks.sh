@@ -4,24 +4,35 @@
 # Where the kernel shows its threads. The tests have a folder of their own.
 proc=${APA_PROC:-/proc}
 
+# real_time THREAD..: which of these folders are of threads of SCHED_FIFO or SCHED_RR, each with its real-time priority. One process reads
+# them all. After the name, which may have blanks and parentheses, comes the third field.
+real_time() {
+    awk 'BEGIN {
+        RS = "\001"
+        for (n = 1; n < ARGC; n++) {
+            file = ARGV[n] "/stat"
+            if ((getline line < file) > 0) {
+                sub(/^.*\)/, "", line)
+                split(line, field, " ")
+                if (field[39] == 1 || field[39] == 2) print ARGV[n], field[38]
+            }
+            close(file)
+        }
+    }' "$@"
+}
+
 # threads PID..: NAME PRIORITY LIST ID of each thread of SCHED_FIFO or SCHED_RR of these processes. The name is the thread's own,
 # with `_` for each byte that a name may not have, and the priority the one that a trace prints.
 threads() {
-    for process in "$@"; do
-        for thread in "$proc/$process"/task/[0-9]*; do
-            line=$(cat -- "$thread/stat" 2>/dev/null) || continue
-            # After the name, which may have blanks and parentheses, comes the third field.
-            # shellcheck disable=SC2086 # fields
-            set -- ${line##*)}
-            case ${39-} in
-            1 | 2) ;;
-            *) continue ;;
-            esac
+    (
+        cd -- "$proc" || exit
+        for process in "$@"; do set -- "$@" "$process/task"/[0-9]* && shift; done
+        real_time "$@" | while read -r thread priority; do
             name=$(tr -c 'A-Za-z0-9_.\n-' _ <"$thread/comm" | tr '\n' _ | sed 's/_$//; s/^[^A-Za-z_]/_&/; s/^$/_/') || continue
             list=$(sed -n 's/^Cpus_allowed_list:[[:space:]]*//p' "$thread/status") || continue
-            echo "$name $((99 - ${38})) $list ${thread##*/}"
+            echo "$name $((99 - priority)) $list ${thread##*/}"
         done
-    done 2>/dev/null
+    ) 2>/dev/null
 }
 
 # The ids of the processes that these words are or name, a name as pidof takes it. The kernel keeps 15 bytes of a name.
@@ -51,20 +62,10 @@ is_other() {
     [ -n "$first" ] && [ "${first##*/}" != "$2" ]
 }
 
-# The task lines of these processes, or of all, by thread id. A name has at most 32 bytes, and one that several threads have is made
-# distinct by the thread's id.
-print_tasks() {
-    among=${1:+ among these}
-    # Words are numbers here.
-    # shellcheck disable=SC2046
-    if [ $# -eq 0 ]; then
-        tell 'apa: no NAME or PID is given, so the threads of the whole machine are listed'
-        set -- $(cd -- "$proc" && echo [0-9]*)
-    else
-        ids=$(processes "$@") || exit
-        set -- $ids
-    fi
-    threads "$@" | LC_ALL=C sort -n -k 4 | awk '
+# Makes task lines of the threads on standard input, which are in the order of their ids. A name has at most 32 bytes, and one that
+# several threads have is made distinct by the thread's id.
+name_tasks() {
+    awk '
         { name[NR] = substr($1, 1, 32); rest[NR] = $2 " " $3; id[NR] = $4; count[name[NR]]++ }
         END {
             for (n = 1; n <= NR; n++) {
@@ -77,5 +78,20 @@ print_tasks() {
                 used[own]
                 print "task", own, rest[n], id[n]
             }
-        }' | grep . || fail "there is no thread of SCHED_FIFO or SCHED_RR$among"
+        }'
+}
+
+# The task lines of these processes, or of all, by thread id.
+print_tasks() {
+    among=${1:+ among these}
+    # Words are numbers here.
+    # shellcheck disable=SC2046
+    if [ $# -eq 0 ]; then
+        tell 'apa: no NAME or PID is given, so the threads of the whole machine are listed'
+        set -- $(cd -- "$proc" && echo [0-9]*)
+    else
+        ids=$(processes "$@") || exit
+        set -- $ids
+    fi
+    threads "$@" | LC_ALL=C sort -n -k 4 | name_tasks | grep . || fail "there is no thread of SCHED_FIFO or SCHED_RR$among"
 }
