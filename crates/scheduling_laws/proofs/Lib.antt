@@ -1,6 +1,7 @@
 pub mod BestElsewhere
 mod Examples
 pub mod Faces
+pub mod FewestMoves
 pub mod Going
 pub mod GoingEntries
 pub mod GoingSums

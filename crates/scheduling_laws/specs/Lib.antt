@@ -1,4 +1,5 @@
 pub mod Faces
+pub mod FewestMoves
 pub mod Going
 pub mod Hall
 pub mod InReach

@@ -1,6 +1,7 @@
 //! Theorems of strong APA scheduling. Each law is the contract of a function that does nothing: a caller in a proof gets
 //! the law by its clause.
 ghost use Rattle.scheduling_laws.specs.Faces.{BestIsCertified, CertifiedIsWithoutChain, CertifiedIsByReach};
+ghost use Rattle.scheduling_laws.specs.FewestMoves.{StepMovesFewest, LegalMovesFewest};
 ghost use Rattle.scheduling_laws.specs.Going.{OrdersCanGoOnFrom, OrdersCanGoOn, OrdersCanBeEndedFrom, OrdersCanBeEnded};
 ghost use Rattle.scheduling_laws.specs.Hall.{PlaceableIsUncrowded, PlaceableOrCrowded};
 ghost use Rattle.scheduling_laws.specs.InReach.{LegalConservesWork, PassingConservesWork, LegalHasNoInversion, PassingHasNoInversion};
@@ -9,6 +10,7 @@ ghost use Rattle.scheduling_laws.specs.Merges.{MergesHaveOneEnd};
 ghost use Rattle.scheduling_laws.specs.MoreProcessors.{MoreProcessorsKeepUp, MoreProcessorsFinishNoLater};
 ghost use Rattle.scheduling_laws.specs.OneEnd.{SameEventsHaveOneEnd, CallersGiveSameEvents};
 ghost use Rattle.scheduling_laws.specs.Response.{WaitingIsInterference, LittleInterferenceIsInTime, SmallDemandIsInTime};
+ghost use Rattle.scheduling_laws.specs.Response.{WeakWaitingIsInterference, WeakLittleInterferenceIsInTime, WeakSmallDemandIsInTime};
 ghost use Rattle.scheduling_laws.specs.ShiftCounts.{PassingShiftsFew, LegalShiftsFew};
 ghost use Rattle.scheduling_laws.specs.Staying.{BestStays};
 ghost use Rattle.scheduling_laws.specs.Sustained.{ShorterJobsKeepUp, ShorterJobsFinishNoLater};
@@ -75,6 +77,13 @@ pub fn few_tasks_are_shifted()
     ensures passing { PassingShiftsFew }
 {}
 
+/// No running task is moved in vain: after an arrival or a departure, or where a processor goes off line or comes on line, no placement
+/// of the tasks that run then moves fewer of those that ran before. At a change of a mask it may: the task leaves and comes back.
+pub fn fewest_tasks_are_moved()
+    ensures step { StepMovesFewest }
+    ensures legal { LegalMovesFewest }
+{}
+
 // ---- jobs
 
 /// Whoever runs the jobs of an input serves each task as if there were no less urgent ones: inputs that agree on all
@@ -105,6 +114,9 @@ pub fn little_interference_is_in_time()
     ensures waiting { WaitingIsInterference }
     ensures service { LittleInterferenceIsInTime }
     ensures demand { SmallDemandIsInTime }
+    ensures weak_waiting { WeakWaitingIsInterference }
+    ensures weak_service { WeakLittleInterferenceIsInTime }
+    ensures weak_demand { WeakSmallDemandIsInTime }
 {}
 
 // ---- between threads
