@@ -13,10 +13,12 @@ use Rattle.strong_apa.proofs.Masks.{effective_mask_below}
 use Rattle.scheduling_laws.specs.Staying.{BestStays}
 use Rattle.scheduling_laws.proofs.PlacedState.{placed_state, ready_is, on_is, linked_is, placed_ok, placed_certificates}
 
--- the tasks that count have the same priorities in both states, and the first one has what its processors leave of their effective masks
+-- the tasks that count have the same priorities in both states. The processors of their effective masks in the first state are in those of
+-- the second one, and there are no others among its processors, but for the least urgent task
 pub record IsNarrower (s s' : State) (tasks : TaskTest) : Type 0 where
   pub priority : (t : ℕ) → tasks t ≡ true → priority_of s' t ≡ priority_of s t
-  pub mask : (t : ℕ) → tasks t ≡ true → (p : ℕ) → has (effective_mask s t) p ≡ (has (effective_mask s' t) p && nat_lt p s.processors)
+  pub within : (t : ℕ) → tasks t ≡ true → (p : ℕ) → has (effective_mask s t) p ≡ true → (has (effective_mask s' t) p && nat_lt p s.processors) ≡ true
+  pub all : (t u : ℕ) → tasks t ≡ true → tasks u ≡ true → priority_of s t < priority_of s u → (p : ℕ) → (has (effective_mask s' t) p && nat_lt p s.processors) ≡ true → has (effective_mask s t) p ≡ true
 
 module _ (s s' : State) (ok : IsState s) (ok' : IsState s') (R fewer best best' : TaskTest) (number : (t : ℕ) → R t ≡ true → t < task_count s) (number' : (t : ℕ) → fewer t ≡ true → t < task_count s') (subset : IsSubset fewer R) (is_best : IsBest s R best) (is_best' : IsBest s' fewer best') (narrower : IsNarrower s s' fewer) where
   abbrev here : ℕ → ℕ
@@ -49,7 +51,7 @@ module _ (s s' : State) (ok : IsState s) (ok' : IsState s') (R fewer best best' 
     -- what stays within X stays there in the first state
     stays_within : (w : ℕ) → fewer w ≡ true → Within (effective_mask s' w) X → (q : ℕ) → IsTrue (has (effective_mask s w) q) → IsTrue (in_X q)
     stays_within w h within q there =
-        let parts = and_parts (has (effective_mask s' w) q) (nat_lt q s.processors) (sym (narrower.mask w h q) ∙ there) in
+        let parts = and_parts (has (effective_mask s' w) q) (nat_lt q s.processors) (narrower.within w h q there) in
         and_from _ _ (within q parts.0) parts.1
 
     -- t itself stands on X
@@ -111,10 +113,20 @@ module _ (s s' : State) (ok : IsState s) (ok' : IsState s') (R fewer best best' 
       | inr k ↦ is_best.subset u (and_parts (best u) _ k).0
     ]
 
+    -- whoever comes is the occupant, and more urgent than t, so that it may run there in the first state too
+    moves_in : (u : ℕ) → comes u ≡ true → IsTrue (has (effective_mask s u) (there u))
+    moves_in u c =
+        let parts = and_parts (best' u) _ c in
+        let w = holder (there u) parts.1 in
+        let same : w.0 ≡ u = is_best'.placeable.1.apart w.0 u w.1.chosen parts.0 w.1.place in
+        let urgent : priority_of s u < priority_of s t = subst (λ (v : ℕ). priority_of s v < priority_of s t) same w.1.urgent in
+        narrower.all u t (is_best'.subset u parts.0) inside urgent (there u)
+        (and_from _ _ (is_best'.placeable.1.allowed u parts.0) (and_parts (has X (there u)) _ parts.1).1)
+
     D-placement : IsPlacement s D place_of
     D-placement = record {
       allowed = λ u h. elim (cases_Bool (comes u)) [
-        | inl c ↦ subst (λ (q : ℕ). IsTrue (has (effective_mask s u) q)) (sym (place-comes u c)) (narrower.mask u (is_best'.subset u (and_parts (best' u) _ c).0) (there u) ∙ and_from _ _ (is_best'.placeable.1.allowed u (and_parts (best' u) _ c).0) (and_parts (has X (there u)) _ (and_parts (best' u) _ c).1).1)
+        | inl c ↦ subst (λ (q : ℕ). IsTrue (has (effective_mask s u) q)) (sym (place-comes u c)) (moves_in u c)
         | inr k ↦ subst (λ (q : ℕ). IsTrue (has (effective_mask s u) q)) (sym (place-stays u k)) (is_best.placeable.1.allowed u (and_parts (best u) _ (stays-from u h k)).0)
       ];
       apart = λ u v hu hv e. elim (cases_Bool (comes u)) [
@@ -239,8 +251,6 @@ pub best_stays : BestStays
 best_stays s R fewer best best' ok number subset is_best is_best' =
     stays_with_more s s ok ok R fewer best best' number (λ t h. number t (subset t h)) subset is_best is_best' record {
       priority = λ t h. refl;
-      mask = λ t h p. elim (cases_Bool (has (effective_mask s t) p)) [
-        | inl there ↦ there ∙ sym (and_from _ _ there (lt-ltb _ _ (effective_mask_below s ok t p there)))
-        | inr out ↦ out ∙ sym (and_left (has (effective_mask s t) p) (nat_lt p s.processors) out)
-      ];
+      within = λ t h p there. and_from _ _ there (lt-ltb _ _ (effective_mask_below s ok t p there));
+      all = λ t u h k less p there. (and_parts (has (effective_mask s t) p) _ there).0;
     }

@@ -1,14 +1,14 @@
 -- Where the urgent jobs ask for less, each task has as many of its jobs done: whoever is ready is ready in the longer run too, and
 -- so a task that is linked there is linked here, or has nothing left to do.
-use Rattle.std.proofs.Common.{◌≡◌, ℕ, zero, suc, ◌+◌, ◌-◌, ◌<◌, ◌≤◌, ◌⊎◌, ◌&&◌, Bool, true, false, nat_lt, List, [], ◌∷◌, length, refl, sym, ap, ◌∙◌, inl, inr, arith}
-use Rattle.std.proofs.lemmas.Bool.{cases_Bool, cases_lt, true≢false, and_from, and_parts, le-leb, lt-ltb, ltb-true}
+use Rattle.std.proofs.Common.{◌≡◌, ◌≢◌, ℕ, zero, suc, ◌+◌, ◌-◌, ◌<◌, ◌≤◌, ◌⊎◌, ◌&&◌, Bool, true, false, nat_lt, List, [], ◌∷◌, length, refl, sym, ap, ◌∙◌, subst, inl, inr, arith}
+use Rattle.std.proofs.lemmas.Bool.{cases_Bool, cases_eq, cases_lt, true≢false, and_from, and_parts, le-leb, lt-ltb, ltb-true}
 use Rattle.std.proofs.lemmas.List.{length-map}
 use Rattle.affinity_mask.specs.ProcSet.{has, all_below, intersection, Within}
 use Rattle.affinity_mask.proofs.Sets.{has-all_below, has-intersection, intersection-all_below}
 use Rattle.task_set.specs.TaskSet.{TaskData}
 use Rattle.strong_apa.specs.declared.reply.Entry.{Entry}
-use Rattle.strong_apa.specs.State.{start_of, task_count, is_ready, is_linked, mask_of, effective_mask}
-use Rattle.strong_apa.specs.Placement.{IsSubset}
+use Rattle.strong_apa.specs.State.{start_of, task_count, priority_of, is_ready, is_linked, mask_of, effective_mask}
+use Rattle.strong_apa.specs.Placement.{TaskTest, IsSubset}
 use Rattle.strong_apa.proofs.Start.{IsState-start}
 use Rattle.strong_apa.proofs.Least.{Decided}
 use Rattle.strong_apa.proofs.Counts.{count_below-more, count_below-same}
@@ -25,7 +25,8 @@ use Rattle.scheduling_laws.specs.Isolation.{IsUrgent}
 use Rattle.scheduling_laws.specs.MoreProcessors.{HasMoreRoomUpTo, MoreProcessorsKeepUp, MoreProcessorsFinishNoLater}
 use Rattle.scheduling_laws.specs.Sustained.{IsNoLonger, AsksNoMoreUpTo, ShorterJobsKeepUp, ShorterJobsFinishNoLater}
 use Rattle.scheduling_laws.proofs.Isolation.{urgent_ready, urgent_linked, ready_is_urgent, urgent_best}
-use Rattle.scheduling_laws.proofs.Staying.{stays_with_more}
+use Rattle.scheduling_laws.specs.WiderMasks.{HasWiderMask, WiderMaskKeepsUp, WiderMaskFinishesNoLater}
+use Rattle.scheduling_laws.proofs.Staying.{IsNarrower, stays_with_more}
 
 -- one moment more of service
 pub service_more : (states : Timeline) (t x : ℕ) → is_linked (states x) t ≡ true → service_of states t (suc x) ≡ suc (service_of states t x)
@@ -163,7 +164,15 @@ twice true false true up = refl
 twice true true false up = sym (up refl)
 twice true true true up = refl
 
-module _ (bound : ℕ) (one other : JobInputData) (agree : HasMoreRoomUpTo bound one other) (valid : IsJobInput one) (also_valid : IsJobInput other) (history also : List Entry) (runs : RunsJobs one history) (also_runs : RunsJobs other also) where
+-- what both laws on masks have: the urgent tasks of the other input ask for no more, and their masks are wider there, but for the least
+-- urgent one by processors alone that the one input lacks
+record HasRoomUpTo (bound : ℕ) (one other : JobInputData) : Type 0 where
+  horizon : one.horizon ≡ other.horizon
+  urgent : (t : ℕ) → IsUrgent other bound t → IsUrgent one bound t
+  jobs : (t : ℕ) → IsUrgent other bound t → AreNoLonger (jobs_at one.jobs t) (jobs_at other.jobs t)
+  narrower : (tasks : TaskTest) → ((t : ℕ) → tasks t ≡ true → IsUrgent other bound t) → IsNarrower (start_of one.set) (start_of other.set) tasks
+
+module _ (bound : ℕ) (one other : JobInputData) (agree : HasRoomUpTo bound one other) (valid : IsJobInput one) (also_valid : IsJobInput other) (history also : List Entry) (runs : RunsJobs one history) (also_runs : RunsJobs other also) where
   abbrev states : Timeline
   states = state_at (start_of one.set) history
 
@@ -186,7 +195,7 @@ module _ (bound : ℕ) (one other : JobInputData) (agree : HasMoreRoomUpTo bound
   AllKeepUp x = (t : ℕ) → IsUrgent other bound t → KeepsUp (jobs t) (jobs' t) (got t x) (got' t x)
 
   shorter : (t : ℕ) → IsUrgent other bound t → AreNoLonger (jobs t) (jobs' t)
-  shorter t urgent = let how = agree.each t urgent in record { count = how.count; each = how.each }
+  shorter t urgent = agree.jobs t urgent
 
   -- what an urgent task is released in both runs
   released : (t x : ℕ) → IsUrgent other bound t → SameReleased (jobs t) (jobs' t) x
@@ -222,17 +231,6 @@ module _ (bound : ℕ) (one other : JobInputData) (agree : HasMoreRoomUpTo bound
       let each = also_valid.one_each in
       omega arith
 
-  -- the one input has what its processors leave of the mask
-  narrower : (u p : ℕ) → IsUrgent other bound u → has (effective_mask (start_of one.set) u) p ≡ (has (effective_mask (start_of other.set) u) p && nat_lt p one.set.processors)
-  narrower u p urgent =
-      ap (λ (X : ℕ). has (intersection X (all_below one.set.processors)) p) (agree.each u urgent).mask
-      ∙ has-intersection (intersection (mask_of (start_of other.set) u) (all_below one.set.processors)) (all_below one.set.processors) p
-      ∙ ap (λ (b : Bool). b && has (all_below one.set.processors) p) (has-intersection (mask_of (start_of other.set) u) (all_below one.set.processors) p)
-      ∙ ap (λ (b : Bool). (has (mask_of (start_of other.set) u) p && b) && b) (has-all_below one.set.processors p)
-      ∙ twice (has (mask_of (start_of other.set) u) p) (nat_lt p one.set.processors) (nat_lt p other.set.processors) (λ h. lt-ltb _ _ (let lt = ltb-true p one.set.processors h in let more = agree.processors in omega arith))
-      ∙ ap (λ (b : Bool). (has (mask_of (start_of other.set) u) p && b) && nat_lt p one.set.processors) (sym (has-all_below other.set.processors p))
-      ∙ ap (λ (b : Bool). b && nat_lt p one.set.processors) (sym (has-intersection (mask_of (start_of other.set) u) (all_below other.set.processors) p))
-
   -- whoever is linked in the one run, and ready in the other, is linked there too
   linked_too : (x : ℕ) → x < one.horizon → AllKeepUp x → (t : ℕ) → IsUrgent other bound t → is_linked (state_at (start_of one.set) history x) t ≡ true → is_ready (state_at (start_of other.set) also x) t ≡ true
       → is_linked (state_at (start_of other.set) also x) t ≡ true
@@ -242,7 +240,7 @@ module _ (bound : ℕ) (one other : JobInputData) (agree : HasMoreRoomUpTo bound
       let chosen = stays_with_more (start_of one.set) (start_of other.set) (IsState-start one.set valid.valid) (IsState-start other.set also_valid.valid)
       (urgent_ready one history bound x) (urgent_ready other also bound x) (urgent_linked one history bound x) (urgent_linked other also bound x)
       (numbers x) (also_numbers x) (fewer_ready x below keeps) (urgent_best one valid history runs bound x below) (urgent_best other also_valid also also_runs bound x (far x below))
-      (record { priority = λ u h. sym (agree.each u (is_urgent u h)).priority; mask = λ u h p. narrower u p (is_urgent u h) }) t
+      (agree.narrower (urgent_ready other also bound x) is_urgent) t
       (and_from _ _ linked (le-leb _ _ urgent.1)) (and_from _ _ ready (le-leb _ _ there.1)) in
       (and_parts (is_linked (state_at (start_of other.set) also x) t) _ chosen).0
 
@@ -279,37 +277,137 @@ module _ (bound : ℕ) (one other : JobInputData) (agree : HasMoreRoomUpTo bound
   keep_up zero within t urgent = rw (no_service states t) (keeps-zero (jobs t) (jobs' t) (shorter t urgent) (got' t zero))
   keep_up (suc x) within t urgent = keep_up-more x (omega arith) (keep_up x (omega arith)) t urgent
 
--- ---- the laws
+-- ---- where there is room
+module _ (bound : ℕ) (one other : JobInputData) (agree : HasRoomUpTo bound one other) (valid : IsJobInput one) (also_valid : IsJobInput other)
+    (history also : List Entry) (runs : RunsJobs one history) (also_runs : RunsJobs other also) (t : ℕ) (urgent : IsUrgent other bound t) (k x : ℕ) where
+  done_too : x ≤ one.horizon → goal_of (jobs_at one.jobs t) k ≤ service_of (state_at (start_of one.set) history) t x
+      → goal_of (jobs_at other.jobs t) k ≤ service_of (state_at (start_of other.set) also) t x
+  done_too within done =
+      let h = keep_up bound one other agree valid also_valid history also runs also_runs x within t urgent (k + 1) 0 (omega arith) (omega arith) in
+      omega arith
+
+  decided : (a b : ℕ) → Decided (a ≤ b)
+  decided a b = elim (cases_lt b a) [ inl lt ↦ inr (λ le. omega arith) | inr le ↦ inl le ]
+
+  either : (a b : ℕ) → (a ≤ b) ⊎ (b ≤ a)
+  either a b = elim (cases_lt a b) [ inl lt ↦ inl (omega arith) | inr ge ↦ inr ge ]
+
+  finished_too : IsFinish (state_at (start_of one.set) history) t (goal_of (jobs_at one.jobs t) k) one.horizon x
+      → (y : ℕ) × (y ≤ x) × IsFinish (state_at (start_of other.set) also) t (goal_of (jobs_at other.jobs t) k) other.horizon y
+  finished_too finish =
+      let goal = goal_of (jobs_at other.jobs t) k in
+      let states' = state_at (start_of other.set) also in
+      let done = done_too finish.within finish.got in
+      let found_first = first_below (λ y. goal ≤ service_of states' t y) (λ y. decided goal (service_of states' t y)) (λ y z. y ≤ z) either
+      (λ a b c le more. omega arith) (suc x) in
+      elim found_first [
+        | inl found ↦ (
+          found.0,
+          (let lt = found.1 in omega arith),
+          record {
+            within = (let lt = found.1 in let in_time = finish.within in let e = agree.horizon in omega arith);
+            got = found.2;
+            least = λ y lt. elim (cases_lt (service_of states' t y) goal) [
+              | inl less ↦ less
+              | inr enough ↦ absurd (let le = found.3 y (let below = found.1 in omega arith) enough in omega arith)
+            ];
+          },
+        )
+        | inr none ↦ absurd (none x (omega arith) done)
+      ]
+
+-- ---- more processors
+module _ (bound : ℕ) (one other : JobInputData) (agree : HasMoreRoomUpTo bound one other) where
+  -- the one input has what its processors leave of the mask
+  narrower : (u p : ℕ) → IsUrgent other bound u → has (effective_mask (start_of one.set) u) p ≡ (has (effective_mask (start_of other.set) u) p && nat_lt p one.set.processors)
+  narrower u p urgent =
+      ap (λ (X : ℕ). has (intersection X (all_below one.set.processors)) p) (agree.each u urgent).mask
+      ∙ has-intersection (intersection (mask_of (start_of other.set) u) (all_below one.set.processors)) (all_below one.set.processors) p
+      ∙ ap (λ (b : Bool). b && has (all_below one.set.processors) p) (has-intersection (mask_of (start_of other.set) u) (all_below one.set.processors) p)
+      ∙ ap (λ (b : Bool). (has (mask_of (start_of other.set) u) p && b) && b) (has-all_below one.set.processors p)
+      ∙ twice (has (mask_of (start_of other.set) u) p) (nat_lt p one.set.processors) (nat_lt p other.set.processors) (λ h. lt-ltb _ _ (let lt = ltb-true p one.set.processors h in let more = agree.processors in omega arith))
+      ∙ ap (λ (b : Bool). (has (mask_of (start_of other.set) u) p && b) && nat_lt p one.set.processors) (sym (has-all_below other.set.processors p))
+      ∙ ap (λ (b : Bool). b && nat_lt p one.set.processors) (sym (has-intersection (mask_of (start_of other.set) u) (all_below other.set.processors) p))
+
+  more_room : HasRoomUpTo bound one other
+  more_room = record {
+    horizon = agree.horizon;
+    urgent = agree.urgent;
+    jobs = λ t urgent. let how = agree.each t urgent in record { count = how.count; each = how.each };
+    narrower = λ tasks are. record {
+      priority = λ u h. sym (agree.each u (are u h)).priority;
+      within = λ u h p there. sym (narrower u p (are u h)) ∙ there;
+      all = λ u v h k less p there. narrower u p (are u h) ∙ there;
+    };
+  }
+
 pub more_processors_keep_up : MoreProcessorsKeepUp
 more_processors_keep_up bound one other history also t valid also_valid agree runs also_runs urgent k x within done =
-    let h = keep_up bound one other agree valid also_valid history also runs also_runs x within t urgent (k + 1) 0 (omega arith) (omega arith) in omega arith
+    done_too bound one other (more_room bound one other agree) valid also_valid history also runs also_runs t urgent k x within done
 
 pub more_processors_finish_no_later : MoreProcessorsFinishNoLater
 more_processors_finish_no_later bound one other history also t valid also_valid agree runs also_runs urgent k x finish =
-    let goal = goal_of (jobs_at other.jobs t) k in
-    let states' = state_at (start_of other.set) also in
-    let done = more_processors_keep_up bound one other history also t valid also_valid agree runs also_runs urgent k x finish.within finish.got in
-    elim (first_below (λ y. goal ≤ service_of states' t y) (λ y. decided goal (service_of states' t y)) (λ y z. y ≤ z) either (λ a b c le more. omega arith) (suc x)) [
-      | inl found ↦ (
-        found.0,
-        (let lt = found.1 in omega arith),
-        record {
-          within = (let lt = found.1 in let in_time = finish.within in let e = agree.horizon in omega arith);
-          got = found.2;
-          least = λ y lt. elim (cases_lt (service_of states' t y) goal) [
-            | inl less ↦ less
-            | inr enough ↦ absurd (let le = found.3 y (let below = found.1 in omega arith) enough in omega arith)
-          ];
-        },
-      )
-      | inr none ↦ absurd (none x (omega arith) done)
-    ]
-  where
-    decided : (a b : ℕ) → Decided (a ≤ b)
-    decided a b = elim (cases_lt b a) [ inl lt ↦ inr (λ le. omega arith) | inr le ↦ inl le ]
+    finished_too bound one other (more_room bound one other agree) valid also_valid history also runs also_runs t urgent k x finish
 
-    either : (a b : ℕ) → (a ≤ b) ⊎ (b ≤ a)
-    either a b = elim (cases_lt a b) [ inl lt ↦ inl (omega arith) | inr ge ↦ inr ge ]
+-- ---- a wider mask
+module _ (t : ℕ) (one other : JobInputData) (valid : IsJobInput one) (also_valid : IsJobInput other) (agree : HasWiderMask t one other) where
+  abbrev up_to : ℕ
+  up_to = priority_of (start_of one.set) t
+
+  same_jobs : (u : ℕ) → IsUrgent one up_to u → jobs_at one.jobs u ≡ jobs_at other.jobs u
+  same_jobs u urgent = elim (cases_eq u t) [
+    | inl same ↦ subst (λ (v : ℕ). jobs_at one.jobs v ≡ jobs_at other.jobs v) (sym same) agree.jobs
+    | inr differs ↦ (agree.same u urgent differs).jobs
+  ]
+
+  no_longer : (jobs jobs' : List Job) → jobs ≡ jobs' → AreNoLonger jobs jobs'
+  no_longer jobs jobs' same = subst (AreNoLonger jobs) same record { count = refl; each = λ k below. record { release = refl; cost = omega arith } }
+
+  same_priority : (u : ℕ) → IsUrgent one up_to u → priority_of (start_of one.set) u ≡ priority_of (start_of other.set) u
+  same_priority u urgent = elim (cases_eq u t) [
+    | inl same ↦ subst (λ (v : ℕ). priority_of (start_of one.set) v ≡ priority_of (start_of other.set) v) (sym same) agree.priority
+    | inr differs ↦ (agree.same u urgent differs).priority
+  ]
+
+  masks_within : (u : ℕ) → IsUrgent one up_to u → Within (mask_of (start_of one.set) u) (mask_of (start_of other.set) u)
+  masks_within u urgent = elim (cases_eq u t) [
+    | inl same ↦ subst (λ (v : ℕ). Within (mask_of (start_of one.set) v) (mask_of (start_of other.set) v)) (sym same) agree.wider
+    | inr differs ↦ subst (Within (mask_of (start_of one.set) u)) (agree.same u urgent differs).mask (λ p there. there)
+  ]
+
+  same_online : all_below one.set.processors ≡ all_below other.set.processors
+  same_online = ap all_below agree.processors
+
+  wider_room : HasRoomUpTo up_to one other
+  wider_room = record {
+    horizon = agree.horizon;
+    urgent = λ u urgent. (agree.urgent u).1 urgent;
+    jobs = λ u urgent. no_longer (jobs_at one.jobs u) (jobs_at other.jobs u) (same_jobs u ((agree.urgent u).1 urgent));
+    narrower = λ tasks are. record {
+      priority = λ u h. sym (same_priority u ((agree.urgent u).1 (are u h)));
+      within = λ u h p there.
+          let parts = and_parts (has (mask_of (start_of one.set) u) p) (has (all_below one.set.processors) p) (sym (has-intersection (mask_of (start_of one.set) u) (all_below one.set.processors) p) ∙ there) in
+          let in_mask = masks_within u ((agree.urgent u).1 (are u h)) p parts.0 in
+          let on_line = ap (λ (X : ℕ). has X p) (sym same_online) ∙ parts.1 in
+          and_from _ _ (has-intersection (mask_of (start_of other.set) u) (all_below other.set.processors) p ∙ and_from _ _ in_mask on_line)
+          (sym (has-all_below one.set.processors p) ∙ parts.1);
+      all = λ u v h k less p there.
+          let urgent = (agree.urgent u).1 (are u h) in
+          let later = ((agree.urgent v).1 (are v k)).1 in
+          let differs : u ≢ t = (λ same. let e = ap (priority_of (start_of one.set)) same in omega arith) in
+          let parts = and_parts (has (effective_mask (start_of other.set) u) p) (nat_lt p one.set.processors) there in
+          ap (λ (X : ℕ). has (intersection X (all_below one.set.processors)) p) (agree.same u urgent differs).mask
+          ∙ ap (λ (X : ℕ). has (intersection (mask_of (start_of other.set) u) X) p) same_online ∙ parts.0;
+    };
+  }
+
+pub wider_mask_keeps_up : WiderMaskKeepsUp
+wider_mask_keeps_up t one other history also u valid also_valid agree runs also_runs urgent k x within done =
+    done_too (priority_of (start_of one.set) t) one other (wider_room t one other valid also_valid agree) valid also_valid history also runs also_runs u ((agree.urgent u).0 urgent) k x within done
+
+pub wider_mask_finishes_no_later : WiderMaskFinishesNoLater
+wider_mask_finishes_no_later t one other history also u valid also_valid agree runs also_runs urgent k x finish =
+    finished_too (priority_of (start_of one.set) t) one other (wider_room t one other valid also_valid agree) valid also_valid history also runs also_runs u ((agree.urgent u).0 urgent) k x finish
 
 -- with the same processors
 same_room : (bound : ℕ) (one other : JobInputData) → IsJobInput other → AsksNoMoreUpTo bound one other → HasMoreRoomUpTo bound one other

@@ -14,3 +14,4 @@ pub mod Sustained
 pub mod Urgency
 pub mod UrgentWork
 pub mod Weights
+pub mod WiderMasks

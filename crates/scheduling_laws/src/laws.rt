@@ -17,6 +17,7 @@ ghost use Rattle.scheduling_laws.specs.Sustained.{ShorterJobsKeepUp, ShorterJobs
 ghost use Rattle.scheduling_laws.specs.Urgency.{BestRestricts};
 ghost use Rattle.scheduling_laws.specs.UrgentWork.{LinkedDoesMostWork};
 ghost use Rattle.scheduling_laws.specs.Weights.{BestWeighsMost, LegalWeighsMost, PassingWeighsMost};
+ghost use Rattle.scheduling_laws.specs.WiderMasks.{WiderMaskKeepsUp, WiderMaskFinishesNoLater};
 
 // ---- the best set
 
@@ -106,6 +107,13 @@ pub fn shorter_jobs_finish_no_later()
 pub fn more_processors_finish_no_later()
     ensures done { MoreProcessorsKeepUp }
     ensures finish { MoreProcessorsFinishNoLater }
+{}
+
+/// A wider mask hurts neither its task nor more urgent ones: where the mask of one task has more processors in another input, this task and
+/// each more urgent one have as many jobs done before every moment there, and finish each no later.
+pub fn wider_mask_finishes_no_later()
+    ensures done { WiderMaskKeepsUp }
+    ensures finish { WiderMaskFinishesNoLater }
 {}
 
 /// A task that waits has each processor of its mask busy with more urgent tasks. So where those get, or ask for, less in a window than
