@@ -477,7 +477,7 @@ held_before s p certificates w waits = (old.0, record {
         ]
 
 -- ---- a task that leaves, and may come back
-same_test : (a b : Bool) → (a ≡ true → b ≡ true) → (b ≡ true → a ≡ true) → a ≡ b
+pub same_test : (a b : Bool) → (a ≡ true → b ≡ true) → (b ≡ true → a ≡ true) → a ≡ b
 same_test true b up down = sym (up refl)
 same_test false true up down = down refl
 same_test false false up down = refl

@@ -133,17 +133,17 @@ module _ (s : State) (states : Timeline) (t from end : ℕ) (off : (y : ℕ) →
 
 -- ---- a moment of either scheduler
 -- a state with the tasks and the masks of the start
-record IsLike (start now : State) : Type 0 where
-  ok : IsState now
-  tasks : HasSameTasks start now
-  masks : HasSameMasks start now
+pub record IsLike (start now : State) : Type 0 where
+  pub ok : IsState now
+  pub tasks : HasSameTasks start now
+  pub masks : HasSameMasks start now
 
 not_true : (b : Bool) → not b ≡ true → b ≡ false
 not_true true e = sym e
 not_true false e = refl
 
 -- each processor of the mask of a waiting task runs a more urgent task
-abbrev IsKeptOutIn : State → ℕ → Type 0
+abbrev pub IsKeptOutIn : State → ℕ → Type 0
 IsKeptOutIn now t = IsWaiting now t → (p : ℕ) → IsTrue (has (effective_mask now t) p) → (u : ℕ) × (task_on now p ≡ Some u) × IsMoreUrgent now u t
 
 module _ (set : SetData) (valid : IsTaskSet set) (t : ℕ) (now : State) (like : IsLike (start_of set) now) (kept : IsKeptOutIn now t) where
@@ -205,15 +205,15 @@ same_masks s (first ∷ rest) events =
 
 module _ (set : SetData) (history : List Entry) (valid : IsTaskSet set) (legal : IsLegal set history)
     (events : All (λ (entry : Entry). IsJobEvent entry.event) history) where
-  abbrev at : ℕ → State
+  abbrev pub at : ℕ → State
   at x = state_at (start_of set) history x
 
-  certified_at : (x : ℕ) → IsState (at x) × HasCertificates (at x)
+  pub certified_at : (x : ℕ) → IsState (at x) × HasCertificates (at x)
   certified_at x =
       let prefix = state_by_entries (start_of set) history x 0 in
       subst (λ (now : State). IsState now × HasCertificates now) (sym prefix.2) (legal_is_certified set valid history legal prefix.0 prefix.1)
 
-  like_at : (x : ℕ) → IsLike (start_of set) (at x)
+  pub like_at : (x : ℕ) → IsLike (start_of set) (at x)
   like_at x =
       let prefix = state_by_entries (start_of set) history x 0 in
       let front = All-take (λ (entry : Entry). IsJobEvent entry.event) prefix.0 history events in
@@ -223,7 +223,7 @@ module _ (set : SetData) (history : List Entry) (valid : IsTaskSet set) (legal :
         masks = subst (HasSameMasks (start_of set)) (sym prefix.2) (same_masks (start_of set) (take prefix.0 history) front);
       }
 
-  kept_out_at : (t x : ℕ) → IsKeptOutIn (at x) t
+  pub kept_out_at : (t x : ℕ) → IsKeptOutIn (at x) t
   kept_out_at t x waiting p there =
       let certificate = (certified_at x).1 t waiting in
       let u = certificate.1.occupied p (certificate.1.within p there) in
@@ -254,7 +254,7 @@ weak_step_like s event new ok is step = like event is (weak_step_follows s event
     like (Offline p) is follows = absurd is
     like (Online p) is follows = absurd is
 
-like_then : (s : State) (events : List Event) (states : List State) (x : ℕ) → IsState s → All IsJobEvent events → IsWeakRun s events states
+pub like_then : (s : State) (events : List Event) (states : List State) (x : ℕ) → IsState s → All IsJobEvent events → IsWeakRun s events states
     → IsLike s (state_then s events states x)
 like_then s [] states x ok each run = record { ok = ok; tasks = record { processors = refl; priorities = refl }; masks = record { masks = refl; online = refl } }
 like_then s (event ∷ events) [] x ok each run = absurd run

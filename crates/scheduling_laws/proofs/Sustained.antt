@@ -18,7 +18,7 @@ use Rattle.job_release.specs.JobInput.{JobInputData, IsJobInput, AreJobs, jobs_a
 use Rattle.job_release.specs.declared.input.Job.{Job}
 use Rattle.job_release.specs.Driven.{RunsJobs}
 use Rattle.job_release.specs.Driving.{asked_by}
-use Rattle.job_release.specs.Moments.{Timeline, state_at, service_of}
+use Rattle.job_release.specs.Moments.{Timeline, state_at, service_of, IsFinish}
 use Rattle.job_release.proofs.Demands.{asked_more, asked_past, asked_upto, released_later, demand_is}
 use Rattle.job_release.proofs.Moments.{no_service}
 use Rattle.scheduling_laws.specs.Isolation.{IsUrgent}
@@ -277,6 +277,34 @@ module _ (bound : ℕ) (one other : JobInputData) (agree : HasRoomUpTo bound one
   keep_up zero within t urgent = rw (no_service states t) (keeps-zero (jobs t) (jobs' t) (shorter t urgent) (got' t zero))
   keep_up (suc x) within t urgent = keep_up-more x (omega arith) (keep_up x (omega arith)) t urgent
 
+-- ---- what is done by a moment is finished by then
+decided : (a b : ℕ) → Decided (a ≤ b)
+decided a b = elim (cases_lt b a) [ inl lt ↦ inr (λ le. omega arith) | inr le ↦ inl le ]
+
+either : (a b : ℕ) → (a ≤ b) ⊎ (b ≤ a)
+either a b = elim (cases_lt a b) [ inl lt ↦ inl (omega arith) | inr ge ↦ inr ge ]
+
+pub finished_by : (states : Timeline) (t goal horizon x : ℕ) → x ≤ horizon → goal ≤ service_of states t x
+    → (y : ℕ) × (y ≤ x) × IsFinish states t goal horizon y
+finished_by states t goal horizon x within done =
+    let found_first = first_below (λ y. goal ≤ service_of states t y) (λ y. decided goal (service_of states t y)) (λ y z. y ≤ z) either
+    (λ a b c le more. omega arith) (suc x) in
+    elim found_first [
+      | inl found ↦ (
+        found.0,
+        (let lt = found.1 in omega arith),
+        record {
+          within = (let lt = found.1 in omega arith);
+          got = found.2;
+          least = λ y lt. elim (cases_lt (service_of states t y) goal) [
+            | inl less ↦ less
+            | inr enough ↦ absurd (let le = found.3 y (let below = found.1 in omega arith) enough in omega arith)
+          ];
+        },
+      )
+      | inr none ↦ absurd (none x (omega arith) done)
+    ]
+
 -- ---- where there is room
 module _ (bound : ℕ) (one other : JobInputData) (agree : HasRoomUpTo bound one other) (valid : IsJobInput one) (also_valid : IsJobInput other)
     (history also : List Entry) (runs : RunsJobs one history) (also_runs : RunsJobs other also) (t : ℕ) (urgent : IsUrgent other bound t) (k x : ℕ) where
@@ -286,35 +314,12 @@ module _ (bound : ℕ) (one other : JobInputData) (agree : HasRoomUpTo bound one
       let h = keep_up bound one other agree valid also_valid history also runs also_runs x within t urgent (k + 1) 0 (omega arith) (omega arith) in
       omega arith
 
-  decided : (a b : ℕ) → Decided (a ≤ b)
-  decided a b = elim (cases_lt b a) [ inl lt ↦ inr (λ le. omega arith) | inr le ↦ inl le ]
-
-  either : (a b : ℕ) → (a ≤ b) ⊎ (b ≤ a)
-  either a b = elim (cases_lt a b) [ inl lt ↦ inl (omega arith) | inr ge ↦ inr ge ]
-
   finished_too : IsFinish (state_at (start_of one.set) history) t (goal_of (jobs_at one.jobs t) k) one.horizon x
       → (y : ℕ) × (y ≤ x) × IsFinish (state_at (start_of other.set) also) t (goal_of (jobs_at other.jobs t) k) other.horizon y
   finished_too finish =
-      let goal = goal_of (jobs_at other.jobs t) k in
-      let states' = state_at (start_of other.set) also in
-      let done = done_too finish.within finish.got in
-      let found_first = first_below (λ y. goal ≤ service_of states' t y) (λ y. decided goal (service_of states' t y)) (λ y z. y ≤ z) either
-      (λ a b c le more. omega arith) (suc x) in
-      elim found_first [
-        | inl found ↦ (
-          found.0,
-          (let lt = found.1 in omega arith),
-          record {
-            within = (let lt = found.1 in let in_time = finish.within in let e = agree.horizon in omega arith);
-            got = found.2;
-            least = λ y lt. elim (cases_lt (service_of states' t y) goal) [
-              | inl less ↦ less
-              | inr enough ↦ absurd (let le = found.3 y (let below = found.1 in omega arith) enough in omega arith)
-            ];
-          },
-        )
-        | inr none ↦ absurd (none x (omega arith) done)
-      ]
+      let within = finish.within in
+      let e = agree.horizon in
+      finished_by (state_at (start_of other.set) also) t (goal_of (jobs_at other.jobs t) k) other.horizon x (omega arith) (done_too within finish.got)
 
 -- ---- more processors
 module _ (bound : ℕ) (one other : JobInputData) (agree : HasMoreRoomUpTo bound one other) where

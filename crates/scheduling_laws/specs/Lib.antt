@@ -11,6 +11,7 @@ pub mod Response
 pub mod ShiftCounts
 pub mod Staying
 pub mod Sustained
+pub mod TopTwo
 pub mod Urgency
 pub mod UrgentWork
 pub mod Weights

@@ -14,6 +14,7 @@ ghost use Rattle.scheduling_laws.specs.Response.{WeakWaitingIsInterference, Weak
 ghost use Rattle.scheduling_laws.specs.ShiftCounts.{PassingShiftsFew, LegalShiftsFew};
 ghost use Rattle.scheduling_laws.specs.Staying.{BestStays};
 ghost use Rattle.scheduling_laws.specs.Sustained.{ShorterJobsKeepUp, ShorterJobsFinishNoLater};
+ghost use Rattle.scheduling_laws.specs.TopTwo.{TopTwoGetNoLess, TopTwoFinishNoLater};
 ghost use Rattle.scheduling_laws.specs.Urgency.{BestRestricts};
 ghost use Rattle.scheduling_laws.specs.UrgentWork.{LinkedDoesMostWork};
 ghost use Rattle.scheduling_laws.specs.Weights.{BestWeighsMost, LegalWeighsMost, PassingWeighsMost};
@@ -114,6 +115,13 @@ pub fn more_processors_finish_no_later()
 pub fn wider_mask_finishes_no_later()
     ensures done { WiderMaskKeepsUp }
     ensures finish { WiderMaskFinishesNoLater }
+{}
+
+/// The most urgent two tasks never do worse under the strong scheduler than under the weak one: before each moment each got no less, and no
+/// job of theirs is finished later. From the third task on this is false.
+pub fn top_two_finish_no_later()
+    ensures service { TopTwoGetNoLess }
+    ensures finish { TopTwoFinishNoLater }
 {}
 
 /// A task that waits has each processor of its mask busy with more urgent tasks. So where those get, or ask for, less in a window than
