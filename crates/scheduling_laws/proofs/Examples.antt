@@ -2,7 +2,7 @@
 -- They arrive as c, a, b. So c takes processor 0 and a processor 1, and then a moves aside for b, and c waits.
 use Rattle.std.proofs.Common.{◌≡◌, ℕ, zero, suc, ◌<◌, ◌≤◌, Bool, true, false, List, [], ◌∷◌, map, Some, None, refl, sym, ap, ◌∙◌, IsTrue, arith, eqb-true}
 use Rattle.std.specs.Prelude.{All, length, nat_lt}
-use Rattle.std.proofs.lemmas.Bool.{ltb-true, false≢true}
+use Rattle.std.proofs.lemmas.Bool.{ltb-true, lt-ltb, false≢true}
 use Rattle.std.proofs.lemmas.List.Elements.{All-nil, All-cons}
 use Rattle.std.proofs.lemmas.Option.{same_Some}
 use Rattle.affinity_mask.specs.ProcSet.{has, all_below, intersection, passing_below}
@@ -13,11 +13,12 @@ use Rattle.task_set.specs.declared.event.Event.TheVariants.{Arrive, Tick, Affini
 use Rattle.task_set.specs.declared.order.Order.{Order}
 use Rattle.task_set.specs.declared.order.Order.TheVariants.{Release, Take, Run, Stop}
 use Rattle.strong_apa.specs.declared.reply.Reply.{Reply}
-use Rattle.strong_apa.specs.declared.reply.Reply.TheVariants.{Placed, Displaced, Ticked}
+use Rattle.strong_apa.specs.declared.reply.Came.TheVariants as came
+use Rattle.strong_apa.specs.declared.reply.Reply.TheVariants.{Placed, Displaced, Ticked, Remasked}
 use Rattle.strong_apa.specs.declared.reply.Entry.{Entry}
 use Rattle.strong_apa.specs.State.{State, IsWaiting, priority_of, effective_mask, start_of}
 use Rattle.strong_apa.specs.Chain.{Reaches, IsReach}
-use Rattle.strong_apa.specs.History.{linked_after, ready_after, state_at}
+use Rattle.strong_apa.specs.History.{linked_after, ready_after, state_at, effect_of}
 use Rattle.strong_apa.specs.Placement.{TaskTest, IsSubset, IsPlaceable}
 use Rattle.strong_apa.specs.Dispatch.{closed_orders_of}
 use Rattle.strong_apa.proofs.Paths.{Reaches-online}
@@ -27,19 +28,23 @@ use Rattle.job_release.specs.JobInput.{JobInputData}
 use Rattle.job_release.specs.Moments as moments
 use Rattle.job_release.specs.declared.input.Job.{Job}
 use Rattle.scheduling_laws.specs.Faces.{IsCertifiedByReach}
+use Rattle.scheduling_laws.specs.FewestMoves.{moved_count}
 use Rattle.scheduling_laws.specs.Going.{IsRun, times_taken, times_released, CanBeObeyed}
 use Rattle.scheduling_laws.specs.Hall.{confined_count, IsCrowded}
 use Rattle.scheduling_laws.specs.InReach.{IsWorkConserving, HasNoInversion}
 use Rattle.scheduling_laws.specs.Isolation.{IsUrgent, IsSameTask, AgreeUpTo}
 use Rattle.scheduling_laws.specs.Merges.{HaveStreams, HaveSameTasksLinked}
+use Rattle.scheduling_laws.specs.Migrations.{migrations_of, events_of_others}
 use Rattle.scheduling_laws.specs.MoreProcessors.{HasMoreRoom, HasMoreRoomUpTo}
 use Rattle.scheduling_laws.specs.OneEnd.{is_of_task, is_of_processor, events_that, events_by, HaveSameEvents, HaveCallers}
 use Rattle.scheduling_laws.specs.Response.{can_interfere, width_of, waiting_of, interference_of, interfering_demand}
 use Rattle.scheduling_laws.specs.ShiftCounts.{shifts_of, most_shifts}
 use Rattle.scheduling_laws.specs.Sustained.{IsNoLonger, AsksNoMore, AsksNoMoreUpTo}
+use Rattle.scheduling_laws.specs.TopTwo.{IsOfTopTwo}
 use Rattle.scheduling_laws.specs.Urgency.{urgent_of}
 use Rattle.scheduling_laws.specs.UrgentWork.{IsChoice, urgent_work}
 use Rattle.scheduling_laws.specs.Weights.{weight_of}
+use Rattle.scheduling_laws.specs.WiderMasks.{HasWiderMask}
 
 -- a mask is written as the number whose ones are its processors; names play no part
 abbrev task : ℕ → ℕ → TaskData
@@ -65,6 +70,52 @@ shifts = refl
 
 most : map (most_shifts 2) (Arrive 0 ∷ Affinity 0 1 ∷ Tick 5 ∷ []) ≡ 1 ∷ 2 ∷ 0 ∷ []
 most = refl
+
+-- ---- there a goes from 1 to 0, and is the one task that is moved; b can run on 1 alone, so no placement of the two moves fewer
+abbrev a_aside : ℕ → ℕ
+a_aside zero = 0
+a_aside (suc t) = 1
+
+moved : moved_count (state_at three_tasks moved_aside 2) (state_at three_tasks moved_aside 3) a_aside ≡ 1
+unfolding passing_below
+moved = refl
+
+-- ---- it is the one migration of a, at the one event of another task while a is ready
+migrated : migrations_of (start_of three_tasks) moved_aside 0 ≡ 1
+migrated = refl
+
+others : events_of_others (start_of three_tasks) moved_aside 0 ≡ 1
+others = refl
+
+-- ---- a change of a mask may move a task in vain: b is on 0, a on 1, c waits for 1. Now b may run on 1 too, and leaves: a goes on 0, c on
+-- 1. Then b comes back, and displaces c. Both are moved, and neither had to be
+abbrev c_behind_a : State
+c_behind_a = record {
+  processors = 2;
+  priorities = 1 ∷ 2 ∷ 3 ∷ [];
+  masks = 3 ∷ 1 ∷ 2 ∷ [];
+  online = 3;
+  ready = true ∷ true ∷ true ∷ [];
+  on = Some 1 ∷ Some 0 ∷ [];
+}
+
+abbrev mask_changes : Entry
+mask_changes = entry (Affinity 1 3) (Remasked (Some record { entered = Some 2; chain = 0 ∷ 1 ∷ []; back = 3 }) (came.Displaced (1 ∷ []) 2 3))
+
+they_change_places : (effect_of c_behind_a mask_changes).on ≡ Some 0 ∷ Some 1 ∷ []
+they_change_places = refl
+
+abbrev b_stays : ℕ → ℕ
+b_stays zero = 1
+b_stays (suc t) = 0
+
+in_vain : moved_count c_behind_a (effect_of c_behind_a mask_changes) a_aside ≡ 2
+unfolding passing_below
+in_vain = refl
+
+not_needed : moved_count c_behind_a (effect_of c_behind_a mask_changes) b_stays ≡ 0
+unfolding passing_below
+not_needed = refl
 
 -- ---- who is urgent up to priority 2, of all tasks
 urgent : map (urgent_of (start_of three_tasks) (λ t. true) 2) (0 ∷ 1 ∷ 2 ∷ []) ≡ true ∷ true ∷ false ∷ []
@@ -400,3 +451,42 @@ more_room = record { processors = omega arith; horizon = refl; urgent = λ t urg
 demanded : interfering_demand with_c 2 7 ≡ 7
 unfolding passing_below intersection
 demanded = refl
+
+-- ---- the mask of a has processor 0, and in the other input 1 as well
+abbrev on_0 : JobInputData
+on_0 = record { version = 2; set = record { processors = 2; tasks = task 1 1 ∷ [] }; horizon = 30; jobs = two_jobs 3 ∷ [] }
+
+in_both : (p : ℕ) → IsTrue (has 1 p) → IsTrue (has 3 p)
+unfolding all_below
+in_both p there = has-all_below 2 p ∙ lt-ltb p 2 (let below = ltb-true p 1 (sym (has-all_below 1 p) ∙ there) in omega arith)
+
+wider_mask : HasWiderMask 0 on_0 on_two
+wider_mask = record {
+  processors = refl;
+  horizon = refl;
+  task = omega arith;
+  urgent = λ u. ((λ h. h), (λ h. h));
+  same = λ u urgent other. absurd (let lt = urgent.0 in omega arith);
+  priority = refl;
+  jobs = refl;
+  wider = λ p there. in_both p there;
+}
+
+-- ---- of three tasks a and b are the most urgent two
+b_is_second : IsOfTopTwo (start_of three_tasks) 1
+b_is_second zero zero lu lv up vp = refl
+b_is_second zero (suc v) lu lv up vp = absurd (late v lv vp)
+  where
+    late : (v : ℕ) → suc v < 3 → priority_of (start_of three_tasks) (suc v) < 2 → ⊥
+    late zero lt less = omega arith
+    late (suc zero) lt less = omega arith
+    late (suc (suc v)) lt less = omega arith
+b_is_second (suc u) v lu lv up vp = absurd (late u lu up)
+  where
+    late : (v : ℕ) → suc v < 3 → priority_of (start_of three_tasks) (suc v) < 2 → ⊥
+    late zero lt less = omega arith
+    late (suc zero) lt less = omega arith
+    late (suc (suc v)) lt less = omega arith
+
+c_is_third : IsOfTopTwo (start_of three_tasks) 2 → ⊥
+c_is_third top = absurd (let same : 0 ≡ 1 = top 0 1 (omega arith) (omega arith) (omega arith) (omega arith) in omega arith)

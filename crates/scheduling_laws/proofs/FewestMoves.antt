@@ -15,7 +15,7 @@ use Rattle.strong_apa.specs.declared.reply.Came.TheVariants.{Placed, Displaced, 
 use Rattle.strong_apa.specs.declared.reply.Reply.{Reply}
 use Rattle.strong_apa.specs.declared.reply.Entry.{Entry}
 use Rattle.strong_apa.specs.State.{State, IsState, IsWaiting, IsIdle, task_count, task_on, is_task, is_ready, is_linked, mask_of, effective_mask, start_of, state_with_ready, state_with_absent, state_with_online, state_with_offline, state_after_leaving}
-use Rattle.strong_apa.specs.Chain.{CanShift, CanEnterAt, IsPath, IsWalk, IsChainOf, IsSimple, EndsIdle, EndsOnTask, EntersBy, IsLeastSuch, occupant_after_shift, state_after_shift}
+use Rattle.strong_apa.specs.Chain.{CanShift, IsPath, IsWalk, IsChainOf, IsSimple, EndsIdle, EndsOnTask, EntersBy, IsLeastSuch, occupant_after_shift, state_after_shift}
 use Rattle.strong_apa.specs.Placement.{IsPlacement}
 use Rattle.strong_apa.specs.Certificate.{IsCertificate}
 use Rattle.strong_apa.specs.Certified.{HasCertificates}
@@ -59,7 +59,8 @@ no_longer Has chain other least has = elim (least.least other has) [
 ]
 
 -- who stays where it was is not moved
-stay_put : (s new : State) (own : ℕ → ℕ) → IsState s → ((p u : ℕ) → task_on new p ≡ Some u → task_on s p ≡ Some u) → IsPlaceOf new own → moved_count s new own ≤ 0
+stay_put : (s new : State) (own : ℕ → ℕ) → IsState s → ((p u : ℕ) → task_on new p ≡ Some u → task_on s p ≡ Some u) → IsPlaceOf new own
+    → moved_count s new own ≤ 0
 stay_put s new own ok same is_own = none (task_count s)
   where
     none : (n : ℕ) → count_below (is_moved s new own) n ≤ 0
@@ -92,7 +93,8 @@ index-is p (x ∷ rest) below = elim (cases_eq p x) [
 ]
 
 -- whoever is on p after a shift was there before, or p is one of its processors
-stays_or_shifts : (s : State) (guest : Option ℕ) (rest : List ℕ) (p u : ℕ) → occupant_after_shift s guest rest p ≡ Some u → (task_on s p ≡ Some u) ⊎ (index p rest < length rest)
+stays_or_shifts : (s : State) (guest : Option ℕ) (rest : List ℕ) (p u : ℕ) → occupant_after_shift s guest rest p ≡ Some u
+    → (task_on s p ≡ Some u) ⊎ (index p rest < length rest)
 stays_or_shifts s guest [] p u e = inl e
 stays_or_shifts s guest (x ∷ rest) p u e = elim (cases_eq p x) [
   | inl same ↦ inr (let first = index-first x rest in let e = ap (λ (q : ℕ). index q (x ∷ rest)) same in omega arith)
@@ -113,7 +115,8 @@ module _ (s new : State) (w : ℕ) (chain : List ℕ) (own : ℕ → ℕ) (out :
       let now : occupant_after_shift s (Some w) (x ∷ rest) (own u) ≡ Some u = ap (λ (c : List ℕ). occupant_after_shift s (Some w) c (own u)) (sym is) ∙ shifted (own u) u on in
       elim (cases_eq (own u) x) [
         | inl same ↦ absurd (
-            let w_is : Some w ≡ Some u = sym (occupant-first s (Some w) x rest) ∙ ap (λ (p : ℕ). occupant_after_shift s (Some w) (x ∷ rest) p) (sym same) ∙ now in
+            let w_is : Some w ≡ Some u = sym (occupant-first s (Some w) x rest)
+            ∙ ap (λ (p : ℕ). occupant_after_shift s (Some w) (x ∷ rest) p) (sym same) ∙ now in
             true≢false (sym both.0 ∙ ap (is_linked s) (sym (same_Some w u w_is)) ∙ out))
         | inr ne ↦ elim (stays_or_shifts s (task_on s x) rest (own u) u (sym (occupant-later s (Some w) x rest (own u) ne) ∙ now)) [
           | inr later ↦ later
@@ -131,7 +134,8 @@ module _ (s new : State) (w : ℕ) (chain : List ℕ) (own : ℕ → ℕ) (out :
         | inl moved ↦ absurd (
             let parts = and_parts (is_linked s n && is_linked new n) _ moved in
             let both = and_parts (is_linked s n) (is_linked new n) parts.0 in
-            let there : task_on s (own n) ≡ Some n = ap (λ (c : List ℕ). occupant_after_shift s (Some w) c (own n)) (sym is) ∙ shifted (own n) n (is_own n both.1) in
+            let there : task_on s (own n) ≡ Some n = ap (λ (c : List ℕ). occupant_after_shift s (Some w) c (own n)) (sym is)
+            ∙ shifted (own n) n (is_own n both.1) in
             true≢false (sym (sym (ap not (ap (is_task n) there ∙ is_task-same n)) ∙ parts.1)))
       ]
   own_few (x ∷ rest) is =
@@ -147,7 +151,8 @@ module _ (s new : State) (w : ℕ) (chain : List ℕ) (own : ℕ → ℕ) (out :
         below = λ u lt moved. on_rest x rest is u moved;
         passes = λ u lt moved. refl;
         apart = λ u v lu lv hu hv e.
-            let same : own u ≡ own v = sym (index-is (own u) rest (on_rest x rest is u hu)) ∙ ap (λ (i : ℕ). get_or rest i 0) e ∙ index-is (own v) rest (on_rest x rest is v hv) in
+            let same : own u ≡ own v = sym (index-is (own u) rest (on_rest x rest is u hu)) ∙ ap (λ (i : ℕ). get_or rest i 0) e
+            ∙ index-is (own v) rest (on_rest x rest is v hv) in
             same_Some u v (sym (is_own u (linked_then u hu)) ∙ ap (task_on new) same ∙ is_own v (linked_then v hv));
       }
 
@@ -186,10 +191,12 @@ module _ (s new : State) (w : ℕ) (place : ℕ → ℕ) (ok : IsState s) (out :
       let a = goes i (omega arith) in
       let b = goes j (omega arith) in
       let same : a.task ≡ b.task = placement.apart a.task b.task a.linked b.linked (sym (next i a) ∙ e ∙ next j b) in
-      differ i j (omega arith) (λ k below. goes k (omega arith)) (ok.once (stop i) (stop j) b.task (a.on ∙ ap (λ (n : ℕ). Some n) same) b.on)
+      differ i j (omega arith) (λ k below. goes k (omega arith)) (ok.once (stop i) (stop j) b.task (a.on
+      ∙ ap (λ (n : ℕ). Some n) same) b.on)
 
   -- each occupant is moved
-  is_moved_on : (n : ℕ) → ((k : ℕ) → k < suc n → GoesOn k) → (u : ℕ) → task_on s (stop n) ≡ Some u → is_linked new u ≡ true → is_moved s new place u ≡ true
+  is_moved_on : (n : ℕ) → ((k : ℕ) → k < suc n → GoesOn k) → (u : ℕ) → task_on s (stop n) ≡ Some u → is_linked new u ≡ true
+      → is_moved s new place u ≡ true
   is_moved_on n goes u on linked = and_from _ _ (and_from _ _ (is_linked-from_on s (stop n) u on) linked) (elim (cases_Bool (is_task u (task_on s (place u)))) [
     | inr other ↦ not_false _ other
     | inl there ↦ absurd (
@@ -298,8 +305,10 @@ module _ (s new : State) (w : ℕ) (place : ℕ → ℕ) (ok : IsState s) (out :
 
   -- ---- so what the step moves is no more
   -- where it shifts w along the least chain that ends so
-  fewest_by_chain : (Has : List ℕ → Type 0) (chain : List ℕ) (own : ℕ → ℕ) → IsPlaceOf new own → ((p u : ℕ) → task_on new p ≡ Some u → occupant_after_shift s (Some w) chain p ≡ Some u)
-      → IsLeastSuch Has chain → ((other : List ℕ) (e : ℕ) → IsChainOf s w other e → EndsOn e → Has other) → moved_count s new own ≤ moved_count s new place
+  fewest_by_chain : (Has : List ℕ → Type 0) (chain : List ℕ) (own : ℕ → ℕ) → IsPlaceOf new own → ((p u : ℕ) → task_on new p ≡ Some u
+      → occupant_after_shift s (Some w) chain p ≡ Some u)
+      → IsLeastSuch Has chain → ((other : List ℕ) (e : ℕ) → IsChainOf s w other e → EndsOn e → Has other)
+      → moved_count s new own ≤ moved_count s new place
   fewest_by_chain Has chain own is_own shifted least has =
       let end = has_end in
       let short = no_longer Has chain (chain_to end.number) least (has (chain_to end.number) (stop end.number) (is_chain_to end.number end.goes) end.ends) in
@@ -309,8 +318,10 @@ module _ (s new : State) (w : ℕ) (place : ℕ → ℕ) (ok : IsState s) (out :
       omega arith
 
   -- and where it does so along the least back chain, read from its end
-  fewest_by_back_chain : (p : ℕ) (back : List ℕ) (own : ℕ → ℕ) → IsPlaceOf new own → ((q u : ℕ) → task_on new q ≡ Some u → occupant_after_shift s (Some w) (reverse back) q ≡ Some u)
-      → IsLeastSuch (EntersBy s p w) back → ((other : List ℕ) (e : ℕ) → IsChainOf s w other e → EndsOn e → e ≡ p) → moved_count s new own ≤ moved_count s new place
+  fewest_by_back_chain : (p : ℕ) (back : List ℕ) (own : ℕ → ℕ) → IsPlaceOf new own → ((q u : ℕ) → task_on new q ≡ Some u
+      → occupant_after_shift s (Some w) (reverse back) q ≡ Some u)
+      → IsLeastSuch (EntersBy s p w) back → ((other : List ℕ) (e : ℕ) → IsChainOf s w other e → EndsOn e → e ≡ p)
+      → moved_count s new own ≤ moved_count s new place
   fewest_by_back_chain p back own is_own shifted least on_p =
       let end = has_end in
       let there = on_p (chain_to end.number) (stop end.number) (is_chain_to end.number end.goes) end.ends in
@@ -367,7 +378,9 @@ module _ (s : State) (ok : IsState s) (t : ℕ) (number : t < task_count s) (abs
       entered : is_linked (state_after_shift ready t chain) t ≡ true
       entered = comes_in ready ready_ok t waits chain comes.least.itself.0 is_chain simple
 
-      ends : (other : List ℕ) (e : ℕ) → IsChainOf s t other e → (task_on s e ≡ None) ⊎ ((u : ℕ) × (task_on s e ≡ Some u) × (is_linked (state_after_shift ready t chain) u ≡ false)) → EndsIdle s t other
+      ends : (other : List ℕ) (e : ℕ) → IsChainOf s t other e
+          → (task_on s e ≡ None) ⊎ ((u : ℕ) × (task_on s e ≡ Some u) × (is_linked (state_after_shift ready t chain) u ≡ false))
+          → EndsIdle s t other
       ends other e is_other (inl none) = (e, is_other, (Reaches-online s t e (other, is_other), none))
       ends other e is_other (inr gone) = absurd (nobody_there _ gone.0 comes.least.itself.2.1 (put_out ready ready_ok t waits chain comes.least.itself.0 is_chain simple e gone.0 gone.1 gone.2))
   comes_moves_fewest (Displaced chain out reach) new comes = subst (MovesFewest s) (sym comes.shifted) (λ own place is_own placement.
@@ -389,7 +402,9 @@ module _ (s : State) (ok : IsState s) (t : ℕ) (number : t < task_count s) (abs
       entered : is_linked (state_after_shift ready t chain) t ≡ true
       entered = comes_in ready ready_ok t waits chain comes.least.itself.0 is_chain simple
 
-      ends : (other : List ℕ) (e : ℕ) → IsChainOf s t other e → (task_on s e ≡ None) ⊎ ((u : ℕ) × (task_on s e ≡ Some u) × (is_linked (state_after_shift ready t chain) u ≡ false)) → EndsOnTask s t out other
+      ends : (other : List ℕ) (e : ℕ) → IsChainOf s t other e
+          → (task_on s e ≡ None) ⊎ ((u : ℕ) × (task_on s e ≡ Some u) × (is_linked (state_after_shift ready t chain) u ≡ false))
+          → EndsOnTask s t out other
       ends other e is_other (inl none) = absurd (let on = comes.occupied e ((comes.reached e).1 (other, is_other)) in nobody_there _ on.0 none on.1)
       ends other e is_other (inr gone) =
           let there = put_out ready ready_ok t waits chain comes.least.itself.0 is_chain simple e gone.0 gone.1 gone.2 in
@@ -401,7 +416,8 @@ module _ (s : State) (ok : IsState s) (t : ℕ) (number : t < task_count s) (abs
 -- in the chains of w, nobody but on p can leave X
 record IsHeldBeside (s : State) (p w X : ℕ) : Type 0 where
   first : (q : ℕ) → IsTrue (has (effective_mask s w) q) → (q ≡ p) ⊎ IsTrue (has X q)
-  held : (q : ℕ) → IsTrue (has X q) → (u : ℕ) × (task_on s q ≡ Some u) × ((r : ℕ) → IsTrue (has (effective_mask s u) r) → (r ≡ p) ⊎ IsTrue (has X r))
+  held : (q : ℕ) → IsTrue (has X q) → (u : ℕ) × (task_on s q ≡ Some u) × ((r : ℕ) → IsTrue (has (effective_mask s u) r)
+      → (r ≡ p) ⊎ IsTrue (has X r))
 
 module _ (s : State) (p w X : ℕ) (idle : task_on s p ≡ None) (held : IsHeldBeside s p w X) where
   walk_ends : (x : ℕ) (rest : List ℕ) (e : ℕ) → (x ≡ p) ⊎ IsTrue (has X x) → IsWalk s x rest e → task_on s e ≡ None → e ≡ p
@@ -418,7 +434,8 @@ module _ (s : State) (p w X : ℕ) (idle : task_on s p ≡ None) (held : IsHeldB
   chain_ends (x ∷ rest) e is_chain none = walk_ends x rest e (held.first x is_chain.0) is_chain.1 none
 
 module _ (s : State) (ok : IsState s) (p : ℕ) (idle : task_on s p ≡ None) (held : (w : ℕ) → IsWaiting s w → (X : ℕ) × IsHeldBeside s p w X) where
-  enters_moves_fewest : (entered : Option ℕ) (chain : List ℕ) (back : ℕ) (new : State) → EnterStep s p entered chain back new → MovesFewest s new
+  enters_moves_fewest : (entered : Option ℕ) (chain : List ℕ) (back : ℕ) (new : State) → EnterStep s p entered chain back new
+      → MovesFewest s new
   enters_moves_fewest None chain back new step = subst (MovesFewest s) (sym step.2) (λ own place is_own placement. (let none = stay_put s s own ok (λ q u on. on) is_own in omega arith))
   enters_moves_fewest (Some w) chain back new step = subst (MovesFewest s) (sym step.2) (λ own place is_own placement.
       fewest_by_back_chain s (state_after_shift s w (reverse chain)) w place ok waits.not_linked entered placement (λ u q. refl) p chain own is_own (task_on-state_after_shift s w (reverse chain)) least ends)
@@ -438,37 +455,48 @@ module _ (s : State) (ok : IsState s) (p : ℕ) (idle : task_on s p ≡ None) (h
       entered : is_linked (state_after_shift s w (reverse chain)) w ≡ true
       entered = comes_in s ok w waits (reverse chain) p is_chain simple
 
-      ends : (other : List ℕ) (e : ℕ) → IsChainOf s w other e → (task_on s e ≡ None) ⊎ ((u : ℕ) × (task_on s e ≡ Some u) × (is_linked (state_after_shift s w (reverse chain)) u ≡ false)) → e ≡ p
+      ends : (other : List ℕ) (e : ℕ) → IsChainOf s w other e
+          → (task_on s e ≡ None) ⊎ ((u : ℕ) × (task_on s e ≡ Some u) × (is_linked (state_after_shift s w (reverse chain)) u ≡ false))
+          → e ≡ p
       ends other e is_other (inl none) = let X = held w waits in chain_ends s p w X.0 idle X.1 other e is_other none
       ends other e is_other (inr gone) = absurd (nobody_there _ gone.0 idle (put_out s ok w waits (reverse chain) p is_chain simple e gone.0 gone.1 gone.2))
 
 -- without p each waiting task has a certificate
 held_without : (s : State) (p : ℕ) → HasCertificates (state_with_offline s p) → (w : ℕ) → IsWaiting s w → (X : ℕ) × IsHeldBeside s p w X
-held_without s p certificates w waits = (old.0, record {
-  first = λ q allowed. beside w q allowed old.1.within;
-  held = λ q inside. let on = old.1.occupied q inside in (on.0, on.1, λ r allowed. beside on.0 r allowed on.3);
-})
+held_without s p certificates w waits = (
+  old.0,
+  record {
+    first = λ q allowed. beside w q allowed old.1.within;
+    held = λ q inside. let on = old.1.occupied q inside in (on.0, on.1, λ r allowed. beside on.0 r allowed on.3);
+  },
+)
   where
     old : (X : ℕ) × IsCertificate (state_with_offline s p) w X
     old = certificates w record { ready = waits.ready; not_linked = waits.not_linked }
 
-    beside : (u q : ℕ) → IsTrue (has (effective_mask s u) q) → Within (effective_mask (state_with_offline s p) u) old.0 → (q ≡ p) ⊎ IsTrue (has old.0 q)
+    beside : (u q : ℕ) → IsTrue (has (effective_mask s u) q) → Within (effective_mask (state_with_offline s p) u) old.0
+        → (q ≡ p) ⊎ IsTrue (has old.0 q)
     beside u q allowed within = elim (cases_eq q p) [
       | inl same ↦ inl same
       | inr other ↦ inr (within q (effective_mask-left s p u q allowed other))
     ]
 
 -- before p came on line each had one
-held_before : (s : State) (p : ℕ) → HasCertificates s → (w : ℕ) → IsWaiting (state_with_online s p) w → (X : ℕ) × IsHeldBeside (state_with_online s p) p w X
-held_before s p certificates w waits = (old.0, record {
-  first = λ q allowed. beside w q allowed old.1.within;
-  held = λ q inside. let on = old.1.occupied q inside in (on.0, on.1, λ r allowed. beside on.0 r allowed on.3);
-})
+held_before : (s : State) (p : ℕ) → HasCertificates s → (w : ℕ) → IsWaiting (state_with_online s p) w
+    → (X : ℕ) × IsHeldBeside (state_with_online s p) p w X
+held_before s p certificates w waits = (
+  old.0,
+  record {
+    first = λ q allowed. beside w q allowed old.1.within;
+    held = λ q inside. let on = old.1.occupied q inside in (on.0, on.1, λ r allowed. beside on.0 r allowed on.3);
+  },
+)
   where
     old : (X : ℕ) × IsCertificate s w X
     old = certificates w record { ready = waits.ready; not_linked = waits.not_linked }
 
-    beside : (u q : ℕ) → IsTrue (has (effective_mask (state_with_online s p) u) q) → Within (effective_mask s u) old.0 → (q ≡ p) ⊎ IsTrue (has old.0 q)
+    beside : (u q : ℕ) → IsTrue (has (effective_mask (state_with_online s p) u) q) → Within (effective_mask s u) old.0
+        → (q ≡ p) ⊎ IsTrue (has old.0 q)
     beside u q allowed within =
         let parts = and_parts (has (mask_of s u) q) (has s.online q || (q == p)) (sym (effective_mask-online s p u q) ∙ allowed) in
         elim (or_cases (has s.online q) (q == p) parts.1) [
@@ -504,10 +532,11 @@ module _ (s s' new : State) (t : ℕ) (priorities : s'.priorities ≡ s.prioriti
 
   -- where t does not run then, it is not counted
   count_gone : (place : ℕ → ℕ) → is_linked new t ≡ false → moved_count s new place ≡ moved_count s' new place
-  count_gone place gone = ap (λ (priorities : List ℕ). count_below (is_moved s new place) (length priorities)) (sym priorities) ∙ count_below-agree (is_moved s new place) (is_moved s' new place) (task_count s') (λ u lt. elim (cases_eq u t) [
-    | inr other ↦ same_moved place u other
-    | inl same ↦ subst (λ (v : ℕ). is_moved s new place v ≡ is_moved s' new place v) (sym same) (ap (λ (b : Bool). b && not (is_task t (task_on s (place t)))) (and_right (is_linked s t) (is_linked new t) gone) ∙ sym (not_moved place))
-  ])
+  count_gone place gone = ap (λ (priorities : List ℕ). count_below (is_moved s new place) (length priorities)) (sym priorities)
+      ∙ count_below-agree (is_moved s new place) (is_moved s' new place) (task_count s') (λ u lt. elim (cases_eq u t) [
+        | inr other ↦ same_moved place u other
+        | inl same ↦ subst (λ (v : ℕ). is_moved s new place v ≡ is_moved s' new place v) (sym same) (ap (λ (b : Bool). b && not (is_task t (task_on s (place t)))) (and_right (is_linked s t) (is_linked new t) gone) ∙ sym (not_moved place))
+      ])
 
   -- and where every placement moves it, it is one more
   count_back : (place : ℕ → ℕ) → t < task_count s → is_moved s new place t ≡ true → moved_count s new place ≡ suc (moved_count s' new place)
@@ -518,7 +547,8 @@ module _ (s s' new : State) (t : ℕ) (priorities : s'.priorities ≡ s.prioriti
   fewest_gone gone fewest own place is_own placement =
       let h = fewest own place is_own placement in let a = count_gone own gone in let b = count_gone place gone in omega arith
 
-  fewest_back : t < task_count s → is_linked s t ≡ true → is_linked new t ≡ true → (p : ℕ) → ((q : ℕ) → task_on s q ≡ Some t → q ≡ p) → IsState new → (has (effective_mask new t) p ≡ false) → MovesFewest s' new → MovesFewest s new
+  fewest_back : t < task_count s → is_linked s t ≡ true → is_linked new t ≡ true → (p : ℕ) → ((q : ℕ) → task_on s q ≡ Some t → q ≡ p)
+      → IsState new → (has (effective_mask new t) p ≡ false) → MovesFewest s' new → MovesFewest s new
   fewest_back number linked back p was ok barred fewest own place is_own placement =
       let h = fewest own place is_own placement in
       let a = count_back own number (moves own (ok.allowed (own t) t (is_own t back))) in
@@ -528,18 +558,21 @@ module _ (s s' new : State) (t : ℕ) (priorities : s'.priorities ≡ s.prioriti
       moves : (some : ℕ → ℕ) → IsTrue (has (effective_mask new t) (some t)) → is_moved s new some t ≡ true
       moves some allowed = and_from _ _ (and_from _ _ linked back) (elim (cases_Bool (is_task t (task_on s (some t)))) [
         | inr other ↦ not_false _ other
-        | inl there ↦ absurd (true≢false (sym allowed ∙ ap (has (effective_mask new t)) (was (some t) (is_task-true t (task_on s (some t)) there)) ∙ barred))
+        | inl there ↦ absurd (true≢false (sym allowed
+            ∙ ap (has (effective_mask new t)) (was (some t) (is_task-true t (task_on s (some t)) there)) ∙ barred))
       ])
 
 -- ---- by event
 same_state : (s new : State) → IsState s → new ≡ s → MovesFewest s new
 same_state s new ok same = subst (MovesFewest s) (sym same) (λ own place is_own placement. (let none = stay_put s s own ok (λ p u on. on) is_own in omega arith))
 
-arrive_moves_fewest : (s : State) → IsState s → (t : ℕ) (reply : Reply) (new : State) → t < task_count s → ArriveStep s t reply new → MovesFewest s new
+arrive_moves_fewest : (s : State) → IsState s → (t : ℕ) (reply : Reply) (new : State) → t < task_count s → ArriveStep s t reply new
+    → MovesFewest s new
 arrive_moves_fewest s ok t reply new number (inl again) = same_state s new ok again.same
 arrive_moves_fewest s ok t reply new number (inr arrives) = comes_moves_fewest s ok t number arrives.absent arrives.came new arrives.comes
 
-depart_moves_fewest : (s : State) → IsState s → HasCertificates s → (t : ℕ) (reply : Reply) (new : State) → t < task_count s → IsState new → DepartStep s t reply new → MovesFewest s new
+depart_moves_fewest : (s : State) → IsState s → HasCertificates s → (t : ℕ) (reply : Reply) (new : State) → t < task_count s → IsState new
+    → DepartStep s t reply new → MovesFewest s new
 depart_moves_fewest s ok certificates t reply new number new_ok (inl again) = same_state s new ok again.same
 depart_moves_fewest s ok certificates t reply new number new_ok (inr (inl waiting)) =
     subst (MovesFewest s) (sym waiting.left) (λ own place is_own placement. (let none = stay_put s (state_with_absent s t) own ok (λ p u on. on) is_own in omega arith))
@@ -552,22 +585,27 @@ depart_moves_fewest s ok certificates t reply new number new_ok (inr (inr linked
     absent : is_ready (state_after_leaving s t) t ≡ false
     absent = get_or-set_same s.ready t false false (rw ok.ready_count number)
 
-    absent_then : (entered : Option ℕ) (chain : List ℕ) (back : ℕ) → EnterStep (state_after_leaving s t) linked.place entered chain back new → is_ready new t ≡ false
+    absent_then : (entered : Option ℕ) (chain : List ℕ) (back : ℕ)
+        → EnterStep (state_after_leaving s t) linked.place entered chain back new → is_ready new t ≡ false
     absent_then None chain back step = ap (λ (x : State). is_ready x t) step.2 ∙ absent
     absent_then (Some w) chain back step = ap (λ (x : State). is_ready x t) step.2 ∙ absent
 
-    gone : (entered : Option ℕ) → EnterStep (state_after_leaving s t) linked.place linked.gone.entered linked.gone.chain linked.gone.back new → is_linked new t ≡ false
-    gone entered step = not_linked-from_on new t (λ p on. true≢false (sym (new_ok.linked_ready p t on) ∙ absent_then linked.gone.entered linked.gone.chain linked.gone.back step))
+    gone : (entered : Option ℕ)
+        → EnterStep (state_after_leaving s t) linked.place linked.gone.entered linked.gone.chain linked.gone.back new
+        → is_linked new t ≡ false
+    gone entered step = not_linked-from_on new t (λ p on. true≢false (sym (new_ok.linked_ready p t on)
+        ∙ absent_then linked.gone.entered linked.gone.chain linked.gone.back step))
 
-offline_moves_fewest : (s : State) → IsState s → (p : ℕ) (reply : Reply) (new : State) → IsState new → OfflineStep s p reply new → MovesFewest s new
+offline_moves_fewest : (s : State) → IsState s → (p : ℕ) (reply : Reply) (new : State) → IsState new → OfflineStep s p reply new
+    → MovesFewest s new
 offline_moves_fewest s ok p reply new new_ok (inl again) = same_state s new ok again.same
 offline_moves_fewest s ok p reply new new_ok (inr (inl idle)) =
     subst (MovesFewest s) (sym idle.off) (λ own place is_own placement. (let none = stay_put s (state_with_offline s p) own ok (λ q u on. on) is_own in omega arith))
 offline_moves_fewest s ok p reply new new_ok (inr (inr occupied)) = elim (cases_Bool (is_linked new occupied.moved.task)) [
-    | inr gone ↦ fewest_gone s (state_with_offline (state_after_leaving s occupied.moved.task) p) new occupied.moved.task refl left_t (λ q u on other. task_on-stays s occupied.moved.task q u on other) (λ q u on. (task_on-state_after_leaving s occupied.moved.task q u on).0) gone fewest
-    | inl back ↦ fewest_back s (state_with_offline (state_after_leaving s occupied.moved.task) p) new occupied.moved.task refl left_t (λ q u on other. task_on-stays s occupied.moved.task q u on other) (λ q u on. (task_on-state_after_leaving s occupied.moved.task q u on).0)
-        number (is_linked-from_on s p occupied.moved.task occupied.occupied) back p (λ q on. ok.once q p occupied.moved.task on occupied.occupied) new_ok (barred occupied.moved.came occupied.comes) fewest
-  ]
+  | inr gone ↦ fewest_gone s (state_with_offline (state_after_leaving s occupied.moved.task) p) new occupied.moved.task refl left_t (λ q u on other. task_on-stays s occupied.moved.task q u on other) (λ q u on. (task_on-state_after_leaving s occupied.moved.task q u on).0) gone fewest
+  | inl back ↦ fewest_back s (state_with_offline (state_after_leaving s occupied.moved.task) p) new occupied.moved.task refl left_t (λ q u on other. task_on-stays s occupied.moved.task q u on other) (λ q u on. (task_on-state_after_leaving s occupied.moved.task q u on).0)
+      number (is_linked-from_on s p occupied.moved.task occupied.occupied) back p (λ q on. ok.once q p occupied.moved.task on occupied.occupied) new_ok (barred occupied.moved.came occupied.comes) fewest
+]
   where
     number : occupied.moved.task < task_count s
     number = linked_number s p occupied.moved.task ok occupied.occupied
@@ -579,14 +617,17 @@ offline_moves_fewest s ok p reply new new_ok (inr (inr occupied)) = elim (cases_
     fewest = comes_moves_fewest (state_with_offline (state_after_leaving s occupied.moved.task) p) (IsState-moved s ok p occupied.moved.task occupied.occupied) occupied.moved.task number (absent_moved s ok p occupied.moved.task occupied.occupied) occupied.moved.came new occupied.comes
 
     barred_there : has (effective_mask (state_with_offline (state_after_leaving s occupied.moved.task) p) occupied.moved.task) p ≡ false
-    barred_there = effective_mask-offline (state_after_leaving s occupied.moved.task) p occupied.moved.task p ∙ and_right (has (effective_mask (state_after_leaving s occupied.moved.task) occupied.moved.task) p) (not (p == p)) (ap not (eq-eqb p p refl))
+    barred_there = effective_mask-offline (state_after_leaving s occupied.moved.task) p occupied.moved.task p
+        ∙ and_right (has (effective_mask (state_after_leaving s occupied.moved.task) occupied.moved.task) p) (not (p == p)) (ap not (eq-eqb p p refl))
 
-    barred : (came : Came) → Comes (state_with_offline (state_after_leaving s occupied.moved.task) p) occupied.moved.task came new → has (effective_mask new occupied.moved.task) p ≡ false
+    barred : (came : Came) → Comes (state_with_offline (state_after_leaving s occupied.moved.task) p) occupied.moved.task came new
+        → has (effective_mask new occupied.moved.task) p ≡ false
     barred (Placed chain) comes = ap (λ (x : State). has (effective_mask x occupied.moved.task) p) comes.shifted ∙ barred_there
     barred (Displaced chain out reach) comes = ap (λ (x : State). has (effective_mask x occupied.moved.task) p) comes.shifted ∙ barred_there
     barred (Waits reach) comes = ap (λ (x : State). has (effective_mask x occupied.moved.task) p) comes.waits ∙ barred_there
 
-online_moves_fewest : (s : State) → IsState s → HasCertificates s → (p : ℕ) (reply : Reply) (new : State) → p < s.processors → OnlineStep s p reply new → MovesFewest s new
+online_moves_fewest : (s : State) → IsState s → HasCertificates s → (p : ℕ) (reply : Reply) (new : State) → p < s.processors
+    → OnlineStep s p reply new → MovesFewest s new
 online_moves_fewest s ok certificates p reply new number (inl again) = same_state s new ok again.same
 online_moves_fewest s ok certificates p reply new number (inr fills) =
     enters_moves_fewest (state_with_online s p) (IsState-state_with_online s p ok number) p (nobody_off (task_on s p) refl) (held_before s p certificates) fills.parts.entered fills.parts.chain fills.parts.back new fills.fills.enters
@@ -595,7 +636,8 @@ online_moves_fewest s ok certificates p reply new number (inr fills) =
     nobody_off None e = e
     nobody_off (Some u) e = absurd (true≢false (sym (effective_mask_online s u p (ok.allowed p u e)) ∙ fills.off))
 
-certified_step : (s : State) (event : Event) (reply : Reply) (new : State) → IsState s → HasCertificates s → IsState new → SchedulerStep s event reply new → ChangesNoMask event → MovesFewest s new
+certified_step : (s : State) (event : Event) (reply : Reply) (new : State) → IsState s → HasCertificates s → IsState new
+    → SchedulerStep s event reply new → ChangesNoMask event → MovesFewest s new
 certified_step s (Arrive t) reply new ok certificates new_ok step no_mask = arrive_moves_fewest s ok t reply new step.0 step.1
 certified_step s (Depart t) reply new ok certificates new_ok step no_mask = depart_moves_fewest s ok certificates t reply new step.0 new_ok step.1
 certified_step s (Tick units) reply new ok certificates new_ok step no_mask = same_state s new ok step.1
@@ -607,7 +649,8 @@ pub step_moves_fewest : StepMovesFewest
 step_moves_fewest s event reply new ok best step no_mask =
     certified_step s event reply new ok ((best_is_certified s ok).0 best) (step_keeps_state s event reply new ok step) step no_mask
 
-from_history : (s : State) (history : List Entry) (n : ℕ) (entry : Entry) → IsState s → HasCertificates s → IsLegalFrom s history → slice_get history n ≡ Some entry → ChangesNoMask entry.event
+from_history : (s : State) (history : List Entry) (n : ℕ) (entry : Entry) → IsState s → HasCertificates s → IsLegalFrom s history
+    → slice_get history n ≡ Some entry → ChangesNoMask entry.event
     → MovesFewest (state_after s (take n history)) (state_after s (take (suc n) history))
 from_history s [] n entry ok certificates legal is no_mask = absurd (cc)
 from_history s (first ∷ rest) zero entry ok certificates legal is no_mask =

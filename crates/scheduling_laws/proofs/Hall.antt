@@ -17,7 +17,8 @@ use Rattle.scheduling_laws.proofs.PlacedState.{placed_state, ready_is, on_is, li
 confined_within : (s : State) (X t : ℕ) → is_confined s X t ≡ true → Within (effective_mask s t) X
 confined_within s X t h p inside =
     let same = eqb-true (intersection (effective_mask s t) X) (effective_mask s t) h in
-    (and_parts (has (effective_mask s t) p) (has X p) (sym (has-intersection (effective_mask s t) X p) ∙ ap (λ (Y : ℕ). has Y p) same ∙ inside)).1
+    (and_parts (has (effective_mask s t) p) (has X p) (sym (has-intersection (effective_mask s t) X p) ∙ ap (λ (Y : ℕ). has Y p) same
+    ∙ inside)).1
 
 within_confined : (s : State) (X t : ℕ) → Within (effective_mask s t) X → is_confined s X t ≡ true
 within_confined s X t within = eq-eqb (intersection (effective_mask s t) X) (effective_mask s t) (same_set (intersection (effective_mask s t) X) (effective_mask s t) (λ q. elim (cases_Bool (has (effective_mask s t) q)) [

@@ -9,6 +9,7 @@ pub mod Hall
 pub mod InReach
 pub mod Isolation
 pub mod Merges
+pub mod Migrations
 pub mod OneEnd
 pub mod PlacedState
 pub mod Response
@@ -18,4 +19,5 @@ pub mod Sustained
 pub mod TopTwo
 pub mod Urgency
 pub mod UrgentWork
+mod WeakExamples
 pub mod Weights

@@ -153,7 +153,8 @@ module _ (set : SetData) (valid : IsTaskSet set) (t : ℕ) (now : State) (like :
   same_mask : (u : ℕ) → effective_mask now u ≡ effective_mask start u
   same_mask u = let same = like.masks in rw (same.masks, same.online) refl
 
-  shared : (p u : ℕ) → IsTrue (has (mask_of start t) p) → IsTrue (has (effective_mask now u) p) → not (intersection (mask_of start u) (mask_of start t) == empty) ≡ true
+  shared : (p u : ℕ) → IsTrue (has (mask_of start t) p) → IsTrue (has (effective_mask now u) p)
+      → not (intersection (mask_of start u) (mask_of start t) == empty) ≡ true
   shared p u inside there = elim (cases_Bool (intersection (mask_of start u) (mask_of start t) == empty)) [
     | inr some ↦ ap not some
     | inl none ↦ absurd (
@@ -174,7 +175,8 @@ module _ (set : SetData) (valid : IsTaskSet set) (t : ℕ) (now : State) (like :
 
       held : (p : ℕ) → IsTrue (has (mask_of start t) p) → (u : ℕ) × Interferes start t now p u
       held p inside =
-          let on_line : has start.online p ≡ true = has-all_below set.processors p ∙ lt-ltb _ _ (((IsState-start set valid).masks t number).below p inside) in
+          let on_line : has start.online p ≡ true = has-all_below set.processors p
+          ∙ lt-ltb _ _ (((IsState-start set valid).masks t number).below p inside) in
           let there : IsTrue (has (effective_mask now t) p)
           = ap (λ (X : ℕ). has X p) (same_mask t) ∙ has-intersection (mask_of start t) start.online p ∙ and_from _ _ inside on_line in
           let u = kept waiting p there in
@@ -195,7 +197,8 @@ of_first_version (Affinity t mask) is = absurd is
 of_first_version (Offline p) is = absurd is
 of_first_version (Online p) is = absurd is
 
-same_masks : (s : State) (history : List Entry) → All (λ (entry : Entry). IsJobEvent entry.event) history → HasSameMasks s (state_after s history)
+same_masks : (s : State) (history : List Entry) → All (λ (entry : Entry). IsJobEvent entry.event) history
+    → HasSameMasks s (state_after s history)
 same_masks s [] events = record { masks = refl; online = refl }
 same_masks s (first ∷ rest) events =
     let is_job_event = All-head (λ (entry : Entry). IsJobEvent entry.event) first rest events in
@@ -254,7 +257,8 @@ weak_step_like s event new ok is step = like event is (weak_step_follows s event
     like (Offline p) is follows = absurd is
     like (Online p) is follows = absurd is
 
-pub like_then : (s : State) (events : List Event) (states : List State) (x : ℕ) → IsState s → All IsJobEvent events → IsWeakRun s events states
+pub like_then : (s : State) (events : List Event) (states : List State) (x : ℕ) → IsState s → All IsJobEvent events
+    → IsWeakRun s events states
     → IsLike s (state_then s events states x)
 like_then s [] states x ok each run = record { ok = ok; tasks = record { processors = refl; priorities = refl }; masks = record { masks = refl; online = refl } }
 like_then s (event ∷ events) [] x ok each run = absurd run
@@ -265,7 +269,11 @@ like_then s (event ∷ events) (after ∷ states) x ok each run = elim (cases_Bo
       let rest = like_then after events states (x - units_of event) one.ok (All-tail IsJobEvent event events each) run.1 in
       rw later record {
         ok = rest.ok;
-        tasks = record { processors = rest.tasks.processors ∙ one.tasks.processors; priorities = rest.tasks.priorities ∙ one.tasks.priorities };
+        tasks = record {
+          processors = rest.tasks.processors ∙ one.tasks.processors;
+          priorities = rest.tasks.priorities
+              ∙ one.tasks.priorities;
+        };
         masks = record { masks = rest.masks.masks ∙ one.masks.masks; online = rest.masks.online ∙ one.masks.online };
       })
 ]
@@ -360,7 +368,8 @@ module _ (input : JobInputData) (valid : IsJobInput input) (states : Timeline) (
         omega arith)
   ]
 
-  small_demand : (t from y : ℕ) → y < input.horizon → interference_of (start_of input.set) states t from (suc y) ≤ interfering_demand input t y
+  small_demand : (t from y : ℕ) → y < input.horizon
+      → interference_of (start_of input.set) states t from (suc y) ≤ interfering_demand input t y
   small_demand t from y below =
       sum_no_more (can_interfere (start_of input.set) t) (λ u. service_of states u (suc y) - service_of states u from)
       (λ u. demand (jobs u) y) (task_count (start_of input.set))

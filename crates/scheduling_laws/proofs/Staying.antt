@@ -2,7 +2,7 @@
 -- that t is left out there. Of the best set of R, let those whom its placement puts on X make way for the occupants of X: no
 -- fewer tasks are placed then, all more urgent than t. But the best set keeps up with every placeable one.
 use Rattle.std.proofs.Common.{◌≡◌, ℕ, suc, ◌-◌, ◌<◌, ◌≤◌, Bool, true, false, not, ◌&&◌, ◌||◌, ◌⊎◌, Option, Some, None, if◌then◌else◌, nat_le, nat_lt, refl, sym, ap, ◌∙◌, subst, inl, inr, IsTrue, arith}
-use Rattle.std.proofs.lemmas.Bool.{cases_Bool, cases_eq, cases_lt, true≢false, and_from, and_left, and_right, and_parts, or_left, or_right, or_cases, le-leb, lt-leb, leb-true, lt-ltb}
+use Rattle.std.proofs.lemmas.Bool.{cases_Bool, cases_eq, cases_lt, true≢false, and_from, and_right, and_parts, or_left, or_right, or_cases, le-leb, lt-leb, leb-true, lt-ltb}
 use Rattle.affinity_mask.specs.ProcSet.{has, Within}
 use Rattle.strong_apa.specs.State.{State, IsState, IsWaiting, task_count, task_on, is_linked, priority_of, effective_mask}
 use Rattle.strong_apa.specs.Placement.{TaskTest, IsSubset, IsPlacement, IsBest}
@@ -17,8 +17,10 @@ use Rattle.scheduling_laws.proofs.PlacedState.{placed_state, ready_is, on_is, li
 -- the second one, and there are no others among its processors, but for the least urgent task
 pub record IsNarrower (s s' : State) (tasks : TaskTest) : Type 0 where
   pub priority : (t : ℕ) → tasks t ≡ true → priority_of s' t ≡ priority_of s t
-  pub within : (t : ℕ) → tasks t ≡ true → (p : ℕ) → has (effective_mask s t) p ≡ true → (has (effective_mask s' t) p && nat_lt p s.processors) ≡ true
-  pub all : (t u : ℕ) → tasks t ≡ true → tasks u ≡ true → priority_of s t < priority_of s u → (p : ℕ) → (has (effective_mask s' t) p && nat_lt p s.processors) ≡ true → has (effective_mask s t) p ≡ true
+  pub within : (t : ℕ) → tasks t ≡ true → (p : ℕ) → has (effective_mask s t) p ≡ true
+      → (has (effective_mask s' t) p && nat_lt p s.processors) ≡ true
+  pub all : (t u : ℕ) → tasks t ≡ true → tasks u ≡ true → priority_of s t < priority_of s u → (p : ℕ)
+      → (has (effective_mask s' t) p && nat_lt p s.processors) ≡ true → has (effective_mask s t) p ≡ true
 
 module _ (s s' : State) (ok : IsState s) (ok' : IsState s') (R fewer best best' : TaskTest) (number : (t : ℕ) → R t ≡ true → t < task_count s) (number' : (t : ℕ) → fewer t ≡ true → t < task_count s') (subset : IsSubset fewer R) (is_best : IsBest s R best) (is_best' : IsBest s' fewer best') (narrower : IsNarrower s s' fewer) where
   abbrev here : ℕ → ℕ
@@ -49,7 +51,8 @@ module _ (s s' : State) (ok : IsState s) (ok' : IsState s') (R fewer best best' 
     in_X p = has X p && nat_lt p s.processors
 
     -- what stays within X stays there in the first state
-    stays_within : (w : ℕ) → fewer w ≡ true → Within (effective_mask s' w) X → (q : ℕ) → IsTrue (has (effective_mask s w) q) → IsTrue (in_X q)
+    stays_within : (w : ℕ) → fewer w ≡ true → Within (effective_mask s' w) X → (q : ℕ) → IsTrue (has (effective_mask s w) q)
+        → IsTrue (in_X q)
     stays_within w h within q there =
         let parts = and_parts (has (effective_mask s' w) q) (nat_lt q s.processors) (narrower.within w h q there) in
         and_from _ _ (within q parts.0) parts.1
@@ -131,11 +134,14 @@ module _ (s s' : State) (ok : IsState s) (ok' : IsState s') (R fewer best best' 
       ];
       apart = λ u v hu hv e. elim (cases_Bool (comes u)) [
         | inl c ↦ elim (cases_Bool (comes v)) [
-          | inl d ↦ is_best'.placeable.1.apart u v (and_parts (best' u) _ c).0 (and_parts (best' v) _ d).0 (sym (place-comes u c) ∙ e ∙ place-comes v d)
-          | inr d ↦ absurd (true≢false (sym (and_parts (best' u) _ c).1 ∙ ap in_X (sym (place-comes u c) ∙ e ∙ place-stays v d) ∙ off_X v (stays-from v hv d)))
+          | inl d ↦ is_best'.placeable.1.apart u v (and_parts (best' u) _ c).0 (and_parts (best' v) _ d).0 (sym (place-comes u c) ∙ e
+              ∙ place-comes v d)
+          | inr d ↦ absurd (true≢false (sym (and_parts (best' u) _ c).1 ∙ ap in_X (sym (place-comes u c) ∙ e ∙ place-stays v d)
+              ∙ off_X v (stays-from v hv d)))
         ]
         | inr c ↦ elim (cases_Bool (comes v)) [
-          | inl d ↦ absurd (true≢false (sym (and_parts (best' v) _ d).1 ∙ ap in_X (sym (place-comes v d) ∙ sym e ∙ place-stays u c) ∙ off_X u (stays-from u hu c)))
+          | inl d ↦ absurd (true≢false (sym (and_parts (best' v) _ d).1 ∙ ap in_X (sym (place-comes v d) ∙ sym e ∙ place-stays u c)
+              ∙ off_X u (stays-from u hu c)))
           | inr d ↦ is_best.placeable.1.apart u v (and_parts (best u) _ (stays-from u hu c)).0 (and_parts (best v) _ (stays-from v hv d)).0 (sym (place-stays u c) ∙ e ∙ place-stays v d)
         ]
       ];
@@ -193,10 +199,13 @@ module _ (s s' : State) (ok : IsState s) (ok' : IsState s') (R fewer best best' 
     partners_differ : (u v w : ℕ) → best u ≡ true → best v ≡ true → IsPartner u w → IsPartner v w → u ≡ v
     partners_differ u v w hu hv a b = go a.which b.which
       where
-        go : (IsTrue (in_X (here u)) × Holds (here u) w) ⊎ ((in_X (here u) ≡ false) × (w ≡ u)) → (IsTrue (in_X (here v)) × Holds (here v) w) ⊎ ((in_X (here v) ≡ false) × (w ≡ v)) → u ≡ v
+        go : (IsTrue (in_X (here u)) × Holds (here u) w) ⊎ ((in_X (here u) ≡ false) × (w ≡ u))
+            → (IsTrue (in_X (here v)) × Holds (here v) w) ⊎ ((in_X (here v) ≡ false) × (w ≡ v)) → u ≡ v
         go (inl x) (inl y) = is_best.placeable.1.apart u v hu hv (sym x.1.place ∙ y.1.place)
-        go (inl x) (inr y) = absurd (true≢false (sym (put_on_X (here u) w x.1 (ap best y.1 ∙ hv)) ∙ ap (λ (z : ℕ). in_X (here z)) y.1 ∙ y.0))
-        go (inr x) (inl y) = absurd (true≢false (sym (put_on_X (here v) w y.1 (ap best x.1 ∙ hu)) ∙ ap (λ (z : ℕ). in_X (here z)) x.1 ∙ x.0))
+        go (inl x) (inr y) = absurd (true≢false (sym (put_on_X (here u) w x.1 (ap best y.1 ∙ hv)) ∙ ap (λ (z : ℕ). in_X (here z)) y.1
+            ∙ y.0))
+        go (inr x) (inl y) = absurd (true≢false (sym (put_on_X (here v) w y.1 (ap best x.1 ∙ hu)) ∙ ap (λ (z : ℕ). in_X (here z)) x.1
+            ∙ x.0))
         go (inr x) (inr y) = sym x.1 ∙ y.1
 
     -- the tasks of a set up to the priority of t, and those before it
@@ -233,15 +242,18 @@ module _ (s s' : State) (ok : IsState s) (ok' : IsState s') (R fewer best best' 
     keeps_up =
         let larger = placed_state s ok R number best is_best in
         let kept = linked_keeps_up larger (placed_ok s ok R number best is_best) (placed_certificates s ok R number best is_best) D
-        (λ u h. ready_is s ok R number best is_best u ∙ D-subset u h) (place_of, record { allowed = D-placement.allowed; apart = D-placement.apart }) bound in
+        (λ u h. ready_is s ok R number best is_best u
+        ∙ D-subset u h) (place_of, record { allowed = D-placement.allowed; apart = D-placement.apart }) bound in
         let same = count_below-agree (λ u. is_linked larger u && nat_le (priority_of s u) bound) (before best) (task_count s) (λ u lt. ap (λ (b : Bool). b && nat_le (priority_of s u) bound) (linked_is s ok R number best is_best u)) in
         omega arith
 
     left_out : ⊥
     left_out = let more = one_more in let most = keeps_up in let few = count_below-injection (upto best) (task_count s) (before D) (task_count s) partner partners in omega arith
 
-pub stays_with_more : (s s' : State) → IsState s → IsState s' → (R fewer best best' : TaskTest) → ((t : ℕ) → R t ≡ true → t < task_count s) → ((t : ℕ) → fewer t ≡ true → t < task_count s')
-    → IsSubset fewer R → IsBest s R best → IsBest s' fewer best' → IsNarrower s s' fewer → (t : ℕ) → best t ≡ true → fewer t ≡ true → best' t ≡ true
+pub stays_with_more : (s s' : State) → IsState s → IsState s' → (R fewer best best' : TaskTest) → ((t : ℕ) → R t ≡ true
+    → t < task_count s) → ((t : ℕ) → fewer t ≡ true → t < task_count s')
+    → IsSubset fewer R → IsBest s R best → IsBest s' fewer best' → IsNarrower s s' fewer → (t : ℕ) → best t ≡ true → fewer t ≡ true
+    → best' t ≡ true
 stays_with_more s s' ok ok' R fewer best best' number number' subset is_best is_best' narrower t member inside = elim (cases_Bool (best' t)) [
   | inl chosen ↦ chosen
   | inr out ↦ absurd (left_out s s' ok ok' R fewer best best' number number' subset is_best is_best' narrower t member inside out)

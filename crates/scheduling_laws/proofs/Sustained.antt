@@ -79,7 +79,8 @@ pub record AreReleased (jobs : List Job) (x r : ℕ) : Type 0 where
   pub before : (k : ℕ) → k < r → (job_at jobs k).release ≤ x
   pub after : (k : ℕ) → r ≤ k → k < length jobs → x < (job_at jobs k).release
 
-pub released_among : (horizon : ℕ) (jobs : List Job) → AreJobs horizon jobs → (x n : ℕ) → n ≤ length jobs → ((k : ℕ) → n ≤ k → k < length jobs → x < (job_at jobs k).release)
+pub released_among : (horizon : ℕ) (jobs : List Job) → AreJobs horizon jobs → (x n : ℕ) → n ≤ length jobs → ((k : ℕ) → n ≤ k
+    → k < length jobs → x < (job_at jobs k).release)
     → (r : ℕ) × AreReleased jobs x r
 released_among horizon jobs valid x zero within after = (0, record { few = omega arith; before = λ k below. absurd (omega arith); after = after })
 released_among horizon jobs valid x (suc n) within after = elim (cases_lt x (job_at jobs n).release) [
@@ -123,14 +124,16 @@ module _ (jobs jobs' : List Job) (shorter : AreNoLonger jobs jobs') where
   keeps-other got got' more le keeps j i small done = let h = keeps j i small done in omega arith
 
   -- a moment of service in the one run, and in the other one, or there is nothing left to do there
-  keeps-more : (r got got' more : ℕ) → KeepsUp jobs jobs' got got' → got' ≤ more → got < asked_by jobs r → (more ≡ suc got') ⊎ (asked_by jobs' r ≤ got') → KeepsUp jobs jobs' (suc got) more
+  keeps-more : (r got got' more : ℕ) → KeepsUp jobs jobs' got got' → got' ≤ more → got < asked_by jobs r
+      → (more ≡ suc got') ⊎ (asked_by jobs' r ≤ got') → KeepsUp jobs jobs' (suc got) more
   keeps-more r got got' more keeps le grows also j i small done = elim (cases_lt got (asked_by jobs j + i)) [
     | inr before ↦ (let h = keeps j i small before in omega arith)
     | inl now ↦ at j i small now done
   ]
     where
       -- the next job is under way
-      under_way : (j i : ℕ) → suc i ≤ cost_at jobs j → asked_by jobs j + suc i ≡ suc got → asked_by jobs' j + (suc i - (cost_at jobs j - cost_at jobs' j)) ≤ more
+      under_way : (j i : ℕ) → suc i ≤ cost_at jobs j → asked_by jobs j + suc i ≡ suc got
+          → asked_by jobs' j + (suc i - (cost_at jobs j - cost_at jobs' j)) ≤ more
       under_way j i small now = elim also [
         | inl runs ↦ (let h = keeps j i (omega arith) (omega arith) in omega arith)
         | inr nothing ↦ elim (cases_lt j r) [
@@ -142,7 +145,8 @@ module _ (jobs jobs' : List Job) (shorter : AreNoLonger jobs jobs') where
         ]
       ]
 
-      at : (j i : ℕ) → i ≤ cost_at jobs j → got < asked_by jobs j + i → asked_by jobs j + i ≤ suc got → asked_by jobs' j + (i - (cost_at jobs j - cost_at jobs' j)) ≤ more
+      at : (j i : ℕ) → i ≤ cost_at jobs j → got < asked_by jobs j + i → asked_by jobs j + i ≤ suc got
+          → asked_by jobs' j + (i - (cost_at jobs j - cost_at jobs' j)) ≤ more
       at j (suc i) small now done = under_way j i small (omega arith)
       at zero zero small now done = absurd (omega arith)
       at (suc j) zero small now done =
@@ -170,7 +174,8 @@ record HasRoomUpTo (bound : ℕ) (one other : JobInputData) : Type 0 where
   horizon : one.horizon ≡ other.horizon
   urgent : (t : ℕ) → IsUrgent other bound t → IsUrgent one bound t
   jobs : (t : ℕ) → IsUrgent other bound t → AreNoLonger (jobs_at one.jobs t) (jobs_at other.jobs t)
-  narrower : (tasks : TaskTest) → ((t : ℕ) → tasks t ≡ true → IsUrgent other bound t) → IsNarrower (start_of one.set) (start_of other.set) tasks
+  narrower : (tasks : TaskTest) → ((t : ℕ) → tasks t ≡ true → IsUrgent other bound t)
+      → IsNarrower (start_of one.set) (start_of other.set) tasks
 
 module _ (bound : ℕ) (one other : JobInputData) (agree : HasRoomUpTo bound one other) (valid : IsJobInput one) (also_valid : IsJobInput other) (history also : List Entry) (runs : RunsJobs one history) (also_runs : RunsJobs other also) where
   abbrev states : Timeline
@@ -232,7 +237,8 @@ module _ (bound : ℕ) (one other : JobInputData) (agree : HasRoomUpTo bound one
       omega arith
 
   -- whoever is linked in the one run, and ready in the other, is linked there too
-  linked_too : (x : ℕ) → x < one.horizon → AllKeepUp x → (t : ℕ) → IsUrgent other bound t → is_linked (state_at (start_of one.set) history x) t ≡ true → is_ready (state_at (start_of other.set) also x) t ≡ true
+  linked_too : (x : ℕ) → x < one.horizon → AllKeepUp x → (t : ℕ) → IsUrgent other bound t
+      → is_linked (state_at (start_of one.set) history x) t ≡ true → is_ready (state_at (start_of other.set) also x) t ≡ true
       → is_linked (state_at (start_of other.set) also x) t ≡ true
   linked_too x below keeps t there linked ready =
       let urgent = agree.urgent t there in
@@ -264,7 +270,8 @@ module _ (bound : ℕ) (one other : JobInputData) (agree : HasRoomUpTo bound one
           let less = (runs.served.ready t x (agree.urgent t urgent).0 below).0 ((runs.best x below).subset t linked) in
           let demands = (released t x urgent).one in omega arith
 
-      also_served : is_linked (states x) t ≡ true → (got' t (suc x) ≡ suc (got' t x)) ⊎ (asked_by (jobs' t) (released t x urgent).number ≤ got' t x)
+      also_served : is_linked (states x) t ≡ true
+          → (got' t (suc x) ≡ suc (got' t x)) ⊎ (asked_by (jobs' t) (released t x urgent).number ≤ got' t x)
       also_served linked = elim (cases_Bool (is_ready (states' x) t)) [
         | inl ready ↦ inl (service_more states' t x (linked_too x below keeps t urgent linked ready))
         | inr absent ↦ elim (cases_lt (got' t x) (demand (jobs' t) x)) [
@@ -324,7 +331,8 @@ module _ (bound : ℕ) (one other : JobInputData) (agree : HasRoomUpTo bound one
 -- ---- more processors
 module _ (bound : ℕ) (one other : JobInputData) (agree : HasMoreRoomUpTo bound one other) where
   -- the one input has what its processors leave of the mask
-  narrower : (u p : ℕ) → IsUrgent other bound u → has (effective_mask (start_of one.set) u) p ≡ (has (effective_mask (start_of other.set) u) p && nat_lt p one.set.processors)
+  narrower : (u p : ℕ) → IsUrgent other bound u
+      → has (effective_mask (start_of one.set) u) p ≡ (has (effective_mask (start_of other.set) u) p && nat_lt p one.set.processors)
   narrower u p urgent =
       ap (λ (X : ℕ). has (intersection X (all_below one.set.processors)) p) (agree.each u urgent).mask
       ∙ has-intersection (intersection (mask_of (start_of other.set) u) (all_below one.set.processors)) (all_below one.set.processors) p

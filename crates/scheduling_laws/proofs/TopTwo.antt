@@ -1,6 +1,6 @@
 -- The most urgent task runs whenever it is ready, under both schedulers. So where the weak one runs the second task, the first runs beside
 -- it, or is absent under both: the two can be placed, and the strong one runs the second task as well, if it is ready.
-use Rattle.std.proofs.Common.{◌≡◌, ◌≢◌, ℕ, zero, suc, ◌<◌, ◌≤◌, Bool, true, false, ◌&&◌, nat_le, nat_lt, List, length, Some, refl, sym, ap, ◌∙◌, subst, inl, inr, IsTrue, arith}
+use Rattle.std.proofs.Common.{◌≡◌, ◌≢◌, ℕ, zero, suc, ◌<◌, ◌≤◌, Bool, true, ◌&&◌, nat_le, nat_lt, List, length, Some, refl, sym, ap, ◌∙◌, subst, inl, inr, IsTrue, arith}
 use Rattle.std.proofs.lemmas.Bool.{cases_Bool, cases_eq, cases_lt, true≢false, and_from, and_left, and_parts, le-leb, leb-true, lt-ltb}
 use Rattle.std.proofs.lemmas.List.{length-map}
 use Rattle.std.proofs.lemmas.Option.{same_Some}
@@ -9,7 +9,7 @@ use Rattle.affinity_mask.proofs.Sets.{empty_from_none, has-intersection, has-all
 use Rattle.task_set.specs.TaskSet.{SetData, TaskData, IsTaskSet}
 use Rattle.task_set.specs.declared.event.Event.{Event}
 use Rattle.strong_apa.specs.declared.reply.Entry.{Entry}
-use Rattle.strong_apa.specs.State.{State, IsState, IsWaiting, IsMoreUrgent, start_of, task_count, task_on, is_ready, is_linked, priority_of, mask_of, effective_mask}
+use Rattle.strong_apa.specs.State.{State, IsState, IsMoreUrgent, start_of, task_count, task_on, is_ready, is_linked, priority_of, mask_of, effective_mask}
 use Rattle.strong_apa.specs.Placement.{IsPlacement}
 use Rattle.strong_apa.proofs.Counts.{count_below-one_more}
 use Rattle.strong_apa.proofs.Fullness.{linked_keeps_up}
@@ -18,10 +18,10 @@ use Rattle.strong_apa.proofs.SameBest.{priority_of-same}
 use Rattle.strong_apa.proofs.SameTasks.{same_count}
 use Rattle.strong_apa.proofs.Start.{IsState-start}
 use Rattle.strong_apa.proofs.Unique.{ready_number}
-use Rattle.job_release.specs.Jobs.{demand, goal_of}
+use Rattle.job_release.specs.Jobs.{goal_of}
 use Rattle.job_release.specs.JobInput.{JobInputData, IsJobInput, jobs_at}
-use Rattle.job_release.specs.Driven.{ServesJobs, RunsJobs}
-use Rattle.job_release.specs.Moments.{Timeline, state_at, service_of, IsFinish}
+use Rattle.job_release.specs.Driven.{RunsJobs}
+use Rattle.job_release.specs.Moments.{Timeline, state_at, service_of}
 use Rattle.job_release.specs.WeakServes.{WeakServes, weak_timeline}
 use Rattle.job_release.proofs.Moments.{no_service}
 use Rattle.scheduling_laws.specs.TopTwo.{IsOfTopTwo, TopTwoGetNoLess, TopTwoFinishNoLater}
@@ -39,7 +39,8 @@ some_member X some none = some (empty_from_none X (λ p. elim (cases_Bool (has X
 
 module _ (set : SetData) (valid : IsTaskSet set) (t : ℕ) (now : State) (like : IsLike (start_of set) now) (kept : IsKeptOutIn now t) where
   -- where no task is more urgent than t, it does not wait
-  top_runs : ((u : ℕ) → u < task_count (start_of set) → IsMoreUrgent (start_of set) u t → ⊥) → is_ready now t ≡ true → is_linked now t ≡ true
+  top_runs : ((u : ℕ) → u < task_count (start_of set) → IsMoreUrgent (start_of set) u t → ⊥) → is_ready now t ≡ true
+      → is_linked now t ≡ true
   top_runs none ready = linked_from_not_waiting now t ready (λ waiting.
       let count = same_count (start_of set) now like.tasks in
       let number : t < task_count (start_of set) = (let lt = ready_number now like.ok t ready in omega arith) in
@@ -91,10 +92,12 @@ module _ (input : JobInputData) (events : List Event) (states : List State) (his
       omega arith
 
   -- equal service makes a task ready under both, or under neither
-  ready_too : (t x : ℕ) → t < length input.jobs → x < input.horizon → service_of weak t x ≡ service_of strong t x → is_ready (weak x) t ≡ true → is_ready (strong x) t ≡ true
+  ready_too : (t x : ℕ) → t < length input.jobs → x < input.horizon → service_of weak t x ≡ service_of strong t x
+      → is_ready (weak x) t ≡ true → is_ready (strong x) t ≡ true
   ready_too t x number below same ready = (runs.served.ready t x number below).1 (let less = (serves.served.ready t x number below).0 ready in omega arith)
 
-  ready_back : (t x : ℕ) → t < length input.jobs → x < input.horizon → service_of weak t x ≡ service_of strong t x → is_ready (strong x) t ≡ true → is_ready (weak x) t ≡ true
+  ready_back : (t x : ℕ) → t < length input.jobs → x < input.horizon → service_of weak t x ≡ service_of strong t x
+      → is_ready (strong x) t ≡ true → is_ready (weak x) t ≡ true
   ready_back t x number below same ready = (serves.served.ready t x number below).1 (let less = (runs.served.ready t x number below).0 ready in omega arith)
 
   -- the most urgent task
@@ -146,7 +149,8 @@ module _ (input : JobInputData) (events : List Event) (states : List State) (his
       abbrev among : ℕ → Bool
       among u = is_linked (weak x) u && nat_le (priority_of (strong x) u) (priority_of (strong x) t)
 
-      is_urgent : (u : ℕ) → u < task_count start → u ≢ t → nat_le (priority_of (strong x) u) (priority_of (strong x) t) ≡ true → IsMoreUrgent start u t
+      is_urgent : (u : ℕ) → u < task_count start → u ≢ t → nat_le (priority_of (strong x) u) (priority_of (strong x) t) ≡ true
+          → IsMoreUrgent start u t
       is_urgent u lt other le =
           let small = leb-true _ _ le in
           let a = same_priority u in
@@ -157,13 +161,15 @@ module _ (input : JobInputData) (events : List Event) (states : List State) (his
           ]
 
       -- such a task other than t is the first one
-      strong_too : (u : ℕ) → u < task_count start → u ≢ t → nat_le (priority_of (strong x) u) (priority_of (strong x) t) ≡ true → is_linked (weak x) u ≡ true → is_linked (strong x) u ≡ true
+      strong_too : (u : ℕ) → u < task_count start → u ≢ t → nat_le (priority_of (strong x) u) (priority_of (strong x) t) ≡ true
+          → is_linked (weak x) u ≡ true → is_linked (strong x) u ≡ true
       strong_too u lt other le on =
           let first = is_first u lt (is_urgent u lt other le) in
           let its_number = number_of u lt in
           strong_runs u its_number first x (ready_too u x its_number below (same_service u its_number first x (omega arith)) (serves.served.only_ready u x its_number below on))
 
-      weak_too : (u : ℕ) → u < task_count start → u ≢ t → nat_le (priority_of (strong x) u) (priority_of (strong x) t) ≡ true → is_linked (strong x) u ≡ true → is_linked (weak x) u ≡ true
+      weak_too : (u : ℕ) → u < task_count start → u ≢ t → nat_le (priority_of (strong x) u) (priority_of (strong x) t) ≡ true
+          → is_linked (strong x) u ≡ true → is_linked (weak x) u ≡ true
       weak_too u lt other le on =
           let first = is_first u lt (is_urgent u lt other le) in
           let its_number = number_of u lt in

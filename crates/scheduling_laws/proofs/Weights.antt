@@ -26,7 +26,8 @@ unfolding passing_below
 passing_none test = refl
 
 -- a sum that is one more at each number that passes another test
-pub sum_step : (test more : ℕ → Bool) (f g : ℕ → ℕ) (n : ℕ) → ((u : ℕ) → u < n → test u ≡ true → more u ≡ true → g u ≡ suc (f u)) → ((u : ℕ) → u < n → test u ≡ true → more u ≡ false → g u ≡ f u)
+pub sum_step : (test more : ℕ → Bool) (f g : ℕ → ℕ) (n : ℕ) → ((u : ℕ) → u < n → test u ≡ true → more u ≡ true → g u ≡ suc (f u))
+    → ((u : ℕ) → u < n → test u ≡ true → more u ≡ false → g u ≡ f u)
     → sum_by g (passing_below test n) ≡ sum_by f (passing_below test n) + count_below (λ u. test u && more u) n
 sum_step test more f g zero up same = rw (passing_none test, count_below-zero (λ u. test u && more u)) (omega arith)
 sum_step test more f g (suc n) up same =
@@ -64,7 +65,8 @@ sum_none test f (suc n) none =
           omega arith)
     ]
 
-pub sum_no_more : (test : ℕ → Bool) (f g : ℕ → ℕ) (n : ℕ) → ((u : ℕ) → u < n → f u ≤ g u) → sum_by f (passing_below test n) ≤ sum_by g (passing_below test n)
+pub sum_no_more : (test : ℕ → Bool) (f g : ℕ → ℕ) (n : ℕ) → ((u : ℕ) → u < n → f u ≤ g u)
+    → sum_by f (passing_below test n) ≤ sum_by g (passing_below test n)
 sum_no_more test f g zero each = rw (passing_none test) (omega arith)
 sum_no_more test f g (suc n) each =
     let rest = sum_no_more test f g n (λ u lt. each u (omega arith)) in
@@ -88,7 +90,8 @@ module _ (s : State) (ok : IsState s) (A B : TaskTest) (keeps : KeepsUp s A B) w
   either x y = elim (cases_lt (priority_of s x) (priority_of s y)) [ inl lt ↦ inr (omega arith) | inr ge ↦ inl ge ]
 
   -- of the tasks that weigh something no fewer are in A
-  layer : (weight : ℕ → ℕ) → FallsWithUrgency s weight → count_below (λ t. B t && weighs weight t) (task_count s) ≤ count_below (λ t. A t && weighs weight t) (task_count s)
+  layer : (weight : ℕ → ℕ) → FallsWithUrgency s weight
+      → count_below (λ t. B t && weighs weight t) (task_count s) ≤ count_below (λ t. A t && weighs weight t) (task_count s)
   layer weight falls = elim (first_below (λ t. 0 < weight t) (decided weight) (λ x y. priority_of s y ≤ priority_of s x) either (λ x y z a b. omega arith) (task_count s)) [
     | inl found ↦ (
         let same : (t : ℕ) → t < task_count s → weighs weight t ≡ nat_le (priority_of s t) (priority_of s found.0) = upto found.0 found.1 found.2 found.3 in
@@ -98,11 +101,13 @@ module _ (s : State) (ok : IsState s) (A B : TaskTest) (keeps : KeepsUp s A B) w
         omega arith)
     | inr none ↦ (
         let off : (T : TaskTest) (t : ℕ) → t < task_count s → (T t && weighs weight t) ≡ false = λ T t lt. and_right (T t) (weighs weight t) (le-ltb _ _ (elim (cases_lt 0 (weight t)) [ inl some ↦ absurd (none t lt some) | inr le ↦ le ])) in
-        let e = count_below-agree (λ t. B t && weighs weight t) (λ t. A t && weighs weight t) (task_count s) (λ t lt. off B t lt ∙ sym (off A t lt)) in
+        let e = count_below-agree (λ t. B t && weighs weight t) (λ t. A t && weighs weight t) (task_count s) (λ t lt. off B t lt
+        ∙ sym (off A t lt)) in
         omega arith)
   ]
     where
-      upto : (last : ℕ) → last < task_count s → 0 < weight last → ((y : ℕ) → y < task_count s → 0 < weight y → priority_of s y ≤ priority_of s last)
+      upto : (last : ℕ) → last < task_count s → 0 < weight last → ((y : ℕ) → y < task_count s → 0 < weight y
+          → priority_of s y ≤ priority_of s last)
           → (t : ℕ) → t < task_count s → nat_lt 0 (weight t) ≡ nat_le (priority_of s t) (priority_of s last)
       upto last inside some latest t lt = elim (cases_lt (priority_of s last) (priority_of s t)) [
         | inl later ↦ elim (cases_lt 0 (weight t)) [
@@ -116,7 +121,8 @@ module _ (s : State) (ok : IsState s) (A B : TaskTest) (keeps : KeepsUp s A B) w
       ]
 
   -- A weighs no less, where no task weighs more than n
-  weighs_most : (n : ℕ) (weight : ℕ → ℕ) → FallsWithUrgency s weight → ((t : ℕ) → t < task_count s → weight t ≤ n) → weight_of s weight B ≤ weight_of s weight A
+  weighs_most : (n : ℕ) (weight : ℕ → ℕ) → FallsWithUrgency s weight → ((t : ℕ) → t < task_count s → weight t ≤ n)
+      → weight_of s weight B ≤ weight_of s weight A
   weighs_most zero weight falls light =
       let b = sum_none B weight (task_count s) (λ t lt. let le = light t lt in omega arith) in
       omega arith
@@ -164,7 +170,8 @@ module _ (s : State) (ok : IsState s) (most : LinkedWeighsMost s) (B : TaskTest)
     | inr le ↦ (let here : nat_le (priority_of s t) (priority_of s better.task) ≡ true = le-leb _ _ (omega arith) in rw (le-leb _ _ le, here) (omega arith))
   ]
 
-  weighs_count : (A : TaskTest) → weight_of s weight A ≡ count_below (λ t. A t && nat_le (priority_of s t) (priority_of s better.task)) (task_count s)
+  weighs_count : (A : TaskTest)
+      → weight_of s weight A ≡ count_below (λ t. A t && nat_le (priority_of s t) (priority_of s better.task)) (task_count s)
   weighs_count A =
       let step = sum_step A as_urgent (λ t. 0) weight (task_count s) (λ t lt member here. ap one_if here) (λ t lt member here. ap one_if here) in
       let none = sum_none A (λ t. 0) (task_count s) (λ t lt. refl) in

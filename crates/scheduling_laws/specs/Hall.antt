@@ -1,5 +1,6 @@
--- Hall's condition for masks. A task is confined to a set of processors where its effective mask has no other one; a set of processors is
--- crowded where more tasks are confined to it than it has members.
+-- Hall's condition for masks. A task is confined to a set of processors where its effective mask
+-- has no other one; a set of processors is crowded where more tasks are confined to it than it has
+-- members.
 use Rattle.std.specs.Prelude.{◌≡◌, ℕ, ◌<◌, ◌≤◌, Bool, true, ◌==◌, ◌&&◌, ◌⊎◌, ◌↔◌, length}
 use Rattle.affinity_mask.specs.ProcSet.{intersection, members}
 use Rattle.strong_apa.specs.State.{State, IsState, task_count, effective_mask}
@@ -24,7 +25,8 @@ PlaceableIsUncrowded =
     (s : State) (tasks : TaskTest) → IsState s → ((t : ℕ) → tasks t ≡ true → t < task_count s)
     → IsPlaceable s tasks ↔ ((X : ℕ) → confined_count s tasks X ≤ length (members X))
 
--- a set of tasks is placeable, or there is a set of processors that it crowds: the reason why it does not fit
+-- a set of tasks is placeable, or there is a set of processors that it crowds: the reason why it
+-- does not fit
 abbrev pub PlaceableOrCrowded : Type 0
 PlaceableOrCrowded =
     (s : State) (tasks : TaskTest) → IsState s → ((t : ℕ) → tasks t ≡ true → t < task_count s)

@@ -5,6 +5,7 @@ pub mod Hall
 pub mod InReach
 pub mod Isolation
 pub mod Merges
+pub mod Migrations
 pub mod MoreProcessors
 pub mod OneEnd
 pub mod Response

@@ -11,11 +11,14 @@ use Rattle.job_release.specs.WeakServes.{WeakServes, weak_timeline}
 
 -- t is the most urgent task, or the second one: at most one is more urgent
 abbrev pub IsOfTopTwo : State → ℕ → Type 0
-IsOfTopTwo s t = (u v : ℕ) → u < task_count s → v < task_count s → IsMoreUrgent s u t → IsMoreUrgent s v t → u ≡ v
+IsOfTopTwo s t = (u v : ℕ) → u < task_count s → v < task_count s
+    → IsMoreUrgent s u t → IsMoreUrgent s v t → u ≡ v
 
--- what holds of each of the two where the weak scheduler runs the jobs of an input, and the strong one runs them
+-- what holds of each of the two where the weak scheduler runs the jobs of an input, and the strong
+-- one runs them
 abbrev pub HoldsOfTopTwo : ((input : JobInputData) (weak strong : Timeline) → ℕ → Type 0) → Type 0
-HoldsOfTopTwo Law = (input : JobInputData) (events : List Event) (states : List State) (history : List Entry) (t : ℕ)
+HoldsOfTopTwo Law =
+    (input : JobInputData) (events : List Event) (states : List State) (history : List Entry) (t : ℕ)
     → IsJobInput input → WeakServes input events states → RunsJobs input history
     → t < length input.jobs → IsOfTopTwo (start_of input.set) t
     → Law input (weak_timeline input events states) (state_at (start_of input.set) history) t

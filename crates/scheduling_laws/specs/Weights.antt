@@ -1,4 +1,5 @@
--- Weights. Each task has a weight, and none weighs more than a more urgent one; a set weighs what its tasks weigh together.
+-- Weights. Each task has a weight, and none weighs more than a more urgent one; a set weighs what
+-- its tasks weigh together.
 use Rattle.std.specs.Prelude.{ℕ, ◌<◌, ◌≤◌, ◌↔◌, sum_by}
 use Rattle.strong_apa.specs.State.{State, IsState, task_count, is_ready, is_linked, IsMoreUrgent}
 use Rattle.strong_apa.specs.Placement.{TaskTest, IsSubset, IsPlaceable}
@@ -8,7 +9,8 @@ use Rattle.scheduling_laws.specs.InReach.{HoldsOfLegal, HoldsOfPassing}
 
 -- no task weighs more than a more urgent one
 abbrev pub FallsWithUrgency : State → (ℕ → ℕ) → Type 0
-FallsWithUrgency s weight = (t u : ℕ) → t < task_count s → u < task_count s → IsMoreUrgent s t u → weight u ≤ weight t
+FallsWithUrgency s weight = (t u : ℕ) → t < task_count s → u < task_count s → IsMoreUrgent s t u
+    → weight u ≤ weight t
 
 -- what the tasks of a set weigh together
 abbrev pub weight_of : State → (ℕ → ℕ) → TaskTest → ℕ
@@ -16,7 +18,8 @@ weight_of s weight tasks = sum_by weight (tasks_of s tasks)
 
 -- whatever the weights, no placeable set of ready tasks weighs more than the linked tasks
 abbrev pub LinkedWeighsMost : State → Type 0
-LinkedWeighsMost s = (weight : ℕ → ℕ) (other : TaskTest) → FallsWithUrgency s weight → IsSubset other (is_ready s) → IsPlaceable s other
+LinkedWeighsMost s = (weight : ℕ → ℕ) (other : TaskTest)
+    → FallsWithUrgency s weight → IsSubset other (is_ready s) → IsPlaceable s other
     → weight_of s weight other ≤ weight_of s weight (is_linked s)
 
 -- after every entry of a legal history the linked tasks weigh most

@@ -1,5 +1,5 @@
--- Inputs of jobs that differ in the mask of one task, which has more processors in the other input, up to that task: the less
--- urgent ones may have nothing in common.
+-- Inputs of jobs that differ in the mask of one task, which has more processors in the other input,
+-- up to that task: the less urgent ones may have nothing in common.
 use Rattle.std.specs.Prelude.{◌≡◌, ◌≢◌, ℕ, ◌<◌, ◌≤◌, ◌↔◌, List, length}
 use Rattle.affinity_mask.specs.ProcSet.{Within}
 use Rattle.strong_apa.specs.declared.reply.Entry.{Entry}
@@ -26,9 +26,11 @@ pub record HasWiderMask (t : ℕ) (one other : JobInputData) : Type 0 where
   pub wider : Within (mask_of (start_of one.set) t) (mask_of (start_of other.set) t)
 
 -- what holds of each task up to t in histories that run the jobs of two such inputs
-abbrev pub HoldsWhereAMaskIsWider : ((one other : JobInputData) → List Entry → List Entry → ℕ → Type 0) → Type 0
+abbrev pub HoldsWhereAMaskIsWider :
+    ((one other : JobInputData) → List Entry → List Entry → ℕ → Type 0) → Type 0
 HoldsWhereAMaskIsWider Law = (t : ℕ) (one other : JobInputData) (history also : List Entry) (u : ℕ)
-    → IsJobInput one → IsJobInput other → HasWiderMask t one other → RunsJobs one history → RunsJobs other also
+    → IsJobInput one → IsJobInput other → HasWiderMask t one other
+    → RunsJobs one history → RunsJobs other also
     → IsAsUrgentAs one t u → Law one other history also u
 
 -- with a wider mask of t each task up to t has as many of its jobs done before each moment
@@ -40,6 +42,8 @@ WiderMaskKeepsUp = HoldsWhereAMaskIsWider (λ one other history also u. (k x : �
 -- and no job of it is finished later
 abbrev pub WiderMaskFinishesNoLater : Type 0
 WiderMaskFinishesNoLater = HoldsWhereAMaskIsWider (λ one other history also u. (k x : ℕ)
-    → IsFinish (state_at (start_of one.set) history) u (goal_of (jobs_at one.jobs u) k) one.horizon x
+    → IsFinish (state_at (start_of one.set) history) u (goal_of (jobs_at one.jobs u) k)
+    one.horizon x
     → (y : ℕ) × (y ≤ x)
-    × IsFinish (state_at (start_of other.set) also) u (goal_of (jobs_at other.jobs u) k) other.horizon y)
+    × IsFinish (state_at (start_of other.set) also) u (goal_of (jobs_at other.jobs u) k)
+    other.horizon y)

@@ -7,6 +7,7 @@ ghost use Rattle.scheduling_laws.specs.Hall.{PlaceableIsUncrowded, PlaceableOrCr
 ghost use Rattle.scheduling_laws.specs.InReach.{LegalConservesWork, PassingConservesWork, LegalHasNoInversion, PassingHasNoInversion};
 ghost use Rattle.scheduling_laws.specs.Isolation.{UrgentServiceIsIsolated, UrgentFinishIsIsolated};
 ghost use Rattle.scheduling_laws.specs.Merges.{MergesHaveOneEnd};
+ghost use Rattle.scheduling_laws.specs.Migrations.{MigrationsAreFew};
 ghost use Rattle.scheduling_laws.specs.MoreProcessors.{MoreProcessorsKeepUp, MoreProcessorsFinishNoLater};
 ghost use Rattle.scheduling_laws.specs.OneEnd.{SameEventsHaveOneEnd, CallersGiveSameEvents};
 ghost use Rattle.scheduling_laws.specs.Response.{WaitingIsInterference, LittleInterferenceIsInTime, SmallDemandIsInTime};
@@ -84,6 +85,12 @@ pub fn few_tasks_are_shifted()
 pub fn fewest_tasks_are_moved()
     ensures step { StepMovesFewest }
     ensures legal { LegalMovesFewest }
+{}
+
+/// A task migrates at most once at each event of another task, change of a mask or event of a processor while it is ready: never as time
+/// passes.
+pub fn migrations_are_few()
+    ensures { MigrationsAreFew }
 {}
 
 // ---- jobs
