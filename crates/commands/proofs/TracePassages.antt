@@ -94,7 +94,7 @@ counted_passages bytes trace is = record {
   begin =
       λ passage e.
       let at = line_at trace.passages 0 passage e in
-      let first = begins (from_turn (used_lines is.head.ids is.head.window [] is.lines)) at.0
+      let first = begins (from_turn (used_lines is.look.waking is.head.ids is.head.window [] is.lines)) at.0
       (subst (λ (lines : List used.Passage). slice_get lines 0 ≡ Some at.0) is.passages at.1) in
       let same = ap (λ (p : Passage). p.moment) at.2 in
       sym same ∙ first;

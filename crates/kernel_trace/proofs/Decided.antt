@@ -29,14 +29,15 @@ use Rattle.text_fields.proofs.Choices.{only, choice, reading, judging, allowing}
 use Rattle.text_fields.proofs.LineRule.{lines_machine}
 use Rattle.kernel_trace.specs.Course.{CourseData, WindowData, mentions, is_unseen, written, after_mention, after_mentions, is_backward, is_in_window}
 use Rattle.kernel_trace.specs.Reading.{AreTasks, IsCourse, IsValid}
+use Rattle.kernel_trace.specs.Survey.{SurveyData, is_gap}
 use Rattle.kernel_trace.specs.TraceFault.{trace_kind}
 use Rattle.kernel_trace.specs.TraceLine.{Said, Nothing, LostEvents, Malformed, Happened, said_by}
-use Rattle.kernel_trace.specs.TraceText.{IsWorded, TaskLine, IsTaskForm, BeginsWith, events_line, window_of, Progress, HeaderExpected, ProcessorsExpected, Listed, Tracing, LineOutcome, without_tasks, priority_of, with_listed, IsAddOutcome, IsTaskOutcome, window_outcome, IsListedOutcome, IsWordedOutcome, IsHeadOutcome, counted_outcome, used_outcome, timed_outcome, said_outcome, trace_outcome, IsLine, input_of, IsEndOutcome}
+use Rattle.kernel_trace.specs.TraceText.{IsWorded, TaskLine, IsTaskForm, BeginsWith, events_line, window_of, Progress, HeaderExpected, ProcessorsExpected, Listed, Tracing, LineOutcome, without_tasks, priority_of, with_listed, IsAddOutcome, IsTaskOutcome, window_outcome, IsListedOutcome, IsWordedOutcome, IsHeadOutcome, counted_outcome, used_outcome, timed_outcome, said_outcome, trace_outcome, trace_end, IsLine, IsEndOutcome}
 use Rattle.kernel_trace.specs.declared.change.Change.{Change}
 use Rattle.kernel_trace.specs.declared.change.Mention.{Mention}
 use Rattle.kernel_trace.specs.declared.change.Standing.TheVariants.{Unmentioned}
 use Rattle.kernel_trace.specs.declared.fault.TraceKind.{TraceKind}
-use Rattle.kernel_trace.specs.declared.fault.TraceKind.TheVariants.{BadHeader, BadProcessors, BadMask, TaskRefused, SamePid, BadWindow, Backward, Lost, BadForm, Unseen, ManyEvents, NoEvents}
+use Rattle.kernel_trace.specs.declared.fault.TraceKind.TheVariants.{BadHeader, BadProcessors, BadMask, TaskRefused, SamePid, BadWindow, Backward, Lost, BadForm, Unseen, ManyEvents, NoEvents, Overwritten}
 use Rattle.kernel_trace.proofs.Courses.{mention_keeps, mentions_tasks, length_ticks, part_zero}
 
 -- ---- the forms of lines
@@ -291,7 +292,7 @@ end_comes : (expected : Progress) → (outcome : Outcome InputData TraceKind) ×
 end_comes HeaderExpected = (Fails NoEvents, refl)
 end_comes ProcessorsExpected = (Fails NoEvents, refl)
 end_comes (Listed c) = (Fails NoEvents, refl)
-end_comes (Tracing c) = (Leads (input_of c), refl)
+end_comes (Tracing c) = (trace_end c, refl)
 
 end_once : (expected : Progress) (outcome other : Outcome InputData TraceKind) → IsEndOutcome expected outcome → IsEndOutcome expected other → outcome ≡ other
 end_once HeaderExpected outcome other one two = one ∙ sym two
@@ -313,30 +314,37 @@ head_machine = record {
 head_lines : IsMachine HeaderExpected IsValid (IsLineOutcome 4096 true trace_kind IsHeadOutcome) IsEndOutcome
 head_lines = lines_machine 4096 true trace_kind head_machine
 
-pub line_valid : (expected : Progress) (line : List ℕ) (next : Progress) → IsValid expected → IsLine expected line (Leads next) → IsValid next
-line_valid HeaderExpected line next valid comes = head_lines.keeps HeaderExpected line next valid comes
-line_valid ProcessorsExpected line next valid comes = head_lines.keeps ProcessorsExpected line next valid comes
-line_valid (Listed c) line next valid comes = head_lines.keeps (Listed c) line next valid comes
-line_valid (Tracing c) line next valid comes = said_valid c (said_by (fields_of line)) next valid.0 valid.1 comes
+-- a line of the trace, by whether there is a gap before it
+fields_valid : (b : Bool) (c : CourseData) (said : Said) (next : Progress) → IsCourse c → length (written c) ≤ 20000
+    → ◌≡◌ {A = LineOutcome} (Leads next) (if b then Fails Overwritten else said_outcome c said) → IsValid next
+fields_valid true c said next is few e = fails_not_leads next Overwritten e
+fields_valid false c said next is few e = said_valid c said next is few e
 
-line_once : (expected : Progress) (line : List ℕ) (outcome other : LineOutcome) → IsValid expected → IsLine expected line outcome → IsLine expected line other → outcome ≡ other
-line_once HeaderExpected line outcome other valid one two = head_lines.one_outcome HeaderExpected line outcome other valid one two
-line_once ProcessorsExpected line outcome other valid one two = head_lines.one_outcome ProcessorsExpected line outcome other valid one two
-line_once (Listed c) line outcome other valid one two = head_lines.one_outcome (Listed c) line outcome other valid one two
-line_once (Tracing c) line outcome other valid one two = one ∙ sym two
+pub line_valid : (look : SurveyData) (expected : Progress) (line : List ℕ) (next : Progress) → IsValid expected → IsLine look expected line (Leads next) → IsValid next
+line_valid look HeaderExpected line next valid comes = head_lines.keeps HeaderExpected line next valid comes
+line_valid look ProcessorsExpected line next valid comes = head_lines.keeps ProcessorsExpected line next valid comes
+line_valid look (Listed c) line next valid comes = head_lines.keeps (Listed c) line next valid comes
+line_valid look (Tracing c) line next valid comes =
+    fields_valid (is_gap look c.window (fields_of line)) c (said_by look.waking (fields_of line)) next valid.0 valid.1 comes
 
-line_comes : (expected : Progress) (line : List ℕ) → IsValid expected → (outcome : LineOutcome) × IsLine expected line outcome
-line_comes HeaderExpected line valid = head_lines.some_outcome HeaderExpected line valid
-line_comes ProcessorsExpected line valid = head_lines.some_outcome ProcessorsExpected line valid
-line_comes (Listed c) line valid = head_lines.some_outcome (Listed c) line valid
-line_comes (Tracing c) line valid = (trace_outcome c line, refl)
+line_once : (look : SurveyData) (expected : Progress) (line : List ℕ) (outcome other : LineOutcome) → IsValid expected → IsLine look expected line outcome → IsLine look expected line other → outcome ≡ other
+line_once look HeaderExpected line outcome other valid one two = head_lines.one_outcome HeaderExpected line outcome other valid one two
+line_once look ProcessorsExpected line outcome other valid one two = head_lines.one_outcome ProcessorsExpected line outcome other valid one two
+line_once look (Listed c) line outcome other valid one two = head_lines.one_outcome (Listed c) line outcome other valid one two
+line_once look (Tracing c) line outcome other valid one two = one ∙ sym two
 
-pub trace_machine : IsMachine HeaderExpected IsValid IsLine IsEndOutcome
-trace_machine = record {
+line_comes : (look : SurveyData) (expected : Progress) (line : List ℕ) → IsValid expected → (outcome : LineOutcome) × IsLine look expected line outcome
+line_comes look HeaderExpected line valid = head_lines.some_outcome HeaderExpected line valid
+line_comes look ProcessorsExpected line valid = head_lines.some_outcome ProcessorsExpected line valid
+line_comes look (Listed c) line valid = head_lines.some_outcome (Listed c) line valid
+line_comes look (Tracing c) line valid = (trace_outcome look c line, refl)
+
+pub trace_machine : (look : SurveyData) → IsMachine HeaderExpected IsValid (IsLine look) IsEndOutcome
+trace_machine look = record {
   starts = tt;
-  keeps = line_valid;
-  one_outcome = line_once;
-  some_outcome = line_comes;
+  keeps = line_valid look;
+  one_outcome = line_once look;
+  some_outcome = line_comes look;
   one_end = λ expected outcome other valid. end_once expected outcome other;
   some_end = λ expected valid. end_comes expected;
 }

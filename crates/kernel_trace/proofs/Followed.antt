@@ -4,17 +4,18 @@ use Rattle.std.specs.Prelude.{is_some, ◌||◌, if◌then◌else◌}
 use Rattle.text_fields.specs.Lines.{fields_of}
 use Rattle.text_fields.specs.Machine.{Outcome, Leads, Fails, IsMachine}
 use Rattle.kernel_trace.specs.Course.{CourseData, is_unseen, is_backward, is_in_window}
-use Rattle.kernel_trace.specs.Passage.{task_change, first_mention, second_mention, changing, marked, FollowingData, FollowingOutcome, nothing_followed, at_time, after_marks, start_after, kept_outcome, marked_outcome, used_outcome, timed_outcome, told_outcome, said_outcome, head_outcome, IsOfHead, IsLineAt, IsFollowed, TaskTraceData, IsEndAt, IsFollowedEnd}
+use Rattle.kernel_trace.specs.Passage.{task_change, first_mention, second_mention, changing, marked, FollowingData, FollowingOutcome, nothing_followed, at_time, after_marks, start_after, kept_outcome, marked_outcome, used_outcome, timed_outcome, told_outcome, said_outcome, fields_outcome, trace_end, head_outcome, IsOfHead, IsLineAt, IsFollowed, TaskTraceData, IsEndAt, IsFollowedEnd}
 use Rattle.kernel_trace.specs.PassageView.{IsFollowing, CanFollow}
 use Rattle.kernel_trace.specs.Processor.{processor_of}
 use Rattle.kernel_trace.specs.Reading.{IsCourse, IsValid}
+use Rattle.kernel_trace.specs.Survey.{SurveyData, is_gap}
 use Rattle.kernel_trace.specs.TraceLine.{Said, Nothing, LostEvents, Malformed, Happened, said_by}
 use Rattle.kernel_trace.specs.TraceText.{Progress, HeaderExpected, ProcessorsExpected, Listed, Tracing, LineOutcome, IsLine}
 use Rattle.kernel_trace.specs.declared.change.Change.{Change}
 use Rattle.kernel_trace.specs.declared.change.Mention.{Mention}
 use Rattle.kernel_trace.specs.declared.change.Standing.{Standing}
 use Rattle.kernel_trace.specs.declared.fault.TraceKind.{TraceKind}
-use Rattle.kernel_trace.specs.declared.fault.TraceKind.TheVariants.{Lost, BadForm, Backward, Unseen, ManyEvents, NoEvents}
+use Rattle.kernel_trace.specs.declared.fault.TraceKind.TheVariants.{Lost, BadForm, Backward, Unseen, ManyEvents, NoEvents, Overwritten}
 use Rattle.kernel_trace.specs.declared.passage.Passage.{Passage}
 use Rattle.kernel_trace.specs.declared.passage.TaskChange.{TaskChange}
 use Rattle.kernel_trace.proofs.Decided.{trace_machine, line_valid, with_times, with_last}
@@ -38,11 +39,11 @@ valid_follows ProcessorsExpected valid = valid
 valid_follows (Listed c) valid = valid
 valid_follows (Tracing c) valid = valid.0
 
-head_valid : (f : FollowingData) (p : Progress) (line : List ℕ) (next : FollowingData) → IsValid p → IsOfHead f (IsLine p line) (Leads next) → CanFollow next
-head_valid f p line next valid (head, comes, e) =
+head_valid : (look : SurveyData) (f : FollowingData) (p : Progress) (line : List ℕ) (next : FollowingData) → IsValid p → IsOfHead f (IsLine look p line) (Leads next) → CanFollow next
+head_valid look f p line next valid (head, comes, e) =
     let leads = head_leads f next head e in
-    let goes : IsLine p line (Leads leads.0) = subst (IsLine p line) leads.1 comes in
-    subst CanFollow (sym leads.2) (valid_follows leads.0 (line_valid p line leads.0 valid goes))
+    let goes : IsLine look p line (Leads leads.0) = subst (IsLine look p line) leads.1 comes in
+    subst CanFollow (sym leads.2) (valid_follows leads.0 (line_valid look p line leads.0 valid goes))
 
 -- ---- a line of the trace
 at_time_valid : (c : CourseData) (time : ℕ) → IsCourse c → IsCourse (at_time c time)
@@ -116,6 +117,12 @@ said_valid f c LostEvents processor next expected is e = faulty next Lost e
 said_valid f c Malformed processor next expected is e = faulty next BadForm e
 said_valid f c (Happened time change) processor next expected is e = told_valid f c time change (task_change c.ids change processor) next is e
 
+-- by whether there is a gap before it
+fields_valid : (b : Bool) (f : FollowingData) (c : CourseData) (said : Said) (processor : Option ℕ) (next : FollowingData) → f.progress ≡ Tracing c → IsCourse c
+    → ◌≡◌ {A = FollowingOutcome} (Leads next) (if b then Fails Overwritten else said_outcome f c said processor) → CanFollow next
+fields_valid true f c said processor next expected is e = faulty next Overwritten e
+fields_valid false f c said processor next expected is e = said_valid f c said processor next expected is e
+
 -- ---- a line that is used
 -- it comes to what its mentions come to, whatever is expected
 pub told_used : (f : FollowingData) (c d : CourseData) (time : ℕ) (change : Change) (told : Option TaskChange) (some : TaskChange) → told ≡ Some some
@@ -128,39 +135,40 @@ told_used f c d time change told some is forward within at =
     ∙ ap (λ (now : CourseData). used_outcome f now time change some) (sym at)
 
 -- ---- the machine
-pub followed_valid : (f : FollowingData) (line : List ℕ) (next : FollowingData) → CanFollow f → IsFollowed f line (Leads next) → CanFollow next
-followed_valid f line next valid comes = by f.progress refl valid comes
+pub followed_valid : (look : SurveyData) (f : FollowingData) (line : List ℕ) (next : FollowingData) → CanFollow f → IsFollowed look f line (Leads next) → CanFollow next
+followed_valid look f line next valid comes = by f.progress refl valid comes
   where
-    by : (p : Progress) → f.progress ≡ p → IsFollowing p → IsLineAt f p line (Leads next) → CanFollow next
-    by HeaderExpected expected valid comes = head_valid f HeaderExpected line next valid comes
-    by ProcessorsExpected expected valid comes = head_valid f ProcessorsExpected line next valid comes
-    by (Listed c) expected valid comes = head_valid f (Listed c) line next valid comes
-    by (Tracing c) expected valid comes = said_valid f c (said_by (fields_of line)) (processor_of (fields_of line)) next expected valid comes
+    by : (p : Progress) → f.progress ≡ p → IsFollowing p → IsLineAt look f p line (Leads next) → CanFollow next
+    by HeaderExpected expected valid comes = head_valid look f HeaderExpected line next valid comes
+    by ProcessorsExpected expected valid comes = head_valid look f ProcessorsExpected line next valid comes
+    by (Listed c) expected valid comes = head_valid look f (Listed c) line next valid comes
+    by (Tracing c) expected valid comes =
+        fields_valid (is_gap look c.window (fields_of line)) f c (said_by look.waking (fields_of line)) (processor_of look.waking (fields_of line)) next expected valid comes
 
-module _ (f : FollowingData) (p : Progress) (line : List ℕ) (valid : IsValid p) where
-  of_head_once : (outcome other : FollowingOutcome) → IsOfHead f (IsLine p line) outcome → IsOfHead f (IsLine p line) other → outcome ≡ other
+module _ (look : SurveyData) (f : FollowingData) (p : Progress) (line : List ℕ) (valid : IsValid p) where
+  of_head_once : (outcome other : FollowingOutcome) → IsOfHead f (IsLine look p line) outcome → IsOfHead f (IsLine look p line) other → outcome ≡ other
   of_head_once outcome other one two =
-      let machine = trace_machine in
+      let machine = trace_machine look in
       one.2 ∙ ap (head_outcome f) (machine.one_outcome p line one.0 two.0 valid one.1 two.1) ∙ sym two.2
 
-  of_head_comes : (outcome : FollowingOutcome) × IsOfHead f (IsLine p line) outcome
+  of_head_comes : (outcome : FollowingOutcome) × IsOfHead f (IsLine look p line) outcome
   of_head_comes =
-      let machine = trace_machine in
+      let machine = trace_machine look in
       let some = machine.some_outcome p line valid in
       (head_outcome f some.0, (some.0, some.1, refl))
 
-line_once : (f : FollowingData) (p : Progress) (line : List ℕ) (outcome other : FollowingOutcome) → IsFollowing p → IsLineAt f p line outcome → IsLineAt f p line other
+line_once : (look : SurveyData) (f : FollowingData) (p : Progress) (line : List ℕ) (outcome other : FollowingOutcome) → IsFollowing p → IsLineAt look f p line outcome → IsLineAt look f p line other
     → outcome ≡ other
-line_once f HeaderExpected line outcome other valid one two = of_head_once f HeaderExpected line valid outcome other one two
-line_once f ProcessorsExpected line outcome other valid one two = of_head_once f ProcessorsExpected line valid outcome other one two
-line_once f (Listed c) line outcome other valid one two = of_head_once f (Listed c) line valid outcome other one two
-line_once f (Tracing c) line outcome other valid one two = one ∙ sym two
+line_once look f HeaderExpected line outcome other valid one two = of_head_once look f HeaderExpected line valid outcome other one two
+line_once look f ProcessorsExpected line outcome other valid one two = of_head_once look f ProcessorsExpected line valid outcome other one two
+line_once look f (Listed c) line outcome other valid one two = of_head_once look f (Listed c) line valid outcome other one two
+line_once look f (Tracing c) line outcome other valid one two = one ∙ sym two
 
-line_comes : (f : FollowingData) (p : Progress) (line : List ℕ) → IsFollowing p → (outcome : FollowingOutcome) × IsLineAt f p line outcome
-line_comes f HeaderExpected line valid = of_head_comes f HeaderExpected line valid
-line_comes f ProcessorsExpected line valid = of_head_comes f ProcessorsExpected line valid
-line_comes f (Listed c) line valid = of_head_comes f (Listed c) line valid
-line_comes f (Tracing c) line valid = (said_outcome f c (said_by (fields_of line)) (processor_of (fields_of line)), refl)
+line_comes : (look : SurveyData) (f : FollowingData) (p : Progress) (line : List ℕ) → IsFollowing p → (outcome : FollowingOutcome) × IsLineAt look f p line outcome
+line_comes look f HeaderExpected line valid = of_head_comes look f HeaderExpected line valid
+line_comes look f ProcessorsExpected line valid = of_head_comes look f ProcessorsExpected line valid
+line_comes look f (Listed c) line valid = of_head_comes look f (Listed c) line valid
+line_comes look f (Tracing c) line valid = (fields_outcome look f c (fields_of line), refl)
 
 end_once : (f : FollowingData) (p : Progress) (outcome other : Outcome TaskTraceData TraceKind) → IsEndAt f p outcome → IsEndAt f p other → outcome ≡ other
 end_once f HeaderExpected outcome other one two = one ∙ sym two
@@ -172,14 +180,14 @@ end_comes : (f : FollowingData) (p : Progress) → (outcome : Outcome TaskTraceD
 end_comes f HeaderExpected = (Fails NoEvents, refl)
 end_comes f ProcessorsExpected = (Fails NoEvents, refl)
 end_comes f (Listed c) = (Fails NoEvents, refl)
-end_comes f (Tracing c) = (Leads (record { set = c.set; passages = f.passages }), refl)
+end_comes f (Tracing c) = (trace_end f c, refl)
 
-pub following_machine : IsMachine nothing_followed CanFollow IsFollowed IsFollowedEnd
-following_machine = record {
+pub following_machine : (look : SurveyData) → IsMachine nothing_followed CanFollow (IsFollowed look) IsFollowedEnd
+following_machine look = record {
   starts = tt;
-  keeps = followed_valid;
-  one_outcome = λ f line outcome other valid. line_once f f.progress line outcome other valid;
-  some_outcome = λ f line valid. line_comes f f.progress line valid;
+  keeps = followed_valid look;
+  one_outcome = λ f line outcome other valid. line_once look f f.progress line outcome other valid;
+  some_outcome = λ f line valid. line_comes look f f.progress line valid;
   one_end = λ f outcome other valid. end_once f f.progress outcome other;
   some_end = λ f valid. end_comes f f.progress;
 }

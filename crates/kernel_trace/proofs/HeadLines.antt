@@ -4,17 +4,18 @@ use Rattle.std.specs.Prelude.{OnOk}
 use Rattle.text_fields.specs.LineRule.{IsLineOutcome}
 use Rattle.kernel_trace.specs.Course.{CourseData}
 use Rattle.kernel_trace.specs.Reading.{progress_at}
+use Rattle.kernel_trace.specs.Survey.{SurveyData}
 use Rattle.kernel_trace.specs.TraceFault.{trace_kind}
 use Rattle.kernel_trace.specs.TraceText.{LineOutcome, IsHeadOutcome, IsLine}
 use Rattle.kernel_trace.specs.declared.stage.Step.{Step}
 use Rattle.kernel_trace.specs.declared.stage.Step.TheVariants as step
 
-pub head_line : (s : Step) (c : CourseData) (line : List ℕ) (outcome : LineOutcome) → (s ≡ step.Trace → ⊥)
-    → IsLineOutcome 4096 true trace_kind IsHeadOutcome (progress_at s c) line outcome → IsLine (progress_at s c) line outcome
-head_line step.Header c line outcome head comes = comes
-head_line step.Processors c line outcome head comes = comes
-head_line step.Head c line outcome head comes = comes
-head_line step.Trace c line outcome head comes = absurd (head refl)
+pub head_line : (look : SurveyData) (s : Step) (c : CourseData) (line : List ℕ) (outcome : LineOutcome) → (s ≡ step.Trace → ⊥)
+    → IsLineOutcome 4096 true trace_kind IsHeadOutcome (progress_at s c) line outcome → IsLine look (progress_at s c) line outcome
+head_line look step.Header c line outcome head comes = comes
+head_line look step.Processors c line outcome head comes = comes
+head_line look step.Head c line outcome head comes = comes
+head_line look step.Trace c line outcome head comes = absurd (head refl)
 
 pub on_ok : {A E : Type 0} {P Q : Type 0} (result : Result A E) → (P → Q) → OnOk result P → OnOk result Q
 on_ok (Ok value) then holds = then holds

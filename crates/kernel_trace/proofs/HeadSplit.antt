@@ -7,6 +7,7 @@ use Rattle.text_fields.specs.Machine.{Leads, Fails, Leading}
 use Rattle.kernel_trace.specs.Course.{CourseData, WindowData}
 use Rattle.kernel_trace.specs.Import.{IsHead}
 use Rattle.kernel_trace.specs.Reading.{IsCourse, IsValid}
+use Rattle.kernel_trace.specs.Survey.{SurveyData}
 use Rattle.kernel_trace.specs.TraceFault.{trace_kind}
 use Rattle.kernel_trace.specs.TraceText.{TaskLine, events_line, window_of, Progress, HeaderExpected, ProcessorsExpected, Listed, Tracing, LineOutcome, without_tasks, with_listed, IsAddOutcome, window_outcome, IsListedOutcome, IsHeadOutcome, IsLine}
 use Rattle.kernel_trace.specs.declared.change.Standing.{Standing}
@@ -107,14 +108,14 @@ read_goes p line next begun (inr (inl long)) = fails_not_leads next (trace_kind 
 read_goes p line next begun (inr (inr (inl skipped))) = goes_to p (fields_of line) next p skipped.2 (begun_goes p (fields_of line) begun)
 read_goes p line next begun (inr (inr (inr says))) = fields_go p (fields_of line) next begun says.2
 
-line_goes : (p : Progress) (line : List ℕ) (next : Progress) → Begun p → IsLine p line (Leads next) → Goes p (fields_of line) next
-line_goes HeaderExpected line next begun comes = read_goes HeaderExpected line next begun comes
-line_goes ProcessorsExpected line next begun comes = read_goes ProcessorsExpected line next begun comes
-line_goes (Listed c) line next begun comes = read_goes (Listed c) line next begun comes
-line_goes (Tracing c) line next begun comes = absurd begun
+line_goes : (look : SurveyData) (p : Progress) (line : List ℕ) (next : Progress) → Begun p → IsLine look p line (Leads next) → Goes p (fields_of line) next
+line_goes look HeaderExpected line next begun comes = read_goes HeaderExpected line next begun comes
+line_goes look ProcessorsExpected line next begun comes = read_goes ProcessorsExpected line next begun comes
+line_goes look (Listed c) line next begun comes = read_goes (Listed c) line next begun comes
+line_goes look (Tracing c) line next begun comes = absurd begun
 
 -- ---- the head and the others
-module _ (Follows : ℕ → Progress → List (List ℕ) → Type 0) where
+module _ (look : SurveyData) (Follows : ℕ → Progress → List (List ℕ) → Type 0) where
   -- the lines of a head, the line `events`, and lines of a trace that follow it
   pub record Split (p : Progress) (lines : List (List ℕ)) : Type 0 where
     pub heading : List (List ℕ)
@@ -123,14 +124,14 @@ module _ (Follows : ℕ → Progress → List (List ℕ) → Type 0) where
     pub head : CourseData
     pub number : ℕ
     pub order : lines ≡ heading ++ opening ∷ rest
-    pub heads : Leading IsLine p heading (Listed head)
+    pub heads : Leading (IsLine look) p heading (Listed head)
     pub opens : fields_of opening ≡ events_line
     pub is_head : IsHead head
     pub valid : IsCourse head
     pub answer : Follows number (Tracing head) rest
 
   module _ (p : Progress) (line : List ℕ) (rest : List (List ℕ)) (number : ℕ) (begun : Begun p) where
-    more_head : (next : Progress) → IsLine p line (Leads next) → Split next rest → Split p (line ∷ rest)
+    more_head : (next : Progress) → IsLine look p line (Leads next) → Split next rest → Split p (line ∷ rest)
     more_head next comes split = record {
       heading = line ∷ split.heading;
       opening = split.opening;
@@ -145,7 +146,7 @@ module _ (Follows : ℕ → Progress → List (List ℕ) → Type 0) where
       answer = split.answer;
     }
 
-    split_next : (next : Progress) → IsLine p line (Leads next) → Goes p (fields_of line) next → IsValid next → Follows (number + 1) next rest
+    split_next : (next : Progress) → IsLine look p line (Leads next) → Goes p (fields_of line) next → IsValid next → Follows (number + 1) next rest
         → (Begun next → Split next rest) → Split p (line ∷ rest)
     split_next HeaderExpected comes goes valid answer later = more_head HeaderExpected comes (later tt)
     split_next ProcessorsExpected comes goes valid answer later = more_head ProcessorsExpected comes (later tt)
@@ -166,7 +167,7 @@ module _ (Follows : ℕ → Progress → List (List ℕ) → Type 0) where
 
   -- a line of the head leads on, and the others follow it
   abbrev pub LedOn : ℕ → Progress → List ℕ → List (List ℕ) → Type 0
-  LedOn number p line rest = (next : Progress) × IsLine p line (Leads next) × Follows (number + 1) next rest
+  LedOn number p line rest = (next : Progress) × IsLine look p line (Leads next) × Follows (number + 1) next rest
 
   module _ (never_ends : (number : ℕ) (p : Progress) → Begun p → Follows number p [] → ⊥)
       (leads : (number : ℕ) (p : Progress) (line : List ℕ) (rest : List (List ℕ)) → Begun p → Follows number p (line ∷ rest) → LedOn number p line rest) where
@@ -174,6 +175,6 @@ module _ (Follows : ℕ → Progress → List (List ℕ) → Type 0) where
     head_split number p [] begun valid follows = absurd (never_ends number p begun follows)
     head_split number p (line ∷ rest) begun valid follows =
         let next = leads number p line rest begun follows in
-        let valid_next : IsValid next.0 = line_valid p line next.0 valid next.1 in
-        split_next p line rest number begun next.0 next.1 (line_goes p line next.0 begun next.1) valid_next next.2
+        let valid_next : IsValid next.0 = line_valid look p line next.0 valid next.1 in
+        split_next p line rest number begun next.0 next.1 (line_goes look p line next.0 begun next.1) valid_next next.2
         (λ more. head_split (number + 1) next.0 rest more valid_next next.2)

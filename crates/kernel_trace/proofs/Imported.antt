@@ -13,15 +13,16 @@ use Rattle.trace_reader.specs.Input.{InputData}
 use Rattle.trace_reader.specs.declared.posted.Posted.{Posted}
 use Rattle.text_fields.specs.Lines.{lines_of, fields_of}
 use Rattle.text_fields.specs.Machine.{Outcome, Leads, Fails, Answer, IsText, Refuses, answer_at_end, IsAnswer}
-use Rattle.kernel_trace.specs.Course.{CourseData, WindowData, mentions, is_unseen, is_backward, is_in_window, on_first_stream, last_tick, ticks, between, passed, written, event_of, after_mention, after_mentions, agrees, is_ready, standing_of}
+use Rattle.kernel_trace.specs.Course.{CourseData, WindowData, mentions, is_unseen, is_backward, is_in_window, on_first_stream, last_tick, ticks, between, passed, written, event_of, after_mention, after_mentions, agrees, is_ready, standing_of, names_task}
 use Rattle.kernel_trace.specs.Import.{after_said, course_after, mentions_said, AllChange, all_units, ReadyChange, ready_changes, changes_said, changes_in, changes_made, times_of, time_said, used_times, first_time, last_time, Lasts, told_by, all_told, IsHead, IsWrittenBy, IsImport, ImportIsFaithful}
 use Rattle.kernel_trace.specs.Reading.{AreTasks}
+use Rattle.kernel_trace.specs.Survey.{SurveyData, survey_of, is_gap}
 use Rattle.kernel_trace.specs.TraceLine.{Said, Nothing, LostEvents, Malformed, Happened, said_by}
 use Rattle.kernel_trace.specs.TraceText.{Progress, HeaderExpected, ProcessorsExpected, Listed, Tracing, LineOutcome, counted_outcome, used_outcome, timed_outcome, said_outcome, IsLine, input_of, IsEndOutcome}
 use Rattle.kernel_trace.specs.declared.change.Change.{Change}
 use Rattle.kernel_trace.specs.declared.change.Mention.{Mention}
 use Rattle.kernel_trace.specs.declared.fault.TraceKind.{TraceKind}
-use Rattle.kernel_trace.specs.declared.fault.TraceKind.TheVariants.{Backward, Lost, BadForm, Unseen, ManyEvents, NoEvents}
+use Rattle.kernel_trace.specs.declared.fault.TraceKind.TheVariants.{Backward, Lost, BadForm, Unseen, ManyEvents, NoEvents, Overwritten, NothingSaid}
 use Rattle.kernel_trace.proofs.Courses.{step_by, last_some, million}
 use Rattle.kernel_trace.proofs.Decided.{same_next, fails_not_leads, not_above}
 use Rattle.kernel_trace.proofs.HeadSplit.{Begun, Split, LedOn, head_split}
@@ -29,22 +30,22 @@ use Rattle.kernel_trace.proofs.Imports.{fold_append, units_append, written_units
 
 -- ---- the head
 -- the answer to some lines is this input
-abbrev IsRest : InputData → ℕ → Progress → List (List ℕ) → Type 0
-IsRest input number p lines = IsAnswer IsLine IsEndOutcome number p lines (IsText input)
+abbrev IsRest : SurveyData → InputData → ℕ → Progress → List (List ℕ) → Type 0
+IsRest look input number p lines = IsAnswer (IsLine look) IsEndOutcome number p lines (IsText input)
 
 text_not_refused : {A : Type 0} (input : InputData) (number : ℕ) (kind : TraceKind)
     → ◌≡◌ {A = Answer InputData TraceKind} (IsText input) (Refuses number kind) → A
 text_not_refused input number kind e = cc
 
-module _ (input : InputData) where
-  no_end : (number : ℕ) (p : Progress) → Begun p → IsRest input number p [] → ⊥
+module _ (look : SurveyData) (input : InputData) where
+  no_end : (number : ℕ) (p : Progress) → Begun p → IsRest look input number p [] → ⊥
   no_end number HeaderExpected begun (last, ends, e) = text_not_refused input number NoEvents (e ∙ ap (answer_at_end number) ends)
   no_end number ProcessorsExpected begun (last, ends, e) = text_not_refused input number NoEvents (e ∙ ap (answer_at_end number) ends)
   no_end number (Listed c) begun (last, ends, e) = text_not_refused input number NoEvents (e ∙ ap (answer_at_end number) ends)
   no_end number (Tracing c) begun follows = absurd begun
 
-  line_leads : (number : ℕ) (p : Progress) (line : List ℕ) (rest : List (List ℕ)) → Begun p → IsRest input number p (line ∷ rest)
-      → LedOn (IsRest input) number p line rest
+  line_leads : (number : ℕ) (p : Progress) (line : List ℕ) (rest : List (List ℕ)) → Begun p → IsRest look input number p (line ∷ rest)
+      → LedOn look (IsRest look input) number p line rest
   line_leads number p line rest begun (inl (kind, comes, e)) = text_not_refused input number kind e
   line_leads number p line rest begun (inr led) = led
 
@@ -108,9 +109,16 @@ said_leads c (Happened time change) next e = by (is_backward c.last time) refl e
     by false is e = (timed_leads (is_in_window c.window time) c time change next e, not_backward c.last time is)
 
 -- no line is before the one before it
-abbrev AllForward : CourseData → List (List ℕ) → Type 0
-AllForward c [] = Unit {0}
-AllForward c (line ∷ rest) = Forward c (said_by (fields_of line)) × AllForward (after_said c (said_by (fields_of line))) rest
+abbrev AllForward : Bool → CourseData → List (List ℕ) → Type 0
+AllForward waking c [] = Unit {0}
+AllForward waking c (line ∷ rest) = Forward c (said_by waking (fields_of line)) × AllForward waking (after_said c (said_by waking (fields_of line))) rest
+
+-- a line that leads on has no gap before it
+whole_leads : (b : Bool) (c : CourseData) (said : Said) (next : Progress)
+    → ◌≡◌ {A = LineOutcome} (Leads next) (if b then Fails Overwritten else said_outcome c said)
+    → ◌≡◌ {A = LineOutcome} (Leads next) (said_outcome c said)
+whole_leads true c said next e = fails_not_leads next Overwritten e
+whole_leads false c said next e = e
 
 text_input : (c : CourseData) (input : InputData) (number : ℕ) (last : Outcome InputData TraceKind) → last ≡ Leads (input_of c)
     → ◌≡◌ {A = Answer InputData TraceKind} (IsText input) (answer_at_end number last) → input ≡ input_of c
@@ -119,20 +127,28 @@ text_input c input number last ends e = same (e ∙ ap (answer_at_end number) en
     same : ◌≡◌ {A = Answer InputData TraceKind} (IsText input) (IsText (input_of c)) → input ≡ input_of c
     same e = cc
 
-trace_leads : (number : ℕ) (c : CourseData) (lines : List (List ℕ)) (input : InputData) → IsRest input number (Tracing c) lines
-    → AllForward c lines × (input ≡ input_of (course_after c lines))
-trace_leads number c [] input (last, ends, e) = (tt, text_input c input number last ends e)
-trace_leads number c (line ∷ rest) input (inl (kind, comes, e)) = text_not_refused input number kind e
-trace_leads number c (line ∷ rest) input (inr (next, comes, answer)) =
-    let said : Said = said_by (fields_of line) in
-    let leads = said_leads c said next comes in
-    let later = trace_leads (number + 1) (after_said c said) rest input (subst (λ (p : Progress). IsRest input (number + 1) p rest) leads.0 answer) in
+-- the end of a trace of an input
+ended : (b : Bool) (c : CourseData) (input : InputData) (number : ℕ) (last : Outcome InputData TraceKind)
+    → last ≡ (if b then Leads (input_of c) else Fails NothingSaid)
+    → ◌≡◌ {A = Answer InputData TraceKind} (IsText input) (answer_at_end number last) → input ≡ input_of c
+ended true c input number last ends e = text_input c input number last ends e
+ended false c input number last ends e = text_not_refused input number NothingSaid (e ∙ ap (answer_at_end number) ends)
+
+trace_leads : (look : SurveyData) (number : ℕ) (c : CourseData) (lines : List (List ℕ)) (input : InputData) → IsRest look input number (Tracing c) lines
+    → AllForward look.waking c lines × (input ≡ input_of (course_after look.waking c lines))
+trace_leads look number c [] input (last, ends, e) = (tt, ended (names_task c.standings) c input number last ends e)
+trace_leads look number c (line ∷ rest) input (inl (kind, comes, e)) = text_not_refused input number kind e
+trace_leads look number c (line ∷ rest) input (inr (next, comes, answer)) =
+    let said : Said = said_by look.waking (fields_of line) in
+    let leads = said_leads c said next (whole_leads (is_gap look c.window (fields_of line)) c said next comes) in
+    let later = trace_leads look (number + 1) (after_said c said) rest input
+    (subst (λ (p : Progress). IsRest look input (number + 1) p rest) leads.0 answer) in
     ((leads.1, later.0), later.1)
 
 -- the first lines of some lines
-forward_first : (c : CourseData) (first rest : List (List ℕ)) → AllForward c (first ++ rest) → AllForward c first
-forward_first c [] rest all = tt
-forward_first c (line ∷ first) rest all = (all.0, forward_first (after_said c (said_by (fields_of line))) first rest all.1)
+forward_first : (waking : Bool) (c : CourseData) (first rest : List (List ℕ)) → AllForward waking c (first ++ rest) → AllForward waking c first
+forward_first waking c [] rest all = tt
+forward_first waking c (line ∷ first) rest all = (all.0, forward_first waking (after_said c (said_by waking (fields_of line))) first rest all.1)
 
 -- ---- times
 last_append : (times : List ℕ) (time : ℕ) → last_time (times ++ time ∷ []) ≡ Some time
@@ -347,7 +363,7 @@ mentions_timed c ms (m ∷ more) changes times time now tells tasks timed =
     (λ d found is tells tasks timed. mentions_timed d (ms ++ m ∷ []) more found times time is tells tasks timed)
 
 -- ---- lines, one after another
-module _ (head : CourseData) (one_each : length head.standings ≡ length head.ids) where
+module _ (waking : Bool) (head : CourseData) (one_each : length head.standings ≡ length head.ids) where
   timed_line : (b : Bool) (c : CourseData) (ms : List Mention) (changes : List ReadyChange) (times : List ℕ) (time : ℕ) (change : Change)
       → Follows head c ms → AtMost c.last (Some time) → Timed c changes times
       → Timed (if b then after_mentions (record c { last = Some time; used = Some time }) (mentions c.ids change) else record c { last = Some time })
@@ -366,7 +382,7 @@ module _ (head : CourseData) (one_each : length head.standings ≡ length head.i
         alone = timed.alone;
       } in
       mentions_timed now ms (mentions c.ids change) changes (times ++ time ∷ []) time refl tells_now
-      (known_tasks head one_each c change follows.stays) timed_now
+      (known_tasks waking head one_each c change follows.stays) timed_now
   timed_line false c ms changes times time change follows forward timed =
       let later : CourseData = record c { last = Some time } in
       let timed_now : Timed later changes times = record {
@@ -401,20 +417,20 @@ module _ (head : CourseData) (one_each : length head.standings ≡ length head.i
       (subst (λ (ids : List ℕ). P ids c.window) stays.ids (timed_line (is_in_window c.window time) c ms changes times time change follows forward timed))
 
   lines_timed : (c : CourseData) (ms : List Mention) (changes : List ReadyChange) (times : List ℕ) (lines : List (List ℕ))
-      → Follows head c ms → AllForward c lines → Timed c changes times
-      → Timed (course_after c lines) (changes ++ changes_in head.ids head.window ms lines) (times ++ used_times head.window lines)
+      → Follows head c ms → AllForward waking c lines → Timed c changes times
+      → Timed (course_after waking c lines) (changes ++ changes_in waking head.ids head.window ms lines) (times ++ used_times waking head.window lines)
   lines_timed c ms changes times [] follows forward timed = same_timed c changes times timed
   lines_timed c ms changes times (line ∷ rest) follows forward timed =
-      let said : Said = said_by (fields_of line) in
+      let said : Said = said_by waking (fields_of line) in
       let made = changes_said head.ids head.window ms said in
       let used = time_said head.window said in
       let later = ms ++ mentions_said head.ids head.window said in
       let next = lines_timed (after_said c said) later (changes ++ made) (times ++ used) rest
-      (said_follows head one_each c ms said follows) forward.1 (said_timed c ms changes times said follows forward.0 timed) in
-      subst (λ (all : List ReadyChange). Timed (course_after c (line ∷ rest)) all (times ++ (used ++ used_times head.window rest)))
-      (append_assoc changes made (changes_in head.ids head.window later rest))
-      (subst (Timed (course_after c (line ∷ rest)) ((changes ++ made) ++ changes_in head.ids head.window later rest))
-      (append_assoc times used (used_times head.window rest)) next)
+      (said_follows waking head one_each c ms said follows) forward.1 (said_timed c ms changes times said follows forward.0 timed) in
+      subst (λ (all : List ReadyChange). Timed (course_after waking c (line ∷ rest)) all (times ++ (used ++ used_times waking head.window rest)))
+      (append_assoc changes made (changes_in waking head.ids head.window later rest))
+      (subst (Timed (course_after waking c (line ∷ rest)) ((changes ++ made) ++ changes_in waking head.ids head.window later rest))
+      (append_assoc times used (used_times waking head.window rest)) next)
 
   head_timed : IsHead head → Timed head [] []
   head_timed is = record {
@@ -427,9 +443,9 @@ module _ (head : CourseData) (one_each : length head.standings ≡ length head.i
     alone = subst (All IsAlone) (sym is.no_events) (All-nil IsAlone);
   }
 
-  trace_timed : IsHead head → (lines : List (List ℕ)) → AllForward head lines
-      → Timed (course_after head lines) (changes_in head.ids head.window [] lines) (used_times head.window lines)
-  trace_timed is lines forward = lines_timed head [] [] [] lines (head_follows head one_each is) forward (head_timed is)
+  trace_timed : IsHead head → (lines : List (List ℕ)) → AllForward waking head lines
+      → Timed (course_after waking head lines) (changes_in waking head.ids head.window [] lines) (used_times waking head.window lines)
+  trace_timed is lines forward = lines_timed head [] [] [] lines (head_follows waking head one_each is) forward (head_timed is)
 
 -- ---- events only come after others
 abbrev Extends : CourseData → CourseData → Type 0
@@ -462,26 +478,26 @@ said_extends c (Happened time change) = by (is_in_window c.window time)
     by true = mentions_extend (record c { last = Some time; used = Some time }) (mentions c.ids change)
     by false = ([], sym (append-nil c.events))
 
-lines_extend : (c : CourseData) (lines : List (List ℕ)) → Extends c (course_after c lines)
-lines_extend c [] = ([], sym (append-nil c.events))
-lines_extend c (line ∷ rest) =
-    let said : Said = said_by (fields_of line) in
-    extends_over c (after_said c said) (course_after c (line ∷ rest)) (said_extends c said) (lines_extend (after_said c said) rest)
+lines_extend : (waking : Bool) (c : CourseData) (lines : List (List ℕ)) → Extends c (course_after waking c lines)
+lines_extend waking c [] = ([], sym (append-nil c.events))
+lines_extend waking c (line ∷ rest) =
+    let said : Said = said_by waking (fields_of line) in
+    extends_over c (after_said c said) (course_after waking c (line ∷ rest)) (said_extends c said) (lines_extend waking (after_said c said) rest)
 
 -- ---- the import
-module _ (head : CourseData) (one_each : length head.standings ≡ length head.ids) (is : IsHead head) where
+module _ (waking : Bool) (head : CourseData) (one_each : length head.standings ≡ length head.ids) (is : IsHead head) where
   -- the first lines have written the first events
-  first_written : (first rest : List (List ℕ)) → AllForward head (first ++ rest)
-      → IsWrittenBy head.ids head.window first (written (course_after head (first ++ rest)))
+  first_written : (first rest : List (List ℕ)) → AllForward waking head (first ++ rest)
+      → IsWrittenBy waking head.ids head.window first (written (course_after waking head (first ++ rest)))
   first_written first rest forward =
-      let c : CourseData = course_after head first in
-      let all = lines_follow head one_each head [] first (head_follows head one_each is) in
+      let c : CourseData = course_after waking head first in
+      let all = lines_follow waking head one_each head [] first (head_follows waking head one_each is) in
       let tells = all.tells in
-      let timed = trace_timed head one_each is first (forward_first head first rest forward) in
-      let whole : course_after head (first ++ rest) ≡ course_after c rest =
-      fold_append (λ (known : CourseData) (line : List ℕ). after_said known (said_by (fields_of line))) head first rest in
-      let more = lines_extend c rest in
-      let last = ticks (passed (course_after c rest)) in
+      let timed = trace_timed waking head one_each is first (forward_first waking head first rest forward) in
+      let whole : course_after waking head (first ++ rest) ≡ course_after waking c rest =
+      fold_append (λ (known : CourseData) (line : List ℕ). after_said known (said_by waking (fields_of line))) head first rest in
+      let more = lines_extend waking c rest in
+      let last = ticks (passed (course_after waking c rest)) in
       record {
         events = c.events;
         later = more.0 ++ last;
@@ -491,20 +507,20 @@ module _ (head : CourseData) (one_each : length head.standings ≡ length head.i
         time = timed.lasts;
       }
 
-  each_written : (lines : List (List ℕ)) → AllForward head lines → (n : ℕ)
-      → IsWrittenBy head.ids head.window (take n lines) (written (course_after head lines))
+  each_written : (lines : List (List ℕ)) → AllForward waking head lines → (n : ℕ)
+      → IsWrittenBy waking head.ids head.window (take n lines) (written (course_after waking head lines))
   each_written lines forward n =
       let whole = take-append-drop n lines in
-      subst (λ (all : List (List ℕ)). IsWrittenBy head.ids head.window (take n lines) (written (course_after head all))) whole
-      (first_written (take n lines) (drop n lines) (subst (AllForward head) (sym whole) forward))
+      subst (λ (all : List (List ℕ)). IsWrittenBy waking head.ids head.window (take n lines) (written (course_after waking head all))) whole
+      (first_written (take n lines) (drop n lines) (subst (AllForward waking head) (sym whole) forward))
 
-  whole_lasts : (lines : List (List ℕ)) → AllForward head lines
-      → (let times = times_of (changes_in head.ids head.window [] lines) in
-      Lasts (first_time times) (last_time (used_times head.window lines)) (all_units (written (course_after head lines))))
+  whole_lasts : (lines : List (List ℕ)) → AllForward waking head lines
+      → (let times = times_of (changes_in waking head.ids head.window [] lines) in
+      Lasts (first_time times) (last_time (used_times waking head.window lines)) (all_units (written (course_after waking head lines))))
   whole_lasts lines forward =
-      let c : CourseData = course_after head lines in
-      let timed = trace_timed head one_each is lines forward in
-      let times = times_of (changes_in head.ids head.window [] lines) in
+      let c : CourseData = course_after waking head lines in
+      let timed = trace_timed waking head one_each is lines forward in
+      let times = times_of (changes_in waking head.ids head.window [] lines) in
       let since : AtMost (last_time times) c.used = subst (λ (clock : Option ℕ). AtMost clock c.used) timed.clock timed.since in
       let lasts = lasts_more times c.used (all_units c.events) timed.lasts since in
       let passes : passed c ≡ between (last_time times) c.used = ap (λ (clock : Option ℕ). between clock c.used) timed.clock in
@@ -513,34 +529,39 @@ module _ (head : CourseData) (one_each : length head.standings ≡ length head.i
       subst (λ (used : Option ℕ). Lasts (first_time times) used (all_units (written c))) timed.used
       (subst (λ (n : ℕ). Lasts (first_time times) c.used n) (sym units) lasts)
 
-  written_alone : (lines : List (List ℕ)) → AllForward head lines → All IsAlone (written (course_after head lines))
+  written_alone : (lines : List (List ℕ)) → AllForward waking head lines → All IsAlone (written (course_after waking head lines))
   written_alone lines forward =
-      let c : CourseData = course_after head lines in
-      let timed = trace_timed head one_each is lines forward in
+      let c : CourseData = course_after waking head lines in
+      let timed = trace_timed waking head one_each is lines forward in
       All-append IsAlone c.events (ticks (passed c)) timed.alone (alone_ticks (passed c))
 
-  all_change : (lines : List (List ℕ)) → AllChange [] (written (course_after head lines))
+  all_change : (lines : List (List ℕ)) → AllChange [] (written (course_after waking head lines))
   all_change lines =
-      let all = lines_follow head one_each head [] lines (head_follows head one_each is) in
+      let all = lines_follow waking head one_each head [] lines (head_follows waking head one_each is) in
       let tells = all.tells in
-      change_written (course_after head lines) tells.changing
+      change_written (course_after waking head lines) tells.changing
 
-  same_set : (lines : List (List ℕ)) → (course_after head lines).set ≡ head.set
+  same_set : (lines : List (List ℕ)) → (course_after waking head lines).set ≡ head.set
   same_set lines =
-      let all = lines_follow head one_each head [] lines (head_follows head one_each is) in
+      let all = lines_follow waking head one_each head [] lines (head_follows waking head one_each is) in
       let stays = all.stays in
       stays.set
 
-of_split : (bytes : List ℕ) (input : InputData) → Split (IsRest input) HeaderExpected (lines_of bytes) → IsImport bytes input
+of_split : (bytes : List ℕ) (input : InputData)
+    → (let look = survey_of (lines_of bytes) in Split look (IsRest look input) HeaderExpected (lines_of bytes)) → IsImport bytes input
 of_split bytes input split =
+    let look : SurveyData = survey_of (lines_of bytes) in
+    let waking : Bool = look.waking in
     let head : CourseData = split.head in
     let valid = split.valid in
     let one_each : length head.standings ≡ length head.ids = valid.standings ∙ sym valid.ids in
-    let leads = trace_leads split.number head split.rest input split.answer in
+    let leads = trace_leads look split.number head split.rest input split.answer in
     let forward = leads.0 in
-    let events : input.events ≡ written (course_after head split.rest) = ap (λ (input : InputData). input.events) leads.1 in
-    let alone = subst (All IsAlone) (sym events) (written_alone head one_each split.is_head split.rest forward) in
+    let events : input.events ≡ written (course_after waking head split.rest) = ap (λ (input : InputData). input.events) leads.1 in
+    let alone = subst (All IsAlone) (sym events) (written_alone waking head one_each split.is_head split.rest forward) in
     record {
+      look = look;
+      surveyed = refl;
       heading = split.heading;
       opening = split.opening;
       lines = split.rest;
@@ -550,18 +571,20 @@ of_split bytes input split =
       opens = split.opens;
       no_line = split.is_head;
       version = ap (λ (input : InputData). input.version) leads.1;
-      set = ap (λ (input : InputData). input.set) leads.1 ∙ same_set head one_each split.is_head split.rest;
+      set = ap (λ (input : InputData). input.set) leads.1 ∙ same_set waking head one_each split.is_head split.rest;
       one_stream = All-weaker IsAlone (λ (posted : Posted). posted.stream ≡ 0) (λ posted alone. alone.0) input.events alone;
       each = λ n.
-          subst (IsWrittenBy head.ids head.window (take n split.rest)) (sym events)
-          (each_written head one_each split.is_head split.rest forward n);
+          subst (IsWrittenBy waking head.ids head.window (take n split.rest)) (sym events)
+          (each_written waking head one_each split.is_head split.rest forward n);
       time =
-          let times = times_of (changes_in head.ids head.window [] split.rest) in
-          subst (λ (all : List Posted). Lasts (first_time times) (last_time (used_times head.window split.rest)) (all_units all)) (sym events)
-          (whole_lasts head one_each split.is_head split.rest forward);
-      changing = subst (AllChange []) (sym events) (all_change head one_each split.is_head split.rest);
+          let times = times_of (changes_in waking head.ids head.window [] split.rest) in
+          subst (λ (all : List Posted). Lasts (first_time times) (last_time (used_times waking head.window split.rest)) (all_units all)) (sym events)
+          (whole_lasts waking head one_each split.is_head split.rest forward);
+      changing = subst (AllChange []) (sym events) (all_change waking head one_each split.is_head split.rest);
       short = All-weaker IsAlone (λ (posted : Posted). HasUnits posted.event) (λ posted alone. alone.1) input.events alone;
     }
 
 pub import_is_faithful : ImportIsFaithful
-import_is_faithful bytes input is = of_split bytes input (head_split (IsRest input) (no_end input) (line_leads input) 1 HeaderExpected (lines_of bytes) tt tt is)
+import_is_faithful bytes input is =
+    let look : SurveyData = survey_of (lines_of bytes) in
+    of_split bytes input (head_split look (IsRest look input) (no_end look input) (line_leads look input) 1 HeaderExpected (lines_of bytes) tt tt is)

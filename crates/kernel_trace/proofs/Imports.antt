@@ -249,7 +249,7 @@ pub record Follows (head c : CourseData) (ms : List Mention) : Type 0 where
   pub tells : Tells c ms
   pub stays : Stays head c
 
-module _ (head : CourseData) (one_each : length head.standings ≡ length head.ids) where
+module _ (waking : Bool) (head : CourseData) (one_each : length head.standings ≡ length head.ids) where
   -- the tasks of mentions are among those that are known
   pub known_tasks : (c : CourseData) (change : Change) → Stays head c → AreTasks (length c.standings) (mentions c.ids change)
   known_tasks c change stays =
@@ -295,12 +295,12 @@ module _ (head : CourseData) (one_each : length head.standings ≡ length head.i
       (subst (λ (ids : List ℕ). P ids c.window) stays.ids (timed_follows (is_in_window c.window time) c ms time change follows))
 
   pub lines_follow : (c : CourseData) (ms : List Mention) (lines : List (List ℕ)) → Follows head c ms
-      → Follows head (course_after c lines) (ms ++ mentions_in head.ids head.window lines)
+      → Follows head (course_after waking c lines) (ms ++ mentions_in waking head.ids head.window lines)
   lines_follow c ms [] follows = unchanged c ms follows
   lines_follow c ms (line ∷ rest) follows =
-      let said : Said = said_by (fields_of line) in
+      let said : Said = said_by waking (fields_of line) in
       let first = said_follows c ms said follows in
-      subst (Follows head (course_after c (line ∷ rest))) (append_assoc ms (mentions_said head.ids head.window said) (mentions_in head.ids head.window rest))
+      subst (Follows head (course_after waking c (line ∷ rest))) (append_assoc ms (mentions_said head.ids head.window said) (mentions_in waking head.ids head.window rest))
       (lines_follow (after_said c said) (ms ++ mentions_said head.ids head.window said) rest first)
 
   -- from a head on
@@ -314,10 +314,10 @@ module _ (head : CourseData) (one_each : length head.standings ≡ length head.i
     stays = record { set = refl; ids = refl; window = refl; standings = refl };
   }
 
-  trace_follows : IsHead head → (lines : List (List ℕ)) → Tells (course_after head lines) (mentions_in head.ids head.window lines)
+  trace_follows : IsHead head → (lines : List (List ℕ)) → Tells (course_after waking head lines) (mentions_in waking head.ids head.window lines)
   trace_follows is lines = let all = lines_follow head [] lines (head_follows is) in all.tells
 
 pub ready_as_mentioned : ReadyAsMentioned
-ready_as_mentioned head lines is one_each =
-    let tells = trace_follows head one_each is lines in
+ready_as_mentioned waking head lines is one_each =
+    let tells = trace_follows waking head one_each is lines in
     ((λ t. (tells.ready t ∙ sym (tells.said t))), tells.changing)

@@ -2,6 +2,7 @@ mod Positions
 mod FieldCuts
 mod FieldLists
 mod LinesRead
+mod Surveys
 mod HeadLines
 mod LossLines
 mod DigitValues

@@ -1,56 +1,65 @@
 -- What is read of a trace are its passages.
-use Rattle.std.proofs.Common.{◌≡◌, ℕ, zero, suc, ◌+◌, List, [], ◌∷◌, ◌++◌, length, take, None, refl, sym, ap, ◌∙◌, subst, inl, inr, append_assoc, append-nil}
-use Rattle.std.specs.Prelude.{All}
+use Rattle.std.proofs.Common.{◌≡◌, ℕ, zero, suc, ◌+◌, Bool, true, false, List, [], ◌∷◌, ◌++◌, length, take, None, refl, sym, ap, ◌∙◌, subst, inl, inr, append_assoc, append-nil}
+use Rattle.std.specs.Prelude.{All, if◌then◌else◌}
 use Rattle.std.proofs.lemmas.List.Elements.{All-nil}
 use Rattle.text_fields.specs.Lines.{lines_of, fields_of}
-use Rattle.text_fields.specs.Machine.{Outcome, Leads, Answer, IsText, Refuses, answer_at_end, IsAnswer}
-use Rattle.kernel_trace.specs.Course.{CourseData, is_ready}
+use Rattle.text_fields.specs.Machine.{Outcome, Leads, Fails, Answer, IsText, Refuses, answer_at_end, IsAnswer}
+use Rattle.kernel_trace.specs.Course.{CourseData, is_ready, names_task}
 use Rattle.kernel_trace.specs.Import.{mentions_said, mentions_in, is_last_in, IsHead}
-use Rattle.kernel_trace.specs.Passage.{FollowingData, TaskTraceData, IsFollowed, IsFollowedEnd, IsLineAt, IsEndAt, IsOfHead}
+use Rattle.kernel_trace.specs.Passage.{FollowingData, FollowingOutcome, TaskTraceData, IsFollowed, IsFollowedEnd, IsLineAt, IsEndAt, IsOfHead}
 use Rattle.kernel_trace.specs.Passages.{UsedLine, used_said, used_lines, from_turn, passages_since, all_changes, NeverFall, AllTurn, IsPassageOf, IsTaskTrace, PassagesAreFaithful}
 use Rattle.kernel_trace.specs.Processor.{processor_of}
 use Rattle.kernel_trace.specs.Reading.{IsCourse}
+use Rattle.kernel_trace.specs.Survey.{SurveyData, survey_of, is_gap}
 use Rattle.kernel_trace.specs.TraceLine.{Said as SaidData, said_by}
 use Rattle.kernel_trace.specs.TraceText.{Progress, HeaderExpected, ProcessorsExpected, Listed, Tracing, IsLine}
 use Rattle.kernel_trace.specs.declared.change.Mention.{Mention}
 use Rattle.kernel_trace.specs.declared.fault.TraceKind.{TraceKind}
-use Rattle.kernel_trace.specs.declared.fault.TraceKind.TheVariants.{NoEvents}
+use Rattle.kernel_trace.specs.declared.fault.TraceKind.TheVariants.{NoEvents, Overwritten, NothingSaid}
 use Rattle.kernel_trace.specs.declared.passage.Passage.{Passage}
-use Rattle.kernel_trace.proofs.Followed.{head_leads}
+use Rattle.kernel_trace.proofs.Followed.{head_leads, faulty}
 use Rattle.kernel_trace.proofs.HeadSplit.{Begun, Split, LedOn, head_split}
 use Rattle.kernel_trace.proofs.Kept.{Kept, Stepped, said_steps}
 
-abbrev IsRest : ℕ → FollowingData → List (List ℕ) → TaskTraceData → Type 0
-IsRest number f lines trace = IsAnswer IsFollowed IsFollowedEnd number f lines (IsText trace)
+abbrev IsRest : SurveyData → ℕ → FollowingData → List (List ℕ) → TaskTraceData → Type 0
+IsRest look number f lines trace = IsAnswer (IsFollowed look) IsFollowedEnd number f lines (IsText trace)
 
 refused_text : {A : Type 0} (trace : TaskTraceData) (number : ℕ) (kind : TraceKind)
     → ◌≡◌ {A = Answer TaskTraceData TraceKind} (IsText trace) (Refuses number kind) → A
 refused_text trace number kind e = cc
 
+-- a line that leads on has no gap before it
+whole_leads : (b : Bool) (f next : FollowingData) (outcome : FollowingOutcome)
+    → ◌≡◌ {A = FollowingOutcome} (Leads next) (if b then Fails Overwritten else outcome) → ◌≡◌ {A = FollowingOutcome} (Leads next) outcome
+whole_leads true f next outcome e = faulty next Overwritten e
+whole_leads false f next outcome e = e
+
 -- ---- lines of the trace
-module _ (head : CourseData) (trace : TaskTraceData) where
+module _ (look : SurveyData) (head : CourseData) (trace : TaskTraceData) where
   abbrev made : List Mention → List (List ℕ) → List Mention
-  made ms lines = ms ++ mentions_in head.ids head.window lines
+  made ms lines = ms ++ mentions_in look.waking head.ids head.window lines
 
   abbrev met : List Mention → List UsedLine → List (List ℕ) → List UsedLine
-  met ms used lines = used ++ used_lines head.ids head.window ms lines
+  met ms used lines = used ++ used_lines look.waking head.ids head.window ms lines
 
   -- one line
   line_steps : (c : CourseData) (f next : FollowingData) (ms : List Mention) (used : List UsedLine) (line : List ℕ) → f.progress ≡ Tracing c
-      → Kept head c f ms used → IsFollowed f line (Leads next)
-      → Stepped head f.passages next (ms ++ mentions_said head.ids head.window (said_by (fields_of line)))
-      (used ++ used_said head.ids head.window ms (said_by (fields_of line)) (processor_of (fields_of line)))
+      → Kept head c f ms used → IsFollowed look f line (Leads next)
+      → Stepped head f.passages next (ms ++ mentions_said head.ids head.window (said_by look.waking (fields_of line)))
+      (used ++ used_said head.ids head.window ms (said_by look.waking (fields_of line)) (processor_of look.waking (fields_of line)))
   line_steps c f next ms used line expects kept comes =
-      said_steps head c f next ms used kept (said_by (fields_of line)) (processor_of (fields_of line)) expects
-      (subst (λ (p : Progress). IsLineAt f p line (Leads next)) expects comes)
+      said_steps head c f next ms used kept (said_by look.waking (fields_of line)) (processor_of look.waking (fields_of line)) expects
+      (whole_leads (is_gap look c.window (fields_of line)) f next _ (subst (λ (p : Progress). IsLineAt look f p line (Leads next)) expects comes))
 
-  at_end : (number : ℕ) (f : FollowingData) (c : CourseData) (last : Outcome TaskTraceData TraceKind) → last ≡ Leads (record { set = c.set; passages = f.passages })
+  at_end : (b : Bool) (number : ℕ) (f : FollowingData) (c : CourseData) (last : Outcome TaskTraceData TraceKind)
+      → last ≡ (if b then Leads (record { set = c.set; passages = f.passages }) else Fails NothingSaid)
       → ◌≡◌ {A = Answer TaskTraceData TraceKind} (IsText trace) (answer_at_end number last) → trace ≡ record { set = c.set; passages = f.passages }
-  at_end number f c last ends e = same (e ∙ ap (answer_at_end number) ends)
+  at_end true number f c last ends e = same (e ∙ ap (answer_at_end number) ends)
     where
       same : ◌≡◌ {A = Answer TaskTraceData TraceKind} (IsText trace) (IsText (record { set = c.set; passages = f.passages }))
           → trace ≡ record { set = c.set; passages = f.passages }
       same e = cc
+  at_end false number f c last ends e = refused_text trace number NothingSaid (e ∙ ap (answer_at_end number) ends)
 
   -- what is known after all lines
   record Whole (ms : List Mention) (used : List UsedLine) (before : List Passage) : Type 0 where
@@ -62,9 +71,9 @@ module _ (head : CourseData) (trace : TaskTraceData) where
     grows : trace.passages ≡ before ++ later
 
   whole : (number : ℕ) (c : CourseData) (f : FollowingData) (ms : List Mention) (used : List UsedLine) (lines : List (List ℕ)) → f.progress ≡ Tracing c
-      → Kept head c f ms used → IsRest number f lines trace → Whole (made ms lines) (met ms used lines) f.passages
+      → Kept head c f ms used → IsRest look number f lines trace → Whole (made ms lines) (met ms used lines) f.passages
   whole number c f ms used [] expects kept (last, ends, e) =
-      let is = at_end number f c last (subst (λ (p : Progress). IsEndAt f p last) expects ends) e in
+      let is = at_end (names_task c.standings) number f c last (subst (λ (p : Progress). IsEndAt f p last) expects ends) e in
       subst (λ (all : List Mention). Whole all (used ++ []) f.passages) (sym (append-nil ms))
       (subst (λ (all : List UsedLine). Whole ms all f.passages) (sym (append-nil used))
       (record {
@@ -77,15 +86,15 @@ module _ (head : CourseData) (trace : TaskTraceData) where
       }))
   whole number c f ms used (line ∷ rest) expects kept (inl (kind, comes, e)) = refused_text trace number kind e
   whole number c f ms used (line ∷ rest) expects kept (inr (next, comes, answer)) =
-      let said : SaidData = said_by (fields_of line) in
+      let said : SaidData = said_by look.waking (fields_of line) in
       let step = line_steps c f next ms used line expects kept comes in
       let told = mentions_said head.ids head.window said in
-      let seen = used_said head.ids head.window ms said (processor_of (fields_of line)) in
+      let seen = used_said head.ids head.window ms said (processor_of look.waking (fields_of line)) in
       let later = whole (number + 1) step.course next (ms ++ told) (used ++ seen) rest step.expects step.kept answer in
       let all : Whole (made ms (line ∷ rest)) (met ms used (line ∷ rest)) next.passages =
-      subst (λ (ms_all : List Mention). Whole ms_all (met ms used (line ∷ rest)) next.passages) (append_assoc ms told (mentions_in head.ids head.window rest))
+      subst (λ (ms_all : List Mention). Whole ms_all (met ms used (line ∷ rest)) next.passages) (append_assoc ms told (mentions_in look.waking head.ids head.window rest))
       (subst (λ (used_all : List UsedLine). Whole (made (ms ++ told) rest) used_all next.passages)
-      (append_assoc used seen (used_lines head.ids head.window (ms ++ told) rest)) later) in
+      (append_assoc used seen (used_lines look.waking head.ids head.window (ms ++ told) rest)) later) in
       record {
         course = all.course;
         found = all.found;
@@ -104,7 +113,7 @@ module _ (head : CourseData) (trace : TaskTraceData) where
     ready : (t : ℕ) → is_last_in t (all_changes passages) ≡ is_last_in t ms
 
   here : (number : ℕ) (c : CourseData) (f : FollowingData) (ms : List Mention) (used : List UsedLine) (lines : List (List ℕ)) → f.progress ≡ Tracing c
-      → Kept head c f ms used → IsRest number f lines trace → First (ms ++ []) (used ++ [])
+      → Kept head c f ms used → IsRest look number f lines trace → First (ms ++ []) (used ++ [])
   here number c f ms used lines expects kept answer =
       let all = whole number c f ms used lines expects kept answer in
       subst (λ (all : List Mention). First all (used ++ [])) (sym (append-nil ms))
@@ -118,18 +127,18 @@ module _ (head : CourseData) (trace : TaskTraceData) where
       }))
 
   each : (n number : ℕ) (c : CourseData) (f : FollowingData) (ms : List Mention) (used : List UsedLine) (lines : List (List ℕ)) → f.progress ≡ Tracing c
-      → Kept head c f ms used → IsRest number f lines trace → First (made ms (take n lines)) (met ms used (take n lines))
+      → Kept head c f ms used → IsRest look number f lines trace → First (made ms (take n lines)) (met ms used (take n lines))
   each zero number c f ms used lines expects kept answer = here number c f ms used lines expects kept answer
   each (suc n) number c f ms used [] expects kept answer = here number c f ms used [] expects kept answer
   each (suc n) number c f ms used (line ∷ rest) expects kept (inl (kind, comes, e)) = refused_text trace number kind e
   each (suc n) number c f ms used (line ∷ rest) expects kept (inr (next, comes, answer)) =
-      let said : SaidData = said_by (fields_of line) in
+      let said : SaidData = said_by look.waking (fields_of line) in
       let step = line_steps c f next ms used line expects kept comes in
       let told = mentions_said head.ids head.window said in
-      let seen = used_said head.ids head.window ms said (processor_of (fields_of line)) in
+      let seen = used_said head.ids head.window ms said (processor_of look.waking (fields_of line)) in
       let later = each n (number + 1) step.course next (ms ++ told) (used ++ seen) rest step.expects step.kept answer in
-      subst (λ (all : List Mention). First all (met ms used (line ∷ take n rest))) (append_assoc ms told (mentions_in head.ids head.window (take n rest)))
-      (subst (First (made (ms ++ told) (take n rest))) (append_assoc used seen (used_lines head.ids head.window (ms ++ told) (take n rest))) later)
+      subst (λ (all : List Mention). First all (met ms used (line ∷ take n rest))) (append_assoc ms told (mentions_in look.waking head.ids head.window (take n rest)))
+      (subst (First (made (ms ++ told) (take n rest))) (append_assoc used seen (used_lines look.waking head.ids head.window (ms ++ told) (take n rest))) later)
 
   -- from a head on
   head_kept : IsHead head → IsCourse head → Kept head head (record { progress = Tracing head; start = None; passages = [] }) [] []
@@ -153,46 +162,50 @@ abbrev at_head : Progress → FollowingData
 at_head p = record { progress = p; start = None; passages = [] }
 
 -- the answer to some lines after a head that leads so far is this trace
-abbrev IsHeaded : TaskTraceData → ℕ → Progress → List (List ℕ) → Type 0
-IsHeaded trace number p lines = IsRest number (at_head p) lines trace
+abbrev IsHeaded : SurveyData → TaskTraceData → ℕ → Progress → List (List ℕ) → Type 0
+IsHeaded look trace number p lines = IsRest look number (at_head p) lines trace
 
-module _ (trace : TaskTraceData) where
-  no_end : (number : ℕ) (p : Progress) → Begun p → IsHeaded trace number p [] → ⊥
+module _ (look : SurveyData) (trace : TaskTraceData) where
+  no_end : (number : ℕ) (p : Progress) → Begun p → IsHeaded look trace number p [] → ⊥
   no_end number HeaderExpected begun (last, ends, e) = refused_text trace number NoEvents (e ∙ ap (answer_at_end number) ends)
   no_end number ProcessorsExpected begun (last, ends, e) = refused_text trace number NoEvents (e ∙ ap (answer_at_end number) ends)
   no_end number (Listed c) begun (last, ends, e) = refused_text trace number NoEvents (e ∙ ap (answer_at_end number) ends)
   no_end number (Tracing c) begun follows = absurd begun
 
   -- a line of the head leads on as for an input
-  of_head : (p : Progress) (line : List ℕ) (next : FollowingData) → IsOfHead (at_head p) (IsLine p line) (Leads next)
-      → (to : Progress) × IsLine p line (Leads to) × (next ≡ at_head to)
+  of_head : (p : Progress) (line : List ℕ) (next : FollowingData) → IsOfHead (at_head p) (IsLine look p line) (Leads next)
+      → (to : Progress) × IsLine look p line (Leads to) × (next ≡ at_head to)
   of_head p line next (head, comes, e) =
-      let leads = head_leads (at_head p) next head e in (leads.0, subst (IsLine p line) leads.1 comes, leads.2)
+      let leads = head_leads (at_head p) next head e in (leads.0, subst (IsLine look p line) leads.1 comes, leads.2)
 
-  followed_head : (p : Progress) (line : List ℕ) (next : FollowingData) → Begun p → IsFollowed (at_head p) line (Leads next)
-      → (to : Progress) × IsLine p line (Leads to) × (next ≡ at_head to)
+  followed_head : (p : Progress) (line : List ℕ) (next : FollowingData) → Begun p → IsFollowed look (at_head p) line (Leads next)
+      → (to : Progress) × IsLine look p line (Leads to) × (next ≡ at_head to)
   followed_head HeaderExpected line next begun comes = of_head HeaderExpected line next comes
   followed_head ProcessorsExpected line next begun comes = of_head ProcessorsExpected line next comes
   followed_head (Listed c) line next begun comes = of_head (Listed c) line next comes
   followed_head (Tracing c) line next begun comes = absurd begun
 
-  line_leads : (number : ℕ) (p : Progress) (line : List ℕ) (rest : List (List ℕ)) → Begun p → IsHeaded trace number p (line ∷ rest)
-      → LedOn (IsHeaded trace) number p line rest
+  line_leads : (number : ℕ) (p : Progress) (line : List ℕ) (rest : List (List ℕ)) → Begun p → IsHeaded look trace number p (line ∷ rest)
+      → LedOn look (IsHeaded look trace) number p line rest
   line_leads number p line rest begun (inl (kind, comes, e)) = refused_text trace number kind e
   line_leads number p line rest begun (inr (next, comes, answer)) =
       let to = followed_head p line next begun comes in
-      (to.0, to.1, subst (λ (f : FollowingData). IsRest (number + 1) f rest trace) to.2 answer)
+      (to.0, to.1, subst (λ (f : FollowingData). IsRest look (number + 1) f rest trace) to.2 answer)
 
 -- ---- the trace
-of_split : (bytes : List ℕ) (trace : TaskTraceData) → Split (IsHeaded trace) HeaderExpected (lines_of bytes) → IsTaskTrace bytes trace
+of_split : (bytes : List ℕ) (trace : TaskTraceData)
+    → (let look = survey_of (lines_of bytes) in Split look (IsHeaded look trace) HeaderExpected (lines_of bytes)) → IsTaskTrace bytes trace
 of_split bytes trace split =
+    let look : SurveyData = survey_of (lines_of bytes) in
     let head : CourseData = split.head in
-    let start = head_kept head trace split.is_head split.valid in
-    let all = whole head trace split.number head (at_head (Tracing head)) [] [] split.rest refl start split.answer in
+    let start = head_kept look head trace split.is_head split.valid in
+    let all = whole look head trace split.number head (at_head (Tracing head)) [] [] split.rest refl start split.answer in
     let kept = all.kept in
     let passages : trace.passages ≡ all.found.passages = ap (λ (t : TaskTraceData). t.passages) all.is in
     let set : trace.set ≡ head.set = ap (λ (t : TaskTraceData). t.set) all.is ∙ kept.set in
     record {
+      look = look;
+      surveyed = refl;
       heading = split.heading;
       opening = split.opening;
       lines = split.rest;
@@ -204,7 +217,7 @@ of_split bytes trace split =
       set = set;
       passages = passages ∙ kept.passages;
       each = λ n.
-          (let first = each head trace n split.number head (at_head (Tracing head)) [] [] split.rest refl start split.answer in
+          (let first = each look head trace n split.number head (at_head (Tracing head)) [] [] split.rest refl start split.answer in
           record { passages = first.passages; later = first.later; order = first.order; exact = first.exact; ready = first.ready });
       rising = subst (NeverFall 0) (sym passages) kept.rising;
       changing = subst (λ (p : List Passage). AllTurn [] (all_changes p)) (sym passages) kept.turned;
@@ -214,4 +227,6 @@ of_split bytes trace split =
     }
 
 pub passages_are_faithful : PassagesAreFaithful
-passages_are_faithful bytes trace is = of_split bytes trace (head_split (IsHeaded trace) (no_end trace) (line_leads trace) 1 HeaderExpected (lines_of bytes) tt tt is)
+passages_are_faithful bytes trace is =
+    let look : SurveyData = survey_of (lines_of bytes) in
+    of_split bytes trace (head_split look (IsHeaded look trace) (no_end look trace) (line_leads look trace) 1 HeaderExpected (lines_of bytes) tt tt is)

@@ -1,6 +1,7 @@
 -- What is known after some lines of a trace. A line mentions tasks as in or out; a task is ready where its last mention says in.
 -- Where a task's readiness changes, first the time since the last event is written as ticks, and then its arrival or departure.
 use Rattle.std.specs.Prelude.{ℕ, ◌-◌, ◌/◌, ◌%◌, Bool, true, false, ◌==◌, nat_eq, nat_lt, nat_le, ◌&&◌, ◌||◌, List, [], ◌∷◌, ◌++◌, get_or, set, replicate, fold, position, Option, None, Some, option_to_list, if◌then◌else◌}
+use Rattle.std.specs.List.{list_any}
 use Rattle.std.specs.Option.{option_map}
 use Rattle.task_set.specs.TaskSet.{SetData}
 use Rattle.task_set.specs.declared.event.Event.{Event}
@@ -54,6 +55,15 @@ abbrev pub is_absent : Standing → Bool
 is_absent Absent = true
 is_absent Ready = false
 is_absent Unmentioned = false
+
+abbrev pub is_mentioned : Standing → Bool
+is_mentioned Ready = true
+is_mentioned Absent = true
+is_mentioned Unmentioned = false
+
+-- some task was mentioned
+abbrev pub names_task : List Standing → Bool
+names_task standings = list_any is_mentioned standings
 
 -- whether a task is ready, and a mention says so too, or neither
 abbrev pub agrees : Bool → Bool → Bool

@@ -10,6 +10,7 @@ use Rattle.trace_reader.specs.declared.posted.Posted.{Posted}
 use Rattle.text_fields.specs.Lines.{lines_of, fields_of}
 use Rattle.text_fields.specs.Machine.{Leading}
 use Rattle.kernel_trace.specs.Stamp.{microsecond}
+use Rattle.kernel_trace.specs.Survey.{SurveyData, survey_of}
 use Rattle.kernel_trace.specs.Course.{CourseData, WindowData, mentions, after_mentions, agrees, is_in_window, standing_of}
 use Rattle.kernel_trace.specs.TraceLine.{Said, Nothing, LostEvents, Malformed, Happened, said_by}
 use Rattle.kernel_trace.specs.TraceText.{HeaderExpected, Listed, IsLine, IsTraceText, events_line}
@@ -28,8 +29,8 @@ after_said c (Happened time change) =
     else record c { last = Some time }
 
 -- after some lines
-abbrev pub course_after : CourseData → List (List ℕ) → CourseData
-course_after c lines = fold (λ known line. after_said known (said_by (fields_of line))) c lines
+abbrev pub course_after : Bool → CourseData → List (List ℕ) → CourseData
+course_after waking c lines = fold (λ known line. after_said known (said_by waking (fields_of line))) c lines
 
 -- ---- mentions
 -- the mentions of a line, where it is used, by the thread ids and the window
@@ -40,9 +41,10 @@ mentions_said ids window Malformed = []
 mentions_said ids window (Happened time change) = if is_in_window window time then mentions ids change else []
 
 -- the mentions of some lines, in their order
-abbrev pub mentions_in : List ℕ → Option WindowData → List (List ℕ) → List Mention
-mentions_in ids window [] = []
-mentions_in ids window (line ∷ rest) = mentions_said ids window (said_by (fields_of line)) ++ mentions_in ids window rest
+abbrev pub mentions_in : Bool → List ℕ → Option WindowData → List (List ℕ) → List Mention
+mentions_in waking ids window [] = []
+mentions_in waking ids window (line ∷ rest) =
+    mentions_said ids window (said_by waking (fields_of line)) ++ mentions_in waking ids window rest
 
 -- what the last mention of a task says, where this was known before
 abbrev pub mention_says : ℕ → Bool → Mention → Bool
@@ -75,11 +77,11 @@ changes_said ids window before (Happened time change) =
     ready_changes time before (mentions_said ids window (Happened time change))
 
 -- the changes of some lines, in their order; these mentions stand before them
-abbrev pub changes_in : List ℕ → Option WindowData → List Mention → List (List ℕ) → List ReadyChange
-changes_in ids window before [] = []
-changes_in ids window before (line ∷ rest) =
-    let said = said_by (fields_of line) in
-    changes_said ids window before said ++ changes_in ids window (before ++ mentions_said ids window said) rest
+abbrev pub changes_in : Bool → List ℕ → Option WindowData → List Mention → List (List ℕ) → List ReadyChange
+changes_in waking ids window before [] = []
+changes_in waking ids window before (line ∷ rest) =
+    let said = said_by waking (fields_of line) in
+    changes_said ids window before said ++ changes_in waking ids window (before ++ mentions_said ids window said) rest
 
 -- their mentions
 abbrev pub changes_made : List ReadyChange → List Mention
@@ -98,9 +100,9 @@ time_said window Malformed = []
 time_said window (Happened time change) = if is_in_window window time then time ∷ [] else []
 
 -- the times of the used lines among some lines, in their order
-abbrev pub used_times : Option WindowData → List (List ℕ) → List ℕ
-used_times window [] = []
-used_times window (line ∷ rest) = time_said window (said_by (fields_of line)) ++ used_times window rest
+abbrev pub used_times : Bool → Option WindowData → List (List ℕ) → List ℕ
+used_times waking window [] = []
+used_times waking window (line ∷ rest) = time_said window (said_by waking (fields_of line)) ++ used_times waking window rest
 
 -- the first of some times
 abbrev pub first_time : List ℕ → Option ℕ
@@ -185,33 +187,35 @@ pub record IsHead (c : CourseData) : Type 0 where
 
 -- the first events of an import are those of some first lines of its trace: their arrivals and departures are the changes of the
 -- lines, the ready tasks those whose last mention is in, and their ticks the time from the first change to the last one
-pub record IsWrittenBy (ids : List ℕ) (window : Option WindowData) (lines : List (List ℕ)) (all : List Posted) : Type 0 where
+pub record IsWrittenBy (waking : Bool) (ids : List ℕ) (window : Option WindowData) (lines : List (List ℕ)) (all : List Posted) : Type 0 where
   pub events : List Posted
   pub later : List Posted
   pub order : all ≡ events ++ later
-  pub changes : all_told events ≡ changes_made (changes_in ids window [] lines)
-  pub ready : (t : ℕ) → is_ready_after t events ≡ is_last_in t (mentions_in ids window lines)
-  pub time : let times = times_of (changes_in ids window [] lines) in Lasts (first_time times) (last_time times) (all_units events)
+  pub changes : all_told events ≡ changes_made (changes_in waking ids window [] lines)
+  pub ready : (t : ℕ) → is_ready_after t events ≡ is_last_in t (mentions_in waking ids window lines)
+  pub time : let times = times_of (changes_in waking ids window [] lines) in Lasts (first_time times) (last_time times) (all_units events)
 
 -- the bytes are the lines of a head, the line `events` and the lines of a trace, and the input is the import of that trace: it has
 -- the set of the head, and for each number n its first events are those of the first n lines; its ticks are the time from the
 -- first change to the last used line; each arrival or departure changes whether its task is ready, and no tick is too long
 pub record IsImport (bytes : List ℕ) (input : InputData) : Type 0 where
+  pub look : SurveyData
+  pub surveyed : look ≡ survey_of (lines_of bytes)
   pub heading : List (List ℕ)
   pub opening : List ℕ
   pub lines : List (List ℕ)
   pub head : CourseData
   pub order : lines_of bytes ≡ heading ++ opening ∷ lines
-  pub heads : Leading IsLine HeaderExpected heading (Listed head)
+  pub heads : Leading (IsLine look) HeaderExpected heading (Listed head)
   pub opens : fields_of opening ≡ events_line
   pub no_line : IsHead head
   pub version : input.version ≡ 1
   pub set : input.set ≡ head.set
   pub one_stream : All (λ (posted : Posted). posted.stream ≡ 0) input.events
-  pub each : (n : ℕ) → IsWrittenBy head.ids head.window (take n lines) input.events
+  pub each : (n : ℕ) → IsWrittenBy look.waking head.ids head.window (take n lines) input.events
   pub time :
-      let times = times_of (changes_in head.ids head.window [] lines) in
-      Lasts (first_time times) (last_time (used_times head.window lines)) (all_units input.events)
+      let times = times_of (changes_in look.waking head.ids head.window [] lines) in
+      Lasts (first_time times) (last_time (used_times look.waking head.window lines)) (all_units input.events)
   pub changing : AllChange [] input.events
   pub short : All (λ (posted : Posted). HasUnits posted.event) input.events
 
@@ -219,9 +223,9 @@ pub record IsImport (bytes : List ℕ) (input : InputData) : Type 0 where
 -- after the events of some lines of a trace the ready tasks are those whose last mention is in, and each event changes its task
 abbrev pub ReadyAsMentioned : Type 0
 ReadyAsMentioned =
-    (head : CourseData) (lines : List (List ℕ)) → IsHead head → length head.standings ≡ length head.ids
-    → ((t : ℕ) → is_ready_after t (course_after head lines).events ≡ is_last_in t (mentions_in head.ids head.window lines))
-    × AllChange [] (course_after head lines).events
+    (waking : Bool) (head : CourseData) (lines : List (List ℕ)) → IsHead head → length head.standings ≡ length head.ids
+    → ((t : ℕ) → is_ready_after t (course_after waking head lines).events ≡ is_last_in t (mentions_in waking head.ids head.window lines))
+    × AllChange [] (course_after waking head lines).events
 
 -- the input of the text of a trace is the import of that trace
 abbrev pub ImportIsFaithful : Type 0

@@ -9,6 +9,8 @@ pub mod Processor
 pub mod Reading
 pub mod Stamp
 pub mod StampView
+pub mod Survey
+pub mod SurveyView
 pub mod TraceFault
 pub mod TraceLine
 pub mod TraceText

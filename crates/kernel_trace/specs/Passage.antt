@@ -9,7 +9,8 @@ use Rattle.text_fields.specs.Laws.{IsTextOf, IsRefused}
 use Rattle.kernel_trace.specs.Stamp.{microsecond}
 use Rattle.kernel_trace.specs.TraceLine.{Said, Nothing, LostEvents, Malformed, Happened, said_by}
 use Rattle.kernel_trace.specs.Processor.{processor_of}
-use Rattle.kernel_trace.specs.Course.{CourseData, mention_of, is_unseen, is_backward, is_in_window, agrees, is_ready, standing_of, standing_after}
+use Rattle.kernel_trace.specs.Survey.{SurveyData, survey_of, is_gap}
+use Rattle.kernel_trace.specs.Course.{CourseData, mention_of, is_unseen, is_backward, is_in_window, agrees, is_ready, standing_of, standing_after, names_task}
 use Rattle.kernel_trace.specs.TraceText.{Progress, HeaderExpected, ProcessorsExpected, Listed, Tracing, LineOutcome, IsLine}
 use Rattle.kernel_trace.specs.declared.change.Change.{Change}
 use Rattle.kernel_trace.specs.declared.change.Change.TheVariants.{Wakeup, Switch}
@@ -20,7 +21,7 @@ use Rattle.kernel_trace.specs.declared.passage.TaskChange.{TaskChange}
 use Rattle.kernel_trace.specs.declared.passage.TaskChange.TheVariants as task
 use Rattle.kernel_trace.specs.declared.task_trace.TaskTrace.TheInside.{Inside}
 use Rattle.kernel_trace.specs.declared.fault.TraceKind.{TraceKind}
-use Rattle.kernel_trace.specs.declared.fault.TraceKind.TheVariants.{Lost, BadForm, Backward, Unseen, ManyEvents, NoEvents}
+use Rattle.kernel_trace.specs.declared.fault.TraceKind.TheVariants.{Lost, BadForm, Backward, Unseen, ManyEvents, NoEvents, Overwritten, NothingSaid}
 
 -- ---- what a line says of tasks
 -- the task of a thread
@@ -137,6 +138,13 @@ said_outcome f c LostEvents processor = Fails Lost
 said_outcome f c Malformed processor = Fails BadForm
 said_outcome f c (Happened time change) processor = told_outcome f c time change (task_change c.ids change processor)
 
+-- what the fields of a line of the trace come to
+abbrev pub fields_outcome : SurveyData → FollowingData → CourseData → List (List ℕ) → FollowingOutcome
+fields_outcome look f c fields =
+    if is_gap look c.window fields
+    then Fails Overwritten
+    else said_outcome f c (said_by look.waking fields) (processor_of look.waking fields)
+
 -- ---- what a text comes to, line by line
 -- what a line of the head comes to, by what it comes to for an input
 abbrev pub head_outcome : FollowingData → LineOutcome → FollowingOutcome
@@ -148,14 +156,14 @@ abbrev pub IsOfHead : FollowingData → (LineOutcome → Type 0) → FollowingOu
 IsOfHead f Comes outcome = (head : LineOutcome) × Comes head × (outcome ≡ head_outcome f head)
 
 -- what a line comes to, by what is expected
-abbrev pub IsLineAt : FollowingData → Progress → List ℕ → FollowingOutcome → Type 0
-IsLineAt f (Tracing c) line outcome = outcome ≡ said_outcome f c (said_by (fields_of line)) (processor_of (fields_of line))
-IsLineAt f HeaderExpected line outcome = IsOfHead f (IsLine HeaderExpected line) outcome
-IsLineAt f ProcessorsExpected line outcome = IsOfHead f (IsLine ProcessorsExpected line) outcome
-IsLineAt f (Listed c) line outcome = IsOfHead f (IsLine (Listed c) line) outcome
+abbrev pub IsLineAt : SurveyData → FollowingData → Progress → List ℕ → FollowingOutcome → Type 0
+IsLineAt look f (Tracing c) line outcome = outcome ≡ fields_outcome look f c (fields_of line)
+IsLineAt look f HeaderExpected line outcome = IsOfHead f (IsLine look HeaderExpected line) outcome
+IsLineAt look f ProcessorsExpected line outcome = IsOfHead f (IsLine look ProcessorsExpected line) outcome
+IsLineAt look f (Listed c) line outcome = IsOfHead f (IsLine look (Listed c) line) outcome
 
-abbrev pub IsFollowed : FollowingData → List ℕ → FollowingOutcome → Type 0
-IsFollowed f line outcome = IsLineAt f f.progress line outcome
+abbrev pub IsFollowed : SurveyData → FollowingData → List ℕ → FollowingOutcome → Type 0
+IsFollowed look f line outcome = IsLineAt look f f.progress line outcome
 
 -- what contracts see of a trace: its tasks, and its passages
 pub record TaskTraceData : Type 0 where
@@ -166,9 +174,13 @@ pub record TaskTraceData : Type 0 where
 abbrev pub task_trace_view : Inside → TaskTraceData
 task_trace_view a = record { set = a.set; passages = a.passages.items }
 
--- what the end comes to, by what is expected: it is faultless where `events` came
+-- what the end of a trace comes to: it is faultless where some used line named a task
+abbrev pub trace_end : FollowingData → CourseData → Outcome TaskTraceData TraceKind
+trace_end f c = if names_task c.standings then Leads (record { set = c.set; passages = f.passages }) else Fails NothingSaid
+
+-- what the end comes to, by what is expected: a trace ends where `events` came
 abbrev pub IsEndAt : FollowingData → Progress → Outcome TaskTraceData TraceKind → Type 0
-IsEndAt f (Tracing c) outcome = outcome ≡ Leads (record { set = c.set; passages = f.passages })
+IsEndAt f (Tracing c) outcome = outcome ≡ trace_end f c
 IsEndAt f HeaderExpected outcome = outcome ≡ Fails NoEvents
 IsEndAt f ProcessorsExpected outcome = outcome ≡ Fails NoEvents
 IsEndAt f (Listed c) outcome = outcome ≡ Fails NoEvents
@@ -176,13 +188,21 @@ IsEndAt f (Listed c) outcome = outcome ≡ Fails NoEvents
 abbrev pub IsFollowedEnd : FollowingData → Outcome TaskTraceData TraceKind → Type 0
 IsFollowedEnd f outcome = IsEndAt f f.progress outcome
 
+-- where this is said of the whole text, its lines come to these tasks and passages
+abbrev pub IsTaskTextBy : SurveyData → List ℕ → TaskTraceData → Type 0
+IsTaskTextBy look bytes trace = IsTextOf lines_of nothing_followed (IsFollowed look) IsFollowedEnd bytes trace
+
+-- or they are refused with this line and kind
+abbrev pub IsTaskRefusedBy : SurveyData → List ℕ → ℕ → TraceKind → Type 0
+IsTaskRefusedBy look bytes number kind = IsRefused lines_of nothing_followed (IsFollowed look) IsFollowedEnd bytes number kind
+
 -- the bytes are the text of a trace of these tasks and passages
 abbrev pub IsTaskTraceText : List ℕ → TaskTraceData → Type 0
-IsTaskTraceText bytes trace = IsTextOf lines_of nothing_followed IsFollowed IsFollowedEnd bytes trace
+IsTaskTraceText bytes trace = IsTaskTextBy (survey_of (lines_of bytes)) bytes trace
 
 -- the bytes are refused with this line and kind
 abbrev pub IsTaskTraceRefused : List ℕ → ℕ → TraceKind → Type 0
-IsTaskTraceRefused bytes number kind = IsRefused lines_of nothing_followed IsFollowed IsFollowedEnd bytes number kind
+IsTaskTraceRefused bytes number kind = IsTaskRefusedBy (survey_of (lines_of bytes)) bytes number kind
 
 -- how many microseconds passed from the first change to the last used line
 abbrev pub span_of : List Passage → ℕ

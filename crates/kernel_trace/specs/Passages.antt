@@ -5,6 +5,7 @@ use Rattle.std.specs.Option.{ForSome}
 use Rattle.text_fields.specs.Lines.{lines_of, fields_of}
 use Rattle.text_fields.specs.Machine.{Leading}
 use Rattle.kernel_trace.specs.Stamp.{microsecond}
+use Rattle.kernel_trace.specs.Survey.{SurveyData, survey_of}
 use Rattle.kernel_trace.specs.Course.{CourseData, WindowData, agrees, is_in_window}
 use Rattle.kernel_trace.specs.Import.{mentions_said, mentions_in, is_last_in, IsHead}
 use Rattle.kernel_trace.specs.Passage.{task_change, first_mention, second_mention, TaskTraceData, IsTaskTraceText}
@@ -53,12 +54,12 @@ used_said ids window before (Happened time change) processor =
     if is_in_window window time then used_told ids before time change (task_change ids change processor) else []
 
 -- the used ones of some lines, in their order; these mentions stand before them
-abbrev pub used_lines : List ℕ → Option WindowData → List Mention → List (List ℕ) → List UsedLine
-used_lines ids window before [] = []
-used_lines ids window before (line ∷ rest) =
-    let said = said_by (fields_of line) in
-    used_said ids window before said (processor_of (fields_of line))
-    ++ used_lines ids window (before ++ mentions_said ids window said) rest
+abbrev pub used_lines : Bool → List ℕ → Option WindowData → List Mention → List (List ℕ) → List UsedLine
+used_lines waking ids window before [] = []
+used_lines waking ids window before (line ∷ rest) =
+    let said = said_by waking (fields_of line) in
+    used_said ids window before said (processor_of waking (fields_of line))
+    ++ used_lines waking ids window (before ++ mentions_said ids window said) rest
 
 -- some mention changes whether a task is ready
 abbrev pub turns : UsedLine → Bool
@@ -81,8 +82,8 @@ passages_since [] = []
 passages_since (line ∷ rest) = map (passage_since line.time) (line ∷ rest)
 
 -- the passages of some lines of a trace
-abbrev pub passages_in : List ℕ → Option WindowData → List (List ℕ) → List Passage
-passages_in ids window lines = passages_since (from_turn (used_lines ids window [] lines))
+abbrev pub passages_in : Bool → List ℕ → Option WindowData → List (List ℕ) → List Passage
+passages_in waking ids window lines = passages_since (from_turn (used_lines waking ids window [] lines))
 
 -- the changes of some passages, in their order
 abbrev pub all_changes : List Passage → List Mention
@@ -113,28 +114,30 @@ pub record IsPassageOf (count : ℕ) (passage : Passage) : Type 0 where
 
 -- ---- the passages of a trace
 -- the first passages are those of some first lines, and after them the ready tasks are those whose last mention is in
-pub record ArePassagesOf (ids : List ℕ) (window : Option WindowData) (lines : List (List ℕ)) (all : List Passage) : Type 0 where
+pub record ArePassagesOf (waking : Bool) (ids : List ℕ) (window : Option WindowData) (lines : List (List ℕ)) (all : List Passage) : Type 0 where
   pub passages : List Passage
   pub later : List Passage
   pub order : all ≡ passages ++ later
-  pub exact : passages ≡ passages_in ids window lines
-  pub ready : (t : ℕ) → is_last_in t (all_changes passages) ≡ is_last_in t (mentions_in ids window lines)
+  pub exact : passages ≡ passages_in waking ids window lines
+  pub ready : (t : ℕ) → is_last_in t (all_changes passages) ≡ is_last_in t (mentions_in waking ids window lines)
 
 -- the bytes are the lines of a head, the line `events` and the lines of a trace, and the trace has the set of the head and the passages
 -- of its lines: for each number n, the first passages are those of the first n lines; no moment is less than the one before; and each
 -- change is one
 pub record IsTaskTrace (bytes : List ℕ) (trace : TaskTraceData) : Type 0 where
+  pub look : SurveyData
+  pub surveyed : look ≡ survey_of (lines_of bytes)
   pub heading : List (List ℕ)
   pub opening : List ℕ
   pub lines : List (List ℕ)
   pub head : CourseData
   pub order : lines_of bytes ≡ heading ++ opening ∷ lines
-  pub heads : Leading IsLine HeaderExpected heading (Listed head)
+  pub heads : Leading (IsLine look) HeaderExpected heading (Listed head)
   pub opens : fields_of opening ≡ events_line
   pub no_line : IsHead head
   pub set : trace.set ≡ head.set
-  pub passages : trace.passages ≡ passages_in head.ids head.window lines
-  pub each : (n : ℕ) → ArePassagesOf head.ids head.window (take n lines) trace.passages
+  pub passages : trace.passages ≡ passages_in look.waking head.ids head.window lines
+  pub each : (n : ℕ) → ArePassagesOf look.waking head.ids head.window (take n lines) trace.passages
   pub rising : NeverFall 0 trace.passages
   pub changing : AllTurn [] (all_changes trace.passages)
   pub of_set : All (IsPassageOf (length trace.set.tasks)) trace.passages

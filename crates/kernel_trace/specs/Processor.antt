@@ -26,12 +26,12 @@ named_at (Some event) named later = named
 named_at None named later = later
 
 -- what is named before the first place of an event
-abbrev pub named_before : Option ℕ → List ℕ → List (List ℕ) → Option ℕ
-named_before named field [] = None
-named_before named field (next ∷ rest) =
-    named_at (event_at field (word_of next) rest) named (named_before (processor_after named field) next rest)
+abbrev pub named_before : Bool → Option ℕ → List ℕ → List (List ℕ) → Option ℕ
+named_before waking named field [] = None
+named_before waking named field (next ∷ rest) =
+    named_at (event_at field (word_of waking next) rest) named (named_before waking (processor_after named field) next rest)
 
 -- the processor that the fields of a line name, where it is of the scheduler
-abbrev pub processor_of : List (List ℕ) → Option ℕ
-processor_of [] = None
-processor_of (first ∷ rest) = named_before None first rest
+abbrev pub processor_of : Bool → List (List ℕ) → Option ℕ
+processor_of waking [] = None
+processor_of waking (first ∷ rest) = named_before waking None first rest

@@ -5,7 +5,7 @@ use Rattle.task_set.specs.declared.fault.TaskFault.TheVariants as task
 use Rattle.text_fields.specs.declared.kind.LineKind.{LineKind}
 use Rattle.text_fields.specs.declared.kind.LineKind.TheVariants as line
 use Rattle.kernel_trace.specs.declared.fault.TraceKind.{TraceKind}
-use Rattle.kernel_trace.specs.declared.fault.TraceKind.TheVariants.{BadByte, LongLine, BadHeader, BadProcessors, BadTask, BadMask, TaskRefused, SamePid, BadWindow, BadHead, Lost, BadForm, Backward, Unseen, ManyEvents, NoEvents, OutOfMemory}
+use Rattle.kernel_trace.specs.declared.fault.TraceKind.TheVariants.{BadByte, LongLine, BadHeader, BadProcessors, BadTask, BadMask, TaskRefused, SamePid, BadWindow, BadHead, Lost, BadForm, Backward, Unseen, ManyEvents, NoEvents, Overwritten, NothingSaid, OutOfMemory}
 
 -- the number of a kind; out of memory has none
 abbrev pub kind_number : TraceKind → Option ℕ
@@ -25,6 +25,8 @@ kind_number Backward = Some 19
 kind_number Unseen = Some 21
 kind_number ManyEvents = Some 10
 kind_number NoEvents = Some 12
+kind_number Overwritten = Some 22
+kind_number NothingSaid = Some 23
 kind_number OutOfMemory = None
 
 -- the kind of a task's refusal; out of memory is a kind of its own

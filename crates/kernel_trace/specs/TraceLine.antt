@@ -1,6 +1,6 @@
 -- What a line of a trace says. A line is of the scheduler where some field is a stamp with a colon, and the next one is the word of
 -- an event; the first such place counts. The fields after the word say the event. Of the name of a thread, which may have
--- blanks and arrows in it, nothing is read.
+-- blanks and arrows in it, nothing is read. Whether `sched_waking` is the word of a wakeup is said of the whole text.
 use Rattle.std.specs.Prelude.{ℕ, ◌-◌, Bool, ◌&&◌, ◌||◌, ◌==◌, List, [], ◌∷◌, codes, length, take, drop, get_or, min, Option, None, Some, fold, if◌then◌else◌}
 use Rattle.std.specs.Prelude.{nat_eq}
 use Rattle.std.specs.Str.{bytes_eq}
@@ -27,6 +27,14 @@ after_key key field = drop (length key) field
 unfoldable pub is_keyed : List ℕ → List ℕ → Bool
 is_keyed key field = begins key field && is_number (after_key key field)
 
+-- what stands after a minus, where there is one
+abbrev pub unsigned : List ℕ → List ℕ
+unsigned text = if begins (codes "-") text then after_key (codes "-") text else text
+
+-- the field is this key and a priority: digits, or a minus and digits
+unfoldable pub is_priority : List ℕ → List ℕ → Bool
+is_priority key field = begins key field && is_number (unsigned (after_key key field))
+
 -- the thread id that the digits after a key say; 4,194,305 is nobody's, and stands for all that are greater
 unfoldable pub id_after : List ℕ → List ℕ → ℕ
 id_after key field = min (number_value (after_key key field)) 4194305
@@ -46,7 +54,7 @@ fields_after f field = record { fourth = f.third; third = f.second; second = f.l
 -- the four fields of the thread that leaves: its id, its priority, its state, and the arrow
 unfoldable pub is_leaving : LastFields → Bool
 is_leaving f =
-    bytes_eq f.last (codes "==>") && begins (codes "prev_state=") f.second && is_keyed (codes "prev_prio=") f.third
+    bytes_eq f.last (codes "==>") && begins (codes "prev_state=") f.second && is_priority (codes "prev_prio=") f.third
     && is_keyed (codes "prev_pid=") f.fourth
 
 -- a thread that leaves: its id, and its state as it stands
@@ -91,7 +99,7 @@ is_running state = get_or state 0 0 == 82
 
 -- the last two fields are those of the thread that comes
 unfoldable pub is_coming : LastFields → Bool
-is_coming f = is_keyed (codes "next_pid=") f.second && is_keyed (codes "next_prio=") f.last
+is_coming f = is_keyed (codes "next_pid=") f.second && is_priority (codes "next_prio=") f.last
 
 -- a switch from one thread to another one
 abbrev pub switch_of : LastFields → Option Leaving → Option Change
@@ -104,7 +112,7 @@ switch_of ends (Some left) =
 -- a wakeup of the thread of these fields
 abbrev pub wakeup_of : List ℕ → List ℕ → List ℕ → Option Change
 wakeup_of pid prio target =
-    if is_keyed (codes "target_cpu=") target && is_keyed (codes "prio=") prio && is_keyed (codes "pid=") pid
+    if is_keyed (codes "target_cpu=") target && is_priority (codes "prio=") prio && is_keyed (codes "pid=") pid
     then Some (Wakeup (id_after (codes "pid=") pid))
     else None
 
@@ -123,15 +131,25 @@ change_of named.Wakeup fields =
     if begins (codes "comm=") (get_or fields 0 []) then wakeup_by (event_fields fields).ends else None
 
 -- ---- the place of an event
+-- the field is the word of a wakeup; whether `sched_waking:` is one is given
+abbrev pub is_wakeup_word : Bool → List ℕ → Bool
+is_wakeup_word waking field =
+    bytes_eq field (codes "sched_wakeup:") || bytes_eq field (codes "sched_wakeup_new:")
+    || (waking && bytes_eq field (codes "sched_waking:"))
+
 -- the word of an event, without `sched:`
-abbrev pub plain_word : List ℕ → Option EventWord
-plain_word field =
+abbrev pub plain_word : Bool → List ℕ → Option EventWord
+plain_word waking field =
     if bytes_eq field (codes "sched_switch:") then Some named.Switch
-    else (if bytes_eq field (codes "sched_wakeup:") || bytes_eq field (codes "sched_wakeup_new:") then Some named.Wakeup else None)
+    else (if is_wakeup_word waking field then Some named.Wakeup else None)
+
+-- what stands after `sched:`, where a field begins so
+abbrev pub bare_word : List ℕ → List ℕ
+bare_word field = if begins (codes "sched:") field then after_key (codes "sched:") field else field
 
 -- the word of an event, with or without `sched:` before it
-unfoldable pub word_of : List ℕ → Option EventWord
-word_of field = plain_word (if begins (codes "sched:") field then after_key (codes "sched:") field else field)
+unfoldable pub word_of : Bool → List ℕ → Option EventWord
+word_of waking field = plain_word waking (bare_word field)
 
 -- what stands before the last byte of a field
 abbrev pub before_last : List ℕ → List ℕ
@@ -154,9 +172,14 @@ event_at field (Some word) rest =
     if is_stamped field then Some (record { time = nanoseconds (before_last field); word = word; fields = rest }) else None
 
 -- the event at the first place of a field and those after it
-abbrev pub first_event : List ℕ → List (List ℕ) → Option TraceEvent
-first_event field [] = None
-first_event field (next ∷ rest) = option_or (event_at field (word_of next) rest) (first_event next rest)
+abbrev pub first_event : Bool → List ℕ → List (List ℕ) → Option TraceEvent
+first_event waking field [] = None
+first_event waking field (next ∷ rest) = option_or (event_at field (word_of waking next) rest) (first_event waking next rest)
+
+-- the event of the fields of a line
+abbrev pub event_in : Bool → List (List ℕ) → Option TraceEvent
+event_in waking [] = None
+event_in waking (first ∷ rest) = first_event waking first rest
 
 -- ---- what a line says
 -- a line says nothing of the scheduler, or that events were lost, or an event without its form, or a change at a time in nanoseconds
@@ -166,11 +189,17 @@ pub data Said : Type 0 where
   Malformed : Said
   Happened : ℕ → Change → Said
 
+-- the last two fields are `events` and `lost]`
+abbrev pub ends_in_lost : List (List ℕ) → Bool
+ends_in_lost fields =
+    bytes_eq (event_fields fields).ends.second (codes "events") && bytes_eq (event_fields fields).ends.last (codes "lost]")
+
 -- the first field and those after it tell of lost events
 unfoldable pub tells_of_loss : List ℕ → List (List ℕ) → Bool
 tells_of_loss first rest =
-    begins (codes "CPU:") first
-    && (bytes_eq (event_fields rest).ends.last (codes "EVENTS]") || bytes_eq (event_fields rest).ends.last (codes "DROPPED]"))
+    if begins (codes "CPU:") first
+    then bytes_eq (event_fields rest).ends.last (codes "EVENTS]") || bytes_eq (event_fields rest).ends.last (codes "DROPPED]")
+    else (is_keyed (codes "[") first && ends_in_lost rest)
 
 -- what an event says
 abbrev pub said_at : ℕ → Option Change → Said
@@ -182,6 +211,7 @@ said_by_event None = Nothing
 said_by_event (Some event) = said_at event.time (change_of event.word event.fields)
 
 -- what the fields of a line say
-abbrev pub said_by : List (List ℕ) → Said
-said_by [] = Nothing
-said_by (first ∷ rest) = if tells_of_loss first rest then LostEvents else said_by_event (first_event first rest)
+abbrev pub said_by : Bool → List (List ℕ) → Said
+said_by waking [] = Nothing
+said_by waking (first ∷ rest) =
+    if tells_of_loss first rest then LostEvents else said_by_event (first_event waking first rest)

@@ -1,7 +1,7 @@
 -- The text of a trace. First comes a head, whose lines are cut and skipped as those of input texts are: a header, the number of
 -- processors, tasks with their thread ids and at most one window in any order, and `events`. All further lines are the trace, of
 -- any bytes and any length. What a line comes to is said by what is known: more is known then, or the line has a fault, the first
--- of its kinds in their order. The first line with a fault decides.
+-- of its kinds in their order. The first line with a fault decides. What is said of the whole text is known from the first line on.
 use Rattle.std.specs.Prelude.{◌≡◌, ℕ, ◌+◌, ◌*◌, true, nat_eq, nat_lt, nat_le, ◌&&◌, List, [], ◌∷◌, ◌++◌, length, codes, Option, None, Some, if◌then◌else◌}
 use Rattle.std.specs.List.{list_any}
 use Rattle.affinity_mask.specs.ListText.{IsListText}
@@ -16,13 +16,14 @@ use Rattle.text_fields.specs.LineRule.{IsLineOutcome}
 use Rattle.text_fields.specs.Machine.{Outcome, Leads, Fails}
 use Rattle.text_fields.specs.Laws.{IsTextOf, IsRefused}
 use Rattle.kernel_trace.specs.Stamp.{is_stamp, nanoseconds}
+use Rattle.kernel_trace.specs.Survey.{SurveyData, survey_of, is_gap}
 use Rattle.kernel_trace.specs.TraceLine.{Said, Nothing, LostEvents, Malformed, Happened, said_by}
-use Rattle.kernel_trace.specs.Course.{CourseData, WindowData, mentions, is_unseen, written, after_mentions, is_backward, is_in_window}
+use Rattle.kernel_trace.specs.Course.{CourseData, WindowData, mentions, is_unseen, written, after_mentions, is_backward, is_in_window, names_task}
 use Rattle.kernel_trace.specs.TraceFault.{trace_kind}
 use Rattle.kernel_trace.specs.declared.change.Change.{Change}
 use Rattle.kernel_trace.specs.declared.change.Standing.TheVariants.{Unmentioned}
 use Rattle.kernel_trace.specs.declared.fault.TraceKind.{TraceKind}
-use Rattle.kernel_trace.specs.declared.fault.TraceKind.TheVariants.{BadHeader, BadProcessors, BadTask, BadMask, TaskRefused, SamePid, BadWindow, BadHead, Lost, BadForm, Backward, Unseen, ManyEvents, NoEvents}
+use Rattle.kernel_trace.specs.declared.fault.TraceKind.TheVariants.{BadHeader, BadProcessors, BadTask, BadMask, TaskRefused, SamePid, BadWindow, BadHead, Lost, BadForm, Backward, Unseen, ManyEvents, NoEvents, Overwritten, NothingSaid}
 
 -- ---- the lines of the head
 -- a word, and a number between two bounds
@@ -181,33 +182,50 @@ said_outcome c LostEvents = Fails Lost
 said_outcome c Malformed = Fails BadForm
 said_outcome c (Happened time change) = if is_backward c.last time then Fails Backward else timed_outcome c time change
 
+-- what the fields of a line of the trace come to
+abbrev pub fields_outcome : SurveyData → CourseData → List (List ℕ) → LineOutcome
+fields_outcome look c fields =
+    if is_gap look c.window fields then Fails Overwritten else said_outcome c (said_by look.waking fields)
+
 -- what a line of the trace comes to
-abbrev pub trace_outcome : CourseData → List ℕ → LineOutcome
-trace_outcome c line = said_outcome c (said_by (fields_of line))
+abbrev pub trace_outcome : SurveyData → CourseData → List ℕ → LineOutcome
+trace_outcome look c line = fields_outcome look c (fields_of line)
 
 -- ---- what a text comes to, line by line
 -- what a line comes to, by what is known
-abbrev pub IsLine : Progress → List ℕ → LineOutcome → Type 0
-IsLine HeaderExpected line outcome = IsLineOutcome 4096 true trace_kind IsHeadOutcome HeaderExpected line outcome
-IsLine ProcessorsExpected line outcome = IsLineOutcome 4096 true trace_kind IsHeadOutcome ProcessorsExpected line outcome
-IsLine (Listed c) line outcome = IsLineOutcome 4096 true trace_kind IsHeadOutcome (Listed c) line outcome
-IsLine (Tracing c) line outcome = IsOnly (trace_outcome c line) outcome
+abbrev pub IsLine : SurveyData → Progress → List ℕ → LineOutcome → Type 0
+IsLine look HeaderExpected line outcome = IsLineOutcome 4096 true trace_kind IsHeadOutcome HeaderExpected line outcome
+IsLine look ProcessorsExpected line outcome = IsLineOutcome 4096 true trace_kind IsHeadOutcome ProcessorsExpected line outcome
+IsLine look (Listed c) line outcome = IsLineOutcome 4096 true trace_kind IsHeadOutcome (Listed c) line outcome
+IsLine look (Tracing c) line outcome = IsOnly (trace_outcome look c line) outcome
 
 -- the input of what is known
 abbrev pub input_of : CourseData → InputData
 input_of c = record { version = 1; set = c.set; events = written c }
 
--- what the end comes to: it is faultless where `events` came
+-- what the end of a trace comes to: it is faultless where some used line named a task
+abbrev pub trace_end : CourseData → Outcome InputData TraceKind
+trace_end c = if names_task c.standings then Leads (input_of c) else Fails NothingSaid
+
+-- what the end comes to: a trace ends where `events` came
 abbrev pub IsEndOutcome : Progress → Outcome InputData TraceKind → Type 0
-IsEndOutcome (Tracing c) outcome = outcome ≡ Leads (input_of c)
+IsEndOutcome (Tracing c) outcome = outcome ≡ trace_end c
 IsEndOutcome HeaderExpected outcome = outcome ≡ Fails NoEvents
 IsEndOutcome ProcessorsExpected outcome = outcome ≡ Fails NoEvents
 IsEndOutcome (Listed c) outcome = outcome ≡ Fails NoEvents
 
+-- where this is said of the whole text, its lines come to this input
+abbrev pub IsTextBy : SurveyData → List ℕ → InputData → Type 0
+IsTextBy look bytes input = IsTextOf lines_of HeaderExpected (IsLine look) IsEndOutcome bytes input
+
+-- or they are refused with this line and kind
+abbrev pub IsRefusedBy : SurveyData → List ℕ → ℕ → TraceKind → Type 0
+IsRefusedBy look bytes number kind = IsRefused lines_of HeaderExpected (IsLine look) IsEndOutcome bytes number kind
+
 -- the bytes are the text of a trace, of which this input comes
 abbrev pub IsTraceText : List ℕ → InputData → Type 0
-IsTraceText bytes input = IsTextOf lines_of HeaderExpected IsLine IsEndOutcome bytes input
+IsTraceText bytes input = IsTextBy (survey_of (lines_of bytes)) bytes input
 
 -- the bytes are refused with this line and kind
 abbrev pub IsTraceRefused : List ℕ → ℕ → TraceKind → Type 0
-IsTraceRefused bytes number kind = IsRefused lines_of HeaderExpected IsLine IsEndOutcome bytes number kind
+IsTraceRefused bytes number kind = IsRefusedBy (survey_of (lines_of bytes)) bytes number kind

@@ -33,7 +33,7 @@ pub enum Standing {
 
 impl Standing {
     ghost use Rattle.std.specs.Prelude.{◌≡◌};
-    ghost use Rattle.kernel_trace.specs.Course.{standing_after, is_ready, is_absent};
+    ghost use Rattle.kernel_trace.specs.Course.{standing_after, is_ready, is_absent, is_mentioned};
 
     /// What a mention says.
     pub fn after(is_in: bool) -> Standing
@@ -51,6 +51,13 @@ impl Standing {
         ensures { result ≡ is_ready self }
     {
         matches!(self, Standing::Ready)
+    }
+
+    /// Whether some line mentioned the task.
+    pub fn is_mentioned(self) -> bool
+        ensures { result ≡ is_mentioned self }
+    {
+        !matches!(self, Standing::Unmentioned)
     }
 
     /// Whether the task was mentioned and is not ready.

@@ -2,12 +2,15 @@
 ghost use Rattle.std.specs.Prelude.{◌≡◌, ◌⊎◌, ◌<◌, ◌≤◌, ◌↔◌, ◌++◌, ◌∷◌, [], min, not, length, set, replicate, option_to_list, IsTrue, OnOk, IfOk, IfErr};
 ghost use Rattle.std.specs.Option.{option_map};
 ghost use Rattle.task_set.specs.declared.event.Event.TheVariants.{Tick};
-ghost use Rattle.kernel_trace.specs.Course.{ticks, passed, written, event_of, on_first_stream, after_mention, after_mentions, mention_of, mentions, misses_wakeup, is_unseen, is_backward, is_in_window, agrees, is_ready, standing_of, standing_after};
+ghost use Rattle.kernel_trace.specs.Course.{ticks, passed, written, event_of, on_first_stream, after_mention, after_mentions, mention_of, mentions, misses_wakeup, is_unseen, is_backward, is_in_window, agrees, is_ready, standing_of, standing_after, names_task};
 ghost use Rattle.kernel_trace.specs.Passage.{task_of, task_change, first_mention, second_mention, changing, marked, at_time};
 ghost use Rattle.kernel_trace.specs.Processor.{processor_of};
 ghost use Rattle.kernel_trace.specs.Reading.{course_of, mentions_view, window_view, IsCourse, IsOutOfMemory, AreTasks};
 ghost use Rattle.kernel_trace.specs.StampView.{time_of};
-ghost use Rattle.kernel_trace.specs.TraceText.{Tracing, used_outcome, timed_outcome, trace_outcome, input_of};
+ghost use Rattle.kernel_trace.specs.Survey.{is_gap, begins_whole};
+ghost use Rattle.kernel_trace.specs.SurveyView.{look_of};
+ghost use Rattle.kernel_trace.specs.TraceText.{Tracing, used_outcome, timed_outcome, said_outcome, trace_outcome, input_of};
+ghost use Rattle.kernel_trace.specs.TraceLine.{said_by};
 ghost use Rattle.text_fields.specs.Lines.{fields_of};
 ghost use Rattle.text_fields.specs.Machine.{Leads, Fails};
 
@@ -17,6 +20,7 @@ use crate::fault::TraceKind;
 use crate::passage::TaskChange;
 use crate::processor::read_processor;
 use crate::stamp::Stamp;
+use crate::survey::{Survey, is_of_overwriting};
 use affinity_mask::OutOfMemory;
 use indexmap::IndexSet;
 use task_set::{Event, TaskSet};
@@ -63,14 +67,54 @@ pub struct Mentions {
 
 impl<'a> Course<'a> {
     /// Goes on by a line of the trace.
-    pub fn after_line(&mut self, line: &'a [u8]) -> Result<(), TraceKind>
+    pub fn after_line(&mut self, look: Survey, line: &'a [u8]) -> Result<(), TraceKind>
         requires { IsCourse (course_of self.old) }
-        ensures read { OnOk result (trace_outcome (course_of self.old) line.now
+        ensures read { OnOk result (trace_outcome (look_of look.entry) (course_of self.old) line.now
             ≡ Leads (Tracing (course_of self.new))) }
         ensures refused { IfErr result (λ kind. IsOutOfMemory kind
-            ⊎ (trace_outcome (course_of self.old) line.now ≡ Fails kind)) }
+            ⊎ (trace_outcome (look_of look.entry) (course_of self.old) line.now ≡ Fails kind)) }
     {
-        match read_line(line) {
+        if self.is_gap(look, line) {
+            return Err(TraceKind::Overwritten);
+        }
+        self.after_whole_line(look.waking, line)
+    }
+
+    /// Whether a line says that lines were overwritten, and the window does not begin where those of all processors are there.
+    pub fn is_gap(&self, look: Survey, line: &[u8]) -> bool
+        ensures { result ≡ is_gap (look_of look.entry) (course_of self.now).window (fields_of line.now) }
+    {
+        is_of_overwriting(line) && !self.begins_whole(look)
+    }
+
+    /// Whether the window begins where the lines of all processors are there.
+    fn begins_whole(&self, look: Survey) -> bool
+        ensures { result ≡ begins_whole (course_of self.now).window (look_of look.entry).whole }
+    {
+        match (self.window, look.whole) {
+            (Some(window), Some(time)) => !window.from.is_before(&time),
+            _ => false,
+        }
+    }
+
+    /// Whether some used line mentioned a task.
+    pub fn names_task(&self) -> bool
+        ensures { result ≡ names_task (course_of self.now).standings }
+    {
+        self.standings
+            .iter()
+            .any(|standing| standing.is_mentioned())
+    }
+
+    /// Goes on by a line of the trace with no gap before it.
+    fn after_whole_line(&mut self, waking: bool, line: &'a [u8]) -> Result<(), TraceKind>
+        requires { IsCourse (course_of self.old) }
+        ensures read { OnOk result (said_outcome (course_of self.old) (said_by waking (fields_of line.now))
+            ≡ Leads (Tracing (course_of self.new))) }
+        ensures refused { IfErr result (λ kind. IsOutOfMemory kind
+            ⊎ (said_outcome (course_of self.old) (said_by waking (fields_of line.now)) ≡ Fails kind)) }
+    {
+        match read_line(waking, line) {
             Said::Nothing => Ok(()),
             Said::LostEvents => Err(TraceKind::Lost),
             Said::Malformed => Err(TraceKind::BadForm),
@@ -189,14 +233,14 @@ impl<'a> Course<'a> {
     }
 
     /// What a change says of tasks; nothing, where it is a switch and its line names no processor.
-    pub fn task_change(&self, change: Change, line: &[u8]) -> Option<TaskChange>
+    pub fn task_change(&self, waking: bool, change: Change, line: &[u8]) -> Option<TaskChange>
         requires { IsCourse (course_of self.now) }
         ensures { result ≡ task_change (course_of self.now).ids change
-            (processor_of (fields_of line.now)) }
+            (processor_of waking (fields_of line.now)) }
     {
         match change {
             Change::Wakeup(id) => Some(TaskChange::Wakeup(self.task(id))),
-            Change::Switch { from, to, .. } => match read_processor(line) {
+            Change::Switch { from, to, .. } => match read_processor(waking, line) {
                 Some(processor) => Some(TaskChange::Switch {
                     processor,
                     from: self.task(from),

@@ -1,15 +1,16 @@
-//! The lines of a trace. Each is gone through from the left, and nothing is kept but slices of it.
-ghost use Rattle.std.specs.Prelude.{◌≡◌, true, false, None, Some, MatchOption};
+//! The lines of a trace. Each is gone through from the left, and nothing is kept but slices of it. Whether `sched_waking` is the word
+//! of a wakeup is given.
+ghost use Rattle.std.specs.Prelude.{◌≡◌, true, false, None, Some, is_some, MatchOption};
 ghost use Rattle.std.specs.Option.{option_map};
 ghost use Rattle.kernel_trace.specs.Reading.{ends_view, left_view, fields_view, event_view, said_view};
 ghost use Rattle.kernel_trace.specs.Stamp.{nanoseconds};
 ghost use Rattle.kernel_trace.specs.StampView.{time_of};
-ghost use Rattle.kernel_trace.specs.TraceLine.{leaving_of, has_letter, is_running, event_fields, event_fields_after, switch_of, wakeup_of, wakeup_by, change_of, word_of, is_stamped, before_last, event_at, first_event, tells_of_loss, said_by, is_coming};
+ghost use Rattle.kernel_trace.specs.TraceLine.{leaving_of, has_letter, is_running, event_fields, event_fields_after, switch_of, wakeup_of, wakeup_by, change_of, is_wakeup_word, bare_word, word_of, is_stamped, before_last, event_at, first_event, event_in, ends_in_lost, tells_of_loss, said_by, is_coming};
 ghost use Rattle.text_fields.specs.Lines.{fields_of};
 
 use crate::change::Change;
 use crate::fields::first_field;
-use crate::key::{begins_with, behind, id_of, is_keyed, is_text};
+use crate::key::{begins_with, behind, id_of, is_keyed, is_priority, is_text};
 use crate::stamp::Stamp;
 
 /// What a line says.
@@ -34,7 +35,7 @@ pub enum EventWord {
     /// `sched_switch:`.
     Switch,
 
-    /// `sched_wakeup:` or `sched_wakeup_new:`.
+    /// `sched_wakeup:` or `sched_wakeup_new:`, or `sched_waking:`.
     Wakeup,
 }
 
@@ -70,8 +71,8 @@ pub struct EventFields<'a> {
 }
 
 /// What a line says.
-pub fn read_line(line: &[u8]) -> Said<'_>
-    ensures { said_view result ≡ said_by (fields_of line.now) }
+pub fn read_line(waking: bool, line: &[u8]) -> Said<'_>
+    ensures { said_view result ≡ said_by waking (fields_of line.now) }
 {
     let Some((first, rest)) = first_field(line) else {
         return Said::Nothing;
@@ -79,7 +80,7 @@ pub fn read_line(line: &[u8]) -> Said<'_>
     if is_of_loss(first, rest) {
         return Said::LostEvents;
     }
-    let Some(event) = find_event(first, rest) else {
+    let Some(event) = find_event(waking, first, rest) else {
         return Said::Nothing;
     };
     match read_change(event.word, event.fields) {
@@ -96,22 +97,49 @@ pub fn read_line(line: &[u8]) -> Said<'_>
 fn is_of_loss(first: &[u8], rest: &[u8]) -> bool
     ensures { result ≡ tells_of_loss first.now (fields_of rest.now) }
 {
-    if !begins_with(first, "CPU:") {
-        return false;
+    if begins_with(first, "CPU:") {
+        let last = read_fields(rest).ends.last;
+        is_text(last, "EVENTS]") || is_text(last, "DROPPED]")
+    } else {
+        is_keyed(first, "[") && ends_in_lost(rest)
     }
-    let last = read_fields(rest).ends.last;
-    is_text(last, "EVENTS]") || is_text(last, "DROPPED]")
+}
+
+/// Whether the last two fields are `events` and `lost]`.
+fn ends_in_lost(rest: &[u8]) -> bool
+    ensures { result ≡ ends_in_lost (fields_of rest.now) }
+{
+    let ends = read_fields(rest).ends;
+    is_text(ends.second, "events") && is_text(ends.last, "lost]")
+}
+
+/// Whether a line is of the scheduler.
+pub fn is_of_scheduler(waking: bool, line: &[u8]) -> bool
+    ensures { result ≡ is_some (event_in waking (fields_of line.now)) }
+{
+    event_of(waking, line).is_some()
+}
+
+/// The event of a line of the scheduler.
+pub fn event_of(waking: bool, line: &[u8]) -> Option<SchedulerEvent<'_>>
+    ensures { MatchOption result (event_in waking (fields_of line.now) ≡ None)
+        (λ event. event_in waking (fields_of line.now) ≡ Some (event_view event)) }
+{
+    let Some((first, rest)) = first_field(line) else {
+        return None;
+    };
+    find_event(waking, first, rest)
 }
 
 /// The event at the first place, by the first field and what stands after it.
-fn find_event<'a>(first: &'a [u8], rest: &'a [u8]) -> Option<SchedulerEvent<'a>>
-    ensures { MatchOption result (first_event first.now (fields_of rest.now) ≡ None)
-        (λ event. first_event first.now (fields_of rest.now) ≡ Some (event_view event)) }
+fn find_event<'a>(waking: bool, first: &'a [u8], rest: &'a [u8]) -> Option<SchedulerEvent<'a>>
+    ensures { MatchOption result (first_event waking first.now (fields_of rest.now) ≡ None)
+        (λ event. first_event waking first.now (fields_of rest.now) ≡ Some (event_view event)) }
 {
     let mut field = first;
     let mut rest = rest;
     while let Some((next, after)) = first_field(rest) {
-        if let Some(event) = event_here(field, next, after) {
+        if let Some(event) = event_here(waking, field, next, after) {
             return Some(event);
         }
         field = next;
@@ -121,12 +149,17 @@ fn find_event<'a>(first: &'a [u8], rest: &'a [u8]) -> Option<SchedulerEvent<'a>>
 }
 
 /// The event of a field, the word after it, and what stands after that.
-pub fn event_here<'a>(field: &'a [u8], next: &[u8], after: &'a [u8]) -> Option<SchedulerEvent<'a>>
-    ensures { MatchOption result (event_at field.now (word_of next.now) (fields_of after.now) ≡ None)
-        (λ event. event_at field.now (word_of next.now) (fields_of after.now)
+pub fn event_here<'a>(
+    waking: bool,
+    field: &'a [u8],
+    next: &[u8],
+    after: &'a [u8],
+) -> Option<SchedulerEvent<'a>>
+    ensures { MatchOption result (event_at field.now (word_of waking next.now) (fields_of after.now) ≡ None)
+        (λ event. event_at field.now (word_of waking next.now) (fields_of after.now)
         ≡ Some (event_view event)) }
 {
-    let Some(word) = read_word(next) else {
+    let Some(word) = read_word(waking, next) else {
         return None;
     };
     let Some(stamp) = read_stamp(field) else {
@@ -141,21 +174,37 @@ pub fn event_here<'a>(field: &'a [u8], next: &[u8], after: &'a [u8]) -> Option<S
 
 #[tactic(auto, unfolding(crate::specs::TraceLine::word_of))]
 /// The word of an event, with or without `sched:` before it.
-fn read_word(field: &[u8]) -> Option<EventWord>
-    ensures { result ≡ word_of field.now }
+fn read_word(waking: bool, field: &[u8]) -> Option<EventWord>
+    ensures { result ≡ word_of waking field.now }
 {
-    let word = if begins_with(field, "sched:") {
-        behind(field, "sched:")
-    } else {
-        field
-    };
+    let word = bare_word(field);
     if is_text(word, "sched_switch:") {
         Some(EventWord::Switch)
-    } else if is_text(word, "sched_wakeup:") || is_text(word, "sched_wakeup_new:") {
+    } else if is_wakeup_word(waking, word) {
         Some(EventWord::Wakeup)
     } else {
         None
     }
+}
+
+/// What stands after `sched:`, where a field begins so.
+pub fn bare_word(field: &[u8]) -> &[u8]
+    ensures { result.now ≡ bare_word field.now }
+{
+    if begins_with(field, "sched:") {
+        behind(field, "sched:")
+    } else {
+        field
+    }
+}
+
+/// Whether a field is the word of a wakeup.
+fn is_wakeup_word(waking: bool, field: &[u8]) -> bool
+    ensures { result ≡ is_wakeup_word waking field.now }
+{
+    is_text(field, "sched_wakeup:")
+        || is_text(field, "sched_wakeup_new:")
+        || (waking && is_text(field, "sched_waking:"))
 }
 
 #[tactic(auto, unfolding(crate::specs::TraceLine::is_stamped))]
@@ -236,7 +285,7 @@ fn read_leaving<'a>(fields: &LastFields<'a>) -> Option<Leaving<'a>>
 {
     if is_text(fields.last, "==>")
         && begins_with(fields.second, "prev_state=")
-        && is_keyed(fields.third, "prev_prio=")
+        && is_priority(fields.third, "prev_prio=")
         && is_keyed(fields.fourth, "prev_pid=")
     {
         Some(Leaving {
@@ -292,7 +341,7 @@ fn is_running(state: &[u8]) -> bool
 fn has_coming(ends: &LastFields) -> bool
     ensures { result ≡ is_coming (ends_view ends.now) }
 {
-    is_keyed(ends.second, "next_pid=") && is_keyed(ends.last, "next_prio=")
+    is_keyed(ends.second, "next_pid=") && is_priority(ends.last, "next_prio=")
 }
 
 /// A wakeup, by its last fields, of which `success` may be missing.
@@ -310,7 +359,7 @@ fn read_wakeup(ends: &LastFields) -> Option<Change>
 fn read_woken(pid: &[u8], prio: &[u8], target: &[u8]) -> Option<Change>
     ensures { result ≡ wakeup_of pid.now prio.now target.now }
 {
-    if is_keyed(target, "target_cpu=") && is_keyed(prio, "prio=") && is_keyed(pid, "pid=") {
+    if is_keyed(target, "target_cpu=") && is_priority(prio, "prio=") && is_keyed(pid, "pid=") {
         Some(Change::Wakeup(id_of(pid, "pid=")))
     } else {
         None

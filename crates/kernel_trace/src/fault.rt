@@ -66,6 +66,13 @@ pub enum TraceKind {
     /// All lines were read, and the line `events` did not come.
     NoEvents,
 
+    /// The line is of the head of ftrace, and says that the recorder overwrote lines; and the window does not begin where the lines
+    /// of all processors are there.
+    Overwritten,
+
+    /// All lines were read, and no used line names a task.
+    NothingSaid,
+
     /// The memory that the input needs was refused. It may come in place of any answer.
     OutOfMemory,
 }
@@ -92,6 +99,8 @@ impl TraceKind {
             TraceKind::Unseen => Some(21),
             TraceKind::ManyEvents => Some(10),
             TraceKind::NoEvents => Some(12),
+            TraceKind::Overwritten => Some(22),
+            TraceKind::NothingSaid => Some(23),
             TraceKind::OutOfMemory => None,
         }
     }

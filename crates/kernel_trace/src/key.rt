@@ -2,7 +2,7 @@
 ghost use Rattle.std.specs.Prelude.{◌≡◌, ◌≤◌, min, true, false, length, MatchOption};
 ghost use Rattle.std.specs.Str.{bytes_eq};
 ghost use Rattle.affinity_mask.specs.Number.{number_value};
-ghost use Rattle.kernel_trace.specs.TraceLine.{begins, after_key, is_keyed, id_after};
+ghost use Rattle.kernel_trace.specs.TraceLine.{begins, after_key, unsigned, is_keyed, is_priority, id_after};
 
 use crate::digits::is_number_text;
 
@@ -39,6 +39,25 @@ pub fn is_keyed(field: &[u8], key: &str) -> bool
     ensures { result ≡ is_keyed key.now field.now }
 {
     begins_with(field, key) && is_number_text(behind(field, key))
+}
+
+#[tactic(auto, unfolding(crate::specs::TraceLine::is_priority))]
+/// Whether a field is a key and a priority, of which that of SCHED_DEADLINE is below zero.
+pub fn is_priority(field: &[u8], key: &str) -> bool
+    ensures { result ≡ is_priority key.now field.now }
+{
+    begins_with(field, key) && is_number_text(unsigned(behind(field, key)))
+}
+
+/// What stands after a minus, where there is one.
+fn unsigned(text: &[u8]) -> &[u8]
+    ensures { result.now ≡ unsigned text.now }
+{
+    if begins_with(text, "-") {
+        behind(text, "-")
+    } else {
+        text
+    }
 }
 
 #[tactic(auto, unfolding(crate::specs::TraceLine::id_after))]

@@ -2,7 +2,7 @@
 //! caller in a proof gets the law by its clause.
 ghost use Rattle.kernel_trace.specs.Import.{ReadyAsMentioned, ImportIsFaithful};
 ghost use Rattle.kernel_trace.specs.Passages.{PassagesAreFaithful};
-ghost use Rattle.kernel_trace.specs.Laws.{TextHasOneInput, TextHasOneFault, InputHasNoFault, AcceptedOrRefused};
+ghost use Rattle.kernel_trace.specs.Laws.{TextHasOneInput, TextHasOneFault, InputHasNoFault, AcceptedOrRefused, TextHasOneTrace, TraceTextHasOneFault, TraceHasNoFault, TraceAcceptedOrRefused};
 
 /// A text is that of at most one input.
 pub fn text_has_one_input()
@@ -38,4 +38,24 @@ pub fn import_is_faithful()
 /// What is read of the text of a trace are its passages.
 pub fn passages_are_faithful()
     ensures { PassagesAreFaithful }
+{}
+
+/// A text is that of at most one trace of tasks.
+pub fn text_has_one_trace()
+    ensures { TextHasOneTrace }
+{}
+
+/// As a trace of tasks a text is refused with at most one line and one kind.
+pub fn trace_text_has_one_fault()
+    ensures { TraceTextHasOneFault }
+{}
+
+/// No text is both that of a trace of tasks and refused.
+pub fn trace_has_no_fault()
+    ensures { TraceHasNoFault }
+{}
+
+/// Each text is that of a trace of tasks, or is refused.
+pub fn trace_accepted_or_refused()
+    ensures { TraceAcceptedOrRefused }
 {}

@@ -20,6 +20,7 @@ mod processor;
 pub mod read;
 mod stage;
 pub mod stamp;
+mod survey;
 mod task_stage;
 pub mod task_trace;
 

@@ -11,8 +11,8 @@ use crate::key::{is_keyed, number_of};
 const MANY_PROCESSORS: u64 = 4_294_967_296;
 
 /// The processor that a line of the scheduler names before its stamp.
-pub fn read_processor(line: &[u8]) -> Option<u32>
-    ensures { result ≡ processor_of (fields_of line.now) }
+pub fn read_processor(waking: bool, line: &[u8]) -> Option<u32>
+    ensures { result ≡ processor_of waking (fields_of line.now) }
 {
     let Some((first, rest)) = first_field(line) else {
         return None;
@@ -21,7 +21,7 @@ pub fn read_processor(line: &[u8]) -> Option<u32>
     let mut field = first;
     let mut rest = rest;
     while let Some((next, after)) = first_field(rest) {
-        if event_here(field, next, after).is_some() {
+        if event_here(waking, field, next, after).is_some() {
             return named;
         }
         named = processor_after(named, field);

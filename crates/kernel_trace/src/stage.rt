@@ -6,6 +6,7 @@ ghost use Rattle.task_set.specs.declared.fault.TaskFault.TheVariants as task;
 ghost use Rattle.text_fields.specs.Fields.{texts};
 ghost use Rattle.text_fields.specs.LineRule.{IsLineOutcome};
 ghost use Rattle.text_fields.specs.Machine.{Leads, Fails};
+ghost use Rattle.kernel_trace.specs.SurveyView.{look_of};
 ghost use Rattle.kernel_trace.specs.Reading.{course_of, progress_of, line_of, window_view, IsValid, IsCourse, IsOutOfMemory, IsRefusedBy};
 ghost use Rattle.kernel_trace.specs.declared.stage.Step.TheVariants as step;
 ghost use Rattle.kernel_trace.specs.TraceFault.{trace_kind};
@@ -16,6 +17,7 @@ use crate::course::{Course, Window};
 use crate::fault::TraceKind;
 use crate::fields::{fields, is_plain, is_skipped};
 use crate::stamp::Stamp;
+use crate::survey::Survey;
 use affinity_mask::{OutOfMemory, ProcSet};
 use indexmap::IndexSet;
 use std::alloc::Global;
@@ -85,16 +87,18 @@ impl<'a> Stage<'a> {
     pub fn after_line(
         &mut self,
         alloc: Global,
+        look: Survey,
         line: &'a [u8],
         room: &mut Vec<&'a [u8]>,
     ) -> Result<(), TraceKind>
         requires { IsValid (progress_of self.old) }
-        ensures read { OnOk result (IsLine (progress_of self.old) line.now
+        ensures read { OnOk result (IsLine (look_of look.entry) (progress_of self.old) line.now
             (Leads (progress_of self.new))) }
-        ensures refused { IfErr result (IsRefusedBy (IsLine (progress_of self.old) line.now)) }
+        ensures refused { IfErr result (IsRefusedBy (IsLine (look_of look.entry) (progress_of self.old)
+            line.now)) }
     {
         match self.step {
-            Step::Trace => self.course.after_line(line),
+            Step::Trace => self.course.after_line(look, line),
             _ => self.after_head_line(alloc, line, room),
         }
     }
@@ -184,6 +188,9 @@ impl<'a> Stage<'a> {
         let Step::Trace = step else {
             return Err(TraceKind::NoEvents);
         };
+        if !course.names_task() {
+            return Err(TraceKind::NothingSaid);
+        }
         match course.into_input() {
             Ok(input) => Ok(input),
             Err(_) => Err(TraceKind::OutOfMemory),

@@ -2,11 +2,12 @@
 ghost use Rattle.std.specs.Prelude.{◌≡◌, ◌⊎◌, ◌||◌, is_some, IfOk, IfErr, OnOk, MatchResult};
 ghost use Rattle.std.specs.Option.{option_map};
 ghost use Rattle.kernel_trace.specs.Course.{CourseData};
-ghost use Rattle.kernel_trace.specs.Passage.{nothing_followed, at_time, start_after, kept_outcome, changed_outcome, used_outcome, timed_outcome, told_outcome, said_outcome, IsFollowed, IsFollowedEnd};
+ghost use Rattle.kernel_trace.specs.Passage.{nothing_followed, at_time, start_after, kept_outcome, changed_outcome, used_outcome, timed_outcome, told_outcome, said_outcome, fields_outcome, IsFollowed, IsFollowedEnd};
 ghost use Rattle.kernel_trace.specs.PassageView.{following_of, CanFollow, IsRefusedBy};
 ghost use Rattle.kernel_trace.specs.Processor.{processor_of};
 ghost use Rattle.kernel_trace.specs.Reading.{course_of, IsCourse, IsOutOfMemory};
 ghost use Rattle.kernel_trace.specs.StampView.{time_of};
+ghost use Rattle.kernel_trace.specs.SurveyView.{look_of};
 ghost use Rattle.kernel_trace.specs.TraceLine.{said_by};
 ghost use Rattle.kernel_trace.specs.declared.stage.Step.TheVariants as step;
 ghost use Rattle.text_fields.specs.Lines.{fields_of};
@@ -19,6 +20,7 @@ use crate::fault::TraceKind;
 use crate::passage::{Passage, TaskChange};
 use crate::stage::{Stage, Step};
 use crate::stamp::Stamp;
+use crate::survey::Survey;
 use crate::task_trace::TaskTrace;
 use affinity_mask::OutOfMemory;
 use std::alloc::Global;
@@ -55,38 +57,55 @@ impl<'a> TaskStage<'a> {
     pub fn after_line(
         &mut self,
         alloc: Global,
+        look: Survey,
         line: &'a [u8],
         room: &mut Vec<&'a [u8]>,
     ) -> Result<(), TraceKind>
         requires { CanFollow (following_of self.old) }
-        ensures read { OnOk result (IsFollowed (following_of self.old) line.now
+        ensures read { OnOk result (IsFollowed (look_of look.entry) (following_of self.old) line.now
             (Leads (following_of self.new))) }
-        ensures refused { IfErr result (IsRefusedBy (IsFollowed (following_of self.old)
+        ensures refused { IfErr result (IsRefusedBy (IsFollowed (look_of look.entry) (following_of self.old)
             line.now)) }
     {
         match self.stage.step {
-            Step::Trace => self.after_trace_line(line),
+            Step::Trace => self.after_trace_line(look, line),
             _ => self.stage.after_head_line(alloc, line, room),
         }
     }
 
     /// Goes on by a line of the trace.
-    fn after_trace_line(&mut self, line: &'a [u8]) -> Result<(), TraceKind>
+    fn after_trace_line(&mut self, look: Survey, line: &'a [u8]) -> Result<(), TraceKind>
+        requires step { self.old.stage.step ≡ step.Trace }
+        requires course { IsCourse (course_of self.old.stage.course) }
+        ensures read { OnOk result (fields_outcome (look_of look.entry) (following_of self.old)
+            (course_of self.old.stage.course) (fields_of line.now) ≡ Leads (following_of self.new)) }
+        ensures refused { IfErr result (λ kind. IsOutOfMemory kind
+            ⊎ (fields_outcome (look_of look.entry) (following_of self.old) (course_of self.old.stage.course)
+            (fields_of line.now) ≡ Fails kind)) }
+    {
+        if self.stage.course.is_gap(look, line) {
+            return Err(TraceKind::Overwritten);
+        }
+        self.after_whole_line(look.waking, line)
+    }
+
+    /// Goes on by a line of the trace with no gap before it.
+    fn after_whole_line(&mut self, waking: bool, line: &'a [u8]) -> Result<(), TraceKind>
         requires step { self.old.stage.step ≡ step.Trace }
         requires course { IsCourse (course_of self.old.stage.course) }
         ensures read { OnOk result (said_outcome (following_of self.old)
-            (course_of self.old.stage.course) (said_by (fields_of line.now))
-            (processor_of (fields_of line.now)) ≡ Leads (following_of self.new)) }
+            (course_of self.old.stage.course) (said_by waking (fields_of line.now))
+            (processor_of waking (fields_of line.now)) ≡ Leads (following_of self.new)) }
         ensures refused { IfErr result (λ kind. IsOutOfMemory kind
             ⊎ (said_outcome (following_of self.old) (course_of self.old.stage.course)
-            (said_by (fields_of line.now)) (processor_of (fields_of line.now)) ≡ Fails kind)) }
+            (said_by waking (fields_of line.now)) (processor_of waking (fields_of line.now)) ≡ Fails kind)) }
     {
-        match read_line(line) {
+        match read_line(waking, line) {
             Said::Nothing => Ok(()),
             Said::LostEvents => Err(TraceKind::Lost),
             Said::Malformed => Err(TraceKind::BadForm),
             Said::Happened { stamp, change } => {
-                let told = self.stage.course.task_change(change, line);
+                let told = self.stage.course.task_change(waking, change, line);
                 self.after_told(stamp, change, told)
             }
         }
@@ -204,7 +223,8 @@ impl<'a> TaskStage<'a> {
         } = self;
         let Stage { step, course } = stage;
         match step {
-            Step::Trace => Ok(TaskTrace::new(course.set, passages)),
+            Step::Trace if course.names_task() => Ok(TaskTrace::new(course.set, passages)),
+            Step::Trace => Err(TraceKind::NothingSaid),
             _ => Err(TraceKind::NoEvents),
         }
     }

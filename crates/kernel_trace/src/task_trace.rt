@@ -1,14 +1,16 @@
 //! What a trace says of tasks, and its reader.
 ghost use Rattle.std.specs.Prelude.{◌≡◌, ◌⊎◌, ℕ, IfOk, IfErr, MatchResult};
-ghost use Rattle.kernel_trace.specs.Passage.{TaskTraceData, nothing_followed, IsTaskTraceText, IsTaskTraceRefused};
+ghost use Rattle.kernel_trace.specs.Passage.{TaskTraceData, nothing_followed, IsTaskTextBy, IsTaskRefusedBy, IsTaskTraceText, IsTaskTraceRefused};
 ghost use Rattle.kernel_trace.specs.Passages.{IsTaskTrace};
 ghost use Rattle.kernel_trace.specs.PassageView.{following_of};
 ghost use Rattle.kernel_trace.specs.Reading.{IsOutOfMemory};
+ghost use Rattle.kernel_trace.specs.SurveyView.{look_of};
 ghost use Rattle.kernel_trace.specs.declared.fault.TraceKind.{TraceKind};
 
 use crate::fault::{TraceFault, TraceKind};
 use crate::fields::first_line;
 use crate::passage::Passage;
+use crate::survey::{Survey, look_over};
 use crate::task_stage::TaskStage;
 use std::alloc::Global;
 use std::marker::Model;
@@ -79,21 +81,32 @@ pub fn read_task_trace(alloc: Global, bytes: &[u8]) -> Result<TaskTrace, TraceFa
         → MatchResult result (λ trace. ⊥)
         (λ fault. IsOutOfMemory fault.kind ⊎ ((fault.line ≡ line) × (fault.kind ≡ kind))) }
 {
+    let Ok(look) = look_over(alloc, bytes) else {
+        return Err(TraceFault {
+            line: 1,
+            kind: TraceKind::OutOfMemory,
+        });
+    };
     let Ok(stage) = TaskStage::new(alloc) else {
         return Err(TraceFault {
             line: 1,
             kind: TraceKind::OutOfMemory,
         });
     };
-    run(alloc, stage, bytes)
+    run(alloc, look, stage, bytes)
 }
 
 /// Goes on line by line, from the first to the last.
-fn run<'a>(alloc: Global, stage: TaskStage<'a>, bytes: &'a [u8]) -> Result<TaskTrace, TraceFault>
+fn run<'a>(
+    alloc: Global,
+    look: Survey,
+    stage: TaskStage<'a>,
+    bytes: &'a [u8],
+) -> Result<TaskTrace, TraceFault>
     requires { following_of stage ≡ nothing_followed }
-    ensures trace { IfOk result (IsTaskTraceText bytes.now) }
+    ensures trace { IfOk result (IsTaskTextBy (look_of look.entry) bytes.now) }
     ensures refused { IfErr result (λ fault. IsOutOfMemory fault.kind
-        ⊎ IsTaskTraceRefused bytes.now fault.line fault.kind) }
+        ⊎ IsTaskRefusedBy (look_of look.entry) bytes.now fault.line fault.kind) }
 {
     let mut room = Vec::new(alloc);
     let mut stage = stage;
@@ -101,7 +114,7 @@ fn run<'a>(alloc: Global, stage: TaskStage<'a>, bytes: &'a [u8]) -> Result<TaskT
     let mut line = 1;
     while !rest.is_empty() {
         let (text, after) = first_line(rest);
-        match stage.after_line(alloc, text, &mut room) {
+        match stage.after_line(alloc, look, text, &mut room) {
             Ok(()) => {}
             Err(kind) => return Err(TraceFault { line, kind }),
         }

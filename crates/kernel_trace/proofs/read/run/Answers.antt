@@ -2,6 +2,7 @@ use Rattle.std.proofs.Common.{◌≡◌, ◌≢◌, [], ap, inl, inr, arith, rul
 use Rattle.std.proofs.lemmas.List.{nil_from_length}
 use Rattle.text_fields.specs.Lines.{lines_of}
 use Rattle.text_fields.specs.Machine.{Leads, Fails, IsText, Refuses}
+use Rattle.kernel_trace.specs.SurveyView.{look_of}
 use Rattle.kernel_trace.proofs.LinesRead.{first_of_lines, rest_is_shorter}
 use Rattle.text_fields.proofs.TextLaws as lawful
 use Rattle.kernel_trace.specs.Reading.{progress_of}
@@ -12,7 +13,7 @@ pub returns-in-Err-clause-refused : goal.returns-in-Err-clause-refused
 returns-in-Err-clause-refused c = elim c.in-Err.ensures.refused [
   | inl none ↦ inl none
   | inr fault ↦ inr (c.loop-rest.invariant.answers (Refuses c.loop-rest.line c.in-Err.kind)
-      (lawful.refused_at trace_machine lines_of
+      (lawful.refused_at (trace_machine (look_of c.args.look)) lines_of
       c.loop-rest.line _ _ _ _ c.in-Err.kind (first_of_lines c.loop-rest.rest.now _ _ (search rules) c.first_line.ensures) fault))
 ]
 
@@ -23,9 +24,9 @@ loop-rest-preserved c =
     let shorter = rest_is_shorter c.loop-rest.rest.now _ _ some c.first_line.ensures in
     record {
       answers = λ answer later. c.loop-rest.invariant.answers answer
-          (lawful.led_on trace_machine lines_of
+          (lawful.led_on (trace_machine (look_of c.args.look)) lines_of
           c.loop-rest.line _ _ _ _ _ answer (first_of_lines c.loop-rest.rest.now _ _ some c.first_line.ensures) c.in-Ok.ensures.read later);
-      valid = (let machine = trace_machine in machine.keeps (progress_of c.loop-rest.stage) _ _ c.loop-rest.invariant.valid c.in-Ok.ensures.read);
+      valid = (let machine = trace_machine (look_of c.args.look) in machine.keeps (progress_of c.loop-rest.stage) _ _ c.loop-rest.invariant.valid c.in-Ok.ensures.read);
       bound = omega (arith, bound, shorter);
     }
 
@@ -33,7 +34,7 @@ pub returns-in-Ok-at_end-clause-input : goal.returns-in-Ok-at_end-clause-input
 returns-in-Ok-at_end-clause-input c =
     let none : c.loop-rest.rest.now ≡ [] = nil_from_length c.loop-rest.rest.now (search rules) in
     c.loop-rest.invariant.answers (IsText c.in-Ok-at_end.input)
-    (lawful.ended_at trace_machine lines_of
+    (lawful.ended_at (trace_machine (look_of c.args.look)) lines_of
     c.loop-rest.line _ (lines_of c.loop-rest.rest.now) (Leads c.in-Ok-at_end.input) (ap lines_of none) c.in-Ok-at_end.ensures)
 
 pub returns-clause-refused : goal.returns-clause-refused
@@ -42,6 +43,6 @@ returns-clause-refused c =
     elim c.in-Err-at_end.ensures [
       | inl memory ↦ inl memory
       | inr fault ↦ inr (c.loop-rest.invariant.answers (Refuses c.loop-rest.line c.in-Err-at_end.kind)
-          (lawful.ended_at trace_machine lines_of
+          (lawful.ended_at (trace_machine (look_of c.args.look)) lines_of
           c.loop-rest.line _ (lines_of c.loop-rest.rest.now) (Fails c.in-Err-at_end.kind) (ap lines_of none) fault))
     ]

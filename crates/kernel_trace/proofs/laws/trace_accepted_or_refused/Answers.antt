@@ -1,0 +1,8 @@
+use Rattle.text_fields.specs.Lines.{lines_of}
+use Rattle.text_fields.proofs.TextLaws.{always_one}
+use Rattle.kernel_trace.specs.Survey.{survey_of}
+use Rattle.kernel_trace.proofs.Followed.{following_machine}
+use Rattle.kernel_trace.proofs.laws.trace_accepted_or_refused.Goals as goal
+
+pub returns : goal.returns
+returns c bytes = always_one (following_machine (survey_of (lines_of bytes))) lines_of bytes
