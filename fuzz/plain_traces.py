@@ -14,6 +14,7 @@ from texts import MOST_EVENTS, canonical_list
 MOST_TRACE_BYTES = 268435456
 STAMP = re.compile(rb'([0-9]+)\.([0-9]{1,9})')
 WORDS = {b'sched_switch:': 'switch', b'sched_wakeup:': 'wakeup', b'sched_wakeup_new:': 'wakeup'}
+OVERWRITTEN = [b'#', b'entries-in-buffer/entries-written:']
 PROCESSOR = re.compile(rb'\[([0-9]+)\]')
 
 
@@ -30,8 +31,8 @@ def stamp(field):
 
 
 def keyed(field, key):
-    """The number of a field `key=digits`, or None."""
-    found = re.fullmatch(key + rb'=([0-9]+)', field)
+    """The number of a field `key=digits`, or None. A priority may have a minus, which is passed over here."""
+    found = re.fullmatch(key + (rb'=-?' if key.endswith(b'prio') else rb'=') + rb'([0-9]+)', field)
     return value(found[1]) if found else None
 
 
@@ -45,6 +46,8 @@ class Trace(Text):
     def __init__(self):
         super().__init__()
         self.ids, self.window, self.is_head = [], None, True
+        # Which words say a switch or a wakeup; and where lines were overwritten, when those of all processors are there.
+        self.words, self.whole = WORDS, None
         # When the last line of the scheduler was, and the used lines: time, processor, ids, and the mentions of tasks.
         self.last, self.used = None, []
         self.mentioned = {}
@@ -62,13 +65,40 @@ def read_trace(data, is_lost):
     """What the text of a trace says; a Fault where it is none. With `is_lost` as the word `lost` reads it."""
     lines = lines_of(data)
     trace, events = Trace(), Events(is_lost)
+    look_over(trace, [fields_of(line) for line in lines])
     for place, line in enumerate(lines, 1):
         kind = head_kind(trace, line) if trace.is_head else trace_kind(trace, events, fields_of(line))
         if kind:
             raise Fault(place, kind)
     if trace.is_head:
         raise Fault(len(lines) + 1, 12)
+    if not trace.mentioned:
+        raise Fault(len(lines) + 1, 23)
     return trace, events
+
+
+# The whole text.
+
+def look_over(trace, lines):
+    """What is said of all lines: whether sched_waking counts, and when each processor that is named has had a line."""
+    if not any(field.removeprefix(b'sched:') == b'sched_wakeup:' for fields in lines for field in fields):
+        trace.words = {**WORDS, b'sched_waking:': 'wakeup'}
+    events = [event_of(trace.words, fields) for fields in lines]
+    first = next((place for place, event in enumerate(events) if event), len(lines))
+    if any(map(is_overwritten, lines[:first + 1])):
+        named = set()
+        for event in events:
+            processor = processor_of(event[2]) if event else None
+            if processor is not None and processor not in named:
+                named.add(processor)
+                trace.whole = event[0]
+
+
+def is_overwritten(fields):
+    if len(fields) < 3 or fields[:2] != OVERWRITTEN:
+        return False
+    left, _slash, written = fields[2].partition(b'/')
+    return left != written
 
 
 # The head.
@@ -122,10 +152,10 @@ def window_kind(trace, fields):
 
 # The lines of the trace.
 
-def event_of(fields):
+def event_of(words, fields):
     """Of a line of the scheduler: its time, its word, the fields before the stamp and those behind the word; or None."""
     for at in range(len(fields) - 1):
-        word = WORDS.get(fields[at + 1].removeprefix(b'sched:'))
+        word = words.get(fields[at + 1].removeprefix(b'sched:'))
         time = stamp(fields[at][:-1]) if fields[at].endswith(b':') else None
         if word and time is not None:
             return time, word, fields[:at], fields[at + 2:]
@@ -144,11 +174,13 @@ def change_of(word, fields):
     if not fields or not fields[0].startswith(b'prev_comm=') or len(fields) < 3:
         return None
     to, level = keyed(fields[-2], b'next_pid'), keyed(fields[-1], b'next_prio')
-    for at in range(1, len(fields) - 5):
+    for at in range(len(fields) - 3):
         leaves = keyed(fields[at], b'prev_pid')
-        state = re.fullmatch(rb'prev_state=([A-Za-z]).*', fields[at + 2], re.DOTALL)
-        if leaves is not None and keyed(fields[at + 1], b'prev_prio') is not None and state and fields[at + 3] == b'==>':
-            return None if to is None or level is None else [(leaves, state[1] == b'R'), (to, True)]
+        is_state = fields[at + 2].startswith(b'prev_state=')
+        if leaves is not None and keyed(fields[at + 1], b'prev_prio') is not None and is_state and fields[at + 3] == b'==>':
+            # The first such place counts, whatever its state is.
+            state = re.match(rb'prev_state=([A-Za-z])', fields[at + 2])
+            return None if to is None or level is None or not state else [(leaves, state[1] == b'R'), (to, True)]
     return None
 
 
@@ -160,9 +192,13 @@ def processor_of(fields):
 
 def trace_kind(trace, events, fields):
     """Takes a line of the trace, or gives the kind of its fault."""
+    if is_overwritten(fields) and not (trace.window and trace.whole is not None and trace.whole <= trace.window[0]):
+        return 22
     if len(fields) > 1 and fields[0].startswith(b'CPU:') and fields[-1] in (b'EVENTS]', b'DROPPED]'):
         return 20
-    event = event_of(fields)
+    if len(fields) > 2 and fields[-2:] == [b'events', b'lost]'] and re.fullmatch(rb'\[[0-9]+', fields[0]):
+        return 20
+    event = event_of(trace.words, fields)
     if event is None:
         return None
     time, word, before, behind = event
