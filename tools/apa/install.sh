@@ -33,6 +33,21 @@ install() {
     } || fail "cannot write to $1"
     tell "apa: $to/apa and $to/apa-program are ready; the manual page and the completion for bash are in $share"
     install_library "$(beside "$to")" || fail "cannot write to $(beside "$to")"
+    read_part govern
+    install_agent "$to" "$(beside "$to")" || fail "cannot write to $to"
+}
+
+# The agent and the recorder beside the command, with page and unit, where make -C c/agent has made them, or where they stand beside
+# this copy. install_agent BIN PREFIX
+install_agent() {
+    from=$(agent_folder) page=$top/man/apa-agent.8 unit=$top/c/agent/apa-agent.service
+    [ -z "$installed" ] || page=$(beside "$top")/share/man/man8/apa-agent.8 unit=$(beside "$top")/lib/systemd/system/apa-agent.service
+    { [ -x "$from/apa-agent" ] && [ -x "$from/apa-record" ]; } || return 0
+    mkdir -p -- "$2/share/man/man8" "$2/lib/systemd/system" && copy "$from/apa-agent" "$1/apa-agent" &&
+        copy "$from/apa-record" "$1/apa-record" && copy "$page" "$2/share/man/man8/apa-agent.8" &&
+        sed "s|=[^=]*/apa-agent|=$1/apa-agent|" "$unit" >"$1/apa-agent.unit" &&
+        mv -f -- "$1/apa-agent.unit" "$2/lib/systemd/system/apa-agent.service" || return
+    tell "apa: the agent is in $1: apa-agent, apa-record, the page apa-agent(8) and a unit in $2/lib/systemd/system"
 }
 
 # The library for C beside the command, where c/build has made it of these sources, or where it stands beside this copy.

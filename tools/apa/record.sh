@@ -2,6 +2,7 @@
 # shellcheck shell=sh disable=SC2154 # variables of apa
 
 read_part tasks
+read_part govern
 
 tracing=/sys/kernel/tracing
 
@@ -14,6 +15,22 @@ record() {
     esac
     find_output
     [ $# -eq 0 ] || processes "$@" >/dev/null || exit
+    overwritten=0
+    if [ -x "$(agent_folder)/apa-record" ]; then
+        known=$(list_threads "$@")
+        "$(agent_folder)/apa-record" "$seconds" || exit
+        later=$(list_threads "$@")
+    else
+        record_by_tracefs "$@"
+    fi
+    tell_changes
+    write_tasks
+    [ "$overwritten" -eq 0 ] ||
+        fail "$overwritten events did not fit into the buffer, so the trace has gaps: record for a shorter time, or make less run meanwhile"
+}
+
+# Where the recorder of c/agent is not built: by ftrace.
+record_by_tracefs() {
     make_instance
     known=$(list_threads "$@")
     trace_for "$seconds" || fail 'the recorder did not start'
@@ -21,10 +38,6 @@ record() {
     cat -- "$instance/trace" || exit
     overwritten=$(sed -n 's/^overrun: //p; s/^dropped events: //p' "$instance"/per_cpu/cpu*/stats | awk '{ n += $1 } END { print n + 0 }')
     remove_instance
-    tell_changes
-    write_tasks
-    [ "$overwritten" -eq 0 ] ||
-        fail "$overwritten events did not fit into the buffer, so the trace has gaps: record for a shorter time, or make less run meanwhile"
 }
 
 # Sets tasks, the file beside standard output.

@@ -1,0 +1,22 @@
+# The word govern: threads of this machine are scheduled strongly. `apa` reads this file where it is asked for.
+# shellcheck shell=sh disable=SC2154 # variables of apa
+
+# The programs of c/agent: where make leaves them, or where they are installed.
+agent_folder() {
+    if [ -n "$installed" ]; then
+        echo "$top"
+    else
+        echo "$top/c/out"
+    fi
+}
+
+# govern TASKS [OPTION..]: the agent, on the threads that TASKS lists.
+govern() {
+    read_part traces
+    { [ -r "$1" ] && [ ! -d "$1" ]; } || fail "$(cannot_read "$1")"
+    agent=$(agent_folder)/apa-agent
+    [ -x "$agent" ] || fail 'the agent is not built; c/build makes the library, and make -C c/agent the agent'
+    list=$1
+    shift
+    exec "$agent" "$@" "$list"
+}
