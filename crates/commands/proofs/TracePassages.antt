@@ -12,23 +12,23 @@ use Rattle.kernel_trace.specs.declared.change.Mention.{Mention}
 use Rattle.kernel_trace.specs.declared.passage.Passage as used
 use Rattle.kernel_trace.specs.declared.passage.TaskChange.{TaskChange}
 use Rattle.kernel_trace.specs.declared.passage.TaskChange.TheVariants as change
-use Rattle.trace_losses.specs.Passages as counted
-use Rattle.trace_losses.specs.Passages.{ArePassages, IsMentionOf}
-use Rattle.trace_losses.specs.Runs.{AreTasks}
-use Rattle.trace_losses.specs.declared.passage.Passage.{Passage}
-use Rattle.trace_losses.specs.declared.passage.Readiness.{Readiness}
-use Rattle.trace_losses.specs.declared.turn.Turn.TheVariants.{Switch, Woken}
+use Rattle.trace_passages.specs.Passages as counted
+use Rattle.trace_passages.specs.Passages.{ArePassages, IsMentionOf}
+use Rattle.trace_passages.specs.Turns.{AreThreads}
+use Rattle.trace_passages.specs.declared.passage.Passage.{Passage}
+use Rattle.trace_passages.specs.declared.passage.Readiness.{Readiness}
+use Rattle.trace_passages.specs.declared.turn.Turn.TheVariants.{Switch, Woken}
 use Rattle.commands.specs.Lost.{turn_of, readiness_of, passage_of, passages_of}
 
 -- ---- one line
 -- what a line says of who runs where is of the tasks of which it says something
-turn_tasks : (tasks : ℕ) (told : TaskChange) (first : Option Mention) → IsAboutTasks tasks told → ForSome (turn_of told first) (AreTasks tasks)
+turn_tasks : (tasks : ℕ) (told : TaskChange) (first : Option Mention) → IsAboutTasks tasks told → ForSome (turn_of told first) (AreThreads tasks)
 turn_tasks tasks (change.Wakeup None) first about = λ turn is. cc
 turn_tasks tasks (change.Wakeup (Some task)) None about = λ turn is. cc
 turn_tasks tasks (change.Wakeup (Some task)) (Some mention) about =
-    λ turn is. let same : Woken task ≡ turn = cc in subst (AreTasks tasks) same (about task refl)
+    λ turn is. let same : Woken task ≡ turn = cc in subst (AreThreads tasks) same (about task refl)
 turn_tasks tasks (change.Switch processor from to) first about =
-    λ turn is. let same : Switch processor from to ≡ turn = cc in subst (AreTasks tasks) same about
+    λ turn is. let same : Switch processor from to ≡ turn = cc in subst (AreThreads tasks) same about
 
 mention_task : (tasks : ℕ) (mention : Option Mention) → ForSome mention (λ (m : Mention). m.task < tasks) → IsMentionOf tasks (readiness_of mention)
 mention_task tasks None about = λ readiness is. cc
@@ -37,7 +37,7 @@ mention_task tasks (Some mention) about =
     let same : record { task = mention.task; is_in = mention.is_in } ≡ readiness = cc in
     subst (λ (r : Readiness). r.task < tasks) same (about mention refl)
 
-line_tasks : (tasks : ℕ) (line : used.Passage) → IsPassageOf tasks line → counted.IsPassageOf tasks (passage_of line)
+line_tasks : (tasks : ℕ) (line : used.Passage) → IsPassageOf tasks line → counted.IsPassageOf tasks tasks (passage_of line)
 line_tasks tasks line of = record {
   turn = turn_tasks tasks line.change line.first of.change;
   first = mention_task tasks line.first of.first;
@@ -83,14 +83,16 @@ line_at [] k passage e = cc
 line_at (line ∷ rest) zero passage e = (line, refl, cc)
 line_at (line ∷ rest) (suc k) passage e = line_at rest k passage e
 
-pub counted_passages : (bytes : List ℕ) (trace : TaskTraceData) → IsTaskTrace bytes trace → ArePassages (length trace.set.tasks) (passages_of trace.passages)
+pub counted_passages : (bytes : List ℕ) (trace : TaskTraceData) → IsTaskTrace bytes trace
+    → ArePassages (length trace.set.tasks) (length trace.set.tasks) (passages_of trace.passages)
 counted_passages bytes trace is = record {
+  all = omega arith;
   each =
       λ k passage e.
       let at = line_at trace.passages k passage e in
       let of = All-get_or (IsPassageOf (length trace.set.tasks)) trace.passages k at.0 (slice_get_within trace.passages k at.0 at.1) is.of_set in
       let line = subst (IsPassageOf (length trace.set.tasks)) (get_or_from_slice_get trace.passages k at.0 at.0 at.1) of in
-      subst (counted.IsPassageOf (length trace.set.tasks)) at.2 (line_tasks (length trace.set.tasks) at.0 line);
+      subst (counted.IsPassageOf (length trace.set.tasks) (length trace.set.tasks)) at.2 (line_tasks (length trace.set.tasks) at.0 line);
   begin =
       λ passage e.
       let at = line_at trace.passages 0 passage e in

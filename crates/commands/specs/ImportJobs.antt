@@ -7,7 +7,7 @@ use Rattle.kernel_trace.specs.Passage.{TaskTraceData, IsTaskTraceText, IsTaskTra
 use Rattle.kernel_trace.specs.Passages.{IsTaskTrace}
 use Rattle.text_fields.specs.Lines.{lines_of}
 use Rattle.trace_losses.specs.Jobs.{AreJobs}
-use Rattle.trace_losses.specs.Passages.{span_of}
+use Rattle.trace_passages.specs.Passages.{span_of}
 use Rattle.trace_losses.specs.declared.job.TraceJob.{TraceJob}
 use Rattle.commands.specs.Import.{RefusesTraceText}
 use Rattle.commands.specs.Lost.{passages_of}

@@ -1,6 +1,6 @@
 -- What the kernel lost beside the best set, from the bytes of a trace of the Linux scheduler. The numbers of a task are counts: of the
 -- moments of the trace, each a microsecond from the first change to the last used line, at which something holds of it.
-use Rattle.std.specs.Prelude.{◌≡◌, ℕ, ◌<◌, ◌^◌, List, map, All, Option, None, Some, IfSome}
+use Rattle.std.specs.Prelude.{◌≡◌, ℕ, ◌<◌, ◌^◌, List, length, map, All, Option, None, Some, IfSome}
 use Rattle.kernel_trace.specs.LossText.{loss_text}
 use Rattle.kernel_trace.specs.Passage.{TaskTraceData, IsTaskTraceText, IsTaskTraceRefused}
 use Rattle.kernel_trace.specs.Passages.{IsTaskTrace}
@@ -11,10 +11,10 @@ use Rattle.kernel_trace.specs.declared.passage.TaskChange.{TaskChange}
 use Rattle.kernel_trace.specs.declared.passage.TaskChange.TheVariants as change
 use Rattle.trace_losses.specs.Losses.{AreLosses}
 use Rattle.trace_losses.specs.declared.loss.Loss.{Loss}
-use Rattle.trace_losses.specs.declared.passage.Passage.{Passage}
-use Rattle.trace_losses.specs.declared.passage.Readiness.{Readiness}
-use Rattle.trace_losses.specs.declared.turn.Turn.{Turn}
-use Rattle.trace_losses.specs.declared.turn.Turn.TheVariants.{Switch, Woken}
+use Rattle.trace_passages.specs.declared.passage.Passage.{Passage}
+use Rattle.trace_passages.specs.declared.passage.Readiness.{Readiness}
+use Rattle.trace_passages.specs.declared.turn.Turn.{Turn}
+use Rattle.trace_passages.specs.declared.turn.Turn.TheVariants.{Switch, Woken}
 use Rattle.commands.specs.Import.{RefusesTraceText}
 use Rattle.commands.specs.Refusal.{IsAnsweredInput}
 use Rattle.commands.specs.declared.status.Status.{Status}
@@ -65,11 +65,12 @@ row_of loss = record {
 abbrev pub AreNumbered : List Loss → Type 0
 AreNumbered losses = All (λ (loss : Loss). IfSome loss.rival (λ t. t < 2 ^ 32)) losses
 
--- the bytes are the text of the span of a trace, and of what each of its tasks lost
+-- the bytes are the text of the span of a trace, and of what each of its tasks lost; the threads that are told apart are the tasks
 pub record IsLossText (trace : TaskTraceData) (put : List ℕ) : Type 0 where
   pub units : ℕ
   pub losses : List Loss
-  pub are : AreLosses trace.set (passages_of trace.passages) units losses
+  pub beside : List ℕ
+  pub are : AreLosses trace.set (length trace.set.tasks) (passages_of trace.passages) units losses beside
   pub text : put ≡ loss_text trace.set units (map row_of losses)
 
 -- the bytes read are the text of a trace, and the bytes written are the text of what its tasks lost: of each task the number of moments

@@ -3,7 +3,7 @@ ghost use Rattle.std.specs.Prelude.{◌≡◌, ℕ, ◌+◌, ◌<◌, ◌≤◌,
 ghost use Rattle.job_release.specs.JobList.{job_list_text};
 ghost use Rattle.text_fields.specs.Lines.{lines_of};
 ghost use Rattle.trace_losses.specs.Jobs.{IsJobWithin};
-ghost use Rattle.trace_losses.specs.Passages.{ArePassages};
+ghost use Rattle.trace_passages.specs.Passages.{ArePassages};
 ghost use Rattle.commands.specs.Answers.{Answers};
 ghost use Rattle.commands.specs.ImportJobs.{listed, moments_of, AreJobsIn, IsHorizon, IsNarrow, IsRefusedList, IsImportedJobsOf, AcceptsJobTrace, RefusesJobTrace};
 ghost use Rattle.commands.specs.Lost.{passages_of};
@@ -43,14 +43,16 @@ pub fn imported_jobs_text(alloc: Global, bytes: &[u8]) -> Result<Vec<u8>, Status
 
 /// The jobs of a trace.
 fn found_in(alloc: Global, trace: &TaskTrace) -> Result<TraceJobs, OutOfMemory>
-    requires { ArePassages (length trace.now.set.tasks) (passages_of trace.now.passages) }
+    requires { ArePassages (length trace.now.set.tasks) (length trace.now.set.tasks)
+        (passages_of trace.now.passages) }
     ensures span { IfOk result (λ found. found.span ≡ moments_of trace.now) }
     ensures jobs { IfOk result (λ found. AreJobsIn trace.now found.jobs.items) }
     ensures within { IfOk result (λ found. All (IsJobWithin (length trace.now.set.tasks)
         (moments_of trace.now)) found.jobs.items) }
 {
+    let threads = trace.set().len();
     let passages = passages_of(alloc, trace.passages())?;
-    jobs_of(alloc, trace.set(), &passages)
+    jobs_of(alloc, trace.set(), threads, &passages)
 }
 
 /// The number of the kind with which these jobs are refused, if an input cannot have them.

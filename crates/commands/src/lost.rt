@@ -1,6 +1,6 @@
 //! From the bytes of a trace of the Linux scheduler to what its tasks lost.
 ghost use Rattle.std.specs.Prelude.{◌≡◌, ◌<◌, ◌^◌, length, map, IfOk, IfSome};
-ghost use Rattle.trace_losses.specs.Passages.{ArePassages};
+ghost use Rattle.trace_passages.specs.Passages.{ArePassages};
 ghost use Rattle.commands.specs.Answers.{Answers};
 ghost use Rattle.commands.specs.Lost.{turn_of, readiness_of, passage_of, passages_of, row_of, AreNumbered, IsLossText, IsLossOf, AcceptsTaskTrace, RefusesTaskTrace};
 
@@ -10,7 +10,8 @@ use affinity_mask::OutOfMemory;
 use kernel_trace::change::Mention;
 use kernel_trace::{LossRow, TaskChange, TaskTrace, passage, read_task_trace, write_losses};
 use std::alloc::{AllocError, Global};
-use trace_losses::{Loss, Passage, Readiness, Turn, losses_of};
+use trace_losses::{Loss, losses_of};
+use trace_passages::{Passage, Readiness, Turn};
 
 /// The text of what each task of a trace lost, or the status that says why there is none.
 pub fn lost_text(alloc: Global, bytes: &[u8]) -> Result<Vec<u8>, Status>
@@ -27,12 +28,13 @@ pub fn lost_text(alloc: Global, bytes: &[u8]) -> Result<Vec<u8>, Status>
 
 /// The text of what each task of a trace lost.
 fn text_of(alloc: Global, trace: &TaskTrace) -> Result<Vec<u8>, OutOfMemory>
-    requires { ArePassages (length trace.now.set.tasks) (passages_of trace.now.passages) }
+    requires { ArePassages (length trace.now.set.tasks) (length trace.now.set.tasks)
+        (passages_of trace.now.passages) }
     ensures { IfOk result (λ text. IsLossText trace.now text.items) }
 {
-    let _bound = trace.set().len();
+    let threads = trace.set().len();
     let passages = passages_of(alloc, trace.passages())?;
-    let found = losses_of(alloc, trace.set(), &passages)?;
+    let found = losses_of(alloc, trace.set(), threads, &passages)?;
     let rows = rows_of(alloc, &found.losses)?;
     write_losses(alloc, trace.set(), found.span, &rows)
 }

@@ -8,13 +8,14 @@ use Rattle.std.proofs.lemmas.List.{get_or-set_same, get_or-set_other}
 use Rattle.std.proofs.lemmas.Option.{same_Some, slice_get-get_or, slice_get_within}
 use Rattle.trace_losses.specs.Ahead.{IsAhead, AreAhead, AreLonger}
 use Rattle.trace_losses.specs.Jobs.{RunsAt, Change, AreJobsOf, BeginsJob, end_by, with_job}
-use Rattle.trace_losses.specs.Passages.{ArePassages, moment_at, span_of, turns_of}
-use Rattle.trace_losses.specs.Rows.{held_at_end}
+use Rattle.trace_passages.specs.Passages.{ArePassages, moment_at, span_of}
+use Rattle.trace_losses.specs.Passages.{turns_of}
+use Rattle.trace_losses.specs.Walk.{held_at_end}
 use Rattle.trace_losses.specs.Runs.{IsArmed}
 use Rattle.trace_losses.specs.Tally.{more}
 use Rattle.trace_losses.specs.declared.job.TraceJob.{TraceJob}
-use Rattle.trace_losses.specs.declared.passage.Passage.{Passage}
-use Rattle.trace_losses.specs.declared.passage.Readiness.{Readiness}
+use Rattle.trace_passages.specs.declared.passage.Passage.{Passage}
+use Rattle.trace_passages.specs.declared.passage.Readiness.{Readiness}
 use Rattle.trace_losses.proofs.Counts.{count_moved, count_most, count_with, count_without}
 use Rattle.trace_losses.proofs.Passed.{cut_at}
 use Rattle.trace_losses.proofs.RunsMoment.{runs_there, rests_there}
@@ -115,7 +116,7 @@ came old new on units longer all t count is =
     let now = longer.counted t before (omega (arith, below, all)) was in
     (before, was, same_Some _ _ (sym now ∙ is))
 
-module _ (tasks : ℕ) (passages : List Passage) (are : ArePassages tasks passages) (i : ℕ) (within : i < length passages)
+module _ (tasks threads : ℕ) (passages : List Passage) (are : ArePassages tasks threads passages) (i : ℕ) (within : i < length passages)
     (later : List Change) (on : List (Option ℕ)) (units : ℕ)
     (armed : IsArmed (held_at_end passages) (turns_of (drop i passages)) on)
     (span : moment_at passages (i - 1) + units ≡ moment_at passages i) where
@@ -143,7 +144,7 @@ module _ (tasks : ℕ) (passages : List Passage) (are : ArePassages tasks passag
             (count_with (RunsAt passages t) units start (end - moment_at passages i) before
             (λ x at_least below.
             runs_there passages i t x on o
-            (cut_at tasks passages are i x (some_before (omega (arith, at_least, below))) within at_least (omega (arith, below, span))) armed is e)
+            (cut_at tasks threads passages are i x (some_before (omega (arith, at_least, below))) within at_least (omega (arith, below, span))) armed is e)
             (count_moved (RunsAt passages t) (moment_at passages i) (start + units) (end - moment_at passages i) (end - moment_at passages i) before before
             (sym span) refl refl ahead.count));
       }
@@ -159,7 +160,7 @@ module _ (tasks : ℕ) (passages : List Passage) (are : ArePassages tasks passag
             (count_without (RunsAt passages t) units start (end - moment_at passages i) before
             (λ x at_least below.
             rests_there passages i t x on o
-            (cut_at tasks passages are i x (some_before (omega (arith, at_least, below))) within at_least (omega (arith, below, span))) armed is e)
+            (cut_at tasks threads passages are i x (some_before (omega (arith, at_least, below))) within at_least (omega (arith, below, span))) armed is e)
             (count_moved (RunsAt passages t) (moment_at passages i) (start + units) (end - moment_at passages i) (end - moment_at passages i) before before
             (sym span) refl refl ahead.count));
       }

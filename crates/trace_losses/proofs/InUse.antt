@@ -6,8 +6,8 @@ use Rattle.task_set.specs.declared.event.Event.TheVariants.{Arrive, Depart}
 use Rattle.strong_apa.specs.State.{HasSameTasks, task_count}
 use Rattle.live_core.specs.Live.{LiveData}
 use Rattle.live_core.specs.Slots.{is_in_use, IsEventInUse}
-use Rattle.trace_losses.specs.Rows.{AllInUse, event_of}
-use Rattle.trace_losses.specs.declared.passage.Readiness.{Readiness}
+use Rattle.trace_losses.specs.Walk.{AllInUse, event_of}
+use Rattle.trace_passages.specs.declared.passage.Readiness.{Readiness}
 
 pub all_at_first : (tasks : ℕ) (core : LiveData) → task_count core.links ≡ tasks → core.in_use ≡ replicate tasks true → AllInUse core
 all_at_first tasks core count in_use t below =

@@ -6,10 +6,10 @@ use Rattle.std.proofs.lemmas.Bool.{ltb-true}
 use Rattle.std.proofs.lemmas.List.Elements.{All-nil, All-cons, All-head, All-tail}
 use Rattle.std.proofs.lemmas.Option.{slice_get_within}
 use Rattle.trace_losses.specs.Jobs.{RunsAt, Change, AreJobs, AreJobsOf, BeginsJob, IsStretch, IsJobWithin, changes_of, end_by, is_departure, with_change}
-use Rattle.trace_losses.specs.Passages.{ArePassages, IsMentionOf, IsPassageOf, span_of}
+use Rattle.trace_passages.specs.Passages.{ArePassages, IsMentionOf, IsPassageOf, span_of}
 use Rattle.trace_losses.specs.declared.job.TraceJob.{TraceJob}
-use Rattle.trace_losses.specs.declared.passage.Passage.{Passage}
-use Rattle.trace_losses.specs.declared.passage.Readiness.{Readiness}
+use Rattle.trace_passages.specs.declared.passage.Passage.{Passage}
+use Rattle.trace_passages.specs.declared.passage.Readiness.{Readiness}
 use Rattle.trace_losses.proofs.Counts.{count_most}
 use Rattle.trace_losses.proofs.Passed.{moment_is, moments_in_order}
 
@@ -19,8 +19,8 @@ record IsChangeOf (tasks span : ℕ) (change : Change) : Type 0 where
   moment : change.moment ≤ span
 
 -- a passage of so many tasks, at a moment up to the end
-record IsWithin (tasks span : ℕ) (passage : Passage) : Type 0 where
-  of : IsPassageOf tasks passage
+record IsWithin (tasks threads span : ℕ) (passage : Passage) : Type 0 where
+  of : IsPassageOf tasks threads passage
   moment : passage.moment ≤ span
 
 module _ (tasks span : ℕ) where
@@ -31,14 +31,15 @@ module _ (tasks span : ℕ) where
       All-cons (IsChangeOf tasks span) (record { moment = moment; mention = mention }) later
       (record { task = of mention refl; moment = within }) are
 
-  changes_within : (passages : List Passage) → ((k : ℕ) (passage : Passage) → slice_get passages k ≡ Some passage → IsWithin tasks span passage)
+  changes_within : (threads : ℕ) (passages : List Passage)
+      → ((k : ℕ) (passage : Passage) → slice_get passages k ≡ Some passage → IsWithin tasks threads span passage)
       → All (IsChangeOf tasks span) (changes_of passages)
-  changes_within [] each = All-nil (IsChangeOf tasks span)
-  changes_within (passage ∷ rest) each =
+  changes_within threads [] each = All-nil (IsChangeOf tasks span)
+  changes_within threads (passage ∷ rest) each =
       let here = each 0 passage refl in
       with_one passage.moment passage.first (with_change passage.moment passage.second (changes_of rest)) here.moment here.of.first
       (with_one passage.moment passage.second (changes_of rest) here.moment here.of.second
-      (changes_within rest (λ k next is. each (suc k) next is)))
+      (changes_within threads rest (λ k next is. each (suc k) next is)))
 
   end_if : (b : Bool) (moment rest : ℕ) → moment ≤ span → rest ≤ span → (if b then moment else rest) ≤ span
   end_if true moment rest one other = one
@@ -90,13 +91,13 @@ module _ (tasks : ℕ) (passages : List Passage) where
       (λ more found. jobs_of_changes later more (All-tail (IsChangeOf tasks (span_of passages)) change later are) found)
       change.mention.is_in is
 
-  pub jobs_within : (jobs : List TraceJob) → ArePassages tasks passages → AreJobs passages jobs
+  pub jobs_within : (threads : ℕ) (jobs : List TraceJob) → ArePassages tasks threads passages → AreJobs passages jobs
       → All (IsJobWithin tasks (span_of passages)) jobs
-  jobs_within jobs are is =
+  jobs_within threads jobs are is =
       jobs_of_changes (changes_of passages) jobs
-      (changes_within tasks (span_of passages) passages
+      (changes_within tasks (span_of passages) threads passages
       (λ k passage there.
       (let bound = slice_get_within passages k passage there in
       let same = moment_is passages k passage there in
-      let order = moments_in_order tasks passages are k (length passages - 1) passage (omega (arith, bound)) (omega (arith, bound)) in
+      let order = moments_in_order tasks threads passages are k (length passages - 1) passage (omega (arith, bound)) (omega (arith, bound)) in
       record { of = are.each k passage there; moment = omega (arith, same, order) }))) is

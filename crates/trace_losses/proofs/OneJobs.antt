@@ -2,9 +2,9 @@
 use Rattle.std.proofs.Common.{◌≡◌, ℕ, ◌-◌, Bool, true, false, List, [], ◌∷◌, sym, ap, ◌∙◌, subst}
 use Rattle.std.specs.Bool.{MatchBool}
 use Rattle.trace_losses.specs.Jobs.{RunsAt, IsCount, Change, AreJobsOf, BeginsJob, IsStretch, end_by, with_job}
-use Rattle.trace_losses.specs.Passages.{span_of}
+use Rattle.trace_passages.specs.Passages.{span_of}
 use Rattle.trace_losses.specs.declared.job.TraceJob.{TraceJob}
-use Rattle.trace_losses.specs.declared.passage.Passage.{Passage}
+use Rattle.trace_passages.specs.declared.passage.Passage.{Passage}
 use Rattle.trace_losses.proofs.Counts.{one_count}
 
 module _ (passages : List Passage) where

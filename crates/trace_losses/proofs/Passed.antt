@@ -3,9 +3,10 @@ use Rattle.std.proofs.Common.{◌≡◌, ℕ, ◌+◌, ◌-◌, ◌<◌, ◌≤�
 use Rattle.std.specs.Prelude.{reverse, slice_get}
 use Rattle.std.proofs.lemmas.List.{take_more, reverse-append, take-append-drop, get_or-map}
 use Rattle.std.proofs.lemmas.Option.{slice_get-get_or, slice_get_within, get_or_from_slice_get}
-use Rattle.trace_losses.specs.Passages.{with_turn, turns_of, ArePassages, IsCut, moment_at}
-use Rattle.trace_losses.specs.declared.passage.Passage.{Passage}
-use Rattle.trace_losses.specs.declared.turn.Turn.{Turn}
+use Rattle.trace_passages.specs.Passages.{ArePassages, moment_at}
+use Rattle.trace_losses.specs.Passages.{with_turn, turns_of, IsCut}
+use Rattle.trace_passages.specs.declared.passage.Passage.{Passage}
+use Rattle.trace_passages.specs.declared.turn.Turn.{Turn}
 
 -- one more has come
 pub earlier_more : (passages : List Passage) (i : ℕ) (d : Passage) → i < length passages
@@ -52,9 +53,9 @@ moment_is passages k passage is =
     get_or-map (λ (x : Passage). x.moment) passages k passage 0 (slice_get_within passages k passage is)
     ∙ ap {B = ℕ} (λ (x : Passage). x.moment) (get_or_from_slice_get passages k passage passage is)
 
-pub moments_in_order : (tasks : ℕ) (passages : List Passage) → ArePassages tasks passages → (k l : ℕ) (d : Passage) → k ≤ l → l < length passages
+pub moments_in_order : (tasks threads : ℕ) (passages : List Passage) → ArePassages tasks threads passages → (k l : ℕ) (d : Passage) → k ≤ l → l < length passages
     → moment_at passages k ≤ moment_at passages l
-moments_in_order tasks passages are k l d le below =
+moments_in_order tasks threads passages are k l d le below =
     let one = slice_get-get_or passages k d (omega arith) in
     let other = slice_get-get_or passages l d below in
     let ordered = are.in_order k l (get_or passages k d) (get_or passages l d) le one other in
@@ -63,24 +64,24 @@ moments_in_order tasks passages are k l d le below =
     omega (arith, ordered, first, second)
 
 -- the first passages have come at a moment from the last of these up to the next one
-pub cut_at : (tasks : ℕ) (passages : List Passage) → ArePassages tasks passages → (i x : ℕ) → 0 < i → i < length passages
+pub cut_at : (tasks threads : ℕ) (passages : List Passage) → ArePassages tasks threads passages → (i x : ℕ) → 0 < i → i < length passages
     → moment_at passages (i - 1) ≤ x → x < moment_at passages i → IsCut passages x i
-cut_at tasks passages are i x some below from before = record {
+cut_at tasks threads passages are i x some below from before = record {
   within = omega arith;
   come = λ k passage early is.
       (let at = moment_is passages k passage is in
-      let le = moments_in_order tasks passages are k (i - 1) passage (omega arith) (omega arith) in
+      let le = moments_in_order tasks threads passages are k (i - 1) passage (omega arith) (omega arith) in
       omega (arith, at, le));
   later = λ k passage late is.
       (let at = moment_is passages k passage is in
-      let le = moments_in_order tasks passages are i k passage late (slice_get_within passages k passage is) in
+      let le = moments_in_order tasks threads passages are i k passage late (slice_get_within passages k passage is) in
       omega (arith, at, le));
 }
 
 -- each passage is at a moment that the next one is not before
-pub next_is_later : (tasks : ℕ) (passages : List Passage) → ArePassages tasks passages → (i : ℕ) → 0 < i → i < length passages
+pub next_is_later : (tasks threads : ℕ) (passages : List Passage) → ArePassages tasks threads passages → (i : ℕ) → 0 < i → i < length passages
     → (get_or passages (i - 1) no_passage).moment ≤ (get_or passages i no_passage).moment
-next_is_later tasks passages are i some below =
+next_is_later tasks threads passages are i some below =
     are.in_order (i - 1) i (get_or passages (i - 1) no_passage) (get_or passages i no_passage) (omega arith)
     (slice_get-get_or passages (i - 1) no_passage (omega arith)) (slice_get-get_or passages i no_passage below)
 

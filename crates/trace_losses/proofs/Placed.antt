@@ -18,8 +18,8 @@ use Rattle.strong_apa.proofs.Steps.{reply_gives_new_state, comes_effect, fills_e
 use Rattle.strong_apa.specs.CertificateLaws.{LinkedIsBest}
 use Rattle.strong_apa.proofs.Best.{linked_is_best}
 use Rattle.trace_losses.specs.Passages.{ready_by, ready_after}
-use Rattle.trace_losses.specs.Rows.{IsPlaced}
-use Rattle.trace_losses.specs.declared.passage.Readiness.{Readiness}
+use Rattle.trace_losses.specs.Walk.{IsPlaced}
+use Rattle.trace_passages.specs.declared.passage.Readiness.{Readiness}
 
 -- ---- at first
 pub placed_at_first : (task_set : SetData) → IsTaskSet task_set → IsPlaced task_set (ready_after []) (start_of task_set)

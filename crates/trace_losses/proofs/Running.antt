@@ -5,11 +5,11 @@ use Rattle.std.proofs.lemmas.Bool.{cases_eq, eqb-true}
 use Rattle.std.proofs.lemmas.List.{get_or-set_same, get_or-set_other}
 use Rattle.std.proofs.lemmas.Option.{slice_get-get_or, slice_get_within}
 use Rattle.trace_losses.specs.Runs.{is_some_of, runs, IsArmed, put_at, stopped, IsStopped}
-use Rattle.trace_losses.specs.declared.turn.Turn.{Turn}
-use Rattle.trace_losses.specs.declared.turn.Turn.TheVariants.{Switch}
+use Rattle.trace_passages.specs.declared.turn.Turn.{Turn}
+use Rattle.trace_passages.specs.declared.turn.Turn.TheVariants.{Switch}
 
 -- ---- one task is put somewhere
-put_length : (on : List (Option ℕ)) (task value : Option ℕ) → length (put_at on task value) ≡ length on
+pub put_length : (on : List (Option ℕ)) (task value : Option ℕ) → length (put_at on task value) ≡ length on
 put_length on None value = refl
 put_length on (Some m) value = length-set on m value
 
@@ -35,7 +35,7 @@ put_is on None value t below = refl
 put_is on (Some m) value t below = set_is on m value t below
 
 -- ---- cases
-some_true : (o : Option ℕ) (q : ℕ) → is_some_of o q ≡ true → o ≡ Some q
+pub some_true : (o : Option ℕ) (q : ℕ) → is_some_of o q ≡ true → o ≡ Some q
 some_true None q e = cc
 some_true (Some m) q e = ap Some (eqb-true m q e)
 

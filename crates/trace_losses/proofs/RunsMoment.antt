@@ -6,12 +6,12 @@ use Rattle.std.proofs.lemmas.Bool.{cases_lt, false≢true}
 use Rattle.std.proofs.lemmas.Option.{slice_get-get_or}
 use Rattle.trace_losses.specs.Jobs.{RunsAt}
 use Rattle.trace_losses.specs.Passages.{IsCut, RunsBetween, turns_of}
-use Rattle.trace_losses.specs.Rows.{held_at_end}
+use Rattle.trace_losses.specs.Walk.{held_at_end}
 use Rattle.trace_losses.specs.Runs.{IsArmed, holds, runs, runs_between}
-use Rattle.trace_losses.specs.declared.passage.Passage.{Passage}
-use Rattle.trace_losses.specs.declared.turn.Turn.{Turn}
+use Rattle.trace_passages.specs.declared.passage.Passage.{Passage}
+use Rattle.trace_passages.specs.declared.turn.Turn.{Turn}
 use Rattle.trace_losses.proofs.Passed.{no_passage, turns_of_all}
-use Rattle.trace_losses.proofs.RunningTasks.{on_some}
+use Rattle.trace_losses.proofs.BackOne.{on_some}
 
 -- as many passages have come at a moment as have come
 never_fewer : (passages : List Passage) (x n k : ℕ) → IsCut passages x n → IsCut passages x k → n < k → ⊥

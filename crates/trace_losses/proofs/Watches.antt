@@ -72,7 +72,7 @@ same_count one other e = cc
 
 module _ (old new : List ℕ) (seen : List Seen) (units done : ℕ) (counted : AreMore old new seen units done) (all : done ≡ length old) where
   -- each count is one of before, with these moments more
-  came : (t : ℕ) (count : ℕ) → slice_get new t ≡ Some count
+  pub came : (t : ℕ) (count : ℕ) → slice_get new t ≡ Some count
       → (before : ℕ) × (slice_get old t ≡ Some before) × (more (is_rival (get_or seen t nothing_seen)) before units ≡ count)
   came t count is =
       let within = slice_get_within new t count is in

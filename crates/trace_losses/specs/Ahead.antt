@@ -3,9 +3,9 @@
 use Rattle.std.specs.Prelude.{◌≡◌, ℕ, ◌-◌, ◌<◌, ◌≤◌, List, length, get_or, slice_get, Option, None, Some}
 use Rattle.std.specs.Option.{is_some}
 use Rattle.trace_losses.specs.Jobs.{RunsAt, IsCount, Change, end_by}
-use Rattle.trace_losses.specs.Passages.{span_of}
+use Rattle.trace_passages.specs.Passages.{span_of}
 use Rattle.trace_losses.specs.Tally.{more}
-use Rattle.trace_losses.specs.declared.passage.Passage.{Passage}
+use Rattle.trace_passages.specs.declared.passage.Passage.{Passage}
 
 -- so many of the moments from this one up to the end are such at which the task runs
 pub record IsAhead (passages : List Passage) (moment t end units : ℕ) : Type 0 where

@@ -3,10 +3,11 @@
 -- there are moments of the stretch at which the task runs.
 use Rattle.std.specs.Prelude.{◌≡◌, ℕ, ◌+◌, ◌-◌, ◌<◌, ◌≤◌, Bool, not, ◌&&◌, ◌==◌, nat_lt, ◌⊎◌, zero, suc, List, [], ◌∷◌, take, drop, reverse, Option, None, Some, if◌then◌else◌}
 use Rattle.std.specs.Bool.{MatchBool}
-use Rattle.trace_losses.specs.Passages.{IsCut, RunsBetween, span_of}
+use Rattle.trace_passages.specs.Passages.{span_of}
+use Rattle.trace_losses.specs.Passages.{IsCut, RunsBetween}
 use Rattle.trace_losses.specs.declared.job.TraceJob.{TraceJob}
-use Rattle.trace_losses.specs.declared.passage.Passage.{Passage}
-use Rattle.trace_losses.specs.declared.passage.Readiness.{Readiness}
+use Rattle.trace_passages.specs.declared.passage.Passage.{Passage}
+use Rattle.trace_passages.specs.declared.passage.Readiness.{Readiness}
 
 -- ---- moments
 -- the task runs at the moment x

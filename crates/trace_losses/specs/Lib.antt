@@ -1,10 +1,12 @@
 pub mod Ahead
+pub mod Beside
 pub mod Book
+pub mod Counts
 pub mod Jobs
 pub mod Losses
 pub mod Moments
 pub mod Passages
-pub mod Rows
 pub mod Runs
 pub mod Tally
+pub mod Walk
 pub mod Watch

@@ -1,12 +1,14 @@
--- What the tasks of a trace lost. At each moment of its span something holds of each task; the numbers count these moments.
+-- What the tasks of a trace lost. At each moment of its span something holds of each thread; the numbers count these moments.
 use Rattle.std.specs.Prelude.{◌≡◌, ℕ, List, length, count_by, slice_get, Option, Some}
 use Rattle.task_set.specs.TaskSet.{SetData, priorities}
+use Rattle.trace_losses.specs.Beside.{IsBeside}
 use Rattle.trace_losses.specs.Book.{of_task}
 use Rattle.trace_losses.specs.Moments.{is_ready, is_served, is_lost, losses, IsLongest}
-use Rattle.trace_losses.specs.Passages.{AreSeen, span_of}
+use Rattle.trace_passages.specs.Passages.{span_of}
+use Rattle.trace_losses.specs.Passages.{AreMoments}
 use Rattle.trace_losses.specs.Watch.{IsWatch, IsMostOf}
 use Rattle.trace_losses.specs.declared.loss.Loss.{Loss}
-use Rattle.trace_losses.specs.declared.passage.Passage.{Passage}
+use Rattle.trace_passages.specs.declared.passage.Passage.{Passage}
 use Rattle.trace_losses.specs.declared.seen.Seen.{Seen}
 use Rattle.trace_losses.specs.declared.tally.Stretch.{Stretch}
 
@@ -30,10 +32,12 @@ pub record AreLossesOf (priorities : List ℕ) (moments : List (List Seen)) (los
   pub tasks : length losses ≡ length priorities
   pub each : (t : ℕ) (loss : Loss) → slice_get losses t ≡ Some loss → IsLoss priorities moments t loss
 
--- the span of the passages has so many moments; the losses are those of the tasks at what is seen at each of them
-pub record AreLosses (set : SetData) (passages : List Passage) (units : ℕ) (found : List Loss) : Type 0 where
+-- the span of the passages has so many moments; the losses are those of the tasks at what is seen at each of them, and of each thread it
+-- is said at how many of those with a lost task it ran without being in the best set
+pub record AreLosses (set : SetData) (threads : ℕ) (passages : List Passage) (units : ℕ) (found : List Loss) (beside : List ℕ) : Type 0 where
   pub moments : List (List Seen)
   pub span : units ≡ span_of passages
-  pub all : length moments ≡ units
-  pub seen : AreSeen set passages moments
+  pub are : AreMoments set threads passages units moments
   pub losses : AreLossesOf (priorities set) moments found
+  pub count : length beside ≡ threads
+  pub counted : IsBeside moments beside

@@ -1,17 +1,17 @@
--- Passages. A passage is what a used line of a trace says: at its moment a processor goes from one task to another, or a task wakes up,
--- and then up to two tasks become ready or absent. At each moment some of the passages have come, and the others come later. Those that
--- have come are listed from the last one to the first.
+-- Passages. At each moment some of the passages of a trace have come, and the others come later. Those that have come are listed from
+-- the last one to the first.
 use Rattle.std.specs.Prelude.{◌≡◌, ℕ, ◌-◌, ◌<◌, ◌≤◌, ◌↔◌, Bool, false, ◌==◌, List, [], ◌∷◌, length, map, take, drop, reverse, get_or, slice_get, Option, None, Some, IsTrue, if◌then◌else◌}
 use Rattle.std.specs.Option.{ForSome}
 use Rattle.task_set.specs.TaskSet.{SetData}
 use Rattle.strong_apa.specs.State.{start_of}
 use Rattle.strong_apa.specs.Placement.{TaskTest, IsBest}
 use Rattle.trace_losses.specs.Book.{nothing_seen}
-use Rattle.trace_losses.specs.Runs.{AreTasks, runs_between}
-use Rattle.trace_losses.specs.declared.passage.Passage.{Passage}
-use Rattle.trace_losses.specs.declared.passage.Readiness.{Readiness}
+use Rattle.trace_passages.specs.Turns.{AreThreads}
+use Rattle.trace_losses.specs.Runs.{runs_between}
+use Rattle.trace_passages.specs.declared.passage.Passage.{Passage}
+use Rattle.trace_passages.specs.declared.passage.Readiness.{Readiness}
 use Rattle.trace_losses.specs.declared.seen.Seen.{Seen}
-use Rattle.trace_losses.specs.declared.turn.Turn.{Turn}
+use Rattle.trace_passages.specs.declared.turn.Turn.{Turn}
 
 -- whether a task is ready after a mention, if there is one, by whether it was before it
 abbrev pub ready_by : Option Readiness → ℕ → Bool → Bool
@@ -33,31 +33,6 @@ abbrev pub turns_of : List Passage → List Turn
 turns_of [] = []
 turns_of (passage ∷ rest) = with_turn passage.turn (turns_of rest)
 
--- the mention, if there is one, is of one of so many tasks
-abbrev pub IsMentionOf : ℕ → Option Readiness → Type 0
-IsMentionOf tasks mention = ForSome mention (λ (m : Readiness). m.task < tasks)
-
--- the passage is of so many tasks
-pub record IsPassageOf (tasks : ℕ) (passage : Passage) : Type 0 where
-  pub turn : ForSome passage.turn (AreTasks tasks)
-  pub first : IsMentionOf tasks passage.first
-  pub second : IsMentionOf tasks passage.second
-
--- the passages are of so many tasks, the first one is at moment 0, and no moment is before an earlier one
-pub record ArePassages (tasks : ℕ) (passages : List Passage) : Type 0 where
-  pub each : (k : ℕ) (passage : Passage) → slice_get passages k ≡ Some passage → IsPassageOf tasks passage
-  pub begin : (passage : Passage) → slice_get passages 0 ≡ Some passage → passage.moment ≡ 0
-  pub in_order : (k l : ℕ) (one other : Passage) → k ≤ l → slice_get passages k ≡ Some one → slice_get passages l ≡ Some other
-      → one.moment ≤ other.moment
-
--- the moment of a passage; 0 where there is none
-abbrev pub moment_at : List Passage → ℕ → ℕ
-moment_at passages k = get_or (map (λ (passage : Passage). passage.moment) passages) k 0
-
--- the moment of the last passage; 0 where there is none
-abbrev pub span_of : List Passage → ℕ
-span_of passages = moment_at passages (length passages - 1)
-
 -- the first n passages have come at the moment x, and the others come later
 pub record IsCut (passages : List Passage) (x n : ℕ) : Type 0 where
   pub within : n ≤ length passages
@@ -72,24 +47,30 @@ seen_of seen t = get_or seen t nothing_seen
 abbrev pub best_of : List Seen → TaskTest
 best_of seen t = (seen_of seen t).best
 
--- the task runs on some processor between passages, where those before are listed from the last one on
+-- the thread runs on some processor between passages, where those before are listed from the last one on
 abbrev pub RunsBetween : List Passage → List Passage → ℕ → Type 0
 RunsBetween earlier after t = (p : ℕ) × IsTrue (runs_between (turns_of earlier) (turns_of after) t p)
 
--- this is seen between passages, where those before are listed from the last one on: who is ready after them, which of these are the
--- best set that can be placed, and who runs on some processor
-pub record IsSeenBetween (set : SetData) (earlier after : List Passage) (seen : List Seen) : Type 0 where
-  pub tasks : length seen ≡ length set.tasks
-  pub ready : (t : ℕ) → t < length set.tasks → (seen_of seen t).ready ≡ ready_after earlier t
+-- this is seen of so many threads between passages, where those before are listed from the last one on: which tasks are ready after
+-- them, which of these are the best set that can be placed, and who runs on some processor
+pub record IsSeenBetween (set : SetData) (threads : ℕ) (earlier after : List Passage) (seen : List Seen) : Type 0 where
+  pub count : length seen ≡ threads
+  pub ready : (t : ℕ) → t < threads → (seen_of seen t).ready ≡ ready_after earlier t
   pub best : IsBest (start_of set) (ready_after earlier) (best_of seen)
-  pub runs : (t : ℕ) → t < length set.tasks → IsTrue (seen_of seen t).runs ↔ RunsBetween earlier after t
+  pub runs : (t : ℕ) → t < threads → IsTrue (seen_of seen t).runs ↔ RunsBetween earlier after t
 
 -- this is seen at the moment x
-pub record IsSeenAt (set : SetData) (passages : List Passage) (x : ℕ) (seen : List Seen) : Type 0 where
+pub record IsSeenAt (set : SetData) (threads : ℕ) (passages : List Passage) (x : ℕ) (seen : List Seen) : Type 0 where
   pub n : ℕ
   pub cut : IsCut passages x n
-  pub between : IsSeenBetween set (reverse (take n passages)) (drop n passages) seen
+  pub between : IsSeenBetween set threads (reverse (take n passages)) (drop n passages) seen
 
 -- this is seen at each of these moments
-abbrev pub AreSeen : SetData → List Passage → List (List Seen) → Type 0
-AreSeen set passages moments = (x : ℕ) (seen : List Seen) → slice_get moments x ≡ Some seen → IsSeenAt set passages x seen
+abbrev pub AreSeen : SetData → ℕ → List Passage → List (List Seen) → Type 0
+AreSeen set threads passages moments =
+    (x : ℕ) (seen : List Seen) → slice_get moments x ≡ Some seen → IsSeenAt set threads passages x seen
+
+-- these are so many moments of the passages, from the first one on, and what is seen at each of them
+pub record AreMoments (set : SetData) (threads : ℕ) (passages : List Passage) (units : ℕ) (moments : List (List Seen)) : Type 0 where
+  pub all : length moments ≡ units
+  pub seen : AreSeen set threads passages moments

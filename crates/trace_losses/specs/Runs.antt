@@ -1,10 +1,12 @@
--- Who runs where. A line says of a switch from which task a processor goes to which one, or that a wakeup makes a task ready. A task
--- ran on a processor up to a switch of it from this task, from the latest line before it on that is of them. So what holds between
+-- Who runs where. A line says of a switch from which thread a processor goes to which one, or that a wakeup makes a task ready. A thread
+-- ran on a processor up to a switch of it from this thread, from the latest line before it on that is of them. So what holds between
 -- two lines is said by those after it.
-use Rattle.std.specs.Prelude.{◌≡◌, ℕ, ◌<◌, ◌≤◌, Bool, false, ◌&&◌, ◌||◌, ◌==◌, List, [], ◌∷◌, ◌++◌, length, map, reverse, set, slice_get, Option, None, Some, if◌then◌else◌}
+use Rattle.std.specs.Prelude.{◌≡◌, ℕ, ◌<◌, ◌≤◌, Bool, true, false, ◌&&◌, ◌||◌, ◌==◌, List, [], ◌∷◌, ◌++◌, length, map, reverse, set, get_or, slice_get, Option, None, Some, if◌then◌else◌}
 use Rattle.std.specs.Option.{ForSome}
-use Rattle.trace_losses.specs.declared.turn.Turn.{Turn}
-use Rattle.trace_losses.specs.declared.turn.Turn.TheVariants.{Switch, Woken}
+use Rattle.trace_losses.specs.declared.former.Former.{Former}
+use Rattle.trace_passages.specs.Turns.{turned}
+use Rattle.trace_passages.specs.declared.turn.Turn.{Turn}
+use Rattle.trace_passages.specs.declared.turn.Turn.TheVariants.{Switch, Woken}
 
 -- there is a number, and it is this one
 abbrev pub is_some_of : Option ℕ → ℕ → Bool
@@ -31,11 +33,6 @@ runs base (turn ∷ after) t p = if is_of turn t p then is_switch_from turn t p 
 abbrev pub nobody_runs : ℕ → ℕ → Bool
 nobody_runs t p = false
 
--- the switch the other way round
-abbrev pub turned : Turn → Turn
-turned (Woken task) = Woken task
-turned (Switch processor from to) = Switch processor to from
-
 -- whether a task is on a processor after some lines, the last one first: the last of them that is of the task or the processor is a
 -- switch of the processor to it
 abbrev pub holds : List Turn → ℕ → ℕ → Bool
@@ -45,11 +42,6 @@ holds earlier t p = runs nobody_runs (map turned earlier) t p
 abbrev pub IsArmed : (ℕ → ℕ → Bool) → List Turn → List (Option ℕ) → Type 0
 IsArmed base after processors =
     (t : ℕ) (on : Option ℕ) (p : ℕ) → slice_get processors t ≡ Some on → is_some_of on p ≡ runs base after t p
-
--- the tasks of a line are among so many
-abbrev pub AreTasks : ℕ → Turn → Type 0
-AreTasks tasks (Woken task) = task < tasks
-AreTasks tasks (Switch processor from to) = ForSome from (λ t. t < tasks) × ForSome to (λ t. t < tasks)
 
 -- a task, if there is one, is put on a processor, or on none
 abbrev pub put_at : List (Option ℕ) → Option ℕ → Option ℕ → List (Option ℕ)
@@ -65,6 +57,27 @@ pub record IsStopped (old new : List (Option ℕ)) (processor done : ℕ) : Type
   pub same : length new ≡ length old
   pub stops : (t : ℕ) (on : Option ℕ) → t < done → slice_get old t ≡ Some on → slice_get new t ≡ Some (stopped on processor)
   pub waiting : (t : ℕ) → done ≤ t → slice_get new t ≡ slice_get old t
+
+-- no two threads are on one processor
+abbrev pub AreApart : List (Option ℕ) → Type 0
+AreApart processors =
+    (t u p : ℕ) → is_some_of (get_or processors t None) p ≡ true → is_some_of (get_or processors u None) p ≡ true → t ≡ u
+
+-- of the first so many threads this one is on the processor, if one is
+abbrev pub IsHolder : List (Option ℕ) → ℕ → ℕ → Option ℕ → Type 0
+IsHolder processors p done None = (t : ℕ) → t < done → is_some_of (get_or processors t None) p ≡ false
+IsHolder processors p done (Some t) = (t < done) × (is_some_of (get_or processors t None) p ≡ true)
+
+-- where the threads of a line were, and who was on its processor: who is where after it, by who is where before it
+abbrev pub restored : Turn → Former → List (Option ℕ) → List (Option ℕ)
+restored (Woken task) former processors = put_at processors (Some task) former.from
+restored (Switch processor from to) former processors =
+    put_at (put_at (put_at processors former.stopped (Some processor)) to former.to) from former.from
+
+-- the same of a line that may be none
+abbrev pub restored_by : Option Turn → Former → List (Option ℕ) → List (Option ℕ)
+restored_by None former processors = processors
+restored_by (Some turn) former processors = restored turn former processors
 
 -- of each task it is said which processor it is on after some lines, the last one first
 abbrev pub IsHeld : List Turn → List (Option ℕ) → Type 0

@@ -1,9 +1,11 @@
 -- Who ran in a stretch of moments without being in the best set.
-use Rattle.std.specs.Prelude.{◌≡◌, ℕ, ◌-◌, ◌<◌, ◌≤◌, Bool, not, ◌&&◌, List, length, take, drop, count_by, min, get_or, slice_get, slice_index, ◌⊎◌, Option, Some, None}
+use Rattle.std.specs.Prelude.{◌≡◌, ℕ, ◌+◌, ◌-◌, ◌^◌, ◌<◌, ◌≤◌, Bool, not, ◌&&◌, List, ◌++◌, length, replicate, map, take, drop, count_by, min, get_or, slice_get, slice_index, ◌⊎◌, Option, Some, None, vec_len}
 use Rattle.trace_losses.specs.Book.{nothing_seen, of_task}
 use Rattle.trace_losses.specs.Tally.{more}
 use Rattle.trace_losses.specs.declared.seen.Seen.{Seen}
 use Rattle.trace_losses.specs.declared.tally.Stretch.{Stretch}
+use Rattle.trace_losses.specs.declared.tally.Tally.{Tally}
+use Rattle.trace_losses.specs.declared.watch.Watch.{Watch}
 
 -- the task runs and is not in the best set
 abbrev pub is_rival : Seen → Bool
@@ -21,6 +23,47 @@ IsWatch stretch moments counts =
 -- no count is greater than this
 abbrev pub AreAtMost : ℕ → List ℕ → Type 0
 AreAtMost most counts = (t : ℕ) (count : ℕ) → slice_get counts t ≡ Some count → count ≤ most
+
+-- the watch is of these moments, and of so many tasks
+pub record IsWatchOf (tasks : ℕ) (moments : List (List Seen)) (watch : Watch) : Type 0 where
+  pub counted : IsWatch watch.stretch moments watch.counts.items
+  pub kept : AreAtMost watch.moments watch.counts.items
+  pub all : watch.moments ≡ length moments
+  pub width : vec_len watch.counts ≡ tasks
+
+-- each of the watches is of these moments, and of so many tasks
+abbrev pub AreWatches : ℕ → List (List Seen) → List Watch → Type 0
+AreWatches tasks moments watches = (t : ℕ) (watch : Watch) → slice_get watches t ≡ Some watch → IsWatchOf tasks moments watch
+
+-- the watch goes on by so many equal moments
+pub record WatchPasses (units : ℕ) (seen : List Seen) (old new : Watch) : Type 0 where
+  pub stretch : new.stretch ≡ old.stretch
+  pub goes_on : (tasks : ℕ) (moments : List (List Seen)) → IsWatchOf tasks moments old → IsWatchOf tasks (moments ++ replicate units seen) new
+
+-- the watch can go on by so many equal moments
+pub record CanPassOne (units : ℕ) (seen : List Seen) (watch : Watch) : Type 0 where
+  pub width : vec_len watch.counts ≤ length seen
+  pub room : watch.moments + units < 2 ^ 64
+  pub kept : AreAtMost watch.moments watch.counts.items
+
+-- each of the watches can
+abbrev pub CanPass : ℕ → List Seen → List Watch → Type 0
+CanPass units seen watches = (t : ℕ) (watch : Watch) → slice_get watches t ≡ Some watch → CanPassOne units seen watch
+
+-- each of the first so many watches went on by these moments, and the others are as they were
+pub record WatchesPass (units : ℕ) (seen : List Seen) (old new : List Watch) (done : ℕ) : Type 0 where
+  pub same : length new ≡ length old
+  pub passed : (t : ℕ) (watch : Watch) → t < done → slice_get old t ≡ Some watch
+      → (next : Watch) × (slice_get new t ≡ Some next) × WatchPasses units seen watch next
+  pub waiting : (t : ℕ) → done ≤ t → slice_get new t ≡ slice_get old t
+
+-- the stretches of the watches
+abbrev pub stretches_of : List Watch → List Stretch
+stretches_of watches = map (λ (watch : Watch). watch.stretch) watches
+
+-- the longest stretches of the tallies
+abbrev pub longest_of : List Tally → List Stretch
+longest_of tallies = map (λ (tally : Tally). tally.longest) tallies
 
 -- how many of so many moments are in the stretch, where these were before them
 abbrev pub overlap : Stretch → ℕ → ℕ → ℕ

@@ -2,14 +2,14 @@
 ghost use Rattle.std.specs.Prelude.{◌≡◌, ℕ, ◌+◌, ◌<◌, ◌≤◌, ◌^◌, List, [], length, reverse, replicate, slice_get, vec_len, IfOk, OnOk, Some};
 ghost use Rattle.trace_losses.specs.Ahead.{AreAhead, AreLonger};
 ghost use Rattle.trace_losses.specs.Jobs.{Change, AreJobsOf, with_change, with_job};
-ghost use Rattle.trace_losses.specs.Passages.{IsMentionOf, span_of};
-ghost use Rattle.trace_losses.specs.declared.passage.Passage.{Passage};
+ghost use Rattle.trace_passages.specs.Passages.{IsMentionOf, span_of};
+ghost use Rattle.trace_passages.specs.declared.passage.Passage.{Passage};
 
 use crate::job::TraceJob;
-use crate::passage::Readiness;
 use std::alloc::{AllocError, Global};
+use trace_passages::Readiness;
 
-/// What is known from a moment on: of each task, at how many moments it runs up to the next change that makes it absent; and the
+/// What is known from a moment on: of each thread, at how many moments it runs up to the next change that makes it absent; and the
 /// jobs that are released then, the last one first.
 #[derive(Drop)]
 pub(crate) struct Ahead {
@@ -19,12 +19,12 @@ pub(crate) struct Ahead {
 
 impl Ahead {
     /// After the last passage there is no moment and no job.
-    pub(crate) fn new(alloc: Global, tasks: usize) -> Result<Ahead, AllocError>
-        ensures units { IfOk result (λ ahead. ahead.units.items ≡ replicate tasks 0) }
+    pub(crate) fn new(alloc: Global, threads: usize) -> Result<Ahead, AllocError>
+        ensures units { IfOk result (λ ahead. ahead.units.items ≡ replicate threads 0) }
         ensures jobs { IfOk result (λ ahead. ahead.jobs.items ≡ []) }
     {
         Ok(Ahead {
-            units: vec![in alloc; 0; tasks]?,
+            units: vec![in alloc; 0; threads]?,
             jobs: Vec::new(alloc),
         })
     }

@@ -1,62 +1,71 @@
-//! Who runs between the passages of a trace, from the last one to the first.
-ghost use Rattle.std.specs.Prelude.{◌≡◌, ℕ, ◌<◌, List, ◌∷◌, length, map, reverse, vec_len, IfOk};
-ghost use Rattle.std.specs.Option.{ForSome, is_some};
-ghost use Rattle.trace_losses.specs.Passages.{ArePassages, turns_of};
-ghost use Rattle.trace_losses.specs.Rows.{AreRunning, held_at_end};
-ghost use Rattle.trace_losses.specs.Runs.{IsHeld, IsArmed};
+//! Who runs between the passages of a trace: back over them once, and a trail to go on over them again.
+ghost use Rattle.std.specs.Prelude.{◌≡◌, ℕ, ◌≤◌, ◌<◌, ◌^◌, List, ◌∷◌, length, reverse, vec_len, IfOk};
+ghost use Rattle.trace_losses.specs.Passages.{turns_of};
+ghost use Rattle.trace_losses.specs.Runs.{IsHeld, IsArmed, AreApart};
+ghost use Rattle.trace_losses.specs.Walk.{AreFormers, AreTurns, IsTrail, held_at_end};
 
-use crate::passage::Passage;
+use crate::former::Former;
 use crate::runners::Runners;
 use std::alloc::{AllocError, Global};
+use trace_passages::Passage;
 
-/// Of each task whether it runs before the last k passages, for each k below their number.
-pub(crate) fn running_of(
+/// Who is where before all passages, and what one needs to go on from each to the next one, that of the first passage last.
+#[derive(Drop)]
+pub(crate) struct Trail {
+    pub(crate) first: Runners,
+    pub(crate) formers: Vec<Former>,
+}
+
+/// The trail of passages.
+pub(crate) fn trail_of(
     alloc: Global,
-    tasks: usize,
+    threads: u32,
     passages: &[Passage],
-) -> Result<Vec<Vec<bool>>, AllocError>
-    requires { ArePassages tasks passages.now }
-    ensures each { IfOk result (λ lists. vec_len lists ≡ length passages.now) }
-    ensures running { IfOk result (λ lists. AreRunning passages.now tasks lists.items) }
+) -> Result<Trail, AllocError>
+    requires { AreTurns threads passages.now }
+    ensures { IfOk result (λ trail.
+        IsTrail passages.now threads trail.first.processors.items trail.formers.items) }
 {
-    let mut runners = held_after(alloc, tasks, passages)?;
-    go_back(alloc, &mut runners, passages)
+    let mut first = held_after(alloc, threads as usize, passages)?;
+    let formers = go_back(alloc, &mut first, passages)?;
+    Ok(Trail { first, formers })
 }
 
 /// Who holds a processor after all passages.
 pub(crate) fn held_after(
     alloc: Global,
-    tasks: usize,
+    threads: usize,
     passages: &[Passage],
 ) -> Result<Runners, AllocError>
-    requires { ArePassages tasks passages.now }
+    requires { AreTurns threads passages.now }
     ensures held { IfOk result (λ runners.
         IsHeld (turns_of (reverse passages.now)) runners.processors.items) }
-    ensures tasks { IfOk result (λ runners. vec_len runners.processors ≡ tasks) }
+    ensures apart { IfOk result (λ runners. AreApart runners.processors.items) }
+    ensures threads { IfOk result (λ runners. vec_len runners.processors ≡ threads) }
 {
-    let mut runners = Runners::new(alloc, tasks)?;
+    let mut runners = Runners::new(alloc, threads)?;
     for i in 0..passages.len() {
         runners.pass(passages[i]);
     }
     Ok(runners)
 }
 
-/// Who runs before the last passages, where this is who runs after all of them.
+/// Goes back over all passages, from who runs after them to who runs before them.
 fn go_back(
     alloc: Global,
     runners: &mut Runners,
     passages: &[Passage],
-) -> Result<Vec<Vec<bool>>, AllocError>
-    requires passages { ArePassages (vec_len runners.old.processors) passages.now }
+) -> Result<Vec<Former>, AllocError>
+    requires passages { AreTurns (vec_len runners.old.processors) passages.now }
     requires held { IsHeld (turns_of (reverse passages.now)) runners.old.processors.items }
-    ensures each { IfOk result (λ lists. vec_len lists ≡ length passages.now) }
-    ensures running { IfOk result (λ lists.
-        AreRunning passages.now (vec_len runners.old.processors) lists.items) }
+    requires apart { AreApart runners.old.processors.items }
+    requires few { vec_len runners.old.processors ≤ 2 ^ 32 }
+    ensures { IfOk result (λ formers. IsTrail passages.now (vec_len runners.old.processors)
+        runners.new.processors.items formers.items) }
 {
-    let mut lists = Vec::new(alloc);
+    let mut formers = Vec::with_capacity(alloc, passages.len())?;
     for i in 0..passages.len() {
-        lists.push(runners.running(alloc)?)?;
-        runners.pass_back(passages[passages.len() - 1 - i]);
+        formers.push(runners.trace_back(passages[passages.len() - 1 - i]))?;
     }
-    Ok(lists)
+    Ok(formers)
 }

@@ -1,5 +1,5 @@
 //! The numbers of all tasks.
-ghost use Rattle.std.specs.Prelude.{◌≡◌, ℕ, ◌+◌, ◌<◌, ◌^◌, List, [], ◌++◌, length, replicate, vec_len, IfOk};
+ghost use Rattle.std.specs.Prelude.{◌≡◌, ℕ, ◌+◌, ◌<◌, ◌≤◌, ◌^◌, List, [], ◌++◌, length, replicate, vec_len, IfOk};
 ghost use Rattle.trace_losses.specs.Book.{IsBook, AreKept, AreReady, IsPassed};
 ghost use Rattle.trace_losses.specs.declared.seen.Seen.{Seen};
 
@@ -32,10 +32,10 @@ impl Book {
         })
     }
 
-    /// Goes on by so many equal moments, at which this holds of each task.
+    /// Goes on by so many equal moments, at which this holds of each thread. The first threads are the tasks.
     pub fn pass(&mut self, units: u64, seen: &[Seen])
         requires some { 0 < units }
-        requires each { length seen.now ≡ vec_len self.old.tallies }
+        requires each { vec_len self.old.tallies ≤ length seen.now }
         requires room { self.old.moments + units < 2 ^ 64 }
         requires kept { AreKept self.old.moments self.old.tallies.items }
         ensures book { (moments : List (List Seen)) → IsBook moments self.old.tallies.items
@@ -52,11 +52,11 @@ impl Book {
 /// Each tally goes on by so many equal moments.
 fn pass_all(tallies: &mut Vec<Tally>, units: u64, seen: &[Seen])
     requires some { 0 < units }
-    requires each { length seen.now ≡ vec_len tallies.old }
+    requires each { vec_len tallies.old ≤ length seen.now }
     requires kept { AreReady tallies.old.items units }
-    ensures { IsPassed tallies.old.items tallies.new.items seen.now units (length seen.now) }
+    ensures { IsPassed tallies.old.items tallies.new.items seen.now units (vec_len tallies.old) }
 {
-    for (t, at) in seen.iter().enumerate() {
-        tallies[t] = tallies[t].after(units, *at);
+    for t in 0..tallies.len() {
+        tallies[t] = tallies[t].after(units, seen[t]);
     }
 }

@@ -1,18 +1,18 @@
 //! The jobs of a trace: the stretches in which its tasks are ready, with how long they ran in them.
-ghost use Rattle.std.specs.Prelude.{All, ◌≡◌, ◌-◌, ◌<◌, ◌≤◌, length, reverse, vec_len, IfOk};
+ghost use Rattle.std.specs.Prelude.{All, ◌≡◌, ℕ, ◌-◌, ◌<◌, ◌≤◌, length, reverse, vec_len, IfOk};
 ghost use Rattle.trace_losses.specs.Jobs.{AreJobs, IsJobWithin};
-ghost use Rattle.trace_losses.specs.Passages.{ArePassages, moment_at, span_of};
-ghost use Rattle.trace_losses.specs.Rows.{held_at_end};
+ghost use Rattle.trace_passages.specs.Passages.{ArePassages, moment_at, span_of};
+ghost use Rattle.trace_losses.specs.Walk.{held_at_end};
 ghost use Rattle.trace_losses.specs.Runs.{IsArmed};
 
 use crate::ahead::Ahead;
 use crate::backward::held_after;
 use crate::loss::span_of;
-use crate::passage::Passage;
 use crate::runners::Runners;
 use affinity_mask::OutOfMemory;
 use std::alloc::{AllocError, Global};
 use task_set::TaskSet;
+use trace_passages::Passage;
 
 /// A stretch in which a task is ready, and runs at some moments.
 #[derive(Clone, Copy)]
@@ -33,28 +33,38 @@ pub struct TraceJobs {
     pub jobs: Vec<TraceJob>,
 }
 
-/// The jobs of a trace. The memory that it takes is some bytes for each task and each job. Refused only where memory runs out.
-pub fn jobs_of(alloc: Global, set: &TaskSet, passages: &[Passage]) -> Result<TraceJobs, OutOfMemory>
-    requires { ArePassages (length set.now.tasks) passages.now }
+/// The jobs of a trace of so many threads. The memory that it takes is some bytes for each thread and each job. Refused only where memory runs out.
+pub fn jobs_of(
+    alloc: Global,
+    set: &TaskSet,
+    threads: u32,
+    passages: &[Passage],
+) -> Result<TraceJobs, OutOfMemory>
+    requires { ArePassages (length set.now.tasks) threads passages.now }
     ensures span { IfOk result (λ found. found.span ≡ span_of passages.now) }
     ensures jobs { IfOk result (λ found. AreJobs passages.now found.jobs.items) }
     ensures within { IfOk result (λ found. All (IsJobWithin (length set.now.tasks)
         (span_of passages.now)) found.jobs.items) }
 {
     let span = span_of(passages);
-    let mut jobs = jobs_back(alloc, set.len() as usize, passages)?;
+    let _bound = set.len();
+    let mut jobs = jobs_back(alloc, threads as usize, passages)?;
     jobs.reverse();
     Ok(TraceJobs { span, jobs })
 }
 
 /// The jobs, the last one first.
-fn jobs_back(alloc: Global, tasks: usize, passages: &[Passage]) -> Result<Vec<TraceJob>, AllocError>
-    requires { ArePassages tasks passages.now }
+fn jobs_back(
+    alloc: Global,
+    threads: usize,
+    passages: &[Passage],
+) -> Result<Vec<TraceJob>, AllocError>
+    requires { (tasks : ℕ) × ArePassages tasks threads passages.now }
     ensures { IfOk result (λ jobs. AreJobs passages.now (reverse jobs.items)) }
 {
     let _span = span_of(passages);
-    let mut runners = held_after(alloc, tasks, passages)?;
-    let mut ahead = Ahead::new(alloc, tasks)?;
+    let mut runners = held_after(alloc, threads, passages)?;
+    let mut ahead = Ahead::new(alloc, threads)?;
     for i in 0..passages.len() {
         let k = passages.len() - 1 - i;
         let passage = passages[k];

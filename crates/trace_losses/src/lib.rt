@@ -7,23 +7,23 @@
 
 mod ahead;
 mod backward;
+mod beside;
 mod book;
+mod count;
+mod former;
 mod job;
 mod loss;
-mod passage;
-mod row;
 mod runners;
 mod seen;
 mod tally;
-mod turn;
+mod walk;
 mod watch;
 
+pub use beside::Beside;
 pub use book::Book;
 pub use job::{TraceJob, TraceJobs, jobs_of};
 pub use loss::{Loss, Losses, losses_of};
-pub use passage::{Passage, Readiness};
 pub use runners::Runners;
 pub use seen::Seen;
 pub use tally::{Stretch, Tally};
-pub use turn::Turn;
 pub use watch::{Watch, most};

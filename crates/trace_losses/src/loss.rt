@@ -1,22 +1,21 @@
 //! What each task of a trace lost.
-ghost use Rattle.std.specs.Prelude.{◌≡◌, ℕ, ◌<◌, ◌^◌, List, length, take, vec_len, slice_get, IfOk, Some};
+ghost use Rattle.std.specs.Prelude.{◌≡◌, ℕ, ◌<◌, ◌≤◌, ◌^◌, List, length, vec_len, IfOk};
 ghost use Rattle.task_set.specs.TaskSet.{priorities};
 ghost use Rattle.trace_losses.specs.Book.{IsBook, of_task};
 ghost use Rattle.trace_losses.specs.Losses.{IsRival, IsLoss, AreLossesOf, AreLosses};
 ghost use Rattle.trace_losses.specs.Moments.{IsTally};
-ghost use Rattle.trace_losses.specs.Passages.{ArePassages, span_of};
-ghost use Rattle.trace_losses.specs.Rows.{moments_of, AreRows, AreRowsUpTo};
-ghost use Rattle.trace_losses.specs.Watch.{IsWatch};
+ghost use Rattle.trace_passages.specs.Passages.{ArePassages, span_of};
+ghost use Rattle.trace_losses.specs.Watch.{AreWatches, IsWatchOf, longest_of, stretches_of};
+ghost use Rattle.trace_losses.specs.declared.seen.Seen.{Seen};
 
-use crate::backward::running_of;
-use crate::book::Book;
-use crate::passage::Passage;
-use crate::row::{Row, rows_of};
+use crate::backward::trail_of;
+use crate::count::{counts_of, watches_of};
 use crate::tally::{Stretch, Tally};
 use crate::watch::{Watch, most};
 use affinity_mask::OutOfMemory;
 use std::alloc::{AllocError, Global};
 use task_set::TaskSet;
+use trace_passages::Passage;
 
 /// At how many moments a task was ready, ran, and was lost, and the longest stretch of lost ones, the first of several.
 #[derive(Clone, Copy)]
@@ -30,26 +29,38 @@ pub struct Loss {
     pub rival: Option<usize>,
 }
 
-/// How many moments there were, and what each task lost.
+/// How many moments there were, what each task lost, and of each thread, at how many moments with a lost task it ran without being in
+/// the best set. Those of the tasks come first; a thread that is no task is never in that set.
 #[derive(Drop)]
 pub struct Losses {
     pub span: u64,
     pub losses: Vec<Loss>,
+    pub beside: Vec<u64>,
 }
 
-/// What each task lost in a trace. The memory that it takes is some bytes for each task and each passage. Refused only where memory
-/// runs out.
-pub fn losses_of(alloc: Global, set: &TaskSet, passages: &[Passage]) -> Result<Losses, OutOfMemory>
-    requires { ArePassages (length set.now.tasks) passages.now }
-    ensures { IfOk result (λ found. AreLosses set.now passages.now found.span found.losses.items) }
+/// What each task lost in a trace of so many threads. The memory that it takes is some bytes for each passage, and for each two tasks.
+/// Refused only where memory runs out.
+pub fn losses_of(
+    alloc: Global,
+    set: &TaskSet,
+    threads: u32,
+    passages: &[Passage],
+) -> Result<Losses, OutOfMemory>
+    requires { ArePassages (length set.now.tasks) threads passages.now }
+    ensures { IfOk result (λ found.
+        AreLosses set.now threads passages.now found.span found.losses.items found.beside.items) }
 {
     let span = span_of(passages);
-    let tasks = set.len() as usize;
-    let running = running_of(alloc, tasks, passages)?;
-    let rows = rows_of(alloc, set, passages, &running)?;
+    let trail = trail_of(alloc, threads, passages)?;
+    let counts = counts_of(alloc, set, threads, &trail, passages)?;
+    let watches = watches_of(alloc, set, threads, &trail, passages, &counts.book.tallies)?;
     let priorities = priorities_of(alloc, set)?;
-    let losses = losses_in(alloc, &rows, &priorities)?;
-    Ok(Losses { span, losses })
+    let losses = losses_by(alloc, &counts.book.tallies, &watches, &priorities)?;
+    Ok(Losses {
+        span,
+        losses,
+        beside: counts.beside.counts,
+    })
 }
 
 /// The moment of the last passage.
@@ -74,106 +85,39 @@ fn priorities_of(alloc: Global, set: &TaskSet) -> Result<Vec<u32>, AllocError>
     Ok(list)
 }
 
-/// What each task lost in these rows.
-fn losses_in(alloc: Global, rows: &[Row], priorities: &[u32]) -> Result<Vec<Loss>, AllocError>
-    requires rows { AreRows (length priorities.now) rows.now }
-    requires room { length (moments_of rows.now) < 2 ^ 64 }
-    ensures { IfOk result (λ list. AreLossesOf priorities.now (moments_of rows.now) list.items) }
-{
-    let book = book_of(alloc, rows, priorities.len())?;
-    losses_by(alloc, &book, rows, priorities)
-}
-
-/// The book of these rows.
-fn book_of(alloc: Global, rows: &[Row], tasks: usize) -> Result<Book, AllocError>
-    requires rows { AreRows tasks rows.now }
-    requires room { length (moments_of rows.now) < 2 ^ 64 }
-    ensures book { IfOk result (λ book. IsBook (moments_of rows.now) book.tallies.items) }
-    ensures tasks { IfOk result (λ book. vec_len book.tallies ≡ tasks) }
-{
-    let mut book = Book::new(alloc, tasks)?;
-    for row in rows {
-        book.pass(row.units, &row.seen);
-    }
-    Ok(book)
-}
-
-/// What each task lost, by the book of the rows.
+/// What each task lost, by the tallies, and by the watches of the longest stretches.
 fn losses_by(
     alloc: Global,
-    book: &Book,
-    rows: &[Row],
+    tallies: &[Tally],
+    watches: &[Watch],
     priorities: &[u32],
 ) -> Result<Vec<Loss>, AllocError>
-    requires rows { AreRows (length priorities.now) rows.now }
-    requires room { length (moments_of rows.now) < 2 ^ 64 }
-    requires book { IsBook (moments_of rows.now) book.now.tallies.items }
-    requires tasks { vec_len book.now.tallies ≡ length priorities.now }
-    ensures { IfOk result (λ list. AreLossesOf priorities.now (moments_of rows.now) list.items) }
+    requires tasks { length tallies.now ≡ length priorities.now }
+    requires stretches { stretches_of watches.now ≡ longest_of tallies.now }
+    requires watches { (moments : List (List Seen)) × AreWatches (length priorities.now) moments watches.now }
+    ensures { IfOk result (λ list. (moments : List (List Seen)) → IsBook moments tallies.now
+        → AreWatches (length priorities.now) moments watches.now
+        → AreLossesOf priorities.now moments list.items) }
 {
     let mut list = Vec::new(alloc);
     for t in 0..priorities.len() {
-        list.push(loss_of(alloc, book.tallies[t], rows, priorities)?)?;
+        list.push(loss_of(tallies[t], &watches[t], priorities))?;
     }
     Ok(list)
 }
 
-/// What a task lost, by its tally.
-fn loss_of(
-    alloc: Global,
-    tally: Tally,
-    rows: &[Row],
-    priorities: &[u32],
-) -> Result<Loss, AllocError>
-    requires rows { AreRows (length priorities.now) rows.now }
-    requires room { length (moments_of rows.now) < 2 ^ 64 }
-    ensures { IfOk result (λ loss. (t : ℕ) → IsTally (of_task t (moments_of rows.now)) tally
-        → IsLoss priorities.now (moments_of rows.now) t loss) }
+/// What a task lost, by its tally, and by the watch of its longest stretch.
+fn loss_of(tally: Tally, watch: &Watch, priorities: &[u32]) -> Loss
+    requires stretch { watch.now.stretch ≡ tally.longest }
+    requires tasks { vec_len watch.now.counts ≡ length priorities.now }
+    ensures { (moments : List (List Seen)) (t : ℕ) → IsTally (of_task t moments) tally
+        → IsWatchOf (length priorities.now) moments watch.now → IsLoss priorities.now moments t result }
 {
-    let rival = rival_in(alloc, tally.longest, rows, priorities)?;
-    Ok(Loss {
+    Loss {
         ready: tally.ready,
         served: tally.served,
         lost: tally.lost,
         longest: tally.longest,
-        rival,
-    })
-}
-
-/// Who ran most in a stretch without being in the best set.
-fn rival_in(
-    alloc: Global,
-    stretch: Stretch,
-    rows: &[Row],
-    priorities: &[u32],
-) -> Result<Option<usize>, AllocError>
-    requires rows { AreRows (length priorities.now) rows.now }
-    requires room { length (moments_of rows.now) < 2 ^ 64 }
-    ensures { IfOk result (IsRival priorities.now (moments_of rows.now) stretch) }
-{
-    if stretch.count == 0 {
-        return Ok(None);
+        rival: most(&watch.counts, priorities),
     }
-    let watch = watch_of(alloc, stretch, rows, priorities.len())?;
-    Ok(most(&watch.counts, priorities))
-}
-
-/// The watch of a stretch of these rows.
-fn watch_of(
-    alloc: Global,
-    stretch: Stretch,
-    rows: &[Row],
-    tasks: usize,
-) -> Result<Watch, AllocError>
-    requires rows { AreRows tasks rows.now }
-    requires room { length (moments_of rows.now) < 2 ^ 64 }
-    ensures watch { IfOk result (λ watch.
-        IsWatch stretch (moments_of rows.now) watch.counts.items) }
-    ensures tasks { IfOk result (λ watch. vec_len watch.counts ≡ tasks) }
-{
-    let mut watch = Watch::new(alloc, stretch, tasks)?;
-    for row in rows {
-        watch.pass(row.units, &row.seen);
-    }
-    Ok(watch)
 }

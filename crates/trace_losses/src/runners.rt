@@ -1,16 +1,18 @@
 //! Who runs where, from the last line of a trace to the first.
-ghost use Rattle.std.specs.Prelude.{◌≡◌, ℕ, ◌<◌, Bool, List, [], ◌∷◌, length, map, vec_len, IfOk};
-ghost use Rattle.std.specs.Option.{ForSome, is_some};
+ghost use Rattle.std.specs.Prelude.{◌≡◌, ℕ, ◌<◌, ◌≤◌, ◌^◌, Bool, List, [], ◌∷◌, length, vec_len, IfOk};
+ghost use Rattle.std.specs.Option.{ForSome};
 ghost use Rattle.trace_losses.specs.Passages.{turns_of};
-ghost use Rattle.trace_losses.specs.Runs.{IsArmed, AreTasks, IsHeld, IsStopped, nobody_runs, put_at, is_some_of};
-ghost use Rattle.trace_losses.specs.declared.passage.Passage.{Passage};
-ghost use Rattle.trace_losses.specs.declared.turn.Turn.{Turn};
+ghost use Rattle.trace_passages.specs.Turns.{AreThreads};
+ghost use Rattle.trace_losses.specs.Runs.{IsArmed, AreApart, IsHeld, IsHolder, IsStopped, nobody_runs, put_at, is_some_of, restored, restored_by};
+ghost use Rattle.trace_losses.specs.Walk.{IsFormer, StepsBack, place_of};
+ghost use Rattle.trace_passages.specs.declared.passage.Passage.{Passage};
+ghost use Rattle.trace_passages.specs.declared.turn.Turn.{Turn};
 
-use crate::passage::Passage;
-use crate::turn::Turn;
+use crate::former::Former;
 use std::alloc::{AllocError, Global};
+use trace_passages::{Passage, Turn};
 
-/// Of each task the processor that it runs on, if it runs.
+/// Of each thread the processor that it runs on, if it runs. The first threads are the tasks.
 #[derive(Drop)]
 pub struct Runners {
     pub processors: Vec<Option<u32>>,
@@ -18,13 +20,14 @@ pub struct Runners {
 
 impl Runners {
     /// Nobody runs.
-    pub fn new(alloc: Global, tasks: usize) -> Result<Runners, AllocError>
+    pub fn new(alloc: Global, threads: usize) -> Result<Runners, AllocError>
         ensures armed { IfOk result (λ runners. IsArmed nobody_runs [] runners.processors.items) }
         ensures held { IfOk result (λ runners. IsHeld [] runners.processors.items) }
-        ensures tasks { IfOk result (λ runners. vec_len runners.processors ≡ tasks) }
+        ensures apart { IfOk result (λ runners. AreApart runners.processors.items) }
+        ensures threads { IfOk result (λ runners. vec_len runners.processors ≡ threads) }
     {
         let mut processors = Vec::new(alloc);
-        for task in 0..tasks {
+        for thread in 0..threads {
             processors.push(None)?;
         }
         Ok(Runners { processors })
@@ -32,10 +35,12 @@ impl Runners {
 
     /// Goes back over a line: who runs before it, by who runs after it.
     pub fn before(&mut self, turn: Turn)
-        requires { AreTasks (vec_len self.old.processors) turn }
+        requires { AreThreads (vec_len self.old.processors) turn }
         ensures armed { (base : ℕ → ℕ → Bool) (after : List Turn) → IsArmed base after self.old.processors.items
             → IsArmed base (turn ∷ after) self.new.processors.items }
-        ensures tasks { vec_len self.new.processors ≡ vec_len self.old.processors }
+        ensures apart { AreApart self.old.processors.items → AreApart self.new.processors.items }
+        ensures back { StepsBack turn self.old.processors.items self.new.processors.items }
+        ensures threads { vec_len self.new.processors ≡ vec_len self.old.processors }
     {
         match turn {
             Turn::Woken(task) => {
@@ -55,21 +60,23 @@ impl Runners {
 
     /// Goes on over a line: who is where after it, by who was where before it.
     pub fn after(&mut self, turn: Turn)
-        requires { AreTasks (vec_len self.old.processors) turn }
+        requires { AreThreads (vec_len self.old.processors) turn }
         ensures held { (earlier : List Turn) → IsHeld earlier self.old.processors.items
             → IsHeld (turn ∷ earlier) self.new.processors.items }
-        ensures tasks { vec_len self.new.processors ≡ vec_len self.old.processors }
+        ensures apart { AreApart self.old.processors.items → AreApart self.new.processors.items }
+        ensures threads { vec_len self.new.processors ≡ vec_len self.old.processors }
     {
         self.before(turn.turned())
     }
 
     /// Goes on over a passage.
     pub(crate) fn pass(&mut self, passage: Passage)
-        requires { ForSome passage.turn (AreTasks (vec_len self.old.processors)) }
+        requires { ForSome passage.turn (AreThreads (vec_len self.old.processors)) }
         ensures held { (earlier : List Passage)
             → IsHeld (turns_of earlier) self.old.processors.items
             → IsHeld (turns_of (passage ∷ earlier)) self.new.processors.items }
-        ensures tasks { vec_len self.new.processors ≡ vec_len self.old.processors }
+        ensures apart { AreApart self.old.processors.items → AreApart self.new.processors.items }
+        ensures threads { vec_len self.new.processors ≡ vec_len self.old.processors }
     {
         if let Some(turn) = passage.turn {
             self.after(turn);
@@ -78,33 +85,138 @@ impl Runners {
 
     /// Goes back over a passage.
     pub(crate) fn pass_back(&mut self, passage: Passage)
-        requires { ForSome passage.turn (AreTasks (vec_len self.old.processors)) }
+        requires { ForSome passage.turn (AreThreads (vec_len self.old.processors)) }
         ensures armed { (base : ℕ → ℕ → Bool) (after : List Passage)
             → IsArmed base (turns_of after) self.old.processors.items
             → IsArmed base (turns_of (passage ∷ after)) self.new.processors.items }
-        ensures tasks { vec_len self.new.processors ≡ vec_len self.old.processors }
+        ensures threads { vec_len self.new.processors ≡ vec_len self.old.processors }
     {
         if let Some(turn) = passage.turn {
             self.before(turn);
         }
     }
 
-    /// Of each task whether it runs.
-    pub(crate) fn running(&self, alloc: Global) -> Result<Vec<bool>, AllocError>
-        ensures { IfOk result (λ running. running.items ≡ map is_some self.now.processors.items) }
+    /// Goes back over a passage. With the answer one can go on over it again.
+    pub(crate) fn trace_back(&mut self, passage: Passage) -> Former
+        requires threads { ForSome passage.turn (AreThreads (vec_len self.old.processors)) }
+        requires few { vec_len self.old.processors ≤ 2 ^ 32 }
+        ensures armed { (base : ℕ → ℕ → Bool) (after : List Passage)
+            → IsArmed base (turns_of after) self.old.processors.items
+            → IsArmed base (turns_of (passage ∷ after)) self.new.processors.items }
+        ensures apart { AreApart self.old.processors.items → AreApart self.new.processors.items }
+        ensures within { ForSome result.stopped (λ t. t < vec_len self.old.processors) }
+        ensures restored { AreApart self.old.processors.items
+            → restored_by passage.turn result self.new.processors.items ≡ self.old.processors.items }
+        ensures threads { vec_len self.new.processors ≡ vec_len self.old.processors }
     {
-        self.processors.iter().map(|on| on.is_some()).collect(alloc)
-    }
-
-    /// Puts a task, if there is one, on a processor, or on none.
-    fn put(&mut self, task: Option<u32>, processor: Option<u32>)
-        requires { ForSome task (λ t. t < vec_len self.old.processors) }
-        ensures { self.new.processors.items ≡ put_at self.old.processors.items task processor }
-    {
-        if let Some(task) = task {
-            self.processors[task as usize] = processor;
+        match passage.turn {
+            Some(turn) => {
+                let former = self.former(turn);
+                self.before(turn);
+                former
+            }
+            None => Former {
+                stopped: None,
+                from: None,
+                to: None,
+            },
         }
     }
+
+    /// Goes on over a line that one went back over.
+    pub(crate) fn restore(&mut self, turn: Option<Turn>, former: Former)
+        requires threads { ForSome turn (AreThreads (vec_len self.old.processors)) }
+        requires within { ForSome former.stopped (λ t. t < vec_len self.old.processors) }
+        ensures restored { self.new.processors.items
+            ≡ restored_by turn former self.old.processors.items }
+        ensures threads { vec_len self.new.processors ≡ vec_len self.old.processors }
+    {
+        if let Some(turn) = turn {
+            self.restore_turn(turn, former);
+        }
+    }
+
+    /// The same where the passage says who runs.
+    fn restore_turn(&mut self, turn: Turn, former: Former)
+        requires threads { AreThreads (vec_len self.old.processors) turn }
+        requires within { ForSome former.stopped (λ t. t < vec_len self.old.processors) }
+        ensures restored { self.new.processors.items
+            ≡ restored turn former self.old.processors.items }
+        ensures threads { vec_len self.new.processors ≡ vec_len self.old.processors }
+    {
+        match turn {
+            Turn::Woken(task) => self.put(Some(task), former.from),
+            Turn::Switch {
+                processor,
+                from,
+                to,
+            } => {
+                self.put(former.stopped, Some(processor));
+                self.put(to, former.to);
+                self.put(from, former.from);
+            }
+        }
+    }
+
+    /// Where the threads of a line are, and who is on its processor.
+    fn former(&self, turn: Turn) -> Former
+        requires threads { AreThreads (vec_len self.now.processors) turn }
+        requires few { vec_len self.now.processors ≤ 2 ^ 32 }
+        ensures former { IsFormer turn self.now.processors.items result }
+        ensures within { ForSome result.stopped (λ t. t < vec_len self.now.processors) }
+    {
+        match turn {
+            Turn::Woken(task) => Former {
+                stopped: None,
+                from: self.processors[task as usize],
+                to: None,
+            },
+            Turn::Switch {
+                processor,
+                from,
+                to,
+            } => Former {
+                stopped: holder(&self.processors, processor),
+                from: self.place(from),
+                to: self.place(to),
+            },
+        }
+    }
+
+    /// The processor of a thread, if there is one.
+    fn place(&self, thread: Option<u32>) -> Option<u32>
+        requires { ForSome thread (λ t. t < vec_len self.now.processors) }
+        ensures { result ≡ place_of self.now.processors.items thread }
+    {
+        match thread {
+            Some(thread) => self.processors[thread as usize],
+            None => None,
+        }
+    }
+
+    /// Puts a thread, if there is one, on a processor, or on none.
+    fn put(&mut self, thread: Option<u32>, processor: Option<u32>)
+        requires { ForSome thread (λ t. t < vec_len self.old.processors) }
+        ensures put { self.new.processors.items ≡ put_at self.old.processors.items thread processor }
+        ensures threads { vec_len self.new.processors ≡ vec_len self.old.processors }
+    {
+        if let Some(thread) = thread {
+            self.processors[thread as usize] = processor;
+        }
+    }
+}
+
+/// The first thread that runs on a processor, if one does.
+fn holder(processors: &[Option<u32>], processor: u32) -> Option<u32>
+    requires { length processors.now ≤ 2 ^ 32 }
+    ensures { IsHolder processors.now processor (length processors.now) result }
+{
+    for t in 0..processors.len() {
+        if is_on(processors[t], processor) {
+            return Some(t as u32);
+        }
+    }
+    None
 }
 
 /// Whoever runs on a processor stops.
@@ -118,7 +230,7 @@ fn stop_all(processors: &mut Vec<Option<u32>>, processor: u32)
     }
 }
 
-/// Whether a task runs on a processor.
+/// Whether a thread runs on a processor.
 fn is_on(on: Option<u32>, processor: u32) -> bool
     ensures { result ≡ is_some_of on processor }
 {

@@ -1,6 +1,6 @@
 //! Who ran in a stretch of moments without being in the best set.
-ghost use Rattle.std.specs.Prelude.{◌≡◌, ℕ, ◌+◌, ◌<◌, ◌^◌, List, [], ◌++◌, length, replicate, slice_get, vec_len, IfOk, IsTrue};
-ghost use Rattle.trace_losses.specs.Watch.{IsWatch, AreAtMost, AreMore, IsLess, IsMostOf, overlap};
+ghost use Rattle.std.specs.Prelude.{◌≡◌, ℕ, ◌+◌, ◌<◌, ◌≤◌, ◌^◌, List, [], ◌++◌, length, replicate, slice_get, vec_len, IfOk, IsTrue};
+ghost use Rattle.trace_losses.specs.Watch.{IsWatch, AreAtMost, CanPass, CanPassOne, WatchPasses, WatchesPass, AreMore, IsLess, IsMostOf, overlap};
 ghost use Rattle.trace_losses.specs.declared.seen.Seen.{Seen};
 
 use crate::seen::Seen;
@@ -35,9 +35,9 @@ impl Watch {
         })
     }
 
-    /// Goes on by so many equal moments, at which this holds of each task.
+    /// Goes on by so many equal moments, at which this holds of each thread. The first threads are the tasks.
     pub fn pass(&mut self, units: u64, seen: &[Seen])
-        requires each { length seen.now ≡ vec_len self.old.counts }
+        requires each { vec_len self.old.counts ≤ length seen.now }
         requires room { self.old.moments + units < 2 ^ 64 }
         requires kept { AreAtMost self.old.moments self.old.counts.items }
         ensures watch { (moments : List (List Seen)) → self.old.moments ≡ length moments
@@ -51,6 +51,24 @@ impl Watch {
         let within = overlap(self.stretch, self.moments, units);
         count_all(&mut self.counts, within, seen);
         self.moments += units;
+    }
+
+    /// The same, said of the watch as a whole.
+    fn go_on(&mut self, units: u64, seen: &[Seen])
+        requires { CanPassOne units seen.now self.old }
+        ensures { WatchPasses units seen.now self.old self.new }
+    {
+        self.pass(units, seen);
+    }
+}
+
+/// Each watch goes on by so many equal moments.
+pub(crate) fn pass_all(watches: &mut Vec<Watch>, units: u64, seen: &[Seen])
+    requires { CanPass units seen.now watches.old.items }
+    ensures { WatchesPass units seen.now watches.old.items watches.new.items (length watches.old.items) }
+{
+    for t in 0..watches.len() {
+        watches[t].go_on(units, seen);
     }
 }
 
@@ -104,17 +122,17 @@ fn overlap(stretch: Stretch, moments: u64, units: u64) -> u64
     left.min(there)
 }
 
-/// Counts so many moments more for each task that runs and is not in the best set.
-fn count_all(counts: &mut Vec<u64>, units: u64, seen: &[Seen])
-    requires each { length seen.now ≡ vec_len counts.old }
+/// Counts so many moments more for each of the first threads that runs and is not in the best set.
+pub(crate) fn count_all(counts: &mut Vec<u64>, units: u64, seen: &[Seen])
+    requires each { vec_len counts.old ≤ length seen.now }
     requires room { (t : ℕ) (count : ℕ) → slice_get counts.old.items t ≡ Some count → count + units < 2 ^ 64 }
-    ensures { AreMore counts.old.items counts.new.items seen.now units (length seen.now) }
+    ensures { AreMore counts.old.items counts.new.items seen.now units (length counts.old.items) }
 {
     if units == 0 {
         return;
     }
-    for (t, at) in seen.iter().enumerate() {
-        if at.runs && !at.best {
+    for t in 0..counts.len() {
+        if seen[t].runs && !seen[t].best {
             counts[t] += units;
         }
     }

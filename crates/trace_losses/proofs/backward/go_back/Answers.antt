@@ -1,33 +1,49 @@
-use Rattle.std.proofs.Common.{◌≡◌, ℕ, ◌-◌, ◌∷◌, ◌++◌, Bool, [], length, drop, Vec, vec_len, sym, subst, arith}
-use Rattle.std.specs.declared.alloc.Global.{Global}
-use Rattle.trace_losses.specs.Rows.{AreRunning, IsRunning, held_at_end}
-use Rattle.trace_losses.proofs.Appended.{each_pushed}
+use Rattle.std.proofs.Common.{◌≡◌, ℕ, ◌+◌, ◌-◌, ◌<◌, ◌∷◌, ◌++◌, List, [], length, drop, get_or, vec_len, sym, ap, subst, arith}
+use Rattle.std.specs.Option.{ForSome}
+use Rattle.std.proofs.lemmas.List.{drop_all}
+use Rattle.std.proofs.lemmas.Option.{slice_get-get_or, slice_get_within}
+use Rattle.trace_passages.specs.Turns.{AreThreads}
+use Rattle.trace_passages.specs.declared.passage.Passage.{Passage}
+use Rattle.trace_losses.specs.Passages.{turns_of}
+use Rattle.trace_losses.specs.Runs.{IsArmed}
+use Rattle.trace_losses.specs.Walk.{AreFormers, held_at_end}
+use Rattle.trace_losses.proofs.BackOne.{back_one}
 use Rattle.trace_losses.proofs.Passed.{no_passage}
-use Rattle.trace_losses.proofs.RunningTasks.{running_is, back_one}
+use Rattle.trace_losses.proofs.Trails.{formers_more}
 use Rattle.trace_losses.proofs.backward.go_back.Goals as goal
+
+pub trace_back-requires-clause-threads : goal.trace_back-requires-clause-threads
+trace_back-requires-clause-threads c =
+    let passages = c.args.passages.now in
+    let k : ℕ = length passages - 1 - c.loop-i.i in
+    let there = slice_get-get_or passages k no_passage (omega arith) in
+    subst (λ (n : ℕ). ForSome (get_or passages k no_passage).turn (AreThreads n)) (sym c.loop-i.invariant.threads)
+    (c.requires.passages k (get_or passages k no_passage) there)
 
 pub loop-i-preserved : goal.loop-i-preserved
 loop-i-preserved c =
     let passages = c.args.passages.now in
     let i = c.loop-i.i in
     let base = held_at_end passages in
-    let after = drop (length passages - i) passages in
-    let lists = c.loop-i.lists.items in
-    let tasks = vec_len c.args.runners.now.processors in
-    let pushed : c.push.new.self.items ≡ lists ++ c.in_ok-running.field-0 ∷ [] = c.in_ok-push.ensures.items in
-    let here = running_is base after c.loop-i.runners.processors.items c.in_ok-running.field-0.items c.in_ok-running.ensures c.loop-i.invariant.armed in
-    let count : length lists ≡ i = omega (arith, c.loop-i.invariant.each) in
-    let same : length c.loop-i.runners.processors.items ≡ tasks = omega (arith, c.loop-i.invariant.tasks) in
-    let back = c.pass_back.ensures.armed base after c.loop-i.invariant.armed in
+    let threads = vec_len c.args.runners.now.processors in
+    let old = c.loop-i.runners.processors.items in
+    let new = c.trace_back.new.self.processors.items in
+    let former = c.trace_back.result in
+    let armed =
+    back_one base passages i no_passage new c.loop-i-test.true
+    (c.trace_back.ensures.armed base (drop (length passages - i) passages) c.loop-i.invariant.armed) in
+    let moved = c.trace_back.ensures.threads in
+    let stays = c.loop-i.invariant.threads in
+    let pushed = c.in_ok-push.ensures.items in
+    let each = c.loop-i.invariant.each in
     record {
-      armed = back_one base passages i no_passage c.pass_back.new.self.processors.items c.loop-i-test.true back;
-      tasks = omega (arith, c.pass_back.ensures.tasks, c.loop-i.invariant.tasks);
-      each = omega (arith, c.in_ok-push.ensures.len, c.loop-i.invariant.each);
-      running =
-          subst (AreRunning passages tasks) (sym pushed)
-          (each_pushed (λ (k : ℕ) (row : Vec Bool Global). IsRunning base (drop (length passages - k) passages) tasks row.items)
-          lists c.in_ok-running.field-0 c.loop-i.invariant.running
-          (subst (λ (n : ℕ). IsRunning base (drop (length passages - n) passages) tasks c.in_ok-running.field-0.items)
-          (sym count)
-          (subst (λ (n : ℕ). IsRunning base after n c.in_ok-running.field-0.items) same here)));
+      armed = armed;
+      apart = c.trace_back.ensures.apart c.loop-i.invariant.apart;
+      threads = omega (arith, moved, stays);
+      each = omega (arith, c.in_ok-push.ensures.len, each);
+      formers =
+          subst (AreFormers passages threads) (sym pushed)
+          (formers_more passages threads i old new former c.loop-i-test.true (omega (arith, moved, stays)) c.loop-i.invariant.armed armed
+          (subst (λ (n : ℕ). ForSome former.stopped (λ t. t < n)) stays c.trace_back.ensures.within)
+          (c.trace_back.ensures.restored c.loop-i.invariant.apart) c.loop-i.formers.items (omega (arith, each)) c.loop-i.invariant.formers);
     }

@@ -6,14 +6,16 @@ use Rattle.std.proofs.lemmas.List.{drop_all, length-replicate}
 use Rattle.std.proofs.lemmas.Option.{slice_get-get_or}
 use Rattle.trace_losses.specs.Ahead.{AreAhead, AreLonger}
 use Rattle.trace_losses.specs.Jobs.{AreJobsOf, Change, changes_of, with_change}
-use Rattle.trace_losses.specs.Passages.{ArePassages, moment_at, span_of, turns_of}
-use Rattle.trace_losses.specs.Rows.{held_at_end}
-use Rattle.trace_losses.specs.Runs.{AreTasks, IsArmed}
+use Rattle.trace_passages.specs.Passages.{ArePassages, moment_at, span_of}
+use Rattle.trace_losses.specs.Passages.{turns_of}
+use Rattle.trace_losses.specs.Walk.{held_at_end}
+use Rattle.trace_passages.specs.Turns.{AreThreads}
+use Rattle.trace_losses.specs.Runs.{IsArmed}
 use Rattle.trace_losses.specs.declared.job.TraceJob.{TraceJob}
-use Rattle.trace_losses.specs.declared.passage.Passage.{Passage}
+use Rattle.trace_passages.specs.declared.passage.Passage.{Passage}
 use Rattle.trace_losses.proofs.Aheads.{ahead_at_end, ahead_passed, room_ahead}
 use Rattle.trace_losses.proofs.Passed.{no_passage, moment_there, moments_in_order}
-use Rattle.trace_losses.proofs.RunningTasks.{back_one, one_back}
+use Rattle.trace_losses.proofs.BackOne.{back_one, one_back}
 use Rattle.trace_losses.proofs.job.jobs_back.Goals as goal
 
 pub loop-i-init : goal.loop-i-init
@@ -24,16 +26,16 @@ loop-i-init c =
     record {
       armed = subst (λ (after : List Passage). IsArmed (held_at_end passages) (turns_of after) c.in_ok-runners.runners.processors.items) (sym none)
           c.in_ok-runners.ensures.held;
-      ran = c.in_ok-runners.ensures.tasks;
+      ran = c.in_ok-runners.ensures.threads;
       tasks =
-          (let zeros : length c.in_ok-ahead.ahead.units.items ≡ c.args.tasks =
-          ap length c.in_ok-ahead.ensures.units ∙ length-replicate c.args.tasks 0 in
+          (let zeros : length c.in_ok-ahead.ahead.units.items ≡ c.args.threads =
+          ap length c.in_ok-ahead.ensures.units ∙ length-replicate c.args.threads 0 in
           omega (arith, zeros));
       ahead =
           subst (λ (after : List Passage). AreAhead passages (changes_of after) (moment_at passages (length passages - 0 - 1)) c.in_ok-ahead.ahead.units.items)
           (sym none)
           (subst (λ (n : ℕ). AreAhead passages [] (moment_at passages n) c.in_ok-ahead.ahead.units.items) (sym last)
-          (ahead_at_end passages c.args.tasks c.in_ok-ahead.ahead.units.items c.in_ok-ahead.ensures.units));
+          (ahead_at_end passages c.args.threads c.in_ok-ahead.ahead.units.items c.in_ok-ahead.ensures.units));
       jobs =
           subst (λ (after : List Passage). AreJobsOf passages (changes_of after) (reverse c.in_ok-ahead.ahead.jobs.items)) (sym none)
           (ap reverse c.in_ok-ahead.ensures.jobs);
@@ -44,36 +46,38 @@ enter-requires c = λ x is.
     (let passages = c.args.passages.now in
     let k : ℕ = length passages - 1 - c.loop-i.i in
     let there = slice_get-get_or passages k no_passage (omega arith) in
-    let below = (c.requires.each k (get_or passages k no_passage) there).second x is in
+    let all = c.requires.1.all in
+    let below = (c.requires.1.each k (get_or passages k no_passage) there).second x is in
     let count = c.loop-i.invariant.tasks in
-    omega (arith, below, count))
+    omega (arith, all, below, count))
 
 pub enter-requires-in-loop-i : goal.enter-requires-in-loop-i
 enter-requires-in-loop-i c = λ x is.
     (let passages = c.args.passages.now in
     let k : ℕ = length passages - 1 - c.loop-i.i in
     let there = slice_get-get_or passages k no_passage (omega arith) in
-    let below = (c.requires.each k (get_or passages k no_passage) there).first x is in
+    let all = c.requires.1.all in
+    let below = (c.requires.1.each k (get_or passages k no_passage) there).first x is in
     let count = c.loop-i.invariant.tasks in
     let same = c.in_ok-enter.ensures.tasks in
-    omega (arith, below, count, same))
+    omega (arith, all, below, count, same))
 
 pub pass_back-requires : goal.pass_back-requires
 pass_back-requires c =
     let passages = c.args.passages.now in
     let k : ℕ = length passages - 1 - c.loop-i.i in
     let there = slice_get-get_or passages k no_passage (omega arith) in
-    subst (λ (n : ℕ). ForSome (get_or passages k no_passage).turn (AreTasks n)) (sym c.loop-i.invariant.ran)
-    (c.requires.each k (get_or passages k no_passage) there).turn
+    subst (λ (n : ℕ). ForSome (get_or passages k no_passage).turn (AreThreads n)) (sym c.loop-i.invariant.ran)
+    (c.requires.1.each k (get_or passages k no_passage) there).turn
 
 pub since_last-requires-clause-order : goal.since_last-requires-clause-order
 since_last-requires-clause-order c =
     let passages = c.args.passages.now in
     let k : ℕ = length passages - 1 - c.loop-i.i in
-    moments_in_order c.args.tasks passages c.requires (k - 1) k no_passage (omega arith) (omega arith)
+    moments_in_order c.requires.0 c.args.threads passages c.requires.1 (k - 1) k no_passage (omega arith) (omega arith)
 
 -- the passage that is read is at the moment from which on all is known, and within the span
-module _ (tasks : ℕ) (passages : List Passage) (are : ArePassages tasks passages) (i : ℕ) (below : i < length passages) where
+module _ (tasks threads : ℕ) (passages : List Passage) (are : ArePassages tasks threads passages) (i : ℕ) (below : i < length passages) where
   abbrev k : ℕ
   k = length passages - 1 - i
 
@@ -88,7 +92,7 @@ module _ (tasks : ℕ) (passages : List Passage) (are : ArePassages tasks passag
   here_within : here.moment ≤ span_of passages
   here_within =
       let same = moment_there passages k (omega (arith, below)) in
-      let order = moments_in_order tasks passages are k (length passages - 1) no_passage (omega (arith, below)) (omega (arith, below)) in
+      let order = moments_in_order tasks threads passages are k (length passages - 1) no_passage (omega (arith, below)) (omega (arith, below)) in
       omega (arith, same, order)
 
   ahead_here : (units : List ℕ) → AreAhead passages (changes_of (drop (length passages - i) passages)) (moment_at passages (length passages - i - 1)) units
@@ -101,9 +105,9 @@ pass-requires-clause-room c = λ t count is.
     (let passages = c.args.passages.now in
     let i = c.loop-i.i in
     let later : List Change = changes_of (drop (length passages - i) passages) in
-    let passage : Passage = here c.args.tasks passages c.requires i c.loop-i-test.true in
-    let within = here_within c.args.tasks passages c.requires i c.loop-i-test.true in
-    let old = ahead_here c.args.tasks passages c.requires i c.loop-i-test.true c.loop-i.ahead.units.items c.loop-i.invariant.ahead in
+    let passage : Passage = here c.requires.0 c.args.threads passages c.requires.1 i c.loop-i-test.true in
+    let within = here_within c.requires.0 c.args.threads passages c.requires.1 i c.loop-i-test.true in
+    let old = ahead_here c.requires.0 c.args.threads passages c.requires.1 i c.loop-i-test.true c.loop-i.ahead.units.items c.loop-i.invariant.ahead in
     let one = c.in_ok-enter.ensures.ahead passages later within old in
     let two = c.in_ok-enter-2.ensures.ahead passages (with_change passage.moment passage.second later) within one in
     let room =
@@ -117,15 +121,16 @@ pass-requires-clause-room c = λ t count is.
 pub loop-i-preserved : goal.loop-i-preserved
 loop-i-preserved c =
     let passages = c.args.passages.now in
-    let tasks = c.args.tasks in
+    let tasks = c.requires.0 in
+    let threads = c.args.threads in
     let i = c.loop-i.i in
     let below : i < length passages = c.loop-i-test.true in
     let n : ℕ = length passages - (i + 1) in
     let place : length passages - 1 - i ≡ n = omega arith in
     let later : List Change = changes_of (drop (length passages - i) passages) in
-    let passage : Passage = here tasks passages c.requires i below in
-    let within = here_within tasks passages c.requires i below in
-    let old = ahead_here tasks passages c.requires i below c.loop-i.ahead.units.items c.loop-i.invariant.ahead in
+    let passage : Passage = here tasks threads passages c.requires.1 i below in
+    let within = here_within tasks threads passages c.requires.1 i below in
+    let old = ahead_here tasks threads passages c.requires.1 i below c.loop-i.ahead.units.items c.loop-i.invariant.ahead in
     let one = c.in_ok-enter.ensures.ahead passages later within old in
     let two = c.in_ok-enter-2.ensures.ahead passages (with_change passage.moment passage.second later) within one in
     let jobs_one = c.in_ok-enter.ensures.jobs passages later old c.loop-i.invariant.jobs in
@@ -142,13 +147,13 @@ loop-i-preserved c =
     let ahead : AreAhead passages (changes_of (drop n passages)) (moment_at passages n) units =
     subst (λ (m : ℕ). AreAhead passages (changes_of (drop n passages)) m units) moment
     (subst (λ (changes : List Change). AreAhead passages changes passage.moment units) all two) in
-    let order = moments_in_order tasks passages c.requires (n - 1) n no_passage (omega arith) (omega arith) in
+    let order = moments_in_order tasks threads passages c.requires.1 (n - 1) n no_passage (omega arith) (omega arith) in
     let since : c.since_last.result ≡ moment_at passages n - moment_at passages (n - 1) =
     subst (λ (m : ℕ). c.since_last.result ≡ moment_at passages m - moment_at passages (m - 1)) place c.since_last.ensures in
     let longer : AreLonger units c.pass.new.self.units.items on c.since_last.result (length on) =
     subst (λ (list : List (Option ℕ)). AreLonger units c.pass.new.self.units.items list c.since_last.result (length list)) c.deref.ensures.value
     c.pass.ensures.units in
-    let ran = c.pass_back.ensures.tasks in
+    let ran = c.pass_back.ensures.threads in
     let held = c.loop-i.invariant.ran in
     let count = c.loop-i.invariant.tasks in
     let first = c.in_ok-enter.ensures.tasks in
@@ -159,7 +164,7 @@ loop-i-preserved c =
       ran = omega (arith, ran, held);
       tasks = omega (arith, long, count, first, second);
       ahead =
-          ahead_passed tasks passages c.requires n (omega (arith, below)) (changes_of (drop n passages)) on c.since_last.result armed
+          ahead_passed tasks threads passages c.requires.1 n (omega (arith, below)) (changes_of (drop n passages)) on c.since_last.result armed
           (omega (arith, since, order)) units c.pass.new.self.units.items (omega (arith, ran, held, count, first, second)) longer ahead;
       jobs =
           subst (λ (list : Vec TraceJob Global). AreJobsOf passages (changes_of (drop n passages)) (reverse list.items)) (sym c.pass.ensures.jobs)

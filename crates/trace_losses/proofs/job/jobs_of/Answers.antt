@@ -5,5 +5,5 @@ use Rattle.trace_losses.proofs.job.jobs_of.Goals as goal
 
 pub returns-clause-within : goal.returns-clause-within
 returns-clause-within c =
-    jobs_within _ c.args.passages.now c.reverse.new.self.items c.requires
+    jobs_within _ c.args.passages.now c.args.threads c.reverse.new.self.items c.requires
     (subst (AreJobs c.args.passages.now) (sym c.reverse.ensures.items) c.in_ok-jobs.ensures)

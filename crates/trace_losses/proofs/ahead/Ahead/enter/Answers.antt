@@ -3,7 +3,7 @@ use Rattle.std.specs.Prelude.{reverse}
 use Rattle.std.proofs.lemmas.Option.{slice_get_read}
 use Rattle.trace_losses.specs.Ahead.{AreAhead}
 use Rattle.trace_losses.specs.Jobs.{AreJobsOf, with_change}
-use Rattle.trace_losses.specs.declared.passage.Readiness.{Readiness}
+use Rattle.trace_passages.specs.declared.passage.Readiness.{Readiness}
 use Rattle.trace_losses.proofs.Aheads.{ahead_arrives, ahead_departs, job_arrives, job_departs}
 use Rattle.trace_losses.proofs.ahead.Ahead.enter.Goals as goal
 

@@ -1,6 +1,7 @@
 use Rattle.std.proofs.Common.{◌∷◌, map, subst}
-use Rattle.trace_losses.specs.Runs.{IsArmed, nobody_runs, turned}
-use Rattle.trace_losses.specs.declared.turn.Turn.{Turn}
+use Rattle.trace_passages.specs.Turns.{turned}
+use Rattle.trace_losses.specs.Runs.{IsArmed, nobody_runs}
+use Rattle.trace_passages.specs.declared.turn.Turn.{Turn}
 use Rattle.trace_losses.proofs.runners.Runners.after.Goals as goal
 
 pub returns-clause-held : goal.returns-clause-held
