@@ -1,5 +1,7 @@
+mod Elements
 mod Following
 mod Glances
+mod Grouped
 mod Histories
 mod Listed
 mod Looking
@@ -7,5 +9,6 @@ mod Moments
 mod Pictures
 mod Pieces
 mod Places
+mod Shown
 mod Traced
 mod Written

@@ -9,7 +9,7 @@ use Rattle.schedule_picture.specs.declared.span.Seen.{Seen}
 use Rattle.schedule_picture.specs.declared.span.Seen.TheVariants.{Task, OffLine, Processor, Waiting}
 use Rattle.schedule_picture.specs.declared.span.Span.{Span}
 use Rattle.schedule_picture.specs.declared.window.Window.{Window}
-use Rattle.schedule_picture.specs.Colours.{colour_of}
+use Rattle.schedule_picture.specs.Colours.{colour_of, waiting_colour}
 
 -- how long a window is, and at least 1
 abbrev pub span_of : Window → ℕ
@@ -68,7 +68,7 @@ row_text k colour begin end =
 -- what is seen of a task t from one place to another: it waits, in red, or is linked, in its colour
 abbrev pub row_bar : ℕ → ℕ → Seen → ℕ → ℕ → List ℕ
 row_bar k t (Processor p) begin end = row_text k (colour_of t) begin end
-row_bar k t Waiting begin end = row_text k (codes "#d9534f") begin end
+row_bar k t Waiting begin end = row_text k waiting_colour begin end
 row_bar k t (Task u) begin end = []
 row_bar k t OffLine begin end = []
 

@@ -1,5 +1,6 @@
 pub mod Chrome
 pub mod Colours
+pub mod Elements
 pub mod Group
 pub mod History
 pub mod Listing

@@ -1,7 +1,8 @@
 -- A picture of a history: over units of time, or with a column for each entry. Of a window of it, the group of the lanes has
 -- one rectangle for each stay and each absence whose part in the window has a length, and the group of the rows one for each
--- stay and each wait of each task that is listed. What stands around the two groups is left open.
-use Rattle.std.specs.Prelude.{◌≡◌, ℕ, ◌+◌, ◌*◌, ◌-◌, ◌<◌, ◌≤◌, min, max, List, ◌++◌, length, map, take, sum_by, codes, All, get_or, slice_index}
+-- stay and each wait of each task that is listed. What stands around the two groups is elements, none of them a rectangle with a
+-- title, and is left open beyond that.
+use Rattle.std.specs.Prelude.{◌≡◌, ℕ, Bool, true, [], ◌+◌, ◌*◌, ◌-◌, ◌<◌, ◌≤◌, min, max, List, ◌++◌, length, map, take, sum_by, codes, All, get_or, slice_index}
 use Rattle.std.specs.List.{range_with_len}
 use Rattle.task_set.specs.TaskSet.{SetData}
 use Rattle.task_set.specs.declared.event.Event.{Event}
@@ -14,6 +15,7 @@ use Rattle.schedule_picture.specs.declared.window.Window.{Window}
 use Rattle.schedule_picture.specs.declared.tracks.Tracks.{Tracks}
 use Rattle.schedule_picture.specs.Track.{TrackData, fresh_track}
 use Rattle.schedule_picture.specs.Spans.{AreSpans, lane_at, absence_at, row_at}
+use Rattle.schedule_picture.specs.Elements.{Reader, Start, Ended, Inside, reads, IsWellFormed}
 use Rattle.schedule_picture.specs.Group.{span_of, group_head, lanes_text, rows_text}
 use Rattle.schedule_picture.specs.Listing.{IsListing}
 
@@ -68,18 +70,27 @@ rows_group places window rows listed top wide =
     group_head top wide (16 * length listed) window.from (span_of window) (max (8 * length listed) 1)
     ++ rows_text places window rows listed ++ close
 
--- the text has the two groups, of these spans; what stands around them is left open
+-- in the outermost element
+abbrev pub in_svg : Reader
+in_svg = Inside (codes "svg") []
+
+-- the text has the two groups, of these spans; what stands around them has no `rect` with a title, and is left open beyond that
 pub record HasGroups (places : List ℕ) (set : SetData) (window : Window) (absences lanes rows : ℕ → List Span) (listed text : List ℕ) : Type 0 where
   pub top : ℕ
   pub rows_top : ℕ
   pub wide : ℕ
+  pub some_width : 1 ≤ wide
   pub before : List ℕ
   pub between : List ℕ
   pub after : List ℕ
+  pub untitled_before : reads true Start before ≡ in_svg
+  pub untitled_between : reads true in_svg between ≡ in_svg
+  pub untitled_after : reads true in_svg after ≡ Ended
   pub is_text : text ≡ before ++ lanes_group places set window absences lanes top wide ++ between ++ rows_group places window rows listed rows_top wide ++ after
 
 -- the text is a picture of this window of a history
 pub record IsPicture (axis : Axis) (set : SetData) (entries : List Entry) (window : Window) (text : List ℕ) : Type 0 where
+  pub well_formed : IsWellFormed text
   pub lanes : ℕ → List Span
   pub absences : ℕ → List Span
   pub rows : ℕ → List Span

@@ -1,11 +1,13 @@
 //! What stands around the two groups of a picture: the title, the axis, the names, the marks, the arrows and the legend.
-//! No clause says which text this is.
-ghost use Rattle.std.specs.Prelude.{◌<◌, ◌≤◌, All, length};
+//! The clauses say that it is elements, none of them a `rect` with a title, and not which.
+ghost use Rattle.std.specs.Prelude.{◌≡◌, ◌++◌, ◌<◌, ◌≤◌, true, All, length, IfOk, OnOk};
 ghost use Rattle.schedule_text.specs.ScheduleText.{IsEntryOf};
 ghost use Rattle.text_fields.specs.EventText.{IsAboutSet};
+ghost use Rattle.schedule_picture.specs.Elements.{Begins, Ends, GoesOn, Keeps, are_plain, opens_picture};
 
 use crate::axis::{Axis, Facts};
 use crate::colours::colour_of;
+use crate::groups::{write_field, write_word};
 use crate::page::{LANE, LEFT, Page, ROW};
 use crate::sheet::{Sheet, spans_at};
 use crate::span::{Seen, Span};
@@ -20,54 +22,83 @@ use text_fields::write_event_text;
 const LETTER: u32 = 7;
 
 /// Appends some text.
-fn put(text: &mut Vec<u8>, line: &str) -> Result<(), OutOfMemory> {
+fn put(text: &mut Vec<u8>, line: &str) -> Result<(), OutOfMemory>
+    ensures { OnOk result (text.new.items ≡ text.old.items ++ line.now) }
+{
     text.extend_from_slice(line.as_bytes())?;
     Ok(())
 }
 
-/// Appends the beginning of the page, and its title.
+/// Appends the beginning of the page.
+fn write_opening(text: &mut Vec<u8>, sheet: &Sheet, page: Page) -> Result<(), OutOfMemory>
+    ensures { OnOk result (opens_picture text.old.items text.new.items) }
+{
+    let width = page.width();
+    let height = page.bottom() + 24;
+    let line = format!(in sheet.alloc;
+        "<svg xmlns=\"http://www.w3.org/2000/svg\" width=\"{width}\" height=\"{height}\" viewBox=\"0 0 {width} {height}\" font-family=\"DejaVu Sans,Arial,sans-serif\" font-size=\"11\">\n<rect width=\"{width}\" height=\"{height}\" fill=\"#fff\"/>\n"
+    )?;
+    put(text, &line)
+}
+
+/// Appends the title.
 fn write_title(
     text: &mut Vec<u8>,
     sheet: &Sheet,
     page: Page,
     facts: Facts,
-) -> Result<(), OutOfMemory> {
-    let width = page.width();
-    let height = page.bottom() + 24;
-    let head = format!(in sheet.alloc;
-        "<svg xmlns=\"http://www.w3.org/2000/svg\" width=\"{width}\" height=\"{height}\" viewBox=\"0 0 {width} {height}\" font-family=\"DejaVu Sans,Arial,sans-serif\" font-size=\"11\">\n<rect width=\"{width}\" height=\"{height}\" fill=\"#fff\"/>\n"
-    )?;
-    put(text, &head)?;
+) -> Result<(), OutOfMemory>
+    ensures { OnOk result (Keeps text.old.items text.new.items) }
+{
     let processors = page.lanes;
     let tasks = sheet.set.len();
     let entries = facts.entries;
     let units = facts.units;
-    let title = format!(in sheet.alloc;
+    let line = format!(in sheet.alloc;
         "<text x=\"8\" y=\"16\" font-weight=\"bold\">{processors} processors, {tasks} tasks, {entries} entries, {units} units"
     )?;
-    put(text, &title)?;
-    write_window(text, sheet, facts)?;
+    put(text, &line)?;
+    write_part(text, sheet, facts)?;
     put(text, "</text>\n")
 }
 
-/// Appends what the title says of the window, where it is not the whole.
-fn write_window(text: &mut Vec<u8>, sheet: &Sheet, facts: Facts) -> Result<(), OutOfMemory> {
-    let from = sheet.window.from;
-    let to = sheet.window.to;
-    if from != 0 || to != facts.whole {
-        let window = format!(in sheet.alloc; ", from {from} to {to}")?;
-        put(text, &window)?;
-    }
-    if !facts.few {
-        put(
-            text,
-            "; a window of at most 400 entries shows arrivals, departures and moves",
-        )?;
-    }
-    Ok(())
+/// Appends what the title says of the part that is shown.
+fn write_part(text: &mut Vec<u8>, sheet: &Sheet, facts: Facts) -> Result<(), OutOfMemory>
+    ensures { OnOk result (Keeps text.old.items text.new.items) }
+{
+    write_window(text, sheet, facts)?;
+    write_hint(text, facts)
 }
 
-/// Appends the lines of the axis.
+/// Appends what the title says of the window, where it is not the whole.
+#[tactic(auto, using(crate::proofs::Elements::keeps_same))]
+fn write_window(text: &mut Vec<u8>, sheet: &Sheet, facts: Facts) -> Result<(), OutOfMemory>
+    ensures { OnOk result (Keeps text.old.items text.new.items) }
+{
+    let from = sheet.window.from;
+    let to = sheet.window.to;
+    if from == 0 && to == facts.whole {
+        return Ok(());
+    }
+    write_field(text, b", from ", from)?;
+    write_field(text, b" to ", to)
+}
+
+/// Appends what the title says where the window has too many entries for marks.
+#[tactic(auto, using(crate::proofs::Elements::keeps_same))]
+fn write_hint(text: &mut Vec<u8>, facts: Facts) -> Result<(), OutOfMemory>
+    ensures { OnOk result (Keeps text.old.items text.new.items) }
+{
+    if facts.few {
+        return Ok(());
+    }
+    put(
+        text,
+        "; a window of at most 400 entries shows arrivals, departures and moves",
+    )
+}
+
+/// Appends the axis.
 fn write_axis(
     text: &mut Vec<u8>,
     sheet: &Sheet,
@@ -75,18 +106,39 @@ fn write_axis(
     entries: &[Entry],
 ) -> Result<(), OutOfMemory>
     requires { All (IsEntryOf sheet.now.set.now) entries.now }
+    ensures { OnOk result (Keeps text.old.items text.new.items) }
 {
-    match page.axis {
-        Axis::Time => write_times(text, sheet, page)?,
-        Axis::Steps => write_columns(text, sheet, page, entries)?,
-    }
-    let word = match page.axis {
-        Axis::Time => "units",
-        Axis::Steps => "entry",
-    };
+    write_axis_lines(text, sheet, page, entries)?;
+    let word: &'static str = axis_word(page.axis);
     let below = page.bottom() + 14;
     let line = format!(in sheet.alloc; "<text x=\"8\" y=\"{below}\">{word}</text>\n")?;
     put(text, &line)
+}
+
+/// What the axis counts.
+fn axis_word(axis: Axis) -> &'static str
+    ensures { are_plain result.now ≡ true }
+{
+    match axis {
+        Axis::Time => "units",
+        Axis::Steps => "entry",
+    }
+}
+
+/// Appends the lines of the axis.
+fn write_axis_lines(
+    text: &mut Vec<u8>,
+    sheet: &Sheet,
+    page: Page,
+    entries: &[Entry],
+) -> Result<(), OutOfMemory>
+    requires { All (IsEntryOf sheet.now.set.now) entries.now }
+    ensures { OnOk result (Keeps text.old.items text.new.items) }
+{
+    match page.axis {
+        Axis::Time => write_times(text, sheet, page),
+        Axis::Steps => write_columns(text, sheet, page, entries),
+    }
 }
 
 /// The distance of the lines of a time axis: 1, 2 or 5 times a power of ten, so that there are at most 13.
@@ -109,24 +161,33 @@ fn step_of(span: u64) -> u64
 }
 
 /// Appends a line at each round number of units.
-fn write_times(text: &mut Vec<u8>, sheet: &Sheet, page: Page) -> Result<(), OutOfMemory> {
+fn write_times(text: &mut Vec<u8>, sheet: &Sheet, page: Page) -> Result<(), OutOfMemory>
+    ensures { OnOk result (Keeps text.old.items text.new.items) }
+{
     let step = step_of(sheet.span());
-    let above = u32::from(page.top).saturating_sub(4);
-    let bottom = page.bottom();
-    let below = bottom + 14;
     let first = sheet.window.from.saturating_add(step - 1) / step;
     for i in 0..14u64 {
         let place = first.saturating_add(i).saturating_mul(step);
         if place > sheet.window.to {
             return Ok(());
         }
-        let x = page.across(sheet, place);
-        let line = format!(in sheet.alloc;
-            "<path d=\"M{x},{above} V{bottom}\" stroke=\"#ddd\"/><text x=\"{x}\" y=\"{below}\" text-anchor=\"middle\">{place}</text>\n"
-        )?;
-        put(text, &line)?;
+        write_time(text, sheet, page, place)?;
     }
     Ok(())
+}
+
+/// Appends the line of a number of units.
+fn write_time(text: &mut Vec<u8>, sheet: &Sheet, page: Page, place: u64) -> Result<(), OutOfMemory>
+    ensures { OnOk result (Keeps text.old.items text.new.items) }
+{
+    let above = u32::from(page.top).saturating_sub(4);
+    let bottom = page.bottom();
+    let below = bottom + 14;
+    let x = page.across(sheet, place);
+    let line = format!(in sheet.alloc;
+        "<path d=\"M{x},{above} V{bottom}\" stroke=\"#ddd\"/><text x=\"{x}\" y=\"{below}\" text-anchor=\"middle\">{place}</text>\n"
+    )?;
+    put(text, &line)
 }
 
 /// Appends a line and a label at each entry of the window.
@@ -137,17 +198,16 @@ fn write_columns(
     entries: &[Entry],
 ) -> Result<(), OutOfMemory>
     requires { All (IsEntryOf sheet.now.set.now) entries.now }
+    ensures { OnOk result (Keeps text.old.items text.new.items) }
 {
     for i in 0..entries.len() {
-        let place = i as u64;
-        if sheet.window.from <= place && place < sheet.window.to {
-            write_column(text, sheet, page, entries, i)?;
-        }
+        write_column(text, sheet, page, entries, i)?;
     }
     Ok(())
 }
 
-/// Appends the line and the label of an entry.
+/// Appends the line and the label of an entry, where the window has it.
+#[tactic(auto, using(crate::proofs::Elements::keeps_same))]
 fn write_column(
     text: &mut Vec<u8>,
     sheet: &Sheet,
@@ -157,47 +217,91 @@ fn write_column(
 ) -> Result<(), OutOfMemory>
     requires about { All (IsEntryOf sheet.now.set.now) entries.now }
     requires there { i < length entries.now }
+    ensures { OnOk result (Keeps text.old.items text.new.items) }
 {
     let place = i as u64;
+    if place < sheet.window.from || sheet.window.to <= place {
+        return Ok(());
+    }
+    write_label(text, sheet, page, place, entries[i].event)?;
+    write_number_of(text, sheet, page, place)
+}
+
+/// Appends the line of a column, and the event above it.
+fn write_label(
+    text: &mut Vec<u8>,
+    sheet: &Sheet,
+    page: Page,
+    place: u64,
+    event: Event,
+) -> Result<(), OutOfMemory>
+    requires { IsAboutSet sheet.now.set.now event }
+    ensures { OnOk result (Keeps text.old.items text.new.items) }
+{
+    let _number = sheet.set.len();
     let x = page.across(sheet, place);
-    let middle = (x + page.across(sheet, place + 1)) / 2;
-    let turned = middle + 2;
+    let turned = (x + page.across(sheet, place.saturating_add(1))) / 2 + 2;
     let above = u32::from(page.top).saturating_sub(4);
     let label = u32::from(page.top).saturating_sub(6);
     let bottom = page.bottom();
-    let event = entries[i].event;
-    let colour = if matches!(event, Event::Tick(_)) {
-        "#888"
-    } else {
-        "#000"
-    };
+    let grey = grey_of(&event);
     let line = format!(in sheet.alloc;
-        "<path d=\"M{x},{above} V{bottom}\" stroke=\"#eee\"/><text transform=\"translate({turned},{label}) rotate(-55)\" fill=\"{colour}\">"
+        "<path d=\"M{x},{above} V{bottom}\" stroke=\"#eee\"/><text transform=\"translate({turned},{label}) rotate(-55)\" fill=\"#{grey}{grey}{grey}\">"
     )?;
     put(text, &line)?;
     write_event_text(text, sheet.set, event)?;
-    let below = bottom + 14;
-    let number = place + 1;
+    put(text, "</text>\n")
+}
+
+/// Appends the number of the entry of a column below it.
+fn write_number_of(
+    text: &mut Vec<u8>,
+    sheet: &Sheet,
+    page: Page,
+    place: u64,
+) -> Result<(), OutOfMemory>
+    ensures { OnOk result (Keeps text.old.items text.new.items) }
+{
+    let number = place.saturating_add(1);
+    let middle = (page.across(sheet, place) + page.across(sheet, number)) / 2;
+    let below = page.bottom() + 14;
     let line = format!(in sheet.alloc;
-        "</text>\n<text x=\"{middle}\" y=\"{below}\" text-anchor=\"middle\">{number}</text>\n"
+        "<text x=\"{middle}\" y=\"{below}\" text-anchor=\"middle\">{number}</text>\n"
     )?;
     put(text, &line)
 }
 
+/// How light the label of an event is, as each digit of its colour: time that passes is grey.
+fn grey_of(event: &Event) -> u8 {
+    match event {
+        Event::Tick(_) => 8,
+        _ => 0,
+    }
+}
+
 /// Appends the names of the processors, and a line below each lane.
-fn write_processors(text: &mut Vec<u8>, sheet: &Sheet, page: Page) -> Result<(), OutOfMemory> {
+fn write_processors(text: &mut Vec<u8>, sheet: &Sheet, page: Page) -> Result<(), OutOfMemory>
+    ensures { OnOk result (Keeps text.old.items text.new.items) }
+{
+    for p in 0..page.lanes {
+        write_processor(text, sheet, page, p)?;
+    }
+    Ok(())
+}
+
+/// Appends those of a processor.
+fn write_processor(text: &mut Vec<u8>, sheet: &Sheet, page: Page, p: u8) -> Result<(), OutOfMemory>
+    ensures { OnOk result (Keeps text.old.items text.new.items) }
+{
     let left = LEFT;
     let before = LEFT - 8;
     let wide = page.wide;
-    for p in 0..page.lanes {
-        let y = page.lane_top(p) + 16;
-        let under = page.lane_top(p) + LANE;
-        let line = format!(in sheet.alloc;
-            "<text x=\"{before}\" y=\"{y}\" text-anchor=\"end\">cpu {p}</text>\n<path d=\"M{left},{under} h{wide}\" stroke=\"#ccc\"/>\n"
-        )?;
-        put(text, &line)?;
-    }
-    Ok(())
+    let y = page.lane_top(p) + 16;
+    let under = page.lane_top(p) + LANE;
+    let line = format!(in sheet.alloc;
+        "<text x=\"{before}\" y=\"{y}\" text-anchor=\"end\">cpu {p}</text>\n<path d=\"M{left},{under} h{wide}\" stroke=\"#ccc\"/>\n"
+    )?;
+    put(text, &line)
 }
 
 /// Appends a mark where each stay begins, and the names of the tasks where they fit.
@@ -206,7 +310,9 @@ fn write_marks(
     sheet: &Sheet,
     page: Page,
     lanes: &[Track],
-) -> Result<(), OutOfMemory> {
+) -> Result<(), OutOfMemory>
+    ensures { OnOk result (Keeps text.old.items text.new.items) }
+{
     for p in 0..page.lanes {
         write_lane_marks(text, sheet, page, p, spans_at(lanes, p as usize))?;
     }
@@ -220,31 +326,65 @@ fn write_lane_marks(
     page: Page,
     p: u8,
     spans: &[Span],
-) -> Result<(), OutOfMemory> {
+) -> Result<(), OutOfMemory>
+    ensures { OnOk result (Keeps text.old.items text.new.items) }
+{
     for span in spans {
-        if sheet.touches(*span) {
-            write_mark(text, sheet, page, p, *span)?;
-        }
+        write_mark(text, sheet, page, p, *span)?;
     }
     Ok(())
 }
 
-/// Appends the mark of a stay, and the name of its task where it fits.
+/// Appends the mark of a stay, and the name of its task where it fits, where the stay touches the window.
+#[tactic(auto, using(crate::proofs::Elements::keeps_same))]
 fn write_mark(
     text: &mut Vec<u8>,
     sheet: &Sheet,
     page: Page,
     p: u8,
     span: Span,
-) -> Result<(), OutOfMemory> {
+) -> Result<(), OutOfMemory>
+    ensures { OnOk result (Keeps text.old.items text.new.items) }
+{
+    if !sheet.touches(span) {
+        return Ok(());
+    }
+    write_begin(text, sheet, page, p, span)?;
+    write_name(text, sheet, page, p, span)
+}
+
+/// Appends the mark of a stay.
+fn write_begin(
+    text: &mut Vec<u8>,
+    sheet: &Sheet,
+    page: Page,
+    p: u8,
+    span: Span,
+) -> Result<(), OutOfMemory>
+    ensures { OnOk result (Keeps text.old.items text.new.items) }
+{
     let begin = page.across(sheet, sheet.place(span.from).max(sheet.window.from));
-    let end = page.across(sheet, sheet.place(span.until).min(sheet.window.to));
     let y = page.lane_top(p) + LANE / 8;
     let line = format!(in sheet.alloc; "<path d=\"M{begin},{y} v18\" stroke=\"#333\"/>\n")?;
-    put(text, &line)?;
-    let (Some(_), Seen::Task(t)) = (sheet.part(span), span.what) else {
+    put(text, &line)
+}
+
+/// Appends the name of the task of a stay where it fits.
+#[tactic(auto, using(crate::proofs::Elements::keeps_same))]
+fn write_name(
+    text: &mut Vec<u8>,
+    sheet: &Sheet,
+    page: Page,
+    p: u8,
+    span: Span,
+) -> Result<(), OutOfMemory>
+    ensures { OnOk result (Keeps text.old.items text.new.items) }
+{
+    let (Some(part), Seen::Task(t)) = (sheet.part(span), span.what) else {
         return Ok(());
     };
+    let begin = page.across(sheet, part.0);
+    let end = page.across(sheet, part.1);
     let name = sheet.name(t);
     let needed = LETTER * (name.len().min(100) as u32) + 6;
     if end.saturating_sub(begin) < needed {
@@ -267,19 +407,44 @@ struct Move {
     to: u8,
 }
 
-/// Appends an arrow for each move in the window, in the order of the entries.
+/// Appends an arrow for each move in the window, in the order of the entries, where it has few.
+#[tactic(auto, using(crate::proofs::Elements::keeps_same))]
 fn write_moves(
     text: &mut Vec<u8>,
     sheet: &Sheet,
     page: Page,
+    facts: Facts,
     rows: &[Track],
-) -> Result<(), OutOfMemory> {
+) -> Result<(), OutOfMemory>
+    ensures { OnOk result (Keeps text.old.items text.new.items) }
+{
+    if !facts.few {
+        return Ok(());
+    }
+    let moves = moves_in(sheet, rows)?;
+    write_arrows(text, sheet, page, &moves)
+}
+
+/// The moves in the window, in the order of the entries.
+fn moves_in(sheet: &Sheet, rows: &[Track]) -> Result<Vec<Move>, OutOfMemory> {
     let mut moves = Vec::new(sheet.alloc);
     for t in 0..sheet.set.len() {
         add_moves(&mut moves, sheet, t, spans_at(rows, t as usize))?;
     }
     moves.sort_by_key(|found: &Move| found.n)?;
-    for found in &moves {
+    Ok(moves)
+}
+
+/// Appends the arrows of moves.
+fn write_arrows(
+    text: &mut Vec<u8>,
+    sheet: &Sheet,
+    page: Page,
+    moves: &[Move],
+) -> Result<(), OutOfMemory>
+    ensures { OnOk result (Keeps text.old.items text.new.items) }
+{
+    for found in moves {
         write_arrow(text, sheet, page, *found)?;
     }
     Ok(())
@@ -311,31 +476,55 @@ fn write_arrow(
     sheet: &Sheet,
     page: Page,
     found: Move,
-) -> Result<(), OutOfMemory> {
-    let from = found.from;
-    let to = found.to;
+) -> Result<(), OutOfMemory>
+    ensures { OnOk result (Keeps text.old.items text.new.items) }
+{
     let x = page.across(sheet, sheet.place(found.n));
-    let y = page.lane_top(from) + LANE / 2;
-    let z = page.lane_top(to) + LANE / 2;
-    let bend = (5 + 3 * u32::from(from.max(to) - from.min(to))).min(16);
-    let beside = x.saturating_sub(bend);
-    let name = sheet.name(found.t);
-    let line = format!(in sheet.alloc;
-        "<path class=\"move\" d=\"M{x},{y} C{beside},{y} {beside},{z} {x},{z}\" fill=\"none\" stroke=\"#000\"><title>{name} from cpu {from} to cpu {to}</title></path><path d=\"M{x},{z} l-6,-3 l1,6 z\"/>\n"
-    )?;
+    let z = page.lane_top(found.to) + LANE / 2;
+    write_curve(text, sheet, page, found)?;
+    let line = format!(in sheet.alloc; "<path d=\"M{x},{z} l-6,-3 l1,6 z\"/>\n")?;
     put(text, &line)
 }
 
+/// Appends the curve of a move, with a title.
+fn write_curve(
+    text: &mut Vec<u8>,
+    sheet: &Sheet,
+    page: Page,
+    found: Move,
+) -> Result<(), OutOfMemory>
+    ensures { OnOk result (Keeps text.old.items text.new.items) }
+{
+    let x = page.across(sheet, sheet.place(found.n));
+    let y = page.lane_top(found.from) + LANE / 2;
+    let z = page.lane_top(found.to) + LANE / 2;
+    let lanes = found.from.max(found.to) - found.from.min(found.to);
+    let beside = x.saturating_sub((5 + 3 * u32::from(lanes)).min(16));
+    let line = format!(in sheet.alloc;
+        "<path class=\"move\" d=\"M{x},{y} C{beside},{y} {beside},{z} {x},{z}\" fill=\"none\" stroke=\"#000\"><title>"
+    )?;
+    put(text, &line)?;
+    write_move_title(text, sheet, found)?;
+    put(text, "</title></path>")
+}
+
+/// Appends who moves, from where and to where.
+fn write_move_title(text: &mut Vec<u8>, sheet: &Sheet, found: Move) -> Result<(), OutOfMemory>
+    ensures { OnOk result (Keeps text.old.items text.new.items) }
+{
+    write_word(text, sheet.name(found.t).as_bytes())?;
+    write_field(text, b" from cpu ", u64::from(found.from))?;
+    write_field(text, b" to cpu ", u64::from(found.to))
+}
+
 /// Appends the legend of the rows.
-fn write_legend(text: &mut Vec<u8>, sheet: &Sheet, page: Page) -> Result<(), OutOfMemory> {
+fn write_legend(text: &mut Vec<u8>, sheet: &Sheet, page: Page) -> Result<(), OutOfMemory>
+    ensures { OnOk result (Keeps text.old.items text.new.items) }
+{
     let y = page.rows_top().saturating_sub(8);
     let box_top = page.rows_top().saturating_sub(16);
     let line = format!(in sheet.alloc;
-        "<text x=\"8\" y=\"{y}\" fill=\"#666\">task, priority, mask</text><rect x=\"200\" y=\"{box_top}\" width=\"20\" height=\"9\" fill=\"#d9534f\"/><text x=\"226\" y=\"{y}\" fill=\"#666\">ready and waits</text>"
-    )?;
-    put(text, &line)?;
-    let line = format!(in sheet.alloc;
-        "<rect x=\"340\" y=\"{box_top}\" width=\"20\" height=\"9\" fill=\"#bbb\"/><text x=\"366\" y=\"{y}\" fill=\"#666\">linked, with its processor (grey lane: off line)</text>\n"
+        "<text x=\"8\" y=\"{y}\" fill=\"#666\">task, priority, mask</text><rect x=\"200\" y=\"{box_top}\" width=\"20\" height=\"9\" fill=\"#d9534f\"/><text x=\"226\" y=\"{y}\" fill=\"#666\">ready and waits</text><rect x=\"340\" y=\"{box_top}\" width=\"20\" height=\"9\" fill=\"#bbb\"/><text x=\"366\" y=\"{y}\" fill=\"#666\">linked, with its processor (grey lane: off line)</text>\n"
     )?;
     put(text, &line)
 }
@@ -346,39 +535,76 @@ fn write_names(
     sheet: &Sheet,
     page: Page,
     listed: &[u32],
-) -> Result<(), OutOfMemory> {
+) -> Result<(), OutOfMemory>
+    ensures { OnOk result (Keeps text.old.items text.new.items) }
+{
     for k in 0..page.rows {
-        if let Some(t) = listed.get(k as usize) {
-            write_task(text, sheet, page, k, *t)?;
-        }
+        write_task(text, sheet, page, k, listed)?;
     }
     Ok(())
 }
 
 /// Appends those of a task.
+#[tactic(auto, using(crate::proofs::Elements::keeps_same))]
 fn write_task(
     text: &mut Vec<u8>,
     sheet: &Sheet,
     page: Page,
     k: u8,
-    t: u32,
-) -> Result<(), OutOfMemory> {
+    listed: &[u32],
+) -> Result<(), OutOfMemory>
+    ensures { OnOk result (Keeps text.old.items text.new.items) }
+{
+    let t = task_in(listed, k);
     if t >= sheet.set.len() {
         return Ok(());
     }
+    write_colour(text, sheet, page, k, t)?;
+    write_facts(text, sheet, page, k, t)
+}
+
+/// The task that is listed in a row, or a number of no task.
+fn task_in(listed: &[u32], k: u8) -> u32 {
+    listed.get(k as usize).copied().unwrap_or(u32::MAX)
+}
+
+/// Appends a box of the colour of a task.
+fn write_colour(
+    text: &mut Vec<u8>,
+    sheet: &Sheet,
+    page: Page,
+    k: u8,
+    t: u32,
+) -> Result<(), OutOfMemory>
+    ensures { OnOk result (Keeps text.old.items text.new.items) }
+{
     let top = page.row_top(k) + 3;
-    let y = page.row_top(k) + 12;
     let line = format!(in sheet.alloc;
         "<rect x=\"4\" y=\"{top}\" width=\"10\" height=\"10\" fill=\""
     )?;
     put(text, &line)?;
-    text.extend_from_slice(colour_of(t))?;
-    let name = sheet.set.name(t);
+    write_word(text, colour_of(t))?;
+    put(text, "\" stroke=\"#555\"/>")
+}
+
+/// Appends the name, the priority and the mask of a task, and a line below its row.
+fn write_facts(
+    text: &mut Vec<u8>,
+    sheet: &Sheet,
+    page: Page,
+    k: u8,
+    t: u32,
+) -> Result<(), OutOfMemory>
+    requires { t < length sheet.now.set.now.tasks }
+    ensures { OnOk result (Keeps text.old.items text.new.items) }
+{
+    let y = page.row_top(k) + 12;
+    let name = sheet.name(t);
     let priority = sheet.set.priority(t);
-    let line = format!(in sheet.alloc;
-        "\" stroke=\"#555\"/><text x=\"20\" y=\"{y}\">{name} <tspan fill=\"#666\">{priority} "
+    let head = format!(in sheet.alloc;
+        "<text x=\"20\" y=\"{y}\">{name} <tspan fill=\"#666\">{priority} "
     )?;
-    put(text, &line)?;
+    put(text, &head)?;
     sheet.set.mask(t).write_list(text)?;
     let left = LEFT;
     let under = page.row_top(k) + ROW;
@@ -396,11 +622,12 @@ fn write_places(
     page: Page,
     rows: &[Track],
     listed: &[u32],
-) -> Result<(), OutOfMemory> {
+) -> Result<(), OutOfMemory>
+    ensures { OnOk result (Keeps text.old.items text.new.items) }
+{
     for k in 0..page.rows {
-        if let Some(t) = listed.get(k as usize) {
-            write_row_places(text, sheet, page, k, spans_at(rows, *t as usize))?;
-        }
+        let t = task_in(listed, k);
+        write_row_places(text, sheet, page, k, spans_at(rows, t as usize))?;
     }
     Ok(())
 }
@@ -412,22 +639,40 @@ fn write_row_places(
     page: Page,
     k: u8,
     spans: &[Span],
-) -> Result<(), OutOfMemory> {
+) -> Result<(), OutOfMemory>
+    ensures { OnOk result (Keeps text.old.items text.new.items) }
+{
     for span in spans {
-        if let (Some(part), Seen::Processor(p)) = (sheet.part(*span), span.what) {
-            let begin = page.across(sheet, part.0);
-            let end = page.across(sheet, part.1);
-            if end.saturating_sub(begin) >= 16 {
-                let x = (begin + end) / 2;
-                let y = page.row_top(k) + 11;
-                let line = format!(in sheet.alloc;
-                    "<text x=\"{x}\" y=\"{y}\" font-size=\"9\" text-anchor=\"middle\">{p}</text>\n"
-                )?;
-                put(text, &line)?;
-            }
-        }
+        write_row_place(text, sheet, page, k, *span)?;
     }
     Ok(())
+}
+
+/// Appends the number of the processor of a stay, where it fits.
+#[tactic(auto, using(crate::proofs::Elements::keeps_same))]
+fn write_row_place(
+    text: &mut Vec<u8>,
+    sheet: &Sheet,
+    page: Page,
+    k: u8,
+    span: Span,
+) -> Result<(), OutOfMemory>
+    ensures { OnOk result (Keeps text.old.items text.new.items) }
+{
+    let (Some(part), Seen::Processor(p)) = (sheet.part(span), span.what) else {
+        return Ok(());
+    };
+    let begin = page.across(sheet, part.0);
+    let end = page.across(sheet, part.1);
+    if end.saturating_sub(begin) < 16 {
+        return Ok(());
+    }
+    let x = (begin + end) / 2;
+    let y = page.row_top(k) + 11;
+    let line = format!(in sheet.alloc;
+        "<text x=\"{x}\" y=\"{y}\" font-size=\"9\" text-anchor=\"middle\">{p}</text>\n"
+    )?;
+    put(text, &line)
 }
 
 /// An arrival or a departure of a task that is listed, by an entry.
@@ -438,22 +683,51 @@ struct Turn {
     arrives: bool,
 }
 
-/// Appends a mark at each arrival and each departure in the window, in the order of the entries.
+/// Appends a mark at each arrival and each departure in the window, in the order of the entries, where it has few.
+#[tactic(auto, using(crate::proofs::Elements::keeps_same))]
 fn write_turns(
     text: &mut Vec<u8>,
     sheet: &Sheet,
     page: Page,
+    facts: Facts,
     rows: &[Track],
     listed: &[u32],
-) -> Result<(), OutOfMemory> {
+) -> Result<(), OutOfMemory>
+    ensures { OnOk result (Keeps text.old.items text.new.items) }
+{
+    if !facts.few {
+        return Ok(());
+    }
+    let turns = turns_in(sheet, page, rows, listed)?;
+    write_all_turns(text, sheet, page, &turns)
+}
+
+/// The arrivals and departures in the window, in the order of the entries.
+fn turns_in(
+    sheet: &Sheet,
+    page: Page,
+    rows: &[Track],
+    listed: &[u32],
+) -> Result<Vec<Turn>, OutOfMemory> {
     let mut turns = Vec::new(sheet.alloc);
     for k in 0..page.rows {
-        if let Some(t) = listed.get(k as usize) {
-            add_turns(&mut turns, sheet, k, spans_at(rows, *t as usize))?;
-        }
+        let t = task_in(listed, k);
+        add_turns(&mut turns, sheet, k, spans_at(rows, t as usize))?;
     }
     turns.sort_by_key(|turn: &Turn| turn.n)?;
-    for turn in &turns {
+    Ok(turns)
+}
+
+/// Appends their marks.
+fn write_all_turns(
+    text: &mut Vec<u8>,
+    sheet: &Sheet,
+    page: Page,
+    turns: &[Turn],
+) -> Result<(), OutOfMemory>
+    ensures { OnOk result (Keeps text.old.items text.new.items) }
+{
+    for turn in turns {
         write_turn(text, sheet, page, *turn)?;
     }
     Ok(())
@@ -493,21 +767,35 @@ fn add_turn(
 }
 
 /// Appends the mark of an arrival or a departure.
-fn write_turn(
-    text: &mut Vec<u8>,
-    sheet: &Sheet,
-    page: Page,
-    turn: Turn,
-) -> Result<(), OutOfMemory> {
+fn write_turn(text: &mut Vec<u8>, sheet: &Sheet, page: Page, turn: Turn) -> Result<(), OutOfMemory>
+    ensures { OnOk result (Keeps text.old.items text.new.items) }
+{
     let x = page.across(sheet, sheet.place(turn.n));
     let y = page.row_top(turn.k);
-    let under = y + ROW - 1;
-    let over = y + 1;
-    let line = if turn.arrives {
-        format!(in sheet.alloc; "<path d=\"M{x},{over} l-3,5 h6 z\"/>\n")?
+    if turn.arrives {
+        write_arrival(text, sheet, x, y)
     } else {
-        format!(in sheet.alloc; "<path d=\"M{x},{under} l-3,-5 h6 z\" fill=\"#777\"/>\n")?
-    };
+        write_departure(text, sheet, x, y)
+    }
+}
+
+/// Appends the mark of an arrival, in a row that begins at y.
+fn write_arrival(text: &mut Vec<u8>, sheet: &Sheet, x: u32, y: u32) -> Result<(), OutOfMemory>
+    requires { y < 262144 }
+    ensures { OnOk result (Keeps text.old.items text.new.items) }
+{
+    let over = y + 1;
+    let line = format!(in sheet.alloc; "<path d=\"M{x},{over} l-3,5 h6 z\"/>\n")?;
+    put(text, &line)
+}
+
+/// Appends the mark of a departure, in a row that begins at y.
+fn write_departure(text: &mut Vec<u8>, sheet: &Sheet, x: u32, y: u32) -> Result<(), OutOfMemory>
+    requires { y < 262144 }
+    ensures { OnOk result (Keeps text.old.items text.new.items) }
+{
+    let under = y + ROW - 1;
+    let line = format!(in sheet.alloc; "<path d=\"M{x},{under} l-3,-5 h6 z\" fill=\"#777\"/>\n")?;
     put(text, &line)
 }
 
@@ -542,8 +830,10 @@ pub(crate) fn text_before(
     entries: &[Entry],
 ) -> Result<Vec<u8>, OutOfMemory>
     requires { All (IsEntryOf sheet.now.set.now) entries.now }
+    ensures { IfOk result (λ text. Begins text.items) }
 {
     let mut text = Vec::new(sheet.alloc);
+    write_opening(&mut text, sheet, page)?;
     write_title(&mut text, sheet, page, facts)?;
     write_axis(&mut text, sheet, page, entries)?;
     write_processors(&mut text, sheet, page)?;
@@ -558,12 +848,12 @@ pub(crate) fn text_between(
     tracks: &Tracks,
     facts: Facts,
     listed: &[u32],
-) -> Result<Vec<u8>, OutOfMemory> {
+) -> Result<Vec<u8>, OutOfMemory>
+    ensures { IfOk result (λ text. GoesOn text.items) }
+{
     let mut text = Vec::new(sheet.alloc);
     write_marks(&mut text, sheet, page, &tracks.lanes)?;
-    if facts.few {
-        write_moves(&mut text, sheet, page, &tracks.rows)?;
-    }
+    write_moves(&mut text, sheet, page, facts, &tracks.rows)?;
     write_legend(&mut text, sheet, page)?;
     write_names(&mut text, sheet, page, listed)?;
     Ok(text)
@@ -576,12 +866,12 @@ pub(crate) fn text_after(
     rows: &[Track],
     facts: Facts,
     listed: &[u32],
-) -> Result<Vec<u8>, OutOfMemory> {
+) -> Result<Vec<u8>, OutOfMemory>
+    ensures { IfOk result (λ text. Ends text.items) }
+{
     let mut text = Vec::new(sheet.alloc);
     write_places(&mut text, sheet, page, rows, listed)?;
-    if facts.few {
-        write_turns(&mut text, sheet, page, rows, listed)?;
-    }
+    write_turns(&mut text, sheet, page, facts, rows, listed)?;
     put(&mut text, "</svg>\n")?;
     Ok(text)
 }

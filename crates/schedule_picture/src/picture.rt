@@ -2,6 +2,7 @@
 ghost use Rattle.std.specs.Prelude.{◌≡◌, ◌≤◌, ◌+◌, All, length, slice_index, IfOk};
 ghost use Rattle.strong_apa.specs.Passing.{IsPassing};
 ghost use Rattle.schedule_text.specs.ScheduleText.{IsEntryOf};
+ghost use Rattle.schedule_picture.specs.Elements.{IsWellFormed};
 ghost use Rattle.schedule_picture.specs.History.{HaveSpans};
 ghost use Rattle.schedule_picture.specs.Picture.{IsPicture, HasGroupsOf, cut_window, places_of, end_of};
 
@@ -94,8 +95,9 @@ fn page_text(
 ) -> Result<Vec<u8>, OutOfMemory>
     requires about { All (IsEntryOf sheet.now.set.now) entries.now }
     requires few { length listed.now ≤ 64 }
-    ensures { IfOk result (λ text.
+    ensures groups { IfOk result (λ text.
         HasGroupsOf sheet.now.places.now sheet.now.set.now sheet.now.window tracks.now listed.now text.items) }
+    ensures well_formed { IfOk result (λ text. IsWellFormed text.items) }
 {
     let page = page_for(sheet, entries, axis, listed.len())?;
     let facts = facts_of(sheet, entries);
@@ -114,6 +116,7 @@ fn page_text(
 fn page_for(sheet: &Sheet, entries: &[Entry], axis: Axis, rows: usize) -> Result<Page, OutOfMemory>
     requires about { All (IsEntryOf sheet.now.set.now) entries.now }
     requires few { rows ≤ 64 }
+    ensures { IfOk result (λ page. 1 ≤ page.wide) }
 {
     let lanes = sheet.set.processors();
     let rows = rows as u8;

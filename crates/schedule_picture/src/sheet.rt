@@ -1,7 +1,8 @@
 //! What is drawn: the tasks, the places of the axis, and the window.
-ghost use Rattle.std.specs.Prelude.{◌≡◌, ◌<◌, ◌≤◌, slice_index, get_or};
+ghost use Rattle.std.specs.Prelude.{◌≡◌, ◌<◌, ◌≤◌, true, slice_index, get_or};
 ghost use Rattle.task_set.specs.TaskSet.{priorities};
 ghost use Rattle.text_fields.specs.EventText.{name_of};
+ghost use Rattle.schedule_picture.specs.Elements.{are_plain};
 ghost use Rattle.schedule_picture.specs.Group.{extent_of, part_of, span_of};
 ghost use Rattle.schedule_picture.specs.Listing.{touches};
 ghost use Rattle.schedule_picture.specs.Track.{fresh_track};
@@ -94,7 +95,8 @@ impl Sheet<'_> {
 
     /// The name of a task. Of a number that is no task it is empty.
     pub(crate) fn name(&self, t: u32) -> &str
-        ensures { result.now ≡ name_of self.now.set.now t }
+        ensures value { result.now ≡ name_of self.now.set.now t }
+        ensures plain { are_plain result.now ≡ true }
     {
         if t < self.set.len() {
             self.set.name(t)
