@@ -240,7 +240,7 @@ function explain() {
     else if (fault == "kind 4") bad_processors()
     else if (fault == "kind 5") bad_task(is_trace ? "task NAME PRIORITY LIST ID" : "task NAME PRIORITY LIST", is_trace ? 5 : 4, is_trace ? "4194303" : "4294967295")
     else if (fault == "kind 6") bad_list(4)
-    else if (fault == "kind 7" || fault == "kind 22") refused_task()
+    else if (fault == "kind 7" || (fault == "kind 22" && !is_trace)) refused_task()
     else if (fault == "kind 8" && !is_trace && word !~ /jobs/) bad_event()
     else if (fault == "kind 9") unknown_task(word ~ /jobs/ ? 2 : 3)
     else if (fault == "kind 11") bad_end()
@@ -248,14 +248,14 @@ function explain() {
     else if (fault == "kind 16") show_field(5)
     else if (fault == "kind 18") bad_form()
     else if (fault == "kind 21" && !is_trace) bad_schedule_line()
-    else if (fault == "kind 23") unknown_task(3)
+    else if (fault == "kind 23" && !is_trace) unknown_task(3)
     else if (fault == "defect 2") bad_chain()
     else show($0, 0, 0)
 }
 
 BEGIN {
     for (n = 0; n < 256; n++) code[sprintf("%c", n)] = n
-    is_trace = word ~ /^(import|lost|importjobs)$/
+    is_trace = word ~ /^(import|lost|importjobs|whatif)$/
     header = is_trace ? "trace 1" : word ~ /jobs/ ? "jobs 1" : word ~ /^(check|draw|steps|chrome)$/ ? "schedule 1" : "apa 1"
 }
 NR == 1 {

@@ -47,6 +47,15 @@ explain_fault() {
     [ -z "$text" ] || LC_ALL=C awk -v line="$number" -v fault="$fault" -v word="$1" -f "$parts/near.awk" -f "$parts/causes.awk" "$text" >&2
     advice=$(in_words "$1" "$fault" 3)
     [ -z "$advice" ] || tell "    = $advice"
+    [ -z "$text" ] || case $1:$fault in
+    'import:kind 22' | 'lost:kind 22' | 'importjobs:kind 22' | 'whatif:kind 22') tell_window ;;
+    esac
+}
+
+# Of a trace whose oldest lines were overwritten: the window in which the lines of all processors are there.
+tell_window() {
+    from=$(LC_ALL=C awk -f "$parts/window.awk" "$text")
+    [ -z "$from" ] || tell "    = the line \`window $from 999999999.0\` in TASKS takes the part that all processors have"
 }
 
 explain_stop() {
