@@ -1,5 +1,5 @@
 -- The two groups of a picture are elements, and the whole text is one.
-use Rattle.std.proofs.Common.{◌≡◌, ℕ, ◌+◌, ◌*◌, ◌-◌, Bool, true, false, List, [], ◌∷◌, ◌++◌, length, refl, sym, ap, ◌∙◌, subst, arith, append_assoc}
+use Rattle.std.proofs.Common.{◌≡◌, ℕ, ◌*◌, true, false, List, [], ◌∷◌, ◌++◌, length, refl, ap, ◌∙◌, append_assoc}
 use Rattle.std.specs.Prelude.{codes, Option, Some, None, max, slice_index}
 use Rattle.std.specs.List.{flat_map, range_with_len}
 use Rattle.task_set.specs.TaskSet.{SetData, IsTaskSet}

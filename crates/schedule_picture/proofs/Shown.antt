@@ -1,13 +1,12 @@
 -- What is written into a picture stands for itself: names, events, lists and colours; and the two groups are elements.
-use Rattle.std.proofs.Common.{◌≡◌, ◌≢◌, ℕ, zero, suc, ◌+◌, ◌*◌, ◌-◌, ◌%◌, ◌<◌, ◌≤◌, ◌==◌, ◌⊎◌, ⊎_elim, Bool, true, false, cond, if◌then◌else◌, List, [], ◌∷◌, ◌++◌, length, map, drop, take, refl, sym, ap, ◌∙◌, subst, arith, append_assoc}
-use Rattle.std.specs.Prelude.{codes, IsTrue, All, get_or, slice_get, Some, None, Option, not, nat_lt, max, min, slice_index, slice_index_or, ◌||◌, ◌&&◌}
-use Rattle.std.specs.List.{list_all, flat_map, range_with_len, join_with_byte, concat, slice_range, AllByRecursion}
+use Rattle.std.proofs.Common.{◌≡◌, ◌≢◌, ℕ, zero, suc, ◌+◌, ◌*◌, ◌-◌, ◌%◌, ◌≤◌, ◌==◌, ⊎_elim, Bool, true, false, if◌then◌else◌, List, [], ◌∷◌, ◌++◌, length, map, drop, take, refl, sym, ap, ◌∙◌, arith}
+use Rattle.std.specs.Prelude.{codes, IsTrue, not, slice_index_or}
+use Rattle.std.specs.List.{list_all, join_with_byte, concat, slice_range, AllByRecursion}
 use Rattle.std.proofs.lemmas.Bool.Decides.{nat_tests}
 use Rattle.std.proofs.Math.Seq.{take-nil, drop-nil, take-append_seam, drop-append-add}
 use Rattle.std.proofs.lemmas.Bool.{cases_lt}
 use Rattle.std.proofs.lemmas.List.{length-map}
 use Rattle.std.proofs.lemmas.List.Elements.{recursion_from_All}
-use Rattle.std.specs.Fmt.{decimal}
 use Rattle.affinity_mask.specs.ListText.{canonical_list, run_text, runs, comma, dash}
 use Rattle.affinity_mask.specs.Number.{canonical_number}
 use Rattle.task_set.specs.Name.{IsName, begins_name, continues_name}

@@ -2,7 +2,7 @@
 -- one rectangle for each stay and each absence whose part in the window has a length, and the group of the rows one for each
 -- stay and each wait of each task that is listed. What stands around the two groups is elements, none of them a rectangle with a
 -- title, and is left open beyond that.
-use Rattle.std.specs.Prelude.{◌≡◌, ℕ, Bool, true, [], ◌+◌, ◌*◌, ◌-◌, ◌<◌, ◌≤◌, min, max, List, ◌++◌, length, map, take, sum_by, codes, All, get_or, slice_index}
+use Rattle.std.specs.Prelude.{◌≡◌, ℕ, true, [], ◌+◌, ◌*◌, ◌-◌, ◌<◌, ◌≤◌, min, max, List, ◌++◌, length, map, take, sum_by, codes, All, get_or, slice_index}
 use Rattle.std.specs.List.{range_with_len}
 use Rattle.task_set.specs.TaskSet.{SetData}
 use Rattle.task_set.specs.declared.event.Event.{Event}
