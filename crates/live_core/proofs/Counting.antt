@@ -1,9 +1,9 @@
 -- How many tasks are lost, and how many helps that takes.
-use Rattle.std.proofs.Common.{◌≡◌, ℕ, zero, suc, ◌<◌, ◌≤◌, true, false, not, ◌&&◌, refl, sym, ◌∙◌, arith}
+use Rattle.std.proofs.Common.{ℕ, zero, suc, ◌<◌, ◌≤◌, true, false, not, ◌&&◌, refl, sym, ◌∙◌, arith}
 use Rattle.std.proofs.lemmas.Bool.{and_parts}
 use Rattle.std.proofs.lemmas.Option.{same_Some}
 use Rattle.strong_apa.specs.State.{State, IsState, is_linked, task_count}
-use Rattle.strong_apa.proofs.Counts.{count_below, count_below-injection, count_below-one_more, count_below-bound}
+use Rattle.strong_apa.proofs.Counts.{count_below-injection, count_below-one_more, count_below-bound}
 use Rattle.strong_apa.proofs.Linked.{place_in, task_on-linked, linked_number, occupied_number}
 use Rattle.live_core.specs.Seen.{SeenData, IsLost, EndsWithin, lost_count}
 

@@ -1,7 +1,7 @@
 -- Who is lost and what helps, as contracts of the scheduler say it.
 use Rattle.std.proofs.Common.{◌≡◌, ℕ, zero, suc, ◌<◌, Bool, true, false, List, [], ◌∷◌, length, get_or, Option, Some, None, refl, sym, ap, ◌∙◌, subst, inl, inr, arith}
 use Rattle.std.specs.Prelude.{MatchOption, IfNone, ◌↔◌, if◌then◌else◌}
-use Rattle.std.proofs.lemmas.Bool.{cases_Bool, true≢false, false≢true}
+use Rattle.std.proofs.lemmas.Bool.{cases_Bool, false≢true}
 use Rattle.std.proofs.lemmas.Option.{same_Some}
 use Rattle.strong_apa.specs.declared.reply.Reply.{Reply}
 use Rattle.strong_apa.specs.State.{State, HasSameTasks, task_on}

@@ -1,7 +1,7 @@
 -- The table of the holders, where it is to be found anew: it has the same tasks as the links.
-use Rattle.std.proofs.Common.{◌≡◌, ℕ, true, false, List, Option, set, refl, sym, ap, ◌∙◌, subst}
+use Rattle.std.proofs.Common.{◌≡◌, ℕ, true, false, List, set, refl, sym, ap, ◌∙◌}
 use Rattle.std.proofs.lemmas.Bool.{false≢true}
-use Rattle.strong_apa.specs.State.{State, HasSameTasks, priority_of}
+use Rattle.strong_apa.specs.State.{State, HasSameTasks}
 use Rattle.link_table.specs.Priorities.{IsFreeFor, state_with_priority, state_with_exchange}
 use Rattle.live_core.specs.Seen.{SeenData, IsTable}
 

@@ -1,9 +1,8 @@
 -- Who of the linked tasks is lost where another scheduler has the tasks, and what helps.
-use Rattle.std.specs.Prelude.{◌≡◌, ℕ, true, false, List, [], Option, Some, None, ◌↔◌, MatchOption, IfNone, set}
+use Rattle.std.specs.Prelude.{◌≡◌, ℕ, true, List, [], Option, Some, None, ◌↔◌, MatchOption, IfNone, set}
 use Rattle.strong_apa.specs.State.{State, task_on}
 use Rattle.live_core.specs.Live.{LiveData}
 use Rattle.live_core.specs.Seen.{SeenData, IsTable, RunsOn, IsNobodyLost, IsMostUrgentLost, AreAllApart, RunsJustLinked, Helps, EndsWithin}
-use Rattle.live_core.specs.declared.moves.Move.{Move}
 
 -- the links, with these holders in place of the linked tasks
 abbrev pub state_held : State → List (Option ℕ) → State

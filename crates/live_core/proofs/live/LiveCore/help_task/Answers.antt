@@ -1,8 +1,8 @@
-use Rattle.std.proofs.Common.{◌≡◌, ℕ, List, Option, Some, sym, ap, ◌∙◌, subst, ◌≤◌, length}
+use Rattle.std.proofs.Common.{◌≡◌, ℕ, List, Option, Some, sym, ap, ◌∙◌, subst, length}
 use Rattle.live_core.specs.Live.{LiveData}
 use Rattle.live_core.specs.Lost.{HelpsTask, state_held}
 use Rattle.live_core.specs.MoveData.{MoveData}
-use Rattle.live_core.specs.Seen.{IsLost, IsTable}
+use Rattle.live_core.specs.Seen.{IsLost}
 use Rattle.live_core.proofs.Finding.{holders_of, held_is, lost_there, helps_task, table_has_same}
 use Rattle.live_core.proofs.live.LiveCore.help_task.Goals as goal
 

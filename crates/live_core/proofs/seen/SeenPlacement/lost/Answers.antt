@@ -1,5 +1,4 @@
-use Rattle.std.proofs.Common.{subst, ℕ, arith}
-use Rattle.strong_apa.specs.State.{State}
+use Rattle.std.proofs.Common.{subst}
 use Rattle.live_core.specs.Seen.{SeenData, IsNobodyLost, IsMostUrgentLost}
 use Rattle.std.specs.Prelude.{MatchOption}
 use Rattle.live_core.proofs.Counting.{lost_few, ends_within}
