@@ -4,9 +4,10 @@
 # Where the kernel shows its threads. The tests have a folder of their own.
 proc=${APA_PROC:-/proc}
 
-# real_time THREAD..: which of these folders are of threads of SCHED_FIFO or SCHED_RR, each with its real-time priority. One process reads
-# them all. After the name, which may have blanks and parentheses, comes the third field.
-real_time() {
+# by_priority THREAD..: which of these folders are of threads of SCHED_FIFO, SCHED_RR or SCHED_EXT, each with the priority that a trace
+# prints: 99 less the real-time one, or 120 plus the nice value. One process reads them all. After the name, which may have blanks and
+# parentheses, comes the third field.
+by_priority() {
     awk 'BEGIN {
         RS = "\001"
         for (n = 1; n < ARGC; n++) {
@@ -14,23 +15,24 @@ real_time() {
             if ((getline line < file) > 0) {
                 sub(/^.*\)/, "", line)
                 split(line, field, " ")
-                if (field[39] == 1 || field[39] == 2) print ARGV[n], field[38]
+                if (field[39] == 1 || field[39] == 2) print ARGV[n], 99 - field[38]
+                if (field[39] == 7) print ARGV[n], 120 + field[17]
             }
             close(file)
         }
     }' "$@"
 }
 
-# threads PID..: NAME PRIORITY LIST ID of each thread of SCHED_FIFO or SCHED_RR of these processes. The name is the thread's own,
-# with `_` for each byte that a name may not have, and the priority the one that a trace prints.
+# threads PID..: NAME PRIORITY LIST ID of each thread of these classes in these processes. The name is the thread's own, with `_` for
+# each byte that a name may not have.
 threads() {
     (
         cd -- "$proc" || exit
         for process in "$@"; do set -- "$@" "$process/task"/[0-9]* && shift; done
-        real_time "$@" | while read -r thread priority; do
+        by_priority "$@" | while read -r thread priority; do
             name=$(tr -c 'A-Za-z0-9_.\n-' _ <"$thread/comm" | tr '\n' _ | sed 's/_$//; s/^[^A-Za-z_]/_&/; s/^$/_/') || continue
             list=$(sed -n 's/^Cpus_allowed_list:[[:space:]]*//p' "$thread/status") || continue
-            echo "$name $((99 - priority)) $list ${thread##*/}"
+            echo "$name $priority $list ${thread##*/}"
         done
     ) 2>/dev/null
 }
@@ -93,5 +95,5 @@ print_tasks() {
         ids=$(processes "$@") || exit
         set -- $ids
     fi
-    threads "$@" | LC_ALL=C sort -n -k 4 | name_tasks | grep . || fail "there is no thread of SCHED_FIFO or SCHED_RR$among"
+    threads "$@" | LC_ALL=C sort -n -k 4 | name_tasks | grep . || fail "there is no thread of SCHED_FIFO, SCHED_RR or SCHED_EXT$among"
 }
