@@ -172,20 +172,16 @@ static void write_came(apa *a, uint32_t i) {
     write_set(apa_reached(a));
 }
 
-/* Who came in at a processor that became free, from move i on, and the move after that. Where the first start is that of the task that
- * comes back, nobody did. */
-static uint32_t write_gone(apa *a, uint32_t i, uint32_t processor, uint32_t comes_back) {
-    uint32_t j = i;
-    while (j < apa_moves(a) && apa_get_move(a, j).from != APA_NONE && apa_get_move(a, j).to != APA_NONE) j++;
-    bool enters = j < apa_moves(a) && apa_get_move(a, j).from == APA_NONE && apa_get_move(a, j).task != comes_back;
+/* Who came in at a processor that became free: the moves from i on. */
+static void write_left(apa *a, uint32_t i, uint32_t processor) {
+    uint32_t end = apa_moves(a);
     fprintf(entries, "%" PRIu32, processor);
-    for (uint32_t k = i; enters && k < j; k++) fprintf(entries, ">%" PRIu32, apa_get_move(a, k).from);
-    if (enters)
-        fprintf(entries, " enters w%" PRIu32 " back ", apa_get_move(a, j).task);
+    for (uint32_t k = i; k + 1 < end; k++) fprintf(entries, ">%" PRIu32, apa_get_move(a, k).from);
+    if (i < end)
+        fprintf(entries, " enters w%" PRIu32 " back ", apa_get_move(a, end - 1).task);
     else
         fputs(" enters - back ", entries);
     write_set(apa_back(a));
-    return enters ? j + 1 : i;
 }
 
 /* A reply that is one word, or NULL. */
@@ -199,14 +195,6 @@ static const char *plain_reply(uint32_t answer) {
     case APA_WAS_ON: return "already_on";
     default: return NULL;
     }
-}
-
-static void write_remasked(apa *a, uint32_t t) {
-    bool was_linked = apa_moves(a) > 0 && apa_move_to(a, 0) == APA_NONE && apa_move_task(a, 0) == t;
-    fputs(was_linked ? "remasked freed " : "remasked left", entries);
-    uint32_t next = was_linked ? write_gone(a, 1, apa_move_from(a, 0), t) : 0;
-    fputs(" then ", entries);
-    write_came(a, next);
 }
 
 static void write_off(apa *a) {
@@ -224,12 +212,10 @@ static void write_reply(apa *a, struct event event, uint32_t answer) {
         fputs(plain, entries);
     } else if (answer == APA_FREED) {
         fputs("freed ", entries);
-        write_gone(a, 1, apa_move_from(a, 0), APA_NONE);
+        write_left(a, 1, apa_move_from(a, 0));
     } else if (answer == APA_ON) {
         fputs("on ", entries);
-        write_gone(a, 0, event.number, APA_NONE);
-    } else if (answer == APA_REMASKED) {
-        write_remasked(a, event.number);
+        write_left(a, 0, event.number);
     } else if (answer == APA_OFF) {
         write_off(a);
     } else if (answer >= 16) {
@@ -356,6 +342,24 @@ static struct event own_event(apa *a, uint64_t *seed) {
     return (struct event){may_go && draw(seed, 2) ? 3 : 4, p, 0};
 }
 
+/* One event: its entry, and its moves; false where the apa refuses it. */
+static bool apply(apa *a, struct event event) {
+    uint32_t answer = apa_apply(a, event.kind, event.number, event.mask);
+    write_entry(a, event, answer);
+    if (answer < 16) return false;
+    note_takes(a);
+    do_moves(a);
+    return true;
+}
+
+/* A ready task leaves, has its mask changed, and comes back: a reply to a change of the mask of a ready task names also who came in
+ * meanwhile and went again, and of these there is no move. */
+static bool change_mask(apa *a, struct event event) {
+    struct event leaves = {1, event.number, 0}, comes = {0, event.number, 0};
+    if (!apa_is_ready(a, event.number)) return apply(a, event);
+    return apply(a, leaves) && apply(a, event) && apply(a, comes);
+}
+
 /* Applies so many events; false where the apa refuses one. */
 static bool serve(apa *a, unsigned long events) {
     uint64_t seed = 5, last = microseconds();
@@ -366,11 +370,7 @@ static bool serve(apa *a, unsigned long events) {
         if (units > 0) tick(units);
         last += units;
         if (event.kind == 1) atomic_store(&task[event.number].state, PARKED);
-        uint32_t answer = apa_apply(a, event.kind, event.number, event.mask);
-        write_entry(a, event, answer);
-        if (answer < 16) return false;
-        note_takes(a);
-        do_moves(a);
+        if (!(event.kind == 2 ? change_mask(a, event) : apply(a, event))) return false;
     }
     return true;
 }

@@ -17,9 +17,7 @@ record() {
     [ $# -eq 0 ] || processes "$@" >/dev/null || exit
     overwritten=0
     if [ -x "$(agent_folder)/apa-record" ]; then
-        known=$(list_threads "$@")
-        "$(agent_folder)/apa-record" "$seconds" || exit
-        later=$(list_threads "$@")
+        record_by_bpf "$@"
     else
         record_by_tracefs "$@"
     fi
@@ -27,6 +25,18 @@ record() {
     write_tasks
     [ "$overwritten" -eq 0 ] ||
         fail "$overwritten events did not fit into the buffer, so the trace has gaps: record for a shorter time, or make less run meanwhile"
+}
+
+# By the recorder of c/agent, which goes when this is ended.
+record_by_bpf() {
+    recorder=''
+    known=$(list_threads "$@")
+    trap 'kill $recorder 2>/dev/null; wait; exit 130' HUP INT TERM
+    "$(agent_folder)/apa-record" "$seconds" &
+    recorder=$!
+    wait "$recorder" || exit
+    trap - HUP INT TERM
+    later=$(list_threads "$@")
 }
 
 # Where the recorder of c/agent is not built: by ftrace.
