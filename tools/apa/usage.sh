@@ -25,7 +25,7 @@ explain_usage() {
 # What is wrong with the words that follow a known one.
 explain_words() {
     case $word:$# in
-    import:* | lost:* | importjobs:* | whatif:* | tasks:* | help:* | version:* | prove:* | install:* | test:* | record:*) wrong_count "$@" ;;
+    import:* | lost:* | importjobs:* | whatif:* | masks:* | tasks:* | help:* | version:* | prove:* | install:* | test:* | record:*) wrong_count "$@" ;;
     draw:2 | steps:2) wrong_window "$1" "$2" ;;
     draw:3 | steps:3) wrong_window "$2" "$3" ;;
     draw:* | steps:*) wrong_draw "$@" ;;
