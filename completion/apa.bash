@@ -21,6 +21,7 @@ _apa() {
     2:watch) mapfile -t COMPREPLY < <(compgen -W '1 2 3 4 5 6 7 8' -- "$word") ;;
     2:install) mapfile -t COMPREPLY < <(compgen -d -- "$word") ;;
     esac
+    [[ $command != weakjobs || $COMP_CWORD -ne 3 ]] || files='jobs'
     [ -z "$files" ] || mapfile -t COMPREPLY < <(compgen -f -X "!*.$files" -- "$word" && true; compgen -d -- "$word")
     [ "$COMP_CWORD" -ne 2 ] || [[ $word != -* ]] || COMPREPLY=(--help)
 }
