@@ -2,13 +2,20 @@
  * memory is asked for after apa_start, the moves never put two tasks on one processor, and they end where apa_on and apa_of say. A
  * slot in use is never given, and each fault has its cause.
  *     soak [EVENTS]
- * It is linked with --wrap=malloc,--wrap=realloc. */
+ * It is linked with --wrap=malloc,--wrap=realloc. With -DSHARED it is for a shared library, which calls the program's own. */
 #include "../apa.h"
 
 #include <stdio.h>
 
 #define PROCESSORS 64
 #define TASKS 1024
+
+#ifdef SHARED
+#define __real_malloc __libc_malloc
+#define __real_realloc __libc_realloc
+#define __wrap_malloc malloc
+#define __wrap_realloc realloc
+#endif
 
 static unsigned long asked;
 void *__real_malloc(size_t);
@@ -187,9 +194,11 @@ int main(int argc, char **argv) {
             return 1;
         }
     }
+    unsigned long since = asked - before;
     const char *fault = compare(a, on);
     printf("%lu events, %lu refused; %lu moves, at most %u at one event; %lu tasks came, %lu went, %lu got another priority; "
-           "%lu were helped; memory asked for since apa_start: %lu times\n", events, faults, moves, most, came, went, reordered, helps, asked - before);
+           "%lu were helped; memory asked for before apa_start: %lu times, since: %lu\n", events, faults, moves, most, came, went, reordered, helps, before, since);
     apa_free(a);
-    return fault || asked != before || (events >= 20000 && !(came && went && reordered && helps));
+    /* Before, the library asked more than once, or the calls were not counted. */
+    return fault || before < 2 || since || (events >= 20000 && !(came && went && reordered && helps));
 }
