@@ -10,6 +10,15 @@ agent_folder() {
     fi
 }
 
+# Where the recorder of c/agent is.
+recorder() {
+    if [ -n "$installed" ]; then
+        echo "${proved%/*}/apa-record"
+    else
+        echo "$top/c/out/apa-record"
+    fi
+}
+
 # govern TASKS [OPTION..]: the agent, on the threads that TASKS lists.
 govern() {
     read_part traces

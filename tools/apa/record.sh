@@ -16,7 +16,7 @@ record() {
     find_output
     [ $# -eq 0 ] || processes "$@" >/dev/null || exit
     overwritten=0
-    if [ -x "$(agent_folder)/apa-record" ]; then
+    if [ -x "$(recorder)" ]; then
         record_by_bpf "$@"
     else
         record_by_tracefs "$@"
@@ -32,7 +32,7 @@ record_by_bpf() {
     recorder=''
     known=$(list_threads "$@")
     trap 'kill $recorder 2>/dev/null; wait; exit 130' HUP INT TERM
-    "$(agent_folder)/apa-record" "$seconds" &
+    "$(recorder)" "$seconds" &
     recorder=$!
     wait "$recorder" || exit
     trap - HUP INT TERM
