@@ -189,7 +189,9 @@ Suggests: pkg-config, python3, trace-cmd"
     echo 'activate-noawait ldconfig' >"$folder/tree/DEBIAN/triggers"
     print_script 'py3compile -p' >"$folder/tree/DEBIAN/postinst"
     print_script 'py3clean -p' >"$folder/tree/DEBIAN/prerm"
-    chmod 755 "$folder/tree/DEBIAN/postinst" "$folder/tree/DEBIAN/prerm"
+    # The agent's lock stays where it ran; where its state stands it runs, or was killed.
+    printf '#!/bin/sh\nset -e\n[ -e /run/apa-agent.state ] || rm -f /run/apa-agent.lock\n' >"$folder/tree/DEBIAN/postrm"
+    chmod 755 "$folder/tree/DEBIAN/postinst" "$folder/tree/DEBIAN/prerm" "$folder/tree/DEBIAN/postrm"
     (cd -- "$folder/tree" && find usr -type f -print0 | LC_ALL=C sort -z | xargs -0 md5sum) >"$folder/tree/DEBIAN/md5sums"
 }
 
