@@ -89,11 +89,23 @@ make_folder_noted() {
     [ -d "$1" ] || { make_folder_noted "${1%/*}" && mkdir -- "$1" && printf '%s\n' "$1" >>"$folder/folders"; }
 }
 
-# put MODE FROM TO: the file, as a whole, since the one that stands there may be in use; TO is within the prefix.
+# put MODE FROM TO: the file, as a new one, since the one that stands there may be in use, and a program as a whole; TO is within the
+# prefix.
 put() {
-    case $3 in */*) make_folder_noted "$prefix/${3%/*}" || return ;; esac
-    [ "$2" = "$prefix/$3" ] || { cp -- "$2" "$prefix/$3.new" && chmod "$1" "$prefix/$3.new" && mv -f -- "$prefix/$3.new" "$prefix/$3"; } || return
+    case $3 in */*) [ -d "$prefix/${3%/*}" ] || make_folder_noted "$prefix/${3%/*}" || return ;; esac
+    if [ "$2" = "$prefix/$3" ]; then
+        :
+    elif [ "$1" = 644 ]; then
+        cp --remove-destination -- "$2" "$prefix/$3"
+    else
+        cp -- "$2" "$prefix/$3.new" && chmod "$1" "$prefix/$3.new" && mv -f -- "$prefix/$3.new" "$prefix/$3"
+    fi || return
     echo "file $1 $3" >>"$folder/list"
+}
+
+# The modes of all that is no program.
+put_modes() {
+    sed -n 's/^file 644 //p' "$folder/list" | (cd -- "$prefix" && xargs -d '\n' chmod 644 --)
 }
 
 put_all() {
@@ -156,7 +168,7 @@ install() {
     [ -z "$installed" ] || { source=$(beside "$top") && printed=print_files_of_copy; }
     [ -z "$installed" ] || [ -r "$parts/installed" ] || fail "$parts/installed is missing, which says what this copy is"
     note_above
-    { $printed | put_all && put_own && rm -f -- "$to/apa-program" "$to/apa-record" && put_list; } || fail "cannot write to $prefix"
+    { $printed | put_all && put_own && put_modes && rm -f -- "$to/apa-program" "$to/apa-record" && put_list; } || fail "cannot write to $prefix"
     tell_installed
 }
 

@@ -65,7 +65,7 @@ build_agent() {
 put_tree() {
     { rm -rf -- "$folder/tree" && mkdir -- "$folder/tree" && true >"$folder/folders" && true >"$folder/list"; } || return
     place=/usr/bin prefix=$folder/tree$1 source=$top in_bin=bin/
-    mkdir -p -- "$prefix/bin" && { print_files && print_agent "$folder/agent"; } | put_all && put_own || return
+    mkdir -p -- "$prefix/bin" && { print_files && print_agent "$folder/agent"; } | put_all && put_own && put_modes || return
     print_copyright >"$prefix/share/doc/apa/copyright"
 }
 
