@@ -68,10 +68,18 @@ module _ (n : NestedData) (ok : IsCounted n) where
       ]
 
   -- a mask that lies in no tight node has a processor that no tight node has
-  pub free_outside : (t tight : ℕ) → t < length n.priorities → IsTightUnion n tight → IsInNoTight n (mask_in n t) → Within (mask_in n t) tight → ⊥
+  pub free_outside : (t tight : ℕ) → t < length n.priorities → IsTightUnion n (length n.priorities) tight → IsInNoTight n (mask_in n t)
+      → Within (mask_in n t) tight → ⊥
   free_outside t tight number union free within =
       let placed = placed_by_counts n.masks ok.laminar (linked_of n) (λ u h. in_masks n ok u (linked_number n ok u h)) ok.fits in
-      uncovered placed.0 placed.1 (mask_in n t) (t, in_masks n ok t number, refl) free (λ p member. union.inside p (within p member))
+      uncovered placed.0 placed.1 (mask_in n t) (t, in_masks n ok t number, refl) free (λ p member.
+      let at = union.inside p (within p member) in
+      (mask_in n at.0, at.2, at.3))
 
-  pub outside_free : (X tight : ℕ) → IsTightUnion n tight → (Within X tight → ⊥) → IsInNoTight n X
-  outside_free X tight union outside node is_tight within = outside (within_trans X node tight within (union.around node is_tight))
+  pub outside_free : (X tight : ℕ) → IsTightUnion n (length n.priorities) tight → (Within X tight → ⊥) → IsInNoTight n X
+  outside_free X tight union outside node is_tight within =
+      let at = is_tight.node in
+      let number = at.1 in
+      let same = ok.state.masks_count in
+      let covered : Within (mask_in n at.0) tight = union.around at.0 (omega arith) (rw at.2 is_tight) in
+      outside (within_trans X node tight within (rw at.2 at covered))

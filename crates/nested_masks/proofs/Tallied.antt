@@ -1,80 +1,116 @@
--- How many linked tasks each node holds is kept up to date while tasks are linked and are linked no longer.
-use Rattle.std.proofs.Common.{◌≡◌, ℕ, suc, ◌+◌, ◌-◌, ◌<◌, ◌≤◌, Bool, true, false, ◌&&◌, List, length, set, get_or, replicate, sym, ◌∙◌, inl, inr, arith, subst}
-use Rattle.std.proofs.lemmas.Bool.{and_parts}
-use Rattle.std.proofs.lemmas.List.{length-replicate, get_or-replicate}
-use Rattle.affinity_mask.specs.ProcSet.{Within}
+-- How many linked tasks the mask of each task holds is kept up to date while tasks are linked and are linked no longer.
+use Rattle.std.proofs.Common.{◌≡◌, ℕ, ◌+◌, ◌-◌, ◌<◌, ◌≤◌, Bool, true, false, ◌&&◌, List, length, set, get_or, replicate, nat_lt, refl, sym, ap, ◌∙◌, inl, inr, arith, below_more, length-set, get_or-set_same, get_or-set_other}
+use Rattle.std.proofs.lemmas.Bool.{cases_Bool, and_parts, lt-ltb}
+use Rattle.std.proofs.lemmas.List.{length-map, length-replicate, get_or-replicate}
+use Rattle.std.proofs.Math.Bool.{and-true}
+use Rattle.affinity_mask.specs.ProcSet.{has, members, Within}
 use Rattle.task_set.specs.TaskSet.{SetData, IsTaskSet, masks}
-use Rattle.strong_apa.proofs.Counts.{count_below, count_below-zero, count_below-bound, count_below-one_more, count_below-injection}
+use Rattle.strong_apa.proofs.Counts.{count_below, count_below-zero, count_below-bound, count_below-agree, count_below-injection}
 use Rattle.strong_apa.specs.Placement.{TaskTest}
-use Rattle.nested_masks.specs.Laminar.{mask_at, is_within, IsLaminar}
-use Rattle.nested_masks.specs.Counting.{Joins, IsHeldBy}
-use Rattle.nested_masks.specs.Nodes.{NodeData, AreNodes, HoldMoreAt, node_at, nodes_around}
-use Rattle.nested_masks.specs.NestedData.{NestedData, ready_of, linked_of, mask_in, nested_start}
+use Rattle.nested_masks.specs.Laminar.{mask_at, is_within, tasks_in, IsLaminar, IsTight}
+use Rattle.nested_masks.specs.Counting.{Joins, IsHeldBy, HoldMoreAround}
+use Rattle.nested_masks.specs.NestedData.{NestedData, IsCounted, ready_of, linked_of, mask_in, nested_start}
 use Rattle.nested_masks.specs.NestedText.{linked_count}
 use Rattle.nested_masks.specs.LaminarStep.{with_waiting, with_linked, with_unlinked, IsInNoTight}
 use Rattle.nested_masks.specs.Views.{IsTallied}
-use Rattle.nested_masks.proofs.Withins.{within_decided, within_from}
-use Rattle.nested_masks.proofs.Passing.{passes}
-use Rattle.nested_masks.proofs.Rows.{more_around, same_elsewhere}
-use Rattle.nested_masks.proofs.FullNodes.{node_is}
+use Rattle.nested_masks.proofs.Withins.{within_decided, is_within-from}
 use Rattle.nested_masks.proofs.Held.{held-more, held-else}
 use Rattle.nested_masks.proofs.Changes.{joins_set, joins_unset, in_linked, in_masks, counted-linked, counted-unlinked, counted-waiting, counted-absent}
 use Rattle.nested_masks.proofs.Started.{nobody_linked, counted-start}
 
 -- ---- a task joins a set
-module _ (masks nodes : List ℕ) (tasks : TaskTest) (t : ℕ) (new : TaskTest) (joins : Joins tasks t new) (number : t < length masks) (X : ℕ) (is : X ≡ mask_at masks t) where
-  abbrev row : List ℕ
-  row = nodes_around nodes X
-
-  pub held_joined : (before after : List ℕ) → IsHeldBy masks nodes tasks before → HoldMoreAt row (length row) before after → IsHeldBy masks nodes new after
+module _ (masks : List ℕ) (tasks : TaskTest) (t : ℕ) (new : TaskTest) (joins : Joins tasks t new) (number : t < length masks) where
+  pub held_joined : (before after : List ℕ) → IsHeldBy masks tasks before → HoldMoreAround masks (mask_at masks t) (length masks) before after
+      → IsHeldBy masks new after
   held_joined before after held more = record {
     count = more.count ∙ held.count;
-    each = λ k lt. elim (within_decided X (mask_at nodes k)) [
+    each = λ u lt. elim (within_decided (mask_at masks t) (mask_at masks u)) [
       | inl here ↦
-          let one = more_around nodes X before after more k lt here in
-          let was = held.each k lt in
-          let joined = held-more masks tasks t new joins (mask_at nodes k) number (rw is at here) in
+          let one = more.around u lt here in
+          let was = held.each u lt in
+          let joined = held-more masks tasks t new joins (mask_at masks u) number here in
           omega arith
-      | inr not_here ↦ same_elsewhere nodes X before after more k not_here ∙ held.each k lt ∙ sym (held-else masks tasks t new joins (mask_at nodes k) (rw is at not_here))
+      | inr not_here ↦ more.outside u lt not_here ∙ held.each u lt ∙ sym (held-else masks tasks t new joins (mask_at masks u) not_here)
     ];
   }
 
   -- and leaves it again
-  pub held_parted : (before after : List ℕ) → IsHeldBy masks nodes new before → HoldMoreAt row (length row) after before → IsHeldBy masks nodes tasks after
+  pub held_parted : (before after : List ℕ) → IsHeldBy masks new before → HoldMoreAround masks (mask_at masks t) (length masks) after before
+      → IsHeldBy masks tasks after
   held_parted before after held more = record {
     count = sym more.count ∙ held.count;
-    each = λ k lt. elim (within_decided X (mask_at nodes k)) [
+    each = λ u lt. elim (within_decided (mask_at masks t) (mask_at masks u)) [
       | inl here ↦
-          let one = more_around nodes X after before more k lt here in
-          let was = held.each k lt in
-          let joined = held-more masks tasks t new joins (mask_at nodes k) number (rw is at here) in
+          let one = more.around u lt here in
+          let was = held.each u lt in
+          let joined = held-more masks tasks t new joins (mask_at masks u) number here in
           omega arith
-      | inr not_here ↦ sym (same_elsewhere nodes X after before more k not_here) ∙ held.each k lt ∙ held-else masks tasks t new joins (mask_at nodes k) (rw is at not_here)
+      | inr not_here ↦ sym (more.outside u lt not_here) ∙ held.each u lt ∙ held-else masks tasks t new joins (mask_at masks u) not_here
     ];
   }
 
-  -- a node that contains the mask of a task of the set holds one
-  pub held_some : (column : List ℕ) → IsHeldBy masks nodes new column → (i : ℕ) → i < length row → 0 < get_or column (get_or row i 0) 0
-  held_some column held i lt =
-      let passed = passes (λ k. is_within X (mask_at nodes k)) (length nodes) i lt in
-      let k = get_or row i 0 in
-      let was = held.each k passed.0 in
-      let joined = held-more masks tasks t new joins (mask_at nodes k) number (subst (λ (Y : ℕ). Within Y (mask_at nodes k)) is (within_from _ _ passed.1)) in
+  -- a mask that contains that of a task of the set holds one
+  pub held_some : (column : List ℕ) → IsHeldBy masks new column → (u : ℕ) → u < length masks → Within (mask_at masks t) (mask_at masks u)
+      → 0 < get_or column u 0
+  held_some column held u lt within =
+      let was = held.each u lt in
+      let joined = held-more masks tasks t new joins (mask_at masks u) number within in
       omega arith
 
--- one task more is linked
-pub count_joined : (tasks : TaskTest) (t : ℕ) (new : TaskTest) → Joins tasks t new → (m : ℕ) → t < m → count_below new m ≡ suc (count_below tasks m)
-count_joined tasks t new joins m lt = count_below-one_more new tasks t m lt joins.after joins.before (λ u below ne. joins.others u ne)
+-- ---- the counts that are stored
+module _ (n : NestedData) (held : List ℕ) (ok : IsTallied n held) where
+  pub tallied_few : (u : ℕ) → u < length n.masks → get_or held u 0 ≤ 1024
+  tallied_few u lt =
+      let few = ok.counted.state.count in
+      let same = ok.counted.state.masks_count in
+      let was = ok.each_mask.each u lt in
+      let bound = count_below-bound (λ v. linked_of n v && is_within (mask_in n v) (mask_in n u)) (length n.masks) in
+      omega arith
 
--- a node holds no more tasks than there are
-pub held_few : (masks nodes : List ℕ) (tasks : TaskTest) (column : List ℕ) → IsHeldBy masks nodes tasks column → length masks ≤ 1024 → (k : ℕ) → k < length nodes → get_or column k 0 ≤ 1024
-held_few masks nodes tasks column held few k lt =
-    let was = held.each k lt in
-    let bound = count_below-bound (λ v. tasks v && is_within (mask_at masks v) (mask_at nodes k)) (length masks) in
-    omega arith
+  module _ (t : ℕ) (number : t < length n.priorities) where
+    pub tight_from : get_or held t 0 ≡ length (members (mask_in n t)) → IsTight n.masks (linked_of n) (mask_in n t)
+    tight_from full =
+        let lt = in_masks n ok.counted t number in
+        record { node = (t, lt, refl); full = sym (ok.each_mask.each t lt) ∙ full }
 
--- ---- nobody is in a set
-pub count_nobody : (test : ℕ → Bool) (m : ℕ) → ((x : ℕ) → test x ≡ true → ⊥) → count_below test m ≡ 0
+    pub full_from : IsTight n.masks (linked_of n) (mask_in n t) → get_or held t 0 ≡ length (members (mask_in n t))
+    full_from tight = ok.each_mask.each t (in_masks n ok.counted t number) ∙ tight.full
+
+    pub tallied-waiting : IsTallied (with_waiting n t) held
+    tallied-waiting = record { counted = counted-waiting n ok.counted t number; each_mask = ok.each_mask }
+
+    pub tallied-absent : linked_of n t ≡ false → IsTallied (record n { ready = set n.ready t false }) held
+    tallied-absent not_linked = record { counted = counted-absent n ok.counted t number not_linked; each_mask = ok.each_mask }
+
+    pub tallied-linked : ready_of n t ≡ true → linked_of n t ≡ false → IsInNoTight n (mask_in n t) → (after : List ℕ)
+        → HoldMoreAround n.masks (mask_in n t) (length n.masks) held after → IsTallied (with_linked n t) after
+    tallied-linked ready not_linked free after more = record {
+      counted = counted-linked n ok.counted t number ready not_linked free;
+      each_mask = held_joined n.masks (linked_of n) t (linked_of (with_linked n t)) (joins_set n.linked t (in_linked n ok.counted t number) not_linked)
+          (in_masks n ok.counted t number) held after ok.each_mask more;
+    }
+
+    module _ (linked : linked_of n t ≡ true) where
+      pub tallied_some : (u : ℕ) → u < length n.masks → Within (mask_in n t) (mask_in n u) → 0 < get_or held u 0
+      tallied_some = held_some n.masks (linked_of (with_unlinked n t)) t (linked_of n) (joins_unset n.linked t linked)
+          (in_masks n ok.counted t number) held ok.each_mask
+
+      pub tallied-unlinked : (after : List ℕ) → HoldMoreAround n.masks (mask_in n t) (length n.masks) after held → IsTallied (with_unlinked n t) after
+      tallied-unlinked after more = record {
+        counted = counted-unlinked n ok.counted t number;
+        each_mask = held_parted n.masks (linked_of (with_unlinked n t)) t (linked_of n) (joins_unset n.linked t linked)
+            (in_masks n ok.counted t number) held after ok.each_mask more;
+      }
+
+-- all masks lie within the processors
+pub all_within : (n : NestedData) → IsCounted n → (X : ℕ) → ((q : ℕ) → has X q ≡ nat_lt q n.processors) → length (tasks_in n.masks (linked_of n) X) ≡ linked_count n
+all_within n ok X all =
+    let same = ok.state.masks_count in
+    count_below-agree _ _ (length n.masks) (λ u lt. rw (is_within-from (mask_in n u) X (λ p h. all p ∙ lt-ltb p n.processors ((ok.state.masks u (omega arith)).below p h))) (and-true (linked_of n u)))
+    ∙ ap (λ (m : ℕ). count_below (linked_of n) m) same
+
+-- ---- nobody is linked
+count_nobody : (test : ℕ → Bool) (m : ℕ) → ((x : ℕ) → test x ≡ true → ⊥) → count_below test m ≡ 0
 count_nobody test m nobody =
     let le = count_below-injection test m (λ x. false) 0 (λ x. x) record {
       below = λ x lt h. absurd (nobody x h);
@@ -84,83 +120,14 @@ count_nobody test m nobody =
     let none = count_below-zero (λ x. false) in
     omega arith
 
-pub held_nobody : (masks nodes : List ℕ) (tasks : TaskTest) → ((x : ℕ) → tasks x ≡ true → ⊥) → IsHeldBy masks nodes tasks (replicate (length nodes) 0)
-held_nobody masks nodes tasks nobody = record {
-  count = length-replicate (length nodes) 0;
-  each = λ k lt. get_or-replicate (length nodes) k 0 0 lt ∙ sym (count_nobody _ (length masks) (λ x h. nobody x (and_parts _ _ h).0));
-}
-
--- ---- the counts that are stored
-module _ (n : NestedData) (d : NodeData) (count : ℕ) (ok : IsTallied n d count) where
-  few_masks : length n.masks ≤ 1024
-  few_masks = let few = ok.counted.state.count in let same = ok.counted.state.masks_count in omega arith
-
-  pub tallied_few : (k : ℕ) → k < length d.nodes → get_or d.held k 0 ≤ 1024
-  tallied_few = held_few n.masks d.nodes (linked_of n) d.held ok.each_node few_masks
-
-  pub count_few : count ≤ 1024
-  count_few =
-      let few = ok.counted.state.count in
-      let bound = count_below-bound (linked_of n) (length n.priorities) in
-      let is = ok.all_tasks in
-      omega arith
-
-  module _ (t : ℕ) (number : t < length n.priorities) where
-    abbrev row_in : List ℕ
-    row_in = nodes_around d.nodes (node_at d t)
-
-    pub tallied-waiting : IsTallied (with_waiting n t) d count
-    tallied-waiting = record {
-      counted = counted-waiting n ok.counted t number;
-      nodes = ok.nodes;
-      each_node = ok.each_node;
-      all_tasks = ok.all_tasks;
+pub tallied-start : (set : SetData) → IsTaskSet set → IsLaminar (masks set) → IsTallied (nested_start set) (replicate (length set.tasks) 0)
+tallied-start set ok laminar =
+    let same = length-map set.tasks (λ t. t.mask) in
+    record {
+      counted = counted-start set ok laminar;
+      each_mask = record {
+        count = length-replicate (length set.tasks) 0 ∙ sym same;
+        each = λ u lt. get_or-replicate (length set.tasks) u 0 0 (rw same at lt)
+            ∙ sym (count_nobody _ (length (masks set)) (λ x h. nobody_linked set x (and_parts _ _ h).0));
+      };
     }
-
-    pub tallied-absent : linked_of n t ≡ false → IsTallied (record n { ready = set n.ready t false }) d count
-    tallied-absent not_linked = record {
-      counted = counted-absent n ok.counted t number not_linked;
-      nodes = ok.nodes;
-      each_node = ok.each_node;
-      all_tasks = ok.all_tasks;
-    }
-
-    pub tallied-linked : ready_of n t ≡ true → linked_of n t ≡ false → IsInNoTight n (mask_in n t) → (after : List ℕ) → HoldMoreAt row_in (length row_in) d.held after → IsTallied (with_linked n t) (record d { held = after }) (count + 1)
-    tallied-linked ready not_linked free after more =
-        let joins = joins_set n.linked t (in_linked n ok.counted t number) not_linked in
-        let joined = count_joined (linked_of n) t (linked_of (with_linked n t)) joins (length n.priorities) number in
-        let is = ok.all_tasks in record {
-          counted = counted-linked n ok.counted t number ready not_linked free;
-          nodes = ok.nodes;
-          each_node = held_joined n.masks d.nodes (linked_of n) t (linked_of (with_linked n t)) joins (in_masks n ok.counted t number) (node_at d t) (node_is n d count ok t number) d.held after ok.each_node more;
-          all_tasks = omega arith;
-        }
-
-    module _ (linked : linked_of n t ≡ true) where
-      joins_back : Joins (linked_of (with_unlinked n t)) t (linked_of n)
-      joins_back = joins_unset n.linked t linked
-
-      pub tallied_some : (i : ℕ) → i < length row_in → 0 < get_or d.held (get_or row_in i 0) 0
-      tallied_some = held_some n.masks d.nodes (linked_of (with_unlinked n t)) t (linked_of n) joins_back (in_masks n ok.counted t number) (node_at d t) (node_is n d count ok t number) d.held ok.each_node
-
-      joined_back : count ≡ suc (linked_count (with_unlinked n t))
-      joined_back = ok.all_tasks ∙ count_joined (linked_of (with_unlinked n t)) t (linked_of n) joins_back (length n.priorities) number
-
-      pub count_some : 0 < count
-      count_some = let back = joined_back in omega arith
-
-      pub tallied-unlinked : (after : List ℕ) → HoldMoreAt row_in (length row_in) after d.held → IsTallied (with_unlinked n t) (record d { held = after }) (count - 1)
-      tallied-unlinked after more = record {
-        counted = counted-unlinked n ok.counted t number;
-        nodes = ok.nodes;
-        each_node = held_parted n.masks d.nodes (linked_of (with_unlinked n t)) t (linked_of n) joins_back (in_masks n ok.counted t number) (node_at d t) (node_is n d count ok t number) d.held after ok.each_node more;
-        all_tasks = let back = joined_back in omega arith;
-      }
-
-pub tallied-start : (set : SetData) → IsTaskSet set → IsLaminar (masks set) → (d : NodeData) → AreNodes (masks set) (length (masks set)) d.nodes d.node_of → d.held ≡ replicate (length d.nodes) 0 → IsTallied (nested_start set) d 0
-tallied-start set ok laminar d nodes none = record {
-  counted = counted-start set ok laminar;
-  nodes = nodes;
-  each_node = rw none (held_nobody (masks set) d.nodes (linked_of (nested_start set)) (nobody_linked set));
-  all_tasks = sym (count_nobody _ _ (nobody_linked set));
-}

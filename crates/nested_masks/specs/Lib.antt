@@ -1,12 +1,9 @@
 pub mod Answers
 pub mod Counting
-pub mod HeldCounts
-pub mod HeldTasks
 pub mod Laminar
 pub mod LaminarStep
 pub mod Laws
 pub mod NestedData
 pub mod NestedText
-pub mod Nodes
 pub mod Scans
 pub mod Views

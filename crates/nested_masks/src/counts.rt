@@ -1,18 +1,15 @@
-//! Which tasks are ready and linked, and what nodes hold.
+//! Which tasks are ready and linked, and what the masks hold.
 ghost use Rattle.std.specs.Prelude.{◌≡◌, ◌⊎◌, ℕ, ◌<◌, ◌≤◌, ◌↔◌, ◌+◌, IsTrue, IfOk, IfErr, MatchOption, true, false, length, replicate, set};
-ghost use Rattle.affinity_mask.specs.ProcSet.{Within, empty};
+ghost use Rattle.affinity_mask.specs.ProcSet.{Within};
 ghost use Rattle.task_set.specs.TaskSet.{masks, priorities};
-ghost use Rattle.nested_masks.specs.Laminar.{IsLaminar, tasks_in};
+ghost use Rattle.nested_masks.specs.Laminar.{IsLaminar, IsTight, tasks_in};
 ghost use Rattle.nested_masks.specs.Answers.{IsCrossingFault};
-ghost use Rattle.nested_masks.specs.HeldTasks.{AreEmptyLists};
 ghost use Rattle.nested_masks.specs.declared.fault.NestedFault.{NestedFault};
 
 use crate::crossing::first_crossing;
 use crate::fault::NestedFault;
-use crate::held_tasks::{empty_lists, write_at};
-use crate::node_counts::NodeCounts;
+use crate::held_counts::{hold_one_less, hold_one_more};
 use affinity_mask::{OutOfMemory, ProcSet};
-use link_table::WaitingTasks;
 use std::alloc::Global;
 use std::marker::Model;
 use task_set::TaskSet;
@@ -21,21 +18,13 @@ use task_set::TaskSet;
 #[derive(Drop)]
 pub(crate) struct Counts {
     processors: u8,
+    priorities: Vec<u32>,
     masks: Vec<ProcSet>,
     ready: Vec<bool>,
     linked: Vec<bool>,
 
-    /// The priorities, and the masks of the waiting tasks.
-    waiting: WaitingTasks,
-
-    /// The masks as nodes, and how many linked tasks they hold.
-    nodes: NodeCounts,
-
-    /// By node: the masks of the linked tasks that it holds, from the least urgent task on.
-    held_tasks: Vec<WaitingTasks>,
-
-    /// How many tasks are linked.
-    linked_count: u32,
+    /// How many linked tasks have masks within its own.
+    held: Vec<u32>,
 }
 
 impl Model for Counts {
@@ -51,10 +40,10 @@ impl Model for Counts {
 }
 
 impl Counts {
-    ghost use Rattle.nested_masks.specs.NestedData.{nested_start, IsCounted, ready_of, linked_of, priority_in, mask_in, IsUrgenter};
-    ghost use Rattle.nested_masks.specs.LaminarStep.{with_waiting, with_linked, with_unlinked, without_task, IsInNoTight, IsLeastTight, IsLeastUrgentIn, AllUrgenterIn, IsMostUrgentFree, IsNobodyFree};
+    ghost use Rattle.nested_masks.specs.NestedData.{nested_start, IsCounted, ready_of, linked_of, mask_in, IsUrgenter};
+    ghost use Rattle.nested_masks.specs.LaminarStep.{with_waiting, with_linked, with_unlinked, without_task, IsInNoTight, IsLeastTight, IsLeastUrgentIn, AllUrgenterIn, MayEnter, IsMostUrgentFree, IsNobodyFree};
     ghost use Rattle.nested_masks.specs.NestedText.{linked_count};
-    ghost use Rattle.nested_masks.specs.Scans.{IsTightUnion, IsNobodyHeld, IsLeastUrgentTask};
+    ghost use Rattle.nested_masks.specs.Scans.{IsTightUnion, IsScan, IsTightAround, IsHeldIn, LiesWithin, IsNoMoreUrgent, IsNoLessUrgent};
 
     /// Every task of the set is absent.
     pub(crate) fn new(alloc: Global, set: &TaskSet) -> Result<Counts, NestedFault>
@@ -68,18 +57,15 @@ impl Counts {
         if let Some((one, other)) = first_crossing(&masks) {
             return Err(NestedFault::Crossing { one, other });
         }
-        let (ready, linked) = nobody_stands(alloc, count)?;
-        let nodes = NodeCounts::new(alloc, &masks)?;
-        let (waiting, held_tasks) = nobody_listed(alloc, set, nodes.len())?;
+        let priorities = priorities_of(alloc, set)?;
+        let (ready, linked, held) = nobody(alloc, count as usize)?;
         Ok(Counts {
             processors: set.processors(),
+            priorities,
             masks,
             ready,
             linked,
-            waiting,
-            nodes,
-            held_tasks,
-            linked_count: 0,
+            held,
         })
     }
 
@@ -89,7 +75,7 @@ impl Counts {
         ensures bound { result ≤ 1024 }
         ensures valid { IsCounted self.now }
     {
-        self.waiting.len()
+        self.priorities.len() as u32
     }
 
     /// Whether a task is ready.
@@ -112,7 +98,7 @@ impl Counts {
     pub(crate) fn linked_count(&self) -> u32
         ensures { result ≡ linked_count self.now }
     {
-        self.linked_count
+        self.within(ProcSet::first(self.processors))
     }
 
     /// The mask of a task.
@@ -140,9 +126,17 @@ impl Counts {
     /// Whether a task is linked, and its mask lies within a set.
     fn is_held(&self, x: ProcSet, t: u32) -> bool
         requires { t < length self.now.priorities }
-        ensures { IsTrue result ↔ ((linked_of self.now t ≡ true) × Within (mask_in self.now t) x) }
+        ensures { IsTrue result ↔ IsHeldIn self.now x t }
     {
         self.linked[t as usize] && self.masks[t as usize].within(&x)
+    }
+
+    /// Whether the mask of a task is a tight node.
+    fn is_tight(&self, t: u32) -> bool
+        requires { t < length self.now.priorities }
+        ensures { IsTrue result ↔ IsTight self.now.masks (linked_of self.now) (mask_in self.now t) }
+    {
+        self.held[t as usize] == u32::from(self.masks[t as usize].count())
     }
 
     /// The smallest tight node that contains the mask of a task.
@@ -151,21 +145,50 @@ impl Counts {
         ensures { MatchOption result (IsInNoTight self.now (mask_in self.now t))
             (IsLeastTight self.now (mask_in self.now t)) }
     {
-        self.nodes.least_full(t)
+        let mut found = None;
+        for u in 0..self.len() {
+            found = self.smaller_tight(t, found, u);
+        }
+        match found {
+            Some(u) => Some(self.mask(u)),
+            None => None,
+        }
     }
 
-    /// The least urgent linked task that the smallest tight node around t holds, where it is less urgent than t, which
-    /// is absent.
+    /// The next task, where its mask is a smaller tight node around that of t than what was found.
+    fn smaller_tight(&self, t: u32, found: Option<u32>, u: u32) -> Option<u32>
+        requires number { t < length self.now.priorities }
+        requires next { u < length self.now.priorities }
+        requires scanned { IsScan (IsTightAround self.now (mask_in self.now t))
+            (LiesWithin self.now) u found }
+        ensures { IsScan (IsTightAround self.now (mask_in self.now t))
+            (LiesWithin self.now) (u + 1) result }
+    {
+        let node = self.mask(u);
+        if !self.mask(t).within(&node) || !self.is_tight(u) {
+            return found;
+        }
+        let Some(best) = found else {
+            return Some(u);
+        };
+        let smaller = self.mask(best);
+        if smaller.within(&node) {
+            found
+        } else {
+            Some(u)
+        }
+    }
+
+    /// The least urgent linked task that a node holds, where it is less urgent than t, which is absent.
     pub(crate) fn displaced(&self, node: ProcSet, t: u32) -> Option<u32>
         requires number { t < length self.now.priorities }
         requires absent { ready_of self.now t ≡ false }
-        requires smallest { IsLeastTight self.now (mask_in self.now t) node }
         ensures { MatchOption result (AllUrgenterIn self.now node t)
             (λ out. (out < length self.now.priorities) × IsLeastUrgentIn self.now node out
             × IsUrgenter self.now t out) }
     {
         let _valid = self.len();
-        let Some(out) = self.least_urgent(node, t) else {
+        let Some(out) = self.least_urgent(node) else {
             return None;
         };
         if self.is_more_urgent(t, out) {
@@ -175,16 +198,35 @@ impl Counts {
         }
     }
 
-    /// The least urgent linked task that the smallest tight node around t holds, if it holds one.
-    fn least_urgent(&self, node: ProcSet, t: u32) -> Option<u32>
-        requires number { t < length self.now.priorities }
-        requires smallest { IsLeastTight self.now (mask_in self.now t) node }
-        ensures { MatchOption result (IsNobodyHeld self.now node) (IsLeastUrgentTask self.now node) }
+    /// The least urgent linked task that a node holds, if it holds one.
+    fn least_urgent(&self, node: ProcSet) -> Option<u32>
+        ensures { IsScan (IsHeldIn self.now node) (IsNoMoreUrgent self.now)
+            (length self.now.priorities) result }
     {
-        let Some(k) = self.nodes.number_around(t, node) else {
-            unreachable!();
+        let mut found = None;
+        for u in 0..self.len() {
+            found = self.less_urgent(node, found, u);
+        }
+        found
+    }
+
+    /// The next task, where the node holds it and it is less urgent than the one that was found.
+    fn less_urgent(&self, node: ProcSet, found: Option<u32>, u: u32) -> Option<u32>
+        requires next { u < length self.now.priorities }
+        requires scanned { IsScan (IsHeldIn self.now node) (IsNoMoreUrgent self.now) u found }
+        ensures { IsScan (IsHeldIn self.now node) (IsNoMoreUrgent self.now) (u + 1) result }
+    {
+        if !self.is_held(node, u) {
+            return found;
+        }
+        let Some(least) = found else {
+            return Some(u);
         };
-        self.held_tasks[k as usize].first_for(node)
+        if self.is_more_urgent(u, least) {
+            found
+        } else {
+            Some(u)
+        }
     }
 
     /// Whether one task is more urgent than another.
@@ -193,34 +235,73 @@ impl Counts {
         requires other { b < length self.now.priorities }
         ensures { IsTrue result ↔ IsUrgenter self.now a b }
     {
-        self.waiting.priority(a) < self.waiting.priority(b)
+        self.priorities[a as usize] < self.priorities[b as usize]
     }
 
-    /// The most urgent waiting task whose mask lies in no tight node. As masks nest, a mask that lies in none has a
-    /// processor that no tight node has.
+    /// The most urgent waiting task whose mask lies in no tight node.
     pub(crate) fn most_urgent_free(&self) -> Option<u32>
         ensures { MatchOption result (IsNobodyFree self.now)
             (λ w. (w < length self.now.priorities) × IsMostUrgentFree self.now w) }
     {
-        let others = ProcSet::first(self.processors).minus(&self.tight_processors());
-        self.waiting.first_for(others)
+        let tight = self.tight_processors();
+        let mut found = None;
+        for w in 0..self.len() {
+            found = self.more_urgent_free(tight, found, w);
+        }
+        found
+    }
+
+    /// The next task, where it may enter and is more urgent than the one that was found.
+    fn more_urgent_free(&self, tight: ProcSet, found: Option<u32>, w: u32) -> Option<u32>
+        requires next { w < length self.now.priorities }
+        requires union { IsTightUnion self.now (length self.now.priorities) tight }
+        requires scanned { IsScan (MayEnter self.now) (IsNoLessUrgent self.now) w found }
+        ensures { IsScan (MayEnter self.now) (IsNoLessUrgent self.now) (w + 1) result }
+    {
+        if !self.may_enter(tight, w) {
+            return found;
+        }
+        let Some(most) = found else {
+            return Some(w);
+        };
+        if self.is_more_urgent(most, w) {
+            found
+        } else {
+            Some(w)
+        }
+    }
+
+    /// Whether a task waits, and its mask lies in no tight node. As masks nest, a mask that lies in none has a
+    /// processor that no tight node has.
+    fn may_enter(&self, tight: ProcSet, w: u32) -> bool
+        requires number { w < length self.now.priorities }
+        requires union { IsTightUnion self.now (length self.now.priorities) tight }
+        ensures { IsTrue result ↔ MayEnter self.now w }
+    {
+        if !self.is_ready(w) || self.is_linked(w) {
+            return false;
+        }
+        !self.mask(w).within(&tight)
     }
 
     /// The processors of the tight nodes.
     fn tight_processors(&self) -> ProcSet
-        ensures { IsTightUnion self.now result }
+        ensures { IsTightUnion self.now (length self.now.priorities) result }
     {
-        self.nodes.full_processors()
+        let mut union = ProcSet::empty();
+        for u in 0..self.len() {
+            if self.is_tight(u) {
+                union = union.either_of(&self.masks[u as usize]);
+            }
+        }
+        union
     }
 
     /// An absent task becomes ready, and waits.
     pub(crate) fn make_ready(&mut self, t: u32)
-        requires number { t < length self.old.priorities }
-        requires absent { ready_of self.old t ≡ false }
+        requires { t < length self.old.priorities }
         ensures { self.new ≡ with_waiting self.old t }
     {
-        let mask = self.mask(t);
-        self.waiting.write(t, mask);
         self.ready[t as usize] = true;
     }
 
@@ -241,7 +322,6 @@ impl Counts {
         requires not_linked { linked_of self.old t ≡ false }
         ensures { self.new ≡ record self.old { ready = set self.old.ready t false } }
     {
-        self.waiting.write(t, ProcSet::empty());
         self.ready[t as usize] = false;
     }
 
@@ -254,11 +334,8 @@ impl Counts {
         ensures { self.new ≡ with_linked self.old t }
     {
         let mask = self.mask(t);
-        self.waiting.write(t, ProcSet::empty());
-        write_at(&mut self.held_tasks, self.nodes.around(t), t, mask);
-        self.nodes.hold_one_more(t);
+        hold_one_more(&mut self.held, &self.masks, mask);
         self.linked[t as usize] = true;
-        self.linked_count += 1;
     }
 
     /// A linked task waits then.
@@ -268,16 +345,8 @@ impl Counts {
         ensures { self.new ≡ with_unlinked self.old t }
     {
         let mask = self.mask(t);
-        self.waiting.write(t, mask);
-        write_at(
-            &mut self.held_tasks,
-            self.nodes.around(t),
-            t,
-            ProcSet::empty(),
-        );
-        self.nodes.hold_one_less(t);
+        hold_one_less(&mut self.held, &self.masks, mask);
         self.linked[t as usize] = false;
-        self.linked_count -= 1;
     }
 }
 
@@ -303,42 +372,14 @@ fn priorities_of(alloc: Global, set: &TaskSet) -> Result<Vec<u32>, OutOfMemory>
     Ok(column)
 }
 
-/// Nobody waits, and none of so many nodes holds anybody.
-fn nobody_listed(
-    alloc: Global,
-    set: &TaskSet,
-    nodes: usize,
-) -> Result<(WaitingTasks, Vec<WaitingTasks>), OutOfMemory>
-    requires { length (priorities set.now) ≤ 1024 }
-    ensures waiting { IfOk result (λ made. made.0 ≡ record {
-      priorities = priorities set.now;
-      masks = replicate (length (priorities set.now)) empty;
-    }) }
-    ensures held { IfOk result (λ made. AreEmptyLists (priorities set.now) nodes made.1.items) }
-{
-    let priorities = priorities_of(alloc, set)?;
-    let held_tasks = empty_lists(alloc, &priorities, nodes)?;
-    let waiting = WaitingTasks::new(alloc, priorities)?;
-    Ok((waiting, held_tasks))
-}
-
-/// Nobody of so many tasks is ready, and nobody is linked.
-fn nobody_stands(alloc: Global, count: u32) -> Result<(Vec<bool>, Vec<bool>), OutOfMemory>
+/// Of so many tasks nobody is ready or linked, and no mask holds one.
+fn nobody(alloc: Global, count: usize) -> Result<(Vec<bool>, Vec<bool>, Vec<u32>), OutOfMemory>
     ensures ready { IfOk result (λ made. made.0.items ≡ replicate count false) }
     ensures linked { IfOk result (λ made. made.1.items ≡ replicate count false) }
+    ensures held { IfOk result (λ made. made.2.items ≡ replicate count 0) }
 {
-    let ready = nobody(alloc, count)?;
-    let linked = nobody(alloc, count)?;
-    Ok((ready, linked))
-}
-
-/// Nobody of so many tasks.
-fn nobody(alloc: Global, count: u32) -> Result<Vec<bool>, OutOfMemory>
-    ensures { IfOk result (λ column. column.items ≡ replicate count false) }
-{
-    let mut column = Vec::new(alloc);
-    for _k in 0..count {
-        column.push(false)?;
-    }
-    Ok(column)
+    let ready = vec![in alloc; false; count]?;
+    let linked = vec![in alloc; false; count]?;
+    let held = vec![in alloc; 0; count]?;
+    Ok((ready, linked, held))
 }

@@ -9,10 +9,8 @@ mod counts;
 mod crossing;
 pub mod fault;
 mod held_counts;
-mod held_tasks;
 pub mod laws;
 pub mod nested;
-mod node_counts;
 pub mod replay;
 pub mod reply;
 

@@ -1,48 +1,15 @@
-use Rattle.std.proofs.Common.{◌≡◌, false, length, arith}
 use Rattle.nested_masks.specs.Views.{counts_view}
-use Rattle.nested_masks.proofs.FullNodes.{in_nodes, node_is}
-use Rattle.nested_masks.proofs.Tallied.{tallied_some, count_some, tallied-unlinked}
-use Rattle.nested_masks.proofs.Frees.{waiting-unlinked}
-use Rattle.nested_masks.proofs.HeldLists.{list_number, lists_back, lists-set}
-use Rattle.nested_masks.proofs.Passing.{passes, passing_apart}
+use Rattle.nested_masks.proofs.Tallied.{tallied_some, tallied-unlinked}
 use Rattle.nested_masks.proofs.counts.Counts.unlink.Goals as goal
 
-pub write_at-requires-clause-there : goal.write_at-requires-clause-there
-write_at-requires-clause-there c = rw (c.around.ensures, c.deref_mut.ensures.value, c.self.invariant.listed.count) (λ i lt. (passes _ (length c.self.inside.nodes.nodes) i lt).0)
-
-pub write_at-requires-clause-number : goal.write_at-requires-clause-number
-write_at-requires-clause-number c =
-    let s = c.self.inside in
-    rw c.deref_mut.ensures.value (λ k d lt. list_number (counts_view s) c.self.invariant.tallied.counted s.nodes.nodes s.held_tasks.items c.self.invariant.listed c.args.t (rw (← c.self.view_is) at c.requires.number) k d (rw c.self.invariant.listed.count at lt))
-
-pub write_at-requires-clause-apart : goal.write_at-requires-clause-apart
-write_at-requires-clause-apart c = rw c.around.ensures (passing_apart _ (length c.self.inside.nodes.nodes))
-
-pub around-requires : goal.around-requires
-around-requires c = in_nodes (counts_view c.self.inside) c.self.inside.nodes c.self.inside.linked_count c.self.invariant.tallied c.args.t (rw (← c.self.view_is) at c.requires.number)
-
-pub hold_one_less-requires-clause-number : goal.hold_one_less-requires-clause-number
-hold_one_less-requires-clause-number c = in_nodes (counts_view c.self.inside) c.self.inside.nodes c.self.inside.linked_count c.self.invariant.tallied c.args.t (rw (← c.self.view_is) at c.requires.number)
-
 pub hold_one_less-requires-clause-some : goal.hold_one_less-requires-clause-some
-hold_one_less-requires-clause-some c = tallied_some (counts_view c.self.inside) c.self.inside.nodes c.self.inside.linked_count c.self.invariant.tallied c.args.t (rw (← c.self.view_is) at c.requires.number) (rw (← c.self.view_is) at c.requires.linked)
-
-pub overflow_sub-self : goal.overflow_sub-self
-overflow_sub-self c = let some = count_some (counts_view c.self.inside) c.self.inside.nodes c.self.inside.linked_count c.self.invariant.tallied c.args.t (rw (← c.self.view_is) at c.requires.number) (rw (← c.self.view_is) at c.requires.linked) in omega arith
+hold_one_less-requires-clause-some c =
+    let s = c.self.inside in
+    rw (c.deref.ensures.value, c.mask-mask.ensures.value, ← c.self.view_is) (tallied_some (counts_view s) s.held.items c.self.invariant c.args.t
+        (rw (← c.self.view_is) at c.requires.number) (rw (← c.self.view_is) at c.requires.linked))
 
 pub invariant_of-self : goal.invariant_of-self
 invariant_of-self c =
     let s = c.self.inside in
-    let n = counts_view s in
-    let ok = c.self.invariant.tallied in
-    let writes = rw (c.around.ensures, c.deref_mut.ensures.value) at c.write_at.ensures in
-    let size : s.held_tasks.len ≡ length s.held_tasks.items = omega (arith, s.held_tasks.ok.0) in
-    let back = lists_back c.write_at.new.lists s.held_tasks.items s.held_tasks.len writes.count size in
-    let number = rw (← c.self.view_is) at c.requires.number in
-    let linked = rw (← c.self.view_is) at c.requires.linked in
-    rw (c.write.ensures, c.mask-mask.ensures.value, ← c.self.view_is, c.hold_one_less.ensures.same) record {
-      tallied = tallied-unlinked n s.nodes s.linked_count ok c.args.t number linked c.hold_one_less.new.self.held c.hold_one_less.ensures.less;
-      waiting = waiting-unlinked n ok.counted s.waiting.masks c.self.invariant.waiting c.args.t number linked;
-      listed = rw back (lists-set n ok.counted s.nodes.nodes s.held_tasks.items c.self.invariant.listed c.args.t number false c.write_at.new.lists _ c.empty.result (node_is n s.nodes s.linked_count ok c.args.t number) c.empty.ensures
-          writes);
-    }
+    tallied-unlinked (counts_view s) s.held.items c.self.invariant c.args.t (rw (← c.self.view_is) at c.requires.number) (rw (← c.self.view_is) at c.requires.linked)
+        c.hold_one_less.new.held.items (rw (c.deref.ensures.value, c.mask-mask.ensures.value, ← c.self.view_is) at c.hold_one_less.ensures)
