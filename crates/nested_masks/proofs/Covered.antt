@@ -68,8 +68,8 @@ module _ (n : NestedData) (ok : IsCounted n) where
       ]
 
   -- a mask that lies in no tight node has a processor that no tight node has
-  pub free_outside : (t tight : ℕ) → t < length n.priorities → IsTightUnion n (length n.priorities) tight → IsInNoTight n (mask_in n t)
-      → Within (mask_in n t) tight → ⊥
+  pub free_outside : (t tight : ℕ) → t < length n.priorities → IsTightUnion n (length n.priorities) tight
+      → IsInNoTight n (mask_in n t) → Within (mask_in n t) tight → ⊥
   free_outside t tight number union free within =
       let placed = placed_by_counts n.masks ok.laminar (linked_of n) (λ u h. in_masks n ok u (linked_number n ok u h)) ok.fits in
       uncovered placed.0 placed.1 (mask_in n t) (t, in_masks n ok t number, refl) free (λ p member.

@@ -1,15 +1,15 @@
 -- One more task of a scan, and what a scan of all tasks has found.
-use Rattle.std.proofs.Common.{◌≡◌, ℕ, ◌+◌, ◌<◌, Bool, true, false, ◌&&◌, ◌||◌, List, length, Option, None, Some, MatchOption, IsTrue, refl, sym, ap, ◌∙◌, inl, inr, ◌⊎◌, ◌↔◌, not, arith, subst, add-one, below_more}
+use Rattle.std.proofs.Common.{◌≡◌, ℕ, ◌+◌, ◌<◌, Bool, true, false, ◌&&◌, List, length, IsTrue, refl, sym, ap, ◌∙◌, inl, inr, ◌↔◌, not, arith, add-one, below_more}
 use Rattle.std.proofs.lemmas.Bool.{cases_Bool, cases_order, and_from, and_parts, true≢false}
-use Rattle.affinity_mask.specs.ProcSet.{has, empty, Within}
+use Rattle.affinity_mask.specs.ProcSet.{empty, Within}
 use Rattle.affinity_mask.proofs.Meetings.{no_member}
 use Rattle.strong_apa.proofs.Counts.{count_below, count_below-more, count_below-same}
-use Rattle.nested_masks.specs.Laminar.{Cross, IsLaminar, IsFirstCrossing, IsTight, is_within, mask_at}
+use Rattle.nested_masks.specs.Laminar.{Cross, IsLaminar, IsFirstCrossing, is_within, mask_at}
 use Rattle.nested_masks.specs.NestedData.{NestedData, IsCounted, IsUrgenter, ready_of, linked_of, mask_in, priority_in}
-use Rattle.nested_masks.specs.LaminarStep.{IsInNoTight, IsLeastTight, IsLeastUrgentIn, AllUrgenterIn, MayEnter, IsMostUrgentFree, IsNobodyFree}
-use Rattle.nested_masks.specs.Scans.{CrossesNone, IsFirstCrossed, IsLeader, IsScan, IsTightAround, IsHeldIn, LiesWithin, IsNoMoreUrgent, IsNoLessUrgent, IsTightUnion}
+use Rattle.nested_masks.specs.LaminarStep.{IsLeastUrgentIn, AllUrgenterIn, MayEnter}
+use Rattle.nested_masks.specs.Scans.{CrossesNone, IsFirstCrossed, IsLeader, IsTightAround, IsHeldIn, IsNoMoreUrgent, IsTightUnion}
 use Rattle.nested_masks.proofs.Withins.{is_within-from, within_from, within_same}
-use Rattle.nested_masks.proofs.Changes.{flag_number, linked_number}
+use Rattle.nested_masks.proofs.Changes.{linked_number}
 use Rattle.nested_masks.proofs.Covered.{free_outside, outside_free}
 use Rattle.nested_masks.proofs.Kept.{nodes_nest}
 
@@ -63,7 +63,8 @@ first_pair masks one other before found = record {
 
 -- ---- one task more of a scan for a leader, where it leads the one that led
 module _ (Passes : ℕ → Type 0) (Leads : ℕ → ℕ → Type 0) (m : ℕ) where
-  pub scan_passed : (w : ℕ) → Leads m m → Passes m → ((v : ℕ) → Leads w v → Leads m v) → IsLeader Passes Leads m w → IsLeader Passes Leads (m + 1) m
+  pub scan_passed : (w : ℕ) → Leads m m → Passes m → ((v : ℕ) → Leads w v → Leads m v) → IsLeader Passes Leads m w
+      → IsLeader Passes Leads (m + 1) m
   scan_passed w itself here over before = record {
     number = omega arith;
     passes = here;
@@ -80,8 +81,8 @@ union_none n X none = record {
 -- ---- what is found in the end
 module _ (n : NestedData) (ok : IsCounted n) where
   -- a waiting task may enter where its mask has a processor of no tight node
-  pub enters_where : (w tight : ℕ) → w < length n.priorities → IsTightUnion n (length n.priorities) tight → ready_of n w ≡ true → linked_of n w ≡ false
-      → (inside : Bool) → IsTrue inside ↔ Within (mask_in n w) tight → IsTrue (not inside) ↔ MayEnter n w
+  pub enters_where : (w tight : ℕ) → w < length n.priorities → IsTightUnion n (length n.priorities) tight
+      → ready_of n w ≡ true → linked_of n w ≡ false → (inside : Bool) → IsTrue inside ↔ Within (mask_in n w) tight → IsTrue (not inside) ↔ MayEnter n w
   enters_where w tight number union ready not_linked true is = (
     λ h. absurd (true≢false (sym h)),
     λ enter. absurd (free_outside n ok w tight number union enter.free (is.0 refl)),
@@ -95,8 +96,8 @@ module _ (n : NestedData) (ok : IsCounted n) where
   )
 
   -- a tight node that the smallest one so far does not lie in lies in it
-  pub node_within : (t u best : ℕ) → t < length n.priorities → IsTightAround n (mask_in n t) u → IsTightAround n (mask_in n t) best
-      → (Within (mask_in n best) (mask_in n u) → ⊥) → Within (mask_in n u) (mask_in n best)
+  pub node_within : (t u best : ℕ) → t < length n.priorities → IsTightAround n (mask_in n t) u
+      → IsTightAround n (mask_in n t) best → (Within (mask_in n best) (mask_in n u) → ⊥) → Within (mask_in n u) (mask_in n best)
   node_within t u best number here there not_within =
       elim (nodes_nest n ok t (mask_in n u) (mask_in n best) number here.0.node there.0.node here.1 there.1) [
         | inl within ↦ within
@@ -104,20 +105,24 @@ module _ (n : NestedData) (ok : IsCounted n) where
       ]
 
   -- ---- who is displaced
-  pub least_held : (node d : ℕ) → IsLeader (IsHeldIn n node) (IsNoMoreUrgent n) (length n.priorities) d → IsLeastUrgentIn n node d
+  pub least_held : (node d : ℕ) → IsLeader (IsHeldIn n node) (IsNoMoreUrgent n) (length n.priorities) d
+      → IsLeastUrgentIn n node d
   least_held node d leader = record {
     linked = leader.passes.0;
     within = leader.passes.1;
     least_urgent = λ u h within. leader.leads u (linked_number n ok u h) (h, within);
   }
 
-  pub none_displaced : (node t : ℕ) → ((u : ℕ) → u < length n.priorities → IsHeldIn n node u → ⊥) → AllUrgenterIn n node t
+  pub none_displaced : (node t : ℕ) → ((u : ℕ) → u < length n.priorities → IsHeldIn n node u → ⊥)
+      → AllUrgenterIn n node t
   none_displaced node t none = λ u h within. absurd (none u (linked_number n ok u h) (h, within))
 
-  pub not_displaced : (node t d : ℕ) → t < length n.priorities → ready_of n t ≡ false → IsLeastUrgentIn n node d → (IsUrgenter n t d → ⊥)
-      → AllUrgenterIn n node t
+  pub not_displaced : (node t d : ℕ) → t < length n.priorities → ready_of n t ≡ false → IsLeastUrgentIn n node d
+      → (IsUrgenter n t d → ⊥) → AllUrgenterIn n node t
   not_displaced node t d number absent found not_urgent = λ u h within. elim (cases_order (priority_in n u) (priority_in n t)) [
-    | inl same ↦ absurd (true≢false (sym (ok.linked_ready u h) ∙ ap (ready_of n) (ok.state.distinct u t (linked_number n ok u h) number same) ∙ absent))
+    | inl same ↦
+        let itself = ok.state.distinct u t (linked_number n ok u h) number same in
+        absurd (true≢false (sym (ok.linked_ready u h) ∙ ap (ready_of n) itself ∙ absent))
     | inr (inl urgent) ↦ urgent
     | inr (inr later) ↦ absurd (not_urgent (let le = found.least_urgent u h within in omega arith))
   ]

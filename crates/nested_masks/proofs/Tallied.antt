@@ -1,6 +1,6 @@
 -- How many linked tasks the mask of each task holds is kept up to date while tasks are linked and are linked no longer.
-use Rattle.std.proofs.Common.{◌≡◌, ℕ, ◌+◌, ◌-◌, ◌<◌, ◌≤◌, Bool, true, false, ◌&&◌, List, length, set, get_or, replicate, nat_lt, refl, sym, ap, ◌∙◌, inl, inr, arith, below_more, length-set, get_or-set_same, get_or-set_other}
-use Rattle.std.proofs.lemmas.Bool.{cases_Bool, and_parts, lt-ltb}
+use Rattle.std.proofs.Common.{◌≡◌, ℕ, ◌<◌, ◌≤◌, Bool, true, false, ◌&&◌, List, length, set, get_or, replicate, nat_lt, refl, sym, ap, ◌∙◌, inl, inr, arith}
+use Rattle.std.proofs.lemmas.Bool.{and_parts, lt-ltb}
 use Rattle.std.proofs.lemmas.List.{length-map, length-replicate, get_or-replicate}
 use Rattle.std.proofs.Math.Bool.{and-true}
 use Rattle.affinity_mask.specs.ProcSet.{has, members, Within}
@@ -19,8 +19,10 @@ use Rattle.nested_masks.proofs.Changes.{joins_set, joins_unset, in_linked, in_ma
 use Rattle.nested_masks.proofs.Started.{nobody_linked, counted-start}
 
 -- ---- a task joins a set
-module _ (masks : List ℕ) (tasks : TaskTest) (t : ℕ) (new : TaskTest) (joins : Joins tasks t new) (number : t < length masks) where
-  pub held_joined : (before after : List ℕ) → IsHeldBy masks tasks before → HoldMoreAround masks (mask_at masks t) (length masks) before after
+module _ (masks : List ℕ) (tasks : TaskTest) (t : ℕ) (new : TaskTest) (joins : Joins tasks t new)
+    (number : t < length masks) where
+  pub held_joined : (before after : List ℕ) → IsHeldBy masks tasks before
+      → HoldMoreAround masks (mask_at masks t) (length masks) before after
       → IsHeldBy masks new after
   held_joined before after held more = record {
     count = more.count ∙ held.count;
@@ -30,12 +32,14 @@ module _ (masks : List ℕ) (tasks : TaskTest) (t : ℕ) (new : TaskTest) (joins
           let was = held.each u lt in
           let joined = held-more masks tasks t new joins (mask_at masks u) number here in
           omega arith
-      | inr not_here ↦ more.outside u lt not_here ∙ held.each u lt ∙ sym (held-else masks tasks t new joins (mask_at masks u) not_here)
+      | inr not_here ↦ more.outside u lt not_here ∙ held.each u lt
+          ∙ sym (held-else masks tasks t new joins (mask_at masks u) not_here)
     ];
   }
 
   -- and leaves it again
-  pub held_parted : (before after : List ℕ) → IsHeldBy masks new before → HoldMoreAround masks (mask_at masks t) (length masks) after before
+  pub held_parted : (before after : List ℕ) → IsHeldBy masks new before
+      → HoldMoreAround masks (mask_at masks t) (length masks) after before
       → IsHeldBy masks tasks after
   held_parted before after held more = record {
     count = sym more.count ∙ held.count;
@@ -45,13 +49,14 @@ module _ (masks : List ℕ) (tasks : TaskTest) (t : ℕ) (new : TaskTest) (joins
           let was = held.each u lt in
           let joined = held-more masks tasks t new joins (mask_at masks u) number here in
           omega arith
-      | inr not_here ↦ sym (more.outside u lt not_here) ∙ held.each u lt ∙ held-else masks tasks t new joins (mask_at masks u) not_here
+      | inr not_here ↦ sym (more.outside u lt not_here) ∙ held.each u lt
+          ∙ held-else masks tasks t new joins (mask_at masks u) not_here
     ];
   }
 
   -- a mask that contains that of a task of the set holds one
-  pub held_some : (column : List ℕ) → IsHeldBy masks new column → (u : ℕ) → u < length masks → Within (mask_at masks t) (mask_at masks u)
-      → 0 < get_or column u 0
+  pub held_some : (column : List ℕ) → IsHeldBy masks new column → (u : ℕ) → u < length masks
+      → Within (mask_at masks t) (mask_at masks u) → 0 < get_or column u 0
   held_some column held u lt within =
       let was = held.each u lt in
       let joined = held-more masks tasks t new joins (mask_at masks u) number within in
@@ -95,7 +100,8 @@ module _ (n : NestedData) (held : List ℕ) (ok : IsTallied n held) where
       tallied_some = held_some n.masks (linked_of (with_unlinked n t)) t (linked_of n) (joins_unset n.linked t linked)
           (in_masks n ok.counted t number) held ok.each_mask
 
-      pub tallied-unlinked : (after : List ℕ) → HoldMoreAround n.masks (mask_in n t) (length n.masks) after held → IsTallied (with_unlinked n t) after
+      pub tallied-unlinked : (after : List ℕ) → HoldMoreAround n.masks (mask_in n t) (length n.masks) after held
+          → IsTallied (with_unlinked n t) after
       tallied-unlinked after more = record {
         counted = counted-unlinked n ok.counted t number;
         each_mask = held_parted n.masks (linked_of (with_unlinked n t)) t (linked_of n) (joins_unset n.linked t linked)
@@ -103,10 +109,13 @@ module _ (n : NestedData) (held : List ℕ) (ok : IsTallied n held) where
       }
 
 -- all masks lie within the processors
-pub all_within : (n : NestedData) → IsCounted n → (X : ℕ) → ((q : ℕ) → has X q ≡ nat_lt q n.processors) → length (tasks_in n.masks (linked_of n) X) ≡ linked_count n
+pub all_within : (n : NestedData) → IsCounted n → (X : ℕ) → ((q : ℕ) → has X q ≡ nat_lt q n.processors)
+    → length (tasks_in n.masks (linked_of n) X) ≡ linked_count n
 all_within n ok X all =
     let same = ok.state.masks_count in
-    count_below-agree _ _ (length n.masks) (λ u lt. rw (is_within-from (mask_in n u) X (λ p h. all p ∙ lt-ltb p n.processors ((ok.state.masks u (omega arith)).below p h))) (and-true (linked_of n u)))
+    count_below-agree _ _ (length n.masks) (λ u lt.
+    let inside = (ok.state.masks u (omega arith)).below in
+    rw (is_within-from (mask_in n u) X (λ p h. all p ∙ lt-ltb p n.processors (inside p h))) (and-true (linked_of n u)))
     ∙ ap (λ (m : ℕ). count_below (linked_of n) m) same
 
 -- ---- nobody is linked

@@ -1,4 +1,5 @@
--- How far a scan has come: the words of the contracts of private functions. The public ones say what is found in the end.
+-- How far a scan has come: the words of the contracts of private functions. The public ones say what is found in the
+-- end.
 use Rattle.std.specs.Prelude.{◌≡◌, ℕ, ◌<◌, ◌≤◌, true, List, length, IsTrue, Option, MatchOption}
 use Rattle.affinity_mask.specs.ProcSet.{has, Within}
 use Rattle.nested_masks.specs.Laminar.{IsTight, Cross}

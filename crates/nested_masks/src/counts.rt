@@ -271,8 +271,8 @@ impl Counts {
         }
     }
 
-    /// Whether a task waits, and its mask lies in no tight node. As masks nest, a mask that lies in none has a
-    /// processor that no tight node has.
+    /// Whether a task waits, and its mask lies in no tight node. As masks nest, a mask that lies in none has a processor
+    /// that no tight node has.
     fn may_enter(&self, tight: ProcSet, w: u32) -> bool
         requires number { w < length self.now.priorities }
         requires union { IsTightUnion self.now (length self.now.priorities) tight }
