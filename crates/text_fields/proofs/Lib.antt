@@ -4,6 +4,7 @@ pub mod Decisions
 mod Digits
 pub mod FieldLists
 pub mod Folds
+pub mod Forms
 pub mod LineDecisions
 mod LineEnds
 pub mod LineRule

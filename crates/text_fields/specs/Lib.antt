@@ -3,6 +3,7 @@ pub mod Cut
 pub mod EventText
 pub mod EventWord
 pub mod Fields
+pub mod Form
 pub mod Laws
 pub mod LineEnd
 pub mod LineRule

@@ -7,25 +7,33 @@ use Rattle.trace_reader.specs.Input.{InputData}
 use Rattle.trace_reader.specs.Progress.{Progress, HeaderExpected, ProcessorsExpected, Listed, Ended}
 use Rattle.trace_reader.specs.Reading.{IsExpected, IsOutcome, IsEndOutcome}
 use Rattle.trace_reader.proofs.Expected.{expects_more}
-use Rattle.trace_reader.proofs.Faults.{says_no_fault, fault_once}
-use Rattle.trace_reader.proofs.LinesDecided.{IsDecided, fields_decided}
-use Rattle.trace_reader.proofs.Steps.{expects_valid, says_once}
+use Rattle.trace_reader.proofs.Decided.{fields_decided}
+use Rattle.trace_reader.proofs.Outcomes.{says_outcome, outcome_says}
+use Rattle.trace_reader.specs.LineOutcome.{IsFieldsOutcome}
+use Rattle.trace_reader.proofs.Steps.{expects_valid}
+
+-- what a line comes to is what its form says
+to_form : (p : Progress) (fields : List (List ℕ)) (outcome : Outcome Progress InputKind) → IsOutcome p fields outcome
+    → IsFieldsOutcome p fields outcome
+to_form p fields (Leads next) says = says_outcome p fields next says
+to_form p fields (Fails kind) fault = fault
+
+of_form : (p : Progress) (fields : List (List ℕ)) (outcome : Outcome Progress InputKind) → IsFieldsOutcome p fields outcome
+    → IsOutcome p fields outcome
+of_form p fields (Leads next) says = outcome_says p fields next says
+of_form p fields (Fails kind) fault = fault
 
 outcome_once : (p : Progress) (fields : List (List ℕ)) (outcome other : Outcome Progress InputKind)
     → IsExpected p → IsOutcome p fields outcome → IsOutcome p fields other → outcome ≡ other
-outcome_once p fields (Leads next) (Leads other) (said, expects) one two =
-    ap Leads (says_once p fields next other (expects_valid said p expects) one two)
-outcome_once p fields (Leads next) (Fails kind) (said, expects) one two =
-    absurd (says_no_fault p fields next kind (expects_valid said p expects) one two)
-outcome_once p fields (Fails kind) (Leads next) (said, expects) one two =
-    absurd (says_no_fault p fields next kind (expects_valid said p expects) two one)
-outcome_once p fields (Fails kind) (Fails other) (said, expects) one two =
-    ap Fails (fault_once p fields kind other (expects_valid said p expects) one two)
+outcome_once p fields outcome other (said, expects) one two =
+    let decided = fields_decided p fields (expects_valid said p expects) in
+    decided.one outcome other (to_form p fields outcome one) (to_form p fields other two)
 
-some_outcome : (p : Progress) (fields : List (List ℕ)) → IsDecided p fields
+some_outcome : (p : Progress) (fields : List (List ℕ)) → IsExpected p
     → (outcome : Outcome Progress InputKind) × IsOutcome p fields outcome
-some_outcome p fields (inl (next, says)) = (Leads next, says)
-some_outcome p fields (inr (kind, fault)) = (Fails kind, fault)
+some_outcome p fields (said, expects) =
+    let decided = fields_decided p fields (expects_valid said p expects) in
+    (decided.some.0, of_form p fields decided.some.0 decided.some.1)
 
 end_once : (p : Progress) (outcome other : Outcome InputData InputKind) → IsEndOutcome p outcome → IsEndOutcome p other → outcome ≡ other
 end_once HeaderExpected outcome other one two = one ∙ sym two
@@ -44,7 +52,7 @@ input_machine = record {
   starts = ([], refl);
   keeps = λ p fields next valid says. (valid.0 ++ fields ∷ [], expects_more valid.0 fields p next valid.1 says);
   one_outcome = outcome_once;
-  some_outcome = λ p fields valid. some_outcome p fields (fields_decided valid.0 p fields valid.1);
+  some_outcome = some_outcome;
   one_end = λ p outcome other valid. end_once p outcome other;
   some_end = λ p valid. end_comes p;
 }

@@ -9,21 +9,18 @@ use Rattle.text_fields.specs.declared.word.EventWord.TheVariants.{Arrive, Depart
 use Rattle.text_fields.specs.EventWord.{IsNoEventWord}
 use Rattle.trace_reader.specs.declared.posted.Posted.{Posted}
 use Rattle.trace_reader.specs.declared.fault.InputKind.{InputKind}
-use Rattle.trace_reader.specs.declared.fault.InputKind.TheVariants.{BadByte, LongLine}
-use Rattle.text_fields.specs.Lines.{fields_of}
-use Rattle.trace_reader.specs.Lines.{is_skipped, IsClean}
 use Rattle.trace_reader.specs.InputText.{IsTaskForm, IsOnStream, end_line}
-use Rattle.trace_reader.specs.InputFault.{IsFieldsFault, IsLineFault, kind_of_refusal}
-use Rattle.trace_reader.specs.Progress.{Progress, Listed}
-use Rattle.trace_reader.specs.LineForms.{IsForTask, IsPairForm, IsChangeForm}
-use Rattle.trace_reader.specs.Reading.{IsOutOfMemory, IsPairFault, IsChangeFault, IsEventFault}
-use Rattle.trace_reader.proofs.Forms.{same_rest}
+use Rattle.trace_reader.specs.InputFault.{kind_of_refusal}
+use Rattle.trace_reader.specs.Progress.{Listed}
+use Rattle.trace_reader.specs.LineForms.{IsPairForm, IsChangeForm}
+use Rattle.trace_reader.specs.LineOutcome.{IsForTask}
+use Rattle.trace_reader.specs.Reading.{IsReadFault, IsOutOfMemory, IsPairFault, IsChangeFault, IsEventFault}
 
 -- a task that is not added
 pub task_refused : (version : ℕ) (set : SetData) (fields : List (List ℕ)) (name given list : List ℕ) (priority mask : ℕ)
     (fault : TaskFault) → IsTaskForm fields name priority list → given ≡ name → IsListText list mask
     → (fault ≡ task.OutOfMemory) ⊎ IsRefusal set (new_task given priority mask) fault
-    → IsOutOfMemory (kind_of_refusal fault) ⊎ IsFieldsFault (Listed version set []) fields (kind_of_refusal fault)
+    → IsOutOfMemory (kind_of_refusal fault) ⊎ IsReadFault (Listed version set []) fields (kind_of_refusal fault)
 task_refused version set fields name given list priority mask task.OutOfMemory form same listed why = inl refl
 task_refused version set fields name given list priority mask fault form same listed (inl none) = absurd (cc)
 task_refused version set fields name given list priority mask fault form same listed (inr why) =
@@ -59,6 +56,11 @@ pair_refused version set word value kind (inl (is_kind, none)) =
 pair_refused version set word value kind (inr (is_kind, is_word, new)) =
     inr (inl (is_kind, (value, inl (word, refl, is_word), new)))
 
+-- what follows the stream
+same_rest : (fields : List (List ℕ)) (stream other : ℕ) (rest more : List (List ℕ))
+    → IsOnStream fields stream rest → IsOnStream fields other more → rest ≡ more
+same_rest fields stream other rest more one two = let e = one.1 in let e' = two.1 in cc
+
 -- the fault of the fields after a stream
 pub change_refused : (version : ℕ) (set : SetData) (fields : List (List ℕ)) (stream : ℕ) (rest : List (List ℕ))
     (kind : InputKind) → IsOnStream fields stream rest → IsChangeFault version set rest kind
@@ -77,18 +79,10 @@ change_refused version set fields stream rest kind on (inr (inr (fault, is_kind,
 -- a line that is no event's, where events are expected
 pub event_refused : (version : ℕ) (set : SetData) (events : List Posted) (fields : List (List ℕ)) (kind : InputKind)
     → (IsForTask events fields → ⊥) → fields ≢ end_line → IsEventFault version set fields kind
-    → IsFieldsFault (Listed version set events) fields kind
+    → IsReadFault (Listed version set events) fields kind
 event_refused version set events fields kind no_task no_end (inl bad) =
     rw bad.0 (version, set, events, refl, no_task, no_end, bad.1)
 event_refused version set events fields kind no_task no_end (inr (inl unknown)) =
     rw unknown.0 (version, set, events, unknown.1.0, refl, unknown.1.1, unknown.1.2)
 event_refused version set events fields kind no_task no_end (inr (inr (fault, is_kind, form))) =
     rw is_kind (version, set, events, refl, inr form)
-
--- the fault of the fields is that of the line
-pub line_refused : (expected : Progress) (line : List ℕ) (kind : InputKind) → IsClean line
-    → is_skipped (fields_of line) ≡ false → IsFieldsFault expected (fields_of line) kind
-    → IsLineFault expected line kind
-line_refused expected line BadByte clean said fault = absurd fault
-line_refused expected line LongLine clean said fault = absurd fault
-line_refused expected line kind clean said fault = (clean, said, fault)

@@ -25,7 +25,6 @@ use Rattle.trace_reader.specs.Reading.{Says, IsExpected, IsOutcome, IsEndOutcome
 use Rattle.trace_reader.proofs.LinesCut.{said_by-kept, said_by-skipped}
 use Rattle.trace_reader.proofs.Machine.{input_machine}
 use Rattle.trace_reader.proofs.Paths.{expects_steps, steps_expect}
-use Rattle.trace_reader.proofs.Refused.{line_refused}
 
 -- what a line comes to
 abbrev Comes : Progress → List ℕ → Outcome Progress InputKind → Type 0
@@ -76,18 +75,7 @@ steps_lead p q (line ∷ rest) clean steps = elim (cases_Bool (is_skipped (field
       ))
 ]
 
--- ---- the fault of a line
-fault_comes : (p : Progress) (line : List ℕ) (kind : InputKind) → IsLineFault p line kind → Comes p line (Fails kind)
-fault_comes p line BadByte fault = inl (fault, refl)
-fault_comes p line LongLine fault = inr (inl (fault.0, fault.1, refl))
-fault_comes p line kind fault = inr (inr (inr (fault.0, fault.1, fault.2)))
-
-comes_fault : (p : Progress) (line : List ℕ) (kind : InputKind) → Comes p line (Fails kind) → IsLineFault p line kind
-comes_fault p line kind (inl (bad, e)) = subst (IsLineFault p line) (sym (same_kind {P = Progress} kind BadByte e)) bad
-comes_fault p line kind (inr (inl (plain, long, e))) = subst (IsLineFault p line) (sym (same_kind {P = Progress} kind LongLine e)) (plain, long)
-comes_fault p line kind (inr (inr (inl (clean, skipped, e)))) = leads_not_fails p kind (sym e)
-comes_fault p line kind (inr (inr (inr (clean, kept, fault)))) = line_refused p line kind clean kept fault
-
+-- ---- the end
 end_fault : (p : Progress) (kind : InputKind) → IsEndOutcome p (Fails kind)
     → ((version : ℕ) (set : SetData) (events : List Posted) → p ≢ Ended version set events) × (kind ≡ NoEnd)
 end_fault HeaderExpected kind e = (λ version set events f. cc, same_kind {P = InputData} kind NoEnd e)
@@ -151,7 +139,7 @@ fault_is_refused bytes number kind refused =
           place = first.place;
           clean = steps.0;
           expects = steps_expect [] (said_by first.before) HeaderExpected first.expected refl steps.1;
-          fault = comes_fault first.expected first.line kind first.fault;
+          fault = first.fault;
         }
     by (inr last) =
         let steps = clean_steps HeaderExpected last.expected (lines_of bytes) last.expects in
@@ -178,7 +166,7 @@ refused_is_fault bytes number kind (inl first) =
       order = first.order;
       place = first.place;
       expects = steps_lead HeaderExpected first.expected first.before first.clean (expects_steps (said_by first.before) first.expected first.expects);
-      fault = fault_comes first.expected first.line kind first.fault;
+      fault = first.fault;
     }
 refused_is_fault bytes number kind (inr (last, is_kind)) =
     let leads = steps_lead HeaderExpected last.expected (lines_of bytes) last.clean (expects_steps (said_by (lines_of bytes)) last.expected last.expects) in

@@ -1,13 +1,7 @@
 -- Why a text is not an input. The first line that has a fault decides, and in it the first of the
 -- kinds in their order; which fault a line can have follows from what the lines before it said.
-use Rattle.std.specs.Prelude.{◌≡◌, ◌≢◌, ℕ, ◌+◌, ◌<◌, ◌⊎◌, List, [], ◌∷◌, ◌++◌, length, false, All, Option, Some, None}
-use Rattle.affinity_mask.specs.ListText.{IsListText}
-use Rattle.affinity_mask.specs.ListFault.{IsListFault}
-use Rattle.affinity_mask.specs.declared.mask_fault.MaskFault.{MaskFault}
+use Rattle.std.specs.Prelude.{◌≡◌, ◌≢◌, ℕ, ◌+◌, ◌<◌, ◌⊎◌, List, [], ◌∷◌, ◌++◌, length, true, All, Option, Some, None}
 use Rattle.task_set.specs.TaskSet.{SetData}
-use Rattle.task_set.specs.Refusal.{new_task, IsRefusal, IsNewName, IsLeastOutside}
-use Rattle.task_set.specs.declared.event.Event.{Event}
-use Rattle.task_set.specs.declared.event.Event.TheVariants.{Affinity}
 use Rattle.task_set.specs.declared.fault.TaskFault.{TaskFault}
 use Rattle.task_set.specs.declared.fault.TaskFault.TheVariants as task
 use Rattle.trace_reader.specs.declared.posted.Posted.{Posted}
@@ -15,69 +9,26 @@ use Rattle.text_fields.specs.declared.kind.LineKind.{LineKind}
 use Rattle.text_fields.specs.declared.kind.LineKind.TheVariants as line_kind
 use Rattle.trace_reader.specs.declared.fault.InputKind.{InputKind}
 use Rattle.trace_reader.specs.declared.fault.InputKind.TheVariants.{BadByte, LongLine, BadHeader, BadProcessors, BadTask, BadMask, TaskRefused, BadEvent, UnknownTask, ManyEvents, AfterEnd, NoEnd, OutsideAffinity, OutOfMemory}
-use Rattle.text_fields.specs.Lines.{lines_of, fields_of, IsPlain}
-use Rattle.trace_reader.specs.Lines.{is_skipped, said_by, IsClean}
-use Rattle.trace_reader.specs.InputText.{IsHeader, IsProcessorsLine, IsTaskForm, IsEventLine, end_line}
-use Rattle.trace_reader.specs.Progress.{Progress, Expects, HeaderExpected, ProcessorsExpected, Listed, Ended}
-use Rattle.trace_reader.specs.LineForms.{BeginsTask, IsForTask, IsNamedForm, IsEventForm, IsBadMaskForm}
+use Rattle.text_fields.specs.Lines.{lines_of}
+use Rattle.text_fields.specs.LineRule.{IsLineOutcome}
+use Rattle.text_fields.specs.Machine.{Fails}
+use Rattle.trace_reader.specs.Lines.{said_by, IsClean}
+use Rattle.trace_reader.specs.LineOutcome.{IsFieldsOutcome}
+use Rattle.trace_reader.specs.Progress.{Progress, Expects, Ended}
 
--- the event changes a mask, and p is the least number of the new one that is no processor
-abbrev pub HasOutside : SetData → Event → ℕ → Type 0
-HasOutside set (Affinity t mask) p = IsLeastOutside set.processors mask p
-HasOutside set _ p = ⊥
-
--- the list of a task line, or of the new mask of a task, has a fault
-abbrev pub HasBadMask : ℕ → List Posted → List (List ℕ) → MaskFault → Type 0
-HasBadMask version events fields fault =
-    ((name : List ℕ) × (priority : ℕ) × (list : List ℕ) × (events ≡ [])
-    × IsTaskForm fields name priority list × IsListFault list fault)
-    ⊎ IsBadMaskForm version fields fault
+-- the kind of a fault that any line may have
+abbrev pub input_kind : LineKind → InputKind
+input_kind line_kind.BadByte = BadByte
+input_kind line_kind.LongLine = LongLine
+input_kind line_kind.OutOfMemory = OutOfMemory
 
 -- the fault of a line that is clean and not skipped, by what is expected
 abbrev pub IsFieldsFault : Progress → List (List ℕ) → InputKind → Type 0
-IsFieldsFault expected fields BadHeader =
-    (expected ≡ HeaderExpected) × ((version : ℕ) → IsHeader version fields → ⊥)
-IsFieldsFault expected fields BadProcessors =
-    (version : ℕ) × (expected ≡ ProcessorsExpected version)
-    × ((m : ℕ) → IsProcessorsLine m fields → ⊥)
-IsFieldsFault expected fields BadTask =
-    (version : ℕ) × (set : SetData) × (expected ≡ Listed version set []) × BeginsTask fields
-    × ((name list : List ℕ) (priority : ℕ) → IsTaskForm fields name priority list → ⊥)
-IsFieldsFault expected fields (BadMask fault) =
-    (version : ℕ) × (set : SetData) × (events : List Posted)
-    × (expected ≡ Listed version set events) × HasBadMask version events fields fault
-IsFieldsFault expected fields (TaskRefused fault) =
-    (version : ℕ) × (set : SetData) × (name : List ℕ) × (priority : ℕ) × (list : List ℕ) × (mask : ℕ)
-    × (expected ≡ Listed version set []) × IsTaskForm fields name priority list
-    × IsListText list mask × IsRefusal set (new_task name priority mask) fault
-IsFieldsFault expected fields BadEvent =
-    (version : ℕ) × (set : SetData) × (events : List Posted)
-    × (expected ≡ Listed version set events) × (IsForTask events fields → ⊥)
-    × (fields ≢ end_line) × (IsEventForm version set.processors fields → ⊥)
-IsFieldsFault expected fields UnknownTask =
-    (version : ℕ) × (set : SetData) × (events : List Posted) × (name : List ℕ)
-    × (expected ≡ Listed version set events) × IsNamedForm version fields name
-    × IsNewName set name
-IsFieldsFault expected fields ManyEvents =
-    (version : ℕ) × (set : SetData) × (events : List Posted) × (posted : Posted)
-    × (expected ≡ Listed version set events) × IsEventLine version set fields posted
-    × (length events ≡ 20000)
-IsFieldsFault expected fields AfterEnd =
-    (version : ℕ) × (set : SetData) × (events : List Posted)
-    × (expected ≡ Ended version set events)
-IsFieldsFault expected fields (OutsideAffinity p) =
-    (version : ℕ) × (set : SetData) × (events : List Posted) × (posted : Posted)
-    × (expected ≡ Listed version set events) × IsEventLine version set fields posted
-    × (length events < 20000) × HasOutside set posted.event p
-IsFieldsFault expected fields _ = ⊥
+IsFieldsFault expected fields kind = IsFieldsOutcome expected fields (Fails kind)
 
 -- the first fault of a line, by what is expected: a byte that is not plain, too many bytes, or else one of its fields
 abbrev pub IsLineFault : Progress → List ℕ → InputKind → Type 0
-IsLineFault expected line BadByte = All IsPlain line → ⊥
-IsLineFault expected line LongLine = All IsPlain line × (4096 < length line)
-IsLineFault expected line kind =
-    IsClean line × (is_skipped (fields_of line) ≡ false)
-    × IsFieldsFault expected (fields_of line) kind
+IsLineFault expected line kind = IsLineOutcome 4096 true input_kind IsFieldsOutcome expected line (Fails kind)
 
 -- this line of the bytes has a fault, and none before it has one
 pub record IsFirstFault (bytes : List ℕ) (number : ℕ) (kind : InputKind) : Type 0 where
@@ -125,9 +76,3 @@ kind_number OutOfMemory = None
 abbrev pub kind_of_refusal : TaskFault → InputKind
 kind_of_refusal task.OutOfMemory = OutOfMemory
 kind_of_refusal fault = TaskRefused fault
-
--- the kind of a fault that any line may have
-abbrev pub input_kind : LineKind → InputKind
-input_kind line_kind.BadByte = BadByte
-input_kind line_kind.LongLine = LongLine
-input_kind line_kind.OutOfMemory = OutOfMemory

@@ -8,6 +8,7 @@ pub mod InputFault
 pub mod InputText
 pub mod Laws
 pub mod LineForms
+pub mod LineOutcome
 pub mod Lines
 pub mod Progress
 pub mod Reading

@@ -2,10 +2,9 @@
 ghost use Rattle.std.specs.Prelude.{◌≡◌, ◌≢◌, ℕ, ◌≤◌, ◌↔◌, ◌⊎◌, IsTrue, [], length, IfOk, IfErr, OnOk, MatchOption, MatchBool, MatchResult};
 ghost use Rattle.trace_reader.specs.declared.posted.Posted.{Posted};
 ghost use Rattle.trace_reader.specs.InputText.{IsHeader, IsProcessorsLine, end_line};
-ghost use Rattle.trace_reader.specs.InputFault.{IsFieldsFault};
-ghost use Rattle.trace_reader.specs.LineForms.{BeginsTask, IsForTask};
+ghost use Rattle.trace_reader.specs.LineOutcome.{BeginsTask, IsForTask};
 ghost use Rattle.trace_reader.specs.Progress.{HeaderExpected, ProcessorsExpected, Listed};
-ghost use Rattle.trace_reader.specs.Reading.{progress_of, progress_of_lists, Says, SaysTask, IsExpected, IsEndOutcome, IsOutOfMemory};
+ghost use Rattle.trace_reader.specs.Reading.{progress_of, progress_of_lists, IsReadFault, Says, SaysTask, IsExpected, IsEndOutcome, IsOutOfMemory};
 ghost use Rattle.text_fields.specs.Machine.{Leads, Fails};
 ghost use Rattle.text_fields.specs.Fields.{texts};
 
@@ -113,7 +112,7 @@ impl Stage {
     fn after_header(&mut self, fields: &[&[u8]]) -> Result<(), InputKind>
         ensures read { OnOk result (Says HeaderExpected (texts fields.now) (progress_of self.new)) }
         ensures refused { IfErr result (λ kind. IsOutOfMemory kind
-            ⊎ IsFieldsFault HeaderExpected (texts fields.now) kind) }
+            ⊎ IsReadFault HeaderExpected (texts fields.now) kind) }
     {
         match read_version(fields) {
             Some(version) => {
@@ -134,7 +133,7 @@ impl Stage {
         ensures read { OnOk result (Says (ProcessorsExpected version) (texts fields.now)
             (progress_of self.new)) }
         ensures refused { IfErr result (λ kind. IsOutOfMemory kind
-            ⊎ IsFieldsFault (ProcessorsExpected version) (texts fields.now) kind) }
+            ⊎ IsReadFault (ProcessorsExpected version) (texts fields.now) kind) }
     {
         match start(alloc, version, fields) {
             Ok(lists) => {
@@ -153,7 +152,7 @@ impl Lists {
         ensures read { OnOk result (Says (progress_of_lists self.old) (texts fields.now)
             (progress_of_lists self.new)) }
         ensures refused { IfErr result (λ kind. IsOutOfMemory kind
-            ⊎ IsFieldsFault (progress_of_lists self.old) (texts fields.now) kind) }
+            ⊎ IsReadFault (progress_of_lists self.old) (texts fields.now) kind) }
     {
         if self.is_ended {
             Err(InputKind::AfterEnd)
@@ -224,7 +223,7 @@ fn start(alloc: Global, version: u8, fields: &[&[u8]]) -> Result<Lists, InputKin
     ensures read { IfOk result (λ lists. Says (ProcessorsExpected version) (texts fields.now)
         (progress_of_lists lists)) }
     ensures refused { IfErr result (λ kind. IsOutOfMemory kind
-        ⊎ IsFieldsFault (ProcessorsExpected version) (texts fields.now) kind) }
+        ⊎ IsReadFault (ProcessorsExpected version) (texts fields.now) kind) }
 {
     let Some(processors) = read_processors(fields) else {
         return Err(InputKind::BadProcessors);
@@ -263,7 +262,7 @@ fn list_event(
     ensures read { OnOk result (Says (Listed version set.now events.old.items) (texts fields.now)
         (Listed version set.now events.new.items)) }
     ensures refused { IfErr result (λ kind. IsOutOfMemory kind
-        ⊎ IsFieldsFault (Listed version set.now events.old.items) (texts fields.now) kind) }
+        ⊎ IsReadFault (Listed version set.now events.old.items) (texts fields.now) kind) }
 {
     let posted = read_event(version, set, fields)?;
     if events.len() == MAX_EVENTS {
@@ -303,7 +302,7 @@ fn add_task(version: u8, set: &mut TaskSet, fields: &[&[u8]]) -> Result<(), Inpu
     requires { BeginsTask (texts fields.now) }
     ensures read { OnOk result (SaysTask (texts fields.now) set.old set.new) }
     ensures refused { IfErr result (λ kind. IsOutOfMemory kind
-        ⊎ IsFieldsFault (Listed version set.old []) (texts fields.now) kind) }
+        ⊎ IsReadFault (Listed version set.old []) (texts fields.now) kind) }
 {
     let [_word, name, number, list] = fields else {
         return Err(InputKind::BadTask);
