@@ -4,6 +4,17 @@ use Rattle.text_fields.proofs.Decisions.{bytes_decided}
 use Rattle.text_fields.proofs.Words.{are_same, clash, head_same, tail_same}
 use Rattle.text_fields.specs.Form.{Fields, IsExact, AnyField, One, First, When, Begins, Row, NoRow}
 
+-- what says the same as an exact form is exact
+pub exact-same : {T A : Type 0} {Says Other : T → A → Type 0} → ((text : T) (value : A) → Says text value → Other text value)
+    → ((text : T) (value : A) → Other text value → Says text value) → IsExact Says → IsExact Other
+exact-same to from exact = record {
+  once = λ text one other is also. exact.once text one other (from text one is) (from text other also);
+  decided = λ text. elim (exact.decided text) [
+    | inl found ↦ inl (found.0, to text found.0 found.1)
+    | inr none ↦ inr (λ value says. none value (from text value says))
+  ];
+}
+
 pub any_field : IsExact AnyField
 any_field = record { once = λ field one other is also. is ∙ sym also; decided = λ field. inl (field, refl) }
 

@@ -6,26 +6,26 @@ use Rattle.affinity_mask.proofs.ListTexts.{list_text-one_set, list_text-one_faul
 use Rattle.task_set.specs.TaskSet.{SetData, IsTaskSet}
 use Rattle.task_set.specs.Refusal.{IsNameOf, IsLeastOutside, new_task}
 use Rattle.task_set.proofs.Refusals.{CanAdd-IsRefusal, same_refusal}
-use Rattle.task_set.specs.Event.{IsOfVersion}
 use Rattle.task_set.specs.declared.event.Event.{Event}
 use Rattle.task_set.specs.declared.event.Event.TheVariants as event
 use Rattle.text_fields.specs.Number.{IsNumberWithin}
 use Rattle.text_fields.specs.EventText.{IsAboutSet}
-use Rattle.text_fields.specs.Choice.{IsDecided}
-use Rattle.text_fields.specs.Form.{IsExact}
+use Rattle.text_fields.specs.Choice.{IsDecided, IsOnly, IsReading}
+use Rattle.text_fields.specs.Machine.{Leads, Fails}
+use Rattle.text_fields.specs.Form.{Fields, IsExact, AnyField, One, First, Row, NoRow}
 use Rattle.text_fields.proofs.Choices.{only, choice, reading, judging, allowing}
 use Rattle.text_fields.proofs.Decisions.{bytes_decided, number_within_decided}
 use Rattle.text_fields.proofs.Addable.{name_decided, can_add_decided}
 use Rattle.text_fields.proofs.NamedTasks.{same_name, name_not_new}
-use Rattle.text_fields.proofs.Forms.{any_field, exact-one, exact-first, exact-when, exact-row, no_row, begins_decided}
+use Rattle.text_fields.proofs.Forms.{exact-same, any_field, exact-one, exact-first, exact-when, exact-row, no_row, begins_decided}
 use Rattle.trace_reader.specs.declared.posted.Posted.{Posted}
 use Rattle.trace_reader.specs.declared.fault.InputKind.{InputKind}
 use Rattle.trace_reader.specs.InputText.{IsProcessorNumber, IsEventFields, end_line}
-use Rattle.trace_reader.specs.Progress.{Progress, HeaderExpected, ProcessorsExpected, Listed, Ended}
-use Rattle.trace_reader.specs.LineOutcome.{same_number, IsWorded, itself, NamedTask, with_priority, named_task, IsNamedTask, NamedEvent, Arrive, Depart, Tick, Affinity, Offline, Online, NamedLine, named_line, IsNamedEvent, IsNamedLine, IsForTask, HasOutside, LineOutcome, IsWordedOutcome, IsAdded, IsTaskOutcome, IsPlaced, IsKnownTask, IsLookedUp, IsEventOutcome, IsFieldsOutcome}
+use Rattle.trace_reader.specs.Progress.{Progress, HeaderExpected, ProcessorsExpected, Listed, Ended, Expects}
+use Rattle.trace_reader.specs.LineOutcome.{itself, NamedTask, IsNamedTask, NamedEvent, Arrive, Depart, Tick, Affinity, Offline, Online, NamedLine, named_line, IsNamedEvent, IsNamedLine, IsForTask, HasOutside, LineOutcome, IsAdded, IsTaskOutcome, IsPlaced, IsKnownTask, IsLookedUp, IsEventOutcome, IsFieldsOutcome}
+use Rattle.trace_reader.specs.Reading.{IsExpected}
 use Rattle.trace_reader.proofs.AboutSet.{about_decided}
 use Rattle.trace_reader.proofs.Rows.{IsNamed, of_rows}
-use Rattle.trace_reader.proofs.Steps.{IsValidProgress}
 
 -- ---- the fields
 number_within : (least most : ℕ) → IsExact (IsNumberWithin least most)
@@ -45,13 +45,58 @@ processor : (m : ℕ) → IsExact (IsProcessorNumber m)
 processor m = record { once = λ text p q is also. sym is.0.1 ∙ also.0.1; decided = processor_decided m }
 
 -- ---- the lines
-worded : (word : List ℕ) (least most : ℕ) → IsExact (IsWorded word least most)
-worded word least most = exact-row word (exact-one same_number (number_within least most)) no_row
+abbrev same_number : ℕ → ℕ
+same_number n = n
+
+-- a word and a number between two bounds
+worded : (word : List ℕ) (least most : ℕ)
+    → IsExact (λ (fields : Fields) (n : ℕ). (number : List ℕ) × (fields ≡ word ∷ number ∷ []) × IsNumberWithin least most number n)
+worded word least most = exact-same to from (exact-row word (exact-one same_number (number_within least most)) no_row)
+  where
+    IsWorded : Fields → ℕ → Type 0
+    IsWorded = Row word (One same_number (IsNumberWithin least most)) NoRow
+
+    to : (fields : Fields) (n : ℕ) → IsWorded fields n → (number : List ℕ) × (fields ≡ word ∷ number ∷ []) × IsNumberWithin least most number n
+    to fields n (inl (rest, e, (text, k, e', is, made))) = (text, cc, subst (IsNumberWithin least most text) (sym made) is)
+    to fields n (inr (_, none)) = absurd none
+
+    from : (fields : Fields) (n : ℕ) → (number : List ℕ) × (fields ≡ word ∷ number ∷ []) × IsNumberWithin least most number n → IsWorded fields n
+    from fields n (text, e, is) = rw e (inl (text ∷ [], refl, (text, n, refl, is, refl)))
+
+abbrev with_priority : ℕ → List ℕ → ℕ × List ℕ
+with_priority priority list = (priority, list)
+
+abbrev named_task : List ℕ → ℕ × List ℕ → NamedTask
+named_task name rest = record { name = name; priority = rest.0; list = rest.1 }
 
 named_tasks : IsExact IsNamedTask
-named_tasks =
-    exact-row (codes "task") (exact-first named_task any_field
-    (exact-first with_priority (number_within 0 4294967295) (exact-one itself any_field))) no_row
+named_tasks = exact-same to from
+    (exact-row (codes "task") (exact-first named_task any_field
+    (exact-first with_priority (number_within 0 4294967295) (exact-one itself any_field))) no_row)
+  where
+    IsRow : Fields → NamedTask → Type 0
+    IsRow = Row (codes "task") (First named_task AnyField (First with_priority (IsNumberWithin 0 4294967295) (One itself AnyField))) NoRow
+
+    to : (fields : Fields) (task : NamedTask) → IsRow fields task → IsNamedTask fields task
+    to fields task (inl (rest, e, (f, r, name, both, e1, any1, (number, r2, priority, list, e2, is, (g, same, e3, any3, made3), made2), made1))) =
+        rw (made1, made2) (record { number = number; each_field = cc; value = is })
+    to fields task (inr (_, none)) = absurd none
+
+    from : (fields : Fields) (task : NamedTask) → IsNamedTask fields task → IsRow fields task
+    from fields task form = rw form.each_field (inl (
+      _,
+      refl,
+      (
+        _,
+        _,
+        task.name,
+        (task.priority, task.list),
+        refl,
+        refl,
+        (form.number, _, task.priority, task.list, refl, form.value, (_, task.list, refl, refl, refl), refl),
+        refl,
+      ),
+    ))
 
 named_event : (version m : ℕ) → IsExact (IsNamedEvent version m)
 named_event version m =
@@ -67,8 +112,9 @@ named : (version m : ℕ) → IsExact (IsNamedLine version m)
 named version m = exact-first named_line (number_within 0 15) (named_event version m)
 
 -- ---- what they come to
-worded_outcome : (word : List ℕ) (least most : ℕ) (fields : List (List ℕ)) (next : ℕ → Progress) (kind : InputKind)
-    → IsDecided (IsWordedOutcome (IsWorded word least most fields) next kind)
+worded_outcome : (word : List ℕ) (least most : ℕ) (fields : Fields) (next : ℕ → Progress) (kind : InputKind)
+    → IsDecided (IsReading (λ n. (number : List ℕ) × (fields ≡ word ∷ number ∷ []) × IsNumberWithin least most number n)
+    (λ n. IsOnly (Leads (next n))) (IsOnly (Fails kind)))
 worded_outcome word least most fields next kind =
     let form = worded word least most in
     reading (form.decided fields) (form.once fields) (λ n is. only _) (only _)
@@ -164,12 +210,28 @@ for_task_decided [] fields = elim (begins_decided (codes "task") fields) [
 ]
 for_task_decided (first ∷ events) fields = inr (λ task. let e = task.0 in cc)
 
+-- the set that was listed so far is valid
+abbrev IsValidProgress : Progress → Type 0
+IsValidProgress HeaderExpected = Unit {0}
+IsValidProgress (ProcessorsExpected version) = Unit {0}
+IsValidProgress (Listed version set events) = IsTaskSet set
+IsValidProgress (Ended version set events) = IsTaskSet set
+
+expects_valid : (said : List (List (List ℕ))) (expected : Progress) → Expects said expected → IsValidProgress expected
+expects_valid said HeaderExpected expects = tt
+expects_valid said (ProcessorsExpected version) expects = tt
+expects_valid said (Listed version set events) expects = expects.valid
+expects_valid said (Ended version set events) expects = expects.2.valid
+
 -- what a line comes to is decided
-pub fields_decided : (expected : Progress) (fields : List (List ℕ)) → IsValidProgress expected → IsDecided (IsFieldsOutcome expected fields)
-fields_decided HeaderExpected fields valid = worded_outcome (codes "apa") 1 2 fields _ _
-fields_decided (ProcessorsExpected version) fields valid = worded_outcome (codes "processors") 1 64 fields _ _
-fields_decided (Listed version set events) fields valid =
+valid_decided : (expected : Progress) (fields : List (List ℕ)) → IsValidProgress expected → IsDecided (IsFieldsOutcome expected fields)
+valid_decided HeaderExpected fields valid = worded_outcome (codes "apa") 1 2 fields _ _
+valid_decided (ProcessorsExpected version) fields valid = worded_outcome (codes "processors") 1 64 fields _ _
+valid_decided (Listed version set events) fields valid =
     choice (end_decided fields) (λ end. only _)
     (λ not_end. choice (for_task_decided events fields) (λ task. task_outcome version set fields valid)
     (λ other. event_outcome version set events fields valid))
-fields_decided (Ended version set events) fields valid = only _
+valid_decided (Ended version set events) fields valid = only _
+
+pub fields_decided : (expected : Progress) (fields : Fields) → IsExpected expected → IsDecided (IsFieldsOutcome expected fields)
+fields_decided expected fields (said, expects) = valid_decided expected fields (expects_valid said expected expects)

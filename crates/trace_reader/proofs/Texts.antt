@@ -13,22 +13,23 @@ use Rattle.text_fields.proofs.TextLaws as laws
 use Rattle.task_set.specs.TaskSet.{SetData}
 use Rattle.trace_reader.specs.declared.posted.Posted.{Posted}
 use Rattle.trace_reader.specs.declared.fault.InputKind.{InputKind}
-use Rattle.trace_reader.specs.declared.fault.InputKind.TheVariants.{BadByte, LongLine, NoEnd}
+use Rattle.trace_reader.specs.declared.fault.InputKind.TheVariants.{NoEnd}
 use Rattle.trace_reader.specs.Input.{InputData}
 use Rattle.trace_reader.specs.InputText.{IsInputText}
-use Rattle.trace_reader.specs.InputFault.{input_kind, IsLineFault, IsInputRefused}
+use Rattle.trace_reader.specs.InputFault.{input_kind, IsInputRefused}
 use Rattle.trace_reader.specs.Laws.{TextHasOneInput, TextHasOneFault, InputHasNoFault, AcceptedOrRefused}
 use Rattle.text_fields.specs.Lines.{lines_of, fields_of}
 use Rattle.trace_reader.specs.Lines.{is_skipped, said_by, IsClean}
 use Rattle.trace_reader.specs.Progress.{Progress, HeaderExpected, ProcessorsExpected, Listed, Ended}
-use Rattle.trace_reader.specs.Reading.{Says, IsExpected, IsOutcome, IsEndOutcome}
+use Rattle.trace_reader.specs.LineOutcome.{IsFieldsOutcome}
+use Rattle.trace_reader.specs.Reading.{Says, IsExpected, IsEndOutcome}
 use Rattle.trace_reader.proofs.LinesCut.{said_by-kept, said_by-skipped}
 use Rattle.trace_reader.proofs.Machine.{input_machine}
 use Rattle.trace_reader.proofs.Paths.{expects_steps, steps_expect}
 
 -- what a line comes to
 abbrev Comes : Progress → List ℕ → Outcome Progress InputKind → Type 0
-Comes expected line outcome = IsLineOutcome 4096 true input_kind IsOutcome expected line outcome
+Comes expected line outcome = IsLineOutcome 4096 true input_kind IsFieldsOutcome expected line outcome
 
 text_machine : IsMachine HeaderExpected IsExpected Comes IsEndOutcome
 text_machine = lines_machine 4096 true input_kind input_machine

@@ -7,7 +7,6 @@ pub mod Input
 pub mod InputFault
 pub mod InputText
 pub mod Laws
-pub mod LineForms
 pub mod LineOutcome
 pub mod Lines
 pub mod Progress

@@ -16,36 +16,24 @@ use Rattle.text_fields.specs.Form.{Fields, AnyField, One, First, When, Row, NoRo
 use Rattle.trace_reader.specs.declared.posted.Posted.{Posted}
 use Rattle.trace_reader.specs.declared.fault.InputKind.{InputKind}
 use Rattle.trace_reader.specs.declared.fault.InputKind.TheVariants.{BadHeader, BadProcessors, BadTask, BadMask, TaskRefused, BadEvent, UnknownTask, ManyEvents, AfterEnd, OutsideAffinity}
-use Rattle.trace_reader.specs.InputText.{IsProcessorNumber, end_line}
+use Rattle.trace_reader.specs.InputText.{IsHeader, IsProcessorsLine, IsTaskForm, IsProcessorNumber, end_line}
 use Rattle.trace_reader.specs.Progress.{Progress, HeaderExpected, ProcessorsExpected, Listed, Ended}
 
 -- ---- the lines
-abbrev pub same_number : ℕ → ℕ
-same_number n = n
-
--- a word, and a number between two bounds
-abbrev pub IsWorded : List ℕ → ℕ → ℕ → Fields → ℕ → Type 0
-IsWorded word least most = Row word (One same_number (IsNumberWithin least most)) NoRow
-
 abbrev pub itself : List ℕ → List ℕ
 itself field = field
 
+-- a task, whose mask is the text of a list
 pub record NamedTask : Type 0 where
   pub name : List ℕ
   pub priority : ℕ
   pub list : List ℕ
 
-abbrev pub with_priority : ℕ → List ℕ → ℕ × List ℕ
-with_priority priority list = (priority, list)
-
-abbrev pub named_task : List ℕ → ℕ × List ℕ → NamedTask
-named_task name rest = record { name = name; priority = rest.0; list = rest.1 }
-
--- `task`, a name, a priority below 2 to the power of 32, and a list
+-- the line of such a task
 abbrev pub IsNamedTask : Fields → NamedTask → Type 0
-IsNamedTask =
-    Row (codes "task") (First named_task AnyField (First with_priority (IsNumberWithin 0 4294967295) (One itself AnyField))) NoRow
+IsNamedTask fields task = IsTaskForm fields task.name task.priority task.list
 
+-- an event, whose task is a name, and whose mask is the text of a list
 pub data NamedEvent : Type 0 where
   Arrive : List ℕ → NamedEvent
   Depart : List ℕ → NamedEvent
@@ -92,10 +80,6 @@ HasOutside set _ p = ⊥
 abbrev pub LineOutcome : Type 0
 LineOutcome = Outcome Progress InputKind
 
--- a word and a number lead on, or have this fault
-abbrev pub IsWordedOutcome : (ℕ → Type 0) → (ℕ → Progress) → InputKind → LineOutcome → Type 0
-IsWordedOutcome Is next kind = IsReading Is (λ n. IsOnly (Leads (next n))) (IsOnly (Fails kind))
-
 -- the task can be added, or the task set refuses it
 abbrev pub IsAdded : ℕ → SetData → NamedTask → ℕ → LineOutcome → Type 0
 IsAdded version set task mask =
@@ -103,12 +87,14 @@ IsAdded version set task mask =
     IsAllowing (CanAdd set next) (IsRefusal set next) (IsOnly (Leads (Listed version (with_task set next) [])))
     (λ fault. IsOnly (Fails (TaskRefused fault)))
 
--- the line of a task: its list is a mask, or has a fault
+-- the list of a task is a mask, or has a fault
+abbrev pub IsMaskOutcome : ℕ → SetData → NamedTask → LineOutcome → Type 0
+IsMaskOutcome version set task =
+    IsJudging (IsListText task.list) (IsListFault task.list) (IsAdded version set task) (λ fault. IsOnly (Fails (BadMask fault)))
+
+-- the line of a task
 abbrev pub IsTaskOutcome : ℕ → SetData → Fields → LineOutcome → Type 0
-IsTaskOutcome version set fields =
-    IsReading (IsNamedTask fields)
-    (λ task. IsJudging (IsListText task.list) (IsListFault task.list) (IsAdded version set task) (λ fault. IsOnly (Fails (BadMask fault))))
-    (IsOnly (Fails BadTask))
+IsTaskOutcome version set fields = IsReading (IsNamedTask fields) (IsMaskOutcome version set) (IsOnly (Fails BadTask))
 
 -- there is room for the event, and its mask is of the processors
 abbrev pub IsPlaced : ℕ → SetData → List Posted → ℕ → Event → LineOutcome → Type 0
@@ -143,10 +129,11 @@ IsEventOutcome version set events fields =
 -- what the fields of a line come to, by what is expected
 abbrev pub IsFieldsOutcome : Progress → Fields → LineOutcome → Type 0
 IsFieldsOutcome HeaderExpected fields =
-    IsWordedOutcome (IsWorded (codes "apa") 1 2 fields) ProcessorsExpected BadHeader
+    IsReading (λ version. IsHeader version fields) (λ version. IsOnly (Leads (ProcessorsExpected version)))
+    (IsOnly (Fails BadHeader))
 IsFieldsOutcome (ProcessorsExpected version) fields =
-    IsWordedOutcome (IsWorded (codes "processors") 1 64 fields)
-    (λ m. Listed version (record { processors = m; tasks = [] }) []) BadProcessors
+    IsReading (λ m. IsProcessorsLine m fields)
+    (λ m. IsOnly (Leads (Listed version (record { processors = m; tasks = [] }) []))) (IsOnly (Fails BadProcessors))
 IsFieldsOutcome (Listed version set events) fields =
     IsChoice (fields ≡ end_line) (IsOnly (Leads (Ended version set events)))
     (IsChoice (IsForTask events fields) (IsTaskOutcome version set fields) (IsEventOutcome version set events fields))

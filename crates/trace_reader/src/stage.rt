@@ -1,10 +1,10 @@
 //! What was read so far, and what is expected.
-ghost use Rattle.std.specs.Prelude.{◌≡◌, ◌≢◌, ℕ, ◌≤◌, ◌↔◌, ◌⊎◌, IsTrue, [], length, IfOk, IfErr, OnOk, MatchOption, MatchBool, MatchResult};
+ghost use Rattle.std.specs.Prelude.{◌≡◌, ℕ, ◌≤◌, ◌↔◌, IsTrue, [], length, IfOk, IfErr, OnOk, MatchOption, MatchBool, MatchResult};
 ghost use Rattle.trace_reader.specs.declared.posted.Posted.{Posted};
 ghost use Rattle.trace_reader.specs.InputText.{IsHeader, IsProcessorsLine, end_line};
-ghost use Rattle.trace_reader.specs.LineOutcome.{BeginsTask, IsForTask};
+ghost use Rattle.trace_reader.specs.LineOutcome.{BeginsTask, IsForTask, IsTaskOutcome, IsEventOutcome, IsFieldsOutcome};
 ghost use Rattle.trace_reader.specs.Progress.{HeaderExpected, ProcessorsExpected, Listed};
-ghost use Rattle.trace_reader.specs.Reading.{progress_of, progress_of_lists, IsReadFault, Says, SaysTask, IsExpected, IsEndOutcome, IsOutOfMemory};
+ghost use Rattle.trace_reader.specs.Reading.{progress_of, progress_of_lists, Says, IsExpected, IsEndOutcome, IsFaultOf};
 ghost use Rattle.text_fields.specs.Machine.{Leads, Fails};
 ghost use Rattle.text_fields.specs.Fields.{texts};
 
@@ -44,7 +44,8 @@ impl LineMachine for Stage {
     ghost use Rattle.std.specs.Prelude.{true};
     ghost use Rattle.trace_reader.specs.InputFault.{input_kind};
     ghost use Rattle.trace_reader.specs.Progress.{Progress as Expected, HeaderExpected};
-    ghost use Rattle.trace_reader.specs.Reading.{progress_of, IsExpected, IsOutcome, IsEndOutcome};
+    ghost use Rattle.trace_reader.specs.LineOutcome.{IsFieldsOutcome};
+    ghost use Rattle.trace_reader.specs.Reading.{progress_of, IsExpected, IsEndOutcome};
 
     type Value = Input;
 
@@ -66,7 +67,7 @@ impl LineMachine for Stage {
 
     ghost IsValid = { IsExpected };
 
-    ghost Says = { IsOutcome };
+    ghost Says = { IsFieldsOutcome };
 
     ghost Ends = { IsEndOutcome };
 
@@ -111,8 +112,7 @@ impl Stage {
     /// Goes on by the header.
     fn after_header(&mut self, fields: &[&[u8]]) -> Result<(), InputKind>
         ensures read { OnOk result (Says HeaderExpected (texts fields.now) (progress_of self.new)) }
-        ensures refused { IfErr result (λ kind. IsOutOfMemory kind
-            ⊎ IsReadFault HeaderExpected (texts fields.now) kind) }
+        ensures refused { IfErr result (IsFaultOf (IsFieldsOutcome HeaderExpected (texts fields.now))) }
     {
         match read_version(fields) {
             Some(version) => {
@@ -132,8 +132,7 @@ impl Stage {
     ) -> Result<(), InputKind>
         ensures read { OnOk result (Says (ProcessorsExpected version) (texts fields.now)
             (progress_of self.new)) }
-        ensures refused { IfErr result (λ kind. IsOutOfMemory kind
-            ⊎ IsReadFault (ProcessorsExpected version) (texts fields.now) kind) }
+        ensures refused { IfErr result (IsFaultOf (IsFieldsOutcome (ProcessorsExpected version) (texts fields.now))) }
     {
         match start(alloc, version, fields) {
             Ok(lists) => {
@@ -151,8 +150,7 @@ impl Lists {
         requires { IsExpected (progress_of_lists self.old) }
         ensures read { OnOk result (Says (progress_of_lists self.old) (texts fields.now)
             (progress_of_lists self.new)) }
-        ensures refused { IfErr result (λ kind. IsOutOfMemory kind
-            ⊎ IsReadFault (progress_of_lists self.old) (texts fields.now) kind) }
+        ensures refused { IfErr result (IsFaultOf (IsFieldsOutcome (progress_of_lists self.old) (texts fields.now))) }
     {
         if self.is_ended {
             Err(InputKind::AfterEnd)
@@ -222,8 +220,7 @@ fn read_processors(fields: &[&[u8]]) -> Option<u8>
 fn start(alloc: Global, version: u8, fields: &[&[u8]]) -> Result<Lists, InputKind>
     ensures read { IfOk result (λ lists. Says (ProcessorsExpected version) (texts fields.now)
         (progress_of_lists lists)) }
-    ensures refused { IfErr result (λ kind. IsOutOfMemory kind
-        ⊎ IsReadFault (ProcessorsExpected version) (texts fields.now) kind) }
+    ensures refused { IfErr result (IsFaultOf (IsFieldsOutcome (ProcessorsExpected version) (texts fields.now))) }
 {
     let Some(processors) = read_processors(fields) else {
         return Err(InputKind::BadProcessors);
@@ -256,13 +253,10 @@ fn list_event(
     events: &mut Vec<Posted>,
     fields: &[&[u8]],
 ) -> Result<(), InputKind>
-    requires task { IsForTask events.old.items (texts fields.now) → ⊥ }
-    requires end { texts fields.now ≢ end_line }
-    requires few { length events.old.items ≤ 20000 }
-    ensures read { OnOk result (Says (Listed version set.now events.old.items) (texts fields.now)
-        (Listed version set.now events.new.items)) }
-    ensures refused { IfErr result (λ kind. IsOutOfMemory kind
-        ⊎ IsReadFault (Listed version set.now events.old.items) (texts fields.now) kind) }
+    requires { length events.old.items ≤ 20000 }
+    ensures read { OnOk result (IsEventOutcome version set.now events.old.items (texts fields.now)
+        (Leads (Listed version set.now events.new.items))) }
+    ensures refused { IfErr result (IsFaultOf (IsEventOutcome version set.now events.old.items (texts fields.now))) }
 {
     let posted = read_event(version, set, fields)?;
     if events.len() == MAX_EVENTS {
@@ -279,7 +273,7 @@ fn list_event(
 
 /// Whether the line is `end` alone.
 fn is_end(fields: &[&[u8]]) -> bool
-    ensures { IsTrue result ↔ (texts fields.now ≡ end_line) }
+    ensures { MatchBool result (texts fields.now ≡ end_line) (texts fields.now ≡ end_line → ⊥) }
 {
     match fields {
         [word] => is_word(word, "end"),
@@ -300,9 +294,8 @@ fn begins_task(fields: &[&[u8]]) -> bool
 /// Adds the task of a line that begins with `task`.
 fn add_task(version: u8, set: &mut TaskSet, fields: &[&[u8]]) -> Result<(), InputKind>
     requires { BeginsTask (texts fields.now) }
-    ensures read { OnOk result (SaysTask (texts fields.now) set.old set.new) }
-    ensures refused { IfErr result (λ kind. IsOutOfMemory kind
-        ⊎ IsReadFault (Listed version set.old []) (texts fields.now) kind) }
+    ensures read { OnOk result (IsTaskOutcome version set.old (texts fields.now) (Leads (Listed version set.new []))) }
+    ensures refused { IfErr result (IsFaultOf (IsTaskOutcome version set.old (texts fields.now))) }
 {
     let [_word, name, number, list] = fields else {
         return Err(InputKind::BadTask);
