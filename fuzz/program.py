@@ -25,7 +25,7 @@ STATUS_LINES = {
 
 INPUT_KINDS = range(1, 14)
 SCHEDULE_KINDS = range(21, 26)
-TRACE_KINDS = (*range(1, 9), 10, 12, *range(16, 22))
+TRACE_KINDS = (*range(1, 9), 10, 12, *range(16, 24))
 JOB_KINDS = (*range(1, 10), 11, 12, 14, 15, 19)
 KINDS = {
     'run': INPUT_KINDS, 'watch': INPUT_KINDS, 'weak': INPUT_KINDS, 'nested': INPUT_KINDS,
