@@ -45,9 +45,11 @@ FNR == NR {
     }
 }
 END {
+    # Where no line names any of them, the trace is refused.
+    for (at = 1; at <= count; at++) if (order[at] in named) is_theirs = 1
     for (at = 1; at <= count; at++) {
         id = order[at]
-        if (!(id in named) && FNR < 200000) printf "apa: %s (%s) is named by no line of the trace\n", name[id], id
+        if (is_theirs && !(id in named) && FNR < 200000) printf "apa: %s (%s) is named by no line of the trace\n", name[id], id
         if (id in others) printf "apa: %s (%s) has the priority %d in the trace, %d times, and %d in its line\n", name[id], id, other[id], others[id], line_priority[id]
         if (id in outside) printf "apa: %s (%s) is on processor %d in the trace, which is not in its list %s, %d times\n", name[id], id, place[id], list[id], outside[id]
     }
