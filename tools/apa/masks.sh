@@ -22,7 +22,7 @@ masks_of_jobs() {
         fi
         return
     fi
-    echo 'late: jobs of all tasks that are not done by their deadline'
+    echo 'late: jobs of all tasks that are due by the horizon and not done then'
 }
 
 # masks_of_trace TASKS TRACE: of each task that was lost, and its worst response.
