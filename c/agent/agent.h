@@ -16,7 +16,7 @@ struct options {
     const char *log;         /* schedule texts go into log.0, log.1 .. */
     const char *state;       /* the masks of the user, for whoever has to put them back */
     const char *lock;        /* one agent a machine */
-    int processor, priority; /* processor: -1 where the agent floats */
+    int processor, priority; /* processor: -1 where the agent may choose */
     unsigned seconds;        /* 0: until it is told to end */
     unsigned ring;           /* bytes of the ring of events, or of each processor's by perf */
     bool watch, restore, perf;
@@ -83,6 +83,7 @@ int set_mask(pid_t thread, uint64_t mask); /* 0 or an errno */
 bool move_to(int t, uint32_t processor);
 void widen(bool all);       /* those that were moved a while ago, or have blocked, or all */
 bool adopt_mask(int t);     /* somebody else set its mask: it is the user's now. True where that was so */
+void keep_off_pinned(void); /* the agent's own mask */
 void mend_child(int t, pid_t child);
 
 /* ---- decisions.c: what the apa is told, and what it answers */

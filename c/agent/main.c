@@ -73,6 +73,7 @@ static void look_around(uint64_t at) {
         to_read = 0;
         read_list();
     }
+    keep_off_pinned();
     settle();
 }
 
@@ -180,6 +181,7 @@ int main(int count, char **words) {
     }
     uint64_t begun = now();
     look_at_threads();
+    keep_off_pinned();
     settle();
     printf("apa-agent %d: %d tasks, %u processors, events by %s%s\n", getpid(), agent.tasks, agent.processors, source->name,
            agent.options.watch ? ", it only watches" : "");

@@ -95,6 +95,21 @@ void widen(bool all) {
     }
 }
 
+/* A pinned thread cannot move aside for the agent, which is more urgent than all: the agent runs where no listed thread is pinned,
+ * if one of the processors that it was given is such a one. */
+void keep_off_pinned(void) {
+    static uint64_t given, own;
+    if (agent.options.processor >= 0 || agent.options.watch) return;
+    if (given == 0) given = own = mask_of(0);
+    uint64_t free = given & agent.on_line;
+    for (int t = 0; t < agent.tasks; t++) {
+        uint64_t user = agent.task[t].user;
+        if (agent.task[t].in_use && !(user & (user - 1))) free &= ~user;
+    }
+    if (free == 0) free = given;
+    if (free != own && set_mask(0, free) == 0) own = free;
+}
+
 /* A child that its parent made while its mask was narrow has that mask: it gets the user's. */
 void mend_child(int t, pid_t child) {
     const struct task *of = &agent.task[t];

@@ -8,7 +8,7 @@
 static const char usage[] =
     "apa-agent [OPTIONS] TASKS      strong APA scheduling for the SCHED_FIFO threads that TASKS lists, as `apa tasks` writes them\n"
     "  --watch          moves nothing, and counts what it would move\n"
-    "  --cpu N          the agent stays on processor N; else it floats\n"
+    "  --cpu N          the agent stays on processor N; else it keeps off those to which a listed thread is pinned, if it can\n"
     "  --priority N     its priority of SCHED_FIFO, 98; each thread of TASKS has a lower one\n"
     "  --log FILE       what it decides, as schedule texts FILE.0, FILE.1 .. for `apa check`\n"
     "  --seconds S      ends after so long; else at SIGTERM or ^C\n"
