@@ -5,6 +5,22 @@
 #include <inttypes.h>
 #include <string.h>
 
+/* The moves of an earlier event stay in the apa where an event changes nothing. */
+static bool changes_nothing(uint32_t answer) {
+    return answer == APA_WAS_READY || answer == APA_WAS_ABSENT || answer == APA_MASKED || answer == APA_LEFT ||
+           answer == APA_WAS_OFF || answer == APA_WAS_ON;
+}
+
+struct noted note_of(apa *a, uint32_t kind, uint32_t number, uint64_t mask, uint32_t answer) {
+    struct noted e = {.kind = kind, .number = number, .answer = answer, .mask = mask};
+    if (changes_nothing(answer)) return e;
+    e.moves = apa_moves(a);
+    e.reached = apa_reached(a);
+    e.back = apa_back(a);
+    for (uint32_t i = 0; i < e.moves; i++) e.move[i] = apa_get_move(a, i);
+    return e;
+}
+
 void mirror_begin(struct mirror *m, uint32_t processors) {
     memset(m, 0, sizeof *m);
     m->processors = processors;
@@ -58,9 +74,12 @@ static void write_beginning(const struct mirror *m, FILE *out) {
 }
 
 void mirror_begin_text(struct mirror *m) {
+    uint64_t number = 0;
     for (uint32_t t = 0; t < m->tasks; t++) {
-        m->task[t].stints = m->task[t].moves = 0;
-        m->task[t].last = APA_NONE;
+        struct mirrored *of = &m->task[t];
+        of->units = of->stints = of->moves = 0;
+        of->last = APA_NONE;
+        if (of->in_use) of->trail = number++; /* each trail begins with the number of its task in this text */
     }
     for (uint32_t p = 0; p < m->processors; p++)
         if (m->on[p] != APA_NONE) take(m, p, m->on[p]);
@@ -103,17 +122,27 @@ void mirror_write_entry(struct mirror *m, FILE *out, const struct noted *e) {
     follow(m, e);
 }
 
+void mirror_write_tick(struct mirror *m, FILE *out, uint64_t units) {
+    fprintf(out, "0 tick %" PRIu64 " ticked\n", units);
+    for (uint32_t p = 0; p < m->processors; p++) {
+        if (m->on[p] == APA_NONE) continue;
+        struct mirrored *of = &m->task[m->on[p]];
+        of->units += units;
+        of->trail = of->trail * 6364136223846793005ull + 64 * units + p;
+    }
+}
+
 void mirror_write_contexts(const struct mirror *m, FILE *out) {
-    unsigned long count = 0, number = 0;
+    unsigned long count = 0;
     for (uint32_t t = 0; t < m->tasks; t++) count += m->task[t].in_use;
     fprintf(out, "contexts %lu\n", count);
     for (uint32_t t = 0; t < m->tasks; t++) {
         const struct mirrored *of = &m->task[t];
         if (!of->in_use) continue;
-        fprintf(out, "%s units 0 stints %" PRIu64 " moves %" PRIu64 " last ", of->name, of->stints, of->moves);
+        fprintf(out, "%s units %" PRIu64 " stints %" PRIu64 " moves %" PRIu64 " last ", of->name, of->units, of->stints, of->moves);
         if (of->last == APA_NONE) fputc('-', out);
         else fprintf(out, "%" PRIu32, of->last);
-        fprintf(out, " trail %lu\n", number++);
+        fprintf(out, " trail %" PRIu64 "\n", of->trail);
     }
     fputs("end\n", out);
 }

@@ -68,24 +68,11 @@ void schedule_log_retire(struct schedule_log *log, uint32_t number) {
     atomic_fetch_add(&log->put, 1);
 }
 
-/* The moves of an earlier event stay in the apa where an event changes nothing. */
-static bool changes_nothing(uint32_t answer) {
-    return answer == APA_WAS_READY || answer == APA_WAS_ABSENT || answer == APA_MASKED || answer == APA_LEFT ||
-           answer == APA_WAS_OFF || answer == APA_WAS_ON;
-}
-
 void schedule_log_note(struct schedule_log *log, apa *a, uint32_t kind, uint32_t number, uint64_t mask, uint32_t answer) {
     struct record *r = log ? next_record(log) : NULL;
     if (!r) return;
-    struct noted *e = &r->noted;
     r->what = NOTED;
-    *e = (struct noted){.kind = kind, .number = number, .answer = answer, .mask = mask};
-    if (!changes_nothing(answer)) {
-        e->moves = apa_moves(a);
-        e->reached = apa_reached(a);
-        e->back = apa_back(a);
-        for (uint32_t i = 0; i < e->moves; i++) e->move[i] = apa_get_move(a, i);
-    }
+    r->noted = note_of(a, kind, number, mask, answer);
     atomic_fetch_add(&log->put, 1);
 }
 
