@@ -21,7 +21,7 @@ help_words() {
 
 print_help_on() {
     text=$(help_text "$1" | grep '') || return
-    printf '%s\n' "$text"
+    say "$text"
 }
 
 # The screen, or the text on one word.
@@ -29,7 +29,7 @@ print_help() {
     case $1 in
     '' | help)
         text=$(help_text help)
-        printf '%s\n' "$text"
+        say "$text"
         ;;
     *)
         print_help_on "$1" && return

@@ -14,15 +14,13 @@ masks_of_jobs() {
     what=late
     which=''
     try_masks
-    if [ ! -s "$folder/asked" ]; then
-        if awk '$1 == "task" && $8 + $12 { late = 1 } END { exit !late }' "$folder/finishes"; then
-            echo 'each task that is late may run on all processors already'
-        else
-            echo 'no job is late'
-        fi
-        return
+    if [ -s "$folder/asked" ]; then
+        print_table 'late: jobs of all tasks that are due by the horizon and not done then'
+    elif awk '$1 == "task" && $8 + $12 { late = 1 } END { exit !late }' "$folder/finishes"; then
+        print_table 'each task that is late may run on all processors already'
+    else
+        print_table 'no job is late'
     fi
-    echo 'late: jobs of all tasks that are due by the horizon and not done then'
 }
 
 # masks_of_trace TASKS TRACE: of each task that was lost, and its worst response.
@@ -35,19 +33,30 @@ masks_of_trace() {
     which=$(LC_ALL=C awk '$2 == "ready" { for (i = 2; i < NF; i += 2) if ($i == "lost" && $(i + 1) > 0) print $1 }' "$folder/lost")
     what=worst
     try_masks
-    if [ ! -s "$folder/asked" ]; then
-        if [ -z "$which" ]; then echo 'no task was lost'; else echo 'each task that was lost may run on all processors already'; fi
-        return
+    if [ -s "$folder/asked" ]; then
+        print_table 'worst: the worst response of the task, with the jobs of the trace'
+    elif [ -z "$which" ]; then
+        print_table 'no task was lost'
+    else
+        print_table 'each task that was lost may run on all processors already'
     fi
-    echo 'worst: the worst response of the task, with the jobs of the trace'
 }
 
-# Tries each mask, and prints the table. Sets nothing.
+# print_table LINE: what came of the masks, and this line below it.
+print_table() {
+    printf '%s\n' "$1" >>"$folder/table" || fail "cannot write to $folder"
+    cat -- "$folder/table" 2>/dev/null || {
+        tell 'write fault'
+        exit 5
+    }
+}
+
+# Tries each mask, and makes the table of what came of them.
 try_masks() {
     LC_ALL=C awk -v mode=ask -v what="$what" -v which="$which" -f "$parts/masks.awk" "$folder/jobs" "$folder/finishes" >"$folder/asked"
     while read -r task mask; do
         echo "tried $task $mask"
         LC_ALL=C awk -v mode=set -v task="$task" -v mask="$mask" -f "$parts/masks.awk" "$folder/jobs" | "$program" weakjobs || exit
     done <"$folder/asked" >"$folder/tried"
-    LC_ALL=C awk -v mode=table -v what="$what" -f "$parts/masks.awk" "$folder/jobs" "$folder/finishes" "$folder/tried"
+    LC_ALL=C awk -v mode=table -v what="$what" -f "$parts/masks.awk" "$folder/jobs" "$folder/finishes" "$folder/tried" >"$folder/table" || fail "cannot write to $folder"
 }

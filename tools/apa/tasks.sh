@@ -95,5 +95,7 @@ print_tasks() {
         ids=$(processes "$@") || exit
         set -- $ids
     fi
-    threads "$@" | LC_ALL=C sort -n -k 4 | name_tasks | grep . || fail "there is no thread of SCHED_FIFO, SCHED_RR or SCHED_EXT$among"
+    lines=$(threads "$@" | LC_ALL=C sort -n -k 4 | name_tasks)
+    [ -n "$lines" ] || fail "there is no thread of SCHED_FIFO, SCHED_RR or SCHED_EXT$among"
+    say "$lines"
 }

@@ -3,9 +3,7 @@
 
 # Reads a trace, and writes a table of the responses of its jobs: those of the trace, and those under weak and strong scheduling.
 what_if() {
-    folder=$(mktemp -d) || fail 'cannot make a folder for a while'
-    trap 'rm -rf -- "$folder"' EXIT
-    trap 'exit 130' HUP INT TERM
+    [ -n "${folder-}" ] || make_folder
     cat >"$folder/trace" || fail "cannot write to $folder"
     run_program importjobs <"$folder/trace" >"$folder/jobs" || exit
     run_program import <"$folder/trace" >"$folder/events" || exit
