@@ -48,7 +48,7 @@ function text_of(first) {
     if (first ~ /^schedule[ \t]/) return "a schedule, which `apa check` and `apa draw` read"
     if (first ~ /^jobs[ \t]/) return "a text of jobs, which `apa jobs` and `apa weakjobs` read"
     if (first ~ /^trace[ \t]/) return "the head of a trace, which `apa lost TASKS TRACE` reads"
-    if (first ~ /sched_(switch|wakeup)/ || first ~ /^# *tracer:/) return "a trace: TASKS is the first file, and TRACE the second one"
+    if (first ~ /sched_(switch|wakeup)/ || first ~ /^# *tracer:/) return "a trace" (is_trace ? ": TASKS is the first file, and TRACE the second one" : ", which `apa lost TASKS TRACE` reads")
     if (first ~ /^(weak|nested|lost|weakjobs|responses|large)[ \t]/) return "what `apa " substr(first, 1, index(first " ", " ") - 1) "` writes"
     return ""
 }
@@ -199,6 +199,14 @@ function bad_schedule_line(    is) {
     else show($0, 0, 0)
 }
 
+function bad_window(    n) {
+    for (n = 2; n <= 3 && $n ~ /^[0-9]+\.[0-9]+$/ && length($n) - index($n, ".") <= 9; n++) ;
+    show_field(NF == 3 && n <= 3 ? n : 0)
+    if (window) item("line " window " is a window already")
+    else if (NF == 3 && n <= 3) item("`" $n "` is no stamp: digits, a point, and 1 to 9 digits")
+    else if (NF == 3) item("it ends before it begins")
+}
+
 function bad_form() {
     if ($0 ~ /\r$/) {
         show($0, length($0), 1)
@@ -245,7 +253,8 @@ function explain() {
     else if (fault == "kind 9") unknown_task(word ~ /jobs/ ? 2 : 3)
     else if (fault == "kind 11") bad_end()
     else if (fault == "kind 13") absent_processor(4)
-    else if (fault == "kind 16") show_field(5)
+    else if (fault == "kind 16") { show_field(5); item("line " of_id[$5 + 0] " has the id " $5 + 0 " already") }
+    else if (fault == "kind 17") bad_window()
     else if (fault == "kind 18") bad_form()
     else if (fault == "kind 21" && !is_trace) bad_schedule_line()
     else if (fault == "kind 23" && !is_trace) unknown_task(3)
@@ -267,6 +276,7 @@ NR == 1 {
 }
 NR == line { explain(); exit }
 $1 == "processors" { processors = $2 + 0 }
-$1 == "task" { named[$2] = NR; ranked[$3 + 0] = NR; list[$2] = $4; names = names " " $2; tasks++ }
+$1 == "window" { window = NR }
+$1 == "task" { of_id[$5 + 0] = NR; named[$2] = NR; ranked[$3 + 0] = NR; list[$2] = $4; names = names " " $2; tasks++ }
 $1 ~ /^[0-9]+$/ && !first_event { first_event = NR }
 $1 == "end" && !end_line { end_line = NR }

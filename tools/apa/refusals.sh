@@ -21,7 +21,7 @@ find_place() {
     else
         file=$input number=$(($1 - head_lines)) text=$input
     fi
-    [ "$text" != '<stdin>' ] || text=/dev/stdin
+    [ "$text" != '<stdin>' ] || text=/proc/self/fd/0
     [ -f "$text" ] || text=''
 }
 
@@ -44,12 +44,57 @@ explain_fault() {
     place=${said#*line }
     find_place "${place%%,*}"
     tell "$file:$number: $fault: $words"
+    if is_empty; then
+        tell "    = it is empty: see what the command said that was to write it"
+        return
+    fi
     [ -z "$text" ] || LC_ALL=C awk -v line="$number" -v fault="$fault" -v word="$1" -f "$parts/near.awk" -f "$parts/causes.awk" "$text" >&2
+    case $1:$fault in
+    'import:kind 23' | 'lost:kind 23' | 'importjobs:kind 23') ! tell_nobody || return 0 ;;
+    esac
     advice=$(in_words "$1" "$fault" 3)
     [ -z "$advice" ] || tell "    = $advice"
     [ -z "$text" ] || case $1:$fault in
-    'import:kind 22' | 'lost:kind 22' | 'importjobs:kind 22' | 'whatif:kind 22') tell_window ;;
+    'import:kind 22' | 'lost:kind 22' | 'importjobs:kind 22') tell_window ;;
+    'import:kind 2'[01] | 'lost:kind 2'[01] | 'importjobs:kind 2'[01]) tell_whole_part ;;
     esac
+}
+
+# The text that is refused has not a byte: its end is missed in the first line, or its file has no length.
+is_empty() {
+    case $number:$fault in
+    '1:kind 12') [ "$file" != "$head" ] ;;
+    '1:kind 24' | '1:kind 3')
+        read=$text
+        [ "$file" != "$head" ] || read=$head
+        [ -f "$read" ] && [ ! -s "$read" ]
+        ;;
+    *) false ;;
+    esac
+}
+
+# as_head_and_trace AWK..: awk over the head and the trace, which are two files, or one text.
+as_head_and_trace() {
+    if [ "$head_lines" -gt 0 ]; then
+        LC_ALL=C awk "$@" "$folder/head" "$input"
+    elif [ -n "$text" ]; then
+        LC_ALL=C awk "$@" "$text"
+    fi
+}
+
+# Of a trace that names nobody: why. It fails where nothing is to be said.
+tell_nobody() {
+    [ "$head_lines" -eq 0 ] || [ -f "$input" ] || return
+    why=$(as_head_and_trace -f "$parts/nobody.awk")
+    [ -n "$why" ] && tell "$why"
+}
+
+# Of a trace in which events are missing: the window of the longest part in which that is not seen.
+tell_whole_part() {
+    waking=0
+    grep -q 'sched_wakeup:' -- "$text" || waking=1
+    part=$(as_head_and_trace -v waking="$waking" -f "$parts/whole.awk")
+    [ -z "$part" ] || tell "    = the line \`window $part\` in TASKS takes the longest part in which this is not seen"
 }
 
 # Of a trace whose oldest lines were overwritten: the window in which the lines of all processors are there.

@@ -3,13 +3,24 @@
 
 # Why this is not a file that can be read.
 cannot_read() {
-    if [ -d "$1" ]; then
+    if [ -z "$1" ]; then
+        echo 'the name of the file is empty'
+    elif [ -d "$1" ]; then
         echo "$1 is a folder, and not a file that can be read"
     elif [ -e "$1" ]; then
         echo "$1 is not a file that can be read"
     else
         echo "$1 is not a file that can be read: there is none of this name"
     fi
+}
+
+# tell_outside WORD FILE FROM: whether a picture is empty, since its window begins after the end of the schedule.
+tell_outside() {
+    [ -f "$2" ] || return 0
+    LC_ALL=C awk -v word="$1" -v from="$3" '
+        $1 == "history" { is_there = 1; end = word == "steps" ? $2 : 0; next }
+        word == "draw" && $2 == "tick" { end += $3 }
+        END { if (is_there && from + 0 > end + 0) printf "apa: the schedule ends at %.0f, before this window, so the picture is empty\n", end }' "$2" >&2
 }
 
 # refuse FILE WHY: of a trace that is none, before any answer. The status is that of a text that is refused.
