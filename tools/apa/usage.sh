@@ -19,7 +19,7 @@ explain_usage() {
     fi
     shift
     explain_words "$@"
-    printf '%s\n' "$lines" | sed 's/^/    = /' >&2
+    [ "$word" = help ] || printf '%s\n' "$lines" | sed 's/^/    = /' >&2
 }
 
 # What is wrong with the words that follow a known one.
@@ -27,7 +27,7 @@ explain_words() {
     case $word:$# in
     import:* | lost:* | importjobs:* | whatif:* | masks:* | tasks:* | help:* | version:* | prove:* | install:* | test:* | record:*) wrong_count "$@" ;;
     draw:2 | steps:2) wrong_window "$1" "$2" ;;
-    draw:3 | steps:3) wrong_window "$2" "$3" ;;
+    draw:3 | steps:3) wrong_picture "$@" ;;
     draw:* | steps:*) wrong_draw "$@" ;;
     watch:*) wrong_watch "$@" ;;
     make:4 | large:4) wrong_numbers "$@" ;;
@@ -36,17 +36,42 @@ explain_words() {
     esac
 }
 
-# A file that cannot be read, or too many words.
+# What may follow a word.
+takes() {
+    case $word in
+    import | lost | importjobs | whatif) echo 'TASKS and TRACE, or one FILE' ;;
+    masks) echo 'TASKS and TRACE, or one FILE of jobs' ;;
+    help) echo 'one word at most' ;;
+    version) echo 'no word after it' ;;
+    release) echo 'a version and a folder at most' ;;
+    prove) echo '`program` or `library` at most' ;;
+    *) echo 'one FILE' ;;
+    esac
+}
+
+# A file that cannot be read, an option that there is not, or words that are too many or too few.
 wrong_count() {
-    [ $# -gt 0 ] || return 0
-    if [ $# -eq 1 ]; then
-        case $1 in
-        -?*) tell "apa: $word has no option \`$1\`" ;;
-        *) tell "apa: $(cannot_read "$1")" ;;
+    for option in "$@"; do
+        case $word:$option in
+        weakjobs:--table)
+            [ "$1" != --table ] || continue
+            tell 'apa: --table comes before FILE'
+            return
+            ;;
+        *:-?*)
+            [ ! -e "$option" ] || continue
+            tell "apa: $word has no option \`$option\`"
+            return
+            ;;
         esac
-    else
-        tell "apa: $word takes one FILE, and here are $# words after it"
-    fi
+    done
+    case $#:$word in
+    0:masks) tell "apa: masks takes $(takes)" ;;
+    0:*) ;;
+    1:version) tell "apa: version takes $(takes), and here is \`$1\`" ;;
+    1:*) tell "apa: $(cannot_read "$1")" ;;
+    *) tell "apa: $word takes $(takes), and here are $# words after it" ;;
+    esac
 }
 
 wrong_draw() {
@@ -57,17 +82,32 @@ wrong_draw() {
     fi
 }
 
+# A window and, after it, the word that stood before it, which is no file that can be read.
+wrong_picture() {
+    if [ -e "$2" ] && [ ! -e "$3" ]; then
+        tell 'apa: FILE comes first, and then the window'
+    else
+        tell "apa: $(cannot_read "$3")"
+    fi
+}
+
 wrong_window() {
     for bound in "$1" "$2"; do
         case $bound in
         '' | *[!0-9]*)
-            [ ! -e "$1" ] && [ ! -d "$1" ] || { tell "apa: $word takes a window of two numbers, or none"; return; }
+            [ "$input" != '<stdin>' ] || [ "$bound" != "$1" ] || bound=''
+            [ ! -e "$2" ] || [ -e "$1" ] || { tell "apa: FILE comes first, and then the window"; return; }
+            [ -n "$bound" ] && [ ! -e "$1" ] || { tell "apa: $word takes a window of two numbers, or none"; return; }
             tell "apa: \`$bound\` is no bound of a window, which is a whole number"
             return
             ;;
         esac
     done
-    tell "apa: the window from $1 to $2 is none: the first number is where it begins, and has to be the lower one"
+    if [ ${#1} -gt 18 ] || [ ${#2} -gt 18 ]; then
+        tell "apa: the window from $1 to $2 is none: a bound is at most 18446744073709551615, and the first one is not above the other"
+    else
+        tell "apa: the window from $1 to $2 is none: the first number is where it begins, and has to be the lower one"
+    fi
 }
 
 wrong_watch() {
@@ -92,7 +132,7 @@ wrong_numbers() {
             ;;
         esac
     done
-    bound processors "$2" 1 64 && bound tasks "$3" 1 1024 && bound events "$4" 1 20000 && tell "apa: these numbers are not those of an input"
+    bound processors "$2" 1 64 && bound tasks "$3" 1 1024 && bound events "$4" 1 20000 && tell "apa: $1 is too large: NUMBER is at most 18446744073709551615"
 }
 
 bound() {
@@ -101,7 +141,7 @@ bound() {
     return 1
 }
 
-# The command whose name differs from this word the least.
+# The command whose name differs from this word the least, be it in capitals.
 near() {
-    LC_ALL=C awk -v given="$1" -v words="$(help_words | tr '\n' ' ')" -f "$parts/near.awk"
+    LC_ALL=C awk -v given="$(printf '%s' "$1" | tr '[:upper:]' '[:lower:]')" -v words="$(help_words | tr '\n' ' ')" -f "$parts/near.awk"
 }
