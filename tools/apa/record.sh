@@ -13,6 +13,7 @@ record() {
     case $seconds in
     '' | *[!0-9.]* | *.*.* | .) fail "\`$seconds\` is no number of seconds; apa record 2 NAME > app.trace" ;;
     esac
+    awk -v seconds="$seconds" 'BEGIN { exit !(seconds > 0 && seconds <= 3600) }' || fail "$seconds seconds are not recorded: more than 0, and 3600 at most"
     find_output
     [ $# -eq 0 ] || processes "$@" >/dev/null || exit
     overwritten=0
@@ -34,7 +35,10 @@ record_by_bpf() {
     trap 'kill $recorder 2>/dev/null; wait; exit 130' HUP INT TERM
     "$(recorder)" "$seconds" &
     recorder=$!
-    wait "$recorder" || exit
+    wait "$recorder" || {
+        [ "$(id -u)" -eq 0 ] || tell 'apa: record as root'
+        exit 1
+    }
     trap - HUP INT TERM
     later=$(list_threads "$@")
 }
@@ -59,6 +63,7 @@ find_output() {
 
 # An instance of its own in tracefs, so that no other tracing is touched. It goes when this ends.
 make_instance() {
+    [ ! -d "$tracing" ] || [ -x "$tracing" ] || fail "$tracing is not to be read; record as root"
     [ -d "$tracing/instances" ] || fail "$tracing is empty; as root: mount -t tracefs nodev $tracing"
     [ -w "$tracing/instances" ] || fail "$tracing/instances is not to be written; record as root"
     instance=$tracing/instances/apa.$$
@@ -123,6 +128,6 @@ write_tasks() {
         printf '%s\n%s\n' "$later" "$known" | grep . | LC_ALL=C sort -s -n -k 4,4 -u | name_tasks
     } >"$tasks" || fail "cannot write to $tasks"
     count=$(grep -c '^task ' "$tasks")
+    [ "$count" -gt 0 ] || fail "no thread of SCHED_FIFO, SCHED_RR or SCHED_EXT is there to be listed, so $tasks has none"
     tell "apa: real-time threads in $tasks: $count; next is: apa lost $tasks $output"
-    [ "$count" -gt 0 ] || fail 'none of these processes has a thread of SCHED_FIFO or SCHED_RR'
 }
