@@ -73,6 +73,7 @@ function bad_header(    is) {
     show($0, 0, 0)
     is = text_of($0)
     if (is != "") item("this is " is)
+    else if (is_trace && $1 == "task") item("two lines come before the tasks: `trace 1`, and `processors N` with the number that `nproc --all` says")
     else if ($1 == "processors") item("the first line is missing, as `" header "`")
     else if (is_binary) item("the file is " is_binary)
     else item("the first line is `" header "`")

@@ -14,14 +14,18 @@ in_words() {
 }
 
 # Where a line of the text stands: sets file, number and text, the file that has it, or nothing where that cannot be read again. Of a
-# text of two files the first has so many lines.
+# text of two files the first has so many lines. A name with `=` in it has a folder before it, since for awk it would set a variable.
 find_place() {
+    case $input in
+    /*) named=$input ;;
+    *) named=./$input ;;
+    esac
     if [ "$1" -le "$head_lines" ]; then
         file=$head number=$1 text=$folder/head
     else
-        file=$input number=$(($1 - head_lines)) text=$input
+        file=$input number=$(($1 - head_lines)) text=$named
     fi
-    [ "$text" != '<stdin>' ] || text=/proc/self/fd/0
+    [ "$input" != '<stdin>' ] || [ "$file" != "$input" ] || text=/proc/self/fd/0
     [ -f "$text" ] || text=''
 }
 
@@ -76,7 +80,7 @@ is_empty() {
 # as_head_and_trace AWK..: awk over the head and the trace, which are two files, or one text.
 as_head_and_trace() {
     if [ "$head_lines" -gt 0 ]; then
-        LC_ALL=C awk "$@" "$folder/head" "$input"
+        LC_ALL=C awk "$@" "$folder/head" "$named"
     elif [ -n "$text" ]; then
         LC_ALL=C awk "$@" "$text"
     fi

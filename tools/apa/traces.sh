@@ -20,7 +20,7 @@ tell_outside() {
     LC_ALL=C awk -v word="$1" -v from="$3" '
         $1 == "history" { is_there = 1; end = word == "steps" ? $2 : 0; next }
         word == "draw" && $2 == "tick" { end += $3 }
-        END { if (is_there && from + 0 > end + 0) printf "apa: the schedule ends at %.0f, before this window, so the picture is empty\n", end }' "$2" >&2
+        END { if (is_there && from + 0 > end + 0) printf "apa: the schedule ends at %.0f, before this window, so the picture is empty\n", end }' <"$2" >&2
 }
 
 # refuse FILE WHY: of a trace that is none, before any answer. The status is that of a text that is refused.
