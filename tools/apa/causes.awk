@@ -89,14 +89,41 @@ function bad_processors() {
 
 # What a task line of so many fields has wrong.
 function bad_task(form, fields, most) {
-    if (NF != fields && word !~ /jobs/) {
+    if (NF != fields) {
         show_field(fields + 1)
         item("it has " NF " fields in place of " fields ": `" form "`" (NF > fields && $3 ~ /[^0-9]/ ? ", and a name has no blanks" : ""))
     } else if ($3 ~ /[^0-9]/ || $3 + 0 > most + 0) {
         show_field(3)
         item("`" $3 "` is no priority: a whole number from 0 to " most ", and the lower one is more urgent")
         if (fields == 5 && $3 ~ /^-/) item("of a thread with the real-time priority P it is 99 - P; others have none here")
-    } else show_field(word ~ /jobs/ ? 0 : fields)
+    } else show_field(fields)
+}
+
+# Whether field n is a whole number between these two; where it is none, that is said of what it is.
+function is_within(n, what, least, most) {
+    if ($n !~ /[^0-9]/ && $n + 0 >= least + 0 && $n + 0 <= most + 0) return 1
+    show_field(n)
+    item("the " what " is from " least " to " most (what == "release" ? ", since the horizon is " horizon : ""))
+    return 0
+}
+
+# A task of a text of jobs.
+function bad_jobs_task(    fields) {
+    fields = version == 1 ? 7 : 4
+    if (version == 1 && $1 == "job") {
+        show_field(1)
+        item("jobs one by one are of version 2: write `jobs 2` in the first line")
+    } else if ($1 != "task") show($0, 0, 0)
+    else if (NF != fields) {
+        show_field(NF > fields ? fields + 1 : 0)
+        item("it has " NF " fields in place of " fields)
+    } else if (is_within(3, "priority", 0, "4294967295") && version == 1)
+        is_within(5, "offset", 0, 1000000) && is_within(6, "period", 1, 1000000) && is_within(7, "cost", 1, 1000000)
+}
+
+function bad_job() {
+    if ($1 != "job" || NF < 4 || NF > 5) show_field(0)
+    else is_within(3, "release", 0, horizon - 1) && is_within(4, "cost", 1, 10000000) && (NF == 4 || is_within(5, "deadline", 1, 10000000))
 }
 
 function bad_list(n,    given) {
@@ -247,6 +274,9 @@ function explain() {
     else if (fault == "kind 2") item("it has " length($0) " bytes")
     else if (fault == "kind 3") bad_header()
     else if (fault == "kind 4") bad_processors()
+    else if (fault == "kind 5" && word ~ /^(weak)?jobs$/) bad_jobs_task()
+    else if (fault == "kind 8" && word ~ /^(weak)?jobs$/) bad_job()
+    else if (fault == "kind 19" && word ~ /^(weak)?jobs$/) { show_field(3); item("line " last_job[$2] " has the release " release[$2]) }
     else if (fault == "kind 5") bad_task(is_trace ? "task NAME PRIORITY LIST ID" : "task NAME PRIORITY LIST", is_trace ? 5 : 4, is_trace ? "4194303" : "4294967295")
     else if (fault == "kind 6") bad_list(4)
     else if (fault == "kind 7" || (fault == "kind 22" && !is_trace)) refused_task()
@@ -277,6 +307,8 @@ NR == 1 {
 }
 NR == line { explain(); exit }
 $1 == "processors" { processors = $2 + 0 }
+$1 == "horizon" { horizon = $2 + 0 }
+$1 == "job" { last_job[$2] = NR; release[$2] = $3 + 0 }
 $1 == "window" { window = NR }
 $1 == "task" { of_id[$5 + 0] = NR; named[$2] = NR; ranked[$3 + 0] = NR; list[$2] = $4; names = names " " $2; tasks++ }
 $1 ~ /^[0-9]+$/ && !first_event { first_event = NR }

@@ -1,4 +1,4 @@
-# Why a trace names no task of its head: no thread is listed, no line is of the scheduler, the window has none of these lines, or threads
+# Why a trace names no task of its head: no thread is listed, no line is of the scheduler, the window has none of these, or threads
 # of the same names have other ids. Where it is none of these, nothing is written.
 #
 #     LC_ALL=C awk -f nobody.awk HEAD TRACE
@@ -35,7 +35,7 @@ function note(key, id,    from, rest, comm) {
 END {
     if (!count) print "    = TASKS lists no thread; `apa tasks NAME` writes the lines of a program that runs"
     else if (!lines) print "    = no line of the trace is one of the scheduler, as `1044.100091: sched_wakeup: comm=..`"
-    else if (!used) print "    = the window is outside: the stamps of the trace go from " first " to " last
+    else if (!used) print "    = no line of the scheduler is in the window; the stamps of the trace go from " first " to " last
     else for (at = 1; at <= count && told < 3; at++) {
         name = listed[at]
         if (!(name in seen)) sub("\\." own[at] "$", "", name)
