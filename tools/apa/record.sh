@@ -120,6 +120,14 @@ tell_changes() {
         END { for (id in before) if (!(id in after)) { split(before[id], field, " "); print "apa: the thread " id " (" field[1] ") went during the recording" } }' >&2
 }
 
+# as_word NAME: as a shell reads it.
+as_word() {
+    case $1 in
+    *[!A-Za-z0-9_./-]*) printf "'%s'\n" "$(printf '%s' "$1" | sed "s/'/'\\\\''/g")" ;;
+    *) printf '%s\n' "$1" ;;
+    esac
+}
+
 # The head of the trace: all threads that were there at one of the two ends, as they were last.
 write_tasks() {
     {
@@ -129,5 +137,5 @@ write_tasks() {
     } >"$tasks" || fail "cannot write to $tasks"
     count=$(grep -c '^task ' "$tasks")
     [ "$count" -gt 0 ] || fail "no thread of SCHED_FIFO, SCHED_RR or SCHED_EXT is there to be listed, so $tasks has none"
-    tell "apa: real-time threads in $tasks: $count; next is: apa lost $tasks $output"
+    tell "apa: real-time threads in $tasks: $count; next is: apa lost $(as_word "$tasks") $(as_word "$output")"
 }
