@@ -222,6 +222,7 @@ function bad_schedule_line(    is) {
         show($0, 0, 0)
         item("this is " is (is ~ /^an input/ ? ": `apa run FILE > FILE.schedule` makes a schedule of it" : ""))
     } else if ($0 ~ /\r$/) { show($0, length($0), 1); item("the line ends with a carriage return, as lines of Windows do; `sed -i 's/\\r$//' FILE` takes them out") }
+    else if (NR == 1) { show($0, 0, 0); item("the first line is `schedule 1` or `schedule 2`") }
     else if (match($0, /  +/)) { show($0, RSTART, RLENGTH); item("one blank stands between two fields") }
     else if ($0 ~ / $/) { show($0, length($0), 1); item("a blank stands at the end of the line") }
     else show($0, 0, 0)

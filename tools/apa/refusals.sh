@@ -35,11 +35,23 @@ explain() {
     fault=${said##*, }
     case $status:$said in
     '3:input: more than '*) tell '    = a text has at most 16777216 bytes, and a trace 268435456: take a part of it' ;;
+    '3:input: version 1 wanted') tell '    = nested decides inputs of version 1 alone; `apa run` reads this one' ;;
+    '3:input: tasks '*) explain_crossing ;;
     1:invalid:* | 3:input:*) explain_fault "${1-}" ;;
     2:*) read_part usage && explain_usage "$@" ;;
     [03-6]:*) ;;
     *) explain_stop ;;
     esac
+}
+
+# Which two tasks are meant: the program numbers them from 0.
+explain_crossing() {
+    find_place 1
+    both=${said#input: tasks }
+    both=${both% have crossing masks}
+    [ -z "$text" ] || LC_ALL=C awk -v file="$file" -v first="${both% and *}" -v second="${both#* and }" '
+        $1 == "task" && (count++ == first || count == second + 1) { printf "%s:%d: %s may run on %s\n", file, NR, $2, $4 }' "$text" >&2
+    tell '    = these masks meet, and neither lies in the other, so counts decide nothing; `apa run` reads this input'
 }
 
 explain_fault() {
