@@ -49,8 +49,8 @@ explain_crossing() {
     find_place 1
     both=${said#input: tasks }
     both=${both% have crossing masks}
-    [ -z "$text" ] || LC_ALL=C awk -v file="$file" -v first="${both% and *}" -v second="${both#* and }" '
-        $1 == "task" && (count++ == first || count == second + 1) { printf "%s:%d: %s may run on %s\n", file, NR, $2, $4 }' "$text" >&2
+    [ -z "$text" ] || LC_ALL=C awk -v first="${both% and *}" -v second="${both#* and }" '
+        $1 == "task" && (count++ == first || count == second + 1) { printf "    = line %d: %s may run on %s\n", NR, $2, $4 }' "$text" >&2
     tell '    = these masks meet, and neither lies in the other, so counts decide nothing; `apa run` reads this input'
 }
 
