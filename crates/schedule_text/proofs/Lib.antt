@@ -21,8 +21,10 @@ mod Bridges
 mod Stages
 mod Prefixes
 mod Once
+mod LineFaults
+mod Pieces
 mod Paths
-mod OneSchedule
 mod Decisions
 mod EntriesDecided
 mod LinesDecided
+mod Texts

@@ -1,33 +1,30 @@
--- Each line leads on or has a fault, by what is expected, and so each text is that of a schedule or is refused.
-use Rattle.std.proofs.Common.{◌≡◌, ◌≢◌, ℕ, zero, suc, ◌+◌, ◌<◌, ◌^◌, ◌⊎◌, inl, inr, List, [], ◌∷◌, ◌++◌, length, Contains, refl, sym, ap, ◌∙◌, subst, arith, length-append, lit<}
+-- Each line has one outcome.
+use Rattle.std.proofs.Common.{◌≡◌, ℕ, ◌<◌, ◌^◌, ◌⊎◌, inl, inr, List, [], ◌∷◌, ◌++◌, length, refl, sym, ap, ◌∙◌, subst, arith, lit<}
 use Rattle.std.specs.Prelude.{codes}
-use Rattle.std.proofs.lemmas.Bool.{cases_eq, cases_lt}
+use Rattle.std.proofs.lemmas.Bool.{cases_lt}
 use Rattle.affinity_mask.specs.Number.{canonical_number}
-use Rattle.task_set.specs.TaskSet.{TaskData, SetData, IsTaskSet, with_task}
+use Rattle.task_set.specs.TaskSet.{TaskData, SetData, IsTaskSet}
 use Rattle.task_set.specs.Refusal.{new_task}
 use Rattle.task_set.specs.declared.context.Context.{Context}
+use Rattle.task_set.proofs.Refusals.{CanAdd-IsRefusal, same_refusal}
 use Rattle.strong_apa.specs.declared.reply.Entry.{Entry}
-use Rattle.schedule_text.specs.Schedule.{ScheduleData, IsSchedule, IsContextOf}
-use Rattle.schedule_text.specs.ScheduleFault.{IsLineFault, IsScheduleRefused}
-use Rattle.schedule_text.specs.Prefix.{Progress, whole, HeaderExpected, ProcessorsExpected, TasksExpected, EntriesExpected, ContextsExpected, Ended, IsPrefix, IsUnended}
-use Rattle.schedule_text.specs.LineForms.{IsField, IsContextText}
-use Rattle.schedule_text.specs.Laws.{text_of_schedule, AcceptedOrRefused}
-use Rattle.schedule_text.specs.declared.fault.TextKind.{TextKind}
-use Rattle.schedule_text.specs.declared.fault.TextKind.TheVariants.{BadLine, TaskRefused, Short, AfterEnd}
-use Rattle.schedule_text.specs.Reading.{Leads}
-use Rattle.schedule_text.specs.Fields.{spaced_fields_of, IsNumberAfter}
-use Rattle.schedule_text.specs.LineFields.{IsTaskFields}
-use Rattle.text_fields.proofs.Words.{head_same, tail_same}
-use Rattle.text_fields.proofs.Addable.{can_add_decided}
+use Rattle.text_fields.specs.Choice.{IsDecided}
 use Rattle.text_fields.specs.EventText.{name_of}
+use Rattle.text_fields.proofs.Addable.{can_add_decided}
+use Rattle.text_fields.proofs.Choices.{only, choice, reading, judging, allowing}
 use Rattle.text_fields.proofs.Decisions.{bytes_decided}
+use Rattle.text_fields.proofs.Words.{head_same, tail_same}
+use Rattle.schedule_text.specs.Schedule.{IsContextOf}
+use Rattle.schedule_text.specs.Prefix.{Progress, HeaderExpected, ProcessorsExpected, TasksExpected, EntriesExpected, ContextsExpected, Ended, IsPrefix}
+use Rattle.schedule_text.specs.LineForms.{IsField}
+use Rattle.schedule_text.specs.Fields.{spaced_fields_of, IsNumberAfter}
+use Rattle.schedule_text.specs.LineFields.{IsTaskFields, IsContextFields}
+use Rattle.schedule_text.specs.LineOutcome.{IsNumberOutcome, IsAddOutcome, IsTaskOutcome, IsEntryOutcome, IsContextOutcome, IsOutcome}
 use Rattle.schedule_text.proofs.Decisions.{both_decided, field_decided, number_field_decided, list_field_decided, last_field_decided}
 use Rattle.schedule_text.proofs.Tasks.{task_form, task_list}
-use Rattle.schedule_text.proofs.Contexts.{AreSaid, context_said, context_named, context_from_said, wide, wide_below}
-use Rattle.schedule_text.proofs.Bridges.{task_to_text, context_to_fields, context_to_text, entry_to_text}
-use Rattle.schedule_text.proofs.Stages.{header_none, header_read, processors_none, processors_read, history_none, history_read, task_fault, entry_fault}
+use Rattle.schedule_text.proofs.Contexts.{AreSaid, context_said, context_named, context_from_said, context_once, wide, wide_below}
 use Rattle.schedule_text.proofs.EntriesDecided.{entry_decided}
-use Rattle.schedule_text.proofs.Prefixes.{IsReadTo, read_start, read_more, read_short, read_fault, read_past, read_end}
+use Rattle.schedule_text.proofs.Once.{number_after_once, task_once, entry_once, entry_no_fault, entry_fault_once}
 
 -- ---- tasks
 
@@ -126,36 +123,29 @@ context_numbers t units stints moves last trail = elim (number_field_decided 0 1
   ]
 ]
 
-context_decided : (set : SetData) (t : ℕ) (text : List ℕ) → IsTaskSet set → t < length set.tasks
-    → ((context : Context) × IsContextText set t text context)
-    ⊎ ((context : Context) → IsContextText set t text context → ⊥)
-context_decided set t text valid within = elim (eleven_decided (spaced_fields_of text)) [
-  | inr other ↦ inr (λ context f. other (ap length (context_to_fields set t text context valid within f).each_field))
+context_decided : (set : SetData) (t : ℕ) (fields : List (List ℕ)) → ((context : Context) × IsContextFields set t fields context)
+    ⊎ ((context : Context) → IsContextFields set t fields context → ⊥)
+context_decided set t fields = elim (eleven_decided fields) [
+  | inr other ↦ inr (λ context is. other (ap length is.each_field))
   | inl (a, b, c, d, e, f, g, h, i, j, k, eleven) ↦ elim (both_decided (bytes_decided a (name_of set t))
       (both_decided (bytes_decided b (codes "units")) (both_decided (bytes_decided d (codes "stints"))
       (both_decided (bytes_decided f (codes "moves")) (both_decided (bytes_decided h (codes "last"))
       (bytes_decided j (codes "trail"))))))) [
-        | inr differ ↦ inr (λ context text_of.
-            let fields = context_to_fields set t text context valid within text_of in
-            let named = context_named set context (spaced_fields_of text) a b c d e f g h i j k eleven fields.each_field in
+        | inr differ ↦ inr (λ context is.
+            let named = context_named set context fields a b c d e f g h i j k eleven is.each_field in
             let words = named.1 in
-            differ (
-              named.0 ∙ ap (name_of set) fields.of_task.task,
-              (words.0, (words.1, (words.2, (words.3, words.4)))),
-            ))
+            differ (named.0 ∙ ap (name_of set) is.of_task.task, (words.0, (words.1, (words.2, (words.3, words.4))))))
         | inl named ↦ elim (context_numbers t c e g i k) [
-          | inr none ↦ inr (λ context text_of. none context text_of.of_task
-              (context_said set context (spaced_fields_of text) a b c d e f g h i j k eleven
-              (context_to_fields set t text context valid within text_of).each_field))
+          | inr none ↦ inr (λ context is. none context is.of_task
+              (context_said set context fields a b c d e f g h i j k eleven is.each_field))
           | inl found ↦ inl (
             found.0,
-            context_to_text set t text found.0
-                (record {
-                  of_task = found.1.0;
-                  each_field = context_from_said set found.0 (spaced_fields_of text) a b c d e f g h i j k eleven
-                      (named.0 ∙ ap (name_of set) (sym found.1.0.task))
-                      (named.1.0, named.1.1.0, named.1.1.1.0, named.1.1.1.1.0, named.1.1.1.1.1) found.1.1;
-                }),
+            record {
+              of_task = found.1.0;
+              each_field = context_from_said set found.0 fields a b c d e f g h i j k eleven
+                  (named.0 ∙ ap (name_of set) (sym found.1.0.task))
+                  (named.1.0, named.1.1.0, named.1.1.1.0, named.1.1.1.1.0, named.1.1.1.1.1) found.1.1;
+            },
           )
         ]
       ]
@@ -163,175 +153,55 @@ context_decided set t text valid within = elim (eleven_decided (spaced_fields_of
 
 -- ---- one line
 
-abbrev IsLineDecided : Progress → List ℕ → Type 0
-IsLineDecided expected text =
-    ((next : Progress) × Leads expected text next)
-    ⊎ ((kind : TextKind) × IsLineFault expected text kind)
+less_decided : (m n : ℕ) → (m < n) ⊎ (m < n → ⊥)
+less_decided m n = elim (cases_lt m n) [ inl less ↦ inl less | inr more ↦ inr (λ less. omega (arith, less, more)) ]
 
-tasks_decided : (version : ℕ) (set : SetData) (text : List ℕ) → IsTaskSet set
-    → IsLineDecided (TasksExpected version set) text
-tasks_decided version set text valid = elim (number_after_decided (codes "history") 0 20000 (spaced_fields_of text) (lit< tt)) [
-  | inl count ↦ inl (
-    EntriesExpected version set count.0 [],
-    history_read version set (spaced_fields_of text) text count.0 refl count.1,
-  )
-  | inr no_count ↦ (
-      let no_history = history_none (spaced_fields_of text) text refl no_count in
-      elim (task_fields_decided (spaced_fields_of text)) [
-        | inr none ↦ inr (BadLine, task_fault version set text BadLine no_history (inl (refl, none)))
-        | inl added ↦ elim (can_add_decided set added.0 valid) [
-          | inl can ↦ inl (
-            TasksExpected version (with_task set added.0),
-            inl
-                (added.0, refl, task_to_text text added.0 added.1, can),
-          )
-          | inr refused ↦ inr (
-            TaskRefused refused.0,
-            task_fault version set text (TaskRefused refused.0)
-                no_history (inr (added.0, refused.0, refl, added.1, refused.1)),
-          )
-        ]
-      ])
-]
+-- a number after a word has one outcome
+number_outcome : (word : List ℕ) (least most : ℕ) (next : ℕ → Progress) (fields : List (List ℕ)) → most < 2 ^ 64
+    → IsDecided (IsNumberOutcome word least most next fields)
+number_outcome word least most next fields small =
+    reading (number_after_decided word least most fields small) (number_after_once word least most fields small)
+    (λ n f. only _) (only _)
 
-entries_decided : (version : ℕ) (set : SetData) (count : ℕ) (entries : List Entry) (text : List ℕ)
-    → IsPrefix (EntriesExpected version set count entries) → IsLineDecided (EntriesExpected version set count entries) text
-entries_decided version set count entries text prefix = elim (cases_lt (length entries) count) [
-  | inl room ↦ elim (entry_decided version set (spaced_fields_of text) prefix.0.valid) [
-    | inl entry ↦ inl (
-      EntriesExpected version set count (entries ++ entry.0 ∷ []),
-      inl
-          (entry.0, refl, room, entry_to_text version set text entry.0 entry.1),
-    )
-    | inr fault ↦ inr (fault.0, entry_fault version set count entries text fault.0 prefix.0.valid room fault.1)
-  ]
-  | inr full ↦ (
-      let few = prefix.3 in
-      let same : length entries ≡ count = omega arith in
-      elim (bytes_decided text (codes "contexts " ++ canonical_number (length set.tasks))) [
-        | inl form ↦ inl (ContextsExpected version set entries [], inr (refl, same, form))
-        | inr differs ↦ inr (
-          BadLine,
-          λ form. elim form
-              [ inl entry ↦ (let room = entry.0 in omega arith) | inr other ↦ differs other.1 ],
-        )
-      ])
-]
+add_outcome : (version : ℕ) (set : SetData) (added : TaskData) → IsTaskSet set → IsDecided (IsAddOutcome version set added)
+add_outcome version set added valid =
+    allowing (can_add_decided set added valid) (λ fault other is also. same_refusal set added fault other valid is also)
+    (λ fault can refused. CanAdd-IsRefusal set added fault can refused) (λ can. only _) (λ fault refused. only _)
 
-contexts_decided : (version : ℕ) (set : SetData) (entries : List Entry) (contexts : List Context) (text : List ℕ)
-    → IsPrefix (ContextsExpected version set entries contexts)
-    → IsLineDecided (ContextsExpected version set entries contexts) text
-contexts_decided version set entries contexts text prefix = elim (cases_lt (length contexts) (length set.tasks)) [
-  | inl room ↦ elim (context_decided set (length contexts) text prefix.0.valid room) [
-    | inl context ↦ inl (
-      ContextsExpected version set entries (contexts ++ context.0 ∷ []),
-      inl
-          (context.0, refl, room, context.1),
-    )
-    | inr none ↦ inr (
-      BadLine,
-      λ form. elim form
-          [ inl found ↦ none found.1.0 found.1.1 | inr other ↦ (let full = other.0 in omega arith) ],
-    )
-  ]
-  | inr full ↦ (
-      let few = prefix.4 in
-      let same : length contexts ≡ length set.tasks = omega arith in
-      elim (bytes_decided text (codes "end")) [
-        | inl form ↦ inl (Ended version set entries contexts, inr (refl, same, form))
-        | inr differs ↦ inr (
-          BadLine,
-          λ form. elim form
-              [ inl found ↦ (let room = found.0 in omega arith) | inr other ↦ differs other.1 ],
-        )
-      ])
-]
+task_outcome : (version : ℕ) (set : SetData) (fields : List (List ℕ)) → IsTaskSet set → IsDecided (IsTaskOutcome version set fields)
+task_outcome version set fields valid =
+    reading (number_after_decided (codes "history") 0 20000 fields (lit< tt))
+    (number_after_once (codes "history") 0 20000 fields (lit< tt)) (λ count f. only _)
+    (reading (task_fields_decided fields) (task_once fields) (λ added f. add_outcome version set added valid) (only _))
 
--- a line leads on, or has a fault
-line_decided : (expected : Progress) (text : List ℕ) → IsPrefix expected → IsUnended expected
-    → IsLineDecided expected text
-line_decided HeaderExpected text prefix unended =
-    elim (number_after_decided (codes "schedule") 1 2 (spaced_fields_of text) (lit< tt)) [
-      | inl found ↦ inl (
-        ProcessorsExpected found.0,
-        (found.0, refl, header_read (spaced_fields_of text) text found.0 refl found.1),
-      )
-      | inr none ↦ inr (BadLine, header_none (spaced_fields_of text) text refl none)
-    ]
-line_decided (ProcessorsExpected version) text prefix unended =
-    elim (number_after_decided (codes "processors") 1 64 (spaced_fields_of text) (lit< tt)) [
-      | inl found ↦ inl (
-        TasksExpected version (record { processors = found.0; tasks = [] }),
-        (found.0, refl, processors_read (spaced_fields_of text) text found.0 refl found.1),
-      )
-      | inr none ↦ inr (BadLine, processors_none (spaced_fields_of text) text refl none)
-    ]
-line_decided (TasksExpected version set) text prefix unended = tasks_decided version set text prefix.0.valid
-line_decided (EntriesExpected version set count entries) text prefix unended = entries_decided version set count entries text prefix
-line_decided (ContextsExpected version set entries contexts) text prefix unended =
-    contexts_decided version set entries contexts text prefix
-line_decided (Ended version set entries contexts) text prefix unended = absurd unended
+entry_outcome : (version : ℕ) (set : SetData) (count : ℕ) (entries : List Entry) (fields : List (List ℕ)) → IsTaskSet set
+    → IsDecided (IsEntryOutcome version set count entries fields)
+entry_outcome version set count entries fields valid =
+    judging (entry_decided version set fields valid) (λ one other is also. entry_once version set fields one other valid is also)
+    (entry_fault_once version set fields) (entry_no_fault version set fields valid) (λ entry f. only _) (λ kind f. only _)
 
--- ---- the whole text
+context_outcome : (version : ℕ) (set : SetData) (entries : List Entry) (contexts : List Context) (fields : List (List ℕ))
+    → IsDecided (IsContextOutcome version set entries contexts fields)
+context_outcome version set entries contexts fields =
+    reading (context_decided set (length contexts) fields) (λ one other is also.
+    context_once set (length contexts) one other is.of_task also.of_task (sym is.each_field ∙ also.each_field))
+    (λ context f. only _) (only _)
 
--- a line comes, or none
-line_or_none : (rest : List ℕ)
-    → ((text : List ℕ) × (after : List ℕ) × (rest ≡ text ++ 10 ∷ after) × (Contains text 10 → ⊥))
-    ⊎ (Contains rest 10 → ⊥)
-line_or_none [] = inr (λ here. absurd (omega (arith, here.1)))
-line_or_none (byte ∷ rest) = elim (cases_eq byte 10) [
-  | inl feed ↦ inl ([], rest, ap (λ (b : ℕ). b ∷ rest) feed, λ here. absurd (omega (arith, here.1)))
-  | inr other ↦ elim (line_or_none rest) [
-    | inl (text, after, cut, none) ↦ inl
-        (byte ∷ text, after, ap (λ (back : List ℕ). byte ∷ back) cut, not_first byte text other none)
-    | inr none ↦ inr (not_first byte rest other none)
-  ]
-]
-  where
-    not_first : (byte : ℕ) (text : List ℕ) → byte ≢ 10 → (Contains text 10 → ⊥) → Contains (byte ∷ text) 10 → ⊥
-    not_first byte text other none (zero, within, same) = other same
-    not_first byte text other none (suc k, within, same) = none (k, omega (arith, within), same)
-
-abbrev IsAnswered : List ℕ → Type 0
-IsAnswered bytes =
-    ((schedule : ScheduleData) × IsSchedule schedule × (bytes ≡ text_of_schedule schedule))
-    ⊎ ((line : ℕ) × (kind : TextKind) × IsScheduleRefused bytes line kind)
-
-ended_answered : (bytes rest : List ℕ) (number : ℕ) (schedule : ScheduleData)
-    → IsReadTo bytes rest number (whole schedule)
-    → IsAnswered bytes
-ended_answered bytes [] number schedule so_far =
-    inl (schedule, so_far.prefix, read_end bytes [] number schedule so_far refl)
-ended_answered bytes (byte ∷ rest) number schedule so_far =
-    inr (number, AfterEnd, read_past bytes (byte ∷ rest) number schedule so_far (λ none. cc))
-
-ended_decided : (expected : Progress) → IsUnended expected
-    ⊎ ((schedule : ScheduleData) × (expected ≡ whole schedule))
-ended_decided (Ended version set entries contexts) =
-    inr (record { version = version; set = set; entries = entries; contexts = contexts }, refl)
-ended_decided _ = inl tt
-
--- from here on, with so many bytes at most
-answered_from : (fuel : ℕ) (bytes rest : List ℕ) (number : ℕ) (expected : Progress)
-    → IsReadTo bytes rest number expected → length rest < fuel → IsAnswered bytes
-answered_from zero bytes rest number expected so_far bound = absurd (omega arith)
-answered_from (suc fuel) bytes rest number expected so_far bound = elim (ended_decided expected) [
-  | inr ended ↦ ended_answered bytes rest number ended.0 (subst (IsReadTo bytes rest number) ended.1 so_far)
-  | inl unended ↦ elim (line_or_none rest) [
-    | inr none ↦ inr (number, Short, read_short bytes rest number expected so_far unended none)
-    | inl (text, after, cut, one_line) ↦ elim (line_decided expected text so_far.prefix unended) [
-      | inr fault ↦ inr (
-        number,
-        fault.0,
-        read_fault bytes rest text after number expected fault.0
-            so_far unended cut one_line fault.1,
-      )
-      | inl next ↦ answered_from fuel bytes after (number + 1) next.0
-          (read_more bytes rest text after number expected next.0 so_far cut next.1)
-          (omega (arith, bound, ap length cut, length-append text (10 ∷ after)))
-    ]
-  ]
-]
-
-pub accepted_or_refused : AcceptedOrRefused
-accepted_or_refused bytes = answered_from (length bytes + 1) bytes bytes 1 HeaderExpected (read_start bytes) (omega arith)
+-- a line has one outcome
+pub line_decided : (expected : Progress) (text : List ℕ) → IsPrefix expected → IsDecided (IsOutcome expected text)
+line_decided HeaderExpected text prefix =
+    number_outcome (codes "schedule") 1 2 ProcessorsExpected (spaced_fields_of text) (lit< tt)
+line_decided (ProcessorsExpected version) text prefix =
+    number_outcome (codes "processors") 1 64 (λ m. TasksExpected version (record { processors = m; tasks = [] }))
+    (spaced_fields_of text) (lit< tt)
+line_decided (TasksExpected version set) text prefix = task_outcome version set (spaced_fields_of text) prefix.0.valid
+line_decided (EntriesExpected version set count entries) text prefix =
+    choice (less_decided (length entries) count)
+    (λ room. entry_outcome version set count entries (spaced_fields_of text) prefix.0.valid)
+    (λ full. choice (bytes_decided text (codes "contexts " ++ canonical_number (length set.tasks)))
+    (λ form. only _) (λ differs. only _))
+line_decided (ContextsExpected version set entries contexts) text prefix =
+    choice (less_decided (length contexts) (length set.tasks))
+    (λ room. context_outcome version set entries contexts (spaced_fields_of text))
+    (λ full. choice (bytes_decided text (codes "end")) (λ is. only _) (λ differs. only _))
+line_decided (Ended version set entries contexts) text prefix = only _

@@ -1,15 +1,10 @@
--- A line leads to one prefix, and what leads on has no fault.
-use Rattle.std.proofs.Common.{◌≡◌, ℕ, ◌<◌, ◌≤◌, ◌^◌, ◌⊎◌, inl, inr, List, [], ◌∷◌, ◌++◌, length, Option, Some, None, IfSome, refl, sym, ap, ◌∙◌, subst, arith}
+-- The fields of a line say one thing, and what they say has no fault.
+use Rattle.std.proofs.Common.{◌≡◌, ℕ, ◌<◌, ◌≤◌, ◌^◌, inl, inr, List, [], ◌∷◌, length, Option, Some, None, IfSome, refl, sym, ap, ◌∙◌, subst, arith}
 use Rattle.std.specs.Prelude.{codes}
-use Rattle.std.proofs.lemmas.List.{append_cancel_left}
 use Rattle.std.proofs.lemmas.Fmt.{decimal_injective}
 use Rattle.affinity_mask.specs.Number.{canonical_number}
 use Rattle.affinity_mask.specs.ListText.{canonical_list}
-use Rattle.task_set.specs.TaskSet.{TaskData, SetData, IsTaskSet, with_task}
-use Rattle.task_set.specs.Refusal.{CanAdd, IsRefusal}
-use Rattle.task_set.specs.declared.fault.TaskFault.{TaskFault}
-use Rattle.task_set.proofs.Refusals.{CanAdd-IsRefusal, same_refusal}
-use Rattle.task_set.specs.declared.context.Context.{Context}
+use Rattle.task_set.specs.TaskSet.{TaskData, SetData, IsTaskSet}
 use Rattle.task_set.specs.declared.event.Event.{Event}
 use Rattle.task_set.specs.declared.event.Event.TheVariants.{Arrive, Depart, Tick, Affinity, Offline, Online}
 use Rattle.strong_apa.specs.declared.reply.Reply.{Reply}
@@ -24,26 +19,18 @@ use Rattle.text_fields.specs.EventText.{IsAboutSet, event_fields}
 use Rattle.schedule_text.specs.ScheduleText.{chain_text, set_text, somebody_text, reply_fields}
 use Rattle.schedule_text.specs.Schedule.{IsProcessorList, IsOfProcessors}
 use Rattle.task_set.specs.Event.{HasUnits}
-use Rattle.schedule_text.specs.ScheduleFault.{IsLineFault}
-use Rattle.schedule_text.specs.Prefix.{Progress, HeaderExpected, ProcessorsExpected, TasksExpected, EntriesExpected, ContextsExpected, Ended, IsPrefix}
-use Rattle.schedule_text.specs.LineForms.{IsHeaderForm, IsProcessorsForm, IsTaskForm, IsHistoryForm, IsEntryForm, IsEntryText, IsForm}
 use Rattle.schedule_text.specs.declared.fault.TextKind.{TextKind}
-use Rattle.schedule_text.specs.declared.fault.TextKind.TheVariants.{BadLine, TaskRefused, UnknownTask}
-use Rattle.schedule_text.specs.Reading.{Leads, LeadsTasks, LeadsEntries}
-use Rattle.schedule_text.specs.Fields.{spaced_fields_of}
-use Rattle.schedule_text.specs.LineFields.{IsTaskFields, IsCameFields, IsGoneFields, IsReplyFields, IsEntryFields}
+use Rattle.schedule_text.specs.Fields.{IsNumberAfter}
+use Rattle.schedule_text.specs.LineFields.{IsTaskFields, IsCameFields, IsGoneFields, IsReplyFields, IsEntryFields, IsSomeEntry, IsEntryFault}
 use Rattle.text_fields.proofs.Words.{head_same, tail_same, clash}
 use Rattle.schedule_text.proofs.Names.{name_of_no_dash, set_fields}
 use Rattle.text_fields.proofs.NamedTasks.{same_task, same_parts}
 use Rattle.schedule_text.proofs.Fields.{list_once, set_once, mask_processors}
 use Rattle.schedule_text.proofs.Chains.{chain_once}
-use Rattle.schedule_text.proofs.Contexts.{context_once}
 use Rattle.schedule_text.proofs.ReplyParts.{the_task, the_somebody, the_chain, the_set}
 use Rattle.schedule_text.proofs.FirstWords.{opening, Opening, freed_first, on_first, off_first, remasked_first, other_first, IsMovedFields, IsReturnFields, IsTold, IsToldBy, said, some_same}
 use Rattle.schedule_text.proofs.Entries.{event_size, events_apart}
 use Rattle.schedule_text.proofs.Replies.{parts_apart}
-use Rattle.schedule_text.proofs.Spaces.{IsNoSpace, high_no_space, word_number_bytes}
-use Rattle.schedule_text.proofs.Bridges.{task_to_fields, entry_to_fields, form_to_text, context_to_fields, number_to_fields}
 
 -- ---- events and replies
 
@@ -207,7 +194,7 @@ entry_same one other e1 e2 e3 = by one.caller other.caller one.event other.event
         (record { caller = c'; event = e'; reply = r' })
     by c c' e e' r r' e1 e2 e3 = rw (e1, e2, e3) refl
 
-entry_once : (version : ℕ) (set : SetData) (fields : List (List ℕ)) (one other : Entry) → IsTaskSet set
+pub entry_once : (version : ℕ) (set : SetData) (fields : List (List ℕ)) (one other : Entry) → IsTaskSet set
     → IsEntryFields version fields set one → IsEntryFields version fields set other → one ≡ other
 entry_once version set fields one other valid f g =
     let both = sym f.each_field ∙ g.each_field in
@@ -248,90 +235,23 @@ task_once fields one other f g =
     (record { some = f.some; processors = f.processors; is_text = refl })
     (record { some = g.some; processors = g.processors; is_text = second third }))
 
--- a task line is no history line
-task_no_history : (text : List ℕ) (added : TaskData) (count : ℕ) → IsTaskForm text added → IsHistoryForm text count → ⊥
-task_no_history text added count f h =
-    let few = h.few in
-    let fields = number_to_fields (codes "history") text count h.is_text
-    (word_number_bytes IsNoSpace high_no_space (codes "history") count refl (omega arith)) in
-    clash (sym (task_to_fields text added f).each_field ∙ fields) refl
+-- ---- numbers
 
--- ---- steps
+pub number_after_once : (word : List ℕ) (least most : ℕ) (fields : List (List ℕ)) → most < 2 ^ 64 → (m n : ℕ)
+    → IsNumberAfter word least most fields m → IsNumberAfter word least most fields n → m ≡ n
+number_after_once word least most fields small m n f g =
+    let few : m ≤ most = f.range.1 in
+    let few' : n ≤ most = g.range.1 in
+    number_same m n (omega (arith, few, small)) (omega (arith, few', small)) (second (sym f.each_field ∙ g.each_field))
 
-processors_once : (text : List ℕ) (m n : ℕ) → IsProcessorsForm text m → IsProcessorsForm text n → m ≡ n
-processors_once text m n f g =
-    let high = f.range.1 in
-    let high' = g.range.1 in
-    number_same m n (omega arith) (omega arith)
-    (append_cancel_left (codes "processors ") (canonical_number m) (canonical_number n)
-    (sym f.is_text ∙ g.is_text))
-
-history_once : (text : List ℕ) (m n : ℕ) → IsHistoryForm text m → IsHistoryForm text n → m ≡ n
-history_once text m n f g =
-    let high = f.few in
-    let high' = g.few in
-    number_same m n (omega arith) (omega arith)
-    (append_cancel_left (codes "history ") (canonical_number m) (canonical_number n)
-    (sym f.is_text ∙ g.is_text))
-
-header_once : (text : List ℕ) (m n : ℕ) → IsHeaderForm text m → IsHeaderForm text n → m ≡ n
-header_once text m n f g =
-    let high = f.known.1 in
-    let high' = g.known.1 in
-    number_same m n (omega arith) (omega arith)
-    (append_cancel_left (codes "schedule ") (canonical_number m) (canonical_number n)
-    (sym f.is_text ∙ g.is_text))
-
-pub leads_once : (expected : Progress) (text : List ℕ) (next other : Progress) → IsPrefix expected
-    → Leads expected text next → Leads expected text other → next ≡ other
-leads_once HeaderExpected text next other prefix one two =
-    one.1 ∙ ap ProcessorsExpected (header_once text one.0 two.0 one.2 two.2) ∙ sym two.1
-leads_once (ProcessorsExpected version) text next other prefix one two =
-    one.1 ∙ ap (λ (m : ℕ). TasksExpected version (record { processors = m; tasks = [] }))
-    (processors_once text one.0 two.0 one.2 two.2) ∙ sym two.1
-leads_once (TasksExpected version set) text next other prefix (inl one) (inl two) =
-    one.1 ∙ ap (λ (added : TaskData). TasksExpected version (with_task set added))
-    (task_once (spaced_fields_of text) one.0 two.0 (task_to_fields text one.0 one.2)
-    (task_to_fields text two.0 two.2)) ∙ sym two.1
-leads_once (TasksExpected version set) text next other prefix (inl one) (inr two) =
-    absurd (task_no_history text one.0 two.0 one.2 two.2)
-leads_once (TasksExpected version set) text next other prefix (inr one) (inl two) =
-    absurd (task_no_history text two.0 one.0 two.2 one.2)
-leads_once (TasksExpected version set) text next other prefix (inr one) (inr two) =
-    one.1 ∙ ap (λ (n : ℕ). EntriesExpected version set n []) (history_once text one.0 two.0 one.2 two.2) ∙ sym two.1
-leads_once (EntriesExpected version set count entries) text next other prefix (inl one) (inl two) =
-    one.1 ∙ ap (λ (entry : Entry). EntriesExpected version set count (entries ++ entry ∷ []))
-    (entry_once version set (spaced_fields_of text) one.0 two.0 prefix.0.valid
-    (entry_to_fields version set text one.0 prefix.0.valid one.3)
-    (entry_to_fields version set text two.0 prefix.0.valid two.3)) ∙ sym two.1
-leads_once (EntriesExpected version set count entries) text next other prefix (inl one) (inr two) =
-    (let room = one.2 in let full = two.1 in absurd (omega arith))
-leads_once (EntriesExpected version set count entries) text next other prefix (inr one) (inl two) =
-    (let room = two.2 in let full = one.1 in absurd (omega arith))
-leads_once (EntriesExpected version set count entries) text next other prefix (inr one) (inr two) = one.0 ∙ sym two.0
-leads_once (ContextsExpected version set entries contexts) text next other prefix (inl one) (inl two) =
-    one.1
-    ∙ ap (λ (context : Context). ContextsExpected version set entries (contexts ++ context ∷ []))
-    (context_once set (length contexts) one.0 two.0 one.3.of_task two.3.of_task
-    (sym (context_to_fields set (length contexts) text one.0 prefix.0.valid one.2 one.3).each_field
-    ∙ (context_to_fields set (length contexts) text two.0 prefix.0.valid two.2 two.3).each_field))
-    ∙ sym two.1
-leads_once (ContextsExpected version set entries contexts) text next other prefix (inl one) (inr two) =
-    (let room = one.2 in let full = two.1 in absurd (omega arith))
-leads_once (ContextsExpected version set entries contexts) text next other prefix (inr one) (inl two) =
-    (let room = two.2 in let full = one.1 in absurd (omega arith))
-leads_once (ContextsExpected version set entries contexts) text next other prefix (inr one) (inr two) = one.0 ∙ sym two.0
-leads_once (Ended version set entries contexts) text next other prefix one two = absurd one
-
--- ---- faults
+-- ---- the faults of entries
 
 -- an entry of a valid set has the form of an entry
-entry_form : (version : ℕ) (set : SetData) (text : List ℕ) (entry : Entry) → IsTaskSet set
-    → IsEntryText version set text entry → IsEntryForm version set.processors text
-entry_form version set text entry valid f =
-    let fields = entry_to_fields version set text entry valid f in
+known_form : (version : ℕ) (set : SetData) (fields : List (List ℕ)) (entry : Entry) → IsTaskSet set
+    → IsEntryFields version fields set entry → IsSomeEntry version set.processors fields
+known_form version set fields entry valid f =
     let s = f.scheduled in
-    form_to_text version set.processors text (record {
+    record {
       stream = entry.caller;
       event = event_fields set entry.event;
       reply = reply_fields set entry.reply;
@@ -359,108 +279,17 @@ entry_form version set text entry valid f =
           each_field = refl;
         },
       );
-      each_field = fields.each_field;
-    })
+      each_field = f.each_field;
+    }
 
--- what leads on is of the expected form
-leads_form : (expected : Progress) (text : List ℕ) (next : Progress) → IsPrefix expected
-    → Leads expected text next → IsForm expected text
-leads_form HeaderExpected text next prefix step = (step.0, step.2)
-leads_form (ProcessorsExpected version) text next prefix step = (step.0, step.2)
-leads_form (TasksExpected version set) text next prefix (inl step) = inl (step.0, step.2)
-leads_form (TasksExpected version set) text next prefix (inr step) = inr (step.0, step.2)
-leads_form (EntriesExpected version set count entries) text next prefix (inl step) =
-    inl (step.2, entry_form version set text step.0 prefix.0.valid step.3)
-leads_form (EntriesExpected version set count entries) text next prefix (inr step) = inr (step.1, step.2)
-leads_form (ContextsExpected version set entries contexts) text next prefix (inl step) = inl (step.2, (step.0, step.3))
-leads_form (ContextsExpected version set entries contexts) text next prefix (inr step) = inr (step.1, step.2)
-leads_form (Ended version set entries contexts) text next prefix step = step
+pub entry_no_fault : (version : ℕ) (set : SetData) (fields : List (List ℕ)) → IsTaskSet set → (entry : Entry)
+    (kind : TextKind) → IsEntryFields version fields set entry → IsEntryFault version fields set kind → ⊥
+entry_no_fault version set fields valid entry kind f (inl bad) = bad.1 (known_form version set fields entry valid f)
+entry_no_fault version set fields valid entry kind f (inr unknown) = unknown.2 (entry, f)
 
-tasks_same : {v w : ℕ} {a b : SetData} → TasksExpected v a ≡ TasksExpected w b → a ≡ b
-tasks_same e = cc
-
-pub leads_no_fault : (expected : Progress) (text : List ℕ) (next : Progress) (kind : TextKind)
-    → IsPrefix expected → Leads expected text next → IsLineFault expected text kind → ⊥
-leads_no_fault expected text next BadLine prefix step fault = fault (leads_form expected text next prefix step)
-leads_no_fault expected text next (TaskRefused why) prefix step fault =
-    by (subst (λ (d : Progress). Leads d text next) fault.3 step)
-  where
-    by : LeadsTasks fault.0 fault.1 text next → ⊥
-    by (inl one) =
-        CanAdd-IsRefusal fault.1 fault.2 why
-        (subst (CanAdd fault.1) (task_once (spaced_fields_of text) one.0 fault.2
-        (task_to_fields text one.0 one.2) (task_to_fields text fault.2 fault.4)) one.3) fault.5
-    by (inr one) = task_no_history text fault.2 one.0 fault.4 one.2
-leads_no_fault expected text next UnknownTask prefix step fault =
-    by (subst (λ (d : Progress). Leads d text next) fault.4 step)
-  where
-    by : LeadsEntries fault.0 fault.1 fault.2 fault.3 text next → ⊥
-    by (inl one) = fault.7 one.0 one.3
-    by (inr one) = let room = fault.5 in let full = one.1 in omega arith
-leads_no_fault expected text next _ prefix step fault = fault
-
--- the three faults of a line
-abbrev IsSortedFault : Progress → List ℕ → TextKind → Type 0
-IsSortedFault expected text kind =
-    ((kind ≡ BadLine) × IsLineFault expected text BadLine)
-    ⊎ (((why : TaskFault) × (kind ≡ TaskRefused why) × IsLineFault expected text (TaskRefused why))
-    ⊎ ((kind ≡ UnknownTask) × IsLineFault expected text UnknownTask))
-
-sorted : (expected : Progress) (text : List ℕ) (kind : TextKind) → IsLineFault expected text kind
-    → IsSortedFault expected text kind
-sorted expected text BadLine fault = inl (refl, fault)
-sorted expected text (TaskRefused why) fault = inr (inl (why, refl, fault))
-sorted expected text UnknownTask fault = inr (inr (refl, fault))
-sorted expected text _ fault = absurd fault
-
--- a line that is refused for its task, or names an unknown one, is of the form that is expected
-refused_form : (expected : Progress) (text : List ℕ) (why : TaskFault)
-    → IsLineFault expected text (TaskRefused why) → IsForm expected text
-refused_form expected text why fault =
-    subst (λ (d : Progress). IsForm d text) (sym fault.3) (inl (fault.2, fault.4))
-
-unknown_form : (expected : Progress) (text : List ℕ) → IsLineFault expected text UnknownTask
-    → IsForm expected text
-unknown_form expected text fault =
-    subst (λ (d : Progress). IsForm d text) (sym fault.4) (inl (fault.5, fault.6))
-
-same_refused : (expected : Progress) (text : List ℕ) (why other : TaskFault) → IsPrefix expected
-    → IsLineFault expected text (TaskRefused why)
-    → IsLineFault expected text (TaskRefused other) → why ≡ other
-same_refused expected text why other prefix one two =
-    let sets = tasks_same (sym one.3 ∙ two.3) in
-    let added = task_once (spaced_fields_of text) one.2 two.2 (task_to_fields text one.2 one.4)
-    (task_to_fields text two.2 two.4) in
-    let valid = (subst IsPrefix two.3 prefix).0.valid in
-    let refused = subst (λ (t : TaskData). IsRefusal one.1 t why) added one.5 in
-    same_refusal two.1 two.2 why other valid (subst (λ (s : SetData). IsRefusal s two.2 why) sets refused) two.5
-
-refused_or_unknown : (expected : Progress) (text : List ℕ) (why : TaskFault)
-    → IsLineFault expected text (TaskRefused why)
-    → IsLineFault expected text UnknownTask → ⊥
-refused_or_unknown expected text why one two = let clash' = sym one.3 ∙ two.4 in cc
-
-sorted_once : (expected : Progress) (text : List ℕ) (kind other : TextKind) → IsPrefix expected
-    → IsSortedFault expected text kind
-    → IsSortedFault expected text other → kind ≡ other
-sorted_once expected text kind other prefix (inl one) (inl two) = one.0 ∙ sym two.0
-sorted_once expected text kind other prefix (inl one) (inr (inl two)) =
-    absurd (one.1 (refused_form expected text two.0 two.2))
-sorted_once expected text kind other prefix (inl one) (inr (inr two)) =
-    absurd (one.1 (unknown_form expected text two.1))
-sorted_once expected text kind other prefix (inr (inl one)) (inl two) =
-    absurd (two.1 (refused_form expected text one.0 one.2))
-sorted_once expected text kind other prefix (inr (inl one)) (inr (inl two)) =
-    one.1 ∙ ap TaskRefused (same_refused expected text one.0 two.0 prefix one.2 two.2) ∙ sym two.1
-sorted_once expected text kind other prefix (inr (inl one)) (inr (inr two)) =
-    absurd (refused_or_unknown expected text one.0 one.2 two.1)
-sorted_once expected text kind other prefix (inr (inr one)) (inl two) =
-    absurd (two.1 (unknown_form expected text one.1))
-sorted_once expected text kind other prefix (inr (inr one)) (inr (inl two)) =
-    absurd (refused_or_unknown expected text two.0 two.2 one.1)
-sorted_once expected text kind other prefix (inr (inr one)) (inr (inr two)) = one.0 ∙ sym two.0
-
-pub fault_once : (expected : Progress) (text : List ℕ) (kind other : TextKind) → IsPrefix expected
-    → IsLineFault expected text kind → IsLineFault expected text other → kind ≡ other
-fault_once expected text kind other prefix one two =
-    sorted_once expected text kind other prefix (sorted expected text kind one) (sorted expected text other two)
+pub entry_fault_once : (version : ℕ) (set : SetData) (fields : List (List ℕ)) (kind other : TextKind)
+    → IsEntryFault version fields set kind → IsEntryFault version fields set other → kind ≡ other
+entry_fault_once version set fields kind other (inl one) (inl two) = one.0 ∙ sym two.0
+entry_fault_once version set fields kind other (inl one) (inr two) = absurd (one.1 two.1)
+entry_fault_once version set fields kind other (inr one) (inl two) = absurd (two.1 one.1)
+entry_fault_once version set fields kind other (inr one) (inr two) = one.0 ∙ sym two.0

@@ -1,5 +1,5 @@
 -- Lines without fault, one step after another: they lead from the header to each prefix of a schedule.
-use Rattle.std.proofs.Common.{◌≡◌, ℕ, ◌<◌, ◌≤◌, inl, inr, List, [], ◌∷◌, ◌++◌, length, All, Contains, refl, sym, ap, ◌∙◌, arith, append_assoc, append-nil, length-append}
+use Rattle.std.proofs.Common.{◌≡◌, ℕ, ◌+◌, ◌<◌, ◌≤◌, inl, inr, List, [], ◌∷◌, ◌++◌, length, All, Contains, refl, sym, ap, ◌∙◌, arith, append_assoc, append-nil, length-append}
 use Rattle.std.specs.Prelude.{codes}
 use Rattle.std.specs.List.{flat_map, FoldsTo}
 use Rattle.std.proofs.lemmas.List.{get_or_at}
@@ -11,8 +11,9 @@ use Rattle.text_fields.specs.LineText.{line, task_fields}
 use Rattle.text_fields.specs.Version.{IsVersion}
 use Rattle.schedule_text.specs.ScheduleText.{header, reply_fields, context_fields, spaced}
 use Rattle.schedule_text.specs.Schedule.{IsScheduled, IsContextOf, AreInOrder, IsScheduleSet}
-use Rattle.schedule_text.specs.Prefix.{Progress, HeaderExpected, ProcessorsExpected, TasksExpected, EntriesExpected, ContextsExpected, Ended, text_so_far, IsPrefix}
-use Rattle.schedule_text.specs.Reading.{Leads}
+use Rattle.schedule_text.specs.Prefix.{Progress, HeaderExpected, ProcessorsExpected, TasksExpected, EntriesExpected, ContextsExpected, Ended, text_so_far, lines_so_far, IsPrefix}
+use Rattle.schedule_text.specs.LineForms.{IsTaskForm}
+use Rattle.schedule_text.specs.Reading.{Says}
 use Rattle.schedule_text.specs.LineFields.{entry_fields}
 use Rattle.text_fields.specs.EventText.{event_fields}
 use Rattle.text_fields.proofs.Folds.{folds_append}
@@ -20,13 +21,14 @@ use Rattle.text_fields.proofs.Addable.{can_add_next}
 use Rattle.schedule_text.proofs.Names.{name_field}
 use Rattle.schedule_text.proofs.Fields.{mask_processors}
 use Rattle.schedule_text.proofs.Spaces.{EachByte, IsNoFeed, high_no_feed, none_from_no_feed, names_no_feed, name_high, number_bytes, word_bytes, joined_bytes, word_number_bytes, task_bytes, event_bytes, reply_bytes, context_bytes}
-use Rattle.schedule_text.proofs.Bridges.{task_spaced, entry_spaced, context_spaced}
-use Rattle.schedule_text.proofs.Prefixes.{leads_prefix, leads_text}
+use Rattle.schedule_text.proofs.Bridges.{task_spaced, task_to_fields, entry_spaced, entry_to_fields, context_spaced, context_to_fields}
+use Rattle.schedule_text.proofs.LineFaults.{header_said, processors_said, history_said, no_history}
+use Rattle.schedule_text.proofs.Prefixes.{leads_next}
 use Rattle.std.proofs.lemmas.List.Elements.{All-append, All-cons, All-weaker}
 
 -- a line without fault and without a line feed in it
 abbrev pub Step : Progress → List ℕ → Progress → Type 0
-Step expected text next = Leads expected text next × (Contains text 10 → ⊥)
+Step expected text next = Says expected text next × (Contains text 10 → ⊥)
 
 -- lines that lead from one prefix to another
 pub record IsPath (expected last : Progress) : Type 0 where
@@ -65,18 +67,17 @@ task_step version m before rest added set =
     let within : length before < length (before ++ added ∷ rest) = omega (arith, length-append before (added ∷ rest)) in
     let priority = rw (get_or_at before added rest added (length before) refl) at
     (set.priorities (length before) added within) in
-    let processors = mask_processors m added.mask set.valid.processors.1 can.mask in (
-      inl (
-        added,
-        refl,
-        record {
-          name = name_field added.name can.name;
-          priority = priority;
-          some = can.mask.some;
-          processors = processors;
-          is_text = sym (task_spaced added);
-        },
-        can,
+    let processors = mask_processors m added.mask set.valid.processors.1 can.mask in
+    let form : IsTaskForm (spaced (task_fields added)) added = record {
+      name = name_field added.name can.name;
+      priority = priority;
+      some = can.mask.some;
+      processors = processors;
+      is_text = sym (task_spaced added);
+    } in (
+      inr (
+        no_history (spaced (task_fields added)) added form,
+        inl (added, task_to_fields (spaced (task_fields added)) added form, inl (can, refl)),
       ),
       spaced_no_feed (task_fields added)
           (task_bytes IsNoFeed high_no_feed added
@@ -104,7 +105,7 @@ header_path : (version : ℕ) → IsVersion version → IsPath HeaderExpected (P
 header_path version known =
     let high = known.1 in
     one HeaderExpected (ProcessorsExpected version) (header version) (
-      (version, refl, record { known = known; is_text = refl }),
+      inl (version, header_said (header version) version (record { known = known; is_text = refl }), refl),
       spaced_no_feed (codes "schedule" ∷ canonical_number version ∷ [])
           (word_number_bytes IsNoFeed high_no_feed (codes "schedule") version refl (omega arith)),
     )
@@ -117,8 +118,9 @@ to_tasks version set known tasks =
     then HeaderExpected (ProcessorsExpected version) (TasksExpected version set) (header_path version known)
     (then (ProcessorsExpected version) (TasksExpected version (record { processors = set.processors; tasks = [] }))
     (TasksExpected version set)
-    (one (ProcessorsExpected version) (TasksExpected version (record { processors = set.processors; tasks = [] })) _ (
-      (set.processors, refl, record { range = range; is_text = refl }),
+    (one (ProcessorsExpected version) (TasksExpected version (record { processors = set.processors; tasks = [] }))
+    (codes "processors " ++ canonical_number set.processors) (
+      inl (set.processors, processors_said _ set.processors (record { range = range; is_text = refl }), refl),
       spaced_no_feed
           (codes "processors" ∷ canonical_number set.processors ∷ [])
           (word_number_bytes IsNoFeed high_no_feed (codes "processors") set.processors refl (omega arith)),
@@ -142,11 +144,13 @@ entries_path version set count before (entry ∷ entries) valid few each =
     (EntriesExpected version set count (before ++ entry ∷ entries))
     (one _ _ (spaced (entry_fields set entry)) (
       inl (
-        entry,
-        refl,
         omega (arith, few, within),
-        record
-            { scheduled = scheduled; is_text = sym (entry_spaced set entry) },
+        inl (
+          entry,
+          entry_to_fields version set (spaced (entry_fields set entry)) entry valid
+              (record { scheduled = scheduled; is_text = sym (entry_spaced set entry) }),
+          refl,
+        ),
       ),
       spaced_no_feed (entry_fields set
           entry) (entry_no_feed set entry valid scheduled),
@@ -172,8 +176,8 @@ to_entries version set count entries prefix =
     let few = prefix.2 in
     then HeaderExpected (TasksExpected version set) (EntriesExpected version set count entries) (to_tasks version set prefix.1 prefix.0)
     (then (TasksExpected version set) (EntriesExpected version set count []) (EntriesExpected version set count entries)
-    (one (TasksExpected version set) (EntriesExpected version set count []) _ (
-      inr (count, refl, record { few = few; is_text = refl }),
+    (one (TasksExpected version set) (EntriesExpected version set count []) (codes "history " ++ canonical_number count) (
+      inl (count, history_said _ count (record { few = few; is_text = refl }), refl),
       spaced_no_feed
           (codes "history" ∷ canonical_number count ∷ [])
           (word_number_bytes IsNoFeed high_no_feed (codes "history") count refl (omega arith)),
@@ -199,7 +203,15 @@ contexts_path version set entries before (context ∷ contexts) valid few each =
     then (ContextsExpected version set entries before) (ContextsExpected version set entries (before ++ context ∷ []))
     (ContextsExpected version set entries (before ++ context ∷ contexts))
     (one _ _ (spaced (context_fields set context)) (
-      inl (context, refl, room, record { of_task = of_task; is_text = sym (context_spaced set context) }),
+      inl (
+        room,
+        inl (
+          context,
+          context_to_fields set (length before) (spaced (context_fields set context)) context valid room
+              (record { of_task = of_task; is_text = sym (context_spaced set context) }),
+          refl,
+        ),
+      ),
       spaced_no_feed (context_fields set context)
           (context_bytes IsNoFeed high_no_feed set (length before) context (names_no_feed set valid) room of_task),
     ))
@@ -215,8 +227,9 @@ to_contexts version set entries contexts prefix =
     (to_entries version set (length entries) entries (prefix.0, prefix.1, prefix.2, omega arith, prefix.3))
     (then (EntriesExpected version set (length entries) entries) (ContextsExpected version set entries [])
     (ContextsExpected version set entries contexts)
-    (one (EntriesExpected version set (length entries) entries) (ContextsExpected version set entries []) _ (
-      inr (refl, refl, refl),
+    (one (EntriesExpected version set (length entries) entries) (ContextsExpected version set entries [])
+    (codes "contexts " ++ canonical_number (length set.tasks)) (
+      inr (λ room. omega (arith, room), inl (refl, refl)),
       spaced_no_feed (codes "contexts" ∷ canonical_number (length set.tasks) ∷ [])
           (word_number_bytes IsNoFeed high_no_feed (codes "contexts") (length set.tasks) refl (omega arith)),
     ))
@@ -237,20 +250,21 @@ prefix_path (Ended version set entries contexts) prefix =
     (to_contexts version set entries contexts
     (prefix.tasks, prefix.known, prefix.few, prefix.each_entry, omega arith, prefix.in_order))
     (one (ContextsExpected version set entries contexts) (Ended version set entries contexts) (codes "end") (
-      inr (refl, full, refl),
+      inr (λ room. omega (arith, room, full), inl (refl, refl)),
       none_from_no_feed (codes "end")
           (word_bytes IsNoFeed high_no_feed (codes "end") refl),
     ))
 
 -- and their text is that of the prefix
-pub path_text : (expected last : Progress) (lines : List (List ℕ)) → IsPrefix expected
-    → FoldsTo Step expected lines last → text_so_far last ≡ text_so_far expected
-    ++ flat_map line lines
+pub path_text : (expected last : Progress) (lines : List (List ℕ)) → IsPrefix expected → FoldsTo Step expected lines last
+    → (text_so_far last ≡ text_so_far expected ++ flat_map line lines)
+    × (lines_so_far last ≡ lines_so_far expected + length lines)
 path_text expected last [] prefix same =
-    ap text_so_far (sym same) ∙ sym (append-nil (text_so_far expected))
+    (ap text_so_far (sym same) ∙ sym (append-nil (text_so_far expected)), omega (arith, ap lines_so_far same))
 path_text expected last (text ∷ lines) prefix steps =
-    let next = steps.0 in
-    path_text next last lines (leads_prefix expected text next prefix steps.1.0) steps.2
-    ∙ ap (λ (text : List ℕ). text ++ flat_map line lines)
-    (leads_text expected text next prefix steps.1.0)
-    ∙ append_assoc (text_so_far expected) (line text) (flat_map line lines)
+    let is = leads_next expected text steps.0 prefix steps.1.0 in
+    let more = path_text steps.0 last lines is.prefix steps.2 in (
+      more.0 ∙ ap (λ (text : List ℕ). text ++ flat_map line lines) is.is_text
+          ∙ append_assoc (text_so_far expected) (line text) (flat_map line lines),
+      omega (arith, more.1, is.count),
+    )

@@ -25,7 +25,10 @@ use Rattle.schedule_text.specs.declared.stage.Stage.TheVariants as stages
 use Rattle.schedule_text.specs.declared.stage.Listing.{Listing}
 use Rattle.schedule_text.specs.declared.stage.Listing.TheVariants as listings
 use Rattle.schedule_text.specs.declared.stage.Reached.TheVariants.{End}
-use Rattle.schedule_text.specs.Reading.{progress_of_list, progress_of, progress_after_lists, progress_after, IsAnswerTo, Leads, LeadsTasks, LeadsEntries, LeadsContexts}
+use Rattle.text_fields.specs.Machine.{Leads, Fails}
+use Rattle.schedule_text.specs.LineOutcome.{LineOutcome}
+use Rattle.schedule_text.specs.Reading.{progress_of_list, progress_of, progress_after_lists, progress_after, IsAnswerTo, Says}
+use Rattle.schedule_text.proofs.Bridges.{number_to_text, task_to_text, entry_to_text, context_to_text}
 
 -- ---- more of a list
 
@@ -44,66 +47,6 @@ in_order_more contexts context before last = λ t d within. elim (cases_lt t (le
       let same : t ≡ length contexts = omega (arith, length-append contexts (context ∷ [])) in
       rw (same, get_or_at contexts context [] d (length contexts) refl) last)
 ]
-
--- ---- steps
-
-leads_tasks_prefix : (version : ℕ) (set : SetData) (text : List ℕ) (next : Progress) → IsPrefix (TasksExpected version set)
-    → LeadsTasks version set text next → IsPrefix next
-leads_tasks_prefix version set text next prefix (inl (added, last, form, can)) =
-    subst IsPrefix (sym last) (
-      record {
-        valid = IsTaskSet-push set added prefix.0.valid can;
-        priorities = All-push
-            (λ (task : TaskData). task.priority < 2 ^ 32) set.tasks added prefix.0.priorities form.priority;
-      },
-      prefix.1,
-    )
-leads_tasks_prefix version set text next prefix (inr (count, last, form)) =
-    subst IsPrefix (sym last) (prefix.0, prefix.1, form.few, omega arith, All-nil (IsScheduled version set))
-
-leads_entries_prefix : (version : ℕ) (set : SetData) (count : ℕ) (entries : List Entry) (text : List ℕ) (next : Progress)
-    → IsPrefix (EntriesExpected version set count entries) → LeadsEntries version set count entries text next
-    → IsPrefix next
-leads_entries_prefix version set count entries text next prefix (inl (entry, last, room, form)) =
-    subst IsPrefix (sym last) (
-      prefix.0,
-      prefix.1,
-      prefix.2,
-      omega (arith, length-append entries (entry ∷ [])),
-      All-push (IsScheduled version set) entries entry prefix.4 form.scheduled,
-    )
-leads_entries_prefix version set count entries text next prefix (inr (last, full, form)) =
-    subst IsPrefix (sym last) (
-      prefix.0,
-      prefix.1,
-      (let few = prefix.2 in omega arith),
-      prefix.4,
-      omega arith,
-      λ t d within. absurd (omega (arith, within)),
-    )
-
-leads_contexts_prefix : (version : ℕ) (set : SetData) (entries : List Entry) (contexts : List Context) (text : List ℕ)
-    (next : Progress) → IsPrefix (ContextsExpected version set entries contexts)
-    → LeadsContexts version set entries contexts text next → IsPrefix next
-leads_contexts_prefix version set entries contexts text next prefix (inl (context, last, room, form)) =
-    subst IsPrefix (sym last) (
-      prefix.0,
-      prefix.1,
-      prefix.2,
-      prefix.3,
-      omega (arith, length-append contexts (context ∷ [])),
-      in_order_more contexts context prefix.5 form.of_task,
-    )
-leads_contexts_prefix version set entries contexts text next prefix (inr (last, full, form)) =
-    subst IsPrefix (sym last)
-    (record {
-      known = prefix.1;
-      tasks = prefix.0;
-      few = prefix.2;
-      each_entry = prefix.3;
-      one_each = full;
-      in_order = prefix.5;
-    })
 
 no_tasks : (m : ℕ) → (1 ≤ m) × (m ≤ 64) → IsScheduleSet (record { processors = m; tasks = [] })
 no_tasks m range = record {
@@ -131,107 +74,145 @@ unended (stages.ProcessorsExpected version) = tt
 unended (stages.Listed lists) =
     unended_list lists.list lists.version lists.set lists.entries.items lists.contexts.items
 
--- a line leads to a prefix
-pub leads_prefix : (expected : Progress) (text : List ℕ) (next : Progress) → IsPrefix expected
-    → Leads expected text next → IsPrefix next
-leads_prefix HeaderExpected text next prefix step = subst IsPrefix (sym step.1) step.2.known
-leads_prefix (ProcessorsExpected version) text next prefix step =
-    subst IsPrefix (sym step.1) (no_tasks step.0 step.2.range, prefix)
-leads_prefix (TasksExpected version set) text next prefix step = leads_tasks_prefix version set text next prefix step
-leads_prefix (EntriesExpected version set count entries) text next prefix step =
-    leads_entries_prefix version set count entries text next prefix step
-leads_prefix (ContextsExpected version set entries contexts) text next prefix step =
-    leads_contexts_prefix version set entries contexts text next prefix step
-leads_prefix (Ended version set entries contexts) text next prefix step = absurd step
+-- ---- a line that leads on
 
--- whose text has the line more
-abbrev IsNextText : Progress → List ℕ → Progress → Type 0
-IsNextText expected text next = text_so_far next ≡ text_so_far expected ++ line text
+-- it makes a prefix of the next prefix, whose text has this line more
+pub record IsNext (expected : Progress) (text : List ℕ) (next : Progress) : Type 0 where
+  pub prefix : IsPrefix next
+  pub is_text : text_so_far next ≡ text_so_far expected ++ line text
+  pub count : lines_so_far next ≡ lines_so_far expected + 1
 
-next_text : (expected : Progress) (text : List ℕ) (next last : Progress) → next ≡ last
-    → IsNextText expected text last → IsNextText expected text next
-next_text expected text next last same is = subst (IsNextText expected text) (sym same) is
+at_next : (expected : Progress) (text : List ℕ) (next last : Progress) → ◌≡◌ {A = LineOutcome} (Leads next) (Leads last)
+    → IsNext expected text last → IsNext expected text next
+at_next expected text next last e is = subst (IsNext expected text) (let same : last ≡ next = cc in same) is
 
-pub leads_text : (expected : Progress) (text : List ℕ) (next : Progress) → IsPrefix expected
-    → Leads expected text next → IsNextText expected text next
+pub not_failed : {A : Type 0} (next : Progress) (kind : TextKind) → ◌≡◌ {A = LineOutcome} (Leads next) (Fails kind) → A
+not_failed next kind e = cc
+
+-- what is not less is all of it
+pub all_there : (n m : ℕ) → n ≤ m → (n < m → ⊥) → n ≡ m
+all_there n m few full = elim (cases_lt n m) [ inl less ↦ absurd (full less) | inr more ↦ omega arith ]
+
+pub leads_next : (expected : Progress) (text : List ℕ) (next : Progress) → IsPrefix expected → Says expected text next
+    → IsNext expected text next
 unfolding schedule_text
-leads_text HeaderExpected text next prefix step =
-    next_text HeaderExpected text next (ProcessorsExpected step.0) step.1 (ap line (sym step.2.is_text))
-leads_text (ProcessorsExpected version) text next prefix step =
-    next_text (ProcessorsExpected version) text next
-    (TasksExpected version (record { processors = step.0; tasks = [] })) step.1
-    (append-nil (line (header version) ++ line (codes "processors " ++ canonical_number step.0))
-    ∙ ap (λ (last : List ℕ). line (header version) ++ line last) (sym step.2.is_text))
-leads_text (TasksExpected version set) text next prefix (inl (added, last, form, can)) =
-    next_text (TasksExpected version set) text next (TasksExpected version (with_task set added)) last
-    (more_lines task_line (line (header version) ++ processors_line set) set.tasks added (line text)
-    (sym form.is_text))
-leads_text (TasksExpected version set) text next prefix (inr (count, last, form)) =
-    next_text (TasksExpected version set) text next (EntriesExpected version set count []) last
-    (append-nil (tasks_text version set ++ line (codes "history " ++ canonical_number count))
-    ∙ ap (λ (end : List ℕ). tasks_text version set ++ line end) (sym form.is_text))
-leads_text (EntriesExpected version set count entries) text next prefix (inl (entry, last, room, form)) =
-    next_text (EntriesExpected version set count entries) text next
-    (EntriesExpected version set count (entries ++ entry ∷ [])) last
-    (more_lines (entry_line set) (tasks_text version set ++ line (codes "history " ++ canonical_number count))
-    entries entry (line text) (sym form.is_text))
-leads_text (EntriesExpected version set count entries) text next prefix (inr (last, full, form)) =
-    next_text (EntriesExpected version set count entries) text next (ContextsExpected version set entries []) last
-    (append-nil (history_text version set (length entries) entries
-    ++ line (codes "contexts " ++ canonical_number (length set.tasks))) ∙ ap (λ (end : List ℕ). history_text
-    version set (length entries) entries
-    ++ line end) (sym form) ∙ ap (λ (n : ℕ). history_text version set n entries ++ line text) full)
-leads_text (ContextsExpected version set entries contexts) text next prefix (inl (context, last, room, form)) =
-    next_text (ContextsExpected version set entries contexts) text next
-    (ContextsExpected version set entries (contexts ++ context ∷ [])) last
-    (more_lines (context_line set) (history_text version set (length entries) entries
-    ++ line (codes "contexts " ++ canonical_number (length set.tasks))) contexts context (line text) (sym
-    form.is_text))
-leads_text (ContextsExpected version set entries contexts) text next prefix (inr (last, full, form)) =
-    next_text (ContextsExpected version set entries contexts) text next (Ended version set entries contexts) last
-    (ap (λ (n : ℕ). history_text version set (length entries) entries
-    ++ line (codes "contexts " ++ canonical_number n) ++ flat_map (context_line set) contexts
-    ++ line (codes "end")) full ∙ ap (λ (end : List ℕ). contexts_text version set entries contexts
-    ++ line end) (sym form))
-leads_text (Ended version set entries contexts) text next prefix step = absurd step
-
--- and a line more
-pub leads_lines : (expected : Progress) (text : List ℕ) (next : Progress) → Leads expected text next
-    → lines_so_far next ≡ lines_so_far expected + 1
-leads_lines HeaderExpected text next step = ap lines_so_far step.1
-leads_lines (ProcessorsExpected version) text next step = ap lines_so_far step.1
-leads_lines (TasksExpected version set) text next (inl (added, last, form, can)) =
-    ap lines_so_far last ∙ (let count = length-append set.tasks (added ∷ []) in omega arith)
-leads_lines (TasksExpected version set) text next (inr (count, last, form)) = ap lines_so_far last ∙ omega arith
-leads_lines (EntriesExpected version set count entries) text next (inl (entry, last, room, form)) =
-    ap lines_so_far last ∙ (let more = length-append entries (entry ∷ []) in omega arith)
-leads_lines (EntriesExpected version set count entries) text next (inr (last, full, form)) =
-    ap lines_so_far last ∙ omega arith
-leads_lines (ContextsExpected version set entries contexts) text next (inl (context, last, room, form)) =
-    ap lines_so_far last ∙ (let more = length-append contexts (context ∷ []) in omega arith)
-leads_lines (ContextsExpected version set entries contexts) text next (inr (last, full, form)) =
-    ap lines_so_far last ∙ omega arith
-leads_lines (Ended version set entries contexts) text next step = absurd step
-
--- no line leads to the start
-never_start : (expected : Progress) (text : List ℕ) → Leads expected text HeaderExpected → ⊥
-never_start HeaderExpected text step = let is = step.1 in cc
-never_start (ProcessorsExpected version) text step = let is = step.1 in cc
-never_start (TasksExpected version set) text (inl step) = let is = step.1 in cc
-never_start (TasksExpected version set) text (inr step) = let is = step.1 in cc
-never_start (EntriesExpected version set count entries) text (inl step) = let is = step.1 in cc
-never_start (EntriesExpected version set count entries) text (inr step) = let is = step.0 in cc
-never_start (ContextsExpected version set entries contexts) text (inl step) = let is = step.1 in cc
-never_start (ContextsExpected version set entries contexts) text (inr step) = let is = step.0 in cc
-never_start (Ended version set entries contexts) text step = step
+leads_next HeaderExpected text next prefix (inl (version, f, e)) =
+    at_next HeaderExpected text next (ProcessorsExpected version) e record {
+      prefix = f.range;
+      is_text = ap line (sym (number_to_text (codes "schedule") text version f.each_field));
+      count = refl;
+    }
+leads_next (ProcessorsExpected version) text next prefix (inl (m, f, e)) =
+    at_next (ProcessorsExpected version) text next (TasksExpected version (record { processors = m; tasks = [] })) e record {
+      prefix = (no_tasks m f.range, prefix);
+      is_text = append-nil (line (header version) ++ line (codes "processors " ++ canonical_number m))
+          ∙ ap (λ (last : List ℕ). line (header version) ++ line last)
+          (sym (number_to_text (codes "processors") text m f.each_field));
+      count = refl;
+    }
+leads_next (TasksExpected version set) text next prefix (inl (count, f, e)) =
+    at_next (TasksExpected version set) text next (EntriesExpected version set count []) e record {
+      prefix = (prefix.0, prefix.1, f.range.1, omega arith, All-nil (IsScheduled version set));
+      is_text = append-nil (tasks_text version set ++ line (codes "history " ++ canonical_number count))
+          ∙ ap (λ (end : List ℕ). tasks_text version set ++ line end)
+          (sym (number_to_text (codes "history") text count f.each_field));
+      count = omega arith;
+    }
+leads_next (TasksExpected version set) text next prefix (inr (none, inl (added, f, inl (can, e)))) =
+    at_next (TasksExpected version set) text next (TasksExpected version (with_task set added)) e record {
+      prefix = (
+        record {
+          valid = IsTaskSet-push set added prefix.0.valid can;
+          priorities = All-push (λ (task : TaskData). task.priority < 2 ^ 32) set.tasks added prefix.0.priorities f.priority;
+        },
+        prefix.1,
+      );
+      is_text = more_lines task_line (line (header version) ++ processors_line set) set.tasks added (line text)
+          (sym (task_to_text text added f).is_text);
+      count = omega (arith, length-append set.tasks (added ∷ []));
+    }
+leads_next (EntriesExpected version set count entries) text next prefix (inl (room, inl (entry, f, e))) =
+    at_next (EntriesExpected version set count entries) text next (EntriesExpected version set count (entries ++ entry ∷ [])) e record {
+      prefix = (
+        prefix.0,
+        prefix.1,
+        prefix.2,
+        omega (arith, length-append entries (entry ∷ [])),
+        All-push (IsScheduled version set) entries entry prefix.4 f.scheduled,
+      );
+      is_text = more_lines (entry_line set) (tasks_text version set ++ line (codes "history " ++ canonical_number count))
+          entries entry (line text) (sym (entry_to_text version set text entry f).is_text);
+      count = omega (arith, length-append entries (entry ∷ []));
+    }
+leads_next (EntriesExpected version set count entries) text next prefix (inr (full, inl (form, e))) =
+    let same = all_there (length entries) count prefix.3 full in
+    at_next (EntriesExpected version set count entries) text next (ContextsExpected version set entries []) e record {
+      prefix = (
+        prefix.0,
+        prefix.1,
+        (let few = prefix.2 in omega arith),
+        prefix.4,
+        omega arith,
+        λ t d within. absurd (omega (arith, within)),
+      );
+      is_text = append-nil (history_text version set (length entries) entries
+          ++ line (codes "contexts " ++ canonical_number (length set.tasks)))
+          ∙ ap (λ (end : List ℕ). history_text version set (length entries) entries ++ line end) (sym form)
+          ∙ ap (λ (n : ℕ). history_text version set n entries ++ line text) same;
+      count = omega arith;
+    }
+leads_next (ContextsExpected version set entries contexts) text next prefix (inl (room, inl (context, f, e))) =
+    at_next (ContextsExpected version set entries contexts) text next
+    (ContextsExpected version set entries (contexts ++ context ∷ [])) e record {
+      prefix = (
+        prefix.0,
+        prefix.1,
+        prefix.2,
+        prefix.3,
+        omega (arith, length-append contexts (context ∷ [])),
+        in_order_more contexts context prefix.5 f.of_task,
+      );
+      is_text = more_lines (context_line set) (history_text version set (length entries) entries
+          ++ line (codes "contexts " ++ canonical_number (length set.tasks))) contexts context (line text)
+          (sym (context_to_text set (length contexts) text context f).is_text);
+      count = omega (arith, length-append contexts (context ∷ []));
+    }
+leads_next (ContextsExpected version set entries contexts) text next prefix (inr (full, inl (form, e))) =
+    let same = all_there (length contexts) (length set.tasks) prefix.4 full in
+    at_next (ContextsExpected version set entries contexts) text next (Ended version set entries contexts) e record {
+      prefix = record {
+        known = prefix.1;
+        tasks = prefix.0;
+        few = prefix.2;
+        each_entry = prefix.3;
+        one_each = same;
+        in_order = prefix.5;
+      };
+      is_text = ap (λ (n : ℕ). history_text version set (length entries) entries
+          ++ line (codes "contexts " ++ canonical_number n) ++ flat_map (context_line set) contexts
+          ++ line (codes "end")) same
+          ∙ ap (λ (end : List ℕ). contexts_text version set entries contexts ++ line end) (sym form);
+      count = omega arith;
+    }
+leads_next HeaderExpected text next prefix (inr (none, e)) = not_failed next _ e
+leads_next (ProcessorsExpected version) text next prefix (inr (none, e)) = not_failed next _ e
+leads_next (TasksExpected version set) text next prefix (inr (none, inl (added, f, inr (fault, refused, e)))) = not_failed next _ e
+leads_next (TasksExpected version set) text next prefix (inr (none, inr (bad, e))) = not_failed next _ e
+leads_next (EntriesExpected version set count entries) text next prefix (inl (room, inr (kind, fault, e))) = not_failed next _ e
+leads_next (EntriesExpected version set count entries) text next prefix (inr (full, inr (differs, e))) = not_failed next _ e
+leads_next (ContextsExpected version set entries contexts) text next prefix (inl (room, inr (none, e))) = not_failed next _ e
+leads_next (ContextsExpected version set entries contexts) text next prefix (inr (full, inr (differs, e))) = not_failed next _ e
+leads_next (Ended version set entries contexts) text next prefix e = not_failed next _ e
 
 -- a last line leads to a whole schedule
 pub leads_whole : (expected : Progress) (text : List ℕ) (next : Stage) → IsPrefix expected
-    → Leads expected text (progress_after End next) → IsWholePrefix (progress_after End next)
+    → Says expected text (progress_after End next) → IsWholePrefix (progress_after End next)
 leads_whole expected text (stages.Listed lists) prefix step =
-    leads_prefix expected text (progress_after_lists End lists) prefix step
-leads_whole expected text stages.HeaderExpected prefix step = never_start expected text step
-leads_whole expected text (stages.ProcessorsExpected version) prefix step = never_start expected text step
+    (leads_next expected text (progress_after_lists End lists) prefix step).prefix
+leads_whole expected text stages.HeaderExpected prefix step =
+    omega (arith, (leads_next expected text HeaderExpected prefix step).count)
+leads_whole expected text (stages.ProcessorsExpected version) prefix step =
+    omega (arith, (leads_next expected text HeaderExpected prefix step).count)
 
 -- ---- what was read
 
@@ -246,18 +227,20 @@ pub read_start : (bytes : List ℕ) → IsReadTo bytes bytes 1 HeaderExpected
 read_start bytes = record { prefix = tt; order = refl; place = refl; bound = omega arith }
 
 pub read_more : (bytes rest text after : List ℕ) (number : ℕ) (expected next : Progress)
-    → IsReadTo bytes rest number expected → rest ≡ text ++ 10 ∷ after → Leads expected text next
+    → IsReadTo bytes rest number expected → rest ≡ text ++ 10 ∷ after → Says expected text next
     → IsReadTo bytes after (number + 1) next
-read_more bytes rest text after number expected next so_far cut step = record {
-  prefix = leads_prefix expected text next so_far.prefix step;
-  order =
-      so_far.order ∙ ap (λ (back : List ℕ). text_so_far expected ++ back)
-      (cut ∙ sym (append_assoc text (10 ∷ []) after))
-      ∙ sym (append_assoc (text_so_far expected) (line text) after)
-      ∙ ap (λ (prefix : List ℕ). prefix ++ after) (sym (leads_text expected text next so_far.prefix step));
-  place = (let place = so_far.place in let lines = leads_lines expected text next step in omega arith);
-  bound = (let bound = so_far.bound in omega (arith, ap length cut, length-append text (10 ∷ after)));
-}
+read_more bytes rest text after number expected next so_far cut step =
+    let is = leads_next expected text next so_far.prefix step in
+    record {
+      prefix = is.prefix;
+      order =
+          so_far.order ∙ ap (λ (back : List ℕ). text_so_far expected ++ back)
+          (cut ∙ sym (append_assoc text (10 ∷ []) after))
+          ∙ sym (append_assoc (text_so_far expected) (line text) after)
+          ∙ ap (λ (prefix : List ℕ). prefix ++ after) (sym is.is_text);
+      place = (let place = so_far.place in let count = is.count in omega arith);
+      bound = (let bound = so_far.bound in omega (arith, ap length cut, length-append text (10 ∷ after)));
+    }
 
 pub read_short : (bytes rest : List ℕ) (number : ℕ) (expected : Progress)
     → IsReadTo bytes rest number expected → IsUnended expected → (Contains rest 10 → ⊥)

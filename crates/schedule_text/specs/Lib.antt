@@ -2,6 +2,7 @@ pub mod Fields
 pub mod Laws
 pub mod LineFields
 pub mod LineForms
+pub mod LineOutcome
 pub mod Prefix
 pub mod Reading
 pub mod Schedule

@@ -3,10 +3,9 @@ ghost use Rattle.std.specs.Prelude.{◌≡◌, ℕ, ◌<◌, ◌⊎◌, ◌++◌
 ghost use Rattle.task_set.specs.declared.context.Context.{Context};
 ghost use Rattle.text_fields.specs.Fields.{texts};
 ghost use Rattle.affinity_mask.specs.Number.{canonical_number};
-ghost use Rattle.schedule_text.specs.LineForms.{IsContextText};
 ghost use Rattle.schedule_text.specs.Reading.{IsOutOfMemory};
 ghost use Rattle.schedule_text.specs.LineFields.{AreContextWords, IsContextFields, IsAdded, IsTaskFault};
-ghost use Rattle.schedule_text.specs.Fields.{IsLastField};
+ghost use Rattle.schedule_text.specs.Fields.{spaced_fields_of, IsLastField};
 ghost use Rattle.schedule_text.specs.declared.fault.TextKind.TheVariants.{BadLine};
 
 use crate::fault::TextKind;
@@ -66,12 +65,11 @@ pub fn read_context<'a>(
     room: &mut Vec<&'a [u8]>,
 ) -> Result<Context, TextKind>
     requires { t < length set.now.tasks }
-    ensures read { IfOk result (IsContextText set.now t text.now) }
+    ensures read { IfOk result (IsContextFields set.now t (spaced_fields_of text.now)) }
     ensures refused { IfErr result (λ kind. IsOutOfMemory kind
-        ⊎ ((kind ≡ BadLine)
-        × ((context : Context) → IsContextText set.now t text.now context → ⊥))) }
+        ⊎ ((kind ≡ BadLine) × ((context : Context)
+        → IsContextFields set.now t (spaced_fields_of text.now) context → ⊥))) }
 {
-    let _valid = set.len();
     let fields = spaced_fields(text, room)?;
     match context_of(set, t, fields) {
         Some(context) => Ok(context),

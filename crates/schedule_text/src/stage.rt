@@ -2,10 +2,9 @@
 ghost use Rattle.std.specs.Prelude.{◌≡◌, ◌≢◌, ℕ, ◌<◌, ◌≤◌, ◌⊎◌, List, [], codes, length, IfOk, IfErr, OnOk, MatchResult};
 ghost use Rattle.task_set.specs.TaskSet.{SetData};
 ghost use Rattle.strong_apa.specs.declared.reply.Entry.{Entry};
-ghost use Rattle.schedule_text.specs.ScheduleFault.{IsLineFault};
 ghost use Rattle.schedule_text.specs.LineForms.{IsCountForm};
 ghost use Rattle.schedule_text.specs.Prefix.{whole, IsPrefix, IsWholePrefix, HeaderExpected, ProcessorsExpected, TasksExpected, EntriesExpected, ContextsExpected};
-ghost use Rattle.schedule_text.specs.Reading.{progress_of, progress_of_lists, progress_after, progress_after_lists, progress_after_task, Leads, IsOutOfMemory};
+ghost use Rattle.schedule_text.specs.Reading.{progress_of, progress_of_lists, progress_after, progress_after_lists, progress_after_task, Says, IsFaultOf, IsOutOfMemory};
 ghost use Rattle.schedule_text.specs.declared.fault.TextKind.TheVariants.{BadLine};
 ghost use Rattle.schedule_text.specs.declared.stage.Listing.TheVariants.{Tasks, Entries, Contexts};
 
@@ -78,10 +77,9 @@ impl Stage {
         room: &mut Vec<&'a [u8]>,
     ) -> Result<Reached, TextKind>
         requires { IsPrefix (progress_of self.old) }
-        ensures read { IfOk result (λ reached. Leads (progress_of self.old) text.now
+        ensures read { IfOk result (λ reached. Says (progress_of self.old) text.now
             (progress_after reached self.new)) }
-        ensures refused { IfErr result (λ kind. IsOutOfMemory kind
-            ⊎ IsLineFault (progress_of self.old) text.now kind) }
+        ensures refused { IfErr result (IsFaultOf (progress_of self.old) text.now) }
     {
         match self {
             Stage::HeaderExpected => {
@@ -133,10 +131,9 @@ impl Lists {
         room: &mut Vec<&'a [u8]>,
     ) -> Result<Reached, TextKind>
         requires { IsPrefix (progress_of_lists self.old) }
-        ensures read { IfOk result (λ reached. Leads (progress_of_lists self.old) text.now
+        ensures read { IfOk result (λ reached. Says (progress_of_lists self.old) text.now
             (progress_after_lists reached self.new)) }
-        ensures refused { IfErr result (λ kind. IsOutOfMemory kind
-            ⊎ IsLineFault (progress_of_lists self.old) text.now kind) }
+        ensures refused { IfErr result (IsFaultOf (progress_of_lists self.old) text.now) }
     {
         match self.list {
             Listing::Tasks => self.task_line(text, room),
@@ -153,10 +150,10 @@ impl Lists {
     ) -> Result<Reached, TextKind>
         requires { self.old.list ≡ Tasks }
         ensures read { IfOk result (λ reached.
-            Leads (TasksExpected self.old.version self.old.set) text.now
+            Says (TasksExpected self.old.version self.old.set) text.now
             (progress_after_lists reached self.new)) }
-        ensures refused { IfErr result (λ kind. IsOutOfMemory kind
-            ⊎ IsLineFault (TasksExpected self.old.version self.old.set) text.now kind) }
+        ensures refused { IfErr result
+            (IsFaultOf (TasksExpected self.old.version self.old.set) text.now) }
     {
         if let Some(count) = read_task(&mut self.set, text, room)? {
             self.entries.clear();
@@ -176,11 +173,10 @@ impl Lists {
         requires goes { self.old.list ≡ Entries count }
         requires few { length self.old.entries.items ≤ count }
         ensures read { IfOk result (λ reached.
-            Leads (EntriesExpected self.old.version self.old.set count self.old.entries.items)
+            Says (EntriesExpected self.old.version self.old.set count self.old.entries.items)
             text.now (progress_after_lists reached self.new)) }
-        ensures refused { IfErr result (λ kind. IsOutOfMemory kind
-            ⊎ IsLineFault (EntriesExpected self.old.version self.old.set count
-            self.old.entries.items) text.now kind) }
+        ensures refused { IfErr result (IsFaultOf
+            (EntriesExpected self.old.version self.old.set count self.old.entries.items) text.now) }
     {
         if (self.entries.len() as u64) < count {
             list_entry(self.version, &self.set, &mut self.entries, text, room)?;
@@ -200,12 +196,11 @@ impl Lists {
     ) -> Result<Reached, TextKind>
         requires goes { self.old.list ≡ Contexts }
         requires few { length self.old.contexts.items ≤ length self.old.set.tasks }
-        ensures read { IfOk result (λ reached. Leads (ContextsExpected self.old.version self.old.set
+        ensures read { IfOk result (λ reached. Says (ContextsExpected self.old.version self.old.set
             self.old.entries.items self.old.contexts.items) text.now
             (progress_after_lists reached self.new)) }
-        ensures refused { IfErr result (λ kind. IsOutOfMemory kind
-            ⊎ IsLineFault (ContextsExpected self.old.version self.old.set self.old.entries.items
-            self.old.contexts.items) text.now kind) }
+        ensures refused { IfErr result (IsFaultOf (ContextsExpected self.old.version self.old.set
+            self.old.entries.items self.old.contexts.items) text.now) }
     {
         if self.contexts.len() < self.set.len() as usize {
             list_context(&self.set, &mut self.contexts, text, room)?;
@@ -222,9 +217,8 @@ fn read_header<'a>(
     text: &'a [u8],
     room: &mut Vec<&'a [u8]>,
 ) -> Result<(), TextKind>
-    ensures read { OnOk result (Leads HeaderExpected text.now (progress_of stage.new)) }
-    ensures refused { IfErr result (λ kind. IsOutOfMemory kind
-        ⊎ IsLineFault HeaderExpected text.now kind) }
+    ensures read { OnOk result (Says HeaderExpected text.now (progress_of stage.new)) }
+    ensures refused { IfErr result (IsFaultOf HeaderExpected text.now) }
 {
     let fields = spaced_fields(text, room)?;
     let (first, last) = (FIRST_VERSION as u64, LAST_VERSION as u64);
@@ -246,10 +240,9 @@ fn start<'a>(
     text: &'a [u8],
     room: &mut Vec<&'a [u8]>,
 ) -> Result<(), TextKind>
-    ensures read { OnOk result (Leads (ProcessorsExpected version) text.now
+    ensures read { OnOk result (Says (ProcessorsExpected version) text.now
         (progress_of stage.new)) }
-    ensures refused { IfErr result (λ kind. IsOutOfMemory kind
-        ⊎ IsLineFault (ProcessorsExpected version) text.now kind) }
+    ensures refused { IfErr result (IsFaultOf (ProcessorsExpected version) text.now) }
 {
     let fields = spaced_fields(text, room)?;
     let Some(processors) = number_after(fields, "processors", 1, MAX_PROCESSORS) else {
@@ -273,10 +266,10 @@ fn read_task<'a>(
     room: &mut Vec<&'a [u8]>,
 ) -> Result<Option<u64>, TextKind>
     ensures read { IfOk result (λ count. (version : ℕ)
-        → Leads (TasksExpected version set.old) text.now
+        → Says (TasksExpected version set.old) text.now
         (progress_after_task version set.new count)) }
-    ensures refused { IfErr result (λ kind. (version : ℕ) → IsOutOfMemory kind
-        ⊎ IsLineFault (TasksExpected version set.old) text.now kind) }
+    ensures refused { IfErr result (λ kind. (version : ℕ)
+        → IsFaultOf (TasksExpected version set.old) text.now kind) }
 {
     let fields = spaced_fields(text, room)?;
     match number_after(fields, "history", 0, MAX_ENTRIES) {
@@ -297,13 +290,11 @@ fn list_entry<'a>(
     room: &mut Vec<&'a [u8]>,
 ) -> Result<(), TextKind>
     ensures read { OnOk result ((count : ℕ) → length entries.old.items < count
-        → Leads (EntriesExpected version set.now count entries.old.items) text.now
+        → Says (EntriesExpected version set.now count entries.old.items) text.now
         (EntriesExpected version set.now count entries.new.items)) }
     ensures refused { IfErr result (λ kind. (count : ℕ) → length entries.old.items < count
-        → IsOutOfMemory kind
-        ⊎ IsLineFault (EntriesExpected version set.now count entries.old.items) text.now kind) }
+        → IsFaultOf (EntriesExpected version set.now count entries.old.items) text.now kind) }
 {
-    let _valid = set.len();
     let fields = spaced_fields(text, room)?;
     add_entry(version, set, entries, fields)?;
     Ok(())
@@ -330,12 +321,10 @@ fn list_context<'a>(
 ) -> Result<(), TextKind>
     requires { length contexts.old.items < length set.now.tasks }
     ensures read { OnOk result ((version : ℕ) (entries : List Entry)
-        → Leads (ContextsExpected version set.now entries contexts.old.items) text.now
+        → Says (ContextsExpected version set.now entries contexts.old.items) text.now
         (ContextsExpected version set.now entries contexts.new.items)) }
     ensures refused { IfErr result (λ kind. (version : ℕ) (entries : List Entry)
-        → IsOutOfMemory kind
-        ⊎ IsLineFault (ContextsExpected version set.now entries contexts.old.items) text.now
-        kind) }
+        → IsFaultOf (ContextsExpected version set.now entries contexts.old.items) text.now kind) }
 {
     let _valid = set.len();
     let context = read_context(set, contexts.len() as u32, text, room)?;

@@ -1,5 +1,5 @@
-use Rattle.schedule_text.proofs.LinesDecided as decided
+use Rattle.schedule_text.proofs.Texts as texts
 use Rattle.schedule_text.proofs.laws.accepted_or_refused.Goals as goal
 
 pub returns : goal.returns
-returns c = decided.accepted_or_refused
+returns c = texts.accepted_or_refused

@@ -1,5 +1,5 @@
-use Rattle.schedule_text.proofs.OneSchedule as once
+use Rattle.schedule_text.proofs.Texts as texts
 use Rattle.schedule_text.proofs.laws.text_has_one_schedule.Goals as goal
 
 pub returns : goal.returns
-returns c = once.text_has_one_schedule
+returns c = texts.text_has_one_schedule

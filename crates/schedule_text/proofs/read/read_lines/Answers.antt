@@ -1,6 +1,7 @@
 use Rattle.std.proofs.Common.{inl, inr, subst, ◌+◌}
 use Rattle.schedule_text.specs.declared.stage.Reached.TheVariants.{End}
 use Rattle.schedule_text.specs.Reading.{progress_of, progress_after}
+use Rattle.schedule_text.proofs.LineFaults.{line_fault}
 use Rattle.schedule_text.proofs.Prefixes.{IsReadTo, leads_whole, unended, read_more, read_short, read_fault, end_answer}
 use Rattle.schedule_text.proofs.read.read_lines.Goals as goal
 
@@ -39,6 +40,8 @@ returns-in-Err c = (
     | inl none ↦ inl none
     | inr fault ↦ inr (read_fault c.args.bytes.now c.loop-text.rest.now _ _ c.loop-text.line
         (progress_of c.loop-text.stage) c.in-Err.kind c.loop-text.invariant (unended c.loop-text.stage)
-        c.in-Some.ensures.0 c.in-Some.ensures.1 fault)
+        c.in-Some.ensures.0 c.in-Some.ensures.1
+        (line_fault (progress_of c.loop-text.stage) c.in-Some.text.now c.in-Err.kind c.loop-text.invariant.prefix
+        (unended c.loop-text.stage) fault))
   ],
 )

@@ -1,4 +1,4 @@
-use Rattle.schedule_text.proofs.OneSchedule.{answers_text, answers_schedule, answers_fault}
+use Rattle.schedule_text.proofs.Texts.{answers_text, answers_schedule, answers_fault}
 use Rattle.schedule_text.proofs.read.read_schedule.Goals as goal
 
 pub returns-clause-schedule : goal.returns-clause-schedule

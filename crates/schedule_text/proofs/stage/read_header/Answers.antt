@@ -1,16 +1,18 @@
-use Rattle.std.proofs.Common.{inr, ap}
-use Rattle.text_fields.specs.Fields.{texts}
+use Rattle.std.proofs.Common.{inl, inr, refl, ap}
+use Rattle.std.specs.Prelude.{codes}
+use Rattle.text_fields.specs.Machine.{Leads}
+use Rattle.schedule_text.specs.LineOutcome.{IsNumberOutcome}
+use Rattle.schedule_text.specs.Prefix.{ProcessorsExpected}
 use Rattle.schedule_text.specs.Reading.{progress_of}
-use Rattle.schedule_text.proofs.Stages.{header_none, header_read}
+use Rattle.schedule_text.proofs.Stages.{at_fields}
 use Rattle.schedule_text.proofs.stage.read_header.Goals as goal
 
 pub returns-in-Some-clause-read : goal.returns-in-Some-clause-read
-returns-in-Some-clause-read c = (
-  c.in-Some.version,
-  ap progress_of c.go_on.ensures,
-  header_read (texts c.in_ok-fields.fields.now) c.args.text.now c.in-Some.version c.in_ok-fields.ensures c.in-Some.ensures,
-)
+returns-in-Some-clause-read c =
+    at_fields (IsNumberOutcome (codes "schedule") 1 2 ProcessorsExpected) _ _ _ c.in_ok-fields.ensures
+    (inl (c.in-Some.version, c.in-Some.ensures, ap (λ stage. Leads (progress_of stage)) c.go_on.ensures))
 
 pub returns-in-None-clause-refused : goal.returns-in-None-clause-refused
 returns-in-None-clause-refused c =
-    inr (header_none (texts c.in_ok-fields.fields.now) c.args.text.now c.in_ok-fields.ensures c.in-None.ensures)
+    inr (at_fields (IsNumberOutcome (codes "schedule") 1 2 ProcessorsExpected) _ _ _ c.in_ok-fields.ensures
+    (inr (c.in-None.ensures, refl)))
