@@ -21,8 +21,8 @@ mod Bridges
 mod Stages
 mod Prefixes
 mod Once
-mod LineFaults
 mod Pieces
+mod SoFar
 mod Paths
 mod Decisions
 mod EntriesDecided

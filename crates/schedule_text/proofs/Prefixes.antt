@@ -1,34 +1,24 @@
 -- A line leads from a prefix of a schedule to the next prefix, whose text has the line more.
-use Rattle.std.proofs.Common.{◌≡◌, ◌≢◌, ℕ, ◌+◌, ◌<◌, ◌≤◌, ◌^◌, inl, inr, List, [], ◌∷◌, ◌++◌, length, Contains, Result, Ok, Err, IfOk, IfErr, refl, sym, ap, ◌∙◌, subst, arith, append_assoc, append-nil, length-append}
+use Rattle.std.proofs.Common.{◌≡◌, ℕ, ◌<◌, ◌≤◌, ◌^◌, inl, inr, List, [], ◌∷◌, ◌++◌, length, refl, sym, ap, ◌∙◌, subst, arith, append-nil, length-append}
 use Rattle.std.specs.Prelude.{codes}
 use Rattle.std.specs.List.{flat_map}
 use Rattle.std.proofs.lemmas.Bool.{cases_lt}
 use Rattle.std.proofs.lemmas.List.{get_or_append_left, get_or_at, flat_map_more}
 use Rattle.std.proofs.lemmas.List.Elements.{All-nil, All-push}
 use Rattle.affinity_mask.specs.Number.{canonical_number}
-use Rattle.task_set.specs.TaskSet.{TaskData, SetData, with_task, IsMask}
+use Rattle.task_set.specs.TaskSet.{TaskData, with_task, IsMask}
 use Rattle.task_set.specs.Name.{IsName}
 use Rattle.task_set.proofs.Added.{IsTaskSet-push}
 use Rattle.task_set.specs.declared.context.Context.{Context}
-use Rattle.strong_apa.specs.declared.reply.Entry.{Entry}
 use Rattle.text_fields.specs.LineText.{line, processors_line, task_line}
-use Rattle.schedule_text.specs.ScheduleText.{entry_line, context_line, header, schedule_text}
-use Rattle.schedule_text.specs.Schedule.{ScheduleData, IsScheduled, IsContextOf, AreInOrder, IsScheduleSet, IsSchedule}
-use Rattle.schedule_text.specs.ScheduleFault.{IsLineFault, IsScheduleRefused}
-use Rattle.schedule_text.specs.Laws.{text_of_schedule}
-use Rattle.schedule_text.specs.Prefix.{Progress, whole, HeaderExpected, ProcessorsExpected, TasksExpected, EntriesExpected, ContextsExpected, Ended, tasks_text, history_text, contexts_text, text_so_far, lines_so_far, IsPrefix, IsWholePrefix, IsUnended}
-use Rattle.schedule_text.specs.declared.fault.TextKind.{TextKind}
-use Rattle.schedule_text.specs.declared.fault.TextKind.TheVariants.{Short, AfterEnd}
-use Rattle.schedule_text.specs.declared.fault.TextFault.{TextFault}
-use Rattle.schedule_text.specs.declared.stage.Stage.{Stage}
-use Rattle.schedule_text.specs.declared.stage.Stage.TheVariants as stages
-use Rattle.schedule_text.specs.declared.stage.Listing.{Listing}
-use Rattle.schedule_text.specs.declared.stage.Listing.TheVariants as listings
-use Rattle.schedule_text.specs.declared.stage.Reached.TheVariants.{End}
 use Rattle.text_fields.specs.Machine.{Leads, Fails}
+use Rattle.schedule_text.specs.ScheduleText.{entry_line, context_line, header, schedule_text}
+use Rattle.schedule_text.specs.Schedule.{IsScheduled, IsContextOf, AreInOrder, IsScheduleSet}
+use Rattle.schedule_text.specs.Prefix.{Progress, HeaderExpected, ProcessorsExpected, TasksExpected, EntriesExpected, ContextsExpected, Ended, tasks_text, history_text, contexts_text, text_so_far, IsPrefix}
 use Rattle.schedule_text.specs.LineOutcome.{LineOutcome}
-use Rattle.schedule_text.specs.Reading.{progress_of_list, progress_of, progress_after_lists, progress_after, IsAnswerTo, Says}
-use Rattle.schedule_text.proofs.Bridges.{number_to_text, task_to_text, entry_to_text, context_to_text}
+use Rattle.schedule_text.specs.Reading.{Says}
+use Rattle.schedule_text.specs.declared.fault.TextKind.{TextKind}
+use Rattle.schedule_text.proofs.Bridges.{number_text_back, task_text, entry_text, context_text}
 
 -- ---- more of a list
 
@@ -60,27 +50,12 @@ no_tasks m range = record {
   priorities = All-nil (λ (task : TaskData). task.priority < 2 ^ 32);
 }
 
--- a list that goes on expects a line
-unended_list : (list : Listing) (version : ℕ) (set : SetData) (entries : List Entry) (contexts : List Context)
-    → IsUnended (progress_of_list list version set entries contexts)
-unended_list listings.Tasks version set entries contexts = tt
-unended_list (listings.Entries count) version set entries contexts = tt
-unended_list listings.Contexts version set entries contexts = tt
-
--- a stage expects a line
-pub unended : (stage : Stage) → IsUnended (progress_of stage)
-unended stages.HeaderExpected = tt
-unended (stages.ProcessorsExpected version) = tt
-unended (stages.Listed lists) =
-    unended_list lists.list lists.version lists.set lists.entries.items lists.contexts.items
-
 -- ---- a line that leads on
 
 -- it makes a prefix of the next prefix, whose text has this line more
 pub record IsNext (expected : Progress) (text : List ℕ) (next : Progress) : Type 0 where
   pub prefix : IsPrefix next
   pub is_text : text_so_far next ≡ text_so_far expected ++ line text
-  pub count : lines_so_far next ≡ lines_so_far expected + 1
 
 at_next : (expected : Progress) (text : List ℕ) (next last : Progress) → ◌≡◌ {A = LineOutcome} (Leads next) (Leads last)
     → IsNext expected text last → IsNext expected text next
@@ -99,24 +74,21 @@ unfolding schedule_text
 leads_next HeaderExpected text next prefix (inl (version, f, e)) =
     at_next HeaderExpected text next (ProcessorsExpected version) e record {
       prefix = f.range;
-      is_text = ap line (sym (number_to_text (codes "schedule") text version f.each_field));
-      count = refl;
+      is_text = ap line (sym (number_text_back (codes "schedule") text version f.each_field));
     }
 leads_next (ProcessorsExpected version) text next prefix (inl (m, f, e)) =
     at_next (ProcessorsExpected version) text next (TasksExpected version (record { processors = m; tasks = [] })) e record {
       prefix = (no_tasks m f.range, prefix);
       is_text = append-nil (line (header version) ++ line (codes "processors " ++ canonical_number m))
           ∙ ap (λ (last : List ℕ). line (header version) ++ line last)
-          (sym (number_to_text (codes "processors") text m f.each_field));
-      count = refl;
+          (sym (number_text_back (codes "processors") text m f.each_field));
     }
 leads_next (TasksExpected version set) text next prefix (inl (count, f, e)) =
     at_next (TasksExpected version set) text next (EntriesExpected version set count []) e record {
       prefix = (prefix.0, prefix.1, f.range.1, omega arith, All-nil (IsScheduled version set));
       is_text = append-nil (tasks_text version set ++ line (codes "history " ++ canonical_number count))
           ∙ ap (λ (end : List ℕ). tasks_text version set ++ line end)
-          (sym (number_to_text (codes "history") text count f.each_field));
-      count = omega arith;
+          (sym (number_text_back (codes "history") text count f.each_field));
     }
 leads_next (TasksExpected version set) text next prefix (inr (none, inl (added, f, inl (can, e)))) =
     at_next (TasksExpected version set) text next (TasksExpected version (with_task set added)) e record {
@@ -128,8 +100,7 @@ leads_next (TasksExpected version set) text next prefix (inr (none, inl (added, 
         prefix.1,
       );
       is_text = more_lines task_line (line (header version) ++ processors_line set) set.tasks added (line text)
-          (sym (task_to_text text added f).is_text);
-      count = omega (arith, length-append set.tasks (added ∷ []));
+          (sym (task_text text added f));
     }
 leads_next (EntriesExpected version set count entries) text next prefix (inl (room, inl (entry, f, e))) =
     at_next (EntriesExpected version set count entries) text next (EntriesExpected version set count (entries ++ entry ∷ [])) e record {
@@ -141,8 +112,7 @@ leads_next (EntriesExpected version set count entries) text next prefix (inl (ro
         All-push (IsScheduled version set) entries entry prefix.4 f.scheduled,
       );
       is_text = more_lines (entry_line set) (tasks_text version set ++ line (codes "history " ++ canonical_number count))
-          entries entry (line text) (sym (entry_to_text version set text entry f).is_text);
-      count = omega (arith, length-append entries (entry ∷ []));
+          entries entry (line text) (sym (entry_text version set text entry f));
     }
 leads_next (EntriesExpected version set count entries) text next prefix (inr (full, inl (form, e))) =
     let same = all_there (length entries) count prefix.3 full in
@@ -159,7 +129,6 @@ leads_next (EntriesExpected version set count entries) text next prefix (inr (fu
           ++ line (codes "contexts " ++ canonical_number (length set.tasks)))
           ∙ ap (λ (end : List ℕ). history_text version set (length entries) entries ++ line end) (sym form)
           ∙ ap (λ (n : ℕ). history_text version set n entries ++ line text) same;
-      count = omega arith;
     }
 leads_next (ContextsExpected version set entries contexts) text next prefix (inl (room, inl (context, f, e))) =
     at_next (ContextsExpected version set entries contexts) text next
@@ -174,8 +143,7 @@ leads_next (ContextsExpected version set entries contexts) text next prefix (inl
       );
       is_text = more_lines (context_line set) (history_text version set (length entries) entries
           ++ line (codes "contexts " ++ canonical_number (length set.tasks))) contexts context (line text)
-          (sym (context_to_text set (length contexts) text context f).is_text);
-      count = omega (arith, length-append contexts (context ∷ []));
+          (sym (context_text set (length contexts) text context f));
     }
 leads_next (ContextsExpected version set entries contexts) text next prefix (inr (full, inl (form, e))) =
     let same = all_there (length contexts) (length set.tasks) prefix.4 full in
@@ -192,7 +160,6 @@ leads_next (ContextsExpected version set entries contexts) text next prefix (inr
           ++ line (codes "contexts " ++ canonical_number n) ++ flat_map (context_line set) contexts
           ++ line (codes "end")) same
           ∙ ap (λ (end : List ℕ). contexts_text version set entries contexts ++ line end) (sym form);
-      count = omega arith;
     }
 leads_next HeaderExpected text next prefix (inr (none, e)) = not_failed next _ e
 leads_next (ProcessorsExpected version) text next prefix (inr (none, e)) = not_failed next _ e
@@ -203,109 +170,3 @@ leads_next (EntriesExpected version set count entries) text next prefix (inr (fu
 leads_next (ContextsExpected version set entries contexts) text next prefix (inl (room, inr (none, e))) = not_failed next _ e
 leads_next (ContextsExpected version set entries contexts) text next prefix (inr (full, inr (differs, e))) = not_failed next _ e
 leads_next (Ended version set entries contexts) text next prefix e = not_failed next _ e
-
--- a last line leads to a whole schedule
-pub leads_whole : (expected : Progress) (text : List ℕ) (next : Stage) → IsPrefix expected
-    → Says expected text (progress_after End next) → IsWholePrefix (progress_after End next)
-leads_whole expected text (stages.Listed lists) prefix step =
-    (leads_next expected text (progress_after_lists End lists) prefix step).prefix
-leads_whole expected text stages.HeaderExpected prefix step =
-    omega (arith, (leads_next expected text HeaderExpected prefix step).count)
-leads_whole expected text (stages.ProcessorsExpected version) prefix step =
-    omega (arith, (leads_next expected text HeaderExpected prefix step).count)
-
--- ---- what was read
-
--- the bytes before the rest are a prefix of a schedule
-pub record IsReadTo (bytes rest : List ℕ) (number : ℕ) (expected : Progress) : Type 0 where
-  pub prefix : IsPrefix expected
-  pub order : bytes ≡ text_so_far expected ++ rest
-  pub place : number ≡ lines_so_far expected + 1
-  pub bound : number + length rest ≤ length bytes + 1
-
-pub read_start : (bytes : List ℕ) → IsReadTo bytes bytes 1 HeaderExpected
-read_start bytes = record { prefix = tt; order = refl; place = refl; bound = omega arith }
-
-pub read_more : (bytes rest text after : List ℕ) (number : ℕ) (expected next : Progress)
-    → IsReadTo bytes rest number expected → rest ≡ text ++ 10 ∷ after → Says expected text next
-    → IsReadTo bytes after (number + 1) next
-read_more bytes rest text after number expected next so_far cut step =
-    let is = leads_next expected text next so_far.prefix step in
-    record {
-      prefix = is.prefix;
-      order =
-          so_far.order ∙ ap (λ (back : List ℕ). text_so_far expected ++ back)
-          (cut ∙ sym (append_assoc text (10 ∷ []) after))
-          ∙ sym (append_assoc (text_so_far expected) (line text) after)
-          ∙ ap (λ (prefix : List ℕ). prefix ++ after) (sym is.is_text);
-      place = (let place = so_far.place in let count = is.count in omega arith);
-      bound = (let bound = so_far.bound in omega (arith, ap length cut, length-append text (10 ∷ after)));
-    }
-
-pub read_short : (bytes rest : List ℕ) (number : ℕ) (expected : Progress)
-    → IsReadTo bytes rest number expected → IsUnended expected → (Contains rest 10 → ⊥)
-    → IsScheduleRefused bytes number Short
-read_short bytes rest number expected so_far unended none =
-    inl (
-      record {
-        expected = expected;
-        rest = rest;
-        prefix = so_far.prefix;
-        unended = unended;
-        order = so_far.order;
-        place = so_far.place;
-        short = none;
-      },
-      refl,
-    )
-
-pub read_fault : (bytes rest text after : List ℕ) (number : ℕ) (expected : Progress) (kind : TextKind)
-    → IsReadTo bytes rest number expected → IsUnended expected → rest ≡ text ++ 10 ∷ after
-    → (Contains text 10 → ⊥) → IsLineFault expected text kind → IsScheduleRefused bytes number kind
-read_fault bytes rest text after number expected kind so_far unended cut one_line fault = inr (inl record {
-  expected = expected;
-  text = text;
-  after = after;
-  prefix = so_far.prefix;
-  unended = unended;
-  order = so_far.order ∙ ap (λ (back : List ℕ). text_so_far expected ++ back)
-      (cut ∙ sym (append_assoc text (10 ∷ []) after));
-  place = so_far.place;
-  one_line = one_line;
-  fault = fault;
-})
-
-pub read_past : (bytes rest : List ℕ) (number : ℕ) (schedule : ScheduleData)
-    → IsReadTo bytes rest number (whole schedule) → rest ≢ [] → IsScheduleRefused bytes number AfterEnd
-read_past bytes rest number schedule so_far more =
-    inr (inr (
-      record {
-        schedule = schedule;
-        rest = rest;
-        is_schedule = so_far.prefix;
-        order = so_far.order;
-        place = so_far.place;
-        more = more;
-      },
-      refl,
-    ))
-
-pub read_end : (bytes rest : List ℕ) (number : ℕ) (schedule : ScheduleData)
-    → IsReadTo bytes rest number (whole schedule) → rest ≡ [] → bytes ≡ text_of_schedule schedule
-read_end bytes rest number schedule so_far none =
-    so_far.order ∙ ap (λ (back : List ℕ). text_of_schedule schedule ++ back) none
-    ∙ append-nil (text_of_schedule schedule)
-
--- what is answered after the last line
-module _ (bytes after : List ℕ) (number : ℕ) (schedule : ScheduleData)
-    (so_far : IsReadTo bytes after number (whole schedule)) where
-  pub end_answer : (result : Result ScheduleData TextFault) → IfOk result (λ answer. (answer ≡ schedule) × (after ≡ []))
-      → IfErr result (λ fault. (fault.line ≡ number) × (fault.kind ≡ AfterEnd) × (after ≢ []))
-      → IsAnswerTo bytes result
-  end_answer (Ok answer) read refused = (
-    subst (λ (s : ScheduleData). IsSchedule s × (bytes ≡ text_of_schedule s)) (sym read.0)
-        (so_far.prefix, read_end bytes after number schedule so_far read.1),
-    tt,
-  )
-  end_answer (Err fault) read refused =
-      (tt, inr (rw (refused.0, refused.1) (read_past bytes after number schedule so_far refused.2)))

@@ -1,6 +1,6 @@
 -- What holds of each byte from ',' on holds of each byte of the fields of a line, where it holds of the names: so the
 -- fields have no space and no line feed.
-use Rattle.std.proofs.Common.{◌≡◌, ◌≢◌, ℕ, ◌<◌, ◌≤◌, ◌^◌, Bool, true, false, ◌&&◌, nat_eq, nat_le, IsTrue, leb-true, inl, inr, List, [], ◌∷◌, length, map, All, Contains, Option, Some, None, IfSome, refl, sym, ◌∙◌, subst, arith, ne_eqb, eq-eqb}
+use Rattle.std.proofs.Common.{◌≡◌, ◌≢◌, ℕ, ◌<◌, ◌≤◌, ◌^◌, Bool, true, false, ◌&&◌, nat_eq, nat_le, IsTrue, leb-true, inl, inr, List, [], ◌∷◌, ◌++◌, length, map, All, Contains, Option, Some, None, IfSome, refl, sym, ◌∙◌, subst, arith, ne_eqb, eq-eqb}
 use Rattle.std.specs.Prelude.{codes}
 use Rattle.std.specs.List.{join_with_byte}
 use Rattle.std.specs.Str.Parse.{AllDigits}
@@ -25,11 +25,12 @@ use Rattle.strong_apa.specs.declared.reply.Came.{Came}
 use Rattle.strong_apa.specs.declared.reply.Came.TheVariants as came
 use Rattle.strong_apa.specs.declared.reply.Gone.{Gone}
 use Rattle.strong_apa.specs.declared.reply.Moved.{Moved}
+use Rattle.strong_apa.specs.declared.reply.Entry.{Entry}
 use Rattle.strong_apa.specs.Reply.{IsReplyOfVersion}
 use Rattle.text_fields.specs.EventText.{name_of, IsAboutSet, event_fields}
 use Rattle.schedule_text.specs.ScheduleText.{chain_text, set_text, somebody_text, number_text, reply_fields, context_fields, IsReplyOf}
-use Rattle.schedule_text.specs.LineFields.{IsCameFields, IsGoneFields}
-use Rattle.schedule_text.specs.Schedule.{IsProcessorList, IsOfProcessors, HasProcessors, IsContextOf}
+use Rattle.schedule_text.specs.LineFields.{entry_fields, IsCameFields, IsGoneFields}
+use Rattle.schedule_text.specs.Schedule.{IsProcessorList, IsOfProcessors, HasProcessors, IsScheduled, IsContextOf}
 use Rattle.task_set.specs.Event.{HasUnits}
 use Rattle.schedule_text.specs.LineForms.{IsField, HasFields}
 use Rattle.text_fields.specs.LineText.{task_fields}
@@ -251,6 +252,16 @@ module _ (P : ℕ → Type 0) (high : (b : ℕ) → 44 ≤ b → P b) where
       (subst (λ (fields : List (List ℕ)). IsToldBy version fields set reply) some.2
       (told version set reply about of has)) in
       rw some.2 all.all
+
+  pub entry_bytes : (version : ℕ) (set : SetData) (entry : Entry) → set.processors ≤ 64 → EachName P set
+      → IsScheduled version set entry → EachByte P (entry_fields set entry)
+  entry_bytes version set entry few names s =
+      All-cons (λ (field : List ℕ). All P field) (canonical_number entry.caller)
+      (event_fields set entry.event ++ reply_fields set entry.reply)
+      (number_bytes entry.caller (let caller = s.caller in omega arith))
+      (All-append (λ (field : List ℕ). All P field) (event_fields set entry.event) (reply_fields set entry.reply)
+      (event_bytes set entry.event few names s.tasks.event s.units)
+      (reply_bytes version set entry.reply names s.tasks.reply s.of_version.reply s.processors))
 
   last_bytes : (last : Option ℕ) → IfSome last (λ p. p < 64) → All P (number_text last)
   last_bytes None below = dash_bytes

@@ -1,11 +1,9 @@
 -- Laws of the schedule text. They rest on nothing but the definitions that they name.
-use Rattle.std.specs.Prelude.{◌≡◌, ℕ, ◌⊎◌, ◌↔◌, List}
-use Rattle.schedule_text.specs.ScheduleText.{schedule_text}
+use Rattle.std.specs.Prelude.{◌≡◌, ℕ, ◌⊎◌, List}
+use Rattle.schedule_text.specs.ScheduleText.{schedule_text, spaced}
+use Rattle.schedule_text.specs.Fields.{spaced_fields_of}
 use Rattle.schedule_text.specs.Schedule.{ScheduleData, IsSchedule}
 use Rattle.schedule_text.specs.ScheduleFault.{IsScheduleRefused}
-use Rattle.text_fields.specs.Laws.{IsRefused}
-use Rattle.schedule_text.specs.Prefix.{HeaderExpected}
-use Rattle.schedule_text.specs.LineOutcome.{pieces_of, IsPieceOutcome, IsEndOutcome}
 use Rattle.schedule_text.specs.declared.fault.TextKind.{TextKind}
 
 -- the text of a schedule
@@ -39,9 +37,6 @@ AcceptedOrRefused =
     → ((schedule : ScheduleData) × IsSchedule schedule × (bytes ≡ text_of_schedule schedule))
     ⊎ ((line : ℕ) × (kind : TextKind) × IsScheduleRefused bytes line kind)
 
--- the bytes are refused just where the machine refuses them that goes by the fields of their lines
-abbrev pub RefusedByLines : Type 0
-RefusedByLines =
-    (bytes : List ℕ) (line : ℕ) (kind : TextKind)
-    → IsScheduleRefused bytes line kind
-    ↔ IsRefused pieces_of HeaderExpected IsPieceOutcome IsEndOutcome bytes line kind
+-- a line is its fields with one space between them
+abbrev pub LineIsItsFields : Type 0
+LineIsItsFields = (text : List ℕ) → text ≡ spaced (spaced_fields_of text)

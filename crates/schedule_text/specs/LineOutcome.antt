@@ -20,14 +20,17 @@ abbrev pub LineOutcome : Type 0
 LineOutcome = Outcome Progress TextKind
 
 -- a word and a number, which says what is expected
-abbrev pub IsNumberOutcome : List ℕ → ℕ → ℕ → (ℕ → Progress) → List (List ℕ) → LineOutcome → Type 0
+abbrev pub IsNumberOutcome : List ℕ → ℕ → ℕ → (ℕ → Progress) → List (List ℕ) → LineOutcome
+    → Type 0
 IsNumberOutcome word least most next fields =
-    IsReading (IsNumberAfter word least most fields) (λ n. IsOnly (Leads (next n))) (IsOnly (Fails BadLine))
+    IsReading (IsNumberAfter word least most fields) (λ n. IsOnly (Leads (next n)))
+    (IsOnly (Fails BadLine))
 
 -- the task can be added, or the task set refuses it
 abbrev pub IsAddOutcome : ℕ → SetData → TaskData → LineOutcome → Type 0
 IsAddOutcome version set task =
-    IsAllowing (CanAdd set task) (IsRefusal set task) (IsOnly (Leads (TasksExpected version (with_task set task))))
+    IsAllowing (CanAdd set task) (IsRefusal set task)
+    (IsOnly (Leads (TasksExpected version (with_task set task))))
     (λ fault. IsOnly (Fails (TaskRefused fault)))
 
 -- how many entries there are, or a task
@@ -45,7 +48,8 @@ IsEntryOutcome version set count entries fields =
     (λ kind. IsOnly (Fails kind))
 
 -- one more context
-abbrev pub IsContextOutcome : ℕ → SetData → List Entry → List Context → List (List ℕ) → LineOutcome → Type 0
+abbrev pub IsContextOutcome : ℕ → SetData → List Entry → List Context → List (List ℕ) → LineOutcome
+    → Type 0
 IsContextOutcome version set entries contexts fields =
     IsReading (IsContextFields set (length contexts) fields)
     (λ context. IsOnly (Leads (ContextsExpected version set entries (contexts ++ context ∷ []))))
@@ -60,7 +64,8 @@ IsOutcome (ProcessorsExpected version) text =
     (λ m. TasksExpected version (record { processors = m; tasks = [] })) (spaced_fields_of text)
 IsOutcome (TasksExpected version set) text = IsTaskOutcome version set (spaced_fields_of text)
 IsOutcome (EntriesExpected version set count entries) text =
-    IsChoice (length entries < count) (IsEntryOutcome version set count entries (spaced_fields_of text))
+    IsChoice (length entries < count)
+    (IsEntryOutcome version set count entries (spaced_fields_of text))
     (IsChoice (IsCountForm set text) (IsOnly (Leads (ContextsExpected version set entries [])))
     (IsOnly (Fails BadLine)))
 IsOutcome (ContextsExpected version set entries contexts) text =

@@ -1,5 +1,5 @@
 -- Prefixes of a schedule: the text so far, and what is expected after it.
-use Rattle.std.specs.Prelude.{ℕ, ◌+◌, ◌≤◌, List, [], ◌++◌, length, codes, All}
+use Rattle.std.specs.Prelude.{ℕ, ◌≤◌, List, [], ◌++◌, length, codes, All}
 use Rattle.std.specs.List.{flat_map}
 use Rattle.affinity_mask.specs.Number.{canonical_number}
 use Rattle.task_set.specs.TaskSet.{SetData}
@@ -52,17 +52,6 @@ text_so_far (ContextsExpected version set entries contexts) =
     contexts_text version set entries contexts
 text_so_far (Ended version set entries contexts) = schedule_text version set entries contexts
 
--- how many lines it has
-abbrev pub lines_so_far : Progress → ℕ
-lines_so_far HeaderExpected = 0
-lines_so_far (ProcessorsExpected version) = 1
-lines_so_far (TasksExpected version set) = 2 + length set.tasks
-lines_so_far (EntriesExpected version set count entries) = 3 + length set.tasks + length entries
-lines_so_far (ContextsExpected version set entries contexts) =
-    4 + length set.tasks + length entries + length contexts
-lines_so_far (Ended version set entries contexts) =
-    5 + length set.tasks + length entries + length contexts
-
 -- it is a prefix of some schedule
 abbrev pub IsPrefix : Progress → Type 0
 IsPrefix HeaderExpected = Unit {0}
@@ -77,15 +66,6 @@ IsPrefix (ContextsExpected version set entries contexts) =
     × AreInOrder contexts
 IsPrefix (Ended version set entries contexts) =
     IsSchedule (record { version = version; set = set; entries = entries; contexts = contexts })
-
--- a line is still expected
-abbrev pub IsUnended : Progress → Type 0
-IsUnended HeaderExpected = Unit {0}
-IsUnended (ProcessorsExpected version) = Unit {0}
-IsUnended (TasksExpected version set) = Unit {0}
-IsUnended (EntriesExpected version set count entries) = Unit {0}
-IsUnended (ContextsExpected version set entries contexts) = Unit {0}
-IsUnended (Ended version set entries contexts) = ⊥
 
 -- it is a whole schedule
 abbrev pub IsWholePrefix : Progress → Type 0

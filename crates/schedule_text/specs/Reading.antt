@@ -4,12 +4,12 @@ use Rattle.std.specs.Prelude.{◌≡◌, ℕ, ◌⊎◌, List, [], Option, Some,
 use Rattle.task_set.specs.TaskSet.{SetData}
 use Rattle.task_set.specs.declared.context.Context.{Context}
 use Rattle.strong_apa.specs.declared.reply.Entry.{Entry}
-use Rattle.schedule_text.specs.Laws.{text_of_schedule}
-use Rattle.schedule_text.specs.Schedule.{ScheduleData, IsSchedule}
+use Rattle.schedule_text.specs.Schedule.{ScheduleData}
 use Rattle.schedule_text.specs.ScheduleFault.{IsScheduleRefused}
 use Rattle.schedule_text.specs.Prefix.{Progress, HeaderExpected, ProcessorsExpected, TasksExpected, EntriesExpected, ContextsExpected, Ended}
-use Rattle.schedule_text.specs.LineOutcome.{IsOutcome}
+use Rattle.schedule_text.specs.LineOutcome.{IsOutcome, pieces_of, IsPieceOutcome, IsEndOutcome}
 use Rattle.text_fields.specs.Machine.{Leads, Fails}
+use Rattle.text_fields.specs.Laws.{IsTextOf}
 use Rattle.schedule_text.specs.declared.fault.TextFault.{TextFault}
 use Rattle.schedule_text.specs.declared.fault.TextKind.{TextKind}
 use Rattle.schedule_text.specs.declared.fault.TextKind.TheVariants.{OutOfMemory}
@@ -74,6 +74,6 @@ IsFaultOf expected text kind = IsOutOfMemory kind ⊎ IsOutcome expected text (F
 -- a reader answers a schedule of which the bytes are the text, or the first fault, unless it is out of memory
 abbrev pub IsAnswerTo : List ℕ → Result ScheduleData TextFault → Type 0
 IsAnswerTo bytes result =
-    IfOk result (λ schedule. IsSchedule schedule × (bytes ≡ text_of_schedule schedule))
+    IfOk result (IsTextOf pieces_of HeaderExpected IsPieceOutcome IsEndOutcome bytes)
     × IfErr result
     (λ fault. IsOutOfMemory fault.kind ⊎ IsScheduleRefused bytes fault.line fault.kind)

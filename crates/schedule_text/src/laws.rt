@@ -1,6 +1,6 @@
 //! What holds of the texts of schedules, whatever program reads them. Each law is the contract of a function that does
 //! nothing: a caller in a proof gets the law by its clause.
-ghost use Rattle.schedule_text.specs.Laws.{TextHasOneSchedule, TextHasOneFault, ScheduleHasNoFault, AcceptedOrRefused, RefusedByLines};
+ghost use Rattle.schedule_text.specs.Laws.{TextHasOneSchedule, TextHasOneFault, ScheduleHasNoFault, AcceptedOrRefused, LineIsItsFields};
 
 /// Two schedules with one text are equal.
 pub fn text_has_one_schedule()
@@ -22,7 +22,7 @@ pub fn accepted_or_refused()
     ensures { AcceptedOrRefused }
 {}
 
-/// A text is refused where its lines are, one after another, by their fields.
-pub fn refused_by_lines()
-    ensures { RefusedByLines }
+/// A line is its fields with one space between them.
+pub fn line_is_its_fields()
+    ensures { LineIsItsFields }
 {}

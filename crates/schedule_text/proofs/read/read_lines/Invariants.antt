@@ -1,6 +1,6 @@
 use Rattle.std.proofs.Common.{length}
 use Rattle.schedule_text.specs.Reading.{progress_of}
-use Rattle.schedule_text.proofs.Prefixes.{IsReadTo}
+use Rattle.schedule_text.proofs.SoFar.{IsReadTo}
 use Rattle.schedule_text.proofs.read.read_lines.Given as goal
 
 abbrev pub invariant-loop-text : goal.invariant-loop-text
