@@ -81,10 +81,10 @@ IsAddFault set priority mask result =
     (result ≡ 1) ⊎ (((result ≡ 7) × (length set.tasks ≡ 1024)) ⊎ (((result ≡ 6) × ((t : ℕ) × IsPriorityOf set t priority))
     ⊎ (((result ≡ 5) × IsBadMask set.processors mask) ⊎ ((result ≡ 9) × IsNameFault set (stored_name set)))))
 
--- the task stands last in the set then, or the set stays
+-- the task stands last in the set then, under its stored name, or the set stays
 abbrev pub AddsTo : SetData → ℕ → ℕ → ℕ → SetData → Type 0
 AddsTo old priority mask result new =
-    ((result ≡ 0) × ((name : List ℕ) × AddsTask old new (new_task name priority mask) (length old.tasks))) ⊎ ((new ≡ old) × IsAddFault old priority mask result)
+    ((result ≡ 0) × AddsTask old new (new_task (stored_name old) priority mask) (length old.tasks)) ⊎ ((new ≡ old) × IsAddFault old priority mask result)
 
 abbrev pub AddedAt : Stage → Apa → ℕ → ℕ → ℕ → Apa → Type 0
 AddedAt Empty old priority mask result new = IsNotNow old result new
