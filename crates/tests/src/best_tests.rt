@@ -1,6 +1,7 @@
 //! Certificates and best sets of states that are worked by hand.
 ghost use Rattle.std.specs.Prelude.{◌<◌, IsTrue, All};
 
+use crate::same::same_at;
 use crate::stated::{set_of, state_of, tasks_of};
 use link_table::Links;
 use reach_certificate::{all_certified, best_set, is_certificate};
@@ -40,11 +41,7 @@ fn are_certified(rt: &impl Abort, links: &Links, sets: &[&str; 4]) -> (bool, boo
 fn compare(rt: &impl Abort, alloc: Global, row: &Row) {
     let (off, tasks, sets, certify) = row;
     let links = state_of(rt, alloc, 2, off, tasks);
-    assert_eq!(rt;
-        are_certified(rt, &links, sets),
-        (*certify, true),
-        "{sets:?}"
-    );
+    same_at(rt, are_certified(rt, &links, sets), (*certify, true), sets);
 }
 
 #[test]

@@ -1,4 +1,5 @@
 //! A core whose history fills up, and what else no text shows of it.
+use crate::same::same;
 use crate::stated::{is_event_for, tasks_of};
 use sched_core::{Core, CoreFault, MAX_ENTRIES};
 use std::alloc::Global;
@@ -19,11 +20,11 @@ fn fill(rt: &impl Abort, core: &mut Core) {
     for place in 0..MAX_ENTRIES as u64 {
         let event = event_at(place);
         assert!(rt; is_event_for(core.links(), &event));
-        assert_eq!(rt; core.apply(0, event), Ok(place));
+        same(rt, core.apply(0, event), Ok(place));
     }
-    assert_eq!(rt; core.apply(0, Event::Tick(1)), Err(CoreFault::Full));
+    same(rt, core.apply(0, Event::Tick(1)), Err(CoreFault::Full));
     core.close_now();
-    assert_eq!(rt; core.apply(0, Event::Tick(1)), Err(CoreFault::Closed));
+    same(rt, core.apply(0, Event::Tick(1)), Err(CoreFault::Closed));
 }
 
 /// A take, a run and a release for each four events, and the stop; to the second processor the stop alone.
@@ -33,9 +34,9 @@ fn expect_full_orders(rt: &impl Abort, core: &Core) {
         task: 0,
         number: 4999,
     };
-    assert_eq!(rt; core.orders(0).len(), 15_001);
-    assert_eq!(rt; core.orders(0).get(14_997), Some(&last));
-    assert_eq!(rt; core.orders(1), [Order::Stop].as_slice());
+    same(rt, core.orders(0).len(), 15_001);
+    same(rt, core.orders(0).get(14_997), Some(&last));
+    same(rt, core.orders(1), [Order::Stop].as_slice());
 }
 
 #[test]

@@ -1,5 +1,6 @@
 //! Histories that are followed by hand, with entries that have a defect between their own: what the checker says of each entry,
 //! and what both the checker and the core have in the end.
+use crate::same::{same, same_at};
 use crate::stated::is_event_for;
 use reach_certificate::{Checker, Defect};
 use sched_core::{Core, CoreFault};
@@ -256,7 +257,7 @@ fn judge(rt: &impl Abort, alloc: Global, checker: &mut Checker, entry: &Entry, r
     assert!(rt; is_event_for(checker.links(), &entry.event));
     let said = words_of(alloc, checker.accept(entry)).expect(rt, "memory");
     let (_entry, expected) = row.split_once(": ").unwrap_or((row, ""));
-    assert_eq!(rt; said.as_str(), expected, "{row}");
+    same_at(rt, said.as_str(), expected, &row);
 }
 
 /// The checker says of the entries what stands behind them.
@@ -270,7 +271,7 @@ fn judge_all(rt: &impl Abort, alloc: Global, checker: &mut Checker, entries: &[E
 fn expect_contexts(rt: &impl Abort, checker: &Checker, contexts: &[Context]) {
     for expected in contexts {
         if expected.task < checker.links().len() {
-            assert_eq!(rt; *checker.context(expected.task), *expected);
+            same(rt, checker.context(expected.task), expected);
         }
     }
 }
@@ -286,7 +287,7 @@ fn check(rt: &impl Abort, alloc: Global, set: &TaskSet, row: &Row, schedule: &Sc
 fn make(rt: &impl Abort, core: &mut Core, entry: &Entry) {
     let place = core.history().len() as u64;
     assert!(rt; is_event_for(core.links(), &entry.event));
-    assert_eq!(rt; core.apply(entry.caller, entry.event), Ok(place));
+    same(rt, core.apply(entry.caller, entry.event), Ok(place));
     match core.history().last() {
         Some(made) => assert!(rt; *made == *entry, "at {place}"),
         None => assert!(rt; false),
@@ -325,12 +326,16 @@ fn line_of(alloc: Global, orders: &[Order]) -> Result<String, AllocError> {
 fn expect_orders(rt: &impl Abort, alloc: Global, core: &Core, p: u8, line: &str) {
     assert!(rt; p < core.links().processors());
     let orders = line_of(alloc, core.orders(p)).expect(rt, "memory");
-    assert_eq!(rt; orders.as_str(), line);
+    same(rt, orders.as_str(), line);
 }
 
 /// The orders to each processor are those of a line.
 fn expect_all_orders(rt: &impl Abort, alloc: Global, core: &Core, lines: &str) {
-    assert_eq!(rt; core.links().processors() as usize, lines.lines().count());
+    same(
+        rt,
+        core.links().processors() as usize,
+        lines.lines().count(),
+    );
     for (line, p) in lines.lines().zip(0u8..64) {
         expect_orders(rt, alloc, core, p, line);
     }
@@ -340,7 +345,7 @@ fn expect_all_orders(rt: &impl Abort, alloc: Global, core: &Core, lines: &str) {
 fn close(rt: &impl Abort, core: &mut Core) {
     core.close_now();
     assert!(rt; core.is_closed());
-    assert_eq!(rt; core.apply(0, Event::Tick(1)), Err(CoreFault::Closed));
+    same(rt, core.apply(0, Event::Tick(1)), Err(CoreFault::Closed));
     core.close_now();
 }
 

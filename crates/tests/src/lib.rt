@@ -18,6 +18,8 @@ mod plain;
 #[cfg(test)]
 mod priority_tests;
 #[cfg(test)]
+mod same;
+#[cfg(test)]
 mod search_tests;
 #[cfg(test)]
 mod stated;

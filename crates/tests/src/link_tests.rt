@@ -1,4 +1,5 @@
 //! The links by calls, on states small enough to follow by hand.
+use crate::same::{same, same_at};
 use crate::stated::{absent, chain_of, enter, set_of, state_of};
 use affinity_mask::ProcSet;
 use link_table::Links;
@@ -27,7 +28,7 @@ fn shift(
 /// The tasks come, one after the other.
 fn move_all(rt: &impl Abort, links: &mut Links) {
     for (t, chain, out, on) in &MOVES {
-        assert_eq!(rt; shift(rt, links, *t, chain), (*out, *on), "task {t}");
+        same_at(rt, shift(rt, links, *t, chain), (*out, *on), t);
     }
 }
 
@@ -48,11 +49,12 @@ static WAITING: [(&str, Option<u32>); 4] = [
 /// Who waits for which processors, and whom each processor can get its occupant from.
 fn ask_who_waits(rt: &impl Abort, links: &Links) {
     for (set, task) in &WAITING {
-        assert_eq!(rt; links.most_urgent_in(set_of(rt, set)), *task, "in {set}");
+        same_at(rt, links.most_urgent_in(set_of(rt, set)), *task, set);
     }
-    assert_eq!(rt;
+    same(
+        rt,
         [links.feeders(0), links.feeders(1)],
-        [ProcSet::first(2), ProcSet::one(1)]
+        [ProcSet::first(2), ProcSet::one(1)],
     );
 }
 
@@ -62,7 +64,7 @@ fn leave_first(rt: &impl Abort, links: &mut Links) {
     let Some(p) = links.of(0) else {
         return;
     };
-    assert_eq!(rt; [links.leave(0), p], [0, 0]);
+    same(rt, [links.leave(0), p], [0, 0]);
     let mask = ProcSet::one(1);
     assert!(rt; links.len() == 4 && !links.is_ready(0));
     assert!(rt; links.processors() <= 64 && !mask.is_empty());
@@ -74,16 +76,16 @@ fn leave_first(rt: &impl Abort, links: &mut Links) {
 fn unlink_second(rt: &impl Abort, links: &mut Links) {
     assert!(rt; links.processors() == 2);
     assert!(rt; links.on(1).is_some());
-    assert_eq!(rt; links.unlink(1), 1);
+    same(rt, links.unlink(1), 1);
 }
 
 /// The first task is absent, the second one waits, and both processors are idle.
 fn ask_who_left(rt: &impl Abort, links: &Links) {
     assert!(rt; links.len() == 4);
-    assert_eq!(rt; links.mask(0), ProcSet::one(1));
+    same(rt, links.mask(0), ProcSet::one(1));
     assert!(rt; links.is_waiting(1));
-    assert_eq!(rt; links.idle(), ProcSet::first(2));
-    assert_eq!(rt; links.most_urgent_in(ProcSet::one(1)), Some(1));
+    same(rt, links.idle(), ProcSet::first(2));
+    same(rt, links.most_urgent_in(ProcSet::one(1)), Some(1));
 }
 
 #[test]
@@ -99,11 +101,11 @@ fn two_wait_for_two_processors(rt: HostRuntime) {
 fn wait_for_the_processor(rt: &impl Abort, links: &mut Links) {
     assert!(rt; links.processors() == 2 && links.len() == 1);
     assert!(rt; links.effective(0).is_empty() && links.is_waiting(0));
-    assert_eq!(rt; links.idle(), ProcSet::one(0));
-    assert_eq!(rt; links.most_urgent_in(ProcSet::first(2)), None);
+    same(rt, links.idle(), ProcSet::one(0));
+    same(rt, links.most_urgent_in(ProcSet::first(2)), None);
     assert!(rt; links.on(1).is_none());
     links.set_online(1, true);
-    assert_eq!(rt; links.most_urgent_in(ProcSet::first(2)), Some(0));
+    same(rt, links.most_urgent_in(ProcSet::first(2)), Some(0));
 }
 
 #[test]

@@ -1,4 +1,5 @@
 //! Sets of processors, by calls and as lists.
+use crate::same::{same, same_at};
 use crate::stated::set_of;
 use affinity_mask::{MaskFault, ProcSet};
 use std::alloc::Global;
@@ -12,29 +13,50 @@ fn has_just(set: &ProcSet, members: &[u8]) -> bool {
         && set.least() == members.first().copied()
 }
 
+/// The set has just these processors.
+fn expect_just(rt: &impl Abort, set: ProcSet, members: &[u8]) {
+    assert!(rt; has_just(&set, members), "{members:?}");
+}
+
+/// Sets that one call makes.
+fn sets_of_one_call(rt: &impl Abort) {
+    expect_just(rt, ProcSet::empty(), &[]);
+    expect_just(rt, ProcSet::one(5), &[5]);
+    expect_just(rt, ProcSet::first(0), &[]);
+    expect_just(rt, ProcSet::first(4), &[0, 1, 2, 3]);
+}
+
+/// Sets with a processor more, or without one.
+fn one_more_or_less(rt: &impl Abort, spread: ProcSet) {
+    expect_just(rt, spread, &[0, 17, 63]);
+    expect_just(rt, spread.with(17), &[0, 17, 63]);
+    expect_just(rt, spread.without(17), &[0, 63]);
+    expect_just(rt, spread.without(18), &[0, 17, 63]);
+}
+
+/// What two sets have together, and one of them alone.
+fn two_together(rt: &impl Abort, spread: ProcSet, low: ProcSet) {
+    expect_just(rt, low.both(&spread), &[0]);
+    expect_just(rt, low.either_of(&spread), &[0, 1, 2, 3, 17, 63]);
+    expect_just(rt, low.minus(&spread), &[1, 2, 3]);
+    expect_just(rt, spread.minus(&low), &[17, 63]);
+}
+
+/// The last processors of the first ones.
+fn last_two(rt: &impl Abort) {
+    let (all, others) = (ProcSet::first(64), ProcSet::first(62));
+    expect_just(rt, all.minus(&others), &[62, 63]);
+    let (all, others) = (ProcSet::first(63), ProcSet::first(61));
+    expect_just(rt, all.minus(&others), &[61, 62]);
+}
+
 #[test]
 fn sets_by_calls(rt: HostRuntime) {
     let spread = ProcSet::one(63).with(0).with(17);
-    let low = ProcSet::first(4);
-    let rows: [(ProcSet, &[u8]); 14] = [
-        (ProcSet::empty(), &[]),
-        (ProcSet::one(5), &[5]),
-        (ProcSet::first(0), &[]),
-        (low, &[0, 1, 2, 3]),
-        (spread, &[0, 17, 63]),
-        (spread.with(17), &[0, 17, 63]),
-        (spread.without(17), &[0, 63]),
-        (spread.without(18), &[0, 17, 63]),
-        (low.both(&spread), &[0]),
-        (low.either_of(&spread), &[0, 1, 2, 3, 17, 63]),
-        (low.minus(&spread), &[1, 2, 3]),
-        (spread.minus(&low), &[17, 63]),
-        (ProcSet::first(64).minus(&ProcSet::first(62)), &[62, 63]),
-        (ProcSet::first(63).minus(&ProcSet::first(61)), &[61, 62]),
-    ];
-    for (row, (set, members)) in rows.iter().enumerate() {
-        assert!(rt; has_just(set, members), "row {row}");
-    }
+    sets_of_one_call(&rt);
+    one_more_or_less(&rt, spread);
+    two_together(&rt, spread, ProcSet::first(4));
+    last_two(&rt);
 }
 
 /// Two lists, and whether the set of the first is within that of the second.
@@ -50,8 +72,8 @@ static WITHIN: [(&str, &str, bool); 6] = [
 #[test]
 fn sets_within_sets(rt: HostRuntime) {
     for (inner, outer, want) in &WITHIN {
-        let (inner, outer) = (set_of(&rt, inner), set_of(&rt, outer));
-        assert_eq!(rt; inner.within(&outer), *want, "{inner:?} within {outer:?}");
+        let is_within = set_of(&rt, inner).within(&set_of(&rt, outer));
+        same_at(&rt, is_within, *want, &(inner, outer));
     }
 }
 
@@ -104,11 +126,7 @@ static FAULTS: [(&str, MaskFault); 33] = [
 #[test]
 fn texts_of_no_list(rt: HostRuntime) {
     for (text, fault) in &FAULTS {
-        assert_eq!(rt;
-            ProcSet::read_list(text.as_bytes()),
-            Err(*fault),
-            "of {text}"
-        );
+        same_at(&rt, ProcSet::read_list(text.as_bytes()), Err(*fault), text);
     }
 }
 
@@ -117,7 +135,7 @@ fn expect_list(rt: &impl Abort, alloc: Global, before: &[u8], set: ProcSet, list
     let mut text = Vec::from_slice(alloc, before).expect(rt, "memory");
     assert!(rt; set.write_list(&mut text).is_ok());
     let written = text.get(before.len()..).unwrap_or(b"");
-    assert_eq!(rt; written, list);
+    same(rt, written, list);
     assert!(rt; set.is_list(list) && !set.is_list(b"0,0"));
 }
 

@@ -1,4 +1,5 @@
 //! What the links and the searches answer, found in the plainest way: each processor and each task is asked.
+use crate::same::same;
 use affinity_mask::ProcSet;
 use link_table::{Chain, Links};
 use path_search::{back_chain, back_set, chain_to, chain_to_idle, reach};
@@ -81,24 +82,26 @@ fn plain_path(
 fn compare_searches(rt: &impl Abort, links: &Links, t: u32, p: u8) {
     assert!(rt; t < links.len() && p < links.processors() && p < 64);
     let (m, mask, here) = (links.processors(), links.effective(t), ProcSet::one(p));
-    assert_eq!(rt;
+    same(
+        rt,
         [reach(links, t), back_set(links, p)],
         [
             plain_ends(links, false, mask),
-            plain_ends(links, true, here)
-        ]
+            plain_ends(links, true, here),
+        ],
     );
-    assert_eq!(rt;
+    same(
+        rt,
         [
             chain_to(links, t, p),
             chain_to_idle(links, t),
-            back_chain(links, t, p)
+            back_chain(links, t, p),
         ],
         [
             plain_path(links, false, mask, here, m),
             plain_path(links, false, mask, links.idle(), m),
-            plain_path(links, true, here, mask, m)
-        ]
+            plain_path(links, true, here, mask, m),
+        ],
     );
 }
 
@@ -142,9 +145,13 @@ fn scan_most_urgent(links: &Links, set: &ProcSet) -> Option<u32> {
 /// Compares what the links say of each task, and who waits for its mask.
 fn compare_tasks(rt: &impl Abort, links: &Links) {
     for t in 0..links.len() {
-        assert_eq!(rt; links.of(t), scan_of(links, t));
+        same(rt, links.of(t), scan_of(links, t));
         let mask = links.mask(t);
-        assert_eq!(rt; links.most_urgent_in(mask), scan_most_urgent(links, &mask));
+        same(
+            rt,
+            links.most_urgent_in(mask),
+            scan_most_urgent(links, &mask),
+        );
     }
 }
 
@@ -153,7 +160,7 @@ fn compare_processors(rt: &impl Abort, links: &Links) -> ProcSet {
     let mut occupied = ProcSet::empty();
     for p in 0..links.processors() {
         assert!(rt; p < 64);
-        assert_eq!(rt; links.feeders(p), shifts_into(links, &ProcSet::one(p)));
+        same(rt, links.feeders(p), shifts_into(links, &ProcSet::one(p)));
         if links.on(p).is_some() {
             occupied = occupied.with(p);
         }
@@ -165,6 +172,6 @@ fn compare_processors(rt: &impl Abort, links: &Links) -> ProcSet {
 pub(crate) fn compare_links(rt: &impl Abort, links: &Links) {
     compare_tasks(rt, links);
     let occupied = compare_processors(rt, links);
-    assert_eq!(rt; links.linked(), occupied);
-    assert_eq!(rt; links.idle(), links.online().minus(&occupied));
+    same(rt, links.linked(), occupied);
+    same(rt, links.idle(), links.online().minus(&occupied));
 }

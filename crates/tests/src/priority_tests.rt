@@ -1,4 +1,5 @@
 //! Who comes in first once a priority has changed, on a state small enough to follow by hand.
+use crate::same::{same, same_at};
 use crate::stated::{set_of, state_of};
 use link_table::Links;
 use std::process::Abort;
@@ -24,7 +25,7 @@ fn first_in(rt: &impl Abort, links: &Links) -> [Option<u32>; 3] {
 fn set_priority(rt: &impl Abort, links: &mut Links, t: u32, priority: u32) {
     assert!(rt; t < links.len() && links.task_with(priority).is_none());
     links.set_priority(t, priority);
-    assert_eq!(rt; links.priority(t), priority);
+    same(rt, links.priority(t), priority);
 }
 
 /// Two tasks exchange their priorities.
@@ -38,21 +39,22 @@ fn change_all(rt: &impl Abort, links: &mut Links) {
     for (t, priority, [zero, one, both]) in &CHANGES {
         set_priority(rt, links, *t, *priority);
         let first = [Some(*zero), Some(*one), Some(*both)];
-        assert_eq!(rt; first_in(rt, links), first, "task {t}");
+        same_at(rt, first_in(rt, links), first, t);
     }
 }
 
 /// Tasks 1 and 2 wait with priorities 45 and 44: the other way round task 1 comes first.
 fn exchange_last(rt: &impl Abort, links: &mut Links) {
     exchange(rt, links, 1, 2);
-    assert_eq!(rt; first_in(rt, links), [Some(1), Some(3), Some(3)]);
-    assert_eq!(rt;
+    same(rt, first_in(rt, links), [Some(1), Some(3), Some(3)]);
+    same(
+        rt,
         [
             links.task_with(44),
             links.task_with(45),
-            links.task_with(30)
+            links.task_with(30),
         ],
-        [Some(1), Some(2), None]
+        [Some(1), Some(2), None],
     );
 }
 
@@ -60,7 +62,7 @@ fn exchange_last(rt: &impl Abort, links: &mut Links) {
 fn waiting_tasks_change_places(rt: HostRuntime) {
     let tasks = "10:0-1@0 20:0@- 30:0-1@- 40:1@- 50:0-1@- 60:1@1";
     let mut links = state_of(&rt, rt.alloc(), 2, "-", tasks);
-    assert_eq!(rt; first_in(&rt, &links), [Some(1), Some(2), Some(1)]);
+    same(&rt, first_in(&rt, &links), [Some(1), Some(2), Some(1)]);
     change_all(&rt, &mut links);
     exchange_last(&rt, &mut links);
 }

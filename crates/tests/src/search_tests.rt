@@ -1,4 +1,5 @@
 //! What the searches say of states that are worked by hand, most of which no run comes to.
+use crate::same::same_at;
 use crate::stated::{chain_of, set_of, state_of};
 use link_table::Links;
 use path_search::{back_chain, back_set, chain_to, chain_to_idle, reach};
@@ -64,23 +65,25 @@ static ROWS: [Row; 10] = [
 fn compare(rt: &impl Abort, links: &Links, t: u32, p: u8, answers: &[&str; 5]) {
     let [ends, to_idle, to_p, back, back_by] = answers;
     assert!(rt; t < links.len() && p < links.processors());
-    assert_eq!(rt;
+    same_at(
+        rt,
         [reach(links, t), back_set(links, p)],
         [set_of(rt, ends), set_of(rt, back)],
-        "{answers:?}"
+        answers,
     );
-    assert_eq!(rt;
+    same_at(
+        rt,
         [
             chain_to_idle(links, t),
             chain_to(links, t, p),
-            back_chain(links, t, p)
+            back_chain(links, t, p),
         ],
         [
             chain_of(rt, to_idle),
             chain_of(rt, to_p),
-            chain_of(rt, back_by)
+            chain_of(rt, back_by),
         ],
-        "{answers:?}"
+        answers,
     );
 }
 

@@ -1,4 +1,5 @@
 //! What the reader or the writer under a stream is called for. Streams in memory that fail are in worked_rows.
+use crate::same::{same, same_at};
 use shift_io::{Failed, ReadAllFault, Sink, SoundSource, StdSink, StdSource, put_all, read_all};
 use std::alloc::Global;
 use std::io;
@@ -9,9 +10,9 @@ use std::process::Abort;
 #[test]
 fn read_all_limit(rt: HostRuntime) {
     let bytes = read_within(&rt, rt.alloc(), 3).expect(&rt, "three bytes");
-    assert_eq!(rt; bytes.as_slice(), b"abc".as_slice());
+    same(&rt, bytes.as_slice(), b"abc".as_slice());
     let fault = read_within(&rt, rt.alloc(), 2).err();
-    assert_eq!(rt; fault, Some(ReadAllFault::TooLong));
+    same(&rt, fault, Some(ReadAllFault::TooLong));
 }
 
 /// A whole read of three bytes, with room for so many.
@@ -27,7 +28,7 @@ fn std_streams(rt: HostRuntime) {
     let bytes = read_all(rt.alloc(), &mut source, 3).expect(&rt, "three bytes");
     let mut written = Vec::new(rt.alloc());
     assert!(rt; put_all(&mut StdSink::new(&mut written), &bytes).is_ok());
-    assert_eq!(rt; written.as_slice(), b"abc".as_slice());
+    same(&rt, written.as_slice(), b"abc".as_slice());
 }
 
 /// What a reader gives and a writer takes here.
@@ -59,10 +60,10 @@ impl Read for OneFaultReader<'_> {
 fn expect_failed_read(rt: &impl Abort, alloc: Global, reader: &mut OneFaultReader, left: &[u8]) {
     let fails_at = reader.fails_at;
     let first = read_all(alloc, &mut StdSource::new(&mut *reader), 5);
-    assert_eq!(rt; first.err(), Some(ReadAllFault::ReadFault), "at {fails_at}");
-    assert_eq!(rt; reader.reads, fails_at);
+    same_at(rt, first.err(), Some(ReadAllFault::ReadFault), &fails_at);
+    same(rt, reader.reads, fails_at);
     let bytes = read_all(alloc, &mut StdSource::new(&mut *reader), 5).expect(rt, "what is left");
-    assert_eq!(rt; bytes.as_slice(), left, "at {fails_at}");
+    same_at(rt, bytes.as_slice(), left, &fails_at);
 }
 
 /// Three reads give the text, and the fourth finds its end. The failed one is the last of a whole
@@ -147,10 +148,11 @@ fn a_failed_write_or_flush_is_not_tried_again(rt: HostRuntime) {
         let mut writer = CountedWriter::new(fails);
         let first = (put_fails(&mut writer), writer.calls());
         let next = (put_fails(&mut writer), writer.calls());
-        assert_eq!(rt;
+        same_at(
+            &rt,
             [first, next],
             [(is_fault, calls), (false, later)],
-            "{fails:?}"
+            &fails,
         );
     }
 }
@@ -160,11 +162,11 @@ fn a_failed_write_or_flush_is_not_tried_again(rt: HostRuntime) {
 fn pieces_by_calls(rt: HostRuntime) {
     let mut writer = CountedWriter::new([1, 1]);
     let mut sink = StdSink::new(&mut writer);
-    assert_eq!(rt; sink.put(b""), Ok(0));
-    assert_eq!(rt; put_all(&mut sink, b""), Ok(()));
+    same(&rt, sink.put(b""), Ok(0));
+    same(&rt, put_all(&mut sink, b""), Ok(()));
     drop(sink);
-    assert_eq!(rt; writer.calls(), (0, 0, 0));
+    same(&rt, writer.calls(), (0, 0, 0));
     let mut sink = StdSink::new(CountedWriter::new([0, 1]));
-    assert_eq!(rt; sink.put(b"ab"), Err(Failed));
-    assert_eq!(rt; sink.put(b""), Ok(0));
+    same(&rt, sink.put(b"ab"), Err(Failed));
+    same(&rt, sink.put(b""), Ok(0));
 }

@@ -1,8 +1,10 @@
 //! Sets of tasks, the fields that name and number them, and what is said of their faults.
+use crate::same::{same, same_at};
 use affinity_mask::{MaskFault, OutOfMemory, ProcSet};
 use sched_core::CoreFault;
 use schedule_text::TextKind;
 use std::alloc::{AllocError, Global};
+use std::fmt::Display;
 use std::process::Abort;
 use std::str;
 use strong_apa::{Chain, Entry, Reply};
@@ -32,19 +34,21 @@ static CALLS: [(&str, u32, u8, Result<u32, TaskFault>); 13] = [
     ("abcdefghijklmnopqrstuvwxyz_01234", 0, 2, Ok(2)),
 ];
 
+/// The task is in the set as it was added.
+fn is_added(rt: &impl Abort, set: &TaskSet, t: u32, name: &str, priority: u32, mask: ProcSet) {
+    assert!(rt; t < set.len());
+    same(rt, set.name(t), name);
+    same(rt, (set.priority(t), set.mask(t)), (priority, mask));
+}
+
 /// Each call answers so. A task that was added is in the set.
 fn add_all(rt: &impl Abort, set: &mut TaskSet) {
     for (name, priority, width, answer) in &CALLS {
         assert!(rt; *width <= 64);
         let mask = ProcSet::first(*width);
-        assert_eq!(rt;
-            set.add(name, *priority, mask),
-            *answer,
-            "{name} {priority}"
-        );
+        same_at(rt, set.add(name, *priority, mask), *answer, name);
         if let Ok(t) = *answer {
-            assert!(rt; t < set.len() && set.name(t) == *name);
-            assert!(rt; set.priority(t) == *priority && set.mask(t) == mask);
+            is_added(rt, set, t, name, *priority, mask);
         }
     }
 }
@@ -63,9 +67,9 @@ static NAMES: [(&[u8], Option<u32>); 7] = [
 /// The names are found, and there are three tasks on two processors.
 fn find_all(rt: &impl Abort, set: &TaskSet) {
     for (name, want) in &NAMES {
-        assert_eq!(rt; task_of(set, name), *want, "at {name:?}");
+        same_at(rt, task_of(set, name), *want, name);
     }
-    assert_eq!(rt; [set.find("_b.0-Z"), set.find("b")], [Some(1), None]);
+    same(rt, [set.find("_b.0-Z"), set.find("b")], [Some(1), None]);
     assert!(rt; set.processors() == 2 && set.len() == 3);
 }
 
@@ -80,7 +84,7 @@ fn tasks_by_calls(rt: HostRuntime) {
 fn fill(rt: &impl Abort, alloc: Global, set: &mut TaskSet) {
     for t in 0..MAX_TASKS as u32 {
         let name = format!(in alloc; "t{t}").expect(rt, "memory");
-        assert_eq!(rt; set.add(&name, t, ProcSet::one(0)), Ok(t));
+        same(rt, set.add(&name, t, ProcSet::one(0)), Ok(t));
     }
 }
 
@@ -94,10 +98,11 @@ static REFUSED: [(&str, u32, TaskFault); 3] = [
 /// The set, which is full, refuses the tasks.
 fn is_full(rt: &impl Abort, set: &mut TaskSet) {
     for (name, priority, fault) in &REFUSED {
-        assert_eq!(rt;
+        same_at(
+            rt,
             set.add(name, *priority, ProcSet::one(0)),
             Err(*fault),
-            "{name}"
+            name,
         );
     }
 }
@@ -133,14 +138,16 @@ static READ: [(&str, u64, u64, Option<u64>); 17] = [
 #[test]
 fn numbers_are_read(rt: HostRuntime) {
     for (field, least, most, want) in &READ {
-        assert_eq!(rt;
+        same_at(
+            &rt,
             read_number(field.as_bytes(), *least, *most),
             *want,
-            "at {field:?}"
+            field,
         );
-        assert_eq!(rt;
+        same(
+            &rt,
             trace_reader::read_number(field.as_bytes(), *least, *most),
-            *want
+            *want,
         );
     }
 }
@@ -152,9 +159,10 @@ fn numbers_are_written(rt: HostRuntime) {
         assert!(rt; write_number(&mut text, number).is_ok());
         assert!(rt; text.push(b' ').is_ok());
     }
-    assert_eq!(rt;
+    same(
+        &rt,
         str::from_utf8(&text),
-        Ok("0 63 4294967295 18446744073709551615 ")
+        Ok("0 63 4294967295 18446744073709551615 "),
     );
 }
 
@@ -166,7 +174,7 @@ fn words_are_whole(rt: HostRuntime) {
         ("tic", false),
         ("Tick", false),
     ] {
-        assert_eq!(rt; is_word(field.as_bytes(), "tick"), want, "{field}");
+        same_at(&rt, is_word(field.as_bytes(), "tick"), want, &field);
     }
 }
 
@@ -177,7 +185,7 @@ fn copies_are_equal(rt: HostRuntime) {
     chain.push(2);
     chain.push(0);
     chain.push(63);
-    assert_eq!(rt; [chain.at(0), chain.at(1), chain.at(2)], [2, 0, 63]);
+    same(&rt, [chain.at(0), chain.at(1), chain.at(2)], [2, 0, 63]);
     let entry = Entry {
         caller: 3,
         event: Event::Depart(7),
@@ -187,66 +195,70 @@ fn copies_are_equal(rt: HostRuntime) {
             back: ProcSet::first(3),
         },
     };
-    assert_eq!(rt; entry.copy(), entry);
+    same(&rt, entry.copy(), entry);
 }
 
 fn refused() -> Result<(), OutOfMemory> {
     Err(AllocError)?
 }
 
-/// The sentences of the faults of lists, from the first kind to the last.
-fn told_of_lists(alloc: Global) -> Result<String, AllocError> {
-    let (empty, item) = (MaskFault::Empty, MaskFault::BadItem { place: 2 });
-    let (backward, large) = (
+/// The sentences of the faults of lists.
+static OF_LISTS: [(MaskFault, &str); 4] = [
+    (MaskFault::Empty, "the processor list has no bytes"),
+    (
+        MaskFault::BadItem { place: 2 },
+        "at 2 stands no number and no range of numbers",
+    ),
+    (
         MaskFault::Backward { place: 0 },
+        "the range at 0 begins above its end",
+    ),
+    (
         MaskFault::Large { place: 7 },
-    );
-    format!(in alloc; "{empty}\n{item}\n{backward}\n{large}\n")
-}
+        "the item at 7 has a number above 63",
+    ),
+];
 
 /// Those of the refusals of tasks.
-fn told_of_tasks(alloc: Global) -> Result<String, AllocError> {
-    let (name, many, memory) = (TaskFault::BadName, TaskFault::Many, TaskFault::OutOfMemory);
-    let (same_name, same_priority) = (TaskFault::SameName(3), TaskFault::SamePriority(4));
-    let (empty, outside) = (TaskFault::EmptyMask, TaskFault::OutsideMask(9));
-    format!(in alloc;
-        "{name}\n{many}\n{same_name}\n{same_priority}\n{empty}\n{outside}\n{memory}\n"
-    )
-}
+static OF_TASKS: [(TaskFault, &str); 7] = [
+    (TaskFault::BadName, "the text is no name of a task"),
+    (TaskFault::Many, "the set of tasks is full"),
+    (TaskFault::SameName(3), "task 3 has the name"),
+    (TaskFault::SamePriority(4), "task 4 has the priority"),
+    (TaskFault::EmptyMask, "the mask has no processor"),
+    (
+        TaskFault::OutsideMask(9),
+        "the mask has processor 9, which is not there",
+    ),
+    (TaskFault::OutOfMemory, "out of memory"),
+];
 
 /// Those of the faults of a core.
-fn told_of_cores(alloc: Global) -> Result<String, AllocError> {
-    let (closed, full, memory) = (CoreFault::Closed, CoreFault::Full, CoreFault::OutOfMemory);
-    format!(in alloc; "{closed}\n{full}\n{memory}\n{OutOfMemory}\n")
+static OF_CORES: [(CoreFault, &str); 3] = [
+    (CoreFault::Closed, "the core is closed"),
+    (CoreFault::Full, "the history is full"),
+    (CoreFault::OutOfMemory, "out of memory"),
+];
+
+/// The sentence of a fault is this one.
+fn is_told(rt: &impl Abort, alloc: Global, fault: &impl Display, sentence: &str) {
+    let told = format!(in alloc; "{fault}").expect(rt, "memory");
+    same(rt, told.as_str(), sentence);
 }
 
-/// The sentences are these.
-fn expect_told(rt: &impl Abort, told: Result<String, AllocError>, expected: &str) {
-    let told = told.expect(rt, "memory");
-    assert_eq!(rt; told.as_str(), expected);
+/// The sentence of each fault is the one beside it.
+fn are_told<F: Display>(rt: &impl Abort, alloc: Global, rows: &[(F, &str)]) {
+    for (fault, sentence) in rows {
+        is_told(rt, alloc, fault, sentence);
+    }
 }
 
 #[test]
 fn faults_are_told_in_words(rt: HostRuntime) {
-    assert_eq!(rt; refused(), Err(OutOfMemory));
-    assert_eq!(rt; TextKind::OutOfMemory.number(), None);
-    expect_told(
-        &rt,
-        told_of_lists(rt.alloc()),
-        "the processor list has no bytes\n\
-at 2 stands no number and no range of numbers\n\
-the range at 0 begins above its end\nthe item at 7 has a number above 63\n",
-    );
-    expect_told(
-        &rt,
-        told_of_tasks(rt.alloc()),
-        "the text is no name of a task\nthe set of tasks is full\n\
-task 3 has the name\ntask 4 has the priority\nthe mask has no processor\n\
-the mask has processor 9, which is not there\nout of memory\n",
-    );
-    expect_told(
-        &rt,
-        told_of_cores(rt.alloc()),
-        "the core is closed\nthe history is full\nout of memory\nout of memory\n",
-    );
+    same(&rt, refused(), Err(OutOfMemory));
+    same(&rt, TextKind::OutOfMemory.number(), None);
+    is_told(&rt, rt.alloc(), &OutOfMemory, "out of memory");
+    are_told(&rt, rt.alloc(), &OF_LISTS);
+    are_told(&rt, rt.alloc(), &OF_TASKS);
+    are_told(&rt, rt.alloc(), &OF_CORES);
 }

@@ -1,4 +1,5 @@
 //! Texts that are read and written back, and what no status tells of the faults of texts.
+use crate::same::{same, same_at};
 use affinity_mask::MaskFault;
 use schedule_text::{Schedule, TextFault, TextKind, read_schedule, write_schedule};
 use std::alloc::{AllocError, Global};
@@ -37,7 +38,7 @@ fn written_input(rt: &impl Abort, alloc: Global, text: &str) -> Vec<u8> {
 fn inputs_are_written(rt: HostRuntime) {
     for (text, want) in &INPUTS {
         let written = written_input(&rt, rt.alloc(), text);
-        assert_eq!(rt; str::from_utf8(&written), Ok(*want));
+        same(&rt, str::from_utf8(&written), Ok(*want));
     }
 }
 
@@ -103,7 +104,7 @@ fn faults_of_inputs(rt: HostRuntime) {
             line: *line,
             kind: *kind,
         };
-        assert_eq!(rt; input_fault(rt.alloc(), &text), Some(fault), "at {lines:?}");
+        same_at(&rt, input_fault(rt.alloc(), &text), Some(fault), lines);
     }
 }
 
@@ -121,9 +122,10 @@ fn long_text(alloc: Global) -> Result<String, AllocError> {
 fn one_event_too_many(rt: HostRuntime) {
     let text = long_text(rt.alloc()).expect(&rt, "memory");
     let (line, kind) = (20_004, InputKind::ManyEvents);
-    assert_eq!(rt;
+    same(
+        &rt,
         input_fault(rt.alloc(), &text),
-        Some(InputFault { line, kind })
+        Some(InputFault { line, kind }),
     );
 }
 
@@ -203,9 +205,9 @@ fn written_schedule(rt: &impl Abort, alloc: Global, schedule: &Schedule) -> Vec<
 /// What is read from a text is of this version, and is written as this text.
 fn expect_round_trip(rt: &impl Abort, alloc: Global, version: u8, text: &str) {
     let schedule = read_schedule(alloc, text.as_bytes()).expect(rt, "a schedule");
-    assert_eq!(rt; schedule.version(), version);
+    same(rt, schedule.version(), version);
     let written = written_schedule(rt, alloc, &schedule);
-    assert_eq!(rt; str::from_utf8(&written), Ok(text));
+    same(rt, str::from_utf8(&written), Ok(text));
 }
 
 #[test]
@@ -246,10 +248,6 @@ fn faults_of_schedules(rt: HostRuntime) {
             line: *line,
             kind: TextKind::TaskRefused(*fault),
         };
-        assert_eq!(rt;
-            schedule_fault(rt.alloc(), text),
-            Some(fault),
-            "at {text:?}"
-        );
+        same_at(&rt, schedule_fault(rt.alloc(), text), Some(fault), text);
     }
 }
