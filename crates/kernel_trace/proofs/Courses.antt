@@ -14,7 +14,7 @@ use Rattle.trace_reader.specs.declared.posted.Posted.{Posted}
 use Rattle.kernel_trace.specs.Course.{CourseData, mention_of, mentions, on_first_stream, last_tick, ticks, passed, written, event_of, after_mention, after_mentions, agrees, is_ready, standing_of, standing_after}
 use Rattle.kernel_trace.specs.declared.change.Change.{Change}
 use Rattle.kernel_trace.specs.declared.change.Change.TheVariants.{Wakeup, Switch}
-use Rattle.kernel_trace.specs.declared.change.Mention.{Mention}
+use Rattle.trace_passages.specs.declared.passage.Readiness.{Readiness}
 use Rattle.kernel_trace.specs.Reading.{AreTasks, IsCourse}
 use Rattle.kernel_trace.proofs.Positions.{position_some}
 
@@ -120,14 +120,14 @@ few_ticks units few =
     omega (arith, few, count, parts, left)
 
 -- ---- one more mention
-event_posted : (set : SetData) (m : Mention) → m.task < length set.tasks → IsPostedOf set (on_first_stream (event_of m))
+event_posted : (set : SetData) (m : Readiness) → m.task < length set.tasks → IsPostedOf set (on_first_stream (event_of m))
 event_posted set m below = by m.is_in
   where
     by : (b : Bool) → IsPostedOf set (on_first_stream (if b then Arrive m.task else Depart m.task))
     by true = record { stream = lit< tt; event = (below, tt) }
     by false = record { stream = lit< tt; event = (below, tt) }
 
-event_first : (m : Mention) → IsOfFirst (on_first_stream (event_of m))
+event_first : (m : Readiness) → IsOfFirst (on_first_stream (event_of m))
 event_first m = by m.is_in
   where
     by : (b : Bool) → IsOfFirst (on_first_stream (if b then Arrive m.task else Depart m.task))
@@ -141,7 +141,7 @@ pub written_first : (c : CourseData) → IsCourse c → AreOfVersion 1 (written 
 written_first c is = All-append IsOfFirst c.events (ticks (passed c)) is.of_version (ticks_first (passed c))
 
 -- what a mention leads to, by whether it agrees with what is known
-abbrev pub step_by : Bool → CourseData → Mention → CourseData
+abbrev pub step_by : Bool → CourseData → Readiness → CourseData
 step_by b c m =
     if b
     then record c { standings = set c.standings m.task (standing_after m.is_in) }
@@ -151,7 +151,7 @@ step_by b c m =
       events = written c ++ on_first_stream (event_of m) ∷ [];
     }
 
-step_keeps : (b : Bool) (c : CourseData) (m : Mention) → IsCourse c → m.task < length c.set.tasks
+step_keeps : (b : Bool) (c : CourseData) (m : Readiness) → IsCourse c → m.task < length c.set.tasks
     → IsCourse (step_by b c m) × ((step_by b c m).set ≡ c.set) × ((step_by b c m).used ≡ c.used)
 step_keeps true c m is below = (
   record {
@@ -176,10 +176,10 @@ step_keeps false c m is below = (
   refl,
 )
 
-agreement : CourseData → Mention → Bool
+agreement : CourseData → Readiness → Bool
 agreement c m = agrees (is_ready (standing_of c.standings m.task)) m.is_in
 
-pub mention_keeps : (c : CourseData) (m : Mention) → IsCourse c → m.task < length c.set.tasks
+pub mention_keeps : (c : CourseData) (m : Readiness) → IsCourse c → m.task < length c.set.tasks
     → IsCourse (after_mention c m) × ((after_mention c m).set ≡ c.set) × ((after_mention c m).used ≡ c.used)
 mention_keeps c m is below = step_keeps (agrees (is_ready (standing_of c.standings m.task)) m.is_in) c m is below
 
@@ -191,36 +191,36 @@ no_time c = by c.used
     by None = refl
     by (Some time) = omega arith
 
-step_grows : (b : Bool) (c : CourseData) (m : Mention) → length (written c) ≤ length (written (step_by b c m))
+step_grows : (b : Bool) (c : CourseData) (m : Readiness) → length (written c) ≤ length (written (step_by b c m))
 step_grows true c m = omega arith
 step_grows false c m =
     let event : Posted = on_first_stream (event_of m) in
     omega (arith, length-append (written c) (event ∷ []), length-append (written c ++ event ∷ []) (ticks (passed (step_by false c m))))
 
-pub mention_grows : (c : CourseData) (m : Mention) → length (written c) ≤ length (written (after_mention c m))
+pub mention_grows : (c : CourseData) (m : Readiness) → length (written c) ≤ length (written (after_mention c m))
 mention_grows c m = step_grows (agrees (is_ready (standing_of c.standings m.task)) m.is_in) c m
 
-pub mentions_grow : (c : CourseData) (ms : List Mention) → length (written c) ≤ length (written (after_mentions c ms))
+pub mentions_grow : (c : CourseData) (ms : List Readiness) → length (written c) ≤ length (written (after_mentions c ms))
 mentions_grow c [] = omega arith
 mentions_grow c (m ∷ ms) = let first = mention_grows c m in let rest = mentions_grow (after_mention c m) ms in omega (arith, first, rest)
 
 -- no more time than before has passed since the last event
-step_passed : (b : Bool) (c : CourseData) (m : Mention) → passed (step_by b c m) ≤ passed c
+step_passed : (b : Bool) (c : CourseData) (m : Readiness) → passed (step_by b c m) ≤ passed c
 step_passed true c m = omega arith
 step_passed false c m = omega (arith, no_time c)
 
-pub mention_passed : (c : CourseData) (m : Mention) → passed (after_mention c m) ≤ passed c
+pub mention_passed : (c : CourseData) (m : Readiness) → passed (after_mention c m) ≤ passed c
 mention_passed c m = step_passed (agrees (is_ready (standing_of c.standings m.task)) m.is_in) c m
 
 -- ---- the mentions of a line
-abbrev mention_as : Bool → ℕ → Mention
+abbrev mention_as : Bool → ℕ → Readiness
 mention_as is_in task = record { task = task; is_in = is_in }
 
 tasks_of : (count : ℕ) (is_in : Bool) (found : Option ℕ) → ((k : ℕ) → found ≡ Some k → k < count)
     → AreTasks count (option_to_list (option_map (λ (task : ℕ). mention_as is_in task) found))
-tasks_of count is_in None within = All-nil (λ (m : Mention). m.task < count)
+tasks_of count is_in None within = All-nil (λ (m : Readiness). m.task < count)
 tasks_of count is_in (Some k) within =
-    All-cons (λ (m : Mention). m.task < count) (mention_as is_in k) [] (within k refl) (All-nil (λ (m : Mention). m.task < count))
+    All-cons (λ (m : Readiness). m.task < count) (mention_as is_in k) [] (within k refl) (All-nil (λ (m : Readiness). m.task < count))
 
 pub mention_task : (ids : List ℕ) (id : ℕ) (is_in : Bool) → AreTasks (length ids) (option_to_list (mention_of ids id is_in))
 mention_task ids id is_in =
@@ -229,7 +229,7 @@ mention_task ids id is_in =
 pub mentions_tasks : (ids : List ℕ) (change : Change) → AreTasks (length ids) (mentions ids change)
 mentions_tasks ids (Wakeup id) = mention_task ids id true
 mentions_tasks ids (Switch from stays to) =
-    All-append (λ (m : Mention). m.task < length ids) (option_to_list (mention_of ids from stays)) (option_to_list (mention_of ids to true))
+    All-append (λ (m : Readiness). m.task < length ids) (option_to_list (mention_of ids from stays)) (option_to_list (mention_of ids to true))
     (mention_task ids from stays) (mention_task ids to true)
 
 -- ---- ticks as they are written

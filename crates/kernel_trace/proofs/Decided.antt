@@ -34,7 +34,7 @@ use Rattle.kernel_trace.specs.TraceFault.{trace_kind}
 use Rattle.kernel_trace.specs.TraceLine.{Said, Nothing, LostEvents, Malformed, Happened, said_by}
 use Rattle.kernel_trace.specs.TraceText.{IsWorded, TaskLine, IsTaskForm, BeginsWith, events_line, window_of, Progress, HeaderExpected, ProcessorsExpected, Listed, Tracing, LineOutcome, without_tasks, priority_of, with_listed, IsAddOutcome, IsTaskOutcome, window_outcome, IsListedOutcome, IsWordedOutcome, IsHeadOutcome, counted_outcome, used_outcome, timed_outcome, said_outcome, trace_outcome, trace_end, IsLine, IsEndOutcome}
 use Rattle.kernel_trace.specs.declared.change.Change.{Change}
-use Rattle.kernel_trace.specs.declared.change.Mention.{Mention}
+use Rattle.trace_passages.specs.declared.passage.Readiness.{Readiness}
 use Rattle.kernel_trace.specs.declared.change.Standing.TheVariants.{Unmentioned}
 use Rattle.kernel_trace.specs.declared.fault.TraceKind.{TraceKind}
 use Rattle.kernel_trace.specs.declared.fault.TraceKind.TheVariants.{BadHeader, BadProcessors, BadMask, TaskRefused, SamePid, BadWindow, Backward, Lost, BadForm, Unseen, ManyEvents, NoEvents, Overwritten}
@@ -244,12 +244,12 @@ outcome_valid (Listed c) fields next valid comes = listed_valid c fields next va
 outcome_valid (Tracing c) fields next valid e = lead_valid next (Tracing c) e valid
 
 -- ---- a line of the trace
-mentions_keep : (c : CourseData) (ms : List Mention) → IsCourse c → AreTasks (length c.set.tasks) ms → IsCourse (after_mentions c ms)
+mentions_keep : (c : CourseData) (ms : List Readiness) → IsCourse c → AreTasks (length c.set.tasks) ms → IsCourse (after_mentions c ms)
 mentions_keep c [] is tasks = is
 mentions_keep c (m ∷ ms) is tasks =
-    let first = mention_keeps c m is (All-head (λ (m : Mention). m.task < length c.set.tasks) m ms tasks) in
+    let first = mention_keeps c m is (All-head (λ (m : Readiness). m.task < length c.set.tasks) m ms tasks) in
     mentions_keep (after_mention c m) ms first.0
-    (subst (λ (s : SetData). AreTasks (length s.tasks) ms) (sym first.1) (All-tail (λ (m : Mention). m.task < length c.set.tasks) m ms tasks))
+    (subst (λ (s : SetData). AreTasks (length s.tasks) ms) (sym first.1) (All-tail (λ (m : Readiness). m.task < length c.set.tasks) m ms tasks))
 
 pub not_above : (a b : ℕ) → nat_lt a b ≡ false → b ≤ a
 not_above a b fails = elim (cases_lt a b) [

@@ -12,12 +12,12 @@ use Rattle.kernel_trace.specs.Survey.{SurveyData, is_gap}
 use Rattle.kernel_trace.specs.TraceLine.{Said, Nothing, LostEvents, Malformed, Happened, said_by}
 use Rattle.kernel_trace.specs.TraceText.{Progress, HeaderExpected, ProcessorsExpected, Listed, Tracing, LineOutcome, IsLine}
 use Rattle.kernel_trace.specs.declared.change.Change.{Change}
-use Rattle.kernel_trace.specs.declared.change.Mention.{Mention}
+use Rattle.trace_passages.specs.declared.passage.Readiness.{Readiness}
 use Rattle.kernel_trace.specs.declared.change.Standing.{Standing}
 use Rattle.kernel_trace.specs.declared.fault.TraceKind.{TraceKind}
 use Rattle.kernel_trace.specs.declared.fault.TraceKind.TheVariants.{Lost, BadForm, Backward, Unseen, ManyEvents, NoEvents, Overwritten}
-use Rattle.kernel_trace.specs.declared.passage.Passage.{Passage}
-use Rattle.kernel_trace.specs.declared.passage.TaskChange.{TaskChange}
+use Rattle.trace_passages.specs.declared.passage.Passage.{Passage}
+use Rattle.kernel_trace.specs.declared.task_change.TaskChange.{TaskChange}
 use Rattle.kernel_trace.proofs.Decided.{trace_machine, line_valid, with_times, with_last}
 
 pub same_following : (one two : FollowingData) → ◌≡◌ {A = FollowingOutcome} (Leads one) (Leads two) → one ≡ two
@@ -53,11 +53,11 @@ at_time_valid c time is = by (is_in_window c.window time)
     by true = with_times c (Some time) (Some time) is
     by false = with_last c (Some time) is
 
-pub length_marked : (standings : List Standing) (m : Option Mention) → length (marked standings m) ≡ length standings
+pub length_marked : (standings : List Standing) (m : Option Readiness) → length (marked standings m) ≡ length standings
 length_marked standings None = refl
 length_marked standings (Some m) = length-set standings m.task _
 
-pub marks_valid : (c : CourseData) (first second : Option Mention) → IsCourse c → IsCourse (after_marks c first second)
+pub marks_valid : (c : CourseData) (first second : Option Readiness) → IsCourse c → IsCourse (after_marks c first second)
 marks_valid c first second is = record {
   valid = is.valid;
   ids = is.ids;
@@ -73,7 +73,7 @@ passage_progress : (b : Bool) (f : FollowingData) (start : ℕ) (passage : Passa
 passage_progress true f start passage next e = ap (λ (g : FollowingData). g.progress) (same_following next (record f { start = Some start; passages = f.passages ++ passage ∷ [] }) e)
 passage_progress false f start passage next e = faulty next ManyEvents e
 
-kept_progress : (f : FollowingData) (start : Option ℕ) (time : ℕ) (told : TaskChange) (first second : Option Mention) (next : FollowingData)
+kept_progress : (f : FollowingData) (start : Option ℕ) (time : ℕ) (told : TaskChange) (first second : Option Readiness) (next : FollowingData)
     → ◌≡◌ {A = FollowingOutcome} (Leads next) (kept_outcome f start time told first second) → next.progress ≡ f.progress
 kept_progress f None time told first second next e = ap (λ (g : FollowingData). g.progress) (same_following next f e)
 kept_progress f (Some start) time told first second next e = passage_progress _ f start _ next e

@@ -20,7 +20,7 @@ use Rattle.kernel_trace.specs.Survey.{SurveyData, survey_of, is_gap}
 use Rattle.kernel_trace.specs.TraceLine.{Said, Nothing, LostEvents, Malformed, Happened, said_by}
 use Rattle.kernel_trace.specs.TraceText.{Progress, HeaderExpected, ProcessorsExpected, Listed, Tracing, LineOutcome, counted_outcome, used_outcome, timed_outcome, said_outcome, IsLine, input_of, IsEndOutcome}
 use Rattle.kernel_trace.specs.declared.change.Change.{Change}
-use Rattle.kernel_trace.specs.declared.change.Mention.{Mention}
+use Rattle.trace_passages.specs.declared.passage.Readiness.{Readiness}
 use Rattle.kernel_trace.specs.declared.fault.TraceKind.{TraceKind}
 use Rattle.kernel_trace.specs.declared.fault.TraceKind.TheVariants.{Backward, Lost, BadForm, Unseen, ManyEvents, NoEvents, Overwritten, NothingSaid}
 use Rattle.kernel_trace.proofs.Courses.{step_by, last_some, million}
@@ -206,7 +206,7 @@ alone_ticks units =
 told_append : (xs ys : List Posted) → all_told (xs ++ ys) ≡ all_told xs ++ all_told ys
 told_append [] ys = refl
 told_append (x ∷ xs) ys =
-    ap (λ (more : List Mention). told_by x.event ++ more) (told_append xs ys) ∙ sym (append_assoc (told_by x.event) (all_told xs) (all_told ys))
+    ap (λ (more : List Readiness). told_by x.event ++ more) (told_append xs ys) ∙ sym (append_assoc (told_by x.event) (all_told xs) (all_told ys))
 
 told_full : (count : ℕ) → all_told (replicate count (on_first_stream (Tick 1000000))) ≡ []
 told_full zero = refl
@@ -222,31 +222,31 @@ told_ticks : (units : ℕ) → all_told (ticks units) ≡ []
 unfolding ticks
 told_ticks units =
     told_append (replicate (units / 1000000) (on_first_stream (Tick 1000000))) (last_tick (units % 1000000))
-    ∙ ap (λ (more : List Mention). all_told (replicate (units / 1000000) (on_first_stream (Tick 1000000))) ++ more) (told_last (units % 1000000))
+    ∙ ap (λ (more : List Readiness). all_told (replicate (units / 1000000) (on_first_stream (Tick 1000000))) ++ more) (told_last (units % 1000000))
     ∙ append-nil (all_told (replicate (units / 1000000) (on_first_stream (Tick 1000000))))
     ∙ told_full (units / 1000000)
 
 told_written : (c : CourseData) → all_told (written c) ≡ all_told c.events
 told_written c =
     told_append c.events (ticks (passed c))
-    ∙ ap (λ (more : List Mention). all_told c.events ++ more) (told_ticks (passed c))
+    ∙ ap (λ (more : List Readiness). all_told c.events ++ more) (told_ticks (passed c))
     ∙ append-nil (all_told c.events)
 
-told_event : (m : Mention) → told_by (event_of m) ≡ m ∷ []
+told_event : (m : Readiness) → told_by (event_of m) ≡ m ∷ []
 told_event m = by m.is_in
   where
     by : (b : Bool) → told_by (if b then Arrive m.task else Depart m.task) ≡ record { task = m.task; is_in = b } ∷ []
     by true = refl
     by false = refl
 
-units_event : (m : Mention) → all_units (on_first_stream (event_of m) ∷ []) ≡ 0
+units_event : (m : Readiness) → all_units (on_first_stream (event_of m) ∷ []) ≡ 0
 units_event m = by m.is_in
   where
     by : (b : Bool) → all_units (on_first_stream (if b then Arrive m.task else Depart m.task) ∷ []) ≡ 0
     by true = refl
     by false = refl
 
-event_alone : (m : Mention) → IsAlone (on_first_stream (event_of m))
+event_alone : (m : Readiness) → IsAlone (on_first_stream (event_of m))
 event_alone m = by m.is_in
   where
     by : (b : Bool) → IsAlone (on_first_stream (if b then Arrive m.task else Depart m.task))
@@ -263,7 +263,7 @@ record Timed (c : CourseData) (changes : List ReadyChange) (times : List ℕ) : 
   before : AtMost c.used c.last
   alone : All IsAlone c.events
 
-module _ (c : CourseData) (m : Mention) (changes : List ReadyChange) (times : List ℕ) (time : ℕ)
+module _ (c : CourseData) (m : Readiness) (changes : List ReadyChange) (times : List ℕ) (time : ℕ)
     (now : c.used ≡ Some time) (timed : Timed c changes times) where
   abbrev the_change : ReadyChange
   the_change = record { time = time; mention = m }
@@ -297,8 +297,8 @@ module _ (c : CourseData) (m : Mention) (changes : List ReadyChange) (times : Li
   told_then : all_told (written c ++ on_first_stream (event_of m) ∷ []) ≡ changes_made (changes ++ the_change ∷ [])
   told_then =
       told_append (written c) (on_first_stream (event_of m) ∷ [])
-      ∙ ap (λ (more : List Mention). more ++ all_told (on_first_stream (event_of m) ∷ [])) (told_written c ∙ timed.told)
-      ∙ ap (λ (more : List Mention). changes_made changes ++ more) (append-nil (told_by (event_of m)) ∙ told_event m)
+      ∙ ap (λ (more : List Readiness). more ++ all_told (on_first_stream (event_of m) ∷ [])) (told_written c ∙ timed.told)
+      ∙ ap (λ (more : List Readiness). changes_made changes ++ more) (append-nil (told_by (event_of m)) ∙ told_event m)
       ∙ sym (map-append (λ (change : ReadyChange). change.mention) changes (the_change ∷ []))
 
   step_timed : (b : Bool) → Timed (step_by b c m) (if b then changes else changes ++ the_change ∷ []) times
@@ -324,7 +324,7 @@ module _ (c : CourseData) (m : Mention) (changes : List ReadyChange) (times : Li
   }
 
 -- ---- the mentions of a line, one after another
-module _ (c : CourseData) (ms : List Mention) (m : Mention) (more : List Mention) (changes : List ReadyChange) (times : List ℕ) (time : ℕ)
+module _ (c : CourseData) (ms : List Readiness) (m : Readiness) (more : List Readiness) (changes : List ReadyChange) (times : List ℕ) (time : ℕ)
     (now : c.used ≡ Some time) (tells : Tells c ms) (within : m.task < length c.standings) (tasks : AreTasks (length c.standings) more)
     (timed : Timed c changes times)
     (later : (d : CourseData) (found : List ReadyChange) → d.used ≡ Some time → Tells d (ms ++ m ∷ []) → AreTasks (length d.standings) more
@@ -353,18 +353,18 @@ module _ (c : CourseData) (ms : List Mention) (m : Mention) (more : List Mention
       subst (λ (before : Bool). Timed (after_mentions c (m ∷ more)) (changes ++ found before) times) (sym (tells.said m.task))
       (first_timed (agrees (is_ready (standing_of c.standings m.task)) m.is_in) refl)
 
-mentions_timed : (c : CourseData) (ms more : List Mention) (changes : List ReadyChange) (times : List ℕ) (time : ℕ)
+mentions_timed : (c : CourseData) (ms more : List Readiness) (changes : List ReadyChange) (times : List ℕ) (time : ℕ)
     → c.used ≡ Some time → Tells c ms → AreTasks (length c.standings) more → Timed c changes times
     → Timed (after_mentions c more) (changes ++ ready_changes time ms more) times
 mentions_timed c ms [] changes times time now tells tasks timed = subst (λ (all : List ReadyChange). Timed c all times) (sym (append-nil changes)) timed
 mentions_timed c ms (m ∷ more) changes times time now tells tasks timed =
-    by_mentions c ms m more changes times time now tells (All-head (λ (m : Mention). m.task < length c.standings) m more tasks)
-    (All-tail (λ (m : Mention). m.task < length c.standings) m more tasks) timed
+    by_mentions c ms m more changes times time now tells (All-head (λ (m : Readiness). m.task < length c.standings) m more tasks)
+    (All-tail (λ (m : Readiness). m.task < length c.standings) m more tasks) timed
     (λ d found is tells tasks timed. mentions_timed d (ms ++ m ∷ []) more found times time is tells tasks timed)
 
 -- ---- lines, one after another
 module _ (waking : Bool) (head : CourseData) (one_each : length head.standings ≡ length head.ids) where
-  timed_line : (b : Bool) (c : CourseData) (ms : List Mention) (changes : List ReadyChange) (times : List ℕ) (time : ℕ) (change : Change)
+  timed_line : (b : Bool) (c : CourseData) (ms : List Readiness) (changes : List ReadyChange) (times : List ℕ) (time : ℕ) (change : Change)
       → Follows head c ms → AtMost c.last (Some time) → Timed c changes times
       → Timed (if b then after_mentions (record c { last = Some time; used = Some time }) (mentions c.ids change) else record c { last = Some time })
       (changes ++ ready_changes time ms (if b then mentions c.ids change else [])) (times ++ (if b then time ∷ [] else []))
@@ -402,7 +402,7 @@ module _ (waking : Bool) (head : CourseData) (one_each : length head.standings �
       subst (λ (all : List ReadyChange). Timed c all (times ++ [])) (sym (append-nil changes))
       (subst (λ (all : List ℕ). Timed c changes all) (sym (append-nil times)) timed)
 
-  said_timed : (c : CourseData) (ms : List Mention) (changes : List ReadyChange) (times : List ℕ) (said : Said)
+  said_timed : (c : CourseData) (ms : List Readiness) (changes : List ReadyChange) (times : List ℕ) (said : Said)
       → Follows head c ms → Forward c said → Timed c changes times
       → Timed (after_said c said) (changes ++ changes_said head.ids head.window ms said) (times ++ time_said head.window said)
   said_timed c ms changes times Nothing follows forward timed = same_timed c changes times timed
@@ -416,7 +416,7 @@ module _ (waking : Bool) (head : CourseData) (one_each : length head.standings �
       subst (λ (window : Option WindowData). P head.ids window) stays.window
       (subst (λ (ids : List ℕ). P ids c.window) stays.ids (timed_line (is_in_window c.window time) c ms changes times time change follows forward timed))
 
-  lines_timed : (c : CourseData) (ms : List Mention) (changes : List ReadyChange) (times : List ℕ) (lines : List (List ℕ))
+  lines_timed : (c : CourseData) (ms : List Readiness) (changes : List ReadyChange) (times : List ℕ) (lines : List (List ℕ))
       → Follows head c ms → AllForward waking c lines → Timed c changes times
       → Timed (course_after waking c lines) (changes ++ changes_in waking head.ids head.window ms lines) (times ++ used_times waking head.window lines)
   lines_timed c ms changes times [] follows forward timed = same_timed c changes times timed
@@ -455,12 +455,12 @@ extends_over : (c d e : CourseData) → Extends c d → Extends d e → Extends 
 extends_over c d e one two =
     (one.0 ++ two.0, two.1 ∙ ap (λ (events : List Posted). events ++ two.0) one.1 ∙ append_assoc c.events one.0 two.0)
 
-step_extends : (b : Bool) (c : CourseData) (m : Mention) → Extends c (step_by b c m)
+step_extends : (b : Bool) (c : CourseData) (m : Readiness) → Extends c (step_by b c m)
 step_extends true c m = ([], sym (append-nil c.events))
 step_extends false c m =
     (ticks (passed c) ++ on_first_stream (event_of m) ∷ [], append_assoc c.events (ticks (passed c)) (on_first_stream (event_of m) ∷ []))
 
-mentions_extend : (c : CourseData) (ms : List Mention) → Extends c (after_mentions c ms)
+mentions_extend : (c : CourseData) (ms : List Readiness) → Extends c (after_mentions c ms)
 mentions_extend c [] = ([], sym (append-nil c.events))
 mentions_extend c (m ∷ ms) =
     extends_over c (after_mention c m) (after_mentions c (m ∷ ms))

@@ -14,7 +14,7 @@ use Rattle.kernel_trace.specs.TraceLine.{Said, Nothing, LostEvents, Malformed, H
 use Rattle.kernel_trace.specs.declared.change.Change.{Change}
 use Rattle.kernel_trace.proofs.Courses.{mentions_tasks, last_some}
 use Rattle.kernel_trace.specs.Reading.{AreTasks}
-use Rattle.kernel_trace.specs.declared.change.Mention.{Mention}
+use Rattle.trace_passages.specs.declared.passage.Readiness.{Readiness}
 use Rattle.kernel_trace.specs.declared.change.Standing.{Standing}
 use Rattle.kernel_trace.specs.declared.change.Standing.TheVariants.{Unmentioned}
 
@@ -106,7 +106,7 @@ change_written c all = change_append [] c.events (ticks (passed c)) all (change_
 abbrev pub mentioned : ℕ → Bool → Bool → ℕ → Bool
 mentioned task is_in before t = if task == t then is_in else before
 
-event_mentions : (t : ℕ) (before : Bool) (m : Mention) → event_says t before (event_of m) ≡ mentioned m.task m.is_in before t
+event_mentions : (t : ℕ) (before : Bool) (m : Readiness) → event_says t before (event_of m) ≡ mentioned m.task m.is_in before t
 event_mentions t before m = by m.is_in
   where
     by : (b : Bool) → event_says t before (if b then Arrive m.task else Depart m.task) ≡ mentioned m.task b before t
@@ -118,7 +118,7 @@ standing_is true = refl
 standing_is false = refl
 
 -- the standing of a task after a mention
-pub standing_mentions : (standings : List Standing) (m : Mention) (t : ℕ) → m.task < length standings
+pub standing_mentions : (standings : List Standing) (m : Readiness) (t : ℕ) → m.task < length standings
     → is_ready (standing_of (set standings m.task (standing_after m.is_in)) t) ≡ mentioned m.task m.is_in (is_ready (standing_of standings t)) t
 standing_mentions standings m t within = elim (cases_eq m.task t) [
   | inl same ↦ (
@@ -141,7 +141,7 @@ agreed false true e = cc
 agreed false false e = refl
 
 -- what events and mentions say beside what is known
-pub record Tells (c : CourseData) (ms : List Mention) : Type 0 where
+pub record Tells (c : CourseData) (ms : List Readiness) : Type 0 where
   pub ready : (t : ℕ) → is_ready_after t c.events ≡ is_ready (standing_of c.standings t)
   pub said : (t : ℕ) → is_last_in t ms ≡ is_ready (standing_of c.standings t)
   pub changing : AllChange [] c.events
@@ -160,7 +160,7 @@ disagreed true false before task e fails = e
 disagreed false true before task e fails = e
 disagreed false false before task e fails = cc
 
-module _ (c : CourseData) (ms : List Mention) (m : Mention) (tells : Tells c ms) (within : m.task < length c.standings) where
+module _ (c : CourseData) (ms : List Readiness) (m : Readiness) (tells : Tells c ms) (within : m.task < length c.standings) where
   said_more : (t : ℕ) → is_last_in t (ms ++ m ∷ []) ≡ is_ready (standing_of (set c.standings m.task (standing_after m.is_in)) t)
   said_more t =
       fold_append (mention_says t) false ms (m ∷ [])
@@ -200,7 +200,7 @@ module _ (c : CourseData) (ms : List Mention) (m : Mention) (tells : Tells c ms)
   mention_tells = step_tells (agrees (is_ready (standing_of c.standings m.task)) m.is_in) refl
 
 -- ---- the mentions of a line, one after another
-pub step_length : (b : Bool) (c : CourseData) (m : Mention) → length (if b
+pub step_length : (b : Bool) (c : CourseData) (m : Readiness) → length (if b
     then record c { standings = set c.standings m.task (standing_after m.is_in) }
     else record c {
       standings = set c.standings m.task (standing_after m.is_in);
@@ -210,13 +210,13 @@ pub step_length : (b : Bool) (c : CourseData) (m : Mention) → length (if b
 step_length true c m = length-set c.standings m.task (standing_after m.is_in)
 step_length false c m = length-set c.standings m.task (standing_after m.is_in)
 
-mentions_tell : (c : CourseData) (ms more : List Mention) → Tells c ms → AreTasks (length c.standings) more → Tells (after_mentions c more) (ms ++ more)
+mentions_tell : (c : CourseData) (ms more : List Readiness) → Tells c ms → AreTasks (length c.standings) more → Tells (after_mentions c more) (ms ++ more)
 mentions_tell c ms [] tells tasks = subst (Tells c) (sym (append-nil ms)) tells
 mentions_tell c ms (m ∷ more) tells tasks =
-    let first = mention_tells c ms m tells (All-head (λ (m : Mention). m.task < length c.standings) m more tasks) in
+    let first = mention_tells c ms m tells (All-head (λ (m : Readiness). m.task < length c.standings) m more tasks) in
     let same = step_length (agrees (is_ready (standing_of c.standings m.task)) m.is_in) c m in
     let rest = mentions_tell (after_mention c m) (ms ++ m ∷ []) more first
-    (subst (λ (n : ℕ). AreTasks n more) (sym same) (All-tail (λ (m : Mention). m.task < length c.standings) m more tasks)) in
+    (subst (λ (n : ℕ). AreTasks n more) (sym same) (All-tail (λ (m : Readiness). m.task < length c.standings) m more tasks)) in
     subst (Tells (after_mentions c (m ∷ more))) (append_assoc ms (m ∷ []) more) rest
 
 -- what stays over a line
@@ -226,7 +226,7 @@ pub record Stays (c d : CourseData) : Type 0 where
   pub window : d.window ≡ c.window
   pub standings : length d.standings ≡ length c.standings
 
-step_stays : (b : Bool) (c : CourseData) (m : Mention) → Stays c (if b
+step_stays : (b : Bool) (c : CourseData) (m : Readiness) → Stays c (if b
     then record c { standings = set c.standings m.task (standing_after m.is_in) }
     else record c {
       standings = set c.standings m.task (standing_after m.is_in);
@@ -236,7 +236,7 @@ step_stays : (b : Bool) (c : CourseData) (m : Mention) → Stays c (if b
 step_stays true c m = record { set = refl; ids = refl; window = refl; standings = length-set c.standings m.task (standing_after m.is_in) }
 step_stays false c m = record { set = refl; ids = refl; window = refl; standings = length-set c.standings m.task (standing_after m.is_in) }
 
-mentions_stay : (c d : CourseData) (ms : List Mention) → Stays c d → Stays c (after_mentions d ms)
+mentions_stay : (c d : CourseData) (ms : List Readiness) → Stays c d → Stays c (after_mentions d ms)
 mentions_stay c d [] stays = stays
 mentions_stay c d (m ∷ ms) stays =
     let next = step_stays (agrees (is_ready (standing_of d.standings m.task)) m.is_in) d m in
@@ -245,7 +245,7 @@ mentions_stay c d (m ∷ ms) stays =
 
 -- ---- lines, one after another
 -- what holds over a line: the mentions are told, and the tasks stay the same
-pub record Follows (head c : CourseData) (ms : List Mention) : Type 0 where
+pub record Follows (head c : CourseData) (ms : List Readiness) : Type 0 where
   pub tells : Tells c ms
   pub stays : Stays head c
 
@@ -257,7 +257,7 @@ module _ (waking : Bool) (head : CourseData) (one_each : length head.standings �
       subst (λ (n : ℕ). AreTasks n (mentions c.ids change)) same (mentions_tasks c.ids change)
 
   -- a line, by whether it is in the window
-  timed_follows : (b : Bool) (c : CourseData) (ms : List Mention) (time : ℕ) (change : Change) → Follows head c ms
+  timed_follows : (b : Bool) (c : CourseData) (ms : List Readiness) (time : ℕ) (change : Change) → Follows head c ms
       → Follows head (if b then after_mentions (record c { last = Some time; used = Some time }) (mentions c.ids change) else record c { last = Some time })
       (ms ++ (if b then mentions c.ids change else []))
   timed_follows true c ms time change follows =
@@ -280,10 +280,10 @@ module _ (waking : Bool) (head : CourseData) (one_each : length head.standings �
         stays = record { set = stays.set; ids = stays.ids; window = stays.window; standings = stays.standings };
       }
 
-  unchanged : (c : CourseData) (ms : List Mention) → Follows head c ms → Follows head c (ms ++ [])
+  unchanged : (c : CourseData) (ms : List Readiness) → Follows head c ms → Follows head c (ms ++ [])
   unchanged c ms follows = subst (Follows head c) (sym (append-nil ms)) follows
 
-  pub said_follows : (c : CourseData) (ms : List Mention) (said : Said) → Follows head c ms
+  pub said_follows : (c : CourseData) (ms : List Readiness) (said : Said) → Follows head c ms
       → Follows head (after_said c said) (ms ++ mentions_said head.ids head.window said)
   said_follows c ms Nothing follows = unchanged c ms follows
   said_follows c ms LostEvents follows = unchanged c ms follows
@@ -294,7 +294,7 @@ module _ (waking : Bool) (head : CourseData) (one_each : length head.standings �
       subst (λ (window : Option WindowData). P head.ids window) stays.window
       (subst (λ (ids : List ℕ). P ids c.window) stays.ids (timed_follows (is_in_window c.window time) c ms time change follows))
 
-  pub lines_follow : (c : CourseData) (ms : List Mention) (lines : List (List ℕ)) → Follows head c ms
+  pub lines_follow : (c : CourseData) (ms : List Readiness) (lines : List (List ℕ)) → Follows head c ms
       → Follows head (course_after waking c lines) (ms ++ mentions_in waking head.ids head.window lines)
   lines_follow c ms [] follows = unchanged c ms follows
   lines_follow c ms (line ∷ rest) follows =

@@ -8,53 +8,69 @@ use Rattle.text_fields.specs.Machine.{Leads, Fails}
 use Rattle.task_set.specs.TaskSet.{SetData}
 use Rattle.kernel_trace.specs.Course.{CourseData, WindowData, mentions, is_unseen, is_backward, is_in_window}
 use Rattle.kernel_trace.specs.Import.{mentions_said}
-use Rattle.kernel_trace.specs.Passage.{task_of, task_change, first_mention, second_mention, changing, marked, FollowingData, FollowingOutcome, after_marks, start_after, kept_outcome, marked_outcome, used_outcome, timed_outcome, told_outcome, said_outcome, span_of}
-use Rattle.kernel_trace.specs.Passages.{UsedLine, turning, used_line, used_told, used_said, turns, from_turn, passage_since, passages_since, all_changes, AllTurn, NeverFall, IsAboutTasks, IsPassageOf}
+use Rattle.kernel_trace.specs.Passage.{task_of, task_change, turn_of, first_mention, second_mention, changing, marked, FollowingData, FollowingOutcome, after_marks, start_after, kept_outcome, marked_outcome, used_outcome, timed_outcome, told_outcome, said_outcome, span_of}
+use Rattle.kernel_trace.specs.Passages.{UsedLine, turning, used_line, used_told, used_said, turns, from_turn, first_use, passage_since, passages_since, all_changes, AllTurn, NeverFall, IsPassageOf}
 use Rattle.kernel_trace.specs.Reading.{IsCourse}
 use Rattle.kernel_trace.specs.Stamp.{microsecond}
 use Rattle.kernel_trace.specs.TraceLine.{Said as SaidData, Nothing, LostEvents, Malformed, Happened}
 use Rattle.kernel_trace.specs.TraceText.{Tracing}
 use Rattle.kernel_trace.specs.declared.change.Change.{Change}
 use Rattle.kernel_trace.specs.declared.change.Change.TheVariants.{Wakeup, Switch}
-use Rattle.kernel_trace.specs.declared.change.Mention.{Mention}
+use Rattle.trace_passages.specs.declared.passage.Readiness.{Readiness}
 use Rattle.kernel_trace.specs.declared.change.Standing.{Standing}
 use Rattle.kernel_trace.specs.declared.fault.TraceKind.TheVariants.{Lost, BadForm, Backward, Unseen, ManyEvents}
-use Rattle.kernel_trace.specs.declared.passage.Passage.{Passage}
-use Rattle.kernel_trace.specs.declared.passage.TaskChange.{TaskChange}
-use Rattle.kernel_trace.specs.declared.passage.TaskChange.TheVariants as task
+use Rattle.trace_passages.specs.declared.passage.Passage.{Passage}
+use Rattle.kernel_trace.specs.declared.task_change.TaskChange.{TaskChange}
+use Rattle.kernel_trace.specs.declared.task_change.TaskChange.TheVariants as task
+use Rattle.trace_passages.specs.Turns.{AreThreads}
+use Rattle.trace_passages.specs.declared.turn.Turn.TheVariants as turn
 use Rattle.kernel_trace.proofs.Decided.{not_above, with_times, with_last}
 use Rattle.kernel_trace.proofs.Followed.{same_following, faulty, marks_valid}
 use Rattle.kernel_trace.proofs.Positions.{position_some}
-use Rattle.kernel_trace.proofs.Turns.{Said, IsKnown, mark_said, changing_is, change_said, turn_append, change_turns, mentions_are, from_none, from_some, passages_more, changes_append, span_append, fall_append}
+use Rattle.kernel_trace.proofs.Turns.{Said, Named, IsKnown, mark_said, mark_named, changing_is, change_said, turn_append, change_turns, mentions_are, from_none, from_some, passages_more, changes_append, span_append, fall_append}
 
 -- ---- tasks of a line
 mention_known : (count : ℕ) (is_in : Bool) (found : Option ℕ) → ((k : ℕ) → found ≡ Some k → k < count)
-    → ForSome (option_map (λ (task : ℕ). record { task = task; is_in = is_in }) found) (λ (m : Mention). m.task < count)
+    → ForSome (option_map (λ (task : ℕ). record { task = task; is_in = is_in }) found) (λ (m : Readiness). m.task < count)
 mention_known count is_in None within m e = cc
 mention_known count is_in (Some k) within m e = let same : k ≡ m.task = cc in subst (λ (t : ℕ). t < count) same (within k refl)
 
 task_within : (ids : List ℕ) (id k : ℕ) → position (nat_eq id) ids ≡ Some k → k < length ids
 task_within ids id k e = (position_some (nat_eq id) ids k (sym e)).1
 
-first_known : (ids : List ℕ) (change : Change) → ForSome (first_mention ids change) (λ (m : Mention). m.task < length ids)
+first_known : (ids : List ℕ) (change : Change) → ForSome (first_mention ids change) (λ (m : Readiness). m.task < length ids)
 first_known ids (Wakeup id) = mention_known (length ids) true (position (nat_eq id) ids) (task_within ids id)
 first_known ids (Switch from stays to) = mention_known (length ids) stays (position (nat_eq from) ids) (task_within ids from)
 
-none_known : (count : ℕ) → ForSome {T = Mention} None (λ (m : Mention). m.task < count)
+none_known : (count : ℕ) → ForSome {T = Readiness} None (λ (m : Readiness). m.task < count)
 none_known count m e = cc
 
-second_known : (ids : List ℕ) (change : Change) → ForSome (second_mention ids change) (λ (m : Mention). m.task < length ids)
+second_known : (ids : List ℕ) (change : Change) → ForSome (second_mention ids change) (λ (m : Readiness). m.task < length ids)
 second_known ids (Wakeup id) = none_known (length ids)
 second_known ids (Switch from stays to) = mention_known (length ids) true (position (nat_eq to) ids) (task_within ids to)
 
-changing_known : (count : ℕ) (standings : List Standing) (m : Option Mention) → ForSome m (λ (m : Mention). m.task < count)
-    → ForSome (changing standings m) (λ (m : Mention). m.task < count)
+changing_known : (count : ℕ) (standings : List Standing) (m : Option Readiness) → ForSome m (λ (m : Readiness). m.task < count)
+    → ForSome (changing standings m) (λ (m : Readiness). m.task < count)
 changing_known count standings None known x e = cc
 changing_known count standings (Some m) known x e = by _ e
   where
     by : (b : Bool) → (if b then None else Some m) ≡ Some x → x.task < count
     by true e = cc
     by false e = known x e
+
+-- what a line says is of the first so many tasks
+abbrev IsAboutTasks : ℕ → TaskChange → Type 0
+IsAboutTasks count (task.Wakeup woken) = ForSome woken (λ t. t < count)
+IsAboutTasks count (task.Switch processor from to) = ForSome from (λ t. t < count) × ForSome to (λ t. t < count)
+
+-- and so is what it says of who runs where
+turn_about : (count : ℕ) (told : TaskChange) (first : Option Readiness) → IsAboutTasks count told → ForSome (turn_of told first) (AreThreads count)
+turn_about count (task.Wakeup None) first about = λ turned is. cc
+turn_about count (task.Wakeup (Some woken)) None about = λ turned is. cc
+turn_about count (task.Wakeup (Some woken)) (Some mention) about =
+    λ turned is. let same : turn.Woken woken ≡ turned = cc in subst (AreThreads count) same (about woken refl)
+turn_about count (task.Switch processor from to) first about =
+    λ turned is. let same : turn.Switch processor from to ≡ turned = cc in subst (AreThreads count) same about
 
 told_about : (ids : List ℕ) (change : Change) (processor : Option ℕ) (told : TaskChange) → task_change ids change processor ≡ Some told
     → IsAboutTasks (length ids) told
@@ -67,11 +83,6 @@ told_about ids (Switch from stays to) (Some processor) told e =
     subst (IsAboutTasks (length ids)) same (task_within ids from, task_within ids to)
 
 -- ---- what is known beside the used lines and their mentions
--- the time of the first of them
-abbrev first_use : List UsedLine → Option ℕ
-first_use [] = None
-first_use (line ∷ rest) = Some line.time
-
 -- the last passage is not after the last line
 abbrev IsSince : Option ℕ → Option ℕ → ℕ → Type 0
 IsSince None last span = span ≡ 0
@@ -83,12 +94,13 @@ since_later None last span time since forward = since
 since_later (Some start) None span time since forward = absurd since
 since_later (Some start) (Some last) span time since forward = let most = not_above time last forward in omega (arith, since, most)
 
-pub record Kept (head c : CourseData) (f : FollowingData) (ms : List Mention) (used : List UsedLine) : Type 0 where
+pub record Kept (head c : CourseData) (f : FollowingData) (ms : List Readiness) (used : List UsedLine) : Type 0 where
   pub set : c.set ≡ head.set
   pub ids : c.ids ≡ head.ids
   pub window : c.window ≡ head.window
   pub valid : IsCourse c
   pub said : Said c.standings ms
+  pub named : Named c.standings ms
   pub told : Said c.standings (all_changes f.passages)
   pub passages : f.passages ≡ passages_since (from_turn used)
   pub start : f.start ≡ first_use (from_turn used)
@@ -98,7 +110,7 @@ pub record Kept (head c : CourseData) (f : FollowingData) (ms : List Mention) (u
   pub of_set : All (IsPassageOf (length c.set.tasks)) f.passages
 
 -- a line leads on, and what was kept before it stays
-pub record Stepped (head : CourseData) (before : List Passage) (next : FollowingData) (ms : List Mention) (used : List UsedLine) : Type 0 where
+pub record Stepped (head : CourseData) (before : List Passage) (next : FollowingData) (ms : List Readiness) (used : List UsedLine) : Type 0 where
   pub course : CourseData
   pub expects : next.progress ≡ Tracing course
   pub kept : Kept head course next ms used
@@ -106,12 +118,12 @@ pub record Stepped (head : CourseData) (before : List Passage) (next : Following
   pub grows : next.passages ≡ before ++ later
 
 -- ---- a used line
-module _ (head c : CourseData) (f : FollowingData) (ms : List Mention) (used : List UsedLine) (time : ℕ) (change : Change) (told : TaskChange)
+module _ (head c : CourseData) (f : FollowingData) (ms : List Readiness) (used : List UsedLine) (time : ℕ) (change : Change) (told : TaskChange)
     (kept : Kept head c f ms used) (now : c.last ≡ Some time) (about : IsAboutTasks (length c.set.tasks) told) where
-  abbrev first : Option Mention
+  abbrev first : Option Readiness
   first = first_mention c.ids change
 
-  abbrev second : Option Mention
+  abbrev second : Option Readiness
   second = second_mention c.ids change
 
   abbrev between : List Standing
@@ -125,26 +137,32 @@ module _ (head c : CourseData) (f : FollowingData) (ms : List Mention) (used : L
   line = record { time = time; change = told; first = changing c.standings first; second = changing between second }
 
   -- its changes
-  abbrev more : List Mention
+  abbrev more : List Readiness
   more = option_to_list line.first ++ option_to_list line.second
 
   known_first : IsKnown c.standings first
   known_first =
       let valid = kept.valid in
       let same : length c.ids ≡ length c.standings = valid.ids ∙ sym valid.standings in
-      subst (λ (n : ℕ). ForSome first (λ (m : Mention). m.task < n)) same (first_known c.ids change)
+      subst (λ (n : ℕ). ForSome first (λ (m : Readiness). m.task < n)) same (first_known c.ids change)
 
   known_second : IsKnown between second
   known_second =
       let valid = marks_valid c first None kept.valid in
       let same : length c.ids ≡ length between = valid.ids ∙ sym valid.standings in
-      subst (λ (n : ℕ). ForSome second (λ (m : Mention). m.task < n)) same (second_known c.ids change)
+      subst (λ (n : ℕ). ForSome second (λ (m : Readiness). m.task < n)) same (second_known c.ids change)
 
   said_then : Said after.standings (ms ++ mentions c.ids change)
   said_then =
       subst (Said after.standings)
-      (append_assoc ms (option_to_list first) (option_to_list second) ∙ ap (λ (all : List Mention). ms ++ all) (sym (mentions_are c.ids change)))
+      (append_assoc ms (option_to_list first) (option_to_list second) ∙ ap (λ (all : List Readiness). ms ++ all) (sym (mentions_are c.ids change)))
       (mark_said between (ms ++ option_to_list first) second known_second (mark_said c.standings ms first known_first kept.said))
+
+  named_then : Named after.standings (ms ++ mentions c.ids change)
+  named_then =
+      subst (Named after.standings)
+      (append_assoc ms (option_to_list first) (option_to_list second) ∙ ap (λ (all : List Readiness). ms ++ all) (sym (mentions_are c.ids change)))
+      (mark_named between (ms ++ option_to_list first) second known_second (mark_named c.standings ms first known_first kept.named))
 
   told_first : Said between (all_changes f.passages ++ option_to_list line.first)
   told_first = change_said c.standings (all_changes f.passages) first known_first kept.told
@@ -163,8 +181,8 @@ module _ (head c : CourseData) (f : FollowingData) (ms : List Mention) (used : L
   -- the line is the one that the mentions before it make
   line_is : line ≡ used_line c.ids ms time change told
   line_is =
-      let made : Option Mention → Option Mention → UsedLine = λ one two. record { time = time; change = told; first = one; second = two } in
-      ap (λ (one : Option Mention). made one (changing between second)) (changing_is c.standings ms first kept.said)
+      let made : Option Readiness → Option Readiness → UsedLine = λ one two. record { time = time; change = told; first = one; second = two } in
+      ap (λ (one : Option Readiness). made one (changing between second)) (changing_is c.standings ms first kept.said)
       ∙ ap (made (turning ms first)) (changing_is between (ms ++ option_to_list first) second (mark_said c.standings ms first known_first kept.said))
 
   -- one passage more
@@ -178,16 +196,18 @@ module _ (head c : CourseData) (f : FollowingData) (ms : List Mention) (used : L
 
     changes_then : all_changes f.passages ++ more ≡ all_changes next.passages
     changes_then =
-        ap (λ (last : List Mention). all_changes f.passages ++ last) (sym (append-nil more))
+        ap (λ (last : List Readiness). all_changes f.passages ++ last) (sym (append-nil more))
         ∙ sym (changes_append f.passages (passage ∷ []))
 
     in_time : passage.moment < 9223372036854775808 → IsPassageOf (length c.set.tasks) passage
     in_time short =
         let valid = kept.valid in
         record {
-          change = about;
-          first = subst (λ (n : ℕ). ForSome line.first (λ (m : Mention). m.task < n)) valid.ids (changing_known (length c.ids) c.standings first (first_known c.ids change));
-          second = subst (λ (n : ℕ). ForSome line.second (λ (m : Mention). m.task < n)) valid.ids (changing_known (length c.ids) between second (second_known c.ids change));
+          tasks = record {
+            turn = turn_about (length c.set.tasks) told line.first about;
+            first = subst (λ (n : ℕ). ForSome line.first (λ (m : Readiness). m.task < n)) valid.ids (changing_known (length c.ids) c.standings first (first_known c.ids change));
+            second = subst (λ (n : ℕ). ForSome line.second (λ (m : Readiness). m.task < n)) valid.ids (changing_known (length c.ids) between second (second_known c.ids change));
+          };
           moment = short;
         }
 
@@ -198,6 +218,7 @@ module _ (head c : CourseData) (f : FollowingData) (ms : List Mention) (used : L
       window = kept.window;
       valid = marks_valid c first second kept.valid;
       said = said_then;
+      named = named_then;
       told = subst (Said after.standings) changes_then told_then;
       passages = sym all ∙ ap passages_since (sym from);
       start = sym begins ∙ ap first_use (sym from);
@@ -277,7 +298,8 @@ module _ (head c : CourseData) (f : FollowingData) (ms : List Mention) (used : L
           window = kept.window;
           valid = marks_valid c first second kept.valid;
           said = said_then;
-          told = subst (Said after.standings) (ap (λ (last : List Mention). all_changes f.passages ++ last) no_more ∙ append-nil (all_changes f.passages)) told_then;
+          named = named_then;
+          told = subst (Said after.standings) (ap (λ (last : List Readiness). all_changes f.passages ++ last) no_more ∙ append-nil (all_changes f.passages)) told_then;
           passages = kept.passages ∙ ap passages_since (none ∙ sym from);
           start = kept.start ∙ ap first_use (none ∙ sym from);
           turned = kept.turned;
@@ -289,7 +311,7 @@ module _ (head c : CourseData) (f : FollowingData) (ms : List Mention) (used : L
         grows = sym (append-nil f.passages);
       })
     where
-      unturned : (one two : Option Mention) → (is_some one || is_some two) ≡ false → option_to_list one ++ option_to_list two ≡ []
+      unturned : (one two : Option Readiness) → (is_some one || is_some two) ≡ false → option_to_list one ++ option_to_list two ≡ []
       unturned None None e = refl
       unturned (Some one) two e = cc
       unturned None (Some two) e = cc
@@ -319,7 +341,7 @@ abbrev clock_at : Bool → CourseData → ℕ → CourseData
 clock_at b c time = if b then record c { last = Some time; used = Some time } else record c { last = Some time }
 
 -- another progress of what is known
-progressed : (head c d : CourseData) (f g : FollowingData) (ms : List Mention) (used : List UsedLine) → Kept head c f ms used
+progressed : (head c d : CourseData) (f g : FollowingData) (ms : List Readiness) (used : List UsedLine) → Kept head c f ms used
     → d.set ≡ c.set → d.ids ≡ c.ids → d.window ≡ c.window → d.standings ≡ c.standings → IsCourse d
     → IsSince f.start d.last (span_of f.passages) → g.start ≡ f.start → g.passages ≡ f.passages → Kept head d g ms used
 progressed head c d f g ms used kept set ids window standings valid since start passages = record {
@@ -328,6 +350,7 @@ progressed head c d f g ms used kept set ids window standings valid since start 
   window = window ∙ kept.window;
   valid = valid;
   said = subst (λ (s : List Standing). Said s ms) (sym standings) kept.said;
+  named = subst (λ (s : List Standing). Named s ms) (sym standings) kept.named;
   told =
       subst (λ (s : List Standing). Said s (all_changes g.passages)) (sym standings)
       (subst (λ (p : List Passage). Said c.standings (all_changes p)) (sym passages) kept.told);
@@ -343,7 +366,7 @@ progressed head c d f g ms used kept set ids window standings valid since start 
       (subst (λ (s : SetData). All (IsPassageOf (length s.tasks)) f.passages) (sym set) kept.of_set);
 }
 
-module _ (head c : CourseData) (f next : FollowingData) (ms : List Mention) (used : List UsedLine) (kept : Kept head c f ms used) where
+module _ (head c : CourseData) (f next : FollowingData) (ms : List Readiness) (used : List UsedLine) (kept : Kept head c f ms used) where
   clock_kept : (b : Bool) (g : FollowingData) (time : ℕ) → is_backward c.last time ≡ false → g.start ≡ f.start → g.passages ≡ f.passages
       → Kept head (clock_at b c time) g ms used
   clock_kept true g time forward start passages =
@@ -358,7 +381,7 @@ module _ (head c : CourseData) (f next : FollowingData) (ms : List Mention) (use
       → Stepped head f.passages next (ms ++ []) (used ++ [])
   unkept d g is expects passages kept_then =
       subst (λ (found : FollowingData). Stepped head f.passages found (ms ++ []) (used ++ [])) (sym is)
-      (subst (λ (all : List Mention). Stepped head f.passages g all (used ++ [])) (sym (append-nil ms))
+      (subst (λ (all : List Readiness). Stepped head f.passages g all (used ++ [])) (sym (append-nil ms))
       (subst (Stepped head f.passages g ms) (sym (append-nil used))
       (record {
         course = d;

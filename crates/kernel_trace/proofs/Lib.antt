@@ -12,6 +12,7 @@ pub mod Followed
 pub mod Imports
 mod HeadSplit
 mod Turns
+mod InOrder
 mod Kept
 pub mod Imported
 pub mod Passed

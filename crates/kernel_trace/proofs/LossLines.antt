@@ -1,9 +1,10 @@
 -- The lines of losses as they are written.
-use Rattle.std.proofs.Common.{◌≡◌, ℕ, List, [], ◌∷◌, ◌++◌, codes, append_assoc}
+use Rattle.std.proofs.Common.{◌≡◌, ℕ, List, [], ◌∷◌, ◌++◌, codes, Option, append_assoc}
 use Rattle.affinity_mask.specs.Number.{canonical_number}
 use Rattle.task_set.specs.TaskSet.{SetData}
 use Rattle.text_fields.specs.EventText.{name_of}
-use Rattle.kernel_trace.specs.LossText.{moment_text, rival_text, loss_line, loss_lines, loss_text}
+use Rattle.kernel_trace.specs.StampText.{stamp_text}
+use Rattle.kernel_trace.specs.LossText.{moment_text, rival_text, row_text, told_text, loss_line, loss_lines, span_text, loss_text}
 use Rattle.kernel_trace.specs.declared.loss_text.LossRow.{LossRow}
 
 -- ---- a line
@@ -11,24 +12,43 @@ pieces : (old a b c d e f g h i j k l m n : List ℕ)
     → old ++ a ++ b ++ c ++ d ++ e ++ f ++ g ++ h ++ i ++ j ++ k ++ l ++ m ++ n ≡ old ++ (a ++ b ++ c ++ d ++ e ++ f ++ g ++ h ++ i ++ j ++ k ++ l ++ m ++ n)
 pieces old a b c d e f g h i j k l m n = simp append_assoc
 
-pub row_written : (set : SetData) (t : ℕ) (row : LossRow) (t0 t1 t2 t3 t4 t5 t6 t7 t8 t9 t10 : List ℕ)
-    → t1 ≡ t0 ++ name_of set t → t2 ≡ t1 ++ codes " ready " ++ canonical_number row.ready → t3 ≡ t2 ++ codes " ran " ++ canonical_number row.ran
-    → t4 ≡ t3 ++ codes " lost " ++ canonical_number row.lost → t5 ≡ t4 ++ codes " longest " ++ canonical_number row.longest → t6 ≡ t5 ++ codes " at "
-    → t7 ≡ t6 ++ moment_text row.longest row.first → t8 ≡ t7 ++ codes " while " → t9 ≡ t8 ++ rival_text set row.rival → t10 ≡ t9 ++ 10 ∷ []
-    → t10 ≡ t0 ++ loss_line set t row
-unfolding loss_line
-row_written set t row t0 t1 t2 t3 t4 t5 t6 t7 t8 t9 t10 e1 e2 e3 e4 e5 e6 e7 e8 e9 e10 =
-    rw (e10, e9, e8, e7, e6, e5, e4, e3, e2, e1)
-    (pieces t0 (name_of set t) (codes " ready ") (canonical_number row.ready) (codes " ran ") (canonical_number row.ran) (codes " lost ")
-    (canonical_number row.lost) (codes " longest ") (canonical_number row.longest) (codes " at ") (moment_text row.longest row.first)
-    (codes " while ") (rival_text set row.rival) (10 ∷ []))
+pub row_written : (set : SetData) (clock : Option ℕ) (row : LossRow) (t0 t1 t2 t3 t4 t5 t6 t7 t8 t9 : List ℕ)
+    → t1 ≡ t0 ++ codes " ready " ++ canonical_number row.ready → t2 ≡ t1 ++ codes " ran " ++ canonical_number row.ran
+    → t3 ≡ t2 ++ codes " lost " ++ canonical_number row.lost → t4 ≡ t3 ++ codes " over " ++ canonical_number row.over
+    → t5 ≡ t4 ++ codes " longest " ++ canonical_number row.longest → t6 ≡ t5 ++ codes " at "
+    → t7 ≡ t6 ++ moment_text clock row.longest row.first → t8 ≡ t7 ++ codes " while " → t9 ≡ t8 ++ rival_text set row.rival
+    → t9 ≡ t0 ++ row_text set clock row
+unfolding row_text
+row_written set clock row t0 t1 t2 t3 t4 t5 t6 t7 t8 t9 e1 e2 e3 e4 e5 e6 e7 e8 e9 =
+    rw (e9, e8, e7, e6, e5, e4, e3, e2, e1)
+    (pieces t0 (codes " ready ") (canonical_number row.ready) (codes " ran ") (canonical_number row.ran) (codes " lost ")
+    (canonical_number row.lost) (codes " over ") (canonical_number row.over) (codes " longest ") (canonical_number row.longest) (codes " at ")
+    (moment_text clock row.longest row.first) (codes " while ") (rival_text set row.rival))
+
+line_pieces : (old a b c : List ℕ) → old ++ a ++ b ++ c ≡ old ++ ((a ++ b) ++ c)
+line_pieces old a b c = simp append_assoc
+
+pub line_written : (set : SetData) (clock : Option ℕ) (t : ℕ) (row : Option LossRow) (t0 t1 t2 t3 : List ℕ)
+    → t1 ≡ t0 ++ name_of set t → t2 ≡ t1 ++ told_text set clock row → t3 ≡ t2 ++ 10 ∷ [] → t3 ≡ t0 ++ loss_line set clock t row
+line_written set clock t row t0 t1 t2 t3 e1 e2 e3 = rw (e3, e2, e1) (line_pieces t0 (name_of set t) (told_text set clock row) (10 ∷ []))
 
 -- ---- the text
-end_pieces : (a b c d e : List ℕ) → [] ++ a ++ b ++ c ++ d ++ e ≡ a ++ (b ++ c) ++ d ++ e
+span_pieces : (old a b c d e : List ℕ) → old ++ a ++ b ++ c ++ d ++ e ≡ old ++ (a ++ b ++ c ++ (d ++ e))
+span_pieces old a b c d e = simp append_assoc
+
+pub span_written : (clock : Option ℕ) (span : ℕ) (t0 t1 t2 t3 t4 : List ℕ) → t1 ≡ t0 ++ codes "lost 2\nspan " ++ canonical_number span
+    → t2 ≡ t1 ++ codes " at " → t3 ≡ t2 ++ stamp_text clock → t4 ≡ t3 ++ 10 ∷ [] → t4 ≡ t0 ++ span_text clock span
+unfolding span_text
+span_written clock span t0 t1 t2 t3 t4 e1 e2 e3 e4 =
+    rw (e4, e3, e2, e1) (span_pieces t0 (codes "lost 2\nspan ") (canonical_number span) (codes " at ") (stamp_text clock) (10 ∷ []))
+
+end_pieces : (a b c d e : List ℕ) → [] ++ a ++ b ++ c ++ d ++ (10 ∷ e) ≡ a ++ b ++ c ++ (d ++ 10 ∷ []) ++ e
 end_pieces a b c d e = simp append_assoc
 
-pub text_written : (set : SetData) (span : ℕ) (rows : List LossRow) (t0 t1 t2 t3 t4 t5 : List ℕ) → t0 ≡ [] → t1 ≡ t0 ++ codes "lost 1\nspan "
-    → t2 ≡ t1 ++ canonical_number span → t3 ≡ t2 ++ 10 ∷ [] → t4 ≡ t3 ++ loss_lines set 0 rows → t5 ≡ t4 ++ codes "end\n" → t5 ≡ loss_text set span rows
+pub text_written : (set : SetData) (clock : Option ℕ) (span : ℕ) (rows : List (Option LossRow)) (jumps : ℕ) (t0 t1 t2 t3 t4 : List ℕ) → t0 ≡ []
+    → t1 ≡ t0 ++ span_text clock span → t2 ≡ t1 ++ loss_lines set clock 0 rows → t3 ≡ t2 ++ codes "jumps " ++ canonical_number jumps
+    → t4 ≡ t3 ++ codes "\nend\n" → t4 ≡ loss_text set clock span rows jumps
 unfolding loss_text
-text_written set span rows t0 t1 t2 t3 t4 t5 e0 e1 e2 e3 e4 e5 =
-    rw (e5, e4, e3, e2, e1, e0) (end_pieces (codes "lost 1\nspan ") (canonical_number span) (10 ∷ []) (loss_lines set 0 rows) (codes "end\n"))
+text_written set clock span rows jumps t0 t1 t2 t3 t4 e0 e1 e2 e3 e4 =
+    rw (e4, e3, e2, e1, e0)
+    (end_pieces (span_text clock span) (loss_lines set clock 0 rows) (codes "jumps ") (canonical_number jumps) (codes "end\n"))

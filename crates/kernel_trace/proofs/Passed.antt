@@ -1,24 +1,28 @@
 -- What is read of a trace are its passages.
 use Rattle.std.proofs.Common.{◌≡◌, ℕ, zero, suc, ◌+◌, Bool, true, false, List, [], ◌∷◌, ◌++◌, length, take, None, refl, sym, ap, ◌∙◌, subst, inl, inr, append_assoc, append-nil}
-use Rattle.std.specs.Prelude.{All, if◌then◌else◌}
+use Rattle.std.specs.Prelude.{All, slice_index_or, if◌then◌else◌}
+use Rattle.std.proofs.Math.ListN.{get_or-map}
+use Rattle.std.proofs.lemmas.List.{length-map}
 use Rattle.std.proofs.lemmas.List.Elements.{All-nil}
 use Rattle.text_fields.specs.Lines.{lines_of, fields_of}
 use Rattle.text_fields.specs.Machine.{Outcome, Leads, Fails, Answer, IsText, Refuses, answer_at_end, IsAnswer}
-use Rattle.kernel_trace.specs.Course.{CourseData, is_ready, names_task}
+use Rattle.kernel_trace.specs.Course.{CourseData, is_ready, is_mentioned, names_task}
 use Rattle.kernel_trace.specs.Import.{mentions_said, mentions_in, is_last_in, IsHead}
-use Rattle.kernel_trace.specs.Passage.{FollowingData, FollowingOutcome, TaskTraceData, IsFollowed, IsFollowedEnd, IsLineAt, IsEndAt, IsOfHead}
-use Rattle.kernel_trace.specs.Passages.{UsedLine, used_said, used_lines, from_turn, passages_since, all_changes, NeverFall, AllTurn, IsPassageOf, IsTaskTrace, PassagesAreFaithful}
+use Rattle.kernel_trace.specs.Passage.{FollowingData, FollowingOutcome, TaskTraceData, clock_of, trace_of, IsFollowed, IsFollowedEnd, IsLineAt, IsEndAt, IsOfHead}
+use Rattle.kernel_trace.specs.Passages.{UsedLine, used_said, used_lines, from_turn, passages_since, passages_in, all_changes, NeverFall, AllTurn, IsPassageOf, IsTaskTrace, PassagesAreFaithful}
 use Rattle.kernel_trace.specs.Processor.{processor_of}
 use Rattle.kernel_trace.specs.Reading.{IsCourse}
 use Rattle.kernel_trace.specs.Survey.{SurveyData, survey_of, is_gap}
 use Rattle.kernel_trace.specs.TraceLine.{Said as SaidData, said_by}
 use Rattle.kernel_trace.specs.TraceText.{Progress, HeaderExpected, ProcessorsExpected, Listed, Tracing, IsLine}
-use Rattle.kernel_trace.specs.declared.change.Mention.{Mention}
+use Rattle.trace_passages.specs.declared.passage.Readiness.{Readiness}
+use Rattle.kernel_trace.specs.declared.change.Standing.TheVariants.{Unmentioned}
 use Rattle.kernel_trace.specs.declared.fault.TraceKind.{TraceKind}
 use Rattle.kernel_trace.specs.declared.fault.TraceKind.TheVariants.{NoEvents, Overwritten, NothingSaid}
-use Rattle.kernel_trace.specs.declared.passage.Passage.{Passage}
+use Rattle.trace_passages.specs.declared.passage.Passage.{Passage}
 use Rattle.kernel_trace.proofs.Followed.{head_leads, faulty}
 use Rattle.kernel_trace.proofs.HeadSplit.{Begun, Split, LedOn, head_split}
+use Rattle.kernel_trace.proofs.InOrder.{passages_in_order}
 use Rattle.kernel_trace.proofs.Kept.{Kept, Stepped, said_steps}
 
 abbrev IsRest : SurveyData → ℕ → FollowingData → List (List ℕ) → TaskTraceData → Type 0
@@ -36,14 +40,14 @@ whole_leads false f next outcome e = e
 
 -- ---- lines of the trace
 module _ (look : SurveyData) (head : CourseData) (trace : TaskTraceData) where
-  abbrev made : List Mention → List (List ℕ) → List Mention
+  abbrev made : List Readiness → List (List ℕ) → List Readiness
   made ms lines = ms ++ mentions_in look.waking head.ids head.window lines
 
-  abbrev met : List Mention → List UsedLine → List (List ℕ) → List UsedLine
+  abbrev met : List Readiness → List UsedLine → List (List ℕ) → List UsedLine
   met ms used lines = used ++ used_lines look.waking head.ids head.window ms lines
 
   -- one line
-  line_steps : (c : CourseData) (f next : FollowingData) (ms : List Mention) (used : List UsedLine) (line : List ℕ) → f.progress ≡ Tracing c
+  line_steps : (c : CourseData) (f next : FollowingData) (ms : List Readiness) (used : List UsedLine) (line : List ℕ) → f.progress ≡ Tracing c
       → Kept head c f ms used → IsFollowed look f line (Leads next)
       → Stepped head f.passages next (ms ++ mentions_said head.ids head.window (said_by look.waking (fields_of line)))
       (used ++ used_said head.ids head.window ms (said_by look.waking (fields_of line)) (processor_of look.waking (fields_of line)))
@@ -52,29 +56,29 @@ module _ (look : SurveyData) (head : CourseData) (trace : TaskTraceData) where
       (whole_leads (is_gap look c.window (fields_of line)) f next _ (subst (λ (p : Progress). IsLineAt look f p line (Leads next)) expects comes))
 
   at_end : (b : Bool) (number : ℕ) (f : FollowingData) (c : CourseData) (last : Outcome TaskTraceData TraceKind)
-      → last ≡ (if b then Leads (record { set = c.set; passages = f.passages }) else Fails NothingSaid)
-      → ◌≡◌ {A = Answer TaskTraceData TraceKind} (IsText trace) (answer_at_end number last) → trace ≡ record { set = c.set; passages = f.passages }
+      → last ≡ (if b then Leads (trace_of f c) else Fails NothingSaid)
+      → ◌≡◌ {A = Answer TaskTraceData TraceKind} (IsText trace) (answer_at_end number last) → trace ≡ trace_of f c
   at_end true number f c last ends e = same (e ∙ ap (answer_at_end number) ends)
     where
-      same : ◌≡◌ {A = Answer TaskTraceData TraceKind} (IsText trace) (IsText (record { set = c.set; passages = f.passages }))
-          → trace ≡ record { set = c.set; passages = f.passages }
+      same : ◌≡◌ {A = Answer TaskTraceData TraceKind} (IsText trace) (IsText (trace_of f c))
+          → trace ≡ trace_of f c
       same e = cc
   at_end false number f c last ends e = refused_text trace number NothingSaid (e ∙ ap (answer_at_end number) ends)
 
   -- what is known after all lines
-  record Whole (ms : List Mention) (used : List UsedLine) (before : List Passage) : Type 0 where
+  record Whole (ms : List Readiness) (used : List UsedLine) (before : List Passage) : Type 0 where
     course : CourseData
     found : FollowingData
-    is : trace ≡ record { set = course.set; passages = found.passages }
+    is : trace ≡ trace_of found course
     kept : Kept head course found ms used
     later : List Passage
     grows : trace.passages ≡ before ++ later
 
-  whole : (number : ℕ) (c : CourseData) (f : FollowingData) (ms : List Mention) (used : List UsedLine) (lines : List (List ℕ)) → f.progress ≡ Tracing c
+  whole : (number : ℕ) (c : CourseData) (f : FollowingData) (ms : List Readiness) (used : List UsedLine) (lines : List (List ℕ)) → f.progress ≡ Tracing c
       → Kept head c f ms used → IsRest look number f lines trace → Whole (made ms lines) (met ms used lines) f.passages
   whole number c f ms used [] expects kept (last, ends, e) =
       let is = at_end (names_task c.standings) number f c last (subst (λ (p : Progress). IsEndAt f p last) expects ends) e in
-      subst (λ (all : List Mention). Whole all (used ++ []) f.passages) (sym (append-nil ms))
+      subst (λ (all : List Readiness). Whole all (used ++ []) f.passages) (sym (append-nil ms))
       (subst (λ (all : List UsedLine). Whole ms all f.passages) (sym (append-nil used))
       (record {
         course = c;
@@ -92,7 +96,7 @@ module _ (look : SurveyData) (head : CourseData) (trace : TaskTraceData) where
       let seen = used_said head.ids head.window ms said (processor_of look.waking (fields_of line)) in
       let later = whole (number + 1) step.course next (ms ++ told) (used ++ seen) rest step.expects step.kept answer in
       let all : Whole (made ms (line ∷ rest)) (met ms used (line ∷ rest)) next.passages =
-      subst (λ (ms_all : List Mention). Whole ms_all (met ms used (line ∷ rest)) next.passages) (append_assoc ms told (mentions_in look.waking head.ids head.window rest))
+      subst (λ (ms_all : List Readiness). Whole ms_all (met ms used (line ∷ rest)) next.passages) (append_assoc ms told (mentions_in look.waking head.ids head.window rest))
       (subst (λ (used_all : List UsedLine). Whole (made (ms ++ told) rest) used_all next.passages)
       (append_assoc used seen (used_lines look.waking head.ids head.window (ms ++ told) rest)) later) in
       record {
@@ -105,18 +109,18 @@ module _ (look : SurveyData) (head : CourseData) (trace : TaskTraceData) where
       }
 
   -- the first passages are those of some first lines
-  record First (ms : List Mention) (used : List UsedLine) : Type 0 where
+  record First (ms : List Readiness) (used : List UsedLine) : Type 0 where
     passages : List Passage
     later : List Passage
     order : trace.passages ≡ passages ++ later
     exact : passages ≡ passages_since (from_turn used)
     ready : (t : ℕ) → is_last_in t (all_changes passages) ≡ is_last_in t ms
 
-  here : (number : ℕ) (c : CourseData) (f : FollowingData) (ms : List Mention) (used : List UsedLine) (lines : List (List ℕ)) → f.progress ≡ Tracing c
+  here : (number : ℕ) (c : CourseData) (f : FollowingData) (ms : List Readiness) (used : List UsedLine) (lines : List (List ℕ)) → f.progress ≡ Tracing c
       → Kept head c f ms used → IsRest look number f lines trace → First (ms ++ []) (used ++ [])
   here number c f ms used lines expects kept answer =
       let all = whole number c f ms used lines expects kept answer in
-      subst (λ (all : List Mention). First all (used ++ [])) (sym (append-nil ms))
+      subst (λ (all : List Readiness). First all (used ++ [])) (sym (append-nil ms))
       (subst (First ms) (sym (append-nil used))
       (record {
         passages = f.passages;
@@ -126,7 +130,7 @@ module _ (look : SurveyData) (head : CourseData) (trace : TaskTraceData) where
         ready = λ t. (kept.told t ∙ sym (kept.said t));
       }))
 
-  each : (n number : ℕ) (c : CourseData) (f : FollowingData) (ms : List Mention) (used : List UsedLine) (lines : List (List ℕ)) → f.progress ≡ Tracing c
+  each : (n number : ℕ) (c : CourseData) (f : FollowingData) (ms : List Readiness) (used : List UsedLine) (lines : List (List ℕ)) → f.progress ≡ Tracing c
       → Kept head c f ms used → IsRest look number f lines trace → First (made ms (take n lines)) (met ms used (take n lines))
   each zero number c f ms used lines expects kept answer = here number c f ms used lines expects kept answer
   each (suc n) number c f ms used [] expects kept answer = here number c f ms used [] expects kept answer
@@ -137,7 +141,7 @@ module _ (look : SurveyData) (head : CourseData) (trace : TaskTraceData) where
       let told = mentions_said head.ids head.window said in
       let seen = used_said head.ids head.window ms said (processor_of look.waking (fields_of line)) in
       let later = each n (number + 1) step.course next (ms ++ told) (used ++ seen) rest step.expects step.kept answer in
-      subst (λ (all : List Mention). First all (met ms used (line ∷ take n rest))) (append_assoc ms told (mentions_in look.waking head.ids head.window (take n rest)))
+      subst (λ (all : List Readiness). First all (met ms used (line ∷ take n rest))) (append_assoc ms told (mentions_in look.waking head.ids head.window (take n rest)))
       (subst (First (made (ms ++ told) (take n rest))) (append_assoc used seen (used_lines look.waking head.ids head.window (ms ++ told) (take n rest))) later)
 
   -- from a head on
@@ -148,6 +152,7 @@ module _ (look : SurveyData) (head : CourseData) (trace : TaskTraceData) where
     window = refl;
     valid = valid;
     said = λ t. sym (ap is_ready (is.unmentioned t));
+    named = λ t. ap is_mentioned (is.unmentioned t);
     told = λ t. sym (ap is_ready (is.unmentioned t));
     passages = refl;
     start = refl;
@@ -201,8 +206,14 @@ of_split bytes trace split =
     let start = head_kept look head trace split.is_head split.valid in
     let all = whole look head trace split.number head (at_head (Tracing head)) [] [] split.rest refl start split.answer in
     let kept = all.kept in
+    let valid = kept.valid in
     let passages : trace.passages ≡ all.found.passages = ap (λ (t : TaskTraceData). t.passages) all.is in
     let set : trace.set ≡ head.set = ap (λ (t : TaskTraceData). t.set) all.is ∙ kept.set in
+    let exact : trace.passages ≡ passages_in look.waking head.ids head.window split.rest = passages ∙ kept.passages in
+    let rising : NeverFall 0 trace.passages = subst (NeverFall 0) (sym passages) kept.rising in
+    let of_set : All (IsPassageOf (length trace.set.tasks)) trace.passages =
+    subst (λ (p : List Passage). All (IsPassageOf (length trace.set.tasks)) p) (sym passages)
+    (subst (λ (t : TaskTraceData). All (IsPassageOf (length t.set.tasks)) all.found.passages) (sym all.is) kept.of_set) in
     record {
       look = look;
       surveyed = refl;
@@ -215,15 +226,23 @@ of_split bytes trace split =
       opens = split.opens;
       no_line = split.is_head;
       set = set;
-      passages = passages ∙ kept.passages;
+      clock = ap (λ (t : TaskTraceData). t.clock) all.is ∙ ap clock_of kept.start;
+      passages = exact;
+      counted =
+          subst (λ (t : TaskTraceData). length t.mentioned ≡ length t.set.tasks) (sym all.is)
+          (length-map all.course.standings is_mentioned ∙ valid.standings);
+      mentioned = λ t.
+          (ap (λ (found : TaskTraceData). slice_index_or found.mentioned t false) all.is
+          ∙ get_or-map is_mentioned all.course.standings t Unmentioned
+          ∙ kept.named t);
       each = λ n.
           (let first = each look head trace n split.number head (at_head (Tracing head)) [] [] split.rest refl start split.answer in
           record { passages = first.passages; later = first.later; order = first.order; exact = first.exact; ready = first.ready });
-      rising = subst (NeverFall 0) (sym passages) kept.rising;
+      rising = rising;
       changing = subst (λ (p : List Passage). AllTurn [] (all_changes p)) (sym passages) kept.turned;
-      of_set =
-          subst (λ (p : List Passage). All (IsPassageOf (length trace.set.tasks)) p) (sym passages)
-          (subst (λ (t : TaskTraceData). All (IsPassageOf (length t.set.tasks)) all.found.passages) (sym all.is) kept.of_set);
+      of_set = of_set;
+      in_order =
+          passages_in_order (length trace.set.tasks) (from_turn (used_lines look.waking head.ids head.window [] split.rest)) trace.passages exact rising of_set;
     }
 
 pub passages_are_faithful : PassagesAreFaithful

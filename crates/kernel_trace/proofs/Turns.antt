@@ -1,29 +1,32 @@
 -- What mentions and passages say, one after another.
-use Rattle.std.proofs.Common.{◌≡◌, ℕ, ◌<◌, ◌≤◌, Bool, true, false, List, [], ◌∷◌, ◌++◌, length, Option, None, Some, refl, sym, ap, ◌∙◌, subst, arith, append_assoc, append-nil}
-use Rattle.std.specs.Prelude.{option_to_list, if◌then◌else◌}
+use Rattle.std.proofs.Common.{◌≡◌, ℕ, ◌<◌, ◌≤◌, ◌==◌, Bool, true, false, set, eq-eqb, ne_eqb, inl, inr, List, [], ◌∷◌, ◌++◌, length, Option, None, Some, refl, sym, ap, ◌∙◌, subst, arith, append_assoc, append-nil}
+use Rattle.std.specs.Prelude.{option_to_list, ◌||◌, if◌then◌else◌}
 use Rattle.std.specs.Option.{ForSome}
-use Rattle.std.proofs.lemmas.List.{map-append}
-use Rattle.kernel_trace.specs.Course.{mention_of, mentions, agrees, is_ready, standing_of}
+use Rattle.std.proofs.lemmas.Bool.{cases_eq}
+use Rattle.std.proofs.lemmas.List.{map-append, get_or-set_same, get_or-set_other}
+use Rattle.std.proofs.lemmas.List.Folds.{list_any-append}
+use Rattle.kernel_trace.specs.Course.{mention_of, mentions, agrees, is_ready, is_mentioned, standing_of, standing_after}
 use Rattle.kernel_trace.specs.Import.{mention_says, is_last_in}
 use Rattle.kernel_trace.specs.Passage.{first_mention, second_mention, changing, marked, span_of}
-use Rattle.kernel_trace.specs.Passages.{UsedLine, turning, turns, from_turn, passage_since, passages_since, all_changes, AllTurn, NeverFall}
+use Rattle.kernel_trace.specs.Passages.{UsedLine, turning, turns, from_turn, passage_since, passages_since, all_changes, is_named_in, AllTurn, NeverFall}
 use Rattle.kernel_trace.specs.declared.change.Change.{Change}
 use Rattle.kernel_trace.specs.declared.change.Change.TheVariants.{Wakeup, Switch}
-use Rattle.kernel_trace.specs.declared.change.Mention.{Mention}
+use Rattle.trace_passages.specs.declared.passage.Readiness.{Readiness}
 use Rattle.kernel_trace.specs.declared.change.Standing.{Standing}
-use Rattle.kernel_trace.specs.declared.passage.Passage.{Passage}
+use Rattle.kernel_trace.specs.declared.change.Standing.TheVariants.{Unmentioned}
+use Rattle.trace_passages.specs.declared.passage.Passage.{Passage}
 use Rattle.kernel_trace.proofs.Imports.{fold_append, mentioned, standing_mentions, same_mention, agreed}
 
 -- ---- one mention more
 -- the last mentions of these are those that are known
-abbrev pub Said : List Standing → List Mention → Type 0
+abbrev pub Said : List Standing → List Readiness → Type 0
 Said standings ms = (t : ℕ) → is_last_in t ms ≡ is_ready (standing_of standings t)
 
 -- the tasks of a mention are among those that are known
-abbrev pub IsKnown : List Standing → Option Mention → Type 0
-IsKnown standings m = ForSome m (λ (m : Mention). m.task < length standings)
+abbrev pub IsKnown : List Standing → Option Readiness → Type 0
+IsKnown standings m = ForSome m (λ (m : Readiness). m.task < length standings)
 
-pub mark_said : (standings : List Standing) (ms : List Mention) (m : Option Mention) → IsKnown standings m → Said standings ms
+pub mark_said : (standings : List Standing) (ms : List Readiness) (m : Option Readiness) → IsKnown standings m → Said standings ms
     → Said (marked standings m) (ms ++ option_to_list m)
 mark_said standings ms None known said t = ap (is_last_in t) (append-nil ms) ∙ said t
 mark_said standings ms (Some m) known said t =
@@ -31,13 +34,50 @@ mark_said standings ms (Some m) known said t =
     ∙ ap (λ (before : Bool). mentioned m.task m.is_in before t) (said t)
     ∙ sym (standing_mentions standings m t (known m refl))
 
+-- these mentions are of the tasks that are known as mentioned
+abbrev pub Named : List Standing → List Readiness → Type 0
+Named standings ms = (t : ℕ) → is_mentioned (standing_of standings t) ≡ is_named_in t ms
+
+mentioned_after : (is_in : Bool) → is_mentioned (standing_after is_in) ≡ true
+mentioned_after true = refl
+mentioned_after false = refl
+
+or_true : (b : Bool) → (b || true) ≡ true
+or_true true = refl
+or_true false = refl
+
+or_false : (b : Bool) → (b || false) ≡ b
+or_false true = refl
+or_false false = refl
+
+-- one mention more is of its task
+named_more : (t : ℕ) (ms : List Readiness) (m : Readiness) (b : Bool) → (m.task == t) ≡ b → is_named_in t (ms ++ m ∷ []) ≡ (is_named_in t ms || b)
+named_more t ms m b is =
+    list_any-append (λ (m : Readiness). m.task == t) ms (m ∷ [])
+    ∙ ap (λ (here : Bool). is_named_in t ms || here) (or_false (m.task == t) ∙ is)
+
+pub mark_named : (standings : List Standing) (ms : List Readiness) (m : Option Readiness) → IsKnown standings m → Named standings ms
+    → Named (marked standings m) (ms ++ option_to_list m)
+mark_named standings ms None known named t = named t ∙ ap (is_named_in t) (sym (append-nil ms))
+mark_named standings ms (Some m) known named t = elim (cases_eq m.task t) [
+  | inl same ↦ (
+      let here : standing_of (set standings m.task (standing_after m.is_in)) m.task ≡ standing_after m.is_in = get_or-set_same standings m.task (standing_after m.is_in) Unmentioned (known m refl) in
+      let there : standing_of (set standings m.task (standing_after m.is_in)) t ≡ standing_after m.is_in =
+      subst (λ (n : ℕ). standing_of (set standings m.task (standing_after m.is_in)) n ≡ standing_after m.is_in) same here in
+      ap is_mentioned there ∙ mentioned_after m.is_in ∙ sym (named_more t ms m true (eq-eqb m.task t same) ∙ or_true (is_named_in t ms)))
+  | inr differs ↦ (
+      ap is_mentioned (get_or-set_other standings m.task t (standing_after m.is_in) Unmentioned (λ e. differs (sym e)))
+      ∙ named t
+      ∙ sym (named_more t ms m false (ne_eqb m.task t differs) ∙ or_false (is_named_in t ms)))
+]
+
 -- a mention changes its task where it says otherwise than the last one
-pub changing_is : (standings : List Standing) (ms : List Mention) (m : Option Mention) → Said standings ms → changing standings m ≡ turning ms m
+pub changing_is : (standings : List Standing) (ms : List Readiness) (m : Option Readiness) → Said standings ms → changing standings m ≡ turning ms m
 changing_is standings ms None said = refl
 changing_is standings ms (Some m) said = ap (λ (before : Bool). if agrees before m.is_in then None else Some m) (sym (said m.task))
 
 -- those that change their task say the same as all
-pub change_said : (standings : List Standing) (ms : List Mention) (m : Option Mention) → IsKnown standings m → Said standings ms
+pub change_said : (standings : List Standing) (ms : List Readiness) (m : Option Readiness) → IsKnown standings m → Said standings ms
     → Said (marked standings m) (ms ++ option_to_list (changing standings m))
 change_said standings ms None known said t = ap (is_last_in t) (append-nil ms) ∙ said t
 change_said standings ms (Some m) known said t = by (agrees (is_ready (standing_of standings m.task)) m.is_in) refl
@@ -51,12 +91,12 @@ change_said standings ms (Some m) known said t = by (agrees (is_ready (standing_
         ∙ sym (standing_mentions standings m t (known m refl))
     by false other = mark_said standings ms (Some m) known said t
 
-pub turn_append : (before xs ys : List Mention) → AllTurn before xs → AllTurn (before ++ xs) ys → AllTurn before (xs ++ ys)
-turn_append before [] ys one two = subst (λ (b : List Mention). AllTurn b ys) (append-nil before) two
+pub turn_append : (before xs ys : List Readiness) → AllTurn before xs → AllTurn (before ++ xs) ys → AllTurn before (xs ++ ys)
+turn_append before [] ys one two = subst (λ (b : List Readiness). AllTurn b ys) (append-nil before) two
 turn_append before (x ∷ xs) ys one two =
-    (one.0, turn_append (before ++ x ∷ []) xs ys one.1 (subst (λ (b : List Mention). AllTurn b ys) (sym (append_assoc before (x ∷ []) xs)) two))
+    (one.0, turn_append (before ++ x ∷ []) xs ys one.1 (subst (λ (b : List Readiness). AllTurn b ys) (sym (append_assoc before (x ∷ []) xs)) two))
 
-pub change_turns : (standings : List Standing) (ms : List Mention) (m : Option Mention) → Said standings ms
+pub change_turns : (standings : List Standing) (ms : List Readiness) (m : Option Readiness) → Said standings ms
     → AllTurn ms (option_to_list (changing standings m))
 change_turns standings ms None said = tt
 change_turns standings ms (Some m) said = by (agrees (is_ready (standing_of standings m.task)) m.is_in) refl
@@ -99,7 +139,7 @@ passages_more first rest line = map-append (passage_since first.time) (first ∷
 pub changes_append : (xs ys : List Passage) → all_changes (xs ++ ys) ≡ all_changes xs ++ all_changes ys
 changes_append [] ys = refl
 changes_append (x ∷ xs) ys =
-    ap (λ (more : List Mention). option_to_list x.first ++ option_to_list x.second ++ more) (changes_append xs ys)
+    ap (λ (more : List Readiness). option_to_list x.first ++ option_to_list x.second ++ more) (changes_append xs ys)
     ∙ sym (append_assoc (option_to_list x.first ++ option_to_list x.second) (all_changes xs) (all_changes ys))
 
 pub span_append : (passages : List Passage) (passage : Passage) → span_of (passages ++ passage ∷ []) ≡ passage.moment

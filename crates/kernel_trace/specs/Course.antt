@@ -10,7 +10,7 @@ use Rattle.trace_reader.specs.declared.posted.Posted.{Posted}
 use Rattle.kernel_trace.specs.Stamp.{microsecond}
 use Rattle.kernel_trace.specs.declared.change.Change.{Change}
 use Rattle.kernel_trace.specs.declared.change.Change.TheVariants.{Wakeup, Switch}
-use Rattle.kernel_trace.specs.declared.change.Mention.{Mention}
+use Rattle.trace_passages.specs.declared.passage.Readiness.{Readiness}
 use Rattle.kernel_trace.specs.declared.change.Standing.{Standing}
 use Rattle.kernel_trace.specs.declared.change.Standing.TheVariants.{Unmentioned, Ready, Absent}
 
@@ -33,11 +33,11 @@ pub record CourseData : Type 0 where
 
 -- ---- mentions
 -- the task of a thread, mentioned as in or out; other threads are nobody's
-abbrev pub mention_of : List ℕ → ℕ → Bool → Option Mention
+abbrev pub mention_of : List ℕ → ℕ → Bool → Option Readiness
 mention_of ids id is_in = option_map (λ task. record { task = task; is_in = is_in }) (position (nat_eq id) ids)
 
 -- the mentions of a change, in their order
-abbrev pub mentions : List ℕ → Change → List Mention
+abbrev pub mentions : List ℕ → Change → List Readiness
 mentions ids (Wakeup id) = option_to_list (mention_of ids id true)
 mentions ids (Switch from stays to) = option_to_list (mention_of ids from stays) ++ option_to_list (mention_of ids to true)
 
@@ -76,7 +76,7 @@ abbrev pub standing_of : List Standing → ℕ → Standing
 standing_of standings task = get_or standings task Unmentioned
 
 -- some mention is of a task that was mentioned and is not ready
-abbrev pub misses_wakeup : List Standing → List Mention → Bool
+abbrev pub misses_wakeup : List Standing → List Readiness → Bool
 misses_wakeup standings [] = false
 misses_wakeup standings (m ∷ rest) =
     is_absent (standing_of standings m.task) || misses_wakeup (set standings m.task (standing_after m.is_in)) rest
@@ -114,11 +114,11 @@ abbrev pub written : CourseData → List Posted
 written c = c.events ++ ticks (passed c)
 
 -- the event of a mention
-abbrev pub event_of : Mention → Event
+abbrev pub event_of : Readiness → Event
 event_of m = if m.is_in then Arrive m.task else Depart m.task
 
 -- after a mention
-abbrev pub after_mention : CourseData → Mention → CourseData
+abbrev pub after_mention : CourseData → Readiness → CourseData
 after_mention c m =
     if agrees (is_ready (standing_of c.standings m.task)) m.is_in
     then record c { standings = set c.standings m.task (standing_after m.is_in) }
@@ -129,7 +129,7 @@ after_mention c m =
     }
 
 -- after the mentions of a line, one after another
-abbrev pub after_mentions : CourseData → List Mention → CourseData
+abbrev pub after_mentions : CourseData → List Readiness → CourseData
 after_mentions c ms = fold after_mention c ms
 
 -- ---- time

@@ -14,7 +14,7 @@ use Rattle.kernel_trace.specs.Survey.{SurveyData, survey_of}
 use Rattle.kernel_trace.specs.Course.{CourseData, WindowData, mentions, after_mentions, agrees, is_in_window, standing_of}
 use Rattle.kernel_trace.specs.TraceLine.{Said, Nothing, LostEvents, Malformed, Happened, said_by}
 use Rattle.kernel_trace.specs.TraceText.{HeaderExpected, Listed, IsLine, IsTraceText, events_line}
-use Rattle.kernel_trace.specs.declared.change.Mention.{Mention}
+use Rattle.trace_passages.specs.declared.passage.Readiness.{Readiness}
 use Rattle.kernel_trace.specs.declared.change.Standing.TheVariants.{Unmentioned}
 
 -- ---- lines without fault
@@ -34,34 +34,34 @@ course_after waking c lines = fold (λ known line. after_said known (said_by wak
 
 -- ---- mentions
 -- the mentions of a line, where it is used, by the thread ids and the window
-abbrev pub mentions_said : List ℕ → Option WindowData → Said → List Mention
+abbrev pub mentions_said : List ℕ → Option WindowData → Said → List Readiness
 mentions_said ids window Nothing = []
 mentions_said ids window LostEvents = []
 mentions_said ids window Malformed = []
 mentions_said ids window (Happened time change) = if is_in_window window time then mentions ids change else []
 
 -- the mentions of some lines, in their order
-abbrev pub mentions_in : Bool → List ℕ → Option WindowData → List (List ℕ) → List Mention
+abbrev pub mentions_in : Bool → List ℕ → Option WindowData → List (List ℕ) → List Readiness
 mentions_in waking ids window [] = []
 mentions_in waking ids window (line ∷ rest) =
     mentions_said ids window (said_by waking (fields_of line)) ++ mentions_in waking ids window rest
 
 -- what the last mention of a task says, where this was known before
-abbrev pub mention_says : ℕ → Bool → Mention → Bool
+abbrev pub mention_says : ℕ → Bool → Readiness → Bool
 mention_says t before m = if m.task == t then m.is_in else before
 
 -- whether the last mention of a task is in
-abbrev pub is_last_in : ℕ → List Mention → Bool
+abbrev pub is_last_in : ℕ → List Readiness → Bool
 is_last_in t ms = fold (mention_says t) false ms
 
 -- ---- changes
 -- a mention that changes whether its task is ready, and the time of its line, in nanoseconds
 pub record ReadyChange : Type 0 where
   pub time : ℕ
-  pub mention : Mention
+  pub mention : Readiness
 
 -- those of some mentions at one time that say otherwise than the last mention of their task before
-abbrev pub ready_changes : ℕ → List Mention → List Mention → List ReadyChange
+abbrev pub ready_changes : ℕ → List Readiness → List Readiness → List ReadyChange
 ready_changes time before [] = []
 ready_changes time before (m ∷ rest) =
     if agrees (is_last_in m.task before) m.is_in
@@ -69,7 +69,7 @@ ready_changes time before (m ∷ rest) =
     else record { time = time; mention = m } ∷ ready_changes time (before ++ m ∷ []) rest
 
 -- the changes of a line, where it is used; these mentions stand before it
-abbrev pub changes_said : List ℕ → Option WindowData → List Mention → Said → List ReadyChange
+abbrev pub changes_said : List ℕ → Option WindowData → List Readiness → Said → List ReadyChange
 changes_said ids window before Nothing = []
 changes_said ids window before LostEvents = []
 changes_said ids window before Malformed = []
@@ -77,14 +77,14 @@ changes_said ids window before (Happened time change) =
     ready_changes time before (mentions_said ids window (Happened time change))
 
 -- the changes of some lines, in their order; these mentions stand before them
-abbrev pub changes_in : Bool → List ℕ → Option WindowData → List Mention → List (List ℕ) → List ReadyChange
+abbrev pub changes_in : Bool → List ℕ → Option WindowData → List Readiness → List (List ℕ) → List ReadyChange
 changes_in waking ids window before [] = []
 changes_in waking ids window before (line ∷ rest) =
     let said = said_by waking (fields_of line) in
     changes_said ids window before said ++ changes_in waking ids window (before ++ mentions_said ids window said) rest
 
 -- their mentions
-abbrev pub changes_made : List ReadyChange → List Mention
+abbrev pub changes_made : List ReadyChange → List Readiness
 changes_made changes = map (λ (change : ReadyChange). change.mention) changes
 
 -- their times
@@ -122,7 +122,7 @@ Lasts (Some from) (Some to) units = microsecond from + units ≡ microsecond to
 
 -- ---- events
 -- what an arrival or a departure says of its task
-abbrev pub told_by : Event → List Mention
+abbrev pub told_by : Event → List Readiness
 told_by (Arrive t) = record { task = t; is_in = true } ∷ []
 told_by (Depart t) = record { task = t; is_in = false } ∷ []
 told_by (Tick units) = []
@@ -131,7 +131,7 @@ told_by (Offline p) = []
 told_by (Online p) = []
 
 -- what the arrivals and departures of some events say, in their order
-abbrev pub all_told : List Posted → List Mention
+abbrev pub all_told : List Posted → List Readiness
 all_told [] = []
 all_told (posted ∷ rest) = told_by posted.event ++ all_told rest
 

@@ -8,6 +8,7 @@ pub mod Passages
 pub mod Processor
 pub mod Reading
 pub mod Stamp
+pub mod StampText
 pub mod StampView
 pub mod Survey
 pub mod SurveyView

@@ -1,34 +1,53 @@
--- The text of what a kernel did beside the best set: the span, and for each task at how many moments it was ready, ran, and was lost; the
--- longest stretch of lost moments with its first one, `-` where there is none; and the task that ran then. Lines end with a line feed,
--- fields are separated by one space, and numbers are canonical.
+-- The text of what a kernel did beside the best set: the span, with the clock of its first moment, and for each task that the trace
+-- mentions at how many moments it was ready, ran, and was lost, and how many of the lost ones stand in a long stretch; the longest
+-- stretch of lost moments with its first one and the clock then, `-` where there is none; and the task that ran then. A task that no
+-- line mentions has `-`. Last stands how many switches are from another task than the one that the switch before it on the same
+-- processor went to. Lines end with a line feed, fields are separated by one space, and numbers are canonical.
 use Rattle.std.specs.Prelude.{ℕ, ◌+◌, ◌==◌, List, [], ◌∷◌, ◌++◌, codes, Option, Some, None, if◌then◌else◌}
 use Rattle.affinity_mask.specs.Number.{canonical_number}
 use Rattle.task_set.specs.TaskSet.{SetData}
 use Rattle.text_fields.specs.EventText.{name_of}
 use Rattle.text_fields.specs.LineText.{line}
+use Rattle.kernel_trace.specs.StampText.{stamp_text, clock_after}
 use Rattle.kernel_trace.specs.declared.loss_text.LossRow.{LossRow}
 
--- the first moment of so many
-abbrev pub moment_text : ℕ → ℕ → List ℕ
-moment_text count first = if count == 0 then codes "-" else canonical_number first
+-- the first moment of so many, with its clock, by that of moment 0
+abbrev pub moment_text : Option ℕ → ℕ → ℕ → List ℕ
+moment_text clock count first =
+    if count == 0 then codes "- -" else canonical_number first ++ codes " " ++ stamp_text (clock_after clock first)
 
 -- the task that ran meanwhile, `nobody` where there is none
 abbrev pub rival_text : SetData → Option ℕ → List ℕ
 rival_text set None = codes "nobody"
 rival_text set (Some t) = name_of set t
 
+-- what is told of a task after its name
+unfoldable pub row_text : SetData → Option ℕ → LossRow → List ℕ
+row_text set clock row =
+    codes " ready " ++ canonical_number row.ready ++ codes " ran " ++ canonical_number row.ran
+    ++ codes " lost " ++ canonical_number row.lost ++ codes " over " ++ canonical_number row.over
+    ++ codes " longest " ++ canonical_number row.longest ++ codes " at " ++ moment_text clock row.longest row.first
+    ++ codes " while " ++ rival_text set row.rival
+
+-- the same, where a line mentions the task
+abbrev pub told_text : SetData → Option ℕ → Option LossRow → List ℕ
+told_text set clock None = codes " -"
+told_text set clock (Some row) = row_text set clock row
+
 -- the line of a task
-unfoldable pub loss_line : SetData → ℕ → LossRow → List ℕ
-loss_line set t row =
-    line (name_of set t ++ codes " ready " ++ canonical_number row.ready ++ codes " ran " ++ canonical_number row.ran
-    ++ codes " lost " ++ canonical_number row.lost ++ codes " longest " ++ canonical_number row.longest
-    ++ codes " at " ++ moment_text row.longest row.first ++ codes " while " ++ rival_text set row.rival)
+abbrev pub loss_line : SetData → Option ℕ → ℕ → Option LossRow → List ℕ
+loss_line set clock t row = line (name_of set t ++ told_text set clock row)
 
 -- the lines of some tasks that follow each other, from this one on
-abbrev pub loss_lines : SetData → ℕ → List LossRow → List ℕ
-loss_lines set t [] = []
-loss_lines set t (row ∷ rest) = loss_line set t row ++ loss_lines set (t + 1) rest
+abbrev pub loss_lines : SetData → Option ℕ → ℕ → List (Option LossRow) → List ℕ
+loss_lines set clock t [] = []
+loss_lines set clock t (row ∷ rest) = loss_line set clock t row ++ loss_lines set clock (t + 1) rest
 
--- the header, the span, the tasks and the end
-unfoldable pub loss_text : SetData → ℕ → List LossRow → List ℕ
-loss_text set span rows = codes "lost 1\nspan " ++ line (canonical_number span) ++ loss_lines set 0 rows ++ codes "end\n"
+-- the header and the span
+unfoldable pub span_text : Option ℕ → ℕ → List ℕ
+span_text clock span = codes "lost 2\nspan " ++ canonical_number span ++ codes " at " ++ line (stamp_text clock)
+
+-- after them the tasks, the count of switches and the end
+unfoldable pub loss_text : SetData → Option ℕ → ℕ → List (Option LossRow) → ℕ → List ℕ
+loss_text set clock span rows jumps =
+    span_text clock span ++ loss_lines set clock 0 rows ++ codes "jumps " ++ line (canonical_number jumps) ++ codes "end\n"

@@ -1,25 +1,27 @@
 -- The text of a trace, read as what its used lines say of tasks. Its head is that of an input, and its lines have the same faults, but
 -- for two: a switch that names no processor has not its form, and no history is kept, so that no list of events is too long. In its
 -- place a moment is too late that is 2^63 microseconds after the first change.
-use Rattle.std.specs.Prelude.{◌≡◌, ℕ, ◌-◌, Bool, true, false, nat_eq, nat_lt, ◌||◌, is_some, List, [], ◌∷◌, ◌++◌, set, position, Option, None, Some, if◌then◌else◌}
+use Rattle.std.specs.Prelude.{◌≡◌, ℕ, ◌-◌, Bool, true, false, nat_eq, nat_lt, ◌||◌, is_some, List, [], ◌∷◌, ◌++◌, map, set, position, Option, None, Some, if◌then◌else◌}
 use Rattle.task_set.specs.TaskSet.{SetData}
 use Rattle.text_fields.specs.Lines.{lines_of, fields_of}
 use Rattle.text_fields.specs.Machine.{Outcome, Leads, Fails}
 use Rattle.text_fields.specs.Laws.{IsTextOf, IsRefused}
-use Rattle.kernel_trace.specs.Stamp.{microsecond}
+use Rattle.kernel_trace.specs.Stamp.{microsecond, clock_at}
 use Rattle.kernel_trace.specs.TraceLine.{Said, Nothing, LostEvents, Malformed, Happened, said_by}
 use Rattle.kernel_trace.specs.Processor.{processor_of}
 use Rattle.kernel_trace.specs.Survey.{SurveyData, survey_of, is_gap}
-use Rattle.kernel_trace.specs.Course.{CourseData, mention_of, is_unseen, is_backward, is_in_window, agrees, is_ready, standing_of, standing_after, names_task}
+use Rattle.kernel_trace.specs.Course.{CourseData, mention_of, is_unseen, is_backward, is_in_window, agrees, is_ready, is_mentioned, standing_of, standing_after, names_task}
 use Rattle.kernel_trace.specs.TraceText.{Progress, HeaderExpected, ProcessorsExpected, Listed, Tracing, LineOutcome, IsLine}
 use Rattle.kernel_trace.specs.declared.change.Change.{Change}
 use Rattle.kernel_trace.specs.declared.change.Change.TheVariants.{Wakeup, Switch}
-use Rattle.kernel_trace.specs.declared.change.Mention.{Mention}
+use Rattle.trace_passages.specs.declared.passage.Readiness.{Readiness}
 use Rattle.kernel_trace.specs.declared.change.Standing.{Standing}
-use Rattle.kernel_trace.specs.declared.passage.Passage.{Passage}
-use Rattle.kernel_trace.specs.declared.passage.TaskChange.{TaskChange}
-use Rattle.kernel_trace.specs.declared.passage.TaskChange.TheVariants as task
+use Rattle.trace_passages.specs.declared.passage.Passage.{Passage}
+use Rattle.kernel_trace.specs.declared.task_change.TaskChange.{TaskChange}
+use Rattle.kernel_trace.specs.declared.task_change.TaskChange.TheVariants as task
 use Rattle.kernel_trace.specs.declared.task_trace.TaskTrace.TheInside.{Inside}
+use Rattle.trace_passages.specs.declared.turn.Turn.{Turn}
+use Rattle.trace_passages.specs.declared.turn.Turn.TheVariants as turn
 use Rattle.kernel_trace.specs.declared.fault.TraceKind.{TraceKind}
 use Rattle.kernel_trace.specs.declared.fault.TraceKind.TheVariants.{Lost, BadForm, Backward, Unseen, ManyEvents, NoEvents, Overwritten, NothingSaid}
 
@@ -34,23 +36,34 @@ task_change ids (Wakeup id) processor = Some (task.Wakeup (task_of ids id))
 task_change ids (Switch from stays to) None = None
 task_change ids (Switch from stays to) (Some processor) = Some (task.Switch processor (task_of ids from) (task_of ids to))
 
+-- what a wakeup of a task says of who runs, where it makes the task ready
+abbrev pub woken_by : ℕ → Option Readiness → Option Turn
+woken_by task None = None
+woken_by task (Some mention) = Some (turn.Woken task)
+
+-- what a line says of who runs where, by what it says of tasks and the mention that changes whether its first task is ready
+abbrev pub turn_of : TaskChange → Option Readiness → Option Turn
+turn_of (task.Wakeup None) first = None
+turn_of (task.Wakeup (Some woken)) first = woken_by woken first
+turn_of (task.Switch processor from to) first = Some (turn.Switch processor from to)
+
 -- the mention of the task that wakes up or leaves
-abbrev pub first_mention : List ℕ → Change → Option Mention
+abbrev pub first_mention : List ℕ → Change → Option Readiness
 first_mention ids (Wakeup id) = mention_of ids id true
 first_mention ids (Switch from stays to) = mention_of ids from stays
 
 -- the mention of the task that comes
-abbrev pub second_mention : List ℕ → Change → Option Mention
+abbrev pub second_mention : List ℕ → Change → Option Readiness
 second_mention ids (Wakeup id) = None
 second_mention ids (Switch from stays to) = mention_of ids to true
 
 -- a mention, where it changes whether its task is ready
-abbrev pub changing : List Standing → Option Mention → Option Mention
+abbrev pub changing : List Standing → Option Readiness → Option Readiness
 changing standings None = None
 changing standings (Some m) = if agrees (is_ready (standing_of standings m.task)) m.is_in then None else Some m
 
 -- what the last mentions say after one more
-abbrev pub marked : List Standing → Option Mention → List Standing
+abbrev pub marked : List Standing → Option Readiness → List Standing
 marked standings None = standings
 marked standings (Some m) = set standings m.task (standing_after m.is_in)
 
@@ -77,7 +90,7 @@ at_time c time =
     else record c { last = Some time }
 
 -- after these mentions, where there are any
-abbrev pub after_marks : CourseData → Option Mention → Option Mention → CourseData
+abbrev pub after_marks : CourseData → Option Readiness → Option Readiness → CourseData
 after_marks c first second = record c { standings = marked (marked c.standings first) second }
 
 -- ---- what a line of the trace comes to
@@ -95,18 +108,18 @@ passage_outcome f start passage =
     else Fails ManyEvents
 
 -- the line is kept from the first change on
-abbrev pub kept_outcome : FollowingData → Option ℕ → ℕ → TaskChange → Option Mention → Option Mention → FollowingOutcome
+abbrev pub kept_outcome : FollowingData → Option ℕ → ℕ → TaskChange → Option Readiness → Option Readiness → FollowingOutcome
 kept_outcome f None time told first second = Leads f
 kept_outcome f (Some start) time told first second =
-    passage_outcome f start (record { moment = microsecond time - microsecond start; change = told; first = first; second = second })
+    passage_outcome f start (record { moment = microsecond time - microsecond start; turn = turn_of told first; first = first; second = second })
 
 -- the changes of the line are known
-abbrev pub changed_outcome : FollowingData → ℕ → TaskChange → Option Mention → Option Mention → FollowingOutcome
+abbrev pub changed_outcome : FollowingData → ℕ → TaskChange → Option Readiness → Option Readiness → FollowingOutcome
 changed_outcome f time told first second =
     kept_outcome f (start_after f.start (is_some first || is_some second) time) time told first second
 
 -- the mentions of the line are followed
-abbrev pub marked_outcome : FollowingData → CourseData → ℕ → TaskChange → Option Mention → Option Mention → FollowingOutcome
+abbrev pub marked_outcome : FollowingData → CourseData → ℕ → TaskChange → Option Readiness → Option Readiness → FollowingOutcome
 marked_outcome f c time told first second =
     changed_outcome (record f { progress = Tracing (after_marks c first second) }) time told (changing c.standings first)
     (changing (marked c.standings first) second)
@@ -165,18 +178,40 @@ IsLineAt look f (Listed c) line outcome = IsOfHead f (IsLine look (Listed c) lin
 abbrev pub IsFollowed : SurveyData → FollowingData → List ℕ → FollowingOutcome → Type 0
 IsFollowed look f line outcome = IsLineAt look f f.progress line outcome
 
--- what contracts see of a trace: its tasks, and its passages
+-- what contracts see of a trace: its tasks, the microseconds of the first change by its own clock, its passages, and whether some
+-- used line named each task
 pub record TaskTraceData : Type 0 where
   pub set : SetData
+  pub clock : Option ℕ
   pub passages : List Passage
+  pub mentioned : List Bool
 
 -- its stored parts
 abbrev pub task_trace_view : Inside → TaskTraceData
-task_trace_view a = record { set = a.set; passages = a.passages.items }
+task_trace_view a = record {
+  set = a.set;
+  clock = a.clock;
+  passages = a.passages.items;
+  mentioned = map is_mentioned a.standings.items;
+}
+
+-- the microseconds of a time, where there is one and they are less than 2^63
+abbrev pub clock_of : Option ℕ → Option ℕ
+clock_of None = None
+clock_of (Some time) = clock_at time
+
+-- the trace of what is known
+abbrev pub trace_of : FollowingData → CourseData → TaskTraceData
+trace_of f c = record {
+  set = c.set;
+  clock = clock_of f.start;
+  passages = f.passages;
+  mentioned = map is_mentioned c.standings;
+}
 
 -- what the end of a trace comes to: it is faultless where some used line named a task
 abbrev pub trace_end : FollowingData → CourseData → Outcome TaskTraceData TraceKind
-trace_end f c = if names_task c.standings then Leads (record { set = c.set; passages = f.passages }) else Fails NothingSaid
+trace_end f c = if names_task c.standings then Leads (trace_of f c) else Fails NothingSaid
 
 -- what the end comes to, by what is expected: a trace ends where `events` came
 abbrev pub IsEndAt : FollowingData → Progress → Outcome TaskTraceData TraceKind → Type 0

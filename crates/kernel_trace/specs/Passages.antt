@@ -1,38 +1,38 @@
--- What the passages of a trace are, in the words of the trace: its used lines from the first change on, with what they say of tasks and
--- which of their mentions change whether a task is ready.
-use Rattle.std.specs.Prelude.{◌≡◌, ℕ, ◌-◌, ◌<◌, ◌≤◌, Bool, false, ◌||◌, is_some, List, [], ◌∷◌, ◌++◌, length, take, map, All, Option, None, Some, option_to_list, if◌then◌else◌}
-use Rattle.std.specs.Option.{ForSome}
+-- What the passages of a trace are, in the words of the trace: its used lines from the first change on, with what they say of who runs
+-- where and which of their mentions change whether a task is ready.
+use Rattle.std.specs.Prelude.{◌≡◌, ℕ, ◌-◌, ◌<◌, ◌≤◌, ◌==◌, Bool, false, ◌||◌, is_some, List, [], ◌∷◌, ◌++◌, length, take, map, All, Option, None, Some, option_to_list, slice_index_or, if◌then◌else◌}
+use Rattle.std.specs.List.{list_any}
 use Rattle.text_fields.specs.Lines.{lines_of, fields_of}
 use Rattle.text_fields.specs.Machine.{Leading}
 use Rattle.kernel_trace.specs.Stamp.{microsecond}
 use Rattle.kernel_trace.specs.Survey.{SurveyData, survey_of}
 use Rattle.kernel_trace.specs.Course.{CourseData, WindowData, agrees, is_in_window}
 use Rattle.kernel_trace.specs.Import.{mentions_said, mentions_in, is_last_in, IsHead}
-use Rattle.kernel_trace.specs.Passage.{task_change, first_mention, second_mention, TaskTraceData, IsTaskTraceText}
+use Rattle.kernel_trace.specs.Passage.{task_change, first_mention, second_mention, turn_of, clock_of, TaskTraceData, IsTaskTraceText}
 use Rattle.kernel_trace.specs.Processor.{processor_of}
 use Rattle.kernel_trace.specs.TraceLine.{Said, Nothing, LostEvents, Malformed, Happened, said_by}
 use Rattle.kernel_trace.specs.TraceText.{HeaderExpected, Listed, IsLine, events_line}
 use Rattle.kernel_trace.specs.declared.change.Change.{Change}
-use Rattle.kernel_trace.specs.declared.change.Mention.{Mention}
-use Rattle.kernel_trace.specs.declared.passage.Passage.{Passage}
-use Rattle.kernel_trace.specs.declared.passage.TaskChange.{TaskChange}
-use Rattle.kernel_trace.specs.declared.passage.TaskChange.TheVariants as task
+use Rattle.trace_passages.specs.declared.passage.Readiness.{Readiness}
+use Rattle.trace_passages.specs.declared.passage.Passage.{Passage}
+use Rattle.kernel_trace.specs.declared.task_change.TaskChange.{TaskChange}
+use Rattle.trace_passages.specs.Passages as shared
 
 -- ---- used lines
 -- a used line: when, in nanoseconds, what it says of tasks, and those of its mentions that change whether a task is ready
 pub record UsedLine : Type 0 where
   pub time : ℕ
   pub change : TaskChange
-  pub first : Option Mention
-  pub second : Option Mention
+  pub first : Option Readiness
+  pub second : Option Readiness
 
 -- a mention, where it says otherwise than the last mention of its task before
-abbrev pub turning : List Mention → Option Mention → Option Mention
+abbrev pub turning : List Readiness → Option Readiness → Option Readiness
 turning before None = None
 turning before (Some m) = if agrees (is_last_in m.task before) m.is_in then None else Some m
 
 -- a used line, by the mentions before it
-abbrev pub used_line : List ℕ → List Mention → ℕ → Change → TaskChange → UsedLine
+abbrev pub used_line : List ℕ → List Readiness → ℕ → Change → TaskChange → UsedLine
 used_line ids before time change told = record {
   time = time;
   change = told;
@@ -41,12 +41,12 @@ used_line ids before time change told = record {
 }
 
 -- the line, where it says something of tasks
-abbrev pub used_told : List ℕ → List Mention → ℕ → Change → Option TaskChange → List UsedLine
+abbrev pub used_told : List ℕ → List Readiness → ℕ → Change → Option TaskChange → List UsedLine
 used_told ids before time change None = []
 used_told ids before time change (Some told) = used_line ids before time change told ∷ []
 
 -- the line, where it is used
-abbrev pub used_said : List ℕ → Option WindowData → List Mention → Said → Option ℕ → List UsedLine
+abbrev pub used_said : List ℕ → Option WindowData → List Readiness → Said → Option ℕ → List UsedLine
 used_said ids window before Nothing processor = []
 used_said ids window before LostEvents processor = []
 used_said ids window before Malformed processor = []
@@ -54,7 +54,7 @@ used_said ids window before (Happened time change) processor =
     if is_in_window window time then used_told ids before time change (task_change ids change processor) else []
 
 -- the used ones of some lines, in their order; these mentions stand before them
-abbrev pub used_lines : Bool → List ℕ → Option WindowData → List Mention → List (List ℕ) → List UsedLine
+abbrev pub used_lines : Bool → List ℕ → Option WindowData → List Readiness → List (List ℕ) → List UsedLine
 used_lines waking ids window before [] = []
 used_lines waking ids window before (line ∷ rest) =
     let said = said_by waking (fields_of line) in
@@ -70,11 +70,25 @@ abbrev pub from_turn : List UsedLine → List UsedLine
 from_turn [] = []
 from_turn (line ∷ rest) = if turns line then line ∷ rest else from_turn rest
 
+-- the time of the first of some lines
+abbrev pub first_use : List UsedLine → Option ℕ
+first_use [] = None
+first_use (line ∷ rest) = Some line.time
+
+-- ---- tasks that are named
+-- some mention is of a task
+abbrev pub is_named_in : ℕ → List Readiness → Bool
+is_named_in t ms = list_any (λ (m : Readiness). m.task == t) ms
+
 -- ---- passages
 -- a line, with its microseconds since a time
 abbrev pub passage_since : ℕ → UsedLine → Passage
-passage_since start line =
-    record { moment = microsecond line.time - microsecond start; change = line.change; first = line.first; second = line.second }
+passage_since start line = record {
+  moment = microsecond line.time - microsecond start;
+  turn = turn_of line.change line.first;
+  first = line.first;
+  second = line.second;
+}
 
 -- the lines, with their microseconds since the first of them
 abbrev pub passages_since : List UsedLine → List Passage
@@ -86,12 +100,12 @@ abbrev pub passages_in : Bool → List ℕ → Option WindowData → List (List 
 passages_in waking ids window lines = passages_since (from_turn (used_lines waking ids window [] lines))
 
 -- the changes of some passages, in their order
-abbrev pub all_changes : List Passage → List Mention
+abbrev pub all_changes : List Passage → List Readiness
 all_changes [] = []
 all_changes (passage ∷ rest) = option_to_list passage.first ++ option_to_list passage.second ++ all_changes rest
 
 -- each mention says otherwise than the last mention of its task before; these stand before them
-abbrev pub AllTurn : List Mention → List Mention → Type 0
+abbrev pub AllTurn : List Readiness → List Readiness → Type 0
 AllTurn before [] = Unit {0}
 AllTurn before (m ∷ rest) = (agrees (is_last_in m.task before) m.is_in ≡ false) × AllTurn (before ++ m ∷ []) rest
 
@@ -100,16 +114,9 @@ abbrev pub NeverFall : ℕ → List Passage → Type 0
 NeverFall moment [] = Unit {0}
 NeverFall moment (passage ∷ rest) = (moment ≤ passage.moment) × NeverFall passage.moment rest
 
--- what a line says is of the first so many tasks
-abbrev pub IsAboutTasks : ℕ → TaskChange → Type 0
-IsAboutTasks count (task.Wakeup woken) = ForSome woken (λ t. t < count)
-IsAboutTasks count (task.Switch processor from to) = ForSome from (λ t. t < count) × ForSome to (λ t. t < count)
-
 -- the passage is of the first so many tasks, and its moment is not too late
 pub record IsPassageOf (count : ℕ) (passage : Passage) : Type 0 where
-  pub change : IsAboutTasks count passage.change
-  pub first : ForSome passage.first (λ (m : Mention). m.task < count)
-  pub second : ForSome passage.second (λ (m : Mention). m.task < count)
+  pub tasks : shared.IsPassageOf count count passage
   pub moment : passage.moment < 9223372036854775808
 
 -- ---- the passages of a trace
@@ -123,7 +130,8 @@ pub record ArePassagesOf (waking : Bool) (ids : List ℕ) (window : Option Windo
 
 -- the bytes are the lines of a head, the line `events` and the lines of a trace, and the trace has the set of the head and the passages
 -- of its lines: for each number n, the first passages are those of the first n lines; no moment is less than the one before; and each
--- change is one
+-- change is one. They are of the tasks of the set, and begin at moment 0. The clock is that of the first used line that has a change,
+-- and a task is mentioned where some used line mentions it
 pub record IsTaskTrace (bytes : List ℕ) (trace : TaskTraceData) : Type 0 where
   pub look : SurveyData
   pub surveyed : look ≡ survey_of (lines_of bytes)
@@ -136,11 +144,15 @@ pub record IsTaskTrace (bytes : List ℕ) (trace : TaskTraceData) : Type 0 where
   pub opens : fields_of opening ≡ events_line
   pub no_line : IsHead head
   pub set : trace.set ≡ head.set
+  pub clock : trace.clock ≡ clock_of (first_use (from_turn (used_lines look.waking head.ids head.window [] lines)))
   pub passages : trace.passages ≡ passages_in look.waking head.ids head.window lines
+  pub counted : length trace.mentioned ≡ length trace.set.tasks
+  pub mentioned : (t : ℕ) → slice_index_or trace.mentioned t false ≡ is_named_in t (mentions_in look.waking head.ids head.window lines)
   pub each : (n : ℕ) → ArePassagesOf look.waking head.ids head.window (take n lines) trace.passages
   pub rising : NeverFall 0 trace.passages
   pub changing : AllTurn [] (all_changes trace.passages)
   pub of_set : All (IsPassageOf (length trace.set.tasks)) trace.passages
+  pub in_order : shared.ArePassages (length trace.set.tasks) (length trace.set.tasks) trace.passages
 
 -- what is read of a trace are its passages
 abbrev pub PassagesAreFaithful : Type 0

@@ -7,7 +7,7 @@ use Rattle.text_fields.specs.Machine.{Fails}
 use Rattle.kernel_trace.specs.StampView.{time_of}
 use Rattle.kernel_trace.specs.Course.{CourseData, WindowData, written}
 use Rattle.kernel_trace.specs.TraceText.{Progress, HeaderExpected, ProcessorsExpected, Listed, Tracing, LineOutcome, TaskLine}
-use Rattle.kernel_trace.specs.declared.change.Mention.{Mention}
+use Rattle.trace_passages.specs.declared.passage.Readiness.{Readiness}
 use Rattle.kernel_trace.specs.declared.course.Course.{Course}
 use Rattle.kernel_trace.specs.declared.course.Mentions.{Mentions}
 use Rattle.kernel_trace.specs.declared.course.Window.{Window}
@@ -82,7 +82,7 @@ course_of c = record {
 }
 
 -- the mentions of a line
-abbrev pub mentions_view : Mentions → List Mention
+abbrev pub mentions_view : Mentions → List Readiness
 mentions_view m = option_to_list m.first ++ option_to_list m.second
 
 -- what is known at a step of the reader
@@ -101,8 +101,8 @@ abbrev pub line_of : TaskForm → TaskLine
 line_of form = record { name = form.name.now; level = form.level; list = form.list.now; id = form.id }
 
 -- the mentions are of the first so many tasks
-abbrev pub AreTasks : ℕ → List Mention → Type 0
-AreTasks count ms = All (λ (m : Mention). m.task < count) ms
+abbrev pub AreTasks : ℕ → List Readiness → Type 0
+AreTasks count ms = All (λ (m : Readiness). m.task < count) ms
 
 -- each task has a thread id and a standing, and the events are of the set
 pub record IsCourse (c : CourseData) : Type 0 where

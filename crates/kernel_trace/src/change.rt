@@ -11,13 +11,6 @@ pub enum Change {
     Switch { from: u32, stays: bool, to: u32 },
 }
 
-/// A line mentions a task as in, which is ready, or as out.
-#[derive(Clone, Copy)]
-pub struct Mention {
-    pub task: u32,
-    pub is_in: bool,
-}
-
 /// What the last mention of a task says.
 #[derive(Clone, Copy)]
 pub enum Standing {

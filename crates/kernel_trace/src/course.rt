@@ -14,17 +14,18 @@ ghost use Rattle.kernel_trace.specs.TraceLine.{said_by};
 ghost use Rattle.text_fields.specs.Lines.{fields_of};
 ghost use Rattle.text_fields.specs.Machine.{Leads, Fails};
 
-use crate::change::{Change, Mention, Standing};
+use crate::change::{Change, Standing};
 use crate::event::{Said, read_line};
 use crate::fault::TraceKind;
-use crate::passage::TaskChange;
 use crate::processor::read_processor;
 use crate::stamp::Stamp;
 use crate::survey::{Survey, is_of_overwriting};
+use crate::task_change::TaskChange;
 use affinity_mask::OutOfMemory;
 use indexmap::IndexSet;
 use task_set::{Event, TaskSet};
 use text_fields::limits::{FIRST_VERSION, MAX_EVENTS, MAX_UNITS};
+use trace_passages::Readiness;
 use trace_reader::Input;
 use trace_reader::posted::Posted;
 
@@ -58,11 +59,11 @@ pub struct Course<'a> {
     pub events: Vec<Posted>,
 }
 
-/// What a line mentions, in this order.
+/// What a line mentions, in this order: a task as in, which is ready, or as out.
 #[derive(Clone, Copy)]
 pub struct Mentions {
-    pub first: Option<Mention>,
-    pub second: Option<Mention>,
+    pub first: Option<Readiness>,
+    pub second: Option<Readiness>,
 }
 
 impl<'a> Course<'a> {
@@ -210,13 +211,13 @@ impl<'a> Course<'a> {
     }
 
     /// The mention of the task of a thread; other threads are nobody's.
-    fn mention(&self, id: u32, is_in: bool) -> Option<Mention>
+    fn mention(&self, id: u32, is_in: bool) -> Option<Readiness>
         requires { IsCourse (course_of self.now) }
         ensures value { result ≡ mention_of (course_of self.now).ids id is_in }
         ensures task { AreTasks (length (course_of self.now).ids) (option_to_list result) }
     {
         match self.task(id) {
-            Some(task) => Some(Mention { task, is_in }),
+            Some(task) => Some(Readiness { task, is_in }),
             None => None,
         }
     }
@@ -322,7 +323,7 @@ impl<'a> Course<'a> {
     }
 
     /// Takes a mention: where it changes whether the task is ready, time passes, and an event is written.
-    fn take(&mut self, mention: Mention) -> Result<(), OutOfMemory>
+    fn take(&mut self, mention: Readiness) -> Result<(), OutOfMemory>
         requires task { mention.task < length (course_of self.old).standings }
         requires short { passed (course_of self.old) < 20001000000 }
         ensures { OnOk result (course_of self.new ≡ after_mention (course_of self.old) mention) }
@@ -335,7 +336,7 @@ impl<'a> Course<'a> {
     }
 
     /// Marks what a mention says, and whether it changes that the task is ready, or is not.
-    fn mark(&mut self, mention: Mention) -> bool
+    fn mark(&mut self, mention: Readiness) -> bool
         requires { mention.task < length (course_of self.old).standings }
         ensures changes { result ≡ not (agrees (is_ready
             (standing_of (course_of self.old).standings mention.task)) mention.is_in) }
@@ -350,7 +351,7 @@ impl<'a> Course<'a> {
     }
 
     /// Marks what a mention says, where there is one; it is answered where it changes whether the task is ready.
-    pub fn mark_changing(&mut self, mention: Option<Mention>) -> Option<Mention>
+    pub fn mark_changing(&mut self, mention: Option<Readiness>) -> Option<Readiness>
         requires { AreTasks (length (course_of self.old).standings) (option_to_list mention) }
         ensures changes { result ≡ changing (course_of self.old).standings mention }
         ensures course { course_of self.new ≡ record (course_of self.old) {
@@ -382,7 +383,7 @@ impl<'a> Course<'a> {
     }
 
     /// Writes the event of a mention.
-    fn post(&mut self, mention: Mention) -> Result<(), OutOfMemory>
+    fn post(&mut self, mention: Readiness) -> Result<(), OutOfMemory>
         ensures { OnOk result (course_of self.new ≡ record (course_of self.old) {
           events = (course_of self.old).events ++ on_first_stream (event_of mention) ∷ [];
         }) }

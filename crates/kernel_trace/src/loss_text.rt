@@ -1,8 +1,9 @@
 //! The text of what a kernel did beside the best set.
 ghost use Rattle.std.specs.Prelude.{◌≡◌, ◌<◌, ◌++◌, length, All, IfOk, OnOk, IfSome};
 ghost use Rattle.affinity_mask.specs.Number.{canonical_number};
-ghost use Rattle.kernel_trace.specs.LossText.{moment_text, rival_text, loss_line, loss_lines, loss_text};
+ghost use Rattle.kernel_trace.specs.LossText.{moment_text, rival_text, row_text, told_text, loss_line, loss_lines, span_text, loss_text};
 
+use crate::stamp_text::{write_stamp, write_stamp_after};
 use affinity_mask::OutOfMemory;
 use std::alloc::Global;
 use task_set::TaskSet;
@@ -15,6 +16,9 @@ pub struct LossRow {
     pub ran: u64,
     pub lost: u64,
 
+    /// How many of the lost moments stand in a long stretch of them.
+    pub over: u64,
+
     /// How many moments the longest stretch of lost ones has.
     pub longest: u64,
 
@@ -25,54 +29,115 @@ pub struct LossRow {
     pub rival: Option<u32>,
 }
 
-/// The text of a row for each task of a set, in their order. Refused only when out of memory.
+/// The text of a row for each task of a set, in their order; a task without one is mentioned nowhere. The clock is that of
+/// moment 0, in microseconds, and the jumps are switches from another task than the one that the switch before it on the same
+/// processor went to. Refused only when out of memory.
 pub fn write_losses(
     alloc: Global,
     set: &TaskSet,
+    clock: Option<u64>,
     span: u64,
-    rows: &[LossRow],
+    rows: &[Option<LossRow>],
+    jumps: u64,
 ) -> Result<Vec<u8>, OutOfMemory>
     requires tasks { length rows.now ≡ length set.now.tasks }
-    requires rivals { All (λ row. IfSome row.rival (λ t. t < length set.now.tasks)) rows.now }
-    ensures { IfOk result (λ text. text.items ≡ loss_text set.now span rows.now) }
+    requires rivals { All (λ row. IfSome row
+        (λ row. IfSome row.rival (λ t. t < length set.now.tasks))) rows.now }
+    ensures { IfOk result (λ text. text.items ≡ loss_text set.now clock span rows.now jumps) }
 {
     let mut text = Vec::new(alloc);
-    text.extend_from_slice(b"lost 1\nspan ")?;
-    write_number(&mut text, span)?;
-    text.push(b'\n')?;
-    write_rows(&mut text, set, rows)?;
-    text.extend_from_slice(b"end\n")?;
+    write_span(&mut text, clock, span)?;
+    write_rows(&mut text, set, clock, rows)?;
+    write_count(&mut text, b"jumps ", jumps)?;
+    text.extend_from_slice(b"\nend\n")?;
     Ok(text)
 }
 
+/// Appends the header and the span.
+fn write_span(text: &mut Vec<u8>, clock: Option<u64>, span: u64) -> Result<(), OutOfMemory>
+    ensures { OnOk result (text.new.items ≡ text.old.items ++ span_text clock span) }
+{
+    write_count(text, b"lost 2\nspan ", span)?;
+    text.extend_from_slice(b" at ")?;
+    write_stamp(text, clock)?;
+    text.push(b'\n')?;
+    Ok(())
+}
+
 /// Appends the lines of the tasks.
-fn write_rows(text: &mut Vec<u8>, set: &TaskSet, rows: &[LossRow]) -> Result<(), OutOfMemory>
+fn write_rows(
+    text: &mut Vec<u8>,
+    set: &TaskSet,
+    clock: Option<u64>,
+    rows: &[Option<LossRow>],
+) -> Result<(), OutOfMemory>
     requires tasks { length rows.now ≡ length set.now.tasks }
-    requires rivals { All (λ row. IfSome row.rival (λ t. t < length set.now.tasks)) rows.now }
-    ensures { OnOk result (text.new.items ≡ text.old.items ++ loss_lines set.now 0 rows.now) }
+    requires rivals { All (λ row. IfSome row
+        (λ row. IfSome row.rival (λ t. t < length set.now.tasks))) rows.now }
+    ensures { OnOk result (text.new.items ≡ text.old.items ++ loss_lines set.now clock 0 rows.now) }
 {
     for t in 0..set.len() {
-        write_row(text, set, t, &rows[t as usize])?;
+        write_line(text, set, clock, t, &rows[t as usize])?;
     }
     Ok(())
 }
 
 /// Appends the line of a task.
-fn write_row(text: &mut Vec<u8>, set: &TaskSet, t: u32, row: &LossRow) -> Result<(), OutOfMemory>
+fn write_line(
+    text: &mut Vec<u8>,
+    set: &TaskSet,
+    clock: Option<u64>,
+    t: u32,
+    row: &Option<LossRow>,
+) -> Result<(), OutOfMemory>
     requires task { t < length set.now.tasks }
-    requires rival { IfSome row.now.rival (λ t. t < length set.now.tasks) }
-    ensures { OnOk result (text.new.items ≡ text.old.items ++ loss_line set.now t row.now) }
+    requires rival { IfSome row.now (λ row. IfSome row.rival (λ t. t < length set.now.tasks)) }
+    ensures { OnOk result (text.new.items ≡ text.old.items ++ loss_line set.now clock t row.now) }
 {
     write_name(text, set, t)?;
+    write_told(text, set, clock, row)?;
+    text.push(b'\n')?;
+    Ok(())
+}
+
+/// Appends what is told of a task after its name.
+fn write_told(
+    text: &mut Vec<u8>,
+    set: &TaskSet,
+    clock: Option<u64>,
+    row: &Option<LossRow>,
+) -> Result<(), OutOfMemory>
+    requires { IfSome row.now (λ row. IfSome row.rival (λ t. t < length set.now.tasks)) }
+    ensures { OnOk result (text.new.items ≡ text.old.items ++ told_text set.now clock row.now) }
+{
+    match row {
+        Some(row) => write_row(text, set, clock, row),
+        None => {
+            text.extend_from_slice(b" -")?;
+            Ok(())
+        }
+    }
+}
+
+/// Appends what a row tells.
+fn write_row(
+    text: &mut Vec<u8>,
+    set: &TaskSet,
+    clock: Option<u64>,
+    row: &LossRow,
+) -> Result<(), OutOfMemory>
+    requires { IfSome row.now.rival (λ t. t < length set.now.tasks) }
+    ensures { OnOk result (text.new.items ≡ text.old.items ++ row_text set.now clock row.now) }
+{
     write_count(text, b" ready ", row.ready)?;
     write_count(text, b" ran ", row.ran)?;
     write_count(text, b" lost ", row.lost)?;
+    write_count(text, b" over ", row.over)?;
     write_count(text, b" longest ", row.longest)?;
     text.extend_from_slice(b" at ")?;
-    write_moment(text, row.longest, row.first)?;
+    write_moment(text, clock, row.longest, row.first)?;
     text.extend_from_slice(b" while ")?;
     write_rival(text, set, row.rival)?;
-    text.push(b'\n')?;
     Ok(())
 }
 
@@ -84,15 +149,22 @@ fn write_count(text: &mut Vec<u8>, word: &[u8], count: u64) -> Result<(), OutOfM
     write_number(text, count)
 }
 
-/// Appends the first moment of so many.
-fn write_moment(text: &mut Vec<u8>, count: u64, first: u64) -> Result<(), OutOfMemory>
-    ensures { OnOk result (text.new.items ≡ text.old.items ++ moment_text count first) }
+/// Appends the first moment of so many, and its clock.
+fn write_moment(
+    text: &mut Vec<u8>,
+    clock: Option<u64>,
+    count: u64,
+    first: u64,
+) -> Result<(), OutOfMemory>
+    ensures { OnOk result (text.new.items ≡ text.old.items ++ moment_text clock count first) }
 {
     if count == 0 {
-        text.push(b'-')?;
+        text.extend_from_slice(b"- -")?;
         return Ok(());
     }
-    write_number(text, first)
+    write_number(text, first)?;
+    text.push(b' ')?;
+    write_stamp_after(text, clock, first)
 }
 
 /// Appends who ran meanwhile.

@@ -1,8 +1,11 @@
 //! Stamps of trace lines: when something happened.
 ghost use Rattle.std.specs.Prelude.{◌≡◌, ◌-◌, ◌<◌, ◌≤◌, ◌↔◌, min, true, false, IsTrue, MatchOption};
-ghost use Rattle.kernel_trace.specs.Stamp.{is_number, is_stamp, nanoseconds, microsecond};
+ghost use Rattle.kernel_trace.specs.Stamp.{is_number, is_stamp, nanoseconds, microsecond, clock_at};
 
 use crate::digits::{cut_at_point, is_number_text, read_fraction, seconds_between};
+
+/// The least number of microseconds that is too many for a clock.
+const LATE_CLOCK: u64 = 9_223_372_036_854_775_808;
 
 /// When something happened: seconds, as digits of any count, and nanoseconds. It keeps the digits, so that no stamp is too
 /// long.
@@ -57,6 +60,22 @@ impl<'a> Stamp<'a> {
                 let from = (earlier.nanos / 1000) as u64;
                 to.saturating_sub(from).min(most)
             }
+        }
+    }
+
+    /// The whole microseconds, where they are less than 2^63.
+    pub fn clock(&self) -> Option<u64>
+        ensures { result ≡ clock_at (time_of self.now) }
+    {
+        let zero = Stamp {
+            seconds: b"0",
+            nanos: 0,
+        };
+        let clock = self.microseconds_since(&zero, LATE_CLOCK);
+        if clock < LATE_CLOCK {
+            Some(clock)
+        } else {
+            None
         }
     }
 }

@@ -2,7 +2,7 @@
 ghost use Rattle.std.specs.Prelude.{◌≡◌, ◌⊎◌, ◌||◌, is_some, IfOk, IfErr, OnOk, MatchResult};
 ghost use Rattle.std.specs.Option.{option_map};
 ghost use Rattle.kernel_trace.specs.Course.{CourseData};
-ghost use Rattle.kernel_trace.specs.Passage.{nothing_followed, at_time, start_after, kept_outcome, changed_outcome, used_outcome, timed_outcome, told_outcome, said_outcome, fields_outcome, IsFollowed, IsFollowedEnd};
+ghost use Rattle.kernel_trace.specs.Passage.{clock_of, nothing_followed, at_time, start_after, kept_outcome, changed_outcome, used_outcome, timed_outcome, told_outcome, said_outcome, fields_outcome, IsFollowed, IsFollowedEnd};
 ghost use Rattle.kernel_trace.specs.PassageView.{following_of, CanFollow, IsRefusedBy};
 ghost use Rattle.kernel_trace.specs.Processor.{processor_of};
 ghost use Rattle.kernel_trace.specs.Reading.{course_of, IsCourse, IsOutOfMemory};
@@ -13,17 +13,18 @@ ghost use Rattle.kernel_trace.specs.declared.stage.Step.TheVariants as step;
 ghost use Rattle.text_fields.specs.Lines.{fields_of};
 ghost use Rattle.text_fields.specs.Machine.{Leads, Fails};
 
-use crate::change::{Change, Mention};
+use crate::change::Change;
 use crate::course::Mentions;
 use crate::event::{Said, read_line};
 use crate::fault::TraceKind;
-use crate::passage::{Passage, TaskChange};
 use crate::stage::{Stage, Step};
 use crate::stamp::Stamp;
 use crate::survey::Survey;
+use crate::task_change::TaskChange;
 use crate::task_trace::TaskTrace;
 use affinity_mask::OutOfMemory;
 use std::alloc::Global;
+use trace_passages::Passage;
 
 /// The least moment that is too late.
 const LATE_MOMENT: u64 = 9_223_372_036_854_775_808;
@@ -188,7 +189,7 @@ impl<'a> TaskStage<'a> {
         self.start = Some(start);
         let passage = Passage {
             moment,
-            change: told,
+            turn: told.turn(changes.first),
             first: changes.first,
             second: changes.second,
         };
@@ -218,14 +219,29 @@ impl<'a> TaskStage<'a> {
     {
         let TaskStage {
             stage,
+            start,
             passages,
-            ..
         } = self;
         let Stage { step, course } = stage;
         match step {
-            Step::Trace if course.names_task() => Ok(TaskTrace::new(course.set, passages)),
+            Step::Trace if course.names_task() => Ok(TaskTrace::new(
+                course.set,
+                clock_of(start),
+                passages,
+                course.standings,
+            )),
             Step::Trace => Err(TraceKind::NothingSaid),
             _ => Err(TraceKind::NoEvents),
         }
+    }
+}
+
+/// The microseconds of a time, where there is one and they are less than 2^63.
+fn clock_of(time: Option<Stamp>) -> Option<u64>
+    ensures { result ≡ clock_of (option_map time_of time.entry) }
+{
+    match time {
+        Some(stamp) => stamp.clock(),
+        None => None,
     }
 }

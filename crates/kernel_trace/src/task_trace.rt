@@ -1,5 +1,5 @@
 //! What a trace says of tasks, and its reader.
-ghost use Rattle.std.specs.Prelude.{◌≡◌, ◌⊎◌, ℕ, IfOk, IfErr, MatchResult};
+ghost use Rattle.std.specs.Prelude.{◌≡◌, ◌⊎◌, ℕ, false, map, slice_index_or, IfOk, IfErr, MatchResult};
 ghost use Rattle.kernel_trace.specs.Passage.{TaskTraceData, nothing_followed, IsTaskTextBy, IsTaskRefusedBy, IsTaskTraceText, IsTaskTraceRefused};
 ghost use Rattle.kernel_trace.specs.Passages.{IsTaskTrace};
 ghost use Rattle.kernel_trace.specs.PassageView.{following_of};
@@ -7,20 +7,28 @@ ghost use Rattle.kernel_trace.specs.Reading.{IsOutOfMemory};
 ghost use Rattle.kernel_trace.specs.SurveyView.{look_of};
 ghost use Rattle.kernel_trace.specs.declared.fault.TraceKind.{TraceKind};
 
+use crate::change::Standing;
 use crate::fault::{TraceFault, TraceKind};
 use crate::fields::first_line;
-use crate::passage::Passage;
 use crate::survey::{Survey, look_over};
 use crate::task_stage::TaskStage;
 use std::alloc::Global;
 use std::marker::Model;
 use task_set::TaskSet;
+use trace_passages::Passage;
 
 /// The tasks of a head, and the passages of a trace in their order.
 #[derive(Drop)]
 pub struct TaskTrace {
     set: TaskSet,
+
+    /// When the first change was, in microseconds.
+    clock: Option<u64>,
+
     passages: Vec<Passage>,
+
+    /// What the last mention of each task says.
+    standings: Vec<Standing>,
 }
 
 impl Model for TaskTrace {
@@ -32,13 +40,29 @@ impl Model for TaskTrace {
 }
 
 impl TaskTrace {
+    ghost use Rattle.kernel_trace.specs.Course.{is_mentioned};
     ghost use Rattle.kernel_trace.specs.Passage.{span_of};
 
     /// A trace of these parts.
-    pub fn new(set: TaskSet, passages: Vec<Passage>) -> TaskTrace
-        ensures { result ≡ record { set = set; passages = passages.items } }
+    pub fn new(
+        set: TaskSet,
+        clock: Option<u64>,
+        passages: Vec<Passage>,
+        standings: Vec<Standing>,
+    ) -> TaskTrace
+        ensures { result ≡ record {
+          set = set;
+          clock = clock;
+          passages = passages.items;
+          mentioned = map is_mentioned standings.items;
+        } }
     {
-        TaskTrace { set, passages }
+        TaskTrace {
+            set,
+            clock,
+            passages,
+            standings,
+        }
     }
 
     /// The tasks.
@@ -46,6 +70,23 @@ impl TaskTrace {
         ensures { result.now ≡ self.now.set }
     {
         &self.set
+    }
+
+    /// When the first change was: its microseconds by the clock of the trace, where they are less than 2^63.
+    pub fn clock(&self) -> Option<u64>
+        ensures { result ≡ self.now.clock }
+    {
+        self.clock
+    }
+
+    /// Whether some used line mentions a task.
+    pub fn is_mentioned(&self, t: u32) -> bool
+        ensures { result ≡ slice_index_or self.now.mentioned t false }
+    {
+        match self.standings.get(t as usize) {
+            Some(standing) => standing.is_mentioned(),
+            None => false,
+        }
     }
 
     /// The used lines, from the first one on that changes whether a task is ready.

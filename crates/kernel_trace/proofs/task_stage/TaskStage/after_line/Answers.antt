@@ -10,7 +10,7 @@ use Rattle.kernel_trace.specs.SurveyView.{look_of}
 use Rattle.kernel_trace.specs.TraceFault.{trace_kind}
 use Rattle.kernel_trace.specs.TraceText.{LineOutcome, IsHeadOutcome}
 use Rattle.kernel_trace.specs.declared.fault.TraceKind.{TraceKind}
-use Rattle.kernel_trace.specs.declared.passage.Passage.{Passage}
+use Rattle.trace_passages.specs.declared.passage.Passage.{Passage}
 use Rattle.kernel_trace.specs.declared.stage.Step.{Step}
 use Rattle.kernel_trace.specs.declared.stage.Step.TheVariants as step
 use Rattle.kernel_trace.proofs.HeadLines.{head_line, on_ok, on_err}

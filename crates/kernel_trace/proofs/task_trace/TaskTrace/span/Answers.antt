@@ -1,6 +1,6 @@
 use Rattle.std.proofs.Common.{◌≡◌, ℕ, suc, ◌-◌, List, [], ◌∷◌, length, slice_get, Some, sym, ap, subst, arith}
 use Rattle.kernel_trace.specs.Passage.{span_of}
-use Rattle.kernel_trace.specs.declared.passage.Passage.{Passage}
+use Rattle.trace_passages.specs.declared.passage.Passage.{Passage}
 use Rattle.kernel_trace.proofs.task_trace.TaskTrace.span.Goals as goal
 
 -- the last passage is the one at the last place
