@@ -1,6 +1,6 @@
 -- Counts of moments of a kind.
 use Rattle.std.proofs.Common.{◌≡◌, ℕ, zero, suc, ◌+◌, ◌<◌, ◌≤◌, refl, sym, ◌∙◌, subst, inl, inr, arith}
-use Rattle.trace_losses.specs.Jobs.{IsCount}
+use Rattle.trace_losses.specs.Moments.{IsCount}
 
 module _ (Is : ℕ → Type 0) where
   pub count_moved : (first other moments all count more : ℕ) → first ≡ other → moments ≡ all → count ≡ more
@@ -66,3 +66,42 @@ module _ (Is : ℕ → Type 0) where
       without_one first (moments + units) (moments + suc units) count (none first (omega arith) (omega arith)) (omega arith)
       (count_without units (first + 1) moments count (λ x from below. none x (omega (arith, from)) (omega (arith, below)))
       (count_moved (first + suc units) (first + 1 + units) moments moments count count (omega arith) refl refl is))
+
+  -- moments after others
+  pub count_append : (units first moments before after : ℕ) → IsCount Is first units before → IsCount Is (first + units) moments after
+      → IsCount Is first (moments + units) (before + after)
+  count_append zero first moments before after is rest =
+      count_moved (first + 0) first moments (moments + 0) after (before + after) (omega arith) (omega arith) (omega (arith, is)) rest
+  count_append (suc units) first moments before after is rest =
+      let next : IsCount Is (first + 1 + units) moments after =
+      count_moved (first + suc units) (first + 1 + units) moments moments after after (omega arith) refl refl rest in
+      elim is [
+        | inl (here, found) ↦
+            with_one first (moments + units) (moments + suc units) (found.0 + after) (before + after) here (omega arith)
+            (let one = found.1 in omega (arith, one)) (count_append units (first + 1) moments found.0 after found.2 next)
+        | inr (none, there) ↦
+            without_one first (moments + units) (moments + suc units) (before + after) none (omega arith)
+            (count_append units (first + 1) moments before after there next)
+      ]
+
+  -- all of the moments are of the kind, or none
+  pub count_all : (first units : ℕ) → ((x : ℕ) → first ≤ x → x < first + units → Is x) → IsCount Is first units units
+  count_all first units each =
+      count_moved first first (0 + units) units (0 + units) units refl (omega arith) (omega arith) (count_with units first 0 0 each refl)
+
+  pub count_none : (first units : ℕ) → ((x : ℕ) → first ≤ x → x < first + units → Is x → ⊥) → IsCount Is first units 0
+  count_none first units none = count_moved first first (0 + units) units 0 0 refl (omega arith) refl (count_without units first 0 0 none refl)
+
+-- moments are of one kind where they are of another one
+pub count_alike : (Is Other : ℕ → Type 0) (moments first count : ℕ) → ((x : ℕ) → first ≤ x → x < first + moments → Is x → Other x)
+    → ((x : ℕ) → first ≤ x → x < first + moments → Other x → Is x) → IsCount Is first moments count → IsCount Other first moments count
+count_alike Is Other zero first count to back is = is
+count_alike Is Other (suc moments) first count to back is =
+    let next : (other : ℕ) → IsCount Is (first + 1) moments other → IsCount Other (first + 1) moments other =
+    λ other found.
+    count_alike Is Other moments (first + 1) other (λ x from below. to x (omega (arith, from)) (omega (arith, below)))
+    (λ x from below. back x (omega (arith, from)) (omega (arith, below))) found in
+    elim is [
+      | inl (here, found) ↦ inl (to first (omega arith) (omega arith) here, (found.0, found.1, next found.0 found.2))
+      | inr (none, rest) ↦ inr ((λ there. none (back first (omega arith) (omega arith) there)), next count rest)
+    ]

@@ -6,9 +6,12 @@ pub mod Books
 pub mod Counts
 pub mod InUse
 pub mod JobsWithin
+pub mod LastSwitches
 pub mod NoMoments
 pub mod OneJobs
+pub mod OneLosses
 pub mod OneMoments
+pub mod Overs
 pub mod Passed
 pub mod Placed
 pub mod ReadyTasks

@@ -1,7 +1,8 @@
 -- Passages have one list of jobs, and each job is of a task of theirs and within their span.
 use Rattle.std.proofs.Common.{◌≡◌, ℕ, ◌-◌, Bool, true, false, List, [], ◌∷◌, sym, ap, ◌∙◌, subst}
 use Rattle.std.specs.Bool.{MatchBool}
-use Rattle.trace_losses.specs.Jobs.{RunsAt, IsCount, Change, AreJobsOf, BeginsJob, IsStretch, end_by, with_job}
+use Rattle.trace_losses.specs.Jobs.{RunsAt, Change, AreJobsOf, BeginsJob, IsStretch, end_by, with_job}
+use Rattle.trace_losses.specs.Moments.{IsCount}
 use Rattle.trace_passages.specs.Passages.{span_of}
 use Rattle.trace_losses.specs.declared.job.TraceJob.{TraceJob}
 use Rattle.trace_passages.specs.declared.passage.Passage.{Passage}

@@ -39,7 +39,7 @@ module _ (lost : List Bool) (units : ℕ) (b : Bool) where
   pub lost_within : (x : ℕ) → slice_get all x ≡ Some true → x < length lost + units
   lost_within x is = let within = slice_get_within all x true is in let long = all_length in omega (arith, within, long)
 
-two_answers : {A : Type 0} (o : Option Bool) → o ≡ Some true → o ≡ Some false → A
+pub two_answers : {A : Type 0} (o : Option Bool) → o ≡ Some true → o ≡ Some false → A
 two_answers o one other = differ (sym one ∙ other)
   where
     differ : {A : Type 0} → ◌≡◌ {A = Option Bool} (Some true) (Some false) → A
@@ -84,7 +84,7 @@ module _ (lost : List Bool) (units count : ℕ) (current : IsCurrent lost count)
   ]
 
   -- a stretch is one of before, or is not longer than the one up to the last moment
-  stretch_cases : (first many : ℕ) → 0 < many → IsLostFrom longer_list first many
+  pub stretch_cases : (first many : ℕ) → 0 < many → IsLostFrom longer_list first many
       → IsLostFrom lost first many ⊎ ((many ≤ count + units) × (length lost ≤ first + count) × (first + many ≤ length lost + units))
   stretch_cases first many some each = elim (cases_lt (length lost) (first + many)) [
     | inl beyond ↦ (
@@ -120,6 +120,7 @@ module _ (lost : List Bool) (units count : ℕ) (current : IsCurrent lost count)
               | inr full ↦ inr (omega (arith, few, full), omega (arith, later, count_is, within))
             ]
           ];
+          none = λ empty. absurd (omega (arith, empty, below));
         }
     by_longer false e =
         let above = ltb-false stretch.count (count + units) e in
@@ -135,6 +136,7 @@ module _ (lost : List Bool) (units count : ℕ) (current : IsCurrent lost count)
               )
             ]
           ];
+          none = longest.none;
         }
 
     pub longest_grown : IsLongest longer_list (longer stretch (record { first = n + units - (count + units); count = count + units }))
@@ -154,7 +156,7 @@ module _ (lost : List Bool) (units : ℕ) (some : 0 < units) where
         before = λ x place. at_after lost units false x (omega (arith, long, place, some)) (omega (arith, long, place));
       }
 
-  only_before : (first many : ℕ) → IsLostFrom kept_list first many → IsLostFrom lost first many
+  pub only_before : (first many : ℕ) → IsLostFrom kept_list first many → IsLostFrom lost first many
   only_before first many each x from below = elim (cases_lt x (length lost)) [
     | inl before ↦ sym (at_before lost units false x before) ∙ each x from below
     | inr after ↦
@@ -168,6 +170,7 @@ module _ (lost : List Bool) (units : ℕ) (some : 0 < units) where
     by_none false e = record {
       each = λ x from under. (let there = longest.each x from under in at_before lost units false x (slice_get_within lost x true there) ∙ there);
       longest = λ first many some each. longest.longest first many some (only_before first many each);
+      none = longest.none;
     }
 
     pub longest_kept : IsLongest kept_list (longer stretch (record { first = n + units - 0; count = 0 }))

@@ -1,5 +1,5 @@
 -- Watches go on together.
-use Rattle.std.proofs.Common.{◌≡◌, ℕ, zero, suc, ◌+◌, ◌<◌, ◌≤◌, ◌^◌, List, [], ◌∷◌, ◌++◌, length, get_or, set, map, vec_len, Option, Some, refl, sym, ap, ◌∙◌, subst, inl, inr, arith, length-append, length-set}
+use Rattle.std.proofs.Common.{◌≡◌, ℕ, ◌+◌, ◌<◌, ◌≤◌, ◌^◌, List, [], ◌∷◌, ◌++◌, length, get_or, set, vec_len, Some, sym, ap, ◌∙◌, subst, inl, inr, arith, length-append, length-set}
 use Rattle.std.specs.Prelude.{replicate, slice_get}
 use Rattle.std.proofs.lemmas.Bool.{cases_eq, cases_lt}
 use Rattle.std.proofs.lemmas.List.{length-replicate, get_or-set_same, get_or-set_other, get_or-map, length-map, ext_get_or}
@@ -12,7 +12,7 @@ use Rattle.trace_losses.specs.declared.watch.Watch.{Watch}
 
 -- what stands for a tally where there is none
 abbrev pub no_tally : Tally
-no_tally = record { moments = 0; ready = 0; served = 0; lost = 0; current = 0; longest = record { first = 0; count = 0 } }
+no_tally = record { moments = 0; ready = 0; served = 0; lost = 0; current = 0; ended = 0; longest = record { first = 0; count = 0 } }
 
 pub goes_on : (tasks : ℕ) (moments : List (List Seen)) (units : ℕ) (seen : List Seen) (old new : Watch) → IsWatchOf tasks moments old
     → IsWatch old.stretch (moments ++ replicate units seen) new.counts.items → new.stretch ≡ old.stretch

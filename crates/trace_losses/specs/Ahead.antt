@@ -2,7 +2,8 @@
 -- contracts of this crate's own functions.
 use Rattle.std.specs.Prelude.{◌≡◌, ℕ, ◌-◌, ◌<◌, ◌≤◌, List, length, get_or, slice_get, Option, None, Some}
 use Rattle.std.specs.Option.{is_some}
-use Rattle.trace_losses.specs.Jobs.{RunsAt, IsCount, Change, end_by}
+use Rattle.trace_losses.specs.Jobs.{RunsAt, Change, end_by}
+use Rattle.trace_losses.specs.Moments.{IsCount}
 use Rattle.trace_passages.specs.Passages.{span_of}
 use Rattle.trace_losses.specs.Tally.{more}
 use Rattle.trace_passages.specs.declared.passage.Passage.{Passage}

@@ -21,6 +21,10 @@ IsBook moments tallies = (t : ℕ) (tally : Tally) → slice_get tallies t ≡ S
 abbrev pub AreKept : ℕ → List Tally → Type 0
 AreKept moments tallies = (t : ℕ) (tally : Tally) → slice_get tallies t ≡ Some tally → IsWithin tally × (tally.moments ≡ moments)
 
+-- no number of a tally is greater than that of its moments
+abbrev pub AreWithin : List Tally → Type 0
+AreWithin tallies = (t : ℕ) (tally : Tally) → slice_get tallies t ≡ Some tally → IsWithin tally
+
 -- each tally has room for so many moments more
 abbrev pub AreReady : List Tally → ℕ → Type 0
 AreReady tallies units = (t : ℕ) (tally : Tally) → slice_get tallies t ≡ Some tally → IsWithin tally × (tally.moments + units < 2 ^ 64)

@@ -1,9 +1,10 @@
 -- Jobs. A change that makes a task ready begins a stretch, in which the task is ready up to the change that makes it absent, or to the
 -- end. A stretch in which the task runs is a job of it: it is released at the first moment of the stretch, and has as many units as
 -- there are moments of the stretch at which the task runs.
-use Rattle.std.specs.Prelude.{◌≡◌, ℕ, ◌+◌, ◌-◌, ◌<◌, ◌≤◌, Bool, not, ◌&&◌, ◌==◌, nat_lt, ◌⊎◌, zero, suc, List, [], ◌∷◌, take, drop, reverse, Option, None, Some, if◌then◌else◌}
+use Rattle.std.specs.Prelude.{◌≡◌, ℕ, ◌+◌, ◌-◌, ◌<◌, ◌≤◌, Bool, not, ◌&&◌, ◌==◌, nat_lt, List, [], ◌∷◌, take, drop, reverse, Option, None, Some, if◌then◌else◌}
 use Rattle.std.specs.Bool.{MatchBool}
 use Rattle.trace_passages.specs.Passages.{span_of}
+use Rattle.trace_losses.specs.Moments.{IsCount}
 use Rattle.trace_losses.specs.Passages.{IsCut, RunsBetween}
 use Rattle.trace_losses.specs.declared.job.TraceJob.{TraceJob}
 use Rattle.trace_passages.specs.declared.passage.Passage.{Passage}
@@ -15,13 +16,6 @@ pub record RunsAt (passages : List Passage) (t x : ℕ) : Type 0 where
   pub n : ℕ
   pub cut : IsCut passages x n
   pub between : RunsBetween (reverse (take n passages)) (drop n passages) t
-
--- of so many moments from the first one on, so many are of a kind
-abbrev pub IsCount : (ℕ → Type 0) → ℕ → ℕ → ℕ → Type 0
-IsCount Is first zero count = count ≡ 0
-IsCount Is first (suc moments) count =
-    (Is first × ((rest : ℕ) × (count ≡ rest + 1) × IsCount Is (first + 1) moments rest))
-    ⊎ ((Is first → ⊥) × IsCount Is (first + 1) moments count)
 
 -- ---- changes
 -- a mention, which changes whether its task is ready, and the moment of its passage

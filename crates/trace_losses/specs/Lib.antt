@@ -3,6 +3,8 @@ pub mod Beside
 pub mod Book
 pub mod Counts
 pub mod Jobs
+pub mod Jumps
+pub mod Laws
 pub mod Losses
 pub mod Moments
 pub mod Passages

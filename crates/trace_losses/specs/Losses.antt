@@ -3,7 +3,7 @@ use Rattle.std.specs.Prelude.{◌≡◌, ℕ, List, length, count_by, slice_get,
 use Rattle.task_set.specs.TaskSet.{SetData, priorities}
 use Rattle.trace_losses.specs.Beside.{IsBeside}
 use Rattle.trace_losses.specs.Book.{of_task}
-use Rattle.trace_losses.specs.Moments.{is_ready, is_served, is_lost, losses, IsLongest}
+use Rattle.trace_losses.specs.Moments.{is_ready, is_served, is_lost, losses, IsLongest, AreOver}
 use Rattle.trace_passages.specs.Passages.{span_of}
 use Rattle.trace_losses.specs.Passages.{AreMoments}
 use Rattle.trace_losses.specs.Watch.{IsWatch, IsMostOf}
@@ -19,11 +19,13 @@ pub record IsRival (priorities : List ℕ) (moments : List (List Seen)) (stretch
   pub counted : IsWatch stretch moments counts
   pub most : IsMostOf counts priorities (length priorities) rival
 
--- the numbers of a task are the counts of its moments, with the first of its longest stretches of lost ones, and who ran meanwhile
+-- the numbers of a task are the counts of its moments, also of those in long stretches of lost ones, with the first of its longest
+-- stretches of lost ones, and who ran meanwhile
 pub record IsLoss (priorities : List ℕ) (moments : List (List Seen)) (t : ℕ) (loss : Loss) : Type 0 where
   pub ready : loss.ready ≡ count_by is_ready (of_task t moments)
   pub served : loss.served ≡ count_by is_served (of_task t moments)
   pub lost : loss.lost ≡ count_by is_lost (of_task t moments)
+  pub over : AreOver (losses (of_task t moments)) loss.over
   pub longest : IsLongest (losses (of_task t moments)) loss.longest
   pub rival : IsRival priorities moments loss.longest loss.rival
 

@@ -12,6 +12,8 @@ mod book;
 mod count;
 mod former;
 mod job;
+mod jumps;
+pub mod laws;
 mod loss;
 mod runners;
 mod seen;

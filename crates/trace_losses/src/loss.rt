@@ -1,15 +1,18 @@
 //! What each task of a trace lost.
 ghost use Rattle.std.specs.Prelude.{◌≡◌, ℕ, ◌<◌, ◌≤◌, ◌^◌, List, length, vec_len, IfOk};
 ghost use Rattle.task_set.specs.TaskSet.{priorities};
-ghost use Rattle.trace_losses.specs.Book.{IsBook, of_task};
+ghost use Rattle.trace_losses.specs.Book.{IsBook, AreWithin, of_task};
+ghost use Rattle.trace_losses.specs.Jumps.{AreJumps};
 ghost use Rattle.trace_losses.specs.Losses.{IsRival, IsLoss, AreLossesOf, AreLosses};
 ghost use Rattle.trace_losses.specs.Moments.{IsTally};
 ghost use Rattle.trace_passages.specs.Passages.{ArePassages, span_of};
+ghost use Rattle.trace_losses.specs.Tally.{IsWithin};
 ghost use Rattle.trace_losses.specs.Watch.{AreWatches, IsWatchOf, longest_of, stretches_of};
 ghost use Rattle.trace_losses.specs.declared.seen.Seen.{Seen};
 
 use crate::backward::trail_of;
 use crate::count::{counts_of, watches_of};
+use crate::jumps::jumps_of;
 use crate::tally::{Stretch, Tally};
 use crate::watch::{Watch, most};
 use affinity_mask::OutOfMemory;
@@ -23,6 +26,9 @@ pub struct Loss {
     pub ready: u64,
     pub served: u64,
     pub lost: u64,
+
+    /// At how many it was lost in a stretch of more than 50 moments.
+    pub over: u64,
     pub longest: Stretch,
 
     /// The task that ran most in that stretch without being in the best set, if one did.
@@ -36,6 +42,9 @@ pub struct Losses {
     pub span: u64,
     pub losses: Vec<Loss>,
     pub beside: Vec<u64>,
+
+    /// How many switches of a processor are from another thread than the last switch of it went to.
+    pub jumps: u64,
 }
 
 /// What each task lost in a trace of so many threads. The memory that it takes is some bytes for each passage, and for each two tasks.
@@ -47,8 +56,9 @@ pub fn losses_of(
     passages: &[Passage],
 ) -> Result<Losses, OutOfMemory>
     requires { ArePassages (length set.now.tasks) threads passages.now }
-    ensures { IfOk result (λ found.
+    ensures losses { IfOk result (λ found.
         AreLosses set.now threads passages.now found.span found.losses.items found.beside.items) }
+    ensures jumps { IfOk result (λ found. AreJumps passages.now found.jumps) }
 {
     let span = span_of(passages);
     let trail = trail_of(alloc, threads, passages)?;
@@ -60,6 +70,7 @@ pub fn losses_of(
         span,
         losses,
         beside: counts.beside.counts,
+        jumps: jumps_of(alloc, passages)?,
     })
 }
 
@@ -93,6 +104,7 @@ fn losses_by(
     priorities: &[u32],
 ) -> Result<Vec<Loss>, AllocError>
     requires tasks { length tallies.now ≡ length priorities.now }
+    requires kept { AreWithin tallies.now }
     requires stretches { stretches_of watches.now ≡ longest_of tallies.now }
     requires watches { (moments : List (List Seen)) × AreWatches (length priorities.now) moments watches.now }
     ensures { IfOk result (λ list. (moments : List (List Seen)) → IsBook moments tallies.now
@@ -108,6 +120,7 @@ fn losses_by(
 
 /// What a task lost, by its tally, and by the watch of its longest stretch.
 fn loss_of(tally: Tally, watch: &Watch, priorities: &[u32]) -> Loss
+    requires within { IsWithin tally }
     requires stretch { watch.now.stretch ≡ tally.longest }
     requires tasks { vec_len watch.now.counts ≡ length priorities.now }
     ensures { (moments : List (List Seen)) (t : ℕ) → IsTally (of_task t moments) tally
@@ -117,6 +130,7 @@ fn loss_of(tally: Tally, watch: &Watch, priorities: &[u32]) -> Loss
         ready: tally.ready,
         served: tally.served,
         lost: tally.lost,
+        over: tally.over(),
         longest: tally.longest,
         rival: most(&watch.counts, priorities),
     }

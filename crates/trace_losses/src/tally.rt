@@ -1,7 +1,7 @@
 //! The numbers of one task, which go on by stretches of equal moments.
 ghost use Rattle.std.specs.Prelude.{◌≡◌, ◌+◌, ◌<◌, ◌^◌, List, [], ◌++◌, replicate, if◌then◌else◌};
-ghost use Rattle.trace_losses.specs.Moments.{IsTally};
-ghost use Rattle.trace_losses.specs.Tally.{IsWithin, tally_after, longer};
+ghost use Rattle.trace_losses.specs.Moments.{IsTally, AreOver, losses};
+ghost use Rattle.trace_losses.specs.Tally.{IsWithin, tally_after, longer, over, ended_after};
 ghost use Rattle.trace_losses.specs.declared.seen.Seen.{Seen};
 
 use crate::seen::Seen;
@@ -22,6 +22,9 @@ pub struct Tally {
     pub served: u64,
     pub lost: u64,
     pub current: u64,
+
+    /// Of the moments before that stretch, how many stand in stretches of more than 50 lost ones.
+    pub ended: u64,
     pub longest: Stretch,
 }
 
@@ -51,6 +54,7 @@ impl Tally {
             served: 0,
             lost: 0,
             current: 0,
+            ended: 0,
             longest: Stretch { first: 0, count: 0 },
         }
     }
@@ -74,11 +78,42 @@ impl Tally {
             served: more(self.served, units, seen.is_served()),
             lost: more(self.lost, units, is_lost),
             current,
+            ended: ended_after(self.ended, self.current, is_lost),
             longest: self.longest.longer(Stretch {
                 first: moments - current,
                 count: current,
             }),
         }
+    }
+
+    /// How many moments stand in a stretch of more than 50 lost ones that follow each other.
+    pub fn over(self) -> u64
+        requires within { IsWithin self }
+        ensures { (moments : List Seen) → IsTally moments self → AreOver (losses moments) result }
+    {
+        self.ended + over(self.current)
+    }
+}
+
+/// The most moments of a stretch that are not over.
+const MOST_SHORT: u64 = 50;
+
+/// How many moments of a stretch of so many are over: all of more than 50, or none.
+fn over(count: u64) -> u64
+    ensures { result ≡ over count }
+{
+    if count > MOST_SHORT { count } else { 0 }
+}
+
+/// How many moments over there are up to the last moment that is not lost, once the stretch of so many has gone on or ended.
+fn ended_after(ended: u64, current: u64, is_lost: bool) -> u64
+    requires { ended + current < 2 ^ 64 }
+    ensures { result ≡ ended_after is_lost ended current }
+{
+    if is_lost {
+        ended
+    } else {
+        ended + over(current)
     }
 }
 

@@ -32,6 +32,12 @@ bounds-watches-t c =
     let count = same_count c.args.watches.now c.args.tallies.now c.requires.stretches in
     omega (arith, count, c.requires.tasks)
 
+pub loss_of-requires-clause-within : goal.loss_of-requires-clause-within
+loss_of-requires-clause-within c =
+    let tallies = c.args.tallies.now in
+    c.requires.kept c.loop-t.t (get_or tallies c.loop-t.t no_tally)
+    (slice_get-get_or tallies c.loop-t.t no_tally (omega (arith, c.requires.tasks)))
+
 pub loss_of-requires-clause-stretch : goal.loss_of-requires-clause-stretch
 loss_of-requires-clause-stretch c =
     let count = same_count c.args.watches.now c.args.tallies.now c.requires.stretches in

@@ -13,8 +13,13 @@ use Rattle.trace_losses.proofs.OneMoments.{one_moments}
 use Rattle.trace_losses.proofs.ReadyTasks.{ready_within}
 use Rattle.trace_losses.proofs.loss.losses_of.Goals as goal
 
-pub returns : goal.returns
-returns c =
+pub losses_by-requires-clause-kept : goal.losses_by-requires-clause-kept
+losses_by-requires-clause-kept c =
+    let kept = c.in_ok-counts.ensures.of.kept in
+    rw c.deref-2.ensures.value (λ t tally is. (kept t tally is).0)
+
+pub returns-clause-losses : goal.returns-clause-losses
+returns-clause-losses c =
     let passages = c.args.passages.now in
     let threads = c.args.threads in
     let tasks = c.args.set.now.tasks in
