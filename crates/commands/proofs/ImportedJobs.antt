@@ -3,7 +3,6 @@
 use Rattle.std.proofs.Common.{◌≡◌, ℕ, ◌⊎◌, ◌+◌, ◌<◌, ◌≤◌, List, length, map, Ok, Err, refl, sym, ap, ◌∙◌, subst, inl, inr, arith}
 use Rattle.std.specs.Prelude.{Vec}
 use Rattle.std.specs.declared.alloc.Global.{Global}
-use Rattle.job_release.specs.JobList.{job_list_text}
 use Rattle.kernel_trace.specs.Passage.{TaskTraceData, IsTaskTraceText, IsTaskTraceRefused}
 use Rattle.kernel_trace.specs.Passages.{IsTaskTrace}
 use Rattle.kernel_trace.specs.declared.fault.TraceKind.{TraceKind}
@@ -12,8 +11,8 @@ use Rattle.trace_losses.specs.Jobs.{changes_of}
 use Rattle.trace_losses.specs.declared.job.TraceJob.{TraceJob}
 use Rattle.trace_losses.proofs.OneJobs.{one_jobs}
 use Rattle.commands.specs.Answers.{Answers}
-use Rattle.commands.specs.Lost.{passages_of, AcceptsTaskTrace, RefusesTaskTrace}
-use Rattle.commands.specs.ImportJobs.{moments_of, AreJobsIn, IsHorizon, listed, IsImportedJobsOf, AcceptsJobTrace, IsRefusedList, RefusesJobTrace}
+use Rattle.commands.specs.Lost.{AcceptsTaskTrace, RefusesTaskTrace}
+use Rattle.commands.specs.ImportJobs.{moments_of, AreJobsIn, IsHorizon, listed, job_text, IsImportedJobsOf, AcceptsJobTrace, IsRefusedList, RefusesJobTrace}
 use Rattle.commands.specs.declared.status.Status.{Status}
 use Rattle.commands.specs.declared.status.Status.TheVariants.{Input, OutOfMemory}
 
@@ -67,7 +66,7 @@ module _ (bytes : List ℕ) (trace : TaskTraceData) (is_text : IsTaskTraceText b
   held P other others text also holds =
       let same : other ≡ trace = sym (only other text) in
       let here : AreJobsIn trace others = subst (λ (t : TaskTraceData). AreJobsIn t others) same also in
-      let equal : others ≡ jobs = one_jobs (passages_of trace.passages) (changes_of (passages_of trace.passages)) others jobs here are in
+      let equal : others ≡ jobs = one_jobs trace.passages (changes_of trace.passages) others jobs here are in
       subst (λ (list : List TraceJob). P (moments_of trace) (length list)) equal
       (subst (λ (t : TaskTraceData). P (moments_of t) (length others)) same holds)
 
@@ -80,7 +79,7 @@ module _ (bytes : List ℕ) (trace : TaskTraceData) (is_text : IsTaskTraceText b
           (held (λ (span count : ℕ). IsRefusedList span count why.kind) list.trace list.cause.jobs list.is_text list.cause.are list.cause.cause)
     ]
 
-    pub answers_jobs : (put : Vec ℕ Global) → IsTaskTrace bytes trace → put.items ≡ job_list_text trace.set (moments_of trace) (map listed jobs)
+    pub answers_jobs : (put : Vec ℕ Global) → IsTaskTrace bytes trace → put.items ≡ job_text trace (map listed jobs)
         → Answers (IsImportedJobsOf bytes) (AcceptsJobTrace bytes) (RefusesJobTrace bytes) (Ok put)
     answers_jobs put is_trace written = record {
       makes = record {

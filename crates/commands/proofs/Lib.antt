@@ -15,6 +15,6 @@ pub mod NestedAnswers
 pub mod OneVerdict
 pub mod ReadBytes
 pub mod Refusals
-pub mod TracePassages
+pub mod TraceOneText
 pub mod TraceRefusals
 pub mod WeakOneText

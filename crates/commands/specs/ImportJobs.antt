@@ -1,27 +1,28 @@
 -- The jobs of a trace, from the bytes of a trace of the Linux scheduler to those of an input of jobs. A stretch in which a task is
 -- ready is a job of it, released at its first moment and with as many units as there are moments of it at which the task runs.
-use Rattle.std.specs.Prelude.{◌≡◌, ◌⊎◌, ℕ, ◌+◌, ◌<◌, ◌≤◌, ◌^◌, List, length, map}
+use Rattle.std.specs.Prelude.{◌≡◌, ◌⊎◌, ℕ, ◌+◌, ◌<◌, ◌≤◌, ◌^◌, List, ◌++◌, codes, length, map, Option}
 use Rattle.job_release.specs.JobList.{job_list_text}
 use Rattle.job_release.specs.declared.job_list.ListedJob.{ListedJob}
 use Rattle.kernel_trace.specs.Passage.{TaskTraceData, IsTaskTraceText, IsTaskTraceRefused}
 use Rattle.kernel_trace.specs.Passages.{IsTaskTrace}
+use Rattle.kernel_trace.specs.StampText.{stamp_text}
+use Rattle.text_fields.specs.LineText.{line}
 use Rattle.text_fields.specs.Lines.{lines_of}
 use Rattle.trace_losses.specs.Jobs.{AreJobs}
 use Rattle.trace_passages.specs.Passages.{span_of}
 use Rattle.trace_losses.specs.declared.job.TraceJob.{TraceJob}
 use Rattle.commands.specs.Import.{RefusesTraceText}
-use Rattle.commands.specs.Lost.{passages_of}
 use Rattle.commands.specs.Refusal.{IsAnsweredInput}
 use Rattle.commands.specs.declared.status.Status.{Status}
 
 -- ---- the jobs of a trace
 -- how many moments a trace has, from the first change to the last used line
 abbrev pub moments_of : TaskTraceData → ℕ
-moments_of trace = span_of (passages_of trace.passages)
+moments_of trace = span_of trace.passages
 
 -- the jobs are those of the trace
 abbrev pub AreJobsIn : TaskTraceData → List TraceJob → Type 0
-AreJobsIn trace jobs = AreJobs (passages_of trace.passages) jobs
+AreJobsIn trace jobs = AreJobs trace.passages jobs
 
 -- so many moments are the span of an input of jobs
 abbrev pub IsHorizon : ℕ → Type 0
@@ -42,6 +43,14 @@ pub record HasJobs (trace : TaskTraceData) (jobs : List TraceJob) : Type 0 where
 abbrev pub listed : TraceJob → ListedJob
 listed job = record { task = job.task; release = job.release; cost = job.units }
 
+-- a comment line with the clock of moment 0
+abbrev pub clock_line : Option ℕ → List ℕ
+clock_line clock = line (codes "# moment 0 is at " ++ stamp_text clock)
+
+-- that line, and the text of these jobs of the trace
+abbrev pub job_text : TaskTraceData → List ListedJob → List ℕ
+job_text trace jobs = clock_line trace.clock ++ job_list_text trace.set (moments_of trace) jobs
+
 -- the job has numbers of 32 bits
 pub record IsNarrow (job : TraceJob) : Type 0 where
   pub release : job.release < 2 ^ 32
@@ -51,11 +60,11 @@ pub record IsNarrow (job : TraceJob) : Type 0 where
 pub record IsJobListOf (trace : TaskTraceData) (put : List ℕ) : Type 0 where
   pub jobs : List TraceJob
   pub has : HasJobs trace jobs
-  pub text : put ≡ job_list_text trace.set (moments_of trace) (map listed jobs)
+  pub text : put ≡ job_text trace (map listed jobs)
 
--- the bytes read are the text of a trace, and the bytes written are the text of its tasks, its span and its jobs: for each stretch in
--- which a task is ready and runs a job of it, in the order in which the stretches begin, with the first moment of the stretch and the
--- number of its moments at which the task runs
+-- the bytes read are the text of a trace, and the bytes written are a comment with the clock of its first moment and the text of its
+-- tasks, its span and its jobs: for each stretch in which a task is ready and runs a job of it, in the order in which the stretches
+-- begin, with the first moment of the stretch and the number of its moments at which the task runs
 pub record IsImportedJobsOf (read put : List ℕ) : Type 0 where
   pub trace : TaskTraceData
   pub is_text : IsTaskTraceText read trace

@@ -16,6 +16,7 @@ pub mod ScheduleLaws
 pub mod Sizes
 pub mod Status
 pub mod Summary
+pub mod TraceLaws
 pub mod Valid
 pub mod Weak
 pub mod WeakJobs

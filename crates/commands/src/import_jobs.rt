@@ -1,19 +1,16 @@
 //! From the bytes of a trace of the Linux scheduler to those of its jobs.
-ghost use Rattle.std.specs.Prelude.{◌≡◌, ℕ, ◌+◌, ◌<◌, ◌≤◌, ◌^◌, List, ◌∷◌, length, map, All, IfOk, MatchOption};
-ghost use Rattle.job_release.specs.JobList.{job_list_text};
+ghost use Rattle.std.specs.Prelude.{◌≡◌, ℕ, ◌+◌, ◌<◌, ◌≤◌, ◌^◌, List, ◌∷◌, ◌++◌, length, map, All, IfOk, MatchOption};
 ghost use Rattle.text_fields.specs.Lines.{lines_of};
 ghost use Rattle.trace_losses.specs.Jobs.{IsJobWithin};
 ghost use Rattle.trace_passages.specs.Passages.{ArePassages};
 ghost use Rattle.commands.specs.Answers.{Answers};
-ghost use Rattle.commands.specs.ImportJobs.{listed, moments_of, AreJobsIn, IsHorizon, IsNarrow, IsRefusedList, IsImportedJobsOf, AcceptsJobTrace, RefusesJobTrace};
-ghost use Rattle.commands.specs.Lost.{passages_of};
+ghost use Rattle.commands.specs.ImportJobs.{listed, clock_line, job_text, moments_of, AreJobsIn, IsHorizon, IsNarrow, IsRefusedList, IsImportedJobsOf, AcceptsJobTrace, RefusesJobTrace};
 
 use crate::import::status_of;
-use crate::lost::passages_of;
 use crate::status::Status;
 use affinity_mask::OutOfMemory;
 use job_release::{ListedJob, write_job_list};
-use kernel_trace::{TaskTrace, read_task_trace};
+use kernel_trace::{TaskTrace, read_task_trace, write_stamp};
 use std::alloc::{AllocError, Global};
 use trace_losses::{TraceJob, TraceJobs, jobs_of};
 
@@ -43,16 +40,14 @@ pub fn imported_jobs_text(alloc: Global, bytes: &[u8]) -> Result<Vec<u8>, Status
 
 /// The jobs of a trace.
 fn found_in(alloc: Global, trace: &TaskTrace) -> Result<TraceJobs, OutOfMemory>
-    requires { ArePassages (length trace.now.set.tasks) (length trace.now.set.tasks)
-        (passages_of trace.now.passages) }
+    requires { ArePassages (length trace.now.set.tasks) (length trace.now.set.tasks) trace.now.passages }
     ensures span { IfOk result (λ found. found.span ≡ moments_of trace.now) }
     ensures jobs { IfOk result (λ found. AreJobsIn trace.now found.jobs.items) }
     ensures within { IfOk result (λ found. All (IsJobWithin (length trace.now.set.tasks)
         (moments_of trace.now)) found.jobs.items) }
 {
     let threads = trace.set().len();
-    let passages = passages_of(alloc, trace.passages())?;
-    jobs_of(alloc, trace.set(), threads, &passages)
+    jobs_of(alloc, trace.set(), threads, trace.passages())
 }
 
 /// The number of the kind with which these jobs are refused, if an input cannot have them.
@@ -100,11 +95,23 @@ fn text_of(alloc: Global, trace: &TaskTrace, found: &TraceJobs) -> Result<Vec<u8
     requires span { found.now.span ≡ moments_of trace.now }
     requires horizon { IsHorizon found.now.span }
     requires within { All (IsJobWithin (length trace.now.set.tasks) found.now.span) found.now.jobs.items }
-    ensures { IfOk result (λ text. text.items ≡ job_list_text trace.now.set (moments_of trace.now)
-        (map listed found.now.jobs.items)) }
+    ensures { IfOk result (λ text. text.items ≡ job_text trace.now (map listed found.now.jobs.items)) }
 {
     let jobs = listed_of(alloc, &found.jobs)?;
-    write_job_list(alloc, trace.set(), found.span as u32, &jobs)
+    let list = write_job_list(alloc, trace.set(), found.span as u32, &jobs)?;
+    with_clock(alloc, trace.clock(), &list)
+}
+
+/// The text of jobs after a comment line with the clock of their moment 0.
+fn with_clock(alloc: Global, clock: Option<u64>, list: &[u8]) -> Result<Vec<u8>, OutOfMemory>
+    ensures { IfOk result (λ text. text.items ≡ clock_line clock ++ list.now) }
+{
+    let mut text = Vec::new(alloc);
+    text.extend_from_slice(b"# moment 0 is at ")?;
+    write_stamp(&mut text, clock)?;
+    text.push(b'\n')?;
+    text.extend_from_slice(list)?;
+    Ok(text)
 }
 
 /// The jobs, as they are listed.

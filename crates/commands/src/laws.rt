@@ -1,7 +1,8 @@
-//! What holds of schedule texts, of texts of jobs and of comparisons with the weak scheduler. Each law is the
-//! contract of a function that does nothing: a caller in a proof gets the law by its clause.
+//! What holds of schedule texts, of texts of jobs, of what is written of a trace and of comparisons with the weak scheduler. Each
+//! law is the contract of a function that does nothing: a caller in a proof gets the law by its clause.
 ghost use Rattle.commands.specs.JobsLaws.{JobsTextIsUnique};
 ghost use Rattle.commands.specs.ScheduleLaws.{ValidIsNotInvalid, InvalidIsUnique, ValidIsBest, ValidHasNoImprovingChain, LegalIsValid};
+ghost use Rattle.commands.specs.TraceLaws.{LostTextIsUnique, ImportedJobsTextIsUnique};
 ghost use Rattle.commands.specs.WeakLaws.{WeakTextIsUnique};
 
 /// A valid schedule is not wrong.
@@ -32,6 +33,16 @@ pub fn legal_is_valid()
 /// Two runs on the same bytes write the same text.
 pub fn weak_text_is_unique()
     ensures { WeakTextIsUnique }
+{}
+
+/// Bytes that are a text of a trace have one text of what its tasks lost.
+pub fn lost_text_is_unique()
+    ensures { LostTextIsUnique }
+{}
+
+/// And one text of its jobs.
+pub fn imported_jobs_text_is_unique()
+    ensures { ImportedJobsTextIsUnique }
 {}
 
 /// Bytes that are a text of periodic tasks have one text of their jobs, whatever history runs these.

@@ -1,17 +1,15 @@
 //! From the bytes of a trace of the Linux scheduler to what its tasks lost.
-ghost use Rattle.std.specs.Prelude.{◌≡◌, ◌<◌, ◌^◌, length, map, IfOk, IfSome};
+ghost use Rattle.std.specs.Prelude.{◌≡◌, ◌<◌, ◌^◌, length, IfOk, IfSome};
 ghost use Rattle.trace_passages.specs.Passages.{ArePassages};
 ghost use Rattle.commands.specs.Answers.{Answers};
-ghost use Rattle.commands.specs.Lost.{turn_of, readiness_of, passage_of, passages_of, row_of, AreNumbered, IsLossText, IsLossOf, AcceptsTaskTrace, RefusesTaskTrace};
+ghost use Rattle.commands.specs.Lost.{row_of, told_row, told_rows, AreNumbered, IsLossText, IsLossOf, AcceptsTaskTrace, RefusesTaskTrace};
 
 use crate::import::status_of;
 use crate::status::Status;
 use affinity_mask::OutOfMemory;
-use kernel_trace::change::Mention;
-use kernel_trace::{LossRow, TaskChange, TaskTrace, passage, read_task_trace, write_losses};
+use kernel_trace::{LossRow, TaskTrace, read_task_trace, write_losses};
 use std::alloc::{AllocError, Global};
 use trace_losses::{Loss, losses_of};
-use trace_passages::{Passage, Readiness, Turn};
 
 /// The text of what each task of a trace lost, or the status that says why there is none.
 pub fn lost_text(alloc: Global, bytes: &[u8]) -> Result<Vec<u8>, Status>
@@ -28,83 +26,45 @@ pub fn lost_text(alloc: Global, bytes: &[u8]) -> Result<Vec<u8>, Status>
 
 /// The text of what each task of a trace lost.
 fn text_of(alloc: Global, trace: &TaskTrace) -> Result<Vec<u8>, OutOfMemory>
-    requires { ArePassages (length trace.now.set.tasks) (length trace.now.set.tasks)
-        (passages_of trace.now.passages) }
+    requires { ArePassages (length trace.now.set.tasks) (length trace.now.set.tasks) trace.now.passages }
     ensures { IfOk result (λ text. IsLossText trace.now text.items) }
 {
     let threads = trace.set().len();
-    let passages = passages_of(alloc, trace.passages())?;
-    let found = losses_of(alloc, trace.set(), threads, &passages)?;
-    let rows = rows_of(alloc, &found.losses)?;
-    write_losses(alloc, trace.set(), found.span, &rows)
+    let found = losses_of(alloc, trace.set(), threads, trace.passages())?;
+    let rows = rows_of(alloc, trace, &found.losses)?;
+    write_losses(
+        alloc,
+        trace.set(),
+        trace.clock(),
+        found.span,
+        &rows,
+        found.jumps,
+    )
 }
 
-/// The used lines, as they are counted.
-pub(crate) fn passages_of(
+/// What is told of each task: a row, by what it lost, where the trace mentions it.
+fn rows_of(
     alloc: Global,
-    lines: &[passage::Passage],
-) -> Result<Vec<Passage>, AllocError>
-    ensures { IfOk result (λ list. list.items ≡ passages_of lines.now) }
-{
-    let mut list = Vec::new(alloc);
-    for line in lines {
-        list.push(passage_of(*line))?;
-    }
-    Ok(list)
-}
-
-/// A used line, as it is counted.
-fn passage_of(line: passage::Passage) -> Passage
-    ensures { result ≡ passage_of line }
-{
-    Passage {
-        moment: line.moment,
-        turn: turn_of(line.change, line.first),
-        first: readiness_of(line.first),
-        second: readiness_of(line.second),
-    }
-}
-
-/// What a line says of who runs where. A wakeup says something where it makes its task ready.
-fn turn_of(change: TaskChange, first: Option<Mention>) -> Option<Turn>
-    ensures { result ≡ turn_of change first }
-{
-    match change {
-        TaskChange::Switch {
-            processor,
-            from,
-            to,
-        } => Some(Turn::Switch {
-            processor,
-            from,
-            to,
-        }),
-        TaskChange::Wakeup(Some(task)) if first.is_some() => Some(Turn::Woken(task)),
-        TaskChange::Wakeup(_) => None,
-    }
-}
-
-/// A mention that changes whether its task is ready, if there is one.
-fn readiness_of(mention: Option<Mention>) -> Option<Readiness>
-    ensures { result ≡ readiness_of mention }
-{
-    let mention = mention?;
-    Some(Readiness {
-        task: mention.task,
-        is_in: mention.is_in,
-    })
-}
-
-/// A row for each task, by what it lost.
-fn rows_of(alloc: Global, losses: &[Loss]) -> Result<Vec<LossRow>, AllocError>
-    requires { AreNumbered losses.now }
-    ensures { IfOk result (λ rows. rows.items ≡ map row_of losses.now) }
+    trace: &TaskTrace,
+    losses: &[Loss],
+) -> Result<Vec<Option<LossRow>>, AllocError>
+    requires tasks { length losses.now < 2 ^ 32 }
+    requires rivals { AreNumbered losses.now }
+    ensures { IfOk result (λ rows. rows.items ≡ told_rows trace.now.mentioned 0 losses.now) }
 {
     let mut rows = Vec::new(alloc);
-    for loss in losses {
-        rows.push(row_of(*loss))?;
+    for t in 0..losses.len() {
+        rows.push(told_row(trace.is_mentioned(t as u32), losses[t]))?;
     }
     Ok(rows)
+}
+
+/// What is told of a task: the row of what it lost, where the trace mentions it.
+fn told_row(mentioned: bool, loss: Loss) -> Option<LossRow>
+    requires { IfSome loss.rival (λ t. t < 2 ^ 32) }
+    ensures { result ≡ told_row mentioned loss }
+{
+    if mentioned { Some(row_of(loss)) } else { None }
 }
 
 /// The row of a task, by what it lost.
@@ -116,6 +76,7 @@ fn row_of(loss: Loss) -> LossRow
         ready: loss.ready,
         ran: loss.served,
         lost: loss.lost,
+        over: loss.over,
         longest: loss.longest.count,
         first: loss.longest.first,
         rival: match loss.rival {

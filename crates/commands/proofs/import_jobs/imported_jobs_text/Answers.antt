@@ -4,7 +4,6 @@ use Rattle.kernel_trace.specs.Passage.{IsTaskTraceText, IsTaskTraceRefused}
 use Rattle.commands.specs.ImportJobs.{IsHorizon, IsRefusedList, IsImportedJobsOf}
 use Rattle.commands.proofs.Answered.{answers_memory}
 use Rattle.commands.proofs.ImportedJobs.{answers_trace, answers_jobs, answers_no_list}
-use Rattle.commands.proofs.TracePassages.{counted_passages}
 use Rattle.commands.proofs.TraceRefusals.{answers_fault}
 use Rattle.commands.proofs.import_jobs.imported_jobs_text.Goals as goal
 
@@ -17,7 +16,7 @@ returns-in-Err c =
     c.in-Err.ensures.refused c.in-Err.ensures.refuses))
 
 pub found_in-requires : goal.found_in-requires
-found_in-requires c = counted_passages c.args.bytes.now c.in-Ok.trace c.in-Ok.ensures.passages
+found_in-requires c = c.in-Ok.ensures.passages.in_order
 
 pub returns-in_err-found : goal.returns-in_err-found
 returns-in_err-found c =

@@ -1,7 +1,6 @@
 use Rattle.std.proofs.lemmas.Result.{err_from_is_err_and}
 use Rattle.kernel_trace.specs.Passage.{IsTaskTraceText, IsTaskTraceRefused}
 use Rattle.commands.proofs.Answered.{answers_memory}
-use Rattle.commands.proofs.TracePassages.{counted_passages}
 use Rattle.commands.proofs.TraceRefusals.{answers_fault}
 use Rattle.commands.proofs.lost.lost_text.Goals as goal
 
@@ -11,7 +10,7 @@ returns-in-Err c =
     c.in-Err.ensures.accepts c.in-Err.ensures.refused c.in-Err.ensures.refuses)
 
 pub text_of-requires : goal.text_of-requires
-text_of-requires c = counted_passages c.args.bytes.now c.in-Ok.trace c.in-Ok.ensures.passages
+text_of-requires c = c.in-Ok.ensures.passages.in_order
 
 pub returns-in_err-text : goal.returns-in_err-text
 returns-in_err-text c =

@@ -1,6 +1,6 @@
-use Rattle.std.proofs.Common.{◌≡◌, take, map}
-use Rattle.commands.specs.Lost.{row_of}
+use Rattle.std.proofs.Common.{◌≡◌, take}
+use Rattle.commands.specs.Lost.{told_rows}
 use Rattle.commands.proofs.lost.rows_of.Given as goal
 
-abbrev pub invariant-loop-loss : goal.invariant-loop-loss
-invariant-loop-loss l = l.rows.items ≡ map row_of (take l.loss-index l.losses)
+abbrev pub invariant-loop-t : goal.invariant-loop-t
+invariant-loop-t l = l.rows.items ≡ told_rows l.trace.mentioned 0 (take l.t l.losses)
