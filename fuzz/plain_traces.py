@@ -231,7 +231,7 @@ def used_kind(trace, events, time, processor, change):
 
 
 class Events:
-    """The used lines from the first change on, with their moments, and the events of the input."""
+    """The used lines from the first change on, with their moments, the microsecond of the first one, and the events of the input."""
 
     def __init__(self, is_lost):
         self.is_lost = is_lost
@@ -331,14 +331,15 @@ def stretches(trace, events):
 
 
 def losses_of(trace, events):
-    """Of each task how many moments it was ready, ran and was lost, and its longest stretch of lost moments."""
-    found = [[0, 0, 0, (0, None, None)] for _task in trace.names]
+    """Of each task how many moments it was ready, ran and was lost, its longest stretch of lost moments, and the moments of long ones."""
+    found = [[0, 0, 0, (0, None, None), 0] for _task in trace.names]
     current = [(0, None, None)] * len(found)
     for first, units, ready, best, running in stretches(trace, events):
         for task, numbers in enumerate(found):
             numbers[0] += units * (task in ready)
             numbers[1] += units * (task in ready and task in running)
             if task not in best or task in running:
+                numbers[4] += long_moments(current[task])
                 current[task] = (0, None, None)
                 continue
             numbers[2] += units
@@ -349,7 +350,31 @@ def losses_of(trace, events):
             current[task] = (count + units, first if start is None else start, rivals)
             if current[task][0] > numbers[3][0]:
                 numbers[3] = current[task]
+    for numbers, last in zip(found, current):
+        numbers[4] += long_moments(last)
     return found
+
+
+def long_moments(stretch):
+    """The moments of a stretch of more than 50, or none."""
+    return stretch[0] if stretch[0] > 50 else 0
+
+
+def jumps_of(events):
+    """How many switches of a processor are not from the task that its last switch before went to."""
+    count, last = 0, {}
+    for _moment, processor, tasks, _changed in events.lines:
+        if processor is not None:
+            count += processor in last and last[processor] != tasks[0]
+            last[processor] = tasks[1]
+    return count
+
+
+def stamp_at(events, moment):
+    """The clock of the trace at a moment."""
+    if moment is None or events.first is None or events.first >= 1 << 63:
+        return '-'
+    return '%d.%06d' % divmod(events.first + moment, 1000000)
 
 
 def answer_to_lost(data):
@@ -359,12 +384,16 @@ def answer_to_lost(data):
         trace, events = read_trace(data, True)
     except Fault as fault:
         return 3, b'', (fault.line, fault.kind)
-    lines = ['lost 1', f'span {events.span()}']
-    for name, (ready, ran, lost, (count, first, rivals)) in zip(trace.names, losses_of(trace, events)):
+    lines = ['lost 2', f'span {events.span()} at {stamp_at(events, 0)}']
+    for task, (ready, ran, lost, (count, first, rivals), over) in enumerate(losses_of(trace, events)):
+        name = trace.names[task].decode()
+        if task not in trace.mentioned:
+            lines.append(f'{name} -')
+            continue
         most = max(rivals, key=lambda t: (rivals[t], trace.tasks[t][0])) if rivals else None
-        lines.append(f'{name.decode()} ready {ready} ran {ran} lost {lost} longest {count} at {"-" if first is None else first} '
-                     f'while {"nobody" if most is None else trace.names[most].decode()}')
-    return 0, '\n'.join(lines + ['end', '']).encode(), None
+        lines.append(f'{name} ready {ready} ran {ran} lost {lost} over {over} longest {count} at {"-" if first is None else first} '
+                     f'{stamp_at(events, first)} while {"nobody" if most is None else trace.names[most].decode()}')
+    return 0, '\n'.join([*lines, f'jumps {jumps_of(events)}', 'end', '']).encode(), None
 
 
 # `importjobs`.
@@ -397,6 +426,6 @@ def answer_to_importjobs(data):
             raise Fault(len(lines_of(data)) + 1, 15)
     except Fault as fault:
         return 3, b'', (fault.line, fault.kind)
-    lines = [b'jobs 2', b'processors %d' % trace.processors, b'horizon %d' % events.span(), *task_lines(trace)]
+    lines = [b'# moment 0 is at ' + stamp_at(events, 0).encode(), b'jobs 2', b'processors %d' % trace.processors, b'horizon %d' % events.span(), *task_lines(trace)]
     lines += [b'job %s %d %d' % (trace.names[task], release, cost) for task, release, cost in jobs]
     return 0, b'\n'.join([*lines, b'end', b'']), None
