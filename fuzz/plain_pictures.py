@@ -244,12 +244,14 @@ def fault_of_places(root):
 
 # Chrome's format.
 
-def chrome_output(spans):
-    """What `chrome` writes of a schedule, byte for byte."""
-    events = ['{"name":"process_name","ph":"M","pid":0,"args":{"name":"processors"}}']
+def chrome_output(spans, start=0):
+    """What `chrome` writes of a schedule that begins at this moment, byte for byte."""
+    events = ['{"name":"process_name","ph":"M","pid":1,"args":{"name":"processors"}}']
+    for p in range(spans.processors):
+        events.append(f'{{"name":"thread_name","ph":"M","pid":1,"tid":{p + 1},"args":{{"name":"cpu {p}"}}}}')
     for p in range(spans.processors):
         for first, until, t in spans.lanes[p]:
             begin, end = spans.places['draw'][first], spans.places['draw'][until]
             if begin < end:
-                events.append(f'{{"name":"{spans.names[t].decode()}","ph":"X","pid":0,"tid":{p},"ts":{begin},"dur":{end - begin}}}')
+                events.append(f'{{"name":"{spans.names[t].decode()}","ph":"X","pid":1,"tid":{p + 1},"ts":{start + begin},"dur":{end - begin}}}')
     return ('[\n' + ',\n'.join(events) + '\n]\n').encode()

@@ -29,6 +29,7 @@ explain_words() {
     draw:2 | steps:2) wrong_window "$1" "$2" ;;
     draw:3 | steps:3) wrong_picture "$@" ;;
     draw:* | steps:*) wrong_draw "$@" ;;
+    chrome:*) wrong_chrome "$@" ;;
     watch:*) wrong_watch "$@" ;;
     make:4 | large:4) wrong_numbers "$@" ;;
     make:* | large:*) tell "apa: $word takes four numbers, and here are $#" ;;
@@ -107,6 +108,17 @@ wrong_window() {
         tell "apa: the window from $1 to $2 is none: a bound is at most 18446744073709551615, and the first one is not above the other"
     else
         tell "apa: the window from $1 to $2 is none: the first number is where it begins, and has to be the lower one"
+    fi
+}
+
+# The words as the program has them: a file that cannot be read is the last of them.
+wrong_chrome() {
+    if [ $# -eq 2 ] && [ "$2" = "$input" ]; then
+        wrong_count "$2"
+    elif [ $# -eq 1 ] && [ "$1" != "$input" ]; then
+        tell "apa: \`$1\` is no moment at which a trace begins, which is a whole number of microseconds below 9007199254740992"
+    else
+        wrong_count "$@"
     fi
 }
 

@@ -27,7 +27,7 @@ reads_or_not (Watch observers) = inr (λ nothing. nothing)
 reads_or_not Import = inr (λ nothing. nothing)
 reads_or_not ImportJobs = inr (λ nothing. nothing)
 reads_or_not (Draw axis window) = inr (λ nothing. nothing)
-reads_or_not Chrome = inr (λ nothing. nothing)
+reads_or_not (Chrome start) = inr (λ nothing. nothing)
 reads_or_not Lost = inr (λ nothing. nothing)
 reads_or_not (Make sizes) = inl tt
 reads_or_not (Large sizes) = inl tt
@@ -62,6 +62,10 @@ sizes_said words = record {
 window_said : List (List ℕ) → Window
 window_said words = if length words == 1 then record { from = 0; to = 18446744073709551615 } else record { from = number_value (get_or words 1 []); to = number_value (get_or words 2 []) }
 
+-- zero, or the value of the second word, whether or not it is a number
+start_said : List (List ℕ) → ℕ
+start_said words = if length words == 1 then 0 else number_value (get_or words 1 [])
+
 -- the command with this mark and these values, whether or not the words mean one
 command_marked : ℕ → List (List ℕ) → Command
 command_marked first words =
@@ -75,7 +79,7 @@ command_marked first words =
     if first == mark (codes "importjobs") then ImportJobs else (
     if first == mark (codes "draw") then Draw Time (window_said words) else (
     if first == mark (codes "steps") then Draw Steps (window_said words) else (
-    if first == mark (codes "chrome") then Chrome else (
+    if first == mark (codes "chrome") then Chrome (start_said words) else (
     if first == mark (codes "lost") then Lost else (
     if first == mark (codes "make") then Make (sizes_said words) else (
     if first == mark (codes "large") then Large (sizes_said words) else Run)))))))))))))
@@ -107,7 +111,7 @@ whole_is_said words window first whole = λ k. record { from = sym whole.from_st
 
 -- the words of a command say it
 said_of : (words : List (List ℕ)) (command : Command) → IsCommand words command → command_said words ≡ command
-unfolding command_said command_marked mark
+unfolding command_said command_marked mark start_said
 said_of words Run spoken = ap command_said spoken
 said_of words Check spoken = ap command_said spoken
 said_of words Weak spoken = ap command_said spoken
@@ -121,7 +125,8 @@ said_of words (Draw Time window) (inl whole) = ap command_said whole.each_word �
 said_of words (Draw Time window) (inr part) = ap command_said part.each_word ∙ ap (Draw Time) (window_is_said part.from part.to window part.is_window (codes "draw"))
 said_of words (Draw Steps window) (inl whole) = ap command_said whole.each_word ∙ ap (Draw Steps) (whole_is_said words window (codes "steps") whole)
 said_of words (Draw Steps window) (inr part) = ap command_said part.each_word ∙ ap (Draw Steps) (window_is_said part.from part.to window part.is_window (codes "steps"))
-said_of words Chrome spoken = ap command_said spoken
+said_of words (Chrome start) (inl alone) = ap command_said alone.each_word ∙ ap Chrome (sym alone.from_zero)
+said_of words (Chrome start) (inr given) = ap command_said given.each_word ∙ ap Chrome given.is_number.0.1
 said_of words Lost spoken = ap command_said spoken
 said_of words (Make sizes) spoken = ap command_said spoken.each_word ∙ ap Make (sizes_are_said spoken.number spoken.processors spoken.tasks spoken.events sizes spoken.sized (codes "make"))
 said_of words (Large sizes) spoken = ap command_said spoken.each_word ∙ ap Large (sizes_are_said spoken.number spoken.processors spoken.tasks spoken.events sizes spoken.sized (codes "large"))
@@ -168,7 +173,8 @@ command_within words (Watch observers) spoken = (spoken.is_number.1, spoken.is_n
 command_within words Import spoken = tt
 command_within words ImportJobs spoken = tt
 command_within words (Draw axis window) spoken = tt
-command_within words Chrome spoken = tt
+command_within words (Chrome start) (inl alone) = let zero = alone.from_zero in omega arith
+command_within words (Chrome start) (inr given) = given.is_number.2
 command_within words Lost spoken = tt
 command_within words (Make sizes) spoken = sized_within _ words sizes spoken
 command_within words (Large sizes) spoken = sized_within _ words sizes spoken
@@ -195,31 +201,37 @@ unsized_words words first number processors tasks events five none Import spoken
 unsized_words words first number processors tasks events five none ImportJobs spoken = let same = sym five ∙ spoken in cc
 unsized_words words first number processors tasks events five none (Draw axis window) (inl whole) = let same = sym five ∙ whole.each_word in cc
 unsized_words words first number processors tasks events five none (Draw axis window) (inr part) = let same = sym five ∙ part.each_word in cc
-unsized_words words first number processors tasks events five none Chrome spoken = let same = sym five ∙ spoken in cc
+unsized_words words first number processors tasks events five none (Chrome start) (inl alone) = let same = sym five ∙ alone.each_word in cc
+unsized_words words first number processors tasks events five none (Chrome start) (inr given) = let same = sym five ∙ given.each_word in cc
 unsized_words words first number processors tasks events five none Lost spoken = let same = sym five ∙ spoken in cc
 unsized_words words first number processors tasks events five none (Make sizes) spoken = no_sizes _ words number processors tasks events first five none sizes spoken
 unsized_words words first number processors tasks events five none (Large sizes) spoken = no_sizes _ words number processors tasks events first five none sizes spoken
 
--- two words of which the second says no number of observers mean no command
-pub unwatched_words : (words : List (List ℕ)) (first number : List ℕ) → words ≡ first ∷ number ∷ [] → ((observers : ℕ) → IsNumberWithin 1 8 number observers → ⊥) → (command : Command) → IsCommand words command → ⊥
-unwatched_words words first number two none Run spoken = let same = sym two ∙ spoken in cc
-unwatched_words words first number two none Check spoken = let same = sym two ∙ spoken in cc
-unwatched_words words first number two none Weak spoken = let same = sym two ∙ spoken in cc
-unwatched_words words first number two none Nested spoken = let same = sym two ∙ spoken in cc
-unwatched_words words first number two none Jobs spoken = let same = sym two ∙ spoken in cc
-unwatched_words words first number two none WeakJobs spoken = let same = sym two ∙ spoken in cc
-unwatched_words words first number two none (Watch observers) spoken =
-    let same = sym spoken.each_word ∙ two in
-    let numbers : spoken.number ≡ number = cc in
-    none observers (rw numbers at spoken.is_number)
-unwatched_words words first number two none Import spoken = let same = sym two ∙ spoken in cc
-unwatched_words words first number two none ImportJobs spoken = let same = sym two ∙ spoken in cc
-unwatched_words words first number two none (Draw axis window) (inl whole) = let same = sym two ∙ whole.each_word in cc
-unwatched_words words first number two none (Draw axis window) (inr part) = let same = sym two ∙ part.each_word in cc
-unwatched_words words first number two none Chrome spoken = let same = sym two ∙ spoken in cc
-unwatched_words words first number two none Lost spoken = let same = sym two ∙ spoken in cc
-unwatched_words words first number two none (Make sizes) spoken = let same = sym two ∙ spoken.each_word in cc
-unwatched_words words first number two none (Large sizes) spoken = let same = sym two ∙ spoken.each_word in cc
+-- the number of another word than these two, or a number that is none of its word, means no command
+pub unnumbered_words : (first number : List ℕ) → (first ≡ codes "watch" → (observers : ℕ) → IsNumberWithin 1 8 number observers → ⊥)
+    → (first ≡ codes "chrome" → (start : ℕ) → IsNumberWithin 0 9007199254740991 number start → ⊥) → (command : Command) → IsCommand (first ∷ number ∷ []) command → ⊥
+unnumbered_words first number none late Run spoken = cc
+unnumbered_words first number none late Check spoken = cc
+unnumbered_words first number none late Weak spoken = cc
+unnumbered_words first number none late Nested spoken = cc
+unnumbered_words first number none late Jobs spoken = cc
+unnumbered_words first number none late WeakJobs spoken = cc
+unnumbered_words first number none late (Watch observers) spoken =
+    let same = spoken.each_word in
+    let numbers : number ≡ spoken.number = cc in
+    none cc observers (rw (← numbers) at spoken.is_number)
+unnumbered_words first number none late Import spoken = cc
+unnumbered_words first number none late ImportJobs spoken = cc
+unnumbered_words first number none late (Draw axis window) (inl whole) = let same = whole.each_word in cc
+unnumbered_words first number none late (Draw axis window) (inr part) = let same = part.each_word in cc
+unnumbered_words first number none late (Chrome start) (inl alone) = let same = alone.each_word in cc
+unnumbered_words first number none late (Chrome start) (inr given) =
+    let same = given.each_word in
+    let numbers : number ≡ given.number = cc in
+    late cc start (rw (← numbers) at given.is_number)
+unnumbered_words first number none late Lost spoken = cc
+unnumbered_words first number none late (Make sizes) spoken = let same = spoken.each_word in cc
+unnumbered_words first number none late (Large sizes) spoken = let same = spoken.each_word in cc
 
 -- three words of which the last two say no window mean no command
 no_window : (words : List (List ℕ)) (axis : Axis) (first from to : List ℕ) → words ≡ first ∷ from ∷ to ∷ [] → ((window : Window) → IsWindow from to window → ⊥) → (window : Window) → IsOfPart (word_of axis) words window → ⊥
@@ -241,7 +253,8 @@ unwindowed_words words first from to three none Import spoken = let same = sym t
 unwindowed_words words first from to three none ImportJobs spoken = let same = sym three ∙ spoken in cc
 unwindowed_words words first from to three none (Draw axis window) (inl whole) = let same = sym three ∙ whole.each_word in cc
 unwindowed_words words first from to three none (Draw axis window) (inr part) = no_window words axis first from to three none window part
-unwindowed_words words first from to three none Chrome spoken = let same = sym three ∙ spoken in cc
+unwindowed_words words first from to three none (Chrome start) (inl alone) = let same = sym three ∙ alone.each_word in cc
+unwindowed_words words first from to three none (Chrome start) (inr given) = let same = sym three ∙ given.each_word in cc
 unwindowed_words words first from to three none Lost spoken = let same = sym three ∙ spoken in cc
 unwindowed_words words first from to three none (Make sizes) spoken = let same = sym three ∙ spoken.each_word in cc
 unwindowed_words words first from to three none (Large sizes) spoken = let same = sym three ∙ spoken.each_word in cc

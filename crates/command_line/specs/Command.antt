@@ -50,6 +50,17 @@ pub record IsWatch (words : List (List ℕ)) (observers : ℕ) : Type 0 where
   pub each_word : words ≡ codes "watch" ∷ number ∷ []
   pub is_number : IsNumberWithin 1 8 number observers
 
+-- the word `chrome` alone, for a trace that begins at 0
+pub record IsChromeAlone (words : List (List ℕ)) (start : ℕ) : Type 0 where
+  pub each_word : words ≡ codes "chrome" ∷ []
+  pub from_zero : start ≡ 0
+
+-- the word `chrome`, and the moment at which the trace begins, a number below 2^53; leading zeros are no fault
+pub record IsChromeAt (words : List (List ℕ)) (start : ℕ) : Type 0 where
+  pub number : List ℕ
+  pub each_word : words ≡ codes "chrome" ∷ number ∷ []
+  pub is_number : IsNumberWithin 0 9007199254740991 number start
+
 -- two numbers, of which the second is no less; leading zeros are no fault
 pub record IsWindow (from to : List ℕ) (window : Window) : Type 0 where
   pub is_from : IsNumberWithin 0 18446744073709551615 from window.from
@@ -85,7 +96,7 @@ IsCommand words (Watch observers) = IsWatch words observers
 IsCommand words Import = words ≡ codes "import" ∷ []
 IsCommand words ImportJobs = words ≡ codes "importjobs" ∷ []
 IsCommand words (Draw axis window) = IsOfWhole (word_of axis) words window ⊎ IsOfPart (word_of axis) words window
-IsCommand words Chrome = words ≡ codes "chrome" ∷ []
+IsCommand words (Chrome start) = IsChromeAlone words start ⊎ IsChromeAt words start
 IsCommand words Lost = words ≡ codes "lost" ∷ []
 IsCommand words (Make sizes) = IsSized (codes "make") words sizes
 IsCommand words (Large sizes) = IsSized (codes "large") words sizes
@@ -102,7 +113,7 @@ IsBounded (Watch observers) = (1 ≤ observers) × (observers ≤ 8)
 IsBounded Import = Unit {0}
 IsBounded ImportJobs = Unit {0}
 IsBounded (Draw axis window) = Unit {0}
-IsBounded Chrome = Unit {0}
+IsBounded (Chrome start) = start ≤ 9007199254740991
 IsBounded Lost = Unit {0}
 IsBounded (Make sizes) = AreWithin sizes
 IsBounded (Large sizes) = AreWithin sizes
@@ -120,7 +131,7 @@ byte_limit (Watch observers) = text_limit
 byte_limit Import = trace_limit
 byte_limit ImportJobs = trace_limit
 byte_limit (Draw axis window) = text_limit
-byte_limit Chrome = text_limit
+byte_limit (Chrome start) = text_limit
 byte_limit Lost = trace_limit
 byte_limit (Make sizes) = text_limit
 byte_limit (Large sizes) = text_limit
@@ -137,7 +148,7 @@ ReadsNothing (Watch observers) = ⊥
 ReadsNothing Import = ⊥
 ReadsNothing ImportJobs = ⊥
 ReadsNothing (Draw axis window) = ⊥
-ReadsNothing Chrome = ⊥
+ReadsNothing (Chrome start) = ⊥
 ReadsNothing Lost = ⊥
 ReadsNothing (Make sizes) = Unit {0}
 ReadsNothing (Large sizes) = Unit {0}
@@ -165,7 +176,7 @@ Makes (Watch observers) read put = IsWatchOf observers read put
 Makes Import read put = IsImportOf read put
 Makes ImportJobs read put = IsImportedJobsOf read put
 Makes (Draw axis window) read put = IsDrawingOf axis window read put
-Makes Chrome read put = IsChromeOf read put
+Makes (Chrome start) read put = IsChromeOf start read put
 Makes Lost read put = IsLossOf read put
 Makes (Make sizes) read put = IsMakeOf sizes put
 Makes (Large sizes) read put = IsLargeOf sizes put
@@ -182,7 +193,7 @@ Accepts (Watch observers) bytes = IsAccepted bytes
 Accepts Import bytes = AcceptsTrace bytes
 Accepts ImportJobs bytes = AcceptsJobTrace bytes
 Accepts (Draw axis window) bytes = IsValidText bytes
-Accepts Chrome bytes = IsValidText bytes
+Accepts (Chrome start) bytes = IsValidText bytes
 Accepts Lost bytes = AcceptsTaskTrace bytes
 Accepts (Make sizes) bytes = bytes ≡ []
 Accepts (Large sizes) bytes = bytes ≡ []
@@ -199,7 +210,7 @@ Refuses (Watch observers) bytes status = IsAnsweredInput (RefusesInput bytes) st
 Refuses Import bytes status = RefusesTrace bytes status
 Refuses ImportJobs bytes status = RefusesJobTrace bytes status
 Refuses (Draw axis window) bytes status = RefusesCheck bytes status
-Refuses Chrome bytes status = RefusesCheck bytes status
+Refuses (Chrome start) bytes status = RefusesCheck bytes status
 Refuses Lost bytes status = RefusesTaskTrace bytes status
 Refuses (Make sizes) bytes status = ⊥
 Refuses (Large sizes) bytes status = ⊥

@@ -168,7 +168,7 @@ fn limit_of(command: Command) -> usize
         | Command::WeakJobs
         | Command::Watch(_)
         | Command::Draw(_, _)
-        | Command::Chrome
+        | Command::Chrome(_)
         | Command::Make(_)
         | Command::Large(_) => MAX_BYTES,
     }
@@ -198,7 +198,7 @@ fn text_made<R: Threads + Wait + Sync, G: Gate + Sync>(
         Command::Import => imported_text(alloc, bytes),
         Command::ImportJobs => imported_jobs_text(alloc, bytes),
         Command::Draw(axis, window) => drawn_text(alloc, bytes, axis, window),
-        Command::Chrome => chrome_trace(alloc, bytes),
+        Command::Chrome(start) => chrome_trace(alloc, bytes, start),
         Command::Lost => lost_text(alloc, bytes),
         Command::Make(sizes) => {
             let text = made_text(alloc, sizes)?;

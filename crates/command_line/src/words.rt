@@ -8,7 +8,7 @@ ghost use Rattle.text_fields.specs.Number.{IsNumberWithin};
 
 use crate::watch::MAX_OBSERVERS;
 use commands::Sizes;
-use schedule_picture::{Axis, Window};
+use schedule_picture::{Axis, LAST_START, Window};
 use task_set::MAX_TASKS;
 use text_fields::limits::{MAX_EVENTS, MAX_PROCESSORS};
 use text_fields::read_number;
@@ -40,8 +40,9 @@ pub enum Command {
     ImportJobs,
     /// The source is a schedule text; it is checked, and a picture of this window of it is written.
     Draw(Axis, Window),
-    /// The source is a schedule text; it is checked, and a trace of it in Chrome's format is written.
-    Chrome,
+    /// The source is a schedule text; it is checked, and a trace of it in Chrome's format that begins at this moment is
+    /// written.
+    Chrome(u64),
     /// The source is a trace of the Linux scheduler, and what each of its tasks lost is written.
     Lost,
     /// The text of the input of these numbers is written. Nothing is read.
@@ -74,19 +75,11 @@ pub fn command_of(words: &[String]) -> Option<Command>
             "importjobs" => Some(Command::ImportJobs),
             "draw" => Some(Command::Draw(Axis::Time, WHOLE)),
             "steps" => Some(Command::Draw(Axis::Steps, WHOLE)),
-            "chrome" => Some(Command::Chrome),
+            "chrome" => Some(Command::Chrome(0)),
             "lost" => Some(Command::Lost),
             _ => None,
         },
-        [word, number] => {
-            let Some(observers) = observers_of(number) else {
-                return None;
-            };
-            match word.as_str() {
-                "watch" => Some(Command::Watch(observers)),
-                _ => None,
-            }
-        }
+        [word, number] => numbered(word, number),
         [word, from, to] => {
             let Some(window) = window_of(from, to) else {
                 return None;
@@ -109,6 +102,34 @@ pub fn command_of(words: &[String]) -> Option<Command>
         }
         _ => None,
     }
+}
+
+/// The command that a word and a number mean, if they mean one.
+fn numbered(word: &str, number: &str) -> Option<Command>
+    ensures { MatchOption result
+        ((command : Command) → IsCommand (word.now ∷ number.now ∷ []) command → ⊥)
+        (IsCommand (word.now ∷ number.now ∷ [])) }
+{
+    match word {
+        "watch" => {
+            let observers = observers_of(number)?;
+            Some(Command::Watch(observers))
+        }
+        "chrome" => {
+            let start = start_of(number)?;
+            Some(Command::Chrome(start))
+        }
+        _ => None,
+    }
+}
+
+/// The moment at which a trace begins that this word is, if it is a number within its bounds.
+fn start_of(number: &str) -> Option<u64>
+    ensures { MatchOption result
+        ((start : ℕ) → IsNumberWithin 0 9007199254740991 number.now start → ⊥)
+        (IsNumberWithin 0 9007199254740991 number.now) }
+{
+    read_number(number.as_bytes(), 0, LAST_START)
 }
 
 /// The number of observers that this word is, if it is a number within its bounds.

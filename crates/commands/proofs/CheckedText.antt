@@ -132,11 +132,11 @@ module _ (bytes : List ℕ) (schedule : ScheduleData) (ok : IsSchedule schedule)
       → Answers (IsDrawingOf axis window bytes) (IsValidText bytes) (RefusesCheck bytes) result
   answers_drawn axis window result = answers_judged (IsPicture axis schedule.set schedule.entries window) (IsDrawingOf axis window bytes) result (is_drawing_of axis window)
 
-  is_chrome_of : (put : List ℕ) → IsValid schedule → IsChrome schedule.set schedule.entries put → IsChromeOf bytes put
-  is_chrome_of put valid chrome = record { schedule = schedule; is_text = record { is_schedule = ok; text = text }; valid = valid; chrome = chrome }
+  is_chrome_of : (start : ℕ) (put : List ℕ) → IsValid schedule → IsChrome start schedule.set schedule.entries put → IsChromeOf start bytes put
+  is_chrome_of start put valid chrome = record { schedule = schedule; is_text = record { is_schedule = ok; text = text }; valid = valid; chrome = chrome }
 
   -- the answer of a trace
-  pub answers_traced : (result : Result (Vec ℕ Global) Status) → ((line : ℕ) (kind : TextKind) → IsScheduleRefused bytes line kind → ⊥)
-      → IfOk result (λ (made : Vec ℕ Global). IsValid schedule × IsChrome schedule.set schedule.entries made.items) → IfErr result (λ (status : Status). IsInvalidStatus schedule status ⊎ (status ≡ OutOfMemory))
-      → Answers (IsChromeOf bytes) (IsValidText bytes) (RefusesCheck bytes) result
-  answers_traced result = answers_judged (IsChrome schedule.set schedule.entries) (IsChromeOf bytes) result is_chrome_of
+  pub answers_traced : (start : ℕ) (result : Result (Vec ℕ Global) Status) → ((line : ℕ) (kind : TextKind) → IsScheduleRefused bytes line kind → ⊥)
+      → IfOk result (λ (made : Vec ℕ Global). IsValid schedule × IsChrome start schedule.set schedule.entries made.items) → IfErr result (λ (status : Status). IsInvalidStatus schedule status ⊎ (status ≡ OutOfMemory))
+      → Answers (IsChromeOf start bytes) (IsValidText bytes) (RefusesCheck bytes) result
+  answers_traced start result = answers_judged (IsChrome start schedule.set schedule.entries) (IsChromeOf start bytes) result (is_chrome_of start)

@@ -19,15 +19,17 @@ units_few (Offline p) has = omega arith
 units_few (Online p) has = omega arith
 
 -- one more moment
-pub moments_more : (entries : List Entry) (n now : ℕ) (places next : List ℕ) → now ≡ moment entries n → places ≡ map (moment entries) (range_with_len 0 n) → next ≡ places ++ now ∷ [] → next ≡ map (moment entries) (range_with_len 0 (n + 1))
-moments_more entries n now places next is before after =
-    after ∙ ap (λ (ps : List ℕ). ps ++ now ∷ []) before ∙ ap (λ (m : ℕ). map (moment entries) (range_with_len 0 n) ++ m ∷ []) is
-    ∙ sym (map-range_with_len_more (moment entries) 0 n n (omega arith))
+pub moments_more : (start : ℕ) (entries : List Entry) (n now : ℕ) (places next : List ℕ) → now ≡ start + moment entries n → places ≡ map (λ n. start + moment entries n) (range_with_len 0 n) → next ≡ places ++ now ∷ []
+    → next ≡ map (λ n. start + moment entries n) (range_with_len 0 (n + 1))
+moments_more start entries n now places next is before after =
+    after ∙ ap (λ (ps : List ℕ). ps ++ now ∷ []) before ∙ ap (λ (m : ℕ). map (λ n. start + moment entries n) (range_with_len 0 n) ++ m ∷ []) is
+    ∙ sym (map-range_with_len_more (λ n. start + moment entries n) 0 n n (omega arith))
 
-pub moment_more : (entries : List Entry) (n now : ℕ) (entry : Entry) → n < length entries → entry ≡ get_or entries n entry → now ≡ moment entries n → now + units_of entry.event ≡ moment entries (n + 1)
-moment_more entries n now entry lt read is =
-    ap (λ (m : ℕ). m + units_of entry.event) is ∙ ap (λ (e : Entry). moment entries n + units_of e.event) read
-    ∙ sym (sum_by_more (λ (e : Entry). units_of e.event) entries n entry lt)
+pub moment_more : (start : ℕ) (entries : List Entry) (n now : ℕ) (entry : Entry) → n < length entries → entry ≡ get_or entries n entry → now ≡ start + moment entries n → now + units_of entry.event ≡ start + moment entries (n + 1)
+moment_more start entries n now entry lt read is =
+    let more : moment entries (n + 1) ≡ moment entries n + units_of entry.event =
+    sum_by_more (λ (e : Entry). units_of e.event) entries n entry lt ∙ ap (λ (e : Entry). moment entries n + units_of e.event) (sym read) in
+    omega arith
 
 -- after the last entry no time passes
 pub moment_end : (entries : List Entry) (n : ℕ) → length entries ≤ n → moment entries n ≡ moment entries (n + 1)

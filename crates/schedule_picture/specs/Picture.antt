@@ -37,6 +37,10 @@ columns_of count = map (λ n. n - 1) (range_with_len 0 (count + 2))
 abbrev pub moments_of : List Entry → List ℕ
 moments_of entries = map (moment entries) (range_with_len 0 (length entries + 2))
 
+-- the same moments by a clock that is at `start` when the history begins
+abbrev pub clock_of : ℕ → List Entry → List ℕ
+clock_of start entries = map (λ n. start + moment entries n) (range_with_len 0 (length entries + 2))
+
 abbrev pub places_of : Axis → List Entry → List ℕ
 places_of Time entries = moments_of entries
 places_of Steps entries = columns_of (length entries)

@@ -1,7 +1,7 @@
 //! The axis of a picture: the place of the state after each number of entries.
 ghost use Rattle.std.specs.Prelude.{◌≡◌, ◌≤◌, All, length, IfOk};
 ghost use Rattle.task_set.specs.Event.{HasUnits};
-ghost use Rattle.schedule_picture.specs.Picture.{units_of, places_of, columns_of};
+ghost use Rattle.schedule_picture.specs.Picture.{units_of, places_of, clock_of, columns_of};
 
 use affinity_mask::OutOfMemory;
 use schedule_text::Schedule;
@@ -39,7 +39,7 @@ pub(crate) fn places_of(
 {
     let entries = schedule.entries();
     match axis {
-        Axis::Time => moments(alloc, entries),
+        Axis::Time => moments(alloc, entries, 0),
         Axis::Steps => columns(alloc, entries.len()),
     }
 }
@@ -53,14 +53,15 @@ pub(crate) fn units_in(entries: &[Entry]) -> u64 {
     units
 }
 
-/// The units of time before each entry, and after the last one, twice.
-fn moments(alloc: Global, entries: &[Entry]) -> Result<Vec<u64>, OutOfMemory>
+/// The moment before each entry, and after the last one, twice, by a clock that is at `start` before the first one.
+pub(crate) fn moments(alloc: Global, entries: &[Entry], start: u64) -> Result<Vec<u64>, OutOfMemory>
     requires few { length entries.now ≤ 20000 }
     requires units { All (λ entry. HasUnits entry.event) entries.now }
-    ensures { IfOk result (λ places. places.items ≡ places_of Axis.Time entries.now) }
+    requires early { start ≤ 9007199254740991 }
+    ensures { IfOk result (λ places. places.items ≡ clock_of start entries.now) }
 {
     let mut places = Vec::new(alloc);
-    let mut moment = 0u64;
+    let mut moment = start;
     for entry in entries {
         places.push(moment)?;
         moment += u64::from(units_of(entry.event));

@@ -1,13 +1,12 @@
-//! A schedule as a trace in Chrome's format, which Perfetto and chrome://tracing open.
-ghost use Rattle.std.specs.Prelude.{◌≡◌, ◌++◌, ◌<◌, OnOk, IfOk};
+//! A schedule as a trace in Chrome's format, which Perfetto opens.
+ghost use Rattle.std.specs.Prelude.{◌≡◌, ◌≤◌, ◌++◌, ◌<◌, OnOk, IfOk};
 ghost use Rattle.std.specs.List.{flat_map, range_with_len};
 ghost use Rattle.strong_apa.specs.Passing.{IsPassing};
 ghost use Rattle.text_fields.specs.EventText.{name_of};
-ghost use Rattle.schedule_picture.specs.Chrome.{IsChrome, chrome_of, event_of_span, event_text, lane_events};
-ghost use Rattle.schedule_picture.specs.History.{HaveSpans};
-ghost use Rattle.schedule_picture.specs.Picture.{moments_of, spans_in};
+ghost use Rattle.schedule_picture.specs.Chrome.{IsChrome, chrome_of, thread_of, event_of_span, event_text, lane_events, thread_text};
+ghost use Rattle.schedule_picture.specs.Picture.{spans_in};
 
-use crate::axis::{Axis, places_of};
+use crate::axis::moments;
 use crate::follow::tracks_of;
 use crate::groups::{write_field, write_word};
 use crate::sheet::{Sheet, spans_at};
@@ -19,27 +18,31 @@ use affinity_mask::OutOfMemory;
 use schedule_text::Schedule;
 use std::alloc::Global;
 
+/// The last moment of a clock at which a trace may begin: in JSON numbers up to it are exact.
+pub const LAST_START: u64 = 9_007_199_254_740_991;
+
 /// The stays of a schedule whose replies pass as a trace in Chrome's format: a JSON array of events, of which the process
-/// stands for the schedule, and a thread for each processor. A unit of time is a microsecond there. Refused only where memory
-/// runs out.
-pub fn chrome_text(alloc: Global, schedule: &Schedule) -> Result<Vec<u8>, OutOfMemory>
-    requires { IsPassing schedule.now.set schedule.now.entries }
-    ensures { IfOk result (λ text. IsChrome schedule.now.set schedule.now.entries text.items) }
+/// stands for the schedule, and a thread for each processor. A unit of time is a microsecond there, and the schedule begins at
+/// the moment `start`. Refused only where memory runs out.
+pub fn chrome_text(alloc: Global, schedule: &Schedule, start: u64) -> Result<Vec<u8>, OutOfMemory>
+    requires passing { IsPassing schedule.now.set schedule.now.entries }
+    requires early { start ≤ 9007199254740991 }
+    ensures { IfOk result (λ text. IsChrome start schedule.now.set schedule.now.entries text.items) }
 {
     let tracks = tracks_of(alloc, schedule)?;
-    let moments = places_of(alloc, Axis::Time, schedule)?;
-    trace_of(&tracks, &moments, schedule)
+    let moments = moments(alloc, schedule.entries(), start)?;
+    let text = trace_of(&tracks, &moments, schedule)?;
+    Ok(text)
 }
 
-/// The same, with the spans and the moments.
+/// The text of these spans, by these moments.
 fn trace_of(
     tracks: &Tracks,
     moments: &Vec<u64>,
     schedule: &Schedule,
 ) -> Result<Vec<u8>, OutOfMemory>
-    requires spans { HaveSpans schedule.now.set schedule.now.entries tracks.now }
-    requires moments { moments.now.items ≡ moments_of schedule.now.entries }
-    ensures { IfOk result (λ text. IsChrome schedule.now.set schedule.now.entries text.items) }
+    ensures { IfOk result (λ text.
+        text.items ≡ chrome_of moments.now.items schedule.now.set (spans_in tracks.now.lanes.items)) }
 {
     let alloc = *moments.allocator();
     let all = moments.as_slice();
@@ -61,11 +64,45 @@ fn events_text(sheet: &Sheet, lanes: &[Track]) -> Result<Vec<u8>, OutOfMemory>
     let mut text = Vec::new(sheet.alloc);
     write_word(
         &mut text,
-        b"[\n{\"name\":\"process_name\",\"ph\":\"M\",\"pid\":0,\"args\":{\"name\":\"processors\"}}",
+        b"[\n{\"name\":\"process_name\",\"ph\":\"M\",\"pid\":1,\"args\":{\"name\":\"processors\"}}",
     )?;
-    write_processors(&mut text, sheet, lanes, sheet.set.processors())?;
+    let processors = sheet.set.processors();
+    write_threads(&mut text, processors)?;
+    write_processors(&mut text, sheet, lanes, processors)?;
     write_word(&mut text, b"\n]\n")?;
     Ok(text)
+}
+
+/// Appends the names of the threads of so many processors.
+fn write_threads(text: &mut Vec<u8>, count: u8) -> Result<(), OutOfMemory>
+    ensures { OnOk result (text.new.items ≡ text.old.items
+        ++ flat_map thread_text (range_with_len 0 count)) }
+{
+    for p in 0..count {
+        write_thread(text, p)?;
+    }
+    Ok(())
+}
+
+/// Appends the name of the thread of a processor.
+fn write_thread(text: &mut Vec<u8>, p: u8) -> Result<(), OutOfMemory>
+    ensures { OnOk result (text.new.items ≡ text.old.items ++ thread_text p) }
+{
+    write_field(
+        text,
+        b",\n{\"name\":\"thread_name\",\"ph\":\"M\",\"pid\":1,\"tid\":",
+        thread_of(p),
+    )?;
+    write_field(text, b",\"args\":{\"name\":\"cpu ", p as u64)?;
+    write_word(text, b"\"}}")?;
+    Ok(())
+}
+
+/// The number of the thread of a processor.
+fn thread_of(p: u8) -> u64
+    ensures { result ≡ thread_of p }
+{
+    p as u64 + 1
 }
 
 /// Appends the events of so many processors.
@@ -124,7 +161,7 @@ fn write_stay_event(
 {
     write_word(text, b",\n{\"name\":\"")?;
     write_word(text, sheet.name(t).as_bytes())?;
-    write_field(text, b"\",\"ph\":\"X\",\"pid\":0,\"tid\":", p as u64)?;
+    write_field(text, b"\",\"ph\":\"X\",\"pid\":1,\"tid\":", thread_of(p))?;
     write_field(text, b",\"ts\":", extent.0)?;
     write_field(text, b",\"dur\":", extent.1 - extent.0)?;
     write_word(text, b"}")?;

@@ -23,7 +23,7 @@ pub mod tracks;
 pub mod window;
 
 pub use axis::Axis;
-pub use chrome::chrome_text;
+pub use chrome::{LAST_START, chrome_text};
 pub use follow::tracks_of;
 pub use picture::picture_text;
 pub use span::{Seen, Span};

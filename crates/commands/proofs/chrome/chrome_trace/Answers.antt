@@ -12,5 +12,5 @@ returns-in_err-schedule c =
 pub returns : goal.returns
 returns c =
     let ok = subst IsSchedule c.schedule.view_is c.schedule.invariant in
-    answers_traced c.args.bytes.now c.in_ok-schedule.schedule ok c.in_ok-schedule.ensures.schedule c.in_ok-schedule.ensures.accepts c.judged_trace.result
+    answers_traced c.args.bytes.now c.in_ok-schedule.schedule ok c.in_ok-schedule.ensures.schedule c.in_ok-schedule.ensures.accepts c.args.start c.judged_trace.result
     c.in_ok-schedule.ensures.refuses c.judged_trace.ensures.traced c.judged_trace.ensures.refused
