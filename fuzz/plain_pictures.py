@@ -16,6 +16,8 @@ from texts import canonical_list
 WAITS, OFF_LINE = 'waits', 'off line'
 MOST_ROWS = 64
 MARKED_ENTRIES = 400
+LABELLED_COLUMNS = 60
+LEAST_LINED = 4
 SVG = '{http://www.w3.org/2000/svg}'
 
 
@@ -66,7 +68,7 @@ class Sheet:
 
     def __init__(self, spans, axis, window):
         whole = spans.whole(axis)
-        self.spans, self.places = spans, spans.places[axis]
+        self.spans, self.axis, self.places = spans, axis, spans.places[axis]
         self.first, self.last = (min(end, whole) for end in window or (0, whole))
         self.rows = self.listed()
 
@@ -120,6 +122,22 @@ class Sheet:
         places = self.places
         shown = [n for n in range(1, self.spans.end) if places[n] <= self.last and self.first <= places[n + 1]]
         return len(shown) <= MARKED_ENTRIES
+
+    def lines(self, wide):
+        """How many stays begin with a line on a page whose lanes are so wide."""
+        stays = [span for spans in self.spans.lanes.values() for span in spans if self.touches(span)]
+        return sum(self.is_marked() or self.width(span, wide) >= LEAST_LINED for span in stays)
+
+    def width(self, span, wide):
+        """How wide the part of a span is on a page whose lanes are so wide."""
+        begin, end = (min((place - self.first) * wide // max(1, self.last - self.first), wide) for place in self.part(span) or (0, 0))
+        return end - begin if self.part(span) else 0
+
+    def labels(self):
+        """The numbers of the entries whose columns have a label."""
+        columns = max(1, self.last - self.first)
+        step = 1 if columns <= LABELLED_COLUMNS else 1 + (columns - 1) // 30
+        return [str(n) for n in range(1, self.spans.end) if self.first <= n - 1 < self.last and n % step == 0]
 
     def moves(self):
         """The titles of the arrows."""
@@ -213,15 +231,26 @@ def fault_around(sheet, root, listed):
         return f'the rows {named}, and {wanted} are wanted'
     paths = [path for path in root.findall(SVG + 'path')]
     marks = sum(path.get('d').endswith(' v18') for path in paths)
-    stays = sum(sheet.touches(span) for spans in sheet.spans.lanes.values() for span in spans)
+    stays = sheet.lines(int(root.find(SVG + 'svg').get('width')))
     if marks != stays:
         return f'{marks} stays begin with a line, and {stays} are wanted'
+    if sheet.axis == 'steps' and labels_of(root) != sheet.labels():
+        return f'the labels {labels_of(root)}, and {sheet.labels()} are wanted'
     arrows = [path.find(SVG + 'title').text for path in paths if path.get('class') == 'move']
     turns = tuple(sum(path.get('d').endswith(mark) for path in paths) for mark in (' l-3,5 h6 z', ' l-3,-5 h6 z'))
     is_marked = sheet.is_marked()
+    if is_marked != any(text.text == 'moves' and text.get('fill') for text in root.findall(SVG + 'text')):
+        return 'the legend has signs of what is not drawn, or has none'
     if sorted(arrows) != (sorted(sheet.moves()) if is_marked else []) or turns != (sheet.turns() if is_marked else (0, 0)):
         return f'the arrows {arrows} and {turns} triangles; {sheet.moves()} and {sheet.turns()} are wanted'
     return fault_of_places(root)
+
+
+def labels_of(root):
+    """The numbers below the columns, beside the name of the axis."""
+    texts = root.findall(SVG + 'text')
+    below = next(text.get('y') for text in texts if text.get('x') == '8' and text.text == 'entry')
+    return [text.text for text in texts if text.get('y') == below and text.get('x') != '8']
 
 
 def fault_of_places(root):

@@ -3,6 +3,7 @@ pub mod Colours
 pub mod Elements
 pub mod Group
 pub mod History
+pub mod Labels
 pub mod Listing
 pub mod Picture
 pub mod Spans

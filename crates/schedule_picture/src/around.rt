@@ -3,6 +3,7 @@
 ghost use Rattle.std.specs.Prelude.{◌≡◌, ◌++◌, ◌<◌, ◌≤◌, true, All, length, IfOk, OnOk};
 ghost use Rattle.schedule_text.specs.ScheduleText.{IsEntryOf};
 ghost use Rattle.text_fields.specs.EventText.{IsAboutSet};
+ghost use Rattle.schedule_picture.specs.Labels.{label_step};
 ghost use Rattle.schedule_picture.specs.Elements.{Begins, Ends, GoesOn, Keeps, are_plain, opens_picture};
 
 use crate::axis::{Axis, Facts};
@@ -20,6 +21,15 @@ use text_fields::write_event_text;
 
 /// How wide a letter of a name is.
 const LETTER: u32 = 7;
+
+/// How many columns have a label each. Of more at most half as many have one.
+const LABELLED_COLUMNS: u64 = 60;
+
+/// How wide a stay is at least that begins with a line where a window has many entries.
+const LEAST_LINED: u32 = 4;
+
+/// How far an arrow bends at most.
+const LONGEST_BEND: u32 = 16;
 
 /// Appends some text.
 fn put(text: &mut Vec<u8>, line: &str) -> Result<(), OutOfMemory>
@@ -190,7 +200,19 @@ fn write_time(text: &mut Vec<u8>, sheet: &Sheet, page: Page, place: u64) -> Resu
     put(text, &line)
 }
 
-/// Appends a line and a label at each entry of the window.
+/// Of so many columns each which one has a label.
+fn label_step(columns: u64) -> u64
+    ensures value { result ≡ label_step columns }
+    ensures at_least_one { 1 ≤ result }
+{
+    if columns <= LABELLED_COLUMNS {
+        1
+    } else {
+        (columns - 1) / (LABELLED_COLUMNS / 2) + 1
+    }
+}
+
+/// Appends a line and a label at the entries of the window, or at each n-th where they are many.
 fn write_columns(
     text: &mut Vec<u8>,
     sheet: &Sheet,
@@ -200,13 +222,14 @@ fn write_columns(
     requires { All (IsEntryOf sheet.now.set.now) entries.now }
     ensures { OnOk result (Keeps text.old.items text.new.items) }
 {
+    let step = label_step(sheet.span());
     for i in 0..entries.len() {
-        write_column(text, sheet, page, entries, i)?;
+        write_column(text, sheet, page, entries, i, step)?;
     }
     Ok(())
 }
 
-/// Appends the line and the label of an entry, where the window has it.
+/// Appends the line and the label of an entry, where the window has it and its number is a multiple of the step.
 #[tactic(auto, using(crate::proofs::Elements::keeps_same))]
 fn write_column(
     text: &mut Vec<u8>,
@@ -214,13 +237,15 @@ fn write_column(
     page: Page,
     entries: &[Entry],
     i: usize,
+    step: u64,
 ) -> Result<(), OutOfMemory>
     requires about { All (IsEntryOf sheet.now.set.now) entries.now }
     requires there { i < length entries.now }
+    requires some { 1 ≤ step }
     ensures { OnOk result (Keeps text.old.items text.new.items) }
 {
     let place = i as u64;
-    if place < sheet.window.from || sheet.window.to <= place {
+    if place < sheet.window.from || sheet.window.to <= place || (place + 1) % step != 0 {
         return Ok(());
     }
     write_label(text, sheet, page, place, entries[i].event)?;
@@ -309,12 +334,13 @@ fn write_marks(
     text: &mut Vec<u8>,
     sheet: &Sheet,
     page: Page,
+    facts: Facts,
     lanes: &[Track],
 ) -> Result<(), OutOfMemory>
     ensures { OnOk result (Keeps text.old.items text.new.items) }
 {
     for p in 0..page.lanes {
-        write_lane_marks(text, sheet, page, p, spans_at(lanes, p as usize))?;
+        write_lane_marks(text, sheet, page, facts, p, spans_at(lanes, p as usize))?;
     }
     Ok(())
 }
@@ -324,13 +350,14 @@ fn write_lane_marks(
     text: &mut Vec<u8>,
     sheet: &Sheet,
     page: Page,
+    facts: Facts,
     p: u8,
     spans: &[Span],
 ) -> Result<(), OutOfMemory>
     ensures { OnOk result (Keeps text.old.items text.new.items) }
 {
     for span in spans {
-        write_mark(text, sheet, page, p, *span)?;
+        write_mark(text, sheet, page, facts, p, *span)?;
     }
     Ok(())
 }
@@ -341,6 +368,7 @@ fn write_mark(
     text: &mut Vec<u8>,
     sheet: &Sheet,
     page: Page,
+    facts: Facts,
     p: u8,
     span: Span,
 ) -> Result<(), OutOfMemory>
@@ -349,24 +377,39 @@ fn write_mark(
     if !sheet.touches(span) {
         return Ok(());
     }
-    write_begin(text, sheet, page, p, span)?;
+    write_begin(text, sheet, page, facts, p, span)?;
     write_name(text, sheet, page, p, span)
 }
 
-/// Appends the mark of a stay.
+/// Appends the mark of a stay, unless there are many and it is narrow.
+#[tactic(auto, using(crate::proofs::Elements::keeps_same))]
 fn write_begin(
     text: &mut Vec<u8>,
     sheet: &Sheet,
     page: Page,
+    facts: Facts,
     p: u8,
     span: Span,
 ) -> Result<(), OutOfMemory>
     ensures { OnOk result (Keeps text.old.items text.new.items) }
 {
+    if !facts.few && width_of(sheet, page, span) < LEAST_LINED {
+        return Ok(());
+    }
     let begin = page.across(sheet, sheet.place(span.from).max(sheet.window.from));
     let y = page.lane_top(p) + LANE / 8;
     let line = format!(in sheet.alloc; "<path d=\"M{begin},{y} v18\" stroke=\"#333\"/>\n")?;
     put(text, &line)
+}
+
+/// How wide the part of a span within the window is on the page.
+fn width_of(sheet: &Sheet, page: Page, span: Span) -> u32 {
+    match sheet.part(span) {
+        Some(part) => page
+            .across(sheet, part.1)
+            .saturating_sub(page.across(sheet, part.0)),
+        None => 0,
+    }
 }
 
 /// Appends the name of the task of a stay where it fits.
@@ -481,9 +524,22 @@ fn write_arrow(
 {
     let x = page.across(sheet, sheet.place(found.n));
     let z = page.lane_top(found.to) + LANE / 2;
+    let far = beside(x, 6);
+    let near = beside(x, 5);
+    let over = z.saturating_sub(3);
+    let under = z + 3;
     write_curve(text, sheet, page, found)?;
-    let line = format!(in sheet.alloc; "<path d=\"M{x},{z} l-6,-3 l1,6 z\"/>\n")?;
+    let line = format!(in sheet.alloc; "<path d=\"M{x},{z} L{far},{over} L{near},{under} z\"/>\n")?;
     put(text, &line)
+}
+
+/// So far beside a place: to its left, or to its right where the names of the processors stand at its left.
+fn beside(x: u32, far: u32) -> u32 {
+    if x < LEFT + LONGEST_BEND {
+        x.saturating_add(far)
+    } else {
+        x.saturating_sub(far)
+    }
 }
 
 /// Appends the curve of a move, with a title.
@@ -499,7 +555,7 @@ fn write_curve(
     let y = page.lane_top(found.from) + LANE / 2;
     let z = page.lane_top(found.to) + LANE / 2;
     let lanes = found.from.max(found.to) - found.from.min(found.to);
-    let beside = x.saturating_sub((5 + 3 * u32::from(lanes)).min(16));
+    let beside = beside(x, (5 + 3 * u32::from(lanes)).min(LONGEST_BEND));
     let line = format!(in sheet.alloc;
         "<path class=\"move\" d=\"M{x},{y} C{beside},{y} {beside},{z} {x},{z}\" fill=\"none\" stroke=\"#000\"><title>"
     )?;
@@ -517,14 +573,49 @@ fn write_move_title(text: &mut Vec<u8>, sheet: &Sheet, found: Move) -> Result<()
     write_field(text, b" to cpu ", u64::from(found.to))
 }
 
-/// Appends the legend of the rows.
-fn write_legend(text: &mut Vec<u8>, sheet: &Sheet, page: Page) -> Result<(), OutOfMemory>
+/// Appends the legend.
+fn write_legend(
+    text: &mut Vec<u8>,
+    sheet: &Sheet,
+    page: Page,
+    facts: Facts,
+) -> Result<(), OutOfMemory>
+    ensures { OnOk result (Keeps text.old.items text.new.items) }
+{
+    write_legend_of_colours(text, sheet, page)?;
+    write_legend_of_marks(text, sheet, page, facts)
+}
+
+/// Appends what the colours mean: of waits, of three tasks in the place of all, and of absences.
+fn write_legend_of_colours(text: &mut Vec<u8>, sheet: &Sheet, page: Page) -> Result<(), OutOfMemory>
     ensures { OnOk result (Keeps text.old.items text.new.items) }
 {
     let y = page.rows_top().saturating_sub(8);
     let box_top = page.rows_top().saturating_sub(16);
     let line = format!(in sheet.alloc;
-        "<text x=\"8\" y=\"{y}\" fill=\"#666\">task, priority, mask</text><rect x=\"200\" y=\"{box_top}\" width=\"20\" height=\"9\" fill=\"#d9534f\"/><text x=\"226\" y=\"{y}\" fill=\"#666\">ready and waits</text><rect x=\"340\" y=\"{box_top}\" width=\"20\" height=\"9\" fill=\"#bbb\"/><text x=\"366\" y=\"{y}\" fill=\"#666\">linked, with its processor (grey lane: off line)</text>\n"
+        "<text x=\"8\" y=\"{y}\" fill=\"#666\">task, priority, mask</text><rect x=\"200\" y=\"{box_top}\" width=\"14\" height=\"9\" fill=\"#d9534f\"/><text x=\"218\" y=\"{y}\" fill=\"#666\">waits</text><rect x=\"260\" y=\"{box_top}\" width=\"8\" height=\"9\" fill=\"#a6cee3\"/><rect x=\"268\" y=\"{box_top}\" width=\"8\" height=\"9\" fill=\"#fdbf6f\"/><rect x=\"276\" y=\"{box_top}\" width=\"8\" height=\"9\" fill=\"#b2df8a\"/><text x=\"288\" y=\"{y}\" fill=\"#666\">linked to a cpu</text><rect x=\"386\" y=\"{box_top}\" width=\"14\" height=\"9\" fill=\"#ccc\"/><text x=\"404\" y=\"{y}\" fill=\"#666\">off line</text>\n"
+    )?;
+    put(text, &line)
+}
+
+/// Appends what the triangles and the arrows mean, where there are some.
+#[tactic(auto, using(crate::proofs::Elements::keeps_same))]
+fn write_legend_of_marks(
+    text: &mut Vec<u8>,
+    sheet: &Sheet,
+    page: Page,
+    facts: Facts,
+) -> Result<(), OutOfMemory>
+    ensures { OnOk result (Keeps text.old.items text.new.items) }
+{
+    if !facts.few {
+        return Ok(());
+    }
+    let y = page.rows_top().saturating_sub(8);
+    let top = page.rows_top().saturating_sub(14);
+    let middle = page.rows_top().saturating_sub(12);
+    let line = format!(in sheet.alloc;
+        "<path d=\"M464,{top} l3,5 l-6,0 z\"/><text x=\"471\" y=\"{y}\" fill=\"#666\">ready</text><path d=\"M517,{y} l3,-5 l-6,0 z\" fill=\"#777\"/><text x=\"524\" y=\"{y}\" fill=\"#666\">absent</text><path d=\"M574,{middle} h14 m-6,-3 l6,3 l-6,3 z\" stroke=\"#000\"/><text x=\"594\" y=\"{y}\" fill=\"#666\">moves</text>\n"
     )?;
     put(text, &line)
 }
@@ -852,9 +943,9 @@ pub(crate) fn text_between(
     ensures { IfOk result (λ text. GoesOn text.items) }
 {
     let mut text = Vec::new(sheet.alloc);
-    write_marks(&mut text, sheet, page, &tracks.lanes)?;
+    write_marks(&mut text, sheet, page, facts, &tracks.lanes)?;
     write_moves(&mut text, sheet, page, facts, &tracks.rows)?;
-    write_legend(&mut text, sheet, page)?;
+    write_legend(&mut text, sheet, page, facts)?;
     write_names(&mut text, sheet, page, listed)?;
     Ok(text)
 }
