@@ -3,7 +3,6 @@ use Rattle.std.proofs.Common.{◌≡◌, ℕ, ◌+◌, ◌*◌, ◌<◌, ◌≤�
 use Rattle.std.specs.Prelude.{codes, string_bytes}
 use Rattle.std.specs.declared.alloc.Global.{Global}
 use Rattle.affinity_mask.specs.Number.{number_value}
-use Rattle.text_fields.specs.Number.{IsNumberWithin}
 use Rattle.shift_io.specs.Stream.{TakesExactly, TakesAtMost}
 use Rattle.commands.proofs.ReadBytes.{read_is_reported, not_longer}
 use Rattle.commands.specs.Sizes.{AreWithin}
@@ -206,32 +205,6 @@ unsized_words words first number processors tasks events five none (Chrome start
 unsized_words words first number processors tasks events five none Lost spoken = let same = sym five ∙ spoken in cc
 unsized_words words first number processors tasks events five none (Make sizes) spoken = no_sizes _ words number processors tasks events first five none sizes spoken
 unsized_words words first number processors tasks events five none (Large sizes) spoken = no_sizes _ words number processors tasks events first five none sizes spoken
-
--- the number of another word than these two, or a number that is none of its word, means no command
-pub unnumbered_words : (first number : List ℕ) → (first ≡ codes "watch" → (observers : ℕ) → IsNumberWithin 1 8 number observers → ⊥)
-    → (first ≡ codes "chrome" → (start : ℕ) → IsNumberWithin 0 9007199254740991 number start → ⊥) → (command : Command) → IsCommand (first ∷ number ∷ []) command → ⊥
-unnumbered_words first number none late Run spoken = cc
-unnumbered_words first number none late Check spoken = cc
-unnumbered_words first number none late Weak spoken = cc
-unnumbered_words first number none late Nested spoken = cc
-unnumbered_words first number none late Jobs spoken = cc
-unnumbered_words first number none late WeakJobs spoken = cc
-unnumbered_words first number none late (Watch observers) spoken =
-    let same = spoken.each_word in
-    let numbers : number ≡ spoken.number = cc in
-    none cc observers (rw (← numbers) at spoken.is_number)
-unnumbered_words first number none late Import spoken = cc
-unnumbered_words first number none late ImportJobs spoken = cc
-unnumbered_words first number none late (Draw axis window) (inl whole) = let same = whole.each_word in cc
-unnumbered_words first number none late (Draw axis window) (inr part) = let same = part.each_word in cc
-unnumbered_words first number none late (Chrome start) (inl alone) = let same = alone.each_word in cc
-unnumbered_words first number none late (Chrome start) (inr given) =
-    let same = given.each_word in
-    let numbers : number ≡ given.number = cc in
-    late cc start (rw (← numbers) at given.is_number)
-unnumbered_words first number none late Lost spoken = cc
-unnumbered_words first number none late (Make sizes) spoken = let same = spoken.each_word in cc
-unnumbered_words first number none late (Large sizes) spoken = let same = spoken.each_word in cc
 
 -- three words of which the last two say no window mean no command
 no_window : (words : List (List ℕ)) (axis : Axis) (first from to : List ℕ) → words ≡ first ∷ from ∷ to ∷ [] → ((window : Window) → IsWindow from to window → ⊥) → (window : Window) → IsOfPart (word_of axis) words window → ⊥

@@ -1,7 +1,7 @@
 use Rattle.std.proofs.Common.{◌≡◌, ℕ, ◌<◌, ◌≤◌, List, [], ◌∷◌, length, get_or, map, String, inl, refl, sym, ap, ◌∙◌, arith}
 use Rattle.std.specs.Prelude.{string_bytes}
 use Rattle.std.specs.declared.alloc.Global.{Global}
-use Rattle.command_line.proofs.CommandBytes.{unsized_words, unwatched_words, unwindowed_words, two_words, three_words, five_words}
+use Rattle.command_line.proofs.CommandBytes.{unsized_words, unwindowed_words, two_words, three_words, five_words}
 use Rattle.command_line.proofs.words.command_of.Goals as goal
 
 -- one word, by its place
@@ -23,12 +23,6 @@ returns-in_default-sizes_of c =
     let words : map (string_bytes {Z = Global}) c.args.words.now ≡ string_bytes c.word-item-then-words-lt6.result ∷ string_bytes c.number-item-then-words-lt6.result ∷ string_bytes c.processors-item.result ∷ string_bytes c.tasks-item.result ∷ string_bytes c.events-item.result ∷ [] =
     five_words c.args.words.now _ _ _ _ _ c.in-len5.len_at_least c.in-len5.len_below c.word-item-then-words-lt6.is c.number-item-then-words-lt6.is c.processors-item.is c.tasks-item.is c.events-item.is in
     unsized_words _ _ _ _ _ _ words (rw (c.deref-in-len5.ensures, c.deref-in-len5-2.ensures, c.deref-in-len5-3.ensures, c.deref-in-len5-4.ensures) at c.in_default-sizes_of.ensures)
-
-pub returns-in_default-observers_of : goal.returns-in_default-observers_of
-returns-in_default-observers_of c =
-    let words : map (string_bytes {Z = Global}) c.args.words.now ≡ string_bytes c.word-item-then-words-lt3.result ∷ string_bytes c.number-item.result ∷ [] =
-    two_words c.args.words.now _ _ c.in-len2.len_at_least c.in-len2.len_below c.word-item-then-words-lt3.is c.number-item.is in
-    unwatched_words _ _ _ words (rw c.deref.ensures at c.in_default-observers_of.ensures)
 
 pub returns-in_default-window_of : goal.returns-in_default-window_of
 returns-in_default-window_of c =
@@ -61,7 +55,7 @@ pub returns-in-importjobs : goal.returns-in-importjobs
 returns-in-importjobs c = said_alone c.args.words.now _ _ _ c.in-len1.len_at_least c.in-len1.len_below c.word-item.is c.as_str.ensures.value c.in-importjobs.is
 
 pub returns-in-chrome : goal.returns-in-chrome
-returns-in-chrome c = said_alone c.args.words.now _ _ _ c.in-len1.len_at_least c.in-len1.len_below c.word-item.is c.as_str.ensures.value c.in-chrome.is
+returns-in-chrome c = inl (record { each_word = said_alone c.args.words.now _ _ _ c.in-len1.len_at_least c.in-len1.len_below c.word-item.is c.as_str.ensures.value c.in-chrome.is; from_zero = refl })
 
 pub returns-in-lost : goal.returns-in-lost
 returns-in-lost c = said_alone c.args.words.now _ _ _ c.in-len1.len_at_least c.in-len1.len_below c.word-item.is c.as_str.ensures.value c.in-lost.is
@@ -72,15 +66,11 @@ returns-in-draw c = inl (record { each_word = said_alone c.args.words.now _ _ _ 
 pub returns-in-steps : goal.returns-in-steps
 returns-in-steps c = inl (record { each_word = said_alone c.args.words.now _ _ _ c.in-len1.len_at_least c.in-len1.len_below c.word-item.is c.as_str.ensures.value c.in-steps.is; from_start = refl; to_end = refl })
 
-pub returns-in-watch : goal.returns-in-watch
-returns-in-watch c =
+pub returns-in-len2 : goal.returns-in-len2
+returns-in-len2 c =
     let words : map (string_bytes {Z = Global}) c.args.words.now ≡ string_bytes c.word-item-then-words-lt3.result ∷ string_bytes c.number-item.result ∷ [] =
     two_words c.args.words.now _ _ c.in-len2.len_at_least c.in-len2.len_below c.word-item-then-words-lt3.is c.number-item.is in
-    record {
-      number = string_bytes c.number-item.result;
-      each_word = said_first _ _ _ _ _ words c.as_str-in-len2.ensures.value c.in-watch.is;
-      is_number = rw c.deref.ensures at c.in-Some.ensures;
-    }
+    rw words (rw (c.deref-in-len2.ensures, c.deref.ensures) at c.numbered.ensures)
 
 pub returns-in-make : goal.returns-in-make
 returns-in-make c =
