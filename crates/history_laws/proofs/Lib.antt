@@ -4,7 +4,6 @@ pub mod CarriedByTicks
 pub mod CarriedThroughout
 mod Examples
 pub mod HistoryParts
-mod LegalExamples
 pub mod LegalHistories
 pub mod LegalNames
 pub mod OrderCounts
@@ -17,6 +16,5 @@ pub mod StepExists
 pub mod StepHistories
 pub mod StepReach
 pub mod StepSearch
-mod StintsExample
 pub mod StintsOfTask
 pub mod StintsOrdered
