@@ -32,7 +32,7 @@ digit_pos c small ne = omega (arith, digit_is c small)
 -- ---- values of texts of one length
 
 -- what goes on from a lesser number stays lesser
-after_below : (xs ys : List ℕ) (m n : ℕ) → length xs ≡ length ys → AllDigits 10 xs → m < n → digits_value_after 10 m xs < digits_value_after 10 n ys
+pub after_below : (xs ys : List ℕ) (m n : ℕ) → length xs ≡ length ys → AllDigits 10 xs → m < n → digits_value_after 10 m xs < digits_value_after 10 n ys
 after_below [] [] m n e a lt = lt
 after_below [] (y ∷ ys) m n e a lt = absurd (omega (arith, e))
 after_below (x ∷ xs) [] m n e a lt = absurd (omega (arith, e))

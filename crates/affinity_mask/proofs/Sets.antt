@@ -1,6 +1,6 @@
 -- What `has` answers on sets and on the words that stand for them, and that two sets with the same members are equal.
-use Rattle.std.proofs.Common.{◌≡◌, ℕ, Bool, true, false, not, ◌&&◌, ◌||◌, ◌-◌, ◌/◌, ◌^◌, ◌<◌, ◌≤◌, min, max, nat_eq, nat_lt, bit_and, bit_or, IsTrue, refl, sym, ap, ◌+◌, ◌%◌, add-one, ◌∙◌, arith, ⊎_elim, eq-eqb, ne_eqb, w64, eqb-true}
-use Rattle.std.proofs.lemmas.Bool.{cases_eq, cases_lt, true≢false, lt-ltb}
+use Rattle.std.proofs.Common.{◌≡◌, ℕ, Bool, true, false, not, ◌&&◌, ◌||◌, ◌-◌, ◌/◌, ◌^◌, ◌<◌, ◌≤◌, min, max, nat_eq, nat_lt, bit_and, bit_or, IsTrue, refl, sym, ap, ◌+◌, ◌%◌, add-one, ◌∙◌, arith, ⊎_elim, eq-eqb, ne_eqb, w64, eqb-true, ◌⊎◌, inl, inr}
+use Rattle.std.proofs.lemmas.Bool.{cases_eq, cases_lt, true≢false, lt-ltb, or_cases, or_left, or_right}
 use Rattle.std.proofs.Math.Pow.{pow-lt}
 use Rattle.std.proofs.Math.Nat.{div-div-eq-div-mul, pow-succ', mul_comm}
 use Rattle.std.specs.Int.{bit_at}
@@ -86,7 +86,7 @@ has-all_below m q =
     (cases_lt q m)
 
 -- what has the members of X alone: the conjunction with a test that all of them pass
-both_absorbs : (a b : Bool) → (a ≡ true → b ≡ true) → (a && b) ≡ a
+pub both_absorbs : (a b : Bool) → (a ≡ true → b ≡ true) → (a && b) ≡ a
 both_absorbs a b f = grind arith
 
 -- a set of numbers below m loses nothing to the set of all of them
@@ -138,3 +138,17 @@ xor_taken x y p q = grind arith
 pub has-without_member : (X p q : ℕ) → has (without_member X p) q ≡ (has X q && not (nat_eq q p))
 unfolding has without_member
 has-without_member X p q = rw (bit_at_xor X (bit_and X (2 ^ p)) q, bit_at_and X (2 ^ p) q, xor_taken _ _ (bit_at-lt X q) (bit_at-lt (2 ^ p) q), has-pow p q) refl
+
+-- a set and one member more
+module _ (X Y p : ℕ) (added : (q : ℕ) → has Y q ≡ (has X q || nat_eq q p)) where
+  pub added_here : IsTrue (has Y p)
+  added_here = added p ∙ or_right (has X p) (nat_eq p p) (eq-eqb p p refl)
+
+  pub added_keeps : (q : ℕ) → IsTrue (has X q) → IsTrue (has Y q)
+  added_keeps q h = added q ∙ or_left (has X q) (nat_eq q p) h
+
+  pub added_cases : (q : ℕ) → IsTrue (has Y q) → IsTrue (has X q) ⊎ (q ≡ p)
+  added_cases q h = elim (or_cases (has X q) (nat_eq q p) (sym (added q) ∙ h)) [
+    | inl before ↦ inl before
+    | inr here ↦ inr (eqb-true q p here)
+  ]

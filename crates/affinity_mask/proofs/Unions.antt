@@ -1,7 +1,7 @@
 -- Unions of items, by a test and by `Any`.
 use Rattle.std.proofs.Common.{◌≡◌, ℕ, zero, suc, ◌^◌, ◌≤◌, Bool, true, false, ◌&&◌, ◌||◌, nat_eq, nat_lt, List, [], ◌∷◌, ◌++◌, All, Any, IsTrue, ◌↔◌, refl, sym, ◌∙◌, ap, ap₂, arith, ⊎_elim, ne_eqb, bit_or}
 use Rattle.std.specs.List.{list_any}
-use Rattle.std.proofs.lemmas.Bool.{cases_Bool, cases_eq, leb-true, le-leb}
+use Rattle.std.proofs.lemmas.Bool.{cases_Bool, cases_eq, leb-true, le-leb, and_parts}
 use Rattle.std.proofs.lemmas.List.Elements.{All-head, All-tail}
 use Rattle.std.proofs.lemmas.List.Folds.{list_any-append, Any-from_list_any, list_any-from_Any}
 use Rattle.std.proofs.Math.Bool.{or-false, and-false}
@@ -10,17 +10,11 @@ use Rattle.affinity_mask.specs.ListText.{Item, IsWellFormed}
 use Rattle.affinity_mask.specs.ListSteps.{item_covers}
 use Rattle.affinity_mask.proofs.Sets.{has-or, has-pow, has-zero, same_set}
 
-and_left : (a b : Bool) → (a && b) ≡ true → a ≡ true
-and_left a b e = grind arith
-
-and_right : (a b : Bool) → (a && b) ≡ true → b ≡ true
-and_right a b e = grind arith
-
 -- one of the items has p, by the test and by the fact
 pub Any-from_covers : (p : ℕ) (items : List Item) → list_any (item_covers p) items ≡ true → Any (λ (item : Item). (item.low ≤ p) × (p ≤ item.high)) items
 Any-from_covers p items e =
     let found : Any (λ (item : Item). item_covers p item ≡ true) items = Any-from_list_any (item_covers p) items e in
-    (found.0, found.1, found.2, found.3, (leb-true _ _ (and_left _ _ found.4), leb-true _ _ (and_right _ _ found.4)))
+    (found.0, found.1, found.2, found.3, (let parts = and_parts _ _ found.4 in (leb-true _ _ parts.0, leb-true _ _ parts.1)))
 
 pub covers_from_Any : (p : ℕ) (items : List Item) → Any (λ (item : Item). (item.low ≤ p) × (p ≤ item.high)) items → list_any (item_covers p) items ≡ true
 covers_from_Any p items any =
@@ -33,14 +27,14 @@ union-push p X Y Z items item joined before added =
     joined ∙ ap₂ (λ (a b : Bool). a || b) before added
     ∙ sym (list_any-append (item_covers p) items (item ∷ []) ∙ ap (λ (b : Bool). list_any (item_covers p) items || b) (or-false (item_covers p item)))
 
--- two tests that hold in the same case are equal
-same_test : (a b : Bool) → (a ≡ true → b ≡ true) → (b ≡ true → a ≡ true) → a ≡ b
-same_test a b f g = grind arith
+-- two answers that follow from one another are the same
+pub same_answer : (a b : Bool) → (a ≡ true → b ≡ true) → (b ≡ true → a ≡ true) → a ≡ b
+same_answer a b f g = grind arith
 
 -- two sets that are the union of the same items are equal
 pub same_union : (X Y : ℕ) (items : List Item) → ((p : ℕ) → IsTrue (has X p) ↔ Any (λ (item : Item). (item.low ≤ p) × (p ≤ item.high)) items) → ((p : ℕ) → IsTrue (has Y p) ↔ Any (λ (item : Item). (item.low ≤ p) × (p ≤ item.high)) items) → X ≡ Y
 same_union X Y items one other =
-    same_set X Y (λ p. same_test _ _ (λ h. (other p).1 ((one p).0 h)) (λ h. (one p).1 ((other p).0 h)))
+    same_set X Y (λ p. same_answer _ _ (λ h. (other p).1 ((one p).0 h)) (λ h. (one p).1 ((other p).0 h)))
 
 -- ---- a set from a test
 

@@ -25,11 +25,7 @@ use Rattle.strong_apa.proofs.Paths.{Reaches-online}
 use Rattle.strong_apa.proofs.Steps.{has_left, IsState-remasked, IsState-moved, absent_moved}
 use Rattle.history_laws.specs.StepLaws.{StepExists}
 use Rattle.history_laws.proofs.StepReach.{reach_exists, back_reach_exists}
-use Rattle.strong_apa.proofs.FirstFound.{FirstBelow, first_below, exists_below, both_decided}
-
-nobody_decided : (o : Option ℕ) → Decided (o ≡ None)
-nobody_decided None = inl refl
-nobody_decided (Some u) = inr (λ e. cc)
+use Rattle.strong_apa.proofs.FirstFound.{FirstBelow, first_below, exists_below, both_decided, nobody_decided}
 
 either : (x y : ℕ) → (x ≤ y) ⊎ (y ≤ x)
 either x y = elim (cases_lt x y) [ inl lt ↦ inl (omega arith) | inr ge ↦ inr ge ]

@@ -2,10 +2,9 @@
 use Rattle.std.proofs.Common.{◌≡◌, ℕ, zero, suc, ◌<◌, ◌^◌, ◌||◌, bit_or, refl, sym, ap, ◌∙◌, subst, inl, inr, ◌↔◌, IsTrue, arith}
 use Rattle.std.proofs.lemmas.Bool.{cases_lt}
 use Rattle.affinity_mask.specs.ProcSet.{has, empty}
-use Rattle.affinity_mask.proofs.Sets.{has-or, has-pow}
+use Rattle.affinity_mask.proofs.Sets.{has-or, has-pow, added_here, added_keeps, added_cases}
 use Rattle.affinity_mask.proofs.Meetings.{no_member}
 use Rattle.strong_apa.proofs.Least.{Decided}
-use Rattle.path_search.proofs.Moves.{added_here, added_keeps, added_cases}
 
 module _ (P : ℕ → Type 0) (decided : (x : ℕ) → Decided (P x)) where
   -- the set of the numbers below n with the property

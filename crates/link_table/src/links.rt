@@ -1,7 +1,6 @@
 //! The table of links.
 ghost use Rattle.std.specs.Prelude.{◌≡◌, ℕ, ◌<◌, ◌≤◌, ◌↔◌, IsTrue, IsNone, IfOk, IfSome, is_some, Some, None, true, false, MatchOption, if◌then◌else◌};
 ghost use Rattle.affinity_mask.specs.ProcSet.{has};
-ghost use Rattle.task_set.specs.TaskSet.{priorities, masks};
 
 use crate::places::Places;
 use crate::waiting_tasks::WaitingTasks;
@@ -47,8 +46,8 @@ impl Links {
     {
         let processors = set.processors();
         let ready = vec![in alloc; false; set.len() as usize]?;
-        let masks = masks_of(alloc, set)?;
-        let priorities = priorities_of(alloc, set)?;
+        let masks = set.masks(alloc)?;
+        let priorities = set.priorities(alloc)?;
         let places = Places::new(alloc, processors, masks)?;
         let waiting = WaitingTasks::new(alloc, priorities)?;
         Ok(Links {
@@ -348,26 +347,4 @@ impl Links {
         self.places.set_to(&other.places);
         self.waiting.set_to(&other.waiting);
     }
-}
-
-/// The masks of the tasks of a set, by their numbers.
-fn masks_of(alloc: Global, set: &TaskSet) -> Result<Vec<ProcSet>, OutOfMemory>
-    ensures { IfOk result (λ column. column.items ≡ masks set.now) }
-{
-    let mut column = Vec::new(alloc);
-    for t in 0..set.len() {
-        column.push(set.mask(t))?;
-    }
-    Ok(column)
-}
-
-/// The priorities of the tasks of a set, by their numbers.
-fn priorities_of(alloc: Global, set: &TaskSet) -> Result<Vec<u32>, OutOfMemory>
-    ensures { IfOk result (λ column. column.items ≡ priorities set.now) }
-{
-    let mut column = Vec::new(alloc);
-    for t in 0..set.len() {
-        column.push(set.priority(t))?;
-    }
-    Ok(column)
 }

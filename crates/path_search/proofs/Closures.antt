@@ -8,7 +8,8 @@ use Rattle.strong_apa.specs.State.{State, IsState}
 use Rattle.path_search.specs.declared.direction.Direction.{Direction}
 use Rattle.path_search.specs.Paths.{IsPathFrom, LeadsTo, Steps}
 use Rattle.path_search.proofs.LeastPaths.{IsPathFrom-push}
-use Rattle.path_search.proofs.Moves.{added_cases, Steps-online}
+use Rattle.path_search.proofs.Moves.{Steps-online}
+use Rattle.affinity_mask.proofs.Sets.{added_cases}
 
 -- what is found is led to, and the steps from what is done lead to what is found
 pub record IsSearch (Step : ℕ → ℕ → Type 0) (start found done : ℕ) : Type 0 where

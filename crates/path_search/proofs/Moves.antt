@@ -1,5 +1,5 @@
 -- Steps, and the sets of processors before and after them.
-use Rattle.std.proofs.Common.{◌≡◌, ℕ, ◌<◌, ◌||◌, ◌&&◌, not, Option, Some, None, nat_eq, refl, sym, ◌∙◌, subst, inl, inr, ◌⊎◌, ◌↔◌, IsTrue, eq-eqb, eqb-true, ne_eqb}
+use Rattle.std.proofs.Common.{◌≡◌, ℕ, ◌<◌, ◌||◌, ◌&&◌, not, Option, Some, None, nat_eq, sym, ◌∙◌, subst, inl, inr, ◌⊎◌, ◌↔◌, IsTrue, ne_eqb}
 use Rattle.std.proofs.lemmas.Bool.{cases_eq, or_cases, or_left, or_right, and_parts, and_from, not_from_false}
 use Rattle.affinity_mask.specs.ProcSet.{has, empty, Within}
 use Rattle.affinity_mask.proofs.Meetings.{no_member}
@@ -24,20 +24,6 @@ Steps-online s ok Back p q step = effective_mask_online s step.0 q (ok.allowed q
 -- nobody can be shifted from an idle processor
 pub CanShift-idle : (s : State) (p q : ℕ) → task_on s p ≡ None → CanShift s p q → ⊥
 CanShift-idle s p q nobody shift = let e : ◌≡◌ {A = Option ℕ} None (Some shift.0) = sym nobody ∙ shift.1 in cc
-
--- a set and one processor more
-module _ (X Y p : ℕ) (added : (q : ℕ) → has Y q ≡ (has X q || nat_eq q p)) where
-  pub added_here : IsTrue (has Y p)
-  added_here = added p ∙ or_right (has X p) (nat_eq p p) (eq-eqb p p refl)
-
-  pub added_keeps : (q : ℕ) → IsTrue (has X q) → IsTrue (has Y q)
-  added_keeps q h = added q ∙ or_left (has X q) (nat_eq q p) h
-
-  pub added_cases : (q : ℕ) → IsTrue (has Y q) → IsTrue (has X q) ⊎ (q ≡ p)
-  added_cases q h = elim (or_cases (has X q) (nat_eq q p) (sym (added q) ∙ h)) [
-    | inl before ↦ inl before
-    | inr here ↦ inr (eqb-true q p here)
-  ]
 
 -- ---- the processors to which steps lead from a set, found so far: all but those from the rest of the set
 pub record IsUnionSoFar (Step : ℕ → ℕ → Type 0) (set found rest : ℕ) : Type 0 where

@@ -13,16 +13,16 @@ use Rattle.strong_apa.proofs.Counts.{count_below, count_below-agree, count_below
 use Rattle.strong_apa.proofs.Fullness.{linked_keeps_up}
 
 -- the linked tasks stand where they are linked
-linked_placement : (s : State) → IsState s → IsPlacement s (is_linked s) (λ t. place_in t s.on)
+pub linked_placement : (s : State) → IsState s → IsPlacement s (is_linked s) (λ t. place_in t s.on)
 linked_placement s ok = record {
   allowed = λ t linked. ok.allowed (place_in t s.on) t (task_on-linked s t linked);
   apart = λ t u ht hu e. same_Some t u (sym (task_on-linked s t ht) ∙ (rw e (task_on-linked s u hu)));
 }
 
 -- a better set has one task more up to the priority of the task that decides
-one_more : (s : State) → IsState s → (A B : TaskTest) → (better : IsBetter s A B) → better.task < task_count s
+pub better_has_more : (s : State) → IsState s → (A B : TaskTest) → (better : IsBetter s A B) → better.task < task_count s
     → count_below (λ t. A t && nat_le (priority_of s t) (priority_of s better.task)) (task_count s) ≡ suc (count_below (λ t. B t && nat_le (priority_of s t) (priority_of s better.task)) (task_count s))
-one_more s ok A B better number =
+better_has_more s ok A B better number =
     count_below-one_more _ _ better.task (task_count s) number
     (and_from _ _ better.in_first (le-leb _ _ (omega arith)))
     (and_left _ _ better.not_in_second)
@@ -48,7 +48,7 @@ linked_is_best s ok certificates = record {
   subset = λ t linked. ok.linked_ready (place_in t s.on) t (task_on-linked s t linked);
   placeable = ((λ t. place_in t s.on), linked_placement s ok);
   none_better = λ B subset placeable better.
-      let more = one_more s ok B (is_linked s) better (ready_number s ok better.task (subset better.task better.in_first)) in
+      let more = better_has_more s ok B (is_linked s) better (ready_number s ok better.task (subset better.task better.in_first)) in
       let keeps_up = linked_keeps_up s ok certificates B subset placeable (priority_of s better.task) in
       omega arith;
 }

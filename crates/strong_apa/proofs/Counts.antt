@@ -1,9 +1,12 @@
 -- How many numbers below n pass a test, and how a map that sends no two numbers to one compares two such counts.
-use Rattle.std.proofs.Common.{◌≡◌, ◌≢◌, ℕ, zero, suc, ◌<◌, ◌≤◌, Bool, true, false, not, ◌&&◌, [], ◌∷◌, length, length-append, nat_eq, refl, sym, ap, ◌∙◌, inl, inr, ◌⊎◌, arith, eq-eqb, ne_eqb}
+use Rattle.std.proofs.Common.{◌≡◌, ◌≢◌, ℕ, zero, suc, ◌<◌, ◌≤◌, Bool, true, false, not, ◌&&◌, [], ◌∷◌, length, length-append, nat_eq, refl, sym, ap, ◌∙◌, inl, inr, ◌⊎◌, arith, eq-eqb, ne_eqb, List, ◌++◌, ◌+◌, cond, filter}
 use Rattle.std.proofs.Math.Bool.{and-true}
 use Rattle.std.proofs.lemmas.Bool.{cases_Bool, cases_eq, and_from}
 use Rattle.affinity_mask.specs.ProcSet.{passing_below}
 use Rattle.affinity_mask.proofs.Lists.{passing_more, passing_same}
+use Rattle.std.specs.List.{range_with_len}
+use Rattle.std.proofs.lemmas.List.{map-id}
+use Rattle.std.proofs.lemmas.List.FromFn.{filter_of_map_range_with_len_more}
 
 -- how many numbers below n pass the test
 abbrev pub count_below : (ℕ → Bool) → ℕ → ℕ
@@ -87,3 +90,10 @@ search_below P (suc n) decided = elim (decided n (omega arith)) [
     ])
   ]
 ]
+
+-- the numbers below n that pass a test
+pub filter_more : (test : ℕ → Bool) (n : ℕ) → filter test (range_with_len 0 (n + 1)) ≡ filter test (range_with_len 0 n) ++ cond (test n) (n ∷ []) []
+filter_more test n =
+    ap (filter test) (sym (map-id (range_with_len 0 (n + 1))))
+    ∙ filter_of_map_range_with_len_more test (λ k. k) 0 n n (omega arith)
+    ∙ ap (λ (xs : List ℕ). filter test xs ++ cond (test n) (n ∷ []) []) (map-id (range_with_len 0 n))

@@ -1,5 +1,5 @@
 -- What can be found among finitely many numbers: whether one has a property, and the first one that has it.
-use Rattle.std.proofs.Common.{◌≡◌, ℕ, zero, suc, ◌<◌, ◌≤◌, sym, subst, inl, inr, ◌⊎◌, arith}
+use Rattle.std.proofs.Common.{◌≡◌, ℕ, zero, suc, ◌<◌, ◌≤◌, sym, subst, inl, inr, ◌⊎◌, arith, Option, Some, None, refl}
 use Rattle.std.proofs.lemmas.Bool.{cases_lt}
 use Rattle.strong_apa.proofs.Least.{Decided}
 
@@ -47,3 +47,7 @@ pub both_decided : (P Q : Type 0) → Decided P → Decided Q → Decided (P × 
 both_decided P Q (inl p) (inl q) = inl (p, q)
 both_decided P Q (inl p) (inr fails) = inr (λ h. fails h.1)
 both_decided P Q (inr fails) q = inr (λ h. fails h.0)
+
+pub nobody_decided : (o : Option ℕ) → Decided (o ≡ None)
+nobody_decided None = inl refl
+nobody_decided (Some u) = inr (λ e. cc)

@@ -66,8 +66,8 @@ kept_without_new s certificates p = kept_by_fewer s (without_member (with_member
           | inr same ↦ absurd (true≢false (sym same ∙ not-true (nat_eq q p) parts.1))
         ]
 
--- nobody was on it
-nobody_off : (s : State) → IsState s → (p : ℕ) → has s.online p ≡ false → task_on s p ≡ None
+-- nobody is on a processor that is off line
+pub nobody_off : (s : State) → IsState s → (p : ℕ) → has s.online p ≡ false → task_on s p ≡ None
 nobody_off s ok p off = of_occupant (task_on s p) refl
   where
     of_occupant : (occupant : Option ℕ) → task_on s p ≡ occupant → task_on s p ≡ None

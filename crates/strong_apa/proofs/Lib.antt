@@ -1,5 +1,6 @@
 pub mod Best
 pub mod BestOnce
+pub mod ByEvents
 pub mod Changes
 pub mod Closed
 pub mod Contexts

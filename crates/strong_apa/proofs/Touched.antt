@@ -36,7 +36,7 @@ contains_cases x rest q c = go c.0 c.1 c.2
     go zero lt here = inl (sym here)
     go (suc k) lt later = inr (k, omega arith, later)
 
-contains_later : (x : ℕ) (rest : List ℕ) (q : ℕ) → Contains rest q → Contains (x ∷ rest) q
+pub contains_later : (x : ℕ) (rest : List ℕ) (q : ℕ) → Contains rest q → Contains (x ∷ rest) q
 contains_later x rest q c = (suc c.0, (let lt = c.1 in omega arith), c.2)
 
 contains_decided : (list : List ℕ) (q : ℕ) → Contains list q ⊎ (Contains list q → ⊥)

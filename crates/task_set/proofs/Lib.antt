@@ -1,7 +1,7 @@
 mod Entries
 mod Priorities
 mod Lists
-mod Outside
+pub mod Outside
 pub mod Added
 pub mod Refusals
 pub mod Obeyable

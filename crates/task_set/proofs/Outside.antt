@@ -7,16 +7,16 @@ use Rattle.affinity_mask.specs.ProcSet.{has, empty, IsLeastMember}
 use Rattle.affinity_mask.proofs.Sets.{has-zero}
 use Rattle.task_set.specs.Refusal.{IsLeastOutside}
 
--- a test that is passed and another that is failed
-both_ways : (in_mask : Bool) (q m : ℕ) → (in_mask && not (nat_lt q m)) ≡ true → (in_mask ≡ true) × (m ≤ q)
+-- a number is in a mask, and not below m
+pub both_ways : (in_mask : Bool) (q m : ℕ) → (in_mask && not (nat_lt q m)) ≡ true → (in_mask ≡ true) × (m ≤ q)
 both_ways true q m e = (refl, grind (arith, nat_tests))
 both_ways false q m e = absurd (true≢false (sym e))
 
-outside_is : (in_mask : Bool) (q m : ℕ) → in_mask ≡ true → m ≤ q → (in_mask && not (nat_lt q m)) ≡ true
+pub outside_is : (in_mask : Bool) (q m : ℕ) → in_mask ≡ true → m ≤ q → (in_mask && not (nat_lt q m)) ≡ true
 outside_is true q m e le = grind (arith, nat_tests)
 outside_is false q m e le = absurd (true≢false (sym e))
 
-inside_is : (in_mask : Bool) (q m : ℕ) → (in_mask && not (nat_lt q m)) ≡ false → in_mask ≡ true → q < m
+pub inside_is : (in_mask : Bool) (q m : ℕ) → (in_mask && not (nat_lt q m)) ≡ false → in_mask ≡ true → q < m
 inside_is true q m e passes = grind (arith, nat_tests)
 inside_is false q m e passes = absurd (true≢false (sym passes))
 

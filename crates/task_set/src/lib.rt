@@ -6,6 +6,7 @@
 //! Orders and stints are plain data, with the laws of `laws` above them.
 #![tactic(auto)]
 
+mod columns;
 mod context;
 mod event;
 mod fault;

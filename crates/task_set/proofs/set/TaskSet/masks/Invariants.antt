@@ -1,6 +1,6 @@
 use Rattle.std.proofs.Common.{◌≡◌, take}
 use Rattle.task_set.specs.TaskSet.{masks}
-use Rattle.link_table.proofs.links.masks_of.Given as goal
+use Rattle.task_set.proofs.set.TaskSet.masks.Given as goal
 
 abbrev pub invariant-loop-t : goal.invariant-loop-t
-invariant-loop-t l = l.column.items ≡ take l.t (masks l.set)
+invariant-loop-t l = l.column.items ≡ take l.t (masks l.self)
