@@ -1,6 +1,6 @@
 -- A task is admitted: it waits then, with a certificate, or a shift along a chain to an idle processor links it, which
 -- puts nobody out and leaves each waiting task a certificate.
-use Rattle.std.proofs.Common.{◌≡◌, ℕ, ◌<◌, Bool, true, false, ◌||◌, List, nat_eq, Some, refl, sym, ap, ◌∙◌, inl, inr, ◌⊎◌, ne_eqb, eq-eqb, eqb-true, get_or-set_other}
+use Rattle.std.proofs.Common.{◌≡◌, ℕ, ◌<◌, true, false, ◌||◌, List, nat_eq, Some, refl, sym, ap, ◌∙◌, inl, inr, ◌⊎◌, ne_eqb, eq-eqb, eqb-true, get_or-set_other}
 use Rattle.std.proofs.Math.Bool.{or-false}
 use Rattle.std.proofs.lemmas.Bool.{cases_eq, true≢false, or_cases, or_left, or_right}
 use Rattle.std.proofs.lemmas.Option.{same_Some}
@@ -17,12 +17,7 @@ use Rattle.strong_apa.specs.Certified.{HasCertificates}
 use Rattle.reach_certificate.specs.Search.{IsWay, IsFull}
 use Rattle.strong_apa.proofs.KeptByArrivals.{others_have}
 use Rattle.strong_apa.proofs.KeptByShifts.{linked_or_out, kept_by_placing}
-
--- two answers that follow from one another are the same
-pub same_answer : (a b : Bool) → (a ≡ true → b ≡ true) → (b ≡ true → a ≡ true) → a ≡ b
-same_answer true b there back = sym (there refl)
-same_answer false true there back = back refl
-same_answer false false there back = refl
+use Rattle.affinity_mask.proofs.Unions.{same_answer}
 
 module _ (old : State) (t : ℕ) (number : t < task_count old) (absent : is_ready old t ≡ false) (ok : IsState (state_with_ready old t)) (waits : IsWaiting (state_with_ready old t) t)
     (least_urgent : (u : ℕ) → is_ready old u ≡ true → IsMoreUrgent old u t) (certificates : HasCertificates old) where

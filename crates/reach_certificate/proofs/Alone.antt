@@ -7,12 +7,10 @@ use Rattle.std.proofs.lemmas.List.{get_or_default}
 use Rattle.std.proofs.lemmas.List.FromFn.{get_or-range_with_len, length-range_with_len}
 use Rattle.strong_apa.specs.Chain.{IsSimple}
 use Rattle.strong_apa.proofs.Simple.{IsSimple-head, IsSimple-tail}
+use Rattle.strong_apa.proofs.Touched.{contains_later}
 
 contains_none : (q : ℕ) → Contains {X = ℕ} [] q → ⊥
 contains_none q c = let lt = c.1 in omega arith
-
-contains_later : (x : ℕ) (rest : List ℕ) (q : ℕ) → Contains rest q → Contains (x ∷ rest) q
-contains_later x rest q c = (suc c.0, (let lt = c.1 in omega arith), c.2)
 
 contains_rest : (x : ℕ) (rest : List ℕ) (q : ℕ) → Contains (x ∷ rest) q → q ≢ x → Contains rest q
 contains_rest x rest q c ne = go c.0 c.1 c.2

@@ -12,6 +12,7 @@ use Rattle.strong_apa.proofs.Masks.{effective_mask_below}
 use Rattle.reach_certificate.specs.Defect.{AllFit, IsFirstMisfit, FitsAt, MovesBack, ReachFits, BackFits, EntersRightly, EntersWrongly, last_processor}
 use Rattle.link_table.proofs.Leaders.{IsFoundInto, IsFound-nothing, IsComing, IsNotLessUrgent, into_more, into_passed, into_whole}
 use Rattle.strong_apa.proofs.Fullness.{waiting_decided}
+use Rattle.strong_apa.proofs.FirstFound.{nobody_decided}
 
 -- ---- what can be decided
 and_decided : {A B : Type 0} → Decided A → Decided B → Decided (A × B)
@@ -67,10 +68,6 @@ fit_or_misfit Fits decided (suc n) = elim (first_without Fits decided (suc n)) [
 ]
 
 -- ---- occupants
-nobody_decided : (o : Option ℕ) → Decided (o ≡ None)
-nobody_decided None = inl refl
-nobody_decided (Some u) = inr (λ e. cc)
-
 somebody_decided : (o : Option ℕ) → Decided ((u : ℕ) × (o ≡ Some u))
 somebody_decided None = inr (λ h. let e = h.1 in cc)
 somebody_decided (Some u) = inl (u, refl)

@@ -1,9 +1,8 @@
 -- How contexts follow the links, processor by processor.
-use Rattle.std.proofs.Common.{◌≡◌, ℕ, ◌+◌, Bool, true, false, cond, List, [], ◌∷◌, ◌++◌, length, get_or, map, filter, Option, None, refl, sym, ap, ◌∙◌, subst, inl, inr, arith, if◌then◌else◌}
+use Rattle.std.proofs.Common.{◌≡◌, ℕ, ◌+◌, Bool, true, false, cond, List, [], ◌∷◌, ◌++◌, length, get_or, map, filter, Option, None, refl, sym, ap, ◌∙◌, subst, inl, inr, if◌then◌else◌}
 use Rattle.std.specs.List.{range_with_len, fold}
-use Rattle.std.proofs.lemmas.List.{get_or_default, map-id, same_lists}
+use Rattle.std.proofs.lemmas.List.{get_or_default, same_lists}
 use Rattle.std.proofs.lemmas.List.Folds.{fold-map}
-use Rattle.std.proofs.lemmas.List.FromFn.{filter_of_map_range_with_len_more}
 use Rattle.std.proofs.lemmas.List.Sums.{fold-append}
 use Rattle.task_set.specs.Context.{context_after_run}
 use Rattle.task_set.specs.declared.context.Context.{Context}
@@ -23,6 +22,7 @@ use Rattle.strong_apa.proofs.Touched.{passing_stays_outside, stands_or_stays}
 use Rattle.reach_certificate.specs.CaughtUp.{HaveCaughtUp, taken_among}
 use Rattle.reach_certificate.specs.Contexts.{ContextsData, context_after_takes, context_after_all_runs, context_after_entry, EachBecomes, HaveFollowed}
 use Rattle.reach_certificate.proofs.CatchingUp.{EachBecomes-then, caught_up-then, taken_nowhere}
+use Rattle.strong_apa.proofs.Counts.{filter_more}
 
 -- ---- one number more, where it passes a test
 fold_pushed : (f : Context → ℕ → Context) (c : Context) (xs : List ℕ) (b : Bool) (x : ℕ) → fold f c (xs ++ cond b (x ∷ []) []) ≡ (if b then f (fold f c xs) x else fold f c xs)
@@ -31,12 +31,6 @@ fold_pushed f c xs b x = fold-append f c xs (cond b (x ∷ []) []) ∙ last b (f
     last : (b : Bool) (y : Context) → fold f y (cond b (x ∷ []) []) ≡ (if b then f y x else y)
     last true y = refl
     last false y = refl
-
-range_more : (test : ℕ → Bool) (n : ℕ) → filter test (range_with_len 0 (n + 1)) ≡ filter test (range_with_len 0 n) ++ cond (test n) (n ∷ []) []
-range_more test n =
-    ap (filter test) (sym (map-id (range_with_len 0 (n + 1))))
-    ∙ filter_of_map_range_with_len_more test (λ k. k) 0 n n (omega arith)
-    ∙ ap (λ (xs : List ℕ). filter test xs ++ cond (test n) (n ∷ []) []) (map-id (range_with_len 0 n))
 
 -- ---- runs, as far as the processors were gone over
 -- the context of t after it ran on each processor below n on which it is
@@ -51,7 +45,7 @@ runs_more s units n start contexts after so_far here = EachBecomes-then _ _ _ (�
   where
     one_more : (t : ℕ) (c : Context) → context_run_below s units (n + 1) t c ≡ (if is_task t (task_on s n) then context_after_run (context_run_below s units n t c) n units else context_run_below s units n t c)
     one_more t c =
-        ap (fold (λ x p. context_after_run x p units) c) (range_more (λ p. is_task t (task_on s p)) n)
+        ap (fold (λ x p. context_after_run x p units) c) (filter_more (λ p. is_task t (task_on s p)) n)
         ∙ fold_pushed (λ x p. context_after_run x p units) c (filter (λ p. is_task t (task_on s p)) (range_with_len 0 n)) (is_task t (task_on s n)) n
 
 -- a run on each processor of a list, as the list of the runs

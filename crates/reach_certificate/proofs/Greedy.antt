@@ -14,13 +14,13 @@ use Rattle.strong_apa.proofs.Linked.{place_in, task_on-linked}
 use Rattle.strong_apa.proofs.SameTasks.{same_count}
 use Rattle.reach_certificate.specs.Admission.{is_among, IsMostUrgentAbsent, Admitted}
 use Rattle.strong_apa.specs.Certified.{HasCertificates}
-use Rattle.reach_certificate.proofs.Admissions.{same_answer}
 use Rattle.strong_apa.proofs.Best.{linked_is_best}
 use Rattle.strong_apa.proofs.Counts.{count_below, count_below-one_more}
 use Rattle.strong_apa.proofs.SameBest.{priority_of-same, IsBest-same}
 use Rattle.strong_apa.proofs.Start.{none_ready}
 use Rattle.strong_apa.proofs.Kept.{HasCertificates-start}
 use Rattle.reach_certificate.proofs.MostUrgent.{among_place}
+use Rattle.affinity_mask.proofs.Unions.{same_answer}
 
 -- the listed tasks are admitted up to some priority, and the list `best` has the linked ones
 pub record IsGreedy (set : SetData) (listed : List ℕ) (s : State) (best : List ℕ) : Type 0 where

@@ -1,17 +1,9 @@
 -- A processor off line has no task, and one that has just come on line and goes off line again leaves nothing changed.
-use Rattle.std.proofs.Common.{◌≡◌, ℕ, Bool, true, false, not, ◌&&◌, ◌||◌, Option, Some, None, refl, sym, ◌∙◌, inl, inr, eq-eqb, ne_eqb}
-use Rattle.std.proofs.lemmas.Bool.{cases_eq, true≢false}
+use Rattle.std.proofs.Common.{◌≡◌, ℕ, Bool, true, false, not, ◌&&◌, ◌||◌, refl, inl, inr, eq-eqb, ne_eqb}
+use Rattle.std.proofs.lemmas.Bool.{cases_eq}
 use Rattle.affinity_mask.specs.ProcSet.{has, with_member, without_member}
 use Rattle.affinity_mask.proofs.Sets.{has-with_member, has-without_member, same_set}
-use Rattle.strong_apa.specs.State.{State, IsState, task_on, state_with_online, state_with_offline}
-use Rattle.strong_apa.proofs.Masks.{effective_mask_online}
-
-pub off_has_nobody : (s : State) → IsState s → (p : ℕ) → has s.online p ≡ false → task_on s p ≡ None
-off_has_nobody s ok p off = go (task_on s p) refl
-  where
-    go : (o : Option ℕ) → task_on s p ≡ o → task_on s p ≡ None
-    go None on = on
-    go (Some t) on = absurd (true≢false (sym (effective_mask_online s t p (ok.allowed p t on)) ∙ off))
+use Rattle.strong_apa.specs.State.{State, state_with_online, state_with_offline}
 
 added_and_removed : (X p : ℕ) → has X p ≡ false → without_member (with_member X p) p ≡ X
 added_and_removed X p out = same_set (without_member (with_member X p) p) X each

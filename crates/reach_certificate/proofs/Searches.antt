@@ -1,7 +1,7 @@
 -- One turn of the search for an idle processor.
-use Rattle.std.proofs.Common.{◌≡◌, ℕ, suc, ◌+◌, ◌-◌, ◌<◌, ◌≤◌, true, false, ◌||◌, List, [], ◌∷◌, length, get_or, reverse, nat_eq, Some, None, refl, sym, ◌∙◌, inl, inr, ◌⊎◌, IsTrue, arith, eq-eqb, ne_eqb, eqb-true}
+use Rattle.std.proofs.Common.{◌≡◌, ℕ, suc, ◌+◌, ◌-◌, ◌<◌, ◌≤◌, true, false, ◌||◌, List, [], ◌∷◌, length, get_or, reverse, nat_eq, Some, None, refl, sym, ◌∙◌, inl, inr, ◌⊎◌, IsTrue, arith, eq-eqb, ne_eqb}
 use Rattle.std.proofs.Math.Bool.{or-false}
-use Rattle.std.proofs.lemmas.Bool.{cases_Bool, cases_eq, true≢false, or_cases, or_left, or_right}
+use Rattle.std.proofs.lemmas.Bool.{cases_Bool, cases_eq, true≢false, or_right}
 use Rattle.std.proofs.lemmas.List.{length-reverse}
 use Rattle.std.proofs.lemmas.List.Elements.{All-cons}
 use Rattle.affinity_mask.specs.ProcSet.{has, members, Within}
@@ -10,6 +10,7 @@ use Rattle.strong_apa.proofs.Masks.{effective_mask_online, effective_mask_below}
 use Rattle.strong_apa.proofs.Simple.{IsSimple-cons}
 use Rattle.reach_certificate.specs.Search.{IsWay, IsFull}
 use Rattle.strong_apa.proofs.Counts.{count_below-bound, count_below-one_more, count_below-injection}
+use Rattle.affinity_mask.proofs.Sets.{added_here, added_keeps, added_cases}
 
 -- how many processors a set has
 abbrev pub size_of : ℕ → ℕ
@@ -26,20 +27,8 @@ size-within X Y within = count_below-injection (has X) 64 (has Y) 64 (λ p. p) r
 }
 
 module _ (X Y p : ℕ) (added : (q : ℕ) → has Y q ≡ (has X q || nat_eq q p)) where
-  pub has-added : IsTrue (has Y p)
-  has-added = rw (added p) (or_right (has X p) _ (eq-eqb p p refl))
-
-  pub within-added : Within X Y
-  within-added q h = rw (added q) (or_left (has X q) _ h)
-
-  pub added_cases : (q : ℕ) → IsTrue (has Y q) → IsTrue (has X q) ⊎ (q ≡ p)
-  added_cases q h = elim (or_cases (has X q) (nat_eq q p) (sym (added q) ∙ h)) [
-    | inl before ↦ inl before
-    | inr new ↦ inr (eqb-true q p new)
-  ]
-
   pub size-added : p < 64 → has X p ≡ false → size_of Y ≡ suc (size_of X)
-  size-added below fresh = count_below-one_more (has Y) (has X) p 64 below has-added fresh (λ q lt ne. added q ∙ rw (ne_eqb q p ne) (or-false (has X q)))
+  size-added below fresh = count_below-one_more (has Y) (has X) p 64 below (added_here X Y p added) fresh (λ q lt ne. added q ∙ rw (ne_eqb q p ne) (or-false (has X q)))
 
 -- a set that lacks a processor has room for it
 pub size_room : (X p : ℕ) → p < 64 → has X p ≡ false → size_of X < 64
@@ -107,24 +96,24 @@ module _ (s : State) (ok : IsState s) (t visited seen p : ℕ) (so_far : IsSeen 
       IsWay-more [] way = absurd way.ends_idle.1
       IsWay-more (r ∷ rest) way = record {
         ends_idle = (way.ends_idle.0, (in_mask, ((u, on, way.ends_idle.1.0), way.ends_idle.1.1)), way.ends_idle.2);
-        simple = IsSimple-cons p (r ∷ rest) (λ i fits e. true≢false (sym (has-added seen added p is_added) ∙ (rw e at (way.fresh i 0 fits)))) way.simple;
-        fresh = All-cons (λ q. has visited q ≡ false) p (r ∷ rest) not_visited (λ k d fits. not_within visited added (get_or (r ∷ rest) k d) (λ q h. within-added seen added p is_added q (so_far.kept q h)) (way.fresh k d fits));
+        simple = IsSimple-cons p (r ∷ rest) (λ i fits e. true≢false (sym (added_here seen added p is_added) ∙ (rw e at (way.fresh i 0 fits)))) way.simple;
+        fresh = All-cons (λ q. has visited q ≡ false) p (r ∷ rest) not_visited (λ k d fits. not_within visited added (get_or (r ∷ rest) k d) (λ q h. added_keeps seen added p is_added q (so_far.kept q h)) (way.fresh k d fits));
         fits = (let fits = way.fits in let more = size-added seen added p is_added below_64 fresh in let le = size-within visited seen so_far.kept in omega arith);
       }
 
       -- it has none: so t has none through p
       pub IsSeen-more : (full : ℕ) → IsFull s u added full → IsSeen s t visited full (p + 1)
       IsSeen-more full dead = record {
-        kept = λ q h. dead.kept q (within-added seen added p is_added q (so_far.kept q h));
+        kept = λ q h. dead.kept q (added_keeps seen added p is_added q (so_far.kept q h));
         mask = λ q lt h. elim (cases_eq q p) [
-          | inl e ↦ rw e (dead.kept p (has-added seen added p is_added))
-          | inr ne ↦ dead.kept q (within-added seen added p is_added q (so_far.mask q (omega arith) h))
+          | inl e ↦ rw e (dead.kept p (added_here seen added p is_added))
+          | inr ne ↦ dead.kept q (added_keeps seen added p is_added q (so_far.mask q (omega arith) h))
         ];
         occupied = λ q h. elim (dead.occupied q h) [
           | inl in_added ↦ elim (added_cases seen added p is_added q in_added) [
             | inl before ↦ elim (so_far.occupied q before) [
               | inl was ↦ inl was
-              | inr held ↦ inr (held.0, held.1, (λ r k. dead.kept r (within-added seen added p is_added r (held.2 r k))))
+              | inr held ↦ inr (held.0, held.1, (λ r k. dead.kept r (added_keeps seen added p is_added r (held.2 r k))))
             ]
             | inr here ↦ inr (u, rw here on, dead.mask)
           ]
