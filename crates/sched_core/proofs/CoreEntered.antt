@@ -1,7 +1,10 @@
 -- What is kept by a core, before any entry and one entry later.
-use Rattle.std.proofs.Common.{◌≡◌, ℕ, ◌+◌, ◌*◌, ◌<◌, ◌≤◌, false, not, ◌&&◌, List, [], ◌∷◌, ◌++◌, length, get_or, filter, Option, Some, refl, sym, ap, ◌∙◌, arith, append_assoc}
+use Rattle.std.proofs.Common.{◌≡◌, ℕ, ◌+◌, ◌*◌, ◌<◌, ◌≤◌, false, not, ◌&&◌, List, [], ◌∷◌, ◌++◌, length, get_or, filter, Option, Some, None, replicate, refl, sym, ap, ap₂, ◌∙◌, arith, append_assoc}
 use Rattle.std.specs.List.{range_with_len}
 use Rattle.std.proofs.lemmas.List.{length-append, get_or_push}
+use Rattle.affinity_mask.specs.ProcSet.{all_below}
+use Rattle.task_set.specs.declared.event.Event.{Event}
+use Rattle.strong_apa.specs.declared.reply.Reply.{Reply}
 use Rattle.strong_apa.specs.declared.reply.Entry.{Entry}
 use Rattle.strong_apa.specs.State.{State, IsState, task_on, is_task}
 use Rattle.strong_apa.specs.Step.{SchedulerStep}
@@ -13,6 +16,7 @@ use Rattle.strong_apa.specs.Certified.{HasCertificates}
 use Rattle.strong_apa.proofs.Kept.{step_keeps_certificates}
 use Rattle.history_laws.specs.Start.{NobodyIsReady}
 use Rattle.sched_core.specs.CoreData.{CoreData, IsCore, core_orders, max_entries}
+use Rattle.sched_core.specs.CoreView.{state_before}
 use Rattle.sched_core.specs.CoreRows.{RowData, row_at, RowFollows, NumbersBecome, came, came_below}
 use Rattle.sched_core.proofs.RowLoops.{filtered_count-bound, filtered_count-same, change_orders-same_number}
 use Rattle.strong_apa.proofs.SameTasks.{same_tasks-effect, same_tasks-step}
@@ -20,6 +24,12 @@ use Rattle.strong_apa.proofs.SameTasks.{same_tasks-effect, same_tasks-step}
 -- while a core is open its orders are those of the history
 pub core_orders-open : (core : CoreData) (p : ℕ) → core.closed ≡ false → core_orders core p ≡ orders_of core.start core.history p
 core_orders-open core p still = rw still refl
+
+-- a step leaves the state before any event
+pub before_step : (links : State) (event : Event) (reply : Reply) (new : State) (masks : List ℕ) → SchedulerStep links event reply new → state_before new masks ≡ state_before links masks
+before_step links event reply new masks step =
+    let same = same_tasks-step links event reply new step in
+    ap₂ (λ (m : ℕ) (priorities : List ℕ). record { processors = m; priorities = priorities; masks = masks; online = all_below m; ready = replicate (length priorities) false; on = replicate m None }) same.processors same.priorities
 
 -- a task is taken at most as often as there are processors at an entry
 pub takes_bound : (s : State) (history : List Entry) (t : ℕ) → s.processors ≤ 64 → length (processors_of s history t) ≤ 64 * length history

@@ -10,7 +10,7 @@ use Rattle.strong_apa.specs.Dispatch.{orders_of, closed_orders_of, processors_of
 use Rattle.strong_apa.specs.Justification.{HasJustification}
 use Rattle.sched_core.specs.CoreData.{CoreData, Applied, AppliedOrRefused, OnlyMadeRoom, entry_of, max_entries}
 use Rattle.sched_core.specs.CoreRows.{RowData, RowsOnlyGrew, row_at}
-use Rattle.sched_core.specs.CoreView.{IsKept}
+use Rattle.sched_core.specs.CoreView.{IsKept, state_before}
 use Rattle.sched_core.specs.declared.fault.CoreFault.TheVariants.{Closed, Full, OutOfMemory}
 use Rattle.sched_core.specs.declared.scheduler.Core.TheInside.{Inside}
 
@@ -19,14 +19,15 @@ pub kept_grown : (old : Inside) (rows : Vec RowData Global) (history : Vec Entry
     → (old.closed ≡ false → (p : ℕ) → p < length old.rows.items → 2 * spare + 2 ≤ (row_at rows.items p).room) → vec_len history + spare ≤ vec_capacity history
     → IsKept (record old { rows = rows; history = history; spare = spare })
 kept_grown old rows history spare kept grew same room fits =
+    let start = state_before old.links old.first_masks.items in
     let inside : (p : ℕ) → p < old.links.processors → p < length old.rows.items = λ p low. omega (arith, kept.rows_count, low) in
     record {
       core = record {
         start = kept.core.start;
         nobody = kept.core.nobody;
         state = kept.core.state;
-        legal = subst (IsLegalFrom old.start) (sym same) kept.core.legal;
-        links = kept.core.links ∙ ap (state_after old.start) (sym same);
+        legal = subst (IsLegalFrom start) (sym same) kept.core.legal;
+        links = kept.core.links ∙ ap (state_after start) (sym same);
         certificates = kept.core.certificates;
         processors = kept.core.processors;
         tasks = kept.core.tasks;
@@ -34,8 +35,8 @@ kept_grown old rows history spare kept grew same room fits =
       };
       rows_count = grew.count ∙ kept.rows_count;
       takes_count = kept.takes_count;
-      orders = λ p low. (grew.each p (inside p low)).orders ∙ kept.orders p low ∙ ap (λ (h : List Entry). if old.closed then closed_orders_of old.start h p else orders_of old.start h p) (sym same);
-      takes = λ t low. kept.takes t low ∙ ap (λ (h : List Entry). length (processors_of old.start h t)) (sym same);
+      orders = λ p low. (grew.each p (inside p low)).orders ∙ kept.orders p low ∙ ap (λ (h : List Entry). if old.closed then closed_orders_of start h p else orders_of start h p) (sym same);
+      takes = λ t low. kept.takes t low ∙ ap (λ (h : List Entry). length (processors_of start h t)) (sym same);
       rows_open = λ still p low. record { held = (grew.each p (inside p low)).held ∙ (kept.rows_open still p low).held; room = room still p (inside p low) };
       room = fits;
     }

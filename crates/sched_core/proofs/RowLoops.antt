@@ -1,11 +1,11 @@
 -- The rows of orders, as a loop goes over them one by one.
-use Rattle.std.proofs.Common.{◌≡◌, ◌≢◌, ℕ, zero, suc, ◌+◌, ◌<◌, ◌≤◌, Bool, true, false, cond, List, [], ◌∷◌, ◌++◌, length, filter, set, ◌⊎◌, Option, Some, None, refl, sym, ap, ◌∙◌, subst, inl, inr, arith, zero-add}
+use Rattle.std.proofs.Common.{◌≡◌, ◌≢◌, ℕ, zero, suc, ◌+◌, ◌<◌, ◌≤◌, Bool, true, false, cond, List, [], ◌∷◌, length, filter, set, ◌⊎◌, Option, Some, None, refl, sym, ap, ◌∙◌, subst, inl, inr, arith, zero-add}
 use Rattle.std.specs.List.{range_with_len}
 use Rattle.std.proofs.lemmas.Bool.{cases_lt, cases_eq}
-use Rattle.std.proofs.lemmas.List.{map-id, length-append, length-set, get_or-set_same, get_or-set_other}
-use Rattle.std.proofs.lemmas.List.FromFn.{filter_of_map_range_with_len_more}
+use Rattle.std.proofs.lemmas.List.{length-append, length-set, get_or-set_same, get_or-set_other}
 use Rattle.strong_apa.specs.Dispatch.{change_orders}
 use Rattle.sched_core.specs.CoreRows.{RowData, row_at, empty_row, OnlyGrew, RowsOnlyGrew, HasRoomInEach}
+use Rattle.strong_apa.proofs.Counts.{filter_more}
 
 -- the rows below n became what they have to, and the others are as they were
 pub record RowsDone (Becomes : ℕ → RowData → RowData → Type 0) (old : List RowData) (n : ℕ) (now : List RowData) : Type 0 where
@@ -63,12 +63,6 @@ module _ (room : ℕ) (old : List RowData) (n : ℕ) (now : List RowData) (so_fa
   rows_have_room whole p fits = let inside : p < length old = rw so_far.count at fits in (so_far.done p (omega arith) inside).1
 
 -- ---- the numbers below n that pass a test
-filter_more : (test : ℕ → Bool) (n : ℕ) → filter test (range_with_len 0 (n + 1)) ≡ filter test (range_with_len 0 n) ++ cond (test n) (n ∷ []) []
-filter_more test n =
-    ap (filter test) (sym (map-id (range_with_len 0 (n + 1))))
-    ∙ filter_of_map_range_with_len_more test (λ k. k) 0 n n (omega arith)
-    ∙ ap (λ (xs : List ℕ). filter test xs ++ cond (test n) (n ∷ []) []) (map-id (range_with_len 0 n))
-
 pub filtered_count-more : (test : ℕ → Bool) (n : ℕ) → length (filter test (range_with_len 0 (n + 1))) ≡ length (filter test (range_with_len 0 n)) + cond (test n) 1 0
 filtered_count-more test n = ap length (filter_more test n) ∙ length-append (filter test (range_with_len 0 n)) (cond (test n) (n ∷ []) []) ∙ last (test n)
   where

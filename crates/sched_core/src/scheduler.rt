@@ -12,7 +12,7 @@ ghost use Rattle.strong_apa.specs.Improving.{HasNoImprovingChain};
 use crate::fault::CoreFault;
 use crate::order_row::OrderRow;
 use crate::order_rows::{close_rows, empty_rows, follow_links, no_takes, reserve_rows};
-use affinity_mask::OutOfMemory;
+use affinity_mask::{OutOfMemory, ProcSet};
 use link_table::{Entry, Links, Reply};
 use std::alloc::Global;
 use std::marker::Model;
@@ -25,8 +25,8 @@ pub const MAX_ENTRIES: usize = 20_000;
 /// The history of the events applied so far, the links after it, and the orders that it gives each processor.
 #[derive(Drop)]
 pub struct Core {
-    /// The links before any event. They stay as they are.
-    start: Links,
+    /// The masks of the tasks before any event. With the links they say what was before it.
+    first_masks: Vec<ProcSet>,
     history: Vec<Entry>,
     links: Links,
     closed: bool,
@@ -66,10 +66,10 @@ impl Core {
         let mut rows = empty_rows(alloc, set.processors())?;
         reserve_rows(&mut rows, 2)?;
         let takes = no_takes(alloc, set.len())?;
-        let start = Links::new(alloc, set)?;
+        let first_masks = set.masks(alloc)?;
         let links = Links::new(alloc, set)?;
         Ok(Core {
-            start,
+            first_masks,
             history: Vec::new(alloc),
             links,
             closed: false,
@@ -129,15 +129,6 @@ impl Core {
         ensures best { LinkedIsBest self.new.links }
         ensures largest { LinkedIsLargest self.new.links }
         ensures rank_by_rank { LinkedIsAsUrgent self.new.links }
-    {
-        self.append(caller, event)
-    }
-
-    /// One entry more, where the core is open and there is room.
-    fn append(&mut self, caller: u32, event: Event) -> Result<u64, CoreFault>
-        requires { IsEventFor self.old.links event }
-        ensures answer { AppliedOrRefused self.old caller event result self.new }
-        ensures valid { IsCore self.new }
     {
         let place = self.history().len();
         if self.closed {

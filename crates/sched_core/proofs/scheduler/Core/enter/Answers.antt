@@ -1,18 +1,18 @@
 use Rattle.std.proofs.Common.{◌≡◌, ℕ, ◌-◌, ◌<◌, ◌≤◌, List, length, get_or, false, refl, sym, ap, ◌∙◌, subst, arith}
 use Rattle.std.specs.Prelude.{All}
 use Rattle.strong_apa.specs.declared.reply.Entry.{Entry}
-use Rattle.strong_apa.specs.State.{IsState, task_count}
+use Rattle.strong_apa.specs.State.{State, IsState, task_count}
 use Rattle.strong_apa.specs.History.{effect_of}
 use Rattle.strong_apa.specs.Dispatch.{orders_of, processors_of}
 use Rattle.strong_apa.proofs.Linked.{linked_number}
 use Rattle.strong_apa.proofs.Steps.{reply_gives_new_state, step_keeps_state}
 use Rattle.strong_apa.proofs.Kept.{step_has_justification}
 use Rattle.sched_core.specs.CoreData.{CoreData, IsCore, Applied, entry_of, max_entries}
-use Rattle.sched_core.specs.CoreView.{core_view}
+use Rattle.sched_core.specs.CoreView.{core_view, state_before, IsKeptFrom}
 use Rattle.strong_apa.specs.Touched.{touched}
 use Rattle.sched_core.specs.CoreRows.{row_at, RowsFollow}
 use Rattle.sched_core.proofs.StepTouches.{step_stays_outside, tick_has_no_chain}
-use Rattle.sched_core.proofs.CoreEntered.{takes_bound, read_last, core_entered, core_orders-open, orders_entered, takes_entered}
+use Rattle.sched_core.proofs.CoreEntered.{before_step, takes_bound, read_last, core_entered, core_orders-open, orders_entered, takes_entered}
 use Rattle.strong_apa.proofs.SameTasks.{same_tasks-step}
 use Rattle.sched_core.proofs.scheduler.Core.enter.Goals as goal
 
@@ -38,7 +38,7 @@ follow_links-requires-clause-can c =
         room = let room = (kept.rows_open open_before p (subst (λ (n : ℕ). p < n) same.processors fits)).room in omega (arith, room);
         small = λ t on.
             let number : t < task_count inside.links = subst (λ (k : ℕ). t < k) (ap length same.priorities) (linked_number new p t state on) in
-            let bound = takes_bound inside.start inside.history.items t kept.core.start.processors in
+            let bound = takes_bound (state_before inside.links inside.first_masks.items) inside.history.items t kept.core.start.processors in
             omega (arith, kept.takes t number, bound, kept.core.fits);
       };
     }
@@ -81,7 +81,7 @@ invariant_of-self c =
     let entry = entry_of c.args.caller c.args.event c.reply_to-reply.result in
     let lent = read_last c.self.inside.history.items c.push_reserved.new.self.items entry c.index.result.now c.len-place.result
     c.push_reserved.ensures.items (sym c.self.inside.history.ok.0 ∙ sym c.len-place.ensures) c.index.ensures in
-    let begin = inside.start in
+    let begin = state_before inside.links inside.first_masks.items in
     let history = inside.history.items in
     let items = c.push_reserved.ensures.items in
     let rows = subst (λ (e : Entry). RowsFollow inside.rows.items (λ t. get_or inside.takes.items t 0) new e.event c.follow_links.new.rows.items) lent c.follow_links.ensures.rows in
@@ -94,6 +94,8 @@ invariant_of-self c =
     let at_p : (p : ℕ) → p < new.processors → p < inside.links.processors = λ p fits. subst (λ (k : ℕ). p < k) same.processors fits in
     let at_t : (t : ℕ) → t < task_count new → t < task_count inside.links = λ t fits. subst (λ (k : ℕ). t < k) (ap length same.priorities) fits in
     let in_rows : (p : ℕ) → p < inside.links.processors → p < length inside.rows.items = λ p fits. subst (λ (k : ℕ). p < k) (sym kept.rows_count) fits in
+    let stays : state_before new inside.first_masks.items ≡ begin = before_step inside.links c.args.event c.reply_to-reply.result new inside.first_masks.items step in
+    subst (λ (s : State). IsKeptFrom s (record inside { history = c.push_reserved.new.self; links = new; rows = c.follow_links.new.rows; takes = c.follow_links.new.takes; spare = inside.spare - 1 })) (sym stays)
     record {
       core = subst (λ (h : List Entry). IsCore (record { start = begin; history = h; links = new; closed = inside.closed; spare = inside.spare - 1 })) (sym items)
           (core_entered (core_view inside) entry new (inside.spare - 1) kept.core step space);
@@ -133,14 +135,14 @@ returns-clause-applied c =
     let new = c.reply_to-reply.new.links in
     let step = c.reply_to-reply.ensures in
     let some_spare : 1 ≤ inside.spare = subst (λ (core : CoreData). 1 ≤ core.spare) (sym c.self.view_is) c.requires.room in
-    let entered : CoreData = record { start = inside.start; history = c.push_reserved.new.self.items; links = new; closed = inside.closed; spare = inside.spare - 1 } in
+    let entered : CoreData = record { start = state_before new inside.first_masks.items; history = c.push_reserved.new.self.items; links = new; closed = inside.closed; spare = inside.spare - 1 } in
     subst (λ (core : CoreData). Applied core c.args.caller c.args.event (length core.history) entered) c.self.view_is record {
       reply = reply;
       at_place = refl;
       history = c.push_reserved.ensures.items;
       step = step;
       justified = step_has_justification inside.links c.args.event reply new kept.core.state kept.core.certificates step;
-      start = refl;
+      start = before_step inside.links c.args.event reply new inside.first_masks.items step;
       closed = refl;
       spare = omega arith;
     }
