@@ -1,6 +1,5 @@
 -- A number gives one input of each size.
-use Rattle.std.proofs.Common.{◌≡◌, ℕ, zero, suc, ◌<◌, ◌≤◌, Bool, true, false, List, length, get_or, take, All, IsTrue, refl, sym, ap, ◌∙◌, arith}
-use Rattle.std.proofs.lemmas.Bool.{false≢true}
+use Rattle.std.proofs.Common.{◌≡◌, ℕ, zero, suc, ◌<◌, ◌≤◌, List, length, get_or, take, All, refl, sym, ap, ◌∙◌, arith}
 use Rattle.std.proofs.lemmas.List.{same_lists, length-map, get_or-map}
 use Rattle.std.proofs.lemmas.Option.{slice_get-get_or, get_or_from_slice_get}
 use Rattle.std.proofs.Math.Seq.{take-suc, take-length}
@@ -9,19 +8,13 @@ use Rattle.task_set.specs.TaskSet.{TaskData, SetData}
 use Rattle.task_set.specs.declared.event.Event.{Event}
 use Rattle.trace_reader.specs.declared.posted.Posted.{Posted}
 use Rattle.trace_reader.specs.Generated.{IsGeneratedTask, AreGeneratedTasks, generated_event, AreGeneratedEvents, IsGeneratedInput, events_of}
-
--- two tests that say the same are equal
-same_test : (a b : Bool) → (IsTrue a → IsTrue b) → (IsTrue b → IsTrue a) → a ≡ b
-same_test true true one other = refl
-same_test true false one other = absurd (false≢true (one refl))
-same_test false true one other = absurd (false≢true (other refl))
-same_test false false one other = refl
+use Rattle.affinity_mask.proofs.Unions.{same_answer}
 
 same_task : (number m i : ℕ) (task other : TaskData) → IsGeneratedTask number m i task → IsGeneratedTask number m i other → task ≡ other
 same_task number m i task other one two =
     let names : task.name ≡ other.name = one.name ∙ sym two.name in
     let priorities : task.priority ≡ other.priority = one.priority ∙ sym two.priority in
-    let masks : task.mask ≡ other.mask = same_set task.mask other.mask (λ p. same_test _ _ (λ member. (two.mask p).1 ((one.mask p).0 member)) (λ member. (one.mask p).1 ((two.mask p).0 member))) in
+    let masks : task.mask ≡ other.mask = same_set task.mask other.mask (λ p. same_answer _ _ (λ member. (two.mask p).1 ((one.mask p).0 member)) (λ member. (one.mask p).1 ((two.mask p).0 member))) in
     λ k. record { name = names k; priority = priorities k; mask = masks k }
 
 same_tasks : (number m : ℕ) (tasks others : List TaskData) → length tasks ≡ length others → AreGeneratedTasks number m tasks → AreGeneratedTasks number m others → tasks ≡ others
