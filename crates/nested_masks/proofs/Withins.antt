@@ -1,13 +1,10 @@
 -- Whether one set lies within another, and of two masks that nest which one does.
-use Rattle.std.proofs.Common.{◌≡◌, ℕ, ◌<◌, ◌≤◌, Bool, true, false, ◌&&◌, List, length, sym, ap, ◌∙◌, inl, inr, ◌⊎◌, arith, eq-eqb, eqb-true}
+use Rattle.std.proofs.Common.{◌≡◌, ℕ, ◌<◌, ◌≤◌, true, false, ◌&&◌, List, length, sym, ap, ◌∙◌, inl, inr, ◌⊎◌, arith, eq-eqb, eqb-true}
 use Rattle.std.proofs.lemmas.Bool.{cases_Bool, and_parts, true≢false}
 use Rattle.std.proofs.lemmas.Nat.{and_le_r}
 use Rattle.affinity_mask.specs.ProcSet.{has, intersection, Within, Meets}
-use Rattle.affinity_mask.proofs.Sets.{has-intersection, same_set}
+use Rattle.affinity_mask.proofs.Sets.{has-intersection, same_set, both_absorbs}
 use Rattle.nested_masks.specs.Laminar.{mask_at, IsLaminar, is_within}
-
-both_absorbs : (a b : Bool) → (a ≡ true → b ≡ true) → (a && b) ≡ a
-both_absorbs a b f = grind arith
 
 intersection-within : (X Y : ℕ) → Within X Y → intersection X Y ≡ X
 intersection-within X Y within = same_set _ _ (λ q. rw has-intersection (both_absorbs _ _ (within q)))

@@ -1,7 +1,7 @@
 //! Which tasks are ready and linked, and what the masks hold.
 ghost use Rattle.std.specs.Prelude.{◌≡◌, ◌⊎◌, ℕ, ◌<◌, ◌≤◌, ◌↔◌, ◌+◌, IsTrue, IfOk, IfErr, MatchOption, true, false, length, replicate, set};
 ghost use Rattle.affinity_mask.specs.ProcSet.{Within};
-ghost use Rattle.task_set.specs.TaskSet.{masks, priorities};
+ghost use Rattle.task_set.specs.TaskSet.{masks};
 ghost use Rattle.nested_masks.specs.Laminar.{IsLaminar, IsTight, tasks_in};
 ghost use Rattle.nested_masks.specs.Answers.{IsCrossingFault};
 ghost use Rattle.nested_masks.specs.declared.fault.NestedFault.{NestedFault};
@@ -53,11 +53,11 @@ impl Counts {
             ⊎ IsCrossingFault set.now fault) }
     {
         let count = set.len();
-        let masks = masks_of(alloc, set)?;
+        let masks = set.masks(alloc)?;
         if let Some((one, other)) = first_crossing(&masks) {
             return Err(NestedFault::Crossing { one, other });
         }
-        let priorities = priorities_of(alloc, set)?;
+        let priorities = set.priorities(alloc)?;
         let (ready, linked, held) = nobody(alloc, count as usize)?;
         Ok(Counts {
             processors: set.processors(),
@@ -348,28 +348,6 @@ impl Counts {
         hold_one_less(&mut self.held, &self.masks, mask);
         self.linked[t as usize] = false;
     }
-}
-
-/// The masks of the tasks of a set.
-fn masks_of(alloc: Global, set: &TaskSet) -> Result<Vec<ProcSet>, OutOfMemory>
-    ensures { IfOk result (λ column. column.items ≡ masks set.now) }
-{
-    let mut column = Vec::new(alloc);
-    for t in 0..set.len() {
-        column.push(set.mask(t))?;
-    }
-    Ok(column)
-}
-
-/// The priorities of the tasks of a set.
-fn priorities_of(alloc: Global, set: &TaskSet) -> Result<Vec<u32>, OutOfMemory>
-    ensures { IfOk result (λ column. column.items ≡ priorities set.now) }
-{
-    let mut column = Vec::new(alloc);
-    for t in 0..set.len() {
-        column.push(set.priority(t))?;
-    }
-    Ok(column)
 }
 
 /// Of so many tasks nobody is ready or linked, and no mask holds one.

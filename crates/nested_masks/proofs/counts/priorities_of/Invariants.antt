@@ -1,6 +1,0 @@
-use Rattle.std.proofs.Common.{◌≡◌, take}
-use Rattle.task_set.specs.TaskSet.{priorities}
-use Rattle.nested_masks.proofs.counts.priorities_of.Given as goal
-
-abbrev pub invariant-loop-t : goal.invariant-loop-t
-invariant-loop-t l = l.column.items ≡ take l.t (priorities l.set)
