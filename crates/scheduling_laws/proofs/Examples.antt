@@ -1,8 +1,8 @@
 -- The definitions on one example, worked by hand. Two processors; a may run on both, b on 1 alone, and c, the least urgent, on both.
 -- They arrive as c, a, b. So c takes processor 0 and a processor 1, and then a moves aside for b, and c waits.
-use Rattle.std.proofs.Common.{◌≡◌, ℕ, zero, suc, ◌<◌, ◌≤◌, Bool, true, false, List, [], ◌∷◌, map, Some, None, refl, sym, ap, ◌∙◌, IsTrue, arith, eqb-true}
+use Rattle.std.proofs.Common.{◌≡◌, ℕ, zero, suc, ◌<◌, ◌≤◌, Bool, true, false, List, [], ◌∷◌, map, Some, None, refl, sym, ap, ◌∙◌, IsTrue, arith, eqb-true, ◌&&◌, ◌==◌}
 use Rattle.std.specs.Prelude.{All, length, nat_lt}
-use Rattle.std.proofs.lemmas.Bool.{ltb-true, lt-ltb, false≢true}
+use Rattle.std.proofs.lemmas.Bool.{ltb-true, lt-ltb, false≢true, and_parts}
 use Rattle.std.proofs.lemmas.List.Elements.{All-nil, All-cons}
 use Rattle.std.proofs.lemmas.Option.{same_Some}
 use Rattle.affinity_mask.specs.ProcSet.{has, all_below, intersection, passing_below}
@@ -19,7 +19,6 @@ use Rattle.strong_apa.specs.declared.reply.Entry.{Entry}
 use Rattle.strong_apa.specs.State.{State, IsWaiting, priority_of, effective_mask, start_of}
 use Rattle.strong_apa.specs.Chain.{Reaches, IsReach}
 use Rattle.strong_apa.specs.History.{linked_after, ready_after, state_at, effect_of}
-use Rattle.strong_apa.specs.Placement.{TaskTest, IsSubset, IsPlaceable}
 use Rattle.strong_apa.specs.Dispatch.{closed_orders_of}
 use Rattle.strong_apa.proofs.Paths.{Reaches-online}
 use Rattle.trace_reader.specs.declared.posted.Posted.{Posted}
@@ -64,28 +63,19 @@ moved_aside =
     ∷ entry (Tick 5) Ticked
     ∷ []
 
--- ---- one running task is shifted, at the third entry
-shifts : map (λ (e : Entry). shifts_of e.reply) moved_aside ≡ 0 ∷ 0 ∷ 1 ∷ 0 ∷ []
-shifts = refl
-
-most : map (most_shifts 2) (Arrive 0 ∷ Affinity 0 1 ∷ Tick 5 ∷ []) ≡ 1 ∷ 2 ∷ 0 ∷ []
-most = refl
-
--- ---- there a goes from 1 to 0, and is the one task that is moved; b can run on 1 alone, so no placement of the two moves fewer
+-- ---- the changes of places. One running task is shifted, at the third entry: a goes from 1 to 0. b can run on 1 alone, so no placement
+-- of the two moves fewer. It is the one migration of a, at the one event of another task while a is ready
 abbrev a_aside : ℕ → ℕ
 a_aside zero = 0
 a_aside (suc t) = 1
 
-moved : moved_count (state_at three_tasks moved_aside 2) (state_at three_tasks moved_aside 3) a_aside ≡ 1
+moves : (map (λ (e : Entry). shifts_of e.reply) moved_aside ≡ 0 ∷ 0 ∷ 1 ∷ 0 ∷ [])
+    × (map (most_shifts 2) (Arrive 0 ∷ Affinity 0 1 ∷ Tick 5 ∷ []) ≡ 1 ∷ 2 ∷ 0 ∷ [])
+    × (moved_count (state_at three_tasks moved_aside 2) (state_at three_tasks moved_aside 3) a_aside ≡ 1)
+    × (migrations_of (start_of three_tasks) moved_aside 0 ≡ 1)
+    × (events_of_others (start_of three_tasks) moved_aside 0 ≡ 1)
 unfolding passing_below
-moved = refl
-
--- ---- it is the one migration of a, at the one event of another task while a is ready
-migrated : migrations_of (start_of three_tasks) moved_aside 0 ≡ 1
-migrated = refl
-
-others : events_of_others (start_of three_tasks) moved_aside 0 ≡ 1
-others = refl
+moves = (refl, refl, refl, refl, refl)
 
 -- ---- a change of a mask may move a task in vain: b is on 0, a on 1, c waits for 1. Now b may run on 1 too, and leaves: a goes on 0, c on
 -- 1. Then b comes back, and displaces c. Both are moved, and neither had to be
@@ -102,133 +92,86 @@ c_behind_a = record {
 abbrev mask_changes : Entry
 mask_changes = entry (Affinity 1 3) (Remasked (Some record { entered = Some 2; chain = 0 ∷ 1 ∷ []; back = 3 }) (came.Displaced (1 ∷ []) 2 3))
 
-they_change_places : (effect_of c_behind_a mask_changes).on ≡ Some 0 ∷ Some 1 ∷ []
-they_change_places = refl
-
 abbrev b_stays : ℕ → ℕ
 b_stays zero = 1
 b_stays (suc t) = 0
 
-in_vain : moved_count c_behind_a (effect_of c_behind_a mask_changes) a_aside ≡ 2
+in_vain : ((effect_of c_behind_a mask_changes).on ≡ Some 0 ∷ Some 1 ∷ [])
+    × (moved_count c_behind_a (effect_of c_behind_a mask_changes) a_aside ≡ 2)
+    × (moved_count c_behind_a (effect_of c_behind_a mask_changes) b_stays ≡ 0)
 unfolding passing_below
-in_vain = refl
+in_vain = (refl, refl, refl)
 
-not_needed : moved_count c_behind_a (effect_of c_behind_a mask_changes) b_stays ≡ 0
-unfolding passing_below
-not_needed = refl
+-- ---- who is urgent up to priority 2, of all tasks. The tick of 5 units is work of a and b; of a alone, had nobody else been chosen. By
+-- weights of 4, 2 and 1 the linked a and b weigh 6, and a alone 4
+abbrev a_alone : ℕ → ℕ → Bool
+a_alone n t = nat_lt 1 n && (t == 0)
 
--- ---- who is urgent up to priority 2, of all tasks
-urgent : map (urgent_of (start_of three_tasks) (λ t. true) 2) (0 ∷ 1 ∷ 2 ∷ []) ≡ true ∷ true ∷ false ∷ []
-urgent = refl
-
--- ---- the tick of 5 units is work of a and b; of a and c, had a stayed where it was
-abbrev a_and_c : ℕ → ℕ → Bool
-a_and_c (suc (suc (suc n))) zero = true
-a_and_c (suc (suc (suc n))) (suc (suc zero)) = true
-a_and_c n t = false
-
-abbrev place_of : ℕ → ℕ
-place_of zero = 1
-place_of (suc t) = 0
-
-nobody_is_a_choice : (s : State) (R tasks : TaskTest) → ((t : ℕ) → tasks t ≡ false) → IsSubset tasks R × IsPlaceable s tasks
-nobody_is_a_choice s R tasks none = (
-  (λ t is. absurd (false≢true (sym (none t) ∙ is))),
-  (
-    (λ t. 0),
-    record {
-      allowed = λ t is. absurd (false≢true (sym (none t) ∙ is));
-      apart = λ t u is also e. absurd (false≢true (sym (none t) ∙ is));
-    },
-  ),
-)
-
-after_three : IsSubset (a_and_c 3) (ready_after three_tasks moved_aside 3)
-after_three zero is = refl
-after_three (suc zero) is = refl
-after_three (suc (suc zero)) is = refl
-after_three (suc (suc (suc t))) is = absurd (false≢true is)
-
-allowed : (t : ℕ) → a_and_c 3 t ≡ true → IsTrue (has (effective_mask (state_at three_tasks moved_aside 3) t) (place_of t))
-unfolding has intersection all_below
-allowed zero is = refl
-allowed (suc zero) is = absurd (false≢true is)
-allowed (suc (suc zero)) is = refl
-allowed (suc (suc (suc t))) is = absurd (false≢true is)
-
-apart : (t u : ℕ) → a_and_c 3 t ≡ true → a_and_c 3 u ≡ true → place_of t ≡ place_of u → t ≡ u
-apart zero zero is also e = refl
-apart zero (suc u) is also e = absurd (omega arith)
-apart (suc t) zero is also e = absurd (omega arith)
-apart (suc zero) (suc u) is also e = absurd (false≢true is)
-apart (suc (suc zero)) (suc zero) is also e = absurd (false≢true also)
-apart (suc (suc zero)) (suc (suc zero)) is also e = refl
-apart (suc (suc zero)) (suc (suc (suc u))) is also e = absurd (false≢true also)
-apart (suc (suc (suc t))) (suc u) is also e = absurd (false≢true is)
-
-is_choice : IsChoice (start_of three_tasks) moved_aside a_and_c
-is_choice zero below = nobody_is_a_choice _ _ (a_and_c 0) (λ t. refl)
-is_choice (suc zero) below = nobody_is_a_choice _ _ (a_and_c 1) (λ t. refl)
-is_choice (suc (suc zero)) below = nobody_is_a_choice _ _ (a_and_c 2) (λ t. refl)
-is_choice (suc (suc (suc zero))) below = (after_three, (place_of, record { allowed = allowed; apart = apart }))
-is_choice (suc (suc (suc (suc n)))) below = absurd (omega arith)
-
-work_done : urgent_work (start_of three_tasks) moved_aside (linked_after three_tasks moved_aside) 2 ≡ 10
-unfolding passing_below
-work_done = refl
-
-other_work : urgent_work (start_of three_tasks) moved_aside a_and_c 2 ≡ 5
-unfolding passing_below
-other_work = refl
-
--- ---- by weights of 4, 2 and 1 the linked a and b weigh 6, and a and c, had a stayed where it was, 5
 abbrev weights_of : ℕ → ℕ
 weights_of zero = 4
 weights_of (suc zero) = 2
 weights_of (suc (suc t)) = 1
 
-linked_weight : weight_of (start_of three_tasks) weights_of (linked_after three_tasks moved_aside 3) ≡ 6
+work : (map (urgent_of (start_of three_tasks) (λ t. true) 2) (0 ∷ 1 ∷ 2 ∷ []) ≡ true ∷ true ∷ false ∷ [])
+    × (urgent_work (start_of three_tasks) moved_aside (linked_after three_tasks moved_aside) 2 ≡ 10)
+    × (urgent_work (start_of three_tasks) moved_aside a_alone 2 ≡ 5)
+    × (weight_of (start_of three_tasks) weights_of (linked_after three_tasks moved_aside 3) ≡ 6)
+    × (weight_of (start_of three_tasks) weights_of (a_alone 3) ≡ 4)
 unfolding passing_below
-linked_weight = refl
+work = (refl, refl, refl, refl, refl)
 
-other_weight : weight_of (start_of three_tasks) weights_of (a_and_c 3) ≡ 5
-unfolding passing_below
-other_weight = refl
+is_a : (n t : ℕ) → a_alone n t ≡ true → t ≡ 0
+is_a n t is = eqb-true t 0 (and_parts (nat_lt 1 n) (t == 0) is).1
 
--- ---- c can run on two processors, and waits for all 5 moments of the tick; a and b, which can interfere, get 10 units there
-interfere : map (can_interfere (start_of three_tasks) 2) (0 ∷ 1 ∷ 2 ∷ []) ≡ true ∷ true ∷ false ∷ []
-unfolding intersection
-interfere = refl
+a_is_ready : (n : ℕ) → n < 4 → a_alone n 0 ≡ true → ready_after three_tasks moved_aside n 0 ≡ true
+a_is_ready zero below is = absurd (false≢true is)
+a_is_ready (suc zero) below is = absurd (false≢true is)
+a_is_ready (suc (suc zero)) below is = refl
+a_is_ready (suc (suc (suc zero))) below is = refl
+a_is_ready (suc (suc (suc (suc n)))) below is = absurd (omega arith)
 
-width : width_of (start_of three_tasks) 2 ≡ 2
-unfolding passing_below has
-width = refl
+a_fits : (n : ℕ) → n < 4 → IsTrue (has (effective_mask (state_at three_tasks moved_aside n) 0) 1)
+unfolding has intersection all_below
+a_fits zero below = refl
+a_fits (suc zero) below = refl
+a_fits (suc (suc zero)) below = refl
+a_fits (suc (suc (suc zero))) below = refl
+a_fits (suc (suc (suc (suc n)))) below = absurd (omega arith)
 
-waited : waiting_of (moments.state_at (start_of three_tasks) moved_aside) 2 5 ≡ 5
-unfolding passing_below
-waited = refl
+is_choice : IsChoice (start_of three_tasks) moved_aside a_alone
+is_choice n below = (
+  (λ t is. let at_0 = is_a n t is in rw at_0 (a_is_ready n below (rw at_0 at is))),
+  (
+    (λ t. 1),
+    record {
+      allowed = λ t is. rw (is_a n t is) (a_fits n below);
+      apart = λ t u is also e. is_a n t is ∙ sym (is_a n u also);
+    },
+  ),
+)
 
-interfered : interference_of (start_of three_tasks) (moments.state_at (start_of three_tasks) moved_aside) 2 0 5 ≡ 10
-unfolding passing_below intersection
-interfered = refl
+-- ---- c can run on two processors, and waits for all 5 moments of the tick; a and b, which can interfere, get 10 units there. All three
+-- are confined to processors 0 and 1, so that they crowd them; to processor 1 b alone is
+waits : (map (can_interfere (start_of three_tasks) 2) (0 ∷ 1 ∷ 2 ∷ []) ≡ true ∷ true ∷ false ∷ [])
+    × (width_of (start_of three_tasks) 2 ≡ 2)
+    × (waiting_of (moments.state_at (start_of three_tasks) moved_aside) 2 5 ≡ 5)
+    × (interference_of (start_of three_tasks) (moments.state_at (start_of three_tasks) moved_aside) 2 0 5 ≡ 10)
+    × (confined_count (start_of three_tasks) (λ t. nat_lt t 3) 2 ≡ 1)
+unfolding passing_below has intersection all_below
+waits = (refl, refl, refl, refl, refl)
 
--- ---- all three are confined to processors 0 and 1, so that they crowd them; to processor 1 b alone is
 crowded : IsCrowded (start_of three_tasks) (λ t. nat_lt t 3) 3
 unfolding passing_below has intersection all_below
 crowded = omega arith
 
-confined : confined_count (start_of three_tasks) (λ t. nat_lt t 3) 2 ≡ 1
-unfolding passing_below intersection all_below
-confined = refl
-
 -- ---- the events of a, and those of the only caller
-events_of_a : events_that (is_of_task 0) moved_aside ≡ Arrive 0 ∷ []
-events_of_a = refl
-
-events_of_caller : events_by 0 moved_aside ≡ Arrive 2 ∷ Arrive 0 ∷ Arrive 1 ∷ Tick 5 ∷ []
-events_of_caller = refl
+events : (events_that (is_of_task 0) moved_aside ≡ Arrive 0 ∷ []) × (events_by 0 moved_aside ≡ Arrive 2 ∷ Arrive 0 ∷ Arrive 1 ∷ Tick 5 ∷ [])
+events = (refl, refl)
 
 -- ---- c has its events on stream 1, and the others on stream 0
+both_are : {A : Type 0} (P : A → Type 0) (x y : A) → P x → P y → All P (x ∷ y ∷ [])
+both_are P x y one other = All-cons P x (y ∷ []) one (All-cons P y [] other (All-nil P))
+
 abbrev posted : ℕ → Event → Posted
 posted stream event = record { stream = stream; event = event }
 
@@ -237,19 +180,12 @@ stream_of (suc (suc zero)) = 1
 stream_of t = 0
 
 two_streams : HaveStreams stream_of (λ p. 0) (posted 1 (Arrive 2) ∷ posted 0 (Arrive 0) ∷ [])
-two_streams = record { tasks = of_task; processors = of_processor }
-  where
-    of_task : (t : ℕ) → All (λ (event : Posted). is_of_task t event.event ≡ true → event.stream ≡ stream_of t) (posted 1 (Arrive 2) ∷ posted 0 (Arrive 0) ∷ [])
-    of_task t =
-        All-cons (λ (event : Posted). is_of_task t event.event ≡ true → event.stream ≡ stream_of t) (posted 1 (Arrive 2)) (posted 0 (Arrive 0) ∷ []) (λ is. ap stream_of (eqb-true 2 t is))
-        (All-cons (λ (event : Posted). is_of_task t event.event ≡ true → event.stream ≡ stream_of t) (posted 0 (Arrive 0)) [] (λ is. ap stream_of (eqb-true 0 t is))
-        (All-nil (λ (event : Posted). is_of_task t event.event ≡ true → event.stream ≡ stream_of t)))
-
-    of_processor : (p : ℕ) → All (λ (event : Posted). is_of_processor p event.event ≡ true → event.stream ≡ 0) (posted 1 (Arrive 2) ∷ posted 0 (Arrive 0) ∷ [])
-    of_processor p =
-        All-cons (λ (event : Posted). is_of_processor p event.event ≡ true → event.stream ≡ 0) (posted 1 (Arrive 2)) (posted 0 (Arrive 0) ∷ []) (λ is. absurd (false≢true is))
-        (All-cons (λ (event : Posted). is_of_processor p event.event ≡ true → event.stream ≡ 0) (posted 0 (Arrive 0)) [] (λ is. absurd (false≢true is))
-        (All-nil (λ (event : Posted). is_of_processor p event.event ≡ true → event.stream ≡ 0)))
+two_streams = record {
+  tasks = λ t. both_are (λ (event : Posted). is_of_task t event.event ≡ true → event.stream ≡ stream_of t) _ _
+      (λ is. ap stream_of (eqb-true 2 t is)) (λ is. ap stream_of (eqb-true 0 t is));
+  processors = λ p. both_are (λ (event : Posted). is_of_processor p event.event ≡ true → event.stream ≡ 0) _ _
+      (λ is. absurd (false≢true is)) (λ is. absurd (false≢true is));
+}
 
 -- ---- an arrival of c and processor 0 off line, in either order; the replies differ
 abbrev arrival_first : List Entry
@@ -269,19 +205,10 @@ one_more_event : HaveSameEvents arrival_first (entry (Arrive 2) Ticked ∷ proce
 one_more_event same = omega (arith, counted_twice same)
 
 one_caller : HaveCallers (λ t. 0) (λ p. 0) arrival_first
-one_caller = record { tasks = of_task; processors = of_processor }
-  where
-    of_task : (t : ℕ) → All (λ (e : Entry). is_of_task t e.event ≡ true → e.caller ≡ 0) arrival_first
-    of_task t =
-        All-cons (λ (e : Entry). is_of_task t e.event ≡ true → e.caller ≡ 0) (entry (Arrive 2) (Placed (0 ∷ []))) (entry (Offline 0) Ticked ∷ []) (λ is. refl)
-        (All-cons (λ (e : Entry). is_of_task t e.event ≡ true → e.caller ≡ 0) (entry (Offline 0) Ticked) [] (λ is. refl)
-        (All-nil (λ (e : Entry). is_of_task t e.event ≡ true → e.caller ≡ 0)))
-
-    of_processor : (p : ℕ) → All (λ (e : Entry). is_of_processor p e.event ≡ true → e.caller ≡ 0) arrival_first
-    of_processor p =
-        All-cons (λ (e : Entry). is_of_processor p e.event ≡ true → e.caller ≡ 0) (entry (Arrive 2) (Placed (0 ∷ []))) (entry (Offline 0) Ticked ∷ []) (λ is. refl)
-        (All-cons (λ (e : Entry). is_of_processor p e.event ≡ true → e.caller ≡ 0) (entry (Offline 0) Ticked) [] (λ is. refl)
-        (All-nil (λ (e : Entry). is_of_processor p e.event ≡ true → e.caller ≡ 0)))
+one_caller = record {
+  tasks = λ t. both_are (λ (e : Entry). is_of_task t e.event ≡ true → e.caller ≡ 0) _ _ (λ is. refl) (λ is. refl);
+  processors = λ p. both_are (λ (e : Entry). is_of_processor p e.event ≡ true → e.caller ≡ 0) _ _ (λ is. refl) (λ is. refl);
+}
 
 -- ---- obeying: processor 0 takes c and releases it, and then takes a, once processor 1 has released it
 abbrev orders : ℕ → List Order
@@ -304,14 +231,11 @@ is_run = (
   ),
 )
 
-taken_once : times_taken 2 orders one_taken 0 ≡ 1
-taken_once = refl
-
-not_released : times_released 2 orders one_taken 0 ≡ 0
-not_released = refl
+counted : (times_taken 2 orders one_taken 0 ≡ 1) × (times_released 2 orders one_taken 0 ≡ 0)
+counted = (refl, refl)
 
 too_early : CanBeObeyed (times_taken 2 orders one_taken) (times_released 2 orders one_taken) (Take 0 1) → ⊥
-too_early can = let released : times_released 2 orders one_taken 0 ≡ 1 = can.1 in absurd (let e : 0 ≡ 1 = sym not_released ∙ released in omega arith)
+too_early can = let released : times_released 2 orders one_taken 0 ≡ 1 = can.1 in absurd (let e : 0 ≡ 1 = sym counted.1 ∙ released in omega arith)
 
 in_time : CanBeObeyed (times_taken 2 orders (1 ∷ one_taken)) (times_released 2 orders (1 ∷ one_taken)) (Take 0 1)
 in_time = (refl, refl)
@@ -380,38 +304,51 @@ without_c cost = record {
   jobs = two_jobs 3 ∷ two_jobs cost ∷ [];
 }
 
-is_urgent_without : (cost t : ℕ) → IsUrgent with_c 2 t → IsUrgent (without_c cost) 2 t
-is_urgent_without cost zero h = (omega arith, omega arith)
-is_urgent_without cost (suc zero) h = (omega arith, omega arith)
-is_urgent_without cost (suc (suc zero)) h = absurd (let above = h.1 in omega arith)
-is_urgent_without cost (suc (suc (suc t))) h = absurd (let beyond = h.0 in omega arith)
+-- a and b are those up to priority 2
+of_two : (P : ℕ → Type 0) → P 0 → P 1 → (t : ℕ) → t < 2 → P t
+of_two P one other zero lt = one
+of_two P one other (suc zero) lt = other
+of_two P one other (suc (suc t)) lt = absurd (omega arith)
 
-is_urgent_with : (cost t : ℕ) → IsUrgent (without_c cost) 2 t → IsUrgent with_c 2 t
-is_urgent_with cost zero h = (omega arith, omega arith)
-is_urgent_with cost (suc zero) h = (omega arith, omega arith)
-is_urgent_with cost (suc (suc t)) h = absurd (let beyond = h.0 in omega arith)
+a_or_b : (t : ℕ) → IsUrgent with_c 2 t → t < 2
+a_or_b zero h = omega arith
+a_or_b (suc zero) h = omega arith
+a_or_b (suc (suc zero)) h = absurd (let above = h.1 in omega arith)
+a_or_b (suc (suc (suc t))) h = absurd (let beyond = h.0 in omega arith)
+
+with_is_urgent : (cost t : ℕ) → IsUrgent (without_c cost) 2 t → IsUrgent with_c 2 t
+with_is_urgent cost t h = of_two (IsUrgent with_c 2) (omega arith, omega arith) (omega arith, omega arith) t h.0
+
+without_is_urgent : (cost t : ℕ) → IsUrgent with_c 2 t → IsUrgent (without_c cost) 2 t
+without_is_urgent cost t h = of_two (IsUrgent (without_c cost) 2) (omega arith, omega arith) (omega arith, omega arith) t (a_or_b t h)
 
 agree : AgreeUpTo 2 with_c (without_c 4)
-agree = record { processors = refl; horizon = refl; urgent = λ t. (is_urgent_without 4 t, is_urgent_with 4 t); same = λ t urgent. same t (urgent.0) (urgent.1) }
-  where
-    same : (t : ℕ) → t < 3 → priority_of (start_of three_tasks) t ≤ 2 → IsSameTask with_c (without_c 4) t
-    same zero lt le = record { priority = refl; mask = refl; jobs = refl }
-    same (suc zero) lt le = record { priority = refl; mask = refl; jobs = refl }
-    same (suc (suc zero)) lt le = absurd (omega arith)
-    same (suc (suc (suc t))) lt le = absurd (omega arith)
+agree = record {
+  processors = refl;
+  horizon = refl;
+  urgent = λ t. (without_is_urgent 4 t, with_is_urgent 4 t);
+  same = λ t urgent. of_two (IsSameTask with_c (without_c 4)) (record { priority = refl; mask = refl; jobs = refl })
+      (record { priority = refl; mask = refl; jobs = refl }) t (a_or_b t urgent);
+}
+
+no_longer : (one other : ℕ) → other ≤ one → (k : ℕ) → k < 2 → IsNoLonger (job_at (two_jobs one) k) (job_at (two_jobs other) k)
+no_longer one other le = of_two (λ k. IsNoLonger (job_at (two_jobs one) k) (job_at (two_jobs other) k))
+    (record { release = refl; cost = le }) (record { release = refl; cost = le })
 
 asks_no_more : AsksNoMoreUpTo 2 with_c (without_c 2)
-asks_no_more = record { processors = refl; horizon = refl; urgent = λ t. is_urgent_with 2 t; each = λ t urgent. each t urgent.0 }
-  where
-    no_longer : (one other : ℕ) → other ≤ one → (k : ℕ) → k < 2 → IsNoLonger (job_at (two_jobs one) k) (job_at (two_jobs other) k)
-    no_longer one other le zero lt = record { release = refl; cost = le }
-    no_longer one other le (suc zero) lt = record { release = refl; cost = le }
-    no_longer one other le (suc (suc k)) lt = absurd (omega arith)
+asks_no_more = record {
+  processors = refl;
+  horizon = refl;
+  urgent = with_is_urgent 2;
+  each = λ t urgent. of_two (AsksNoMore with_c (without_c 2))
+      (record { priority = refl; mask = refl; count = refl; each = no_longer 3 3 (omega arith) })
+      (record { priority = refl; mask = refl; count = refl; each = no_longer 4 2 (omega arith) }) t urgent.0;
+}
 
-    each : (t : ℕ) → t < 2 → AsksNoMore with_c (without_c 2) t
-    each zero lt = record { priority = refl; mask = refl; count = refl; each = no_longer 3 3 (omega arith) }
-    each (suc zero) lt = record { priority = refl; mask = refl; count = refl; each = no_longer 4 2 (omega arith) }
-    each (suc (suc t)) lt = absurd (omega arith)
+-- c asks for 5 units at 0 and at 9; a and b ask for 3 and 4 before 9, and so c is done by 8, as 7 < 2 * (8 + 1 - 5)
+demanded : interfering_demand with_c 2 7 ≡ 7
+unfolding passing_below intersection
+demanded = refl
 
 -- ---- a on 0 and b on 1, or each one further, where 0 is idle: the same tasks are linked, to other processors
 abbrev placed_so : State
@@ -423,44 +360,24 @@ same_linked = record { ready = λ t. refl; linked = λ t. refl }
 without_b : HaveSameTasksLinked placed_so (record placed_so { on = Some 0 ∷ None ∷ [] }) → ⊥
 without_b same = absurd (false≢true (sym (same.linked 1)))
 
--- ---- of two processors the one input has the first alone: of the mask 0-1 of a it has 0
-abbrev on_one : JobInputData
-on_one = record { version = 2; set = record { processors = 1; tasks = task 1 1 ∷ [] }; horizon = 30; jobs = two_jobs 3 ∷ [] }
+-- ---- an input of a alone. Of two processors the one input has the first alone, and of the mask 0-1 of a it has 0; or it has both, and
+-- the mask of a has 0 alone
+abbrev of_a : ℕ → ℕ → JobInputData
+of_a processors mask = record { version = 2; set = record { processors = processors; tasks = task 1 mask ∷ [] }; horizon = 30; jobs = two_jobs 3 ∷ [] }
 
-abbrev on_two : JobInputData
-on_two = record { version = 2; set = record { processors = 2; tasks = task 1 3 ∷ [] }; horizon = 30; jobs = two_jobs 3 ∷ [] }
-
-more_room : HasMoreRoomUpTo 2 on_one on_two
+more_room : HasMoreRoomUpTo 2 (of_a 1 1) (of_a 2 3)
 unfolding intersection all_below
-more_room = record { processors = omega arith; horizon = refl; urgent = λ t urgent. is_urgent t urgent; each = λ t urgent. each t urgent.0 }
+more_room = record { processors = omega arith; horizon = refl; urgent = λ t urgent. urgent; each = λ t urgent. each t urgent.0 }
   where
-    is_urgent : (t : ℕ) → IsUrgent on_two 2 t → IsUrgent on_one 2 t
-    is_urgent zero h = (omega arith, omega arith)
-    is_urgent (suc t) h = absurd (let beyond = h.0 in omega arith)
-
-    no_longer : (k : ℕ) → k < 2 → IsNoLonger (job_at (two_jobs 3) k) (job_at (two_jobs 3) k)
-    no_longer zero lt = record { release = refl; cost = omega arith }
-    no_longer (suc zero) lt = record { release = refl; cost = omega arith }
-    no_longer (suc (suc k)) lt = absurd (omega arith)
-
-    each : (t : ℕ) → t < 1 → HasMoreRoom on_one on_two t
-    each zero lt = record { priority = refl; mask = refl; count = refl; each = no_longer }
+    each : (t : ℕ) → t < 1 → HasMoreRoom (of_a 1 1) (of_a 2 3) t
+    each zero lt = record { priority = refl; mask = refl; count = refl; each = no_longer 3 3 (omega arith) }
     each (suc t) lt = absurd (omega arith)
-
--- ---- with_c: c asks for 5 units at 0 and at 9; a and b ask for 3 and 4 before 9, and so c is done by 8, as 7 < 2 * (8 + 1 - 5)
-demanded : interfering_demand with_c 2 7 ≡ 7
-unfolding passing_below intersection
-demanded = refl
-
--- ---- the mask of a has processor 0, and in the other input 1 as well
-abbrev on_0 : JobInputData
-on_0 = record { version = 2; set = record { processors = 2; tasks = task 1 1 ∷ [] }; horizon = 30; jobs = two_jobs 3 ∷ [] }
 
 in_both : (p : ℕ) → IsTrue (has 1 p) → IsTrue (has 3 p)
 unfolding all_below
 in_both p there = has-all_below 2 p ∙ lt-ltb p 2 (let below = ltb-true p 1 (sym (has-all_below 1 p) ∙ there) in omega arith)
 
-wider_mask : HasWiderMask 0 on_0 on_two
+wider_mask : HasWiderMask 0 (of_a 2 1) (of_a 2 3)
 wider_mask = record {
   processors = refl;
   horizon = refl;
@@ -469,24 +386,18 @@ wider_mask = record {
   same = λ u urgent other. absurd (let lt = urgent.0 in omega arith);
   priority = refl;
   jobs = refl;
-  wider = λ p there. in_both p there;
+  wider = in_both;
 }
 
 -- ---- of three tasks a and b are the most urgent two
+above_b : (u : ℕ) → u < 3 → priority_of (start_of three_tasks) u < 2 → u ≡ 0
+above_b zero lt less = refl
+above_b (suc zero) lt less = absurd (omega arith)
+above_b (suc (suc zero)) lt less = absurd (omega arith)
+above_b (suc (suc (suc u))) lt less = absurd (omega arith)
+
 b_is_second : IsOfTopTwo (start_of three_tasks) 1
-b_is_second zero zero lu lv up vp = refl
-b_is_second zero (suc v) lu lv up vp = absurd (late v lv vp)
-  where
-    late : (v : ℕ) → suc v < 3 → priority_of (start_of three_tasks) (suc v) < 2 → ⊥
-    late zero lt less = omega arith
-    late (suc zero) lt less = omega arith
-    late (suc (suc v)) lt less = omega arith
-b_is_second (suc u) v lu lv up vp = absurd (late u lu up)
-  where
-    late : (v : ℕ) → suc v < 3 → priority_of (start_of three_tasks) (suc v) < 2 → ⊥
-    late zero lt less = omega arith
-    late (suc zero) lt less = omega arith
-    late (suc (suc v)) lt less = omega arith
+b_is_second u v lu lv up vp = above_b u lu up ∙ sym (above_b v lv vp)
 
 c_is_third : IsOfTopTwo (start_of three_tasks) 2 → ⊥
 c_is_third top = absurd (let same : 0 ≡ 1 = top 0 1 (omega arith) (omega arith) (omega arith) (omega arith) in omega arith)

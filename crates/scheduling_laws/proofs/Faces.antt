@@ -6,7 +6,6 @@ use Rattle.std.proofs.lemmas.Option.{same_Some}
 use Rattle.affinity_mask.specs.ProcSet.{has}
 use Rattle.strong_apa.specs.State.{State, IsState, IsWaiting, IsMoreUrgent, is_linked, task_on, priority_of}
 use Rattle.strong_apa.specs.Chain.{IsChainOf, IsSimple, state_after_shift}
-use Rattle.strong_apa.specs.Placement.{IsPlacement}
 use Rattle.strong_apa.proofs.Ends.{least_chain_to_idle, least_chain_to_task}
 use Rattle.strong_apa.proofs.Linked.{place_in, task_on-linked, is_linked-from_on, not_on, linked_number}
 use Rattle.strong_apa.proofs.Paths.{Reaches-online}
@@ -17,19 +16,12 @@ use Rattle.strong_apa.specs.Certified.{HasCertificates}
 use Rattle.strong_apa.specs.Improving.{HasNoImprovingChain}
 use Rattle.strong_apa.specs.Held.{IsHeldAgainst}
 use Rattle.strong_apa.specs.CertificateLaws.{LinkedIsBest}
-use Rattle.strong_apa.proofs.Best.{linked_is_best}
+use Rattle.strong_apa.proofs.Best.{linked_is_best, linked_placement}
 use Rattle.strong_apa.proofs.Closed.{IsReach-first, IsReach-closed}
 use Rattle.strong_apa.proofs.Improved.{no_improving_chain}
 use Rattle.strong_apa.proofs.KeptByShifts.{linked_or_out}
 use Rattle.history_laws.proofs.StepReach.{reach_exists}
 use Rattle.scheduling_laws.specs.Faces.{IsCertifiedByReach, BestIsCertified, CertifiedIsWithoutChain, CertifiedIsByReach}
-
--- ---- the linked tasks of a state are placed where they are linked
-linked_placement : (s : State) → IsState s → IsPlacement s (is_linked s) (λ t. place_in t s.on)
-linked_placement s ok = record {
-  allowed = λ t linked. ok.allowed (place_in t s.on) t (task_on-linked s t linked);
-  apart = λ t u ht hu e. same_Some t u (sym (task_on-linked s t ht) ∙ (rw e (task_on-linked s u hu)));
-}
 
 -- ---- a simple improving chain makes a better set
 module _ (s : State) (ok : IsState s) (best : LinkedIsBest s) (t : ℕ) (waits : IsWaiting s t) where

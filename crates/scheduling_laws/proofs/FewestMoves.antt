@@ -29,7 +29,6 @@ use Rattle.strong_apa.proofs.KeptByDepartures.{kept_without}
 use Rattle.strong_apa.proofs.KeptByShifts.{linked_or_out}
 use Rattle.strong_apa.proofs.Leaving.{task_on-state_after_leaving, task_on-stays, task_on-left, IsState-state_after_leaving}
 use Rattle.strong_apa.proofs.Linked.{place_in, is_task-true, is_task-same, is_linked-from_on, task_on-linked, not_on, not_linked-from_on, linked_number}
-use Rattle.strong_apa.proofs.Masks.{effective_mask_online}
 use Rattle.strong_apa.proofs.Paths.{Reaches-online, IsChainOf-reverse}
 use Rattle.strong_apa.proofs.Readiness.{absent_not_linked, IsWaiting-state_with_ready, IsState-state_with_ready}
 use Rattle.strong_apa.proofs.Shifts.{occupant-first, occupant-later, task_on-state_after_shift}
@@ -38,10 +37,9 @@ use Rattle.strong_apa.proofs.Start.{IsState-start}
 use Rattle.strong_apa.proofs.Steps.{IsChainOf-state_with_ready, IsState-moved, absent_moved, step_keeps_state}
 use Rattle.scheduling_laws.specs.FewestMoves.{is_moved, moved_count, IsPlaceOf, MovesFewest, ChangesNoMask, StepMovesFewest, LegalMovesFewest}
 use Rattle.scheduling_laws.proofs.Faces.{best_is_certified}
-
-abbrev who : Option ℕ → ℕ
-who None = 0
-who (Some u) = u
+use Rattle.strong_apa.proofs.KeptByChanges.{nobody_off}
+use Rattle.affinity_mask.proofs.Unions.{same_answer}
+use Rattle.scheduling_laws.proofs.PlacedState.{who}
 
 all_count : (n : ℕ) → count_below (λ k. true) n ≡ n
 all_count zero = count_below-zero (λ k. true)
@@ -505,21 +503,16 @@ held_before s p certificates w waits = (
         ]
 
 -- ---- a task that leaves, and may come back
-pub same_test : (a b : Bool) → (a ≡ true → b ≡ true) → (b ≡ true → a ≡ true) → a ≡ b
-same_test true b up down = sym (up refl)
-same_test false true up down = down refl
-same_test false false up down = refl
-
 -- s' is s but for t, which is on no processor there
 module _ (s s' new : State) (t : ℕ) (priorities : s'.priorities ≡ s.priorities) (left : is_linked s' t ≡ false)
     (stays : (p u : ℕ) → task_on s p ≡ Some u → u ≢ t → task_on s' p ≡ Some u) (stood : (p u : ℕ) → task_on s' p ≡ Some u → task_on s p ≡ Some u) where
   same_linked : (u : ℕ) → u ≢ t → is_linked s u ≡ is_linked s' u
-  same_linked u other = same_test _ _
+  same_linked u other = same_answer _ _
       (λ h. is_linked-from_on s' (place_in u s.on) u (stays (place_in u s.on) u (task_on-linked s u h) other))
       (λ h. is_linked-from_on s (place_in u s'.on) u (stood (place_in u s'.on) u (task_on-linked s' u h)))
 
   same_on : (p u : ℕ) → u ≢ t → is_task u (task_on s p) ≡ is_task u (task_on s' p)
-  same_on p u other = same_test _ _
+  same_on p u other = same_answer _ _
       (λ h. ap (is_task u) (stays p u (is_task-true u (task_on s p) h) other) ∙ is_task-same u)
       (λ h. ap (is_task u) (stood p u (is_task-true u (task_on s' p) h)) ∙ is_task-same u)
 
@@ -630,11 +623,7 @@ online_moves_fewest : (s : State) → IsState s → HasCertificates s → (p : �
     → OnlineStep s p reply new → MovesFewest s new
 online_moves_fewest s ok certificates p reply new number (inl again) = same_state s new ok again.same
 online_moves_fewest s ok certificates p reply new number (inr fills) =
-    enters_moves_fewest (state_with_online s p) (IsState-state_with_online s p ok number) p (nobody_off (task_on s p) refl) (held_before s p certificates) fills.parts.entered fills.parts.chain fills.parts.back new fills.fills.enters
-  where
-    nobody_off : (o : Option ℕ) → task_on s p ≡ o → task_on s p ≡ None
-    nobody_off None e = e
-    nobody_off (Some u) e = absurd (true≢false (sym (effective_mask_online s u p (ok.allowed p u e)) ∙ fills.off))
+    enters_moves_fewest (state_with_online s p) (IsState-state_with_online s p ok number) p (nobody_off s ok p fills.off) (held_before s p certificates) fills.parts.entered fills.parts.chain fills.parts.back new fills.fills.enters
 
 certified_step : (s : State) (event : Event) (reply : Reply) (new : State) → IsState s → HasCertificates s → IsState new
     → SchedulerStep s event reply new → ChangesNoMask event → MovesFewest s new

@@ -1,6 +1,6 @@
 -- Where a task is left out of the best subset of a set, its certificate is crowded: each of its processors has a task that is confined to
 -- it, and so is the one that is left out.
-use Rattle.std.proofs.Common.{◌≡◌, ◌≢◌, ℕ, ◌<◌, ◌≤◌, true, false, not, ◌&&◌, ◌⊎◌, length, nat_eq, Option, Some, None, refl, sym, ap, ◌∙◌, subst, inl, inr, IsTrue, arith, eq-eqb, eqb-true, ne_eqb}
+use Rattle.std.proofs.Common.{◌≡◌, ◌≢◌, ℕ, ◌<◌, ◌≤◌, true, false, not, ◌&&◌, ◌⊎◌, length, nat_eq, Some, refl, sym, ap, ◌∙◌, subst, inl, inr, IsTrue, arith, eq-eqb, eqb-true, ne_eqb}
 use Rattle.std.proofs.Math.Bool.{and-true}
 use Rattle.std.proofs.lemmas.Bool.{cases_Bool, true≢false, and_from, and_left, and_right, and_parts}
 use Rattle.affinity_mask.specs.ProcSet.{has, intersection, members, Within}
@@ -12,7 +12,7 @@ use Rattle.strong_apa.proofs.Counts.{count_below, count_below-one_more, count_be
 use Rattle.strong_apa.proofs.Masks.{effective_mask_below}
 use Rattle.reach_certificate.proofs.BestFound.{best_exists}
 use Rattle.scheduling_laws.specs.Hall.{is_confined, confined_count, IsCrowded, PlaceableIsUncrowded, PlaceableOrCrowded}
-use Rattle.scheduling_laws.proofs.PlacedState.{placed_state, ready_is, on_is, linked_is, placed_certificates}
+use Rattle.scheduling_laws.proofs.PlacedState.{who, placed_state, ready_is, on_is, linked_is, placed_certificates}
 
 confined_within : (s : State) (X t : ℕ) → is_confined s X t ≡ true → Within (effective_mask s t) X
 confined_within s X t h p inside =
@@ -34,10 +34,6 @@ module _ (s : State) (ok : IsState s) (tasks : TaskTest) where
     passes = λ t lt h. confined_within s X t (and_parts (tasks t) _ h).1 (placeable.0 t) (placeable.1.allowed t (and_parts (tasks t) _ h).0);
     apart = λ t u lt lu h k e. placeable.1.apart t u (and_parts (tasks t) _ h).0 (and_parts (tasks u) _ k).0 e;
   }
-
-abbrev who : Option ℕ → ℕ
-who None = 0
-who (Some u) = u
 
 -- ---- a task that is left out of the best subset
 module _ (s : State) (ok : IsState s) (R : TaskTest) (number : (t : ℕ) → R t ≡ true → t < task_count s) (best : TaskTest) (is_best : IsBest s R best) where

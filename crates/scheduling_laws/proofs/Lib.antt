@@ -19,5 +19,4 @@ pub mod Sustained
 pub mod TopTwo
 pub mod Urgency
 pub mod UrgentWork
-mod WeakExamples
 pub mod Weights

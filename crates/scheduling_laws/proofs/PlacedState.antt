@@ -15,6 +15,11 @@ use Rattle.strong_apa.specs.CertificateLaws.{LinkedIsBest}
 use Rattle.strong_apa.proofs.SameBest.{IsBest-same}
 use Rattle.scheduling_laws.proofs.Faces.{best_is_certified}
 
+-- who is there, where somebody is
+abbrev pub who : Option ℕ → ℕ
+who None = 0
+who (Some u) = u
+
 -- the last number below n that passes a test
 abbrev pub last_below : (ℕ → Bool) → ℕ → Option ℕ
 last_below test zero = None

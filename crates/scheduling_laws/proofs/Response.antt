@@ -1,6 +1,6 @@
 -- At each moment at which a task waits, the occupants of its mask are as many tasks that can interfere, each of which gets a unit.
 use Rattle.std.proofs.Common.{◌≡◌, ℕ, zero, suc, ◌+◌, ◌-◌, ◌*◌, ◌<◌, ◌≤◌, Bool, true, false, not, ◌&&◌, ◌==◌, nat_lt, List, [], ◌∷◌, length, set, take}
-use Rattle.std.proofs.Common.{Option, Some, None, All, refl, sym, ap, ◌∙◌, subst, inl, inr, IsTrue, arith, eqb-true, mul-suc, mul-zero, mul-le-mul_left}
+use Rattle.std.proofs.Common.{Some, All, refl, sym, ap, ◌∙◌, subst, inl, inr, IsTrue, arith, eqb-true, mul-suc, mul-zero, mul-le-mul_left}
 use Rattle.std.proofs.lemmas.Bool.{cases_Bool, cases_lt, and_from, and_right, and_parts, lt-ltb}
 use Rattle.std.proofs.lemmas.List.{length-map}
 use Rattle.std.proofs.lemmas.List.Elements.{All-head, All-tail, All-take}
@@ -41,10 +41,7 @@ use Rattle.scheduling_laws.specs.Response.{LittleInterferenceSuffices, SmallDema
 use Rattle.scheduling_laws.specs.Response.{LittleInterferenceIsInTime, SmallDemandIsInTime, WeakLittleInterferenceIsInTime, WeakSmallDemandIsInTime}
 use Rattle.scheduling_laws.proofs.Sustained.{released_among, service_more, service_same}
 use Rattle.scheduling_laws.proofs.Weights.{sum_step, sum_no_more}
-
-abbrev who : Option ℕ → ℕ
-who None = 0
-who (Some u) = u
+use Rattle.scheduling_laws.proofs.PlacedState.{who}
 
 -- a count only grows
 count_grows : (test : ℕ → Bool) (x d : ℕ) → count_below test x ≤ count_below test (x + d)

@@ -1,7 +1,7 @@
 -- Say that t is in the best set of R, and not in that of a smaller set to which it belongs. A set X of processors certifies
 -- that t is left out there. Of the best set of R, let those whom its placement puts on X make way for the occupants of X: no
 -- fewer tasks are placed then, all more urgent than t. But the best set keeps up with every placeable one.
-use Rattle.std.proofs.Common.{◌≡◌, ℕ, suc, ◌-◌, ◌<◌, ◌≤◌, Bool, true, false, not, ◌&&◌, ◌||◌, ◌⊎◌, Option, Some, None, if◌then◌else◌, nat_le, nat_lt, refl, sym, ap, ◌∙◌, subst, inl, inr, IsTrue, arith}
+use Rattle.std.proofs.Common.{◌≡◌, ℕ, suc, ◌-◌, ◌<◌, ◌≤◌, Bool, true, false, not, ◌&&◌, ◌||◌, ◌⊎◌, Some, if◌then◌else◌, nat_le, nat_lt, refl, sym, ap, ◌∙◌, subst, inl, inr, IsTrue, arith}
 use Rattle.std.proofs.lemmas.Bool.{cases_Bool, cases_eq, cases_lt, true≢false, and_from, and_right, and_parts, or_left, or_right, or_cases, le-leb, lt-leb, leb-true, lt-ltb}
 use Rattle.affinity_mask.specs.ProcSet.{has, Within}
 use Rattle.strong_apa.specs.State.{State, IsState, IsWaiting, task_count, task_on, is_linked, priority_of, effective_mask}
@@ -11,7 +11,7 @@ use Rattle.strong_apa.proofs.Counts.{count_below, count_below-agree, count_below
 use Rattle.strong_apa.proofs.Fullness.{linked_keeps_up}
 use Rattle.strong_apa.proofs.Masks.{effective_mask_below}
 use Rattle.scheduling_laws.specs.Staying.{BestStays}
-use Rattle.scheduling_laws.proofs.PlacedState.{placed_state, ready_is, on_is, linked_is, placed_ok, placed_certificates}
+use Rattle.scheduling_laws.proofs.PlacedState.{who, placed_state, ready_is, on_is, linked_is, placed_ok, placed_certificates}
 
 -- the tasks that count have the same priorities in both states. The processors of their effective masks in the first state are in those of
 -- the second one, and there are no others among its processors, but for the least urgent task
@@ -168,10 +168,6 @@ module _ (s s' : State) (ok : IsState s) (ok' : IsState s') (R fewer best best' 
       in_D : D w ≡ true
       early : priority_of s w ≤ bound
       which : (IsTrue (in_X (here u)) × Holds (here u) w) ⊎ ((in_X (here u) ≡ false) × (w ≡ u))
-
-    abbrev who : Option ℕ → ℕ
-    who None = 0
-    who (Some w) = w
 
     abbrev partner : ℕ → ℕ
     partner u = if in_X (here u) then who (task_on smaller (here u)) else u

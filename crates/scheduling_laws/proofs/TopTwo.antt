@@ -25,9 +25,9 @@ use Rattle.job_release.specs.Moments.{Timeline, state_at, service_of}
 use Rattle.job_release.specs.WeakServes.{WeakServes, weak_timeline}
 use Rattle.job_release.proofs.Moments.{no_service}
 use Rattle.scheduling_laws.specs.TopTwo.{IsOfTopTwo, TopTwoGetNoLess, TopTwoFinishNoLater}
-use Rattle.scheduling_laws.proofs.FewestMoves.{same_test}
 use Rattle.scheduling_laws.proofs.Response.{IsLike, IsKeptOutIn, like_then, like_at, kept_out_at, certified_at}
 use Rattle.scheduling_laws.proofs.Sustained.{service_more, service_same, finished_by}
+use Rattle.affinity_mask.proofs.Unions.{same_answer}
 
 -- ---- the most urgent task
 -- a mask of a state has some processor
@@ -209,7 +209,7 @@ module _ (input : JobInputData) (events : List Event) (states : List State) (his
             let lt = number_in t number in
             let more = count_below-one_more (λ u. among u && nat_le (priority_of (strong x) u) (priority_of (strong x) t)) (λ u. is_linked (strong x) u && nat_le (priority_of (strong x) u) (priority_of (strong x) t)) t (task_count (strong x))
             (let count = same_number in omega arith) (and_from _ _ (and_from _ _ linked le) le) (and_left (is_linked (strong x) t) _ out)
-            (λ u below_count other. same_test _ _
+            (λ u below_count other. same_answer _ _
             (λ h. let parts = and_parts (among u) _ h in and_from _ _ (strong_too u (let count = same_number in omega arith) other parts.1 (and_parts (is_linked (weak x) u) _ parts.0).0) parts.1)
             (λ h. let parts = and_parts (is_linked (strong x) u) _ h in and_from _ _ (and_from _ _ (weak_too u (let count = same_number in omega arith) other parts.1 parts.0) parts.1) parts.1)) in
             omega arith)

@@ -1,5 +1,5 @@
 -- Weights are taken off in layers of one: those that weigh something are the tasks up to a bound, and there the linked tasks keep up.
-use Rattle.std.proofs.Common.{◌≡◌, ◌≢◌, ℕ, zero, suc, ◌+◌, ◌-◌, ◌<◌, ◌≤◌, Bool, true, false, ◌&&◌, ◌⊎◌, [], sum_by, nat_le, nat_lt, refl, sym, ap, ◌∙◌, inl, inr, arith}
+use Rattle.std.proofs.Common.{◌≡◌, ℕ, zero, suc, ◌+◌, ◌-◌, ◌<◌, ◌≤◌, Bool, true, false, ◌&&◌, ◌⊎◌, [], sum_by, nat_le, nat_lt, refl, sym, ap, ◌∙◌, inl, inr, arith}
 use Rattle.std.proofs.lemmas.Bool.{cases_Bool, cases_lt, cases_eq, true≢false, and_from, and_left, and_right, le-leb, lt-leb, lt-ltb, le-ltb}
 use Rattle.std.proofs.lemmas.List.Sums.{sum_by_push}
 use Rattle.std.proofs.lemmas.Option.{same_Some}
@@ -10,7 +10,7 @@ use Rattle.strong_apa.specs.History.{state_at}
 use Rattle.strong_apa.specs.Placement.{TaskTest, IsSubset, IsPlaceable, IsBetter}
 use Rattle.strong_apa.specs.Ranks.{KeepsUp}
 use Rattle.strong_apa.specs.Certified.{HasCertificates}
-use Rattle.strong_apa.proofs.Counts.{count_below, count_below-zero, count_below-more, count_below-same, count_below-agree, count_below-one_more}
+use Rattle.strong_apa.proofs.Counts.{count_below, count_below-zero, count_below-more, count_below-same, count_below-agree}
 use Rattle.strong_apa.proofs.FirstFound.{first_below}
 use Rattle.strong_apa.proofs.Fullness.{linked_keeps_up}
 use Rattle.strong_apa.proofs.Kept.{legal_is_certified, passing_is_certified}
@@ -20,6 +20,7 @@ use Rattle.strong_apa.proofs.Unique.{ready_number}
 use Rattle.scheduling_laws.proofs.Faces.{best_is_certified}
 use Rattle.scheduling_laws.proofs.GoingSums.{one_if}
 use Rattle.scheduling_laws.specs.Weights.{FallsWithUrgency, weight_of, LinkedWeighsMost, LegalWeighsMost, PassingWeighsMost, BestWeighsMost}
+use Rattle.strong_apa.proofs.Best.{better_has_more}
 
 passing_none : (test : ℕ → Bool) → passing_below test 0 ≡ []
 unfolding passing_below
@@ -177,26 +178,9 @@ module _ (s : State) (ok : IsState s) (most : LinkedWeighsMost s) (B : TaskTest)
       let none = sum_none A (λ t. 0) (task_count s) (λ t lt. refl) in
       omega arith
 
-  same : (u : ℕ) → u < task_count s → u ≢ better.task → priority_of s u ≤ priority_of s better.task → B u ≡ is_linked s u
-  same u lt ne le = go (B u) (is_linked s u) (better.most_urgent u)
-    where
-      decides : (priority_of s better.task ≤ priority_of s u) → ⊥
-      decides ge = ne (ok.distinct u better.task lt number (omega arith))
-
-      go : (a b : Bool) → ((a ≡ b → ⊥) → priority_of s better.task ≤ priority_of s u) → a ≡ b
-      go true true first = refl
-      go true false first = absurd (decides (first true≢false))
-      go false true first = absurd (decides (first (λ e. true≢false (sym e))))
-      go false false first = refl
-
   weighs_more : IsSubset B (is_ready s) → IsPlaceable s B → ⊥
   weighs_more subset placeable =
-      let one_more = count_below-one_more (λ t. B t && nat_le (priority_of s t) (priority_of s better.task)) (λ t. is_linked s t && nat_le (priority_of s t) (priority_of s better.task)) better.task (task_count s) number
-      (and_from _ _ better.in_first (le-leb _ _ (omega arith))) (and_left _ _ better.not_in_second)
-      (λ u lt ne. elim (cases_lt (priority_of s better.task) (priority_of s u)) [
-        | inl later ↦ and_right (B u) _ (lt-leb _ _ later) ∙ sym (and_right (is_linked s u) _ (lt-leb _ _ later))
-        | inr le ↦ ap (λ (b : Bool). b && nat_le (priority_of s u) (priority_of s better.task)) (same u lt ne le)
-      ]) in
+      let one_more = better_has_more s ok B (is_linked s) better number in
       let a = weighs_count B in
       let b = weighs_count (is_linked s) in
       let weighs = most weight B weight_falls subset placeable in

@@ -4,12 +4,11 @@ use Rattle.std.specs.Prelude.{◌≡◌, ℕ, ◌<◌, ◌≤◌, List, length}
 use Rattle.affinity_mask.specs.ProcSet.{all_below, intersection}
 use Rattle.strong_apa.specs.declared.reply.Entry.{Entry}
 use Rattle.strong_apa.specs.State.{start_of, priority_of, mask_of}
-use Rattle.job_release.specs.Jobs.{job_at, goal_of}
+use Rattle.job_release.specs.Jobs.{job_at}
 use Rattle.job_release.specs.JobInput.{JobInputData, IsJobInput, jobs_at}
 use Rattle.job_release.specs.Driven.{RunsJobs}
-use Rattle.job_release.specs.Moments.{state_at, service_of, IsFinish}
 use Rattle.scheduling_laws.specs.Isolation.{IsUrgent}
-use Rattle.scheduling_laws.specs.Sustained.{IsNoLonger}
+use Rattle.scheduling_laws.specs.Sustained.{IsNoLonger, JobsKeepUp, JobsFinishNoLater}
 
 -- t has the same priority in both inputs, and as many jobs; each is released at the same moment,
 -- and asks for no more in the other input. Its mask there may have processors that the one input
@@ -40,18 +39,9 @@ HoldsWhereThereIsMoreRoom Law =
     → RunsJobs one history → RunsJobs other also
     → IsUrgent other bound t → Law one other history also t
 
--- with more processors a task has as many of its jobs done before each moment
+-- so it is with more processors
 abbrev pub MoreProcessorsKeepUp : Type 0
-MoreProcessorsKeepUp = HoldsWhereThereIsMoreRoom (λ one other history also t. (k x : ℕ)
-    → x ≤ one.horizon
-    → goal_of (jobs_at one.jobs t) k ≤ service_of (state_at (start_of one.set) history) t x
-    → goal_of (jobs_at other.jobs t) k ≤ service_of (state_at (start_of other.set) also) t x)
+MoreProcessorsKeepUp = HoldsWhereThereIsMoreRoom JobsKeepUp
 
--- and no job of it is finished later
 abbrev pub MoreProcessorsFinishNoLater : Type 0
-MoreProcessorsFinishNoLater = HoldsWhereThereIsMoreRoom (λ one other history also t. (k x : ℕ)
-    → IsFinish (state_at (start_of one.set) history) t (goal_of (jobs_at one.jobs t) k)
-    one.horizon x
-    → (y : ℕ) × (y ≤ x)
-    × IsFinish (state_at (start_of other.set) also) t (goal_of (jobs_at other.jobs t) k)
-    other.horizon y)
+MoreProcessorsFinishNoLater = HoldsWhereThereIsMoreRoom JobsFinishNoLater

@@ -37,14 +37,22 @@ HoldsWhereLessIsAsked Law =
     → IsJobInput one → IsJobInput other → AsksNoMoreUpTo bound one other → RunsJobs one history → RunsJobs other also
     → IsUrgent other bound t → Law one other history also t
 
--- a task has as many of its jobs done before each moment, whatever the less urgent tasks do
-abbrev pub ShorterJobsKeepUp : Type 0
-ShorterJobsKeepUp = HoldsWhereLessIsAsked (λ one other history also t. (k x : ℕ) → x ≤ one.horizon
+-- a task has as many of its jobs done before each moment in the other run
+abbrev pub JobsKeepUp : JobInputData → JobInputData → List Entry → List Entry → ℕ → Type 0
+JobsKeepUp one other history also t = (k x : ℕ) → x ≤ one.horizon
     → goal_of (jobs_at one.jobs t) k ≤ service_of (state_at (start_of one.set) history) t x
-    → goal_of (jobs_at other.jobs t) k ≤ service_of (state_at (start_of other.set) also) t x)
+    → goal_of (jobs_at other.jobs t) k ≤ service_of (state_at (start_of other.set) also) t x
 
--- and no job of it is finished later
-abbrev pub ShorterJobsFinishNoLater : Type 0
-ShorterJobsFinishNoLater = HoldsWhereLessIsAsked (λ one other history also t. (k x : ℕ)
+-- and no job of it is finished later there
+abbrev pub JobsFinishNoLater : JobInputData → JobInputData → List Entry → List Entry → ℕ → Type 0
+JobsFinishNoLater one other history also t = (k x : ℕ)
     → IsFinish (state_at (start_of one.set) history) t (goal_of (jobs_at one.jobs t) k) one.horizon x
-    → (y : ℕ) × (y ≤ x) × IsFinish (state_at (start_of other.set) also) t (goal_of (jobs_at other.jobs t) k) other.horizon y)
+    → (y : ℕ) × (y ≤ x)
+    × IsFinish (state_at (start_of other.set) also) t (goal_of (jobs_at other.jobs t) k) other.horizon y
+
+-- so it is where less is asked, whatever the less urgent tasks do
+abbrev pub ShorterJobsKeepUp : Type 0
+ShorterJobsKeepUp = HoldsWhereLessIsAsked JobsKeepUp
+
+abbrev pub ShorterJobsFinishNoLater : Type 0
+ShorterJobsFinishNoLater = HoldsWhereLessIsAsked JobsFinishNoLater

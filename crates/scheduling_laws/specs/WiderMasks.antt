@@ -1,14 +1,13 @@
 -- Inputs of jobs that differ in the mask of one task, which has more processors in the other input,
 -- up to that task: the less urgent ones may have nothing in common.
-use Rattle.std.specs.Prelude.{◌≡◌, ◌≢◌, ℕ, ◌<◌, ◌≤◌, ◌↔◌, List, length}
+use Rattle.std.specs.Prelude.{◌≡◌, ◌≢◌, ℕ, ◌<◌, ◌↔◌, List, length}
 use Rattle.affinity_mask.specs.ProcSet.{Within}
 use Rattle.strong_apa.specs.declared.reply.Entry.{Entry}
 use Rattle.strong_apa.specs.State.{start_of, priority_of, mask_of}
-use Rattle.job_release.specs.Jobs.{goal_of}
 use Rattle.job_release.specs.JobInput.{JobInputData, IsJobInput, jobs_at}
 use Rattle.job_release.specs.Driven.{RunsJobs}
-use Rattle.job_release.specs.Moments.{state_at, service_of, IsFinish}
 use Rattle.scheduling_laws.specs.Isolation.{IsUrgent, IsSameTask}
+use Rattle.scheduling_laws.specs.Sustained.{JobsKeepUp, JobsFinishNoLater}
 
 -- t is a task of the one input, and u is as urgent, or more
 abbrev pub IsAsUrgentAs : JobInputData → ℕ → ℕ → Type 0
@@ -33,17 +32,9 @@ HoldsWhereAMaskIsWider Law = (t : ℕ) (one other : JobInputData) (history also 
     → RunsJobs one history → RunsJobs other also
     → IsAsUrgentAs one t u → Law one other history also u
 
--- with a wider mask of t each task up to t has as many of its jobs done before each moment
+-- so it is of each task up to t with a wider mask of t
 abbrev pub WiderMaskKeepsUp : Type 0
-WiderMaskKeepsUp = HoldsWhereAMaskIsWider (λ one other history also u. (k x : ℕ) → x ≤ one.horizon
-    → goal_of (jobs_at one.jobs u) k ≤ service_of (state_at (start_of one.set) history) u x
-    → goal_of (jobs_at other.jobs u) k ≤ service_of (state_at (start_of other.set) also) u x)
+WiderMaskKeepsUp = HoldsWhereAMaskIsWider JobsKeepUp
 
--- and no job of it is finished later
 abbrev pub WiderMaskFinishesNoLater : Type 0
-WiderMaskFinishesNoLater = HoldsWhereAMaskIsWider (λ one other history also u. (k x : ℕ)
-    → IsFinish (state_at (start_of one.set) history) u (goal_of (jobs_at one.jobs u) k)
-    one.horizon x
-    → (y : ℕ) × (y ≤ x)
-    × IsFinish (state_at (start_of other.set) also) u (goal_of (jobs_at other.jobs u) k)
-    other.horizon y)
+WiderMaskFinishesNoLater = HoldsWhereAMaskIsWider JobsFinishNoLater

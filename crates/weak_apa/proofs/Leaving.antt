@@ -1,11 +1,10 @@
 -- A task leaves, its mask changes while it is absent, or a processor goes off line or comes on line: what stays stable.
-use Rattle.std.proofs.Common.{◌≡◌, ◌≢◌, ℕ, ◌<◌, true, false, not, ◌||◌, Bool, Option, Some, None, refl, sym, ap, ◌∙◌, inl, inr, IsTrue, arith, get_or-set_same, get_or-set_other, nat_eq, ne_eqb, get_or, set}
+use Rattle.std.proofs.Common.{◌≡◌, ◌≢◌, ℕ, ◌<◌, true, false, not, ◌||◌, Bool, Some, sym, ap, ◌∙◌, inl, inr, IsTrue, arith, get_or-set_same, get_or-set_other, nat_eq, ne_eqb, get_or, set}
 use Rattle.std.proofs.lemmas.Bool.{cases_eq, true≢false, and_parts, and_from}
 use Rattle.affinity_mask.specs.ProcSet.{has}
 use Rattle.affinity_mask.proofs.Sets.{has-intersection}
 use Rattle.strong_apa.specs.State.{State, IsState, IsWaiting, task_on, task_count, is_ready, mask_of, effective_mask, state_with_ready, state_with_absent, state_with_mask, state_with_online, state_with_offline, state_after_leaving}
 use Rattle.strong_apa.proofs.Changes.{effective_mask-offline, effective_mask-online, effective_mask-other}
-use Rattle.strong_apa.proofs.Masks.{effective_mask_online}
 use Rattle.strong_apa.proofs.Leaving.{task_on-stays}
 use Rattle.strong_apa.proofs.Linked.{not_linked-from_on, not_on}
 use Rattle.strong_apa.proofs.Readiness.{IsWaiting-state_with_ready}
@@ -82,11 +81,3 @@ stable_online s q stable w p waiting inside other =
   where
     or_false : (a : Bool) → (a || false) ≡ true → a ≡ true
     or_false a e = grind arith
-
--- nobody is linked to a processor that is off line
-pub nobody_offline : (s : State) → IsState s → (p : ℕ) → has s.online p ≡ false → task_on s p ≡ None
-nobody_offline s ok p off = go (task_on s p) refl
-  where
-    go : (occupant : Option ℕ) → task_on s p ≡ occupant → task_on s p ≡ None
-    go None on = on
-    go (Some t) on = absurd (true≢false (sym (effective_mask_online s t p (ok.allowed p t on)) ∙ off))

@@ -1,9 +1,7 @@
 pub mod Alike
-mod Anomaly
 mod ComparedSoFar
 mod Counted
 pub mod Followed
-mod Interference
 mod Leaving
 mod Looking
 mod NoBetter

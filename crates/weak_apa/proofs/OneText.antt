@@ -18,7 +18,7 @@ use Rattle.weak_apa.specs.WeakText.{weak_text}
 use Rattle.weak_apa.specs.declared.comparison.Comparison.{Comparison}
 
 -- ---- the states of the two schedulers
-weak_states : (events : List Event) (s : State) → IsState s → (states others : List State) → IsWeakRun s events states → IsWeakRun s events others → states ≡ others
+pub weak_states : (events : List Event) (s : State) → IsState s → (states others : List State) → IsWeakRun s events states → IsWeakRun s events others → states ≡ others
 weak_states [] s ok [] [] one two = refl
 weak_states [] s ok [] (next ∷ others) one two = absurd two
 weak_states [] s ok (new ∷ states) others one two = absurd one

@@ -19,7 +19,8 @@ use Rattle.weak_apa.specs.StepLaws.{WeakStepIsUnique, WeakStepKeepsState}
 use Rattle.weak_apa.specs.Stable.{IsKeptOut}
 use Rattle.weak_apa.specs.Step.{TakesProcessor, FindsIdle, WeaklyDisplaces, IsTurn, IsPlacedInTurns, WeaklyComes, WeaklyFills, WeaklyLeaves, WeaklyArrives, WeaklyDeparts, WeaklyMasks, WeaklyGoesOff, WeaklyComesOn}
 use Rattle.weak_apa.proofs.Followed.{leaves_known, leaves_ready}
-use Rattle.weak_apa.proofs.Leaving.{absent_then, nobody_offline}
+use Rattle.strong_apa.proofs.KeptByChanges.{nobody_off}
+use Rattle.weak_apa.proofs.Leaving.{absent_then}
 use Rattle.weak_apa.proofs.Placing.{one_is_simple, displaced_waits}
 
 -- ---- one turn
@@ -189,11 +190,11 @@ module _ (s : State) (ok : IsState s) where
   goes_off_once : (p : ℕ) (new next : State) → WeaklyGoesOff s p new → WeaklyGoesOff s p next → new ≡ next
   goes_off_once p new next (inl one) (inl two) = one.1 ∙ sym two.1
   goes_off_once p new next (inl one) (inr (inl two)) = absurd (true≢false (sym two.0.0 ∙ one.0))
-  goes_off_once p new next (inl one) (inr (inr two)) = absurd (let nobody = nobody_offline s ok p one.0 in let on = two.on in cc)
+  goes_off_once p new next (inl one) (inr (inr two)) = absurd (let nobody = nobody_off s ok p one.0 in let on = two.on in cc)
   goes_off_once p new next (inr (inl one)) (inl two) = absurd (true≢false (sym one.0.0 ∙ two.0))
   goes_off_once p new next (inr (inl one)) (inr (inl two)) = one.1 ∙ sym two.1
   goes_off_once p new next (inr (inl one)) (inr (inr two)) = absurd (let nobody = one.0.1 in let on = two.on in cc)
-  goes_off_once p new next (inr (inr one)) (inl two) = absurd (let nobody = nobody_offline s ok p two.0 in let on = one.on in cc)
+  goes_off_once p new next (inr (inr one)) (inl two) = absurd (let nobody = nobody_off s ok p two.0 in let on = one.on in cc)
   goes_off_once p new next (inr (inr one)) (inr (inl two)) = absurd (let nobody = two.0.1 in let on = one.on in cc)
   goes_off_once p new next (inr (inr one)) (inr (inr two)) =
       let same : two.task ≡ one.task = same_Some two.task one.task (sym two.on ∙ one.on) in
