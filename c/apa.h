@@ -84,10 +84,7 @@ uint32_t apa_seen(apa *, uint32_t task, uint32_t processor);     /* where anothe
 uint32_t apa_lost(apa *);                                        /* who is to run, and does not where it is seen; or APA_NONE */
 uint32_t apa_help(apa *);                                        /* the same, and the moves that let it run; or APA_NONE */
 uint32_t apa_moves(apa *);                                       /* of the last event, or of apa_help after it */
-uint32_t apa_move_task(apa *, uint32_t i);
-uint32_t apa_move_from(apa *, uint32_t i);                       /* APA_NONE: the task starts */
-uint32_t apa_move_to(apa *, uint32_t i);                         /* APA_NONE: the task stops */
-uint64_t apa_whole_move(apa *, uint32_t i);                      /* all three in one number, which apa_get_move reads */
+uint64_t apa_whole_move(apa *, uint32_t i);                      /* in one number, which apa_get_move reads */
 uint32_t apa_on(apa *, uint32_t processor);                      /* the task that is to run there */
 uint32_t apa_of(apa *, uint32_t task);                           /* the processor where it is to run */
 uint32_t apa_is_ready(apa *, uint32_t task);                     /* 1 or 0; 0 also where there is no such task */
@@ -116,6 +113,10 @@ static inline apa_move apa_get_move(apa *a, uint32_t i) {
     apa_move move = {(uint32_t)whole, (uint32_t)(int16_t)(whole >> 32), (uint32_t)(int16_t)(whole >> 48)};
     return move;
 }
+
+static inline uint32_t apa_move_task(apa *a, uint32_t i) { return apa_get_move(a, i).task; }
+static inline uint32_t apa_move_from(apa *a, uint32_t i) { return apa_get_move(a, i).from; } /* APA_NONE: the task starts */
+static inline uint32_t apa_move_to(apa *a, uint32_t i) { return apa_get_move(a, i).to; }     /* APA_NONE: the task stops */
 
 /* apa_start with so many free slots beside the tasks that were added, at most 1,024 in all. A free slot is a task that has
  * retired. After a fault only apa_close may follow: some of the slots may stand among the tasks. */

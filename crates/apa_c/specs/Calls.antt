@@ -21,7 +21,7 @@ use Rattle.live_core.specs.Needed.{AreNeeded}
 use Rattle.live_core.specs.Optimal.{IsOptimal}
 use Rattle.live_core.specs.Slots.{is_in_use, IsEventInUse, AreAllInUse, IsInUseWith, Admits, GetsPriority, data_with_free}
 use Rattle.live_core.specs.declared.moves.Move.{Move}
-use Rattle.apa_c.specs.Stages.{nothing, number_of, answer_of, set_of, back_of, task_of, from_of, to_of, word_of}
+use Rattle.apa_c.specs.Stages.{nothing, number_of, answer_of, set_of, back_of, word_of}
 use Rattle.apa_c.specs.declared.table.Apa.{Apa}
 use Rattle.apa_c.specs.declared.table.Stage.{Stage}
 use Rattle.apa_c.specs.declared.table.Stage.TheVariants.{Empty, Draft, Running}
@@ -332,15 +332,6 @@ abbrev pub CountAnswer : Apa → ℕ → Apa → Type 0
 CountAnswer old result new = (new ≡ old) × (result ≡ length (moves_of (running_of old.stage)))
 
 -- one of them
-abbrev pub TaskAnswer : Apa → ℕ → ℕ → Apa → Type 0
-TaskAnswer old i result new = (new ≡ old) × (result ≡ task_of (slice_get (moves_of (running_of old.stage)) i))
-
-abbrev pub FromAnswer : Apa → ℕ → ℕ → Apa → Type 0
-FromAnswer old i result new = (new ≡ old) × (result ≡ from_of (slice_get (moves_of (running_of old.stage)) i))
-
-abbrev pub ToAnswer : Apa → ℕ → ℕ → Apa → Type 0
-ToAnswer old i result new = (new ≡ old) × (result ≡ to_of (slice_get (moves_of (running_of old.stage)) i))
-
 abbrev pub MoveAnswer : Apa → ℕ → ℕ → Apa → Type 0
 MoveAnswer old i result new = (new ≡ old) × (result ≡ word_of (slice_get (moves_of (running_of old.stage)) i))
 

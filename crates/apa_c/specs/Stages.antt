@@ -56,27 +56,6 @@ back_of (Remasked (Some gone) came) = gone.back
 back_of (On parts) = parts.back
 back_of _ = 0
 
--- the task of a move
-abbrev pub task_of : Option Move → ℕ
-task_of None = nothing
-task_of (Some (Start task to)) = task
-task_of (Some (Shift task from to)) = task
-task_of (Some (Stop task from)) = task
-
--- the processor that it leaves
-abbrev pub from_of : Option Move → ℕ
-from_of None = nothing
-from_of (Some (Start task to)) = nothing
-from_of (Some (Shift task from to)) = from
-from_of (Some (Stop task from)) = from
-
--- the processor that it goes to
-abbrev pub to_of : Option Move → ℕ
-to_of None = nothing
-to_of (Some (Start task to)) = to
-to_of (Some (Shift task from to)) = to
-to_of (Some (Stop task from)) = nothing
-
 -- a task and two processors in one word: the task in its lower half, and each processor in 16 bits of the upper one
 abbrev pub word : ℕ → ℕ → ℕ → ℕ
 word task from to = task + 4294967296 * from + 281474976710656 * to

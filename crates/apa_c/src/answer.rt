@@ -1,6 +1,6 @@
 //! The numbers that calls answer.
 ghost use Rattle.std.specs.Prelude.{◌≡◌};
-ghost use Rattle.apa_c.specs.Stages.{answer_of, set_of, back_of, came_set, task_of, from_of, to_of, word, word_of};
+ghost use Rattle.apa_c.specs.Stages.{answer_of, set_of, back_of, came_set, word, word_of};
 
 use link_table::{Came, Reply};
 use live_core::Move;
@@ -113,39 +113,6 @@ fn came_set(came: &Came) -> u64
         Came::Displaced { reach, .. } => reach.bits(),
         Came::Waits { reach } => reach.bits(),
         Came::Placed { .. } => 0,
-    }
-}
-
-/// The task of a move.
-pub fn task_of(step: &Move) -> u32
-    ensures { result ≡ task_of (Some step.now) }
-{
-    match step {
-        Move::Start { task, .. } => *task,
-        Move::Shift { task, .. } => *task,
-        Move::Stop { task, .. } => *task,
-    }
-}
-
-/// The processor that the task of a move leaves.
-pub fn from_of(step: &Move) -> u32
-    ensures { result ≡ from_of (Some step.now) }
-{
-    match step {
-        Move::Start { .. } => NOTHING,
-        Move::Shift { from, .. } => *from as u32,
-        Move::Stop { from, .. } => *from as u32,
-    }
-}
-
-/// The processor that the task of a move goes to.
-pub fn to_of(step: &Move) -> u32
-    ensures { result ≡ to_of (Some step.now) }
-{
-    match step {
-        Move::Start { to, .. } => *to as u32,
-        Move::Shift { to, .. } => *to as u32,
-        Move::Stop { .. } => NOTHING,
     }
 }
 

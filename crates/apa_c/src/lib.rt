@@ -11,7 +11,7 @@ mod table;
 ghost use Rattle.std.specs.Borrow.{sem};
 ghost use Rattle.std.specs.Prelude.{◌≡◌};
 ghost use Rattle.apa_c.specs.Handle.{apa_at, apa_after, apa_bytes, apa_room};
-ghost use Rattle.apa_c.specs.Calls.{Made, Opened, Added, Started, Applied, Admitted, Retired, Reordered, Seen, Lost, Helped, Closed, OnAnswer, OfAnswer, ReadyAnswer, MaskAnswer, OccupiedAnswer, OnLineAnswer, CountAnswer, TaskAnswer, FromAnswer, ToAnswer, MoveAnswer, SetAnswer, BackAnswer};
+ghost use Rattle.apa_c.specs.Calls.{Made, Opened, Added, Started, Applied, Admitted, Retired, Reordered, Seen, Lost, Helped, Closed, OnAnswer, OfAnswer, ReadyAnswer, MaskAnswer, OccupiedAnswer, OnLineAnswer, CountAnswer, MoveAnswer, SetAnswer, BackAnswer};
 
 use std::alloc::Global;
 use table::Apa;
@@ -217,36 +217,6 @@ pub unsafe extern "C" fn apa_moves(at: *mut u8) -> u32
     ensures* { sem 𝓛 (apa_after at (CountAnswer value result)) }
 {
     table::moves(&mut *(at as *mut Apa))
-}
-
-/// The task of a move of the last event.
-#[unsafe(no_mangle)]
-pub unsafe extern "C" fn apa_move_task(at: *mut u8, i: u32) -> u32
-    ghost value: { Apa }
-    requires* { sem 𝓛 (apa_at at value) }
-    ensures* { sem 𝓛 (apa_after at (TaskAnswer value i result)) }
-{
-    table::move_task(&mut *(at as *mut Apa), i)
-}
-
-/// The processor that the task of a move leaves. There is none where it starts.
-#[unsafe(no_mangle)]
-pub unsafe extern "C" fn apa_move_from(at: *mut u8, i: u32) -> u32
-    ghost value: { Apa }
-    requires* { sem 𝓛 (apa_at at value) }
-    ensures* { sem 𝓛 (apa_after at (FromAnswer value i result)) }
-{
-    table::move_from(&mut *(at as *mut Apa), i)
-}
-
-/// The processor that the task of a move goes to. There is none where it stops.
-#[unsafe(no_mangle)]
-pub unsafe extern "C" fn apa_move_to(at: *mut u8, i: u32) -> u32
-    ghost value: { Apa }
-    requires* { sem 𝓛 (apa_at at value) }
-    ensures* { sem 𝓛 (apa_after at (ToAnswer value i result)) }
-{
-    table::move_to(&mut *(at as *mut Apa), i)
 }
 
 /// A move of the last event in one word: its task in the lower half, and in 16 bits each the processor that it leaves, and the

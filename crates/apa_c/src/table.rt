@@ -2,12 +2,12 @@
 ghost use Rattle.std.specs.Prelude.{◌≡◌, ℕ, ◌<◌, ◌≤◌, MatchOption, slice_get};
 ghost use Rattle.task_set.specs.TaskSet.{IsMask};
 ghost use Rattle.apa_c.specs.Stages.{number_of};
-ghost use Rattle.apa_c.specs.Calls.{Opened, Added, AddsTo, Started, Applied, IsEventHere, IsBadMask, Admitted, AdmitsTo, Retired, RetiresFrom, Reordered, Reorders, IsAbsent, IsPresenceFault, Seen, Sees, Lost, Helped, Closed, OnAnswer, OfAnswer, ReadyAnswer, MaskAnswer, OccupiedAnswer, OnLineAnswer, CountAnswer, TaskAnswer, FromAnswer, ToAnswer, MoveAnswer, SetAnswer, BackAnswer, moves_of, running_of};
+ghost use Rattle.apa_c.specs.Calls.{Opened, Added, AddsTo, Started, Applied, IsEventHere, IsBadMask, Admitted, AdmitsTo, Retired, RetiresFrom, Reordered, Reorders, IsAbsent, IsPresenceFault, Seen, Sees, Lost, Helped, Closed, OnAnswer, OfAnswer, ReadyAnswer, MaskAnswer, OccupiedAnswer, OnLineAnswer, CountAnswer, MoveAnswer, SetAnswer, BackAnswer, moves_of, running_of};
 
 use crate::answer::{
     BAD_MASK, DONE, FIRST_SLOT, NO_EVENT, NO_MEMORY, NO_MOVE, NO_NAME, NO_PROCESSOR, NO_SLOT,
-    NO_TASK, NOT_NOW, NOTHING, SAME_PRIORITY, STILL_READY, TOO_MANY, answer_of, back_of, from_of,
-    set_of, task_of, to_of, word_of,
+    NO_TASK, NOT_NOW, NOTHING, SAME_PRIORITY, STILL_READY, TOO_MANY, answer_of, back_of, set_of,
+    word_of,
 };
 use affinity_mask::ProcSet;
 use live_core::{LiveCore, Move, SlotFault};
@@ -357,36 +357,6 @@ pub fn moves(apa: &mut Apa) -> u32
     match &apa.stage {
         Stage::Running(live) => live.moves().len() as u32,
         _ => 0,
-    }
-}
-
-/// The task of a move.
-pub fn move_task(apa: &mut Apa, i: u32) -> u32
-    ensures { TaskAnswer apa.old i result apa.new }
-{
-    match move_at(&apa.stage, i) {
-        Some(step) => task_of(&step),
-        None => NOTHING,
-    }
-}
-
-/// The processor that the task of a move leaves.
-pub fn move_from(apa: &mut Apa, i: u32) -> u32
-    ensures { FromAnswer apa.old i result apa.new }
-{
-    match move_at(&apa.stage, i) {
-        Some(step) => from_of(&step),
-        None => NOTHING,
-    }
-}
-
-/// The processor that the task of a move goes to.
-pub fn move_to(apa: &mut Apa, i: u32) -> u32
-    ensures { ToAnswer apa.old i result apa.new }
-{
-    match move_at(&apa.stage, i) {
-        Some(step) => to_of(&step),
-        None => NOTHING,
     }
 }
 
