@@ -177,7 +177,7 @@ fn relayed<R: Threads + Wait + Abort + Sync>(
 
 /// These are all orders that are relayed, in their order.
 fn check_relayed(rt: &impl Abort, list: &[Order]) {
-    same(rt, list.len(), 100_000);
+    assert!(rt; list.len() == 100_000);
     for (i, order) in list.iter().enumerate() {
         same_at(rt, *order, order_at(i as u32), &i);
     }
