@@ -6,6 +6,7 @@ ghost use Rattle.strong_apa.specs.State.{task_count};
 ghost use Rattle.order_queues.specs.Ends.{new_sender};
 ghost use Rattle.event_history.specs.Boards.{AreAll, AreFor, Grown};
 
+use crate::same::same;
 use crate::two_processors::{list_of_one, list_of_two, two_queues, two_tasks};
 use affinity_mask::ProcSet;
 use event_history::{Board, EndFault, Pass, PostFault, Receipt};
@@ -61,7 +62,7 @@ fn core_of(rt: &impl Abort, alloc: Global, board: Board, first: Pass, second: Pa
     let Ok((core, senders)) = board.close(passes) else {
         panic!(rt; "out of memory")
     };
-    assert_eq!(rt; senders.len(), 2);
+    same(rt, senders.len(), 2);
     core
 }
 
@@ -163,7 +164,7 @@ fn posts<R: Wait + Abort>(rt: &R, bench: &mut Bench, event: Event, place: u64, r
     requires { IsOfSystem 2 2 event }
 {
     let posted = bench.post(rt, event);
-    assert_eq!(rt; posted, Ok(Receipt { place, reply }));
+    same(rt, posted, Ok(Receipt { place, reply }));
 }
 
 /// The second pass posts an event by one try, which gets this place and this reply.
@@ -171,20 +172,20 @@ fn tries<R: Wait + Abort>(rt: &R, bench: &mut Bench, event: Event, place: u64, r
     requires { IsOfSystem 2 2 event }
 {
     let posted = bench.try_post(event);
-    assert_eq!(rt; posted, Ok(Receipt { place, reply }));
+    same(rt, posted, Ok(Receipt { place, reply }));
 }
 
 /// There are two entries, and both passes know of them once they met.
 fn knows_two<R: Wait + Abort>(rt: &R, bench: &mut Bench) {
-    assert_eq!(rt; bench.count(), 2);
+    same(rt, bench.count(), 2);
     bench.meet();
     assert!(rt; bench.first.known() == 2 && bench.second.known() == 2 && !bench.first.saw_close());
 }
 
 /// No pass posts any more, and the second one has seen the close.
 fn is_closed<R: Wait + Abort>(rt: &R, bench: &mut Bench) {
-    assert_eq!(rt; bench.post(rt, Event::Tick(1)), Err(EndFault::Closed));
-    assert_eq!(rt; bench.try_post(Event::Tick(1)), Err(PostFault::Closed));
+    same(rt, bench.post(rt, Event::Tick(1)), Err(EndFault::Closed));
+    same(rt, bench.try_post(Event::Tick(1)), Err(PostFault::Closed));
     assert!(rt;
         bench.second.saw_close() && bench.second.known() == 3 && bench.second.caller() == 1
     );
@@ -200,7 +201,7 @@ fn post_three<R: Wait + Abort>(rt: &R, bench: &mut Bench) {
 
 /// So many orders are still owed after a flush.
 fn owes<R: Wait + Abort>(rt: &R, bench: &mut Bench, orders: u64) {
-    assert_eq!(rt; bench.flush(rt), orders);
+    same(rt, bench.flush(rt), orders);
 }
 
 /// The core is closed, and no order is owed.
@@ -212,7 +213,7 @@ fn finishes<R: Wait + Abort>(rt: &R, bench: &mut Bench) {
 
 /// The core has so many entries.
 fn has_entries(rt: &impl Abort, core: &Core, entries: usize) {
-    assert_eq!(rt; core.history().len(), entries);
+    same(rt, core.history().len(), entries);
 }
 
 /// Closes the board, whose core has so many entries.
@@ -238,7 +239,7 @@ fn has_copied<R: Wait + Abort>(
     entries: usize,
     last: Reply,
 ) {
-    assert_eq!(rt; bench.copied(rt, alloc), Some((entries, Some(last))));
+    same(rt, bench.copied(rt, alloc), Some((entries, Some(last))));
 }
 
 /// Posts one event with a pass, and hands the pass back.
@@ -336,7 +337,7 @@ fn two_threads_post(rt: HostRuntime) {
 fn both_know_two(rt: &impl Abort, bench: &mut Bench) {
     bench.meet();
     assert!(rt; bench.first.known() == 2 && bench.second.known() == 2);
-    assert_eq!(rt; bench.count(), 2);
+    same(rt, bench.count(), 2);
 }
 
 /// The core, to which the arrival of the first task was applied.
@@ -363,7 +364,7 @@ fn second_arrives(rt: &impl Abort, core: &mut Core) -> Result<u64, CoreFault> {
 
 /// The second task arrives, and the core is closed.
 fn goes_on(rt: &impl Abort, core: &mut Core) {
-    assert_eq!(rt; second_arrives(rt, core), Ok(1));
+    same(rt, second_arrives(rt, core), Ok(1));
     core.close_now();
 }
 
@@ -379,8 +380,8 @@ static ORDERS: [Order; 5] = [
 /// Asserts that the orders are those of a core that stayed where it was.
 fn has_orders(rt: &impl Abort, core: &Core) {
     assert!(rt; core.links().processors() == 2);
-    assert_eq!(rt; core.orders(0), ORDERS.as_slice());
-    assert_eq!(rt; core.orders(1).len(), 3);
+    same(rt, core.orders(0), ORDERS.as_slice());
+    same(rt, core.orders(1).len(), 3);
 }
 
 /// Two new cores over the same two tasks.

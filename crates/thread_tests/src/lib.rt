@@ -14,14 +14,8 @@ mod processor_tests;
 #[cfg(test)]
 mod queue_tests;
 #[cfg(test)]
-mod replay_tests;
-#[cfg(test)]
-mod runs;
-#[cfg(test)]
-mod schedule_tests;
+mod same;
 #[cfg(test)]
 mod slot_tests;
-#[cfg(test)]
-mod text_tests;
 #[cfg(test)]
 mod two_processors;

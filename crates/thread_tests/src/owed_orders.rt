@@ -8,6 +8,7 @@ ghost use Rattle.replay.specs.Driving.{IsDone};
 ghost use Rattle.replay.specs.Seats.{IsSeated};
 ghost use Rattle.thread_tests.specs.Fitting.{are_for-prop};
 
+use crate::same::same;
 use crate::two_processors::{
     are_contexts, context, contexts_of_two, list_of_two, two_hands, two_queues, two_tasks,
 };
@@ -289,12 +290,12 @@ fn obeyed<R: Wait>(rt: &R, bench: &mut Bench) -> (u32, Step) {
 
 /// So many orders are still owed after a flush.
 fn owes<R: Wait + Abort>(rt: &R, bench: &mut Bench, orders: u64) {
-    assert_eq!(rt; bench.flush(rt), orders);
+    same(rt, bench.flush(rt), orders);
 }
 
 /// The first processor obeys so many orders, and then its step answers this.
 fn obeys<R: Wait + Abort>(rt: &R, bench: &mut Bench, orders: u32, answer: Step) {
-    assert_eq!(rt; obeyed(rt, bench), (orders, answer));
+    same(rt, obeyed(rt, bench), (orders, answer));
 }
 
 /// The first processor gets 301 orders, of which its queue has room for 256, and two more at the close; the second one
@@ -314,7 +315,7 @@ fn steps_to_stop<R: Wait + Abort>(rt: &R, bench: &mut Bench) {
     obeys(rt, bench, 256, Step::Empty);
     owes(rt, bench, 0);
     obeys(rt, bench, 46, Step::Stopped);
-    assert_eq!(rt; bench.step_second(rt), Step::Stopped);
+    same(rt, bench.step_second(rt), Step::Stopped);
 }
 
 /// One task ran for 300 units, one at a time, and the other one not at all.

@@ -2,6 +2,7 @@
 ghost use Rattle.std.specs.Prelude.{◌≡◌, ◌<◌, ◌≤◌, [], ◌++◌, ◌∷◌, length};
 ghost use Rattle.schedule_board.specs.Boards.{board_of, board_at, published};
 
+use crate::same::same;
 use affinity_mask::ProcSet;
 use schedule_board::{Observer, Picture, Publisher, make_board};
 use std::alloc::Global;
@@ -71,13 +72,11 @@ fn publish_and_read<R: Wait + Abort, K: Wait + Drop>(
 
 /// A picture shows so many entries, and these tasks on the two processors.
 fn expect(rt: &impl Abort, picture: Picture, count: u64, first: Option<u32>, second: Option<u32>) {
-    assert_eq!(rt; picture.count(), count);
-    assert_eq!(rt; picture.on(0), first);
-    assert_eq!(rt; picture.on(1), second);
-    assert_eq!(rt;
-        picture.linked().count(),
-        first.is_some() as u8 + second.is_some() as u8
-    );
+    same(rt, picture.count(), count);
+    same(rt, picture.on(0), first);
+    same(rt, picture.on(1), second);
+    let linked = first.is_some() as u8 + second.is_some() as u8;
+    same(rt, picture.linked().count(), linked);
 }
 
 /// Two tasks are placed, and the first one departs.
@@ -104,7 +103,7 @@ fn publish_three<R: Wait + Abort, K: Wait + Drop>(
 /// The same over the board of a set.
 fn publish_over<R: Wait + Abort>(rt: &R, alloc: Global, set: &TaskSet) {
     let (mut publisher, mut observers) = make_board(rt, alloc, set, 1).expect(rt, "memory");
-    assert_eq!(rt; observers.len(), 1);
+    same(rt, observers.len(), 1);
     publish_three(rt, &mut publisher, &mut observers[0]);
 }
 
@@ -158,7 +157,7 @@ fn read_beside<R: Threads + Wait + Abort + Sync, K: Wait + Drop + Send>(
     publisher.tell(&mut observer);
     let after = observer.read(rt).count();
     assert!(rt; done && first <= last && last <= 1);
-    assert_eq!(rt; after, 1);
+    same(rt, after, 1);
 }
 
 #[test]

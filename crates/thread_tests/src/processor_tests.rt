@@ -5,6 +5,7 @@ ghost use Rattle.context_slots.specs.Hands.{new_hand};
 ghost use Rattle.processor_seat.specs.Stepping.{ProcessorData, IsInStep};
 
 use crate::ends::{End, new_queue};
+use crate::same::same;
 use crate::two_processors::{are_contexts, context, contexts_of_two, two_hands, two_tasks};
 use context_slots::{Hand, Slots};
 use order_queues::Queue;
@@ -64,7 +65,7 @@ impl Seat {
         ensures slots { self.new.hand.slots ≡ slots.now.id }
     {
         let found = self.processor.step(rt, &self.queue, slots, &OpenGate);
-        assert_eq!(rt; found, answer);
+        same(rt, found, answer);
     }
 
     fn act<R: Abort + Wait>(&mut self, rt: &R, slots: &Slots, act: Act)
@@ -74,7 +75,7 @@ impl Seat {
     {
         match act {
             Act::Sends(order) => {
-                assert_eq!(rt; self.end.send(rt, &self.queue, order), Ok(()));
+                same(rt, self.end.send(rt, &self.queue, order), Ok(()));
             }
             Act::Steps(answer) => self.step(rt, slots, answer),
         }
@@ -272,7 +273,7 @@ fn send_two_stints<R: Abort + Wait>(rt: &R, queue: &Queue, end: &mut End, number
         Order::Stop,
     ];
     for order in orders {
-        assert_eq!(rt; end.send(rt, queue, order), Ok(()));
+        same(rt, end.send(rt, queue, order), Ok(()));
     }
 }
 
@@ -377,7 +378,7 @@ fn check_to_and_fro<R: Abort + Threads + Wait + Sync>(rt: &R, alloc: Global, set
         count: AtomicU64::new(0),
     };
     let contexts = after_to_and_fro(rt, alloc, set, &gate);
-    assert_eq!(rt; contexts.len(), 2);
+    same(rt, contexts.len(), 2);
     assert!(rt; is_after_to_and_fro(&contexts));
-    assert_eq!(rt; gate.count.load(Ordering::SeqCst), 4);
+    same(rt, gate.count.load(Ordering::SeqCst), 4);
 }

@@ -2,6 +2,7 @@
 ghost use Rattle.std.specs.Prelude.{◌≡◌, []};
 
 use crate::ends::{End, is_stop, new_queue};
+use crate::same::{same, same_at};
 use order_queues::{QUEUE_ROOM, Queue, Receiver, Sender, settle};
 use std::alloc::Global;
 use std::process::Abort;
@@ -34,7 +35,7 @@ fn receives<R: Wait + Abort>(rt: &R, queue: &Queue, receiver: &mut Receiver, ord
     requires receiver { receiver.old.queue ≡ queue.now }
     ensures receiver { receiver.new.queue ≡ queue.now }
 {
-    assert_eq!(rt; receiver.next(rt, queue), order);
+    same(rt, receiver.next(rt, queue), order);
 }
 
 /// How many runs of one unit are sent until one is refused, 256 at most.
@@ -70,12 +71,12 @@ fn fill<R: Wait + Abort>(rt: &R, queue: &Queue, end: &mut End, receiver: &mut Re
     ensures queue { end.new ≡ queue.now }
     ensures receiver { receiver.new.queue ≡ queue.now }
 {
-    assert_eq!(rt; QUEUE_ROOM, 256);
+    same(rt, QUEUE_ROOM, 256);
     receives(rt, queue, receiver, None);
-    assert_eq!(rt; end.send(rt, queue, FIRST_TAKE), Ok(()));
-    assert_eq!(rt; send_runs(rt, queue, end), 255);
+    same(rt, end.send(rt, queue, FIRST_TAKE), Ok(()));
+    same(rt, send_runs(rt, queue, end), 255);
     end.meet(queue, receiver);
-    assert_eq!(rt; end.send(rt, queue, Order::Run(1)), Err(Order::Run(1)));
+    same(rt, end.send(rt, queue, Order::Run(1)), Err(Order::Run(1)));
 }
 
 /// Receives the take and its runs, after which the queue is empty.
@@ -86,7 +87,7 @@ fn empty<R: Wait + Abort>(rt: &R, queue: &Queue, end: &mut End, receiver: &mut R
     ensures receiver { receiver.new.queue ≡ queue.now }
 {
     receives(rt, queue, receiver, Some(FIRST_TAKE));
-    assert_eq!(rt; receive_runs(rt, queue, receiver), 255);
+    same(rt, receive_runs(rt, queue, receiver), 255);
     end.meet(queue, receiver);
     receives(rt, queue, receiver, None);
 }
@@ -98,8 +99,8 @@ fn stop<R: Wait + Abort>(rt: &R, queue: &Queue, end: &mut End, receiver: &mut Re
     ensures queue { end.new ≡ queue.now }
     ensures receiver { receiver.new.queue ≡ queue.now }
 {
-    assert_eq!(rt; end.send(rt, queue, Order::Release(0)), Ok(()));
-    assert_eq!(rt; end.send(rt, queue, Order::Stop), Ok(()));
+    same(rt, end.send(rt, queue, Order::Release(0)), Ok(()));
+    same(rt, end.send(rt, queue, Order::Stop), Ok(()));
     receives(rt, queue, receiver, Some(Order::Release(0)));
     receives(rt, queue, receiver, Some(Order::Stop));
 }
@@ -110,7 +111,7 @@ fn settles(rt: &impl Abort, queue: Queue, end: End, receiver: Receiver, count: u
     requires receiver { receiver.queue ≡ queue }
 {
     let settled = settle(queue, end.into_sender(), receiver);
-    assert_eq!(rt; [settled.sent, settled.received], [count, count]);
+    same(rt, [settled.sent, settled.received], [count, count]);
 }
 
 /// Six orders that are sent by one call.
@@ -137,7 +138,7 @@ fn send_six<R: Wait + Abort>(rt: &R, queue: &Queue, sender: &mut Sender)
     requires nothing_sent { sender.old.sent ≡ [] }
 {
     let mut eye = sender.eye(queue);
-    assert_eq!(rt; sender.send_all(rt, queue, &mut eye, &SIX), 6);
+    same(rt, sender.send_all(rt, queue, &mut eye, &SIX), 6);
 }
 
 /// Receives the six orders, and finds no more.
@@ -176,9 +177,9 @@ fn relayed<R: Threads + Wait + Abort + Sync>(
 
 /// These are all orders that are relayed, in their order.
 fn check_relayed(rt: &impl Abort, list: &[Order]) {
-    assert_eq!(rt; list.len(), 100_000);
+    assert!(rt; list.len() == 100_000);
     for (i, order) in list.iter().enumerate() {
-        assert_eq!(rt; *order, order_at(i as u32), "order {i}");
+        same_at(rt, *order, order_at(i as u32), &i);
     }
 }
 
@@ -260,7 +261,7 @@ fn receiver_is_woken(rt: HostRuntime) {
     let began = Instant::now(&rt).expect(&rt, "a time");
     let (end, (receiver, order)) = stop_sleeper(&rt, &queue, end, receiver);
     let slept = began.elapsed(&rt).expect(&rt, "a time");
-    assert_eq!(rt; order, Some(Order::Stop));
+    same(&rt, order, Some(Order::Stop));
     assert!(rt; slept < Duration::from_secs(LONGEST_SLEEP / 2));
     settles(&rt, queue, end, receiver, 1);
 }

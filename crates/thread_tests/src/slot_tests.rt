@@ -3,6 +3,7 @@ ghost use Rattle.std.specs.Prelude.{◌≡◌, ℕ, ◌<◌, ◌≤◌, None, Al
 ghost use Rattle.std.specs.Thread.{IsSync};
 ghost use Rattle.context_slots.specs.Hands.{HandData, AreAll};
 
+use crate::same::same;
 use crate::two_processors::{
     are_contexts, context, contexts, contexts_of_two, two_hands, two_tasks,
 };
@@ -113,7 +114,7 @@ fn check_passed(rt: &impl Abort, alloc: Global, set: &TaskSet)
     requires { (length set.now.tasks ≡ 2) × (set.now.processors ≡ 2) }
 {
     let (found, made) = after_passing(rt, alloc, set);
-    assert_eq!(rt; found, [1, 1, 2]);
+    same(rt, found, [1, 1, 2]);
     let a = context(0, 7, 2, 1, Some(1), 7381743522923083969);
     are_contexts(rt, &made, a, context(1, 0, 0, 0, None, 1));
 }
@@ -274,5 +275,5 @@ fn check_round<R: Abort + Threads + Wait + Sync>(rt: &R, alloc: Global, set: &Ta
     let contexts = contexts_of_round(rt, alloc, set);
     let mut expected = fresh_contexts(rt, alloc);
     after_round(&mut expected);
-    assert_eq!(rt; contexts.as_slice(), expected.as_slice());
+    same(rt, contexts.as_slice(), expected.as_slice());
 }

@@ -3,6 +3,7 @@ ghost use Rattle.std.specs.Prelude.{◌≡◌, ◌∷◌, [], None, length, map}
 ghost use Rattle.order_queues.specs.Ends.{new_receiver, new_sender};
 ghost use Rattle.context_slots.specs.Hands.{AreAll, new_hand};
 
+use crate::same::same;
 use affinity_mask::ProcSet;
 use context_slots::{Hand, Slots};
 use order_queues::{Queue, Receiver, Sender};
@@ -149,5 +150,5 @@ pub(crate) fn context(
 
 /// These are the contexts of the two tasks.
 pub(crate) fn are_contexts(rt: &impl Abort, contexts: &[Context], a: Context, b: Context) {
-    assert_eq!(rt; contexts, [a, b].as_slice());
+    same(rt, contexts, [a, b].as_slice());
 }

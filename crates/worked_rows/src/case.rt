@@ -1,6 +1,7 @@
 //! What a case says.
 ghost use Rattle.std.specs.Prelude.{◌≤◌};
 
+use crate::gate::{Hold, Place};
 use std::alloc::Global;
 
 /// What is run on which bytes, and how the streams behave.
@@ -20,6 +21,10 @@ pub struct Case {
     pub alike: Vec<String>,
     /// How often it is run.
     pub times: usize,
+    /// Where the gate holds threads.
+    pub holds: Vec<Hold>,
+    /// Whether the gate takes its time.
+    pub slow: bool,
     /// Whether it is run for each prefix of its text.
     pub each_prefix: bool,
     /// The bytes of the first source.
@@ -43,6 +48,8 @@ pub enum Deed {
     Spread(u32),
     /// Whether the entries of each stream are those of the last call's source, in their order.
     Order,
+    /// How often the last call called the gate there.
+    Count(Place),
 }
 
 /// How many bytes a stream moves at most at a call, and which of its calls fail, numbered from 0.
@@ -74,6 +81,8 @@ impl Case {
             room: 131_072,
             alike: Vec::new(alloc),
             times: 1,
+            holds: Vec::new(alloc),
+            slow: false,
             each_prefix: false,
             text: Vec::new(alloc),
         }

@@ -4,6 +4,8 @@
 
 mod case;
 mod fault;
+mod gate;
+mod holds;
 mod outcome;
 mod put;
 mod reading;

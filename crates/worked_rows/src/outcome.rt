@@ -1,9 +1,9 @@
 //! What comes of a case.
 use crate::case::{Case, Deed, Stage};
+use crate::gate::{CaseGate, Place};
 use crate::put::{write_answer, write_put};
 use crate::streams::{is_in_order, spread};
 use command_line::{Status, run};
-use processor_seat::OpenGate;
 use shift_io::{MemSink, MemSource};
 use std::alloc::{AllocError, Global};
 use std::mem;
@@ -51,10 +51,10 @@ fn write_runs<R: Threads + Wait + Sync>(
     text: &[u8],
     lines: &mut String,
 ) -> Result<(), AllocError> {
-    let first = run_once(rt, alloc, case, text)?;
+    let first = run_once(rt, alloc, case, text, 0)?;
     lines.push_str(&first)?;
-    for _ in 1..case.times {
-        let again = run_once(rt, alloc, case, text)?;
+    for time in 1..case.times {
+        let again = run_once(rt, alloc, case, text, time as u64)?;
         if again != first {
             write!(lines, "again:\n{again}")?;
         }
@@ -62,16 +62,19 @@ fn write_runs<R: Threads + Wait + Sync>(
     Ok(())
 }
 
-/// What comes of one run of it.
+/// What comes of one run of it, the first one being at time 0.
 fn run_once<R: Threads + Wait + Sync>(
     rt: &R,
     alloc: Global,
     case: &Case,
     text: &[u8],
+    time: u64,
 ) -> Result<String, AllocError> {
+    let pace = if case.slow { Some(time) } else { None };
     let mut progress = Progress {
         source: Vec::new(alloc),
         text: Vec::from_slice(alloc, text)?,
+        gate: CaseGate::new(alloc, &case.holds, pace)?,
         lines: String::new(alloc),
     };
     progress.go(rt, alloc, case)?;
@@ -81,16 +84,18 @@ fn run_once<R: Threads + Wait + Sync>(
 
 /// How far a run of a case is.
 #[derive(Drop)]
-struct Progress {
+struct Progress<'a> {
     /// What the last call read.
     source: Vec<u8>,
     /// What it put.
     text: Vec<u8>,
+    /// The gate of the calls, which has counted those of the last one.
+    gate: CaseGate<'a>,
     /// What is to be written.
     lines: String,
 }
 
-impl Progress {
+impl<'a> Progress<'a> {
     /// Each stage, up to the first one that is not done, and then what was put.
     fn go<R: Threads + Wait + Sync>(
         &mut self,
@@ -118,6 +123,7 @@ impl Progress {
             Deed::Call(words) => {
                 let status = self.call(rt, alloc, case, words)?;
                 write_answer(alloc, &mut self.lines, &stage.words, status)?;
+                self.write_late()?;
                 Ok(status == Status::Done)
             }
             Deed::Spread(streams) => {
@@ -129,12 +135,30 @@ impl Progress {
                 self.write_order(&stage.words, answer)?;
                 Ok(true)
             }
+            Deed::Count(place) => {
+                self.write_count(&stage.words, *place)?;
+                Ok(true)
+            }
         }
     }
 
     fn write_order(&mut self, words: &str, is_in_order: bool) -> Result<(), AllocError> {
         let answer = if is_in_order { "yes" } else { "no" };
         writeln!(self.lines, "{words}: {answer}")
+    }
+
+    fn write_count(&mut self, words: &str, place: Place) -> Result<(), AllocError> {
+        let count = self.gate.count(place);
+        writeln!(self.lines, "{words}: {count}")
+    }
+
+    /// Writes how many holds of the last call ended before what they wait for came, if any did.
+    fn write_late(&mut self) -> Result<(), AllocError> {
+        let late = self.gate.late();
+        if late > 0 {
+            writeln!(self.lines, "late: {late}")?;
+        }
+        Ok(())
     }
 
     /// Makes the top call over memory.
@@ -147,7 +171,8 @@ impl Progress {
     ) -> Result<Status, AllocError> {
         let mut source = source_of(alloc, case, &self.text)?;
         let mut sink = sink_of(alloc, case)?;
-        let status = run(rt, alloc, words, &mut source, &mut sink, &OpenGate);
+        self.gate.reset();
+        let status = run(rt, alloc, words, &mut source, &mut sink, &self.gate);
         let put = Vec::from_slice(alloc, sink.bytes())?;
         let read = mem::replace(&mut self.text, put);
         self.source = read;

@@ -1,6 +1,7 @@
 //! Cases, read line by line.
 use crate::case::{Case, Pieces};
 use crate::fault::{CasesFault, LineFault};
+use crate::holds::read_hold;
 use crate::stages::read_stages;
 use crate::texts::append_line;
 use std::alloc::Global;
@@ -122,6 +123,8 @@ fn read_option(alloc: Global, case: &mut Case, line: &str) -> Result<(), LineFau
         "room" => case.room = read_number(rest)?,
         "alike" => case.alike.push(String::from_str(alloc, rest)?)?,
         "times" => case.times = read_number(rest)?,
+        "hold" => case.holds.push(read_hold(rest)?)?,
+        "slow" if rest.is_empty() => case.slow = true,
         "each" if rest == "prefix" => case.each_prefix = true,
         "text" if rest.is_empty() => {}
         _ => return Err(LineFault::UnknownLine),

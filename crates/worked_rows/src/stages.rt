@@ -1,6 +1,7 @@
 //! The stages of a case.
 use crate::case::{Deed, Stage};
 use crate::fault::LineFault;
+use crate::holds::read_place;
 use crate::reading::read_number;
 use std::alloc::{AllocError, Global};
 
@@ -24,10 +25,18 @@ fn read_deed(alloc: Global, words: &str) -> Result<Deed, LineFault> {
     if words == "(in order)" {
         return Ok(Deed::Order);
     }
+    if let Some(place) = words.strip_prefix("(gate ") {
+        return read_count(place);
+    }
     match words.strip_prefix("(on ") {
         Some(streams) => Ok(Deed::Spread(read_streams(streams)?)),
         None => Ok(Deed::Call(words_of(alloc, words)?)),
     }
+}
+
+/// A place of the gate, whose calls are counted.
+fn read_count(words: &str) -> Result<Deed, LineFault> {
+    Ok(Deed::Count(read_place(words.strip_suffix(')').unwrap_or(""))?))
 }
 
 /// A number of streams, from 1 to 16.
