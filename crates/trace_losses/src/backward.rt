@@ -11,13 +11,13 @@ use trace_passages::Passage;
 
 /// Who is where before all passages, and what one needs to go on from each to the next one, that of the first passage last.
 #[derive(Drop)]
-pub(crate) struct Trail {
-    pub(crate) first: Runners,
-    pub(crate) formers: Vec<Former>,
+pub struct Trail {
+    pub first: Runners,
+    pub formers: Vec<Former>,
 }
 
 /// The trail of passages.
-pub(crate) fn trail_of(
+pub fn trail_of(
     alloc: Global,
     threads: u32,
     passages: &[Passage],

@@ -2,11 +2,11 @@
 
 /// What a step back over a line undid. With it, the step is taken again the other way.
 #[derive(Clone, Copy)]
-pub(crate) struct Former {
+pub struct Former {
     /// The thread that was on the processor of the line.
-    pub(crate) stopped: Option<u32>,
+    pub stopped: Option<u32>,
 
     /// The processors of the thread that leaves or wakes up, and of the one that comes.
-    pub(crate) from: Option<u32>,
-    pub(crate) to: Option<u32>,
+    pub from: Option<u32>,
+    pub to: Option<u32>,
 }

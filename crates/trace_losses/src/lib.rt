@@ -21,8 +21,10 @@ mod tally;
 mod walk;
 mod watch;
 
+pub use backward::{Trail, trail_of};
 pub use beside::Beside;
 pub use book::Book;
+pub use former::Former;
 pub use job::{TraceJob, TraceJobs, jobs_of};
 pub use loss::{Loss, Losses, losses_of};
 pub use runners::Runners;

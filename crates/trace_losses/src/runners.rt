@@ -124,7 +124,7 @@ impl Runners {
     }
 
     /// Goes on over a line that one went back over.
-    pub(crate) fn restore(&mut self, turn: Option<Turn>, former: Former)
+    pub fn restore(&mut self, turn: Option<Turn>, former: Former)
         requires threads { ForSome turn (AreThreads (vec_len self.old.processors)) }
         requires within { ForSome former.stopped (λ t. t < vec_len self.old.processors) }
         ensures restored { self.new.processors.items

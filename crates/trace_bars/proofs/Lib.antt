@@ -1,0 +1,4 @@
+pub mod Clipped
+pub mod Layers
+pub mod Seen
+pub mod Tracked
