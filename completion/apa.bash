@@ -1,7 +1,7 @@
 # Completion of apa for bash: its words, and then the files that each of them reads; all files, where none has the suffix.
 _apa() {
     local word=${COMP_WORDS[COMP_CWORD]} command=${COMP_WORDS[1]-} files=''
-    local words='run check weak nested jobs weakjobs watch draw steps chrome import importjobs lost whatif masks record govern tasks make large'
+    local words='run check weak nested jobs weakjobs runjobs watch draw steps chrome import importjobs lost whatif masks record govern tasks make large'
     words="$words prove test install uninstall release version"
     COMPREPLY=()
     if [ "$COMP_CWORD" -eq 1 ]; then
@@ -17,7 +17,7 @@ _apa() {
     *:govern) _apa_reply < <(compgen -W '--watch --log --seconds --cpu --priority --source' -- "$word") ;;
     2:record) _apa_reply < <(compgen -W '1 2 5 10' -- "$word") ;;
     *:tasks | *:record) _apa_reply < <(cd /proc && compgen -G "${word}[0-9]*") ;;
-    2:jobs | 2:weakjobs | 3:weakjobs) files='jobs' ;;
+    2:jobs | 2:weakjobs | 3:weakjobs | 2:runjobs) files='jobs' ;;
     2:watch) _apa_reply < <(compgen -W '1 2 3 4 5 6 7 8' -- "$word") ;;
     2:install | 2:uninstall) _apa_reply < <(compgen -d -- "$word") ;;
     2:prove) _apa_reply < <(compgen -W 'program library' -- "$word") ;;

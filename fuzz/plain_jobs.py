@@ -1,4 +1,4 @@
-"""Texts of jobs, read and run plainly from docs/FORMATS.md, for the second opinion on `jobs` and `weakjobs`.
+"""Texts of jobs, read and run plainly from docs/FORMATS.md, for the second opinion on `jobs`, `weakjobs` and `runjobs`.
 
 A job is a triple of release, cost and deadline, which is None where the text states none. The jobs are run from one moment at which
 something happens to the next, by the plain scheduler or by the weak one, which is written here.
@@ -7,13 +7,15 @@ something happens to the next, by the plain scheduler or by the weak one, which 
 import re
 
 from plain_scheduler import State, step
-from plain_texts import Fault, Text, listed, number
+from plain_texts import Fault, Text, listed, number, replayed
 from texts import MOST_BYTES
 
 MOST_JOBS = 4000
 # The longest horizon of each version, and the greatest offset, period, cost and deadline.
 HORIZONS = {1: 1000000, 2: 10000000}
 PRIORITIES = 0, 4294967295
+# The most units of a tick.
+MOST_UNITS = 1000000
 
 
 class JobText(Text):
@@ -177,8 +179,9 @@ class Row:
         return self.jobs[self.released][0] if self.released < len(self.jobs) else None
 
 
-def run_jobs(text, step):
-    """The finishes of the finished jobs of each task, in order, and the number of moves, where this step schedules."""
+def run_jobs(text, step, wait=lambda units: None):
+    """The finishes of the finished jobs of each task, in order, and the number of moves, where this step schedules; `wait` is told of the
+    units from each moment to the next."""
     state = State(text.processors, [(priority, frozenset(mask)) for priority, mask in text.tasks])
     rows, places, moves, moment = [Row(jobs) for jobs in text.jobs], {}, 0, 0
     while True:
@@ -203,6 +206,7 @@ def run_jobs(text, step):
         later = min([text.horizon, *nexts, *(moment + rows[t].left() for t in state.on.values())])
         for t in state.on.values():
             rows[t].units += later - moment
+        wait(later - moment)
         moment = later
 
 
@@ -251,6 +255,22 @@ def weakjobs_lines(text):
     return [*lines, 'end']
 
 
+def runjobs_lines(text):
+    """The schedule of the strong run, all of it on stream 0."""
+    events = []
+
+    def noted(state, event):
+        events.append(event)
+        step(state, event)
+
+    def waited(units):
+        events.extend(('tick', min(MOST_UNITS, units - gone)) for gone in range(0, units, MOST_UNITS))
+
+    run_jobs(text, noted, waited)
+    text.version, text.entries = 1, [(0, event, None) for event in events]
+    return replayed(text).decode().splitlines()
+
+
 def answer(data, lines_of):
     """The status, the output, and the line and kind of a refusal; without these two where the text is too long."""
     if len(data) > MOST_BYTES:
@@ -268,3 +288,7 @@ def answer_to_jobs(data):
 
 def answer_to_weakjobs(data):
     return answer(data, weakjobs_lines)
+
+
+def answer_to_runjobs(data):
+    return answer(data, runjobs_lines)

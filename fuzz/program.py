@@ -15,7 +15,7 @@ DEFAULT = os.path.normpath(os.path.join(os.path.dirname(os.path.abspath(__file__
 STATUS_LINES = {
     0: re.compile(rb''),
     1: re.compile(rb'invalid: line (\d+), defect ([1-5])\n'),
-    2: re.compile(rb'usage: run, check, make n p t e, large n p t e, weak, nested, jobs, watch k, import, draw \[A B\], steps \[A B\], chrome \[AT\], lost, weakjobs, importjobs\n'),
+    2: re.compile(rb'usage: run, check, make n p t e, large n p t e, weak, nested, jobs, watch k, import, draw \[A B\], steps \[A B\], chrome \[AT\], lost, weakjobs, importjobs, runjobs\n'),
     3: re.compile(rb'input: line (\d+), kind (\d+)\n|input: more than (?:16777216|268435456) bytes\n'
                   rb'|input: version 1 wanted\n|input: tasks \d+ and \d+ have crossing masks\n'),
     4: re.compile(rb'read fault\n'),
@@ -31,6 +31,7 @@ KINDS = {
     'run': INPUT_KINDS, 'watch': INPUT_KINDS, 'weak': INPUT_KINDS, 'nested': INPUT_KINDS,
     'check': SCHEDULE_KINDS, 'draw': SCHEDULE_KINDS, 'steps': SCHEDULE_KINDS, 'chrome': SCHEDULE_KINDS,
     'import': TRACE_KINDS, 'lost': TRACE_KINDS, 'importjobs': (*TRACE_KINDS, 14, 15), 'jobs': JOB_KINDS, 'weakjobs': JOB_KINDS,
+    'runjobs': JOB_KINDS,
 }
 # The words that refuse a schedule with a defect, and the one that refuses by words of its own.
 JUDGES = ('check', 'draw', 'steps', 'chrome')

@@ -46,7 +46,7 @@ function show_field(n) {
 function text_of(first) {
     if (first ~ /^apa[ \t]/) return "an input, which `apa run` reads"
     if (first ~ /^schedule[ \t]/) return "a schedule, which `apa check` and `apa draw` read"
-    if (first ~ /^jobs[ \t]/) return "a text of jobs, which `apa jobs` and `apa weakjobs` read"
+    if (first ~ /^jobs[ \t]/) return "a text of jobs, which `apa jobs`, `apa weakjobs` and `apa runjobs` read"
     if (first ~ /^trace[ \t]/) return "the head of a trace, which `apa lost TASKS TRACE` reads"
     if (first ~ /sched_(switch|wakeup)/ || first ~ /^# *tracer:/) return "a trace" (is_trace ? ": TASKS is the first file, and TRACE the second one" : ", which `apa lost TASKS TRACE` reads")
     if (first ~ /^(weak|nested|lost|weakjobs|responses|large)[ \t]/) return "what `apa " substr(first, 1, index(first " ", " ") - 1) "` writes"

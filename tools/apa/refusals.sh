@@ -5,7 +5,7 @@
 in_words() {
     awk -F '|' -v word="$1" -v fault="$2" -v column="$3" '
         BEGIN {
-            above["weakjobs"] = "jobs"; above["importjobs"] = "lost"; above["lost"] = "import"
+            above["weakjobs"] = "jobs"; above["runjobs"] = "jobs"; above["importjobs"] = "lost"; above["lost"] = "import"
             for (rank = 9; word != ""; word = above[word]) ranks[word " " fault] = rank--
             ranks["any " fault] = 1
         }

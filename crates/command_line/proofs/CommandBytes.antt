@@ -12,7 +12,7 @@ use Rattle.schedule_picture.specs.declared.axis.Axis.{Axis}
 use Rattle.schedule_picture.specs.declared.axis.Axis.TheVariants.{Time, Steps}
 use Rattle.schedule_picture.specs.declared.window.Window.{Window}
 use Rattle.command_line.specs.declared.words.Command.{Command}
-use Rattle.command_line.specs.declared.words.Command.TheVariants.{Run, Check, Weak, Nested, Jobs, WeakJobs, Watch, Import, ImportJobs, Draw, Chrome, Lost, Make, Large}
+use Rattle.command_line.specs.declared.words.Command.TheVariants.{Run, Check, Weak, Nested, Jobs, WeakJobs, RunJobs, Watch, Import, ImportJobs, Draw, Chrome, Lost, Make, Large}
 
 -- a command reads nothing or something
 reads_or_not : (command : Command) → ReadsNothing command ⊎ (ReadsNothing command → ⊥)
@@ -22,6 +22,7 @@ reads_or_not Weak = inr (λ nothing. nothing)
 reads_or_not Nested = inr (λ nothing. nothing)
 reads_or_not Jobs = inr (λ nothing. nothing)
 reads_or_not WeakJobs = inr (λ nothing. nothing)
+reads_or_not RunJobs = inr (λ nothing. nothing)
 reads_or_not (Watch observers) = inr (λ nothing. nothing)
 reads_or_not Import = inr (λ nothing. nothing)
 reads_or_not ImportJobs = inr (λ nothing. nothing)
@@ -73,6 +74,7 @@ command_marked first words =
     if first == mark (codes "nested") then Nested else (
     if first == mark (codes "jobs") then Jobs else (
     if first == mark (codes "weakjobs") then WeakJobs else (
+    if first == mark (codes "runjobs") then RunJobs else (
     if first == mark (codes "watch") then Watch (number_value (get_or words 1 [])) else (
     if first == mark (codes "import") then Import else (
     if first == mark (codes "importjobs") then ImportJobs else (
@@ -81,7 +83,7 @@ command_marked first words =
     if first == mark (codes "chrome") then Chrome (start_said words) else (
     if first == mark (codes "lost") then Lost else (
     if first == mark (codes "make") then Make (sizes_said words) else (
-    if first == mark (codes "large") then Large (sizes_said words) else Run)))))))))))))
+    if first == mark (codes "large") then Large (sizes_said words) else Run))))))))))))))
 
 -- the command that words mean, if they mean one
 command_said : List (List ℕ) → Command
@@ -117,6 +119,7 @@ said_of words Weak spoken = ap command_said spoken
 said_of words Nested spoken = ap command_said spoken
 said_of words Jobs spoken = ap command_said spoken
 said_of words WeakJobs spoken = ap command_said spoken
+said_of words RunJobs spoken = ap command_said spoken
 said_of words (Watch observers) spoken = ap command_said spoken.each_word ∙ ap Watch spoken.is_number.0.1
 said_of words Import spoken = ap command_said spoken
 said_of words ImportJobs spoken = ap command_said spoken
@@ -168,6 +171,7 @@ command_within words Weak spoken = tt
 command_within words Nested spoken = tt
 command_within words Jobs spoken = tt
 command_within words WeakJobs spoken = tt
+command_within words RunJobs spoken = tt
 command_within words (Watch observers) spoken = (spoken.is_number.1, spoken.is_number.2)
 command_within words Import spoken = tt
 command_within words ImportJobs spoken = tt
@@ -195,6 +199,7 @@ unsized_words words first number processors tasks events five none Weak spoken =
 unsized_words words first number processors tasks events five none Nested spoken = let same = sym five ∙ spoken in cc
 unsized_words words first number processors tasks events five none Jobs spoken = let same = sym five ∙ spoken in cc
 unsized_words words first number processors tasks events five none WeakJobs spoken = let same = sym five ∙ spoken in cc
+unsized_words words first number processors tasks events five none RunJobs spoken = let same = sym five ∙ spoken in cc
 unsized_words words first number processors tasks events five none (Watch observers) spoken = let same = sym five ∙ spoken.each_word in cc
 unsized_words words first number processors tasks events five none Import spoken = let same = sym five ∙ spoken in cc
 unsized_words words first number processors tasks events five none ImportJobs spoken = let same = sym five ∙ spoken in cc
@@ -221,6 +226,7 @@ unwindowed_words words first from to three none Weak spoken = let same = sym thr
 unwindowed_words words first from to three none Nested spoken = let same = sym three ∙ spoken in cc
 unwindowed_words words first from to three none Jobs spoken = let same = sym three ∙ spoken in cc
 unwindowed_words words first from to three none WeakJobs spoken = let same = sym three ∙ spoken in cc
+unwindowed_words words first from to three none RunJobs spoken = let same = sym three ∙ spoken in cc
 unwindowed_words words first from to three none (Watch observers) spoken = let same = sym three ∙ spoken.each_word in cc
 unwindowed_words words first from to three none Import spoken = let same = sym three ∙ spoken in cc
 unwindowed_words words first from to three none ImportJobs spoken = let same = sym three ∙ spoken in cc

@@ -11,6 +11,7 @@ use Rattle.commands.specs.Weak.{IsWeakOf}
 use Rattle.commands.specs.NestedRun.{IsNestedOf, AcceptsNested, RefusesNested}
 use Rattle.commands.specs.JobsRun.{IsJobsOf, AcceptsJobs, RefusesJobs}
 use Rattle.commands.specs.WeakJobs.{IsWeakJobsOf}
+use Rattle.commands.specs.JobsSchedule.{IsJobsScheduleOf}
 use Rattle.commands.specs.Import.{IsImportOf, AcceptsTrace, RefusesTrace}
 use Rattle.commands.specs.ImportJobs.{IsImportedJobsOf, AcceptsJobTrace, RefusesJobTrace}
 use Rattle.commands.specs.Draw.{IsDrawingOf}
@@ -25,7 +26,7 @@ use Rattle.command_line.specs.Large.{IsLargeOf}
 use Rattle.command_line.specs.Run.{IsRunOf}
 use Rattle.command_line.specs.Watch.{IsWatchOf}
 use Rattle.command_line.specs.declared.words.Command.{Command}
-use Rattle.command_line.specs.declared.words.Command.TheVariants.{Run, Check, Weak, Nested, Jobs, WeakJobs, Watch, Import, ImportJobs, Draw, Chrome, Lost, Make, Large}
+use Rattle.command_line.specs.declared.words.Command.TheVariants.{Run, Check, Weak, Nested, Jobs, WeakJobs, RunJobs, Watch, Import, ImportJobs, Draw, Chrome, Lost, Make, Large}
 
 -- ---- words
 -- a number, and then how many processors, tasks and events there are; leading zeros are no fault
@@ -92,6 +93,7 @@ IsCommand words Weak = words ≡ codes "weak" ∷ []
 IsCommand words Nested = words ≡ codes "nested" ∷ []
 IsCommand words Jobs = words ≡ codes "jobs" ∷ []
 IsCommand words WeakJobs = words ≡ codes "weakjobs" ∷ []
+IsCommand words RunJobs = words ≡ codes "runjobs" ∷ []
 IsCommand words (Watch observers) = IsWatch words observers
 IsCommand words Import = words ≡ codes "import" ∷ []
 IsCommand words ImportJobs = words ≡ codes "importjobs" ∷ []
@@ -109,6 +111,7 @@ IsBounded Weak = Unit {0}
 IsBounded Nested = Unit {0}
 IsBounded Jobs = Unit {0}
 IsBounded WeakJobs = Unit {0}
+IsBounded RunJobs = Unit {0}
 IsBounded (Watch observers) = (1 ≤ observers) × (observers ≤ 8)
 IsBounded Import = Unit {0}
 IsBounded ImportJobs = Unit {0}
@@ -127,6 +130,7 @@ byte_limit Weak = text_limit
 byte_limit Nested = text_limit
 byte_limit Jobs = text_limit
 byte_limit WeakJobs = text_limit
+byte_limit RunJobs = text_limit
 byte_limit (Watch observers) = text_limit
 byte_limit Import = trace_limit
 byte_limit ImportJobs = trace_limit
@@ -144,6 +148,7 @@ ReadsNothing Weak = ⊥
 ReadsNothing Nested = ⊥
 ReadsNothing Jobs = ⊥
 ReadsNothing WeakJobs = ⊥
+ReadsNothing RunJobs = ⊥
 ReadsNothing (Watch observers) = ⊥
 ReadsNothing Import = ⊥
 ReadsNothing ImportJobs = ⊥
@@ -172,6 +177,7 @@ Makes Weak read put = IsWeakOf read put
 Makes Nested read put = IsNestedOf read put
 Makes Jobs read put = IsJobsOf read put
 Makes WeakJobs read put = IsWeakJobsOf read put
+Makes RunJobs read put = IsJobsScheduleOf read put
 Makes (Watch observers) read put = IsWatchOf observers read put
 Makes Import read put = IsImportOf read put
 Makes ImportJobs read put = IsImportedJobsOf read put
@@ -189,6 +195,7 @@ Accepts Weak bytes = IsAccepted bytes
 Accepts Nested bytes = AcceptsNested bytes
 Accepts Jobs bytes = AcceptsJobs bytes
 Accepts WeakJobs bytes = AcceptsJobs bytes
+Accepts RunJobs bytes = AcceptsJobs bytes
 Accepts (Watch observers) bytes = IsAccepted bytes
 Accepts Import bytes = AcceptsTrace bytes
 Accepts ImportJobs bytes = AcceptsJobTrace bytes
@@ -206,6 +213,7 @@ Refuses Weak bytes status = IsAnsweredInput (RefusesInput bytes) status
 Refuses Nested bytes status = RefusesNested bytes status
 Refuses Jobs bytes status = RefusesJobs bytes status
 Refuses WeakJobs bytes status = RefusesJobs bytes status
+Refuses RunJobs bytes status = RefusesJobs bytes status
 Refuses (Watch observers) bytes status = IsAnsweredInput (RefusesInput bytes) status
 Refuses Import bytes status = RefusesTrace bytes status
 Refuses ImportJobs bytes status = RefusesJobTrace bytes status

@@ -17,7 +17,7 @@ use crate::watch::watched_text;
 use crate::words::{Command, command_of};
 use commands::{
     MAX_BYTES, MAX_TRACE_BYTES, Status, checked_text, chrome_trace, drawn_text, imported_jobs_text,
-    imported_text, jobs_text, lost_text, made_text, nested_text, weak_jobs_text, weak_text,
+    imported_text, jobs_schedule_text, jobs_text, lost_text, made_text, nested_text, weak_jobs_text, weak_text,
 };
 use processor_seat::Gate;
 use shift_io::{ReadAllFault, Sink, Source, put_all, read_all};
@@ -31,8 +31,8 @@ use std::thread::Threads;
 /// schedule text, whoever made it, and where that is a valid schedule, writes how many entries it has. `weak` reads an
 /// input text, replays its events by the weak scheduler beside the strong one, and writes what differs. `nested` reads
 /// an input text of version 1 whose masks nest, and writes what counts decide. `jobs` reads a text of jobs, stated one by
-/// one or periodic, and writes when each of them ends, and `weakjobs` when it ends under the weak scheduler and under the
-/// strong one. `watch` works as `run` does, but for the posts, which are in the order of the lines, and beside it so many
+/// one or periodic, and writes when each of them ends, `weakjobs` when it ends under the weak scheduler and under the
+/// strong one, and `runjobs` the schedule text of the run. `watch` works as `run` does, but for the posts, which are in the order of the lines, and beside it so many
 /// observers read which processors are occupied, each on a thread of its own. It writes the schedule text, and then what
 /// they read; the gate is also called before each of their reads. `import` reads a trace of the Linux scheduler, and
 /// writes the input that it comes to, `importjobs` the text of the jobs that its tasks had, and `lost` what each of its
@@ -166,6 +166,7 @@ fn limit_of(command: Command) -> usize
         | Command::Nested
         | Command::Jobs
         | Command::WeakJobs
+        | Command::RunJobs
         | Command::Watch(_)
         | Command::Draw(_, _)
         | Command::Chrome(_)
@@ -194,6 +195,7 @@ fn text_made<R: Threads + Wait + Sync, G: Gate + Sync>(
         Command::Nested => nested_text(alloc, bytes),
         Command::Jobs => jobs_text(alloc, bytes),
         Command::WeakJobs => weak_jobs_text(alloc, bytes),
+        Command::RunJobs => jobs_schedule_text(alloc, bytes),
         Command::Watch(observers) => watched_text(rt, alloc, bytes, observers, gate),
         Command::Import => imported_text(alloc, bytes),
         Command::ImportJobs => imported_jobs_text(alloc, bytes),

@@ -31,6 +31,8 @@ pub enum Command {
     /// The source is a text of jobs; they are released and run by the weak scheduler and by the strong one, and when each
     /// of them ends under either is written.
     WeakJobs,
+    /// The source is a text of jobs; they are released and run, and the schedule text of the run is written.
+    RunJobs,
     /// The source is an input text; its events are replayed while so many observers read, and the schedule text is
     /// written, and what they read.
     Watch(u32),
@@ -71,6 +73,7 @@ pub fn command_of(words: &[String]) -> Option<Command>
             "nested" => Some(Command::Nested),
             "jobs" => Some(Command::Jobs),
             "weakjobs" => Some(Command::WeakJobs),
+            "runjobs" => Some(Command::RunJobs),
             "import" => Some(Command::Import),
             "importjobs" => Some(Command::ImportJobs),
             "draw" => Some(Command::Draw(Axis::Time, WHOLE)),

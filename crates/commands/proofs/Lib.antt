@@ -15,6 +15,7 @@ pub mod NestedAnswers
 pub mod OneVerdict
 pub mod ReadBytes
 pub mod Refusals
+pub mod RunSchedules
 pub mod TraceOneText
 pub mod TraceRefusals
 pub mod WeakOneText

@@ -8,6 +8,7 @@ pub mod Import
 pub mod ImportJobs
 pub mod JobsLaws
 pub mod JobsRun
+pub mod JobsSchedule
 pub mod Lost
 pub mod NestedRun
 pub mod Reading

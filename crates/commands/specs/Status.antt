@@ -26,7 +26,7 @@ exit_status_of OutOfMemory = 6
 abbrev pub status_text : Status → List ℕ
 status_text Done = []
 status_text (Invalid line defect) = codes "invalid: line " ++ canonical_number line ++ codes ", defect " ++ canonical_number defect
-status_text Usage = codes "usage: run, check, make n p t e, large n p t e, weak, nested, jobs, watch k, import, draw [A B], steps [A B], chrome [AT], lost, weakjobs, importjobs"
+status_text Usage = codes "usage: run, check, make n p t e, large n p t e, weak, nested, jobs, watch k, import, draw [A B], steps [A B], chrome [AT], lost, weakjobs, importjobs, runjobs"
 status_text (Input line kind) = codes "input: line " ++ canonical_number line ++ codes ", kind " ++ canonical_number kind
 status_text Version = codes "input: version 1 wanted"
 status_text (Crossing one other) = codes "input: tasks " ++ (canonical_number one ++ (codes " and " ++ (canonical_number other ++ codes " have crossing masks")))

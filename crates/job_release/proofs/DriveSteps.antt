@@ -1,10 +1,12 @@
 -- A driver from step to step.
-use Rattle.std.proofs.Common.{◌≡◌, ◌≢◌, ℕ, ◌+◌, ◌-◌, ◌*◌, ◌<◌, ◌≤◌, Bool, true, false, List, [], ◌∷◌, ◌++◌, length, get_or, set, Some, refl, sym, ap, ◌∙◌, subst, inl, inr, arith}
+use Rattle.std.proofs.Common.{◌≡◌, ◌≢◌, ℕ, ◌+◌, ◌-◌, ◌*◌, ◌<◌, ◌≤◌, Bool, true, false, List, [], ◌∷◌, ◌++◌, length, get_or, set, All, Some, refl, sym, ap, ◌∙◌, subst, inl, inr, arith}
 use Rattle.std.proofs.Math.Seq.{map-set_same}
 use Rattle.std.proofs.lemmas.Bool.{cases_Bool, cases_lt, cases_eq, true≢false}
 use Rattle.std.proofs.lemmas.Option.{get_or_from_slice_get, slice_get-get_or}
 use Rattle.std.proofs.lemmas.List.{length-map, length-set, get_or-map, get_or-set_same, get_or-set_other}
+use Rattle.std.proofs.lemmas.List.Elements.{All-push}
 use Rattle.std.proofs.lemmas.List.Sums.{sum_by-set}
+use Rattle.task_set.specs.Event.{HasUnits}
 use Rattle.task_set.specs.declared.event.Event.{Event}
 use Rattle.strong_apa.specs.State.{IsState, task_count, is_ready}
 use Rattle.job_release.specs.EventCauses.{HasCause, IsServedAt, IsAskedAt}
@@ -16,7 +18,7 @@ use Rattle.job_release.specs.Scheduler.{SchedulerData, Readies}
 use Rattle.job_release.specs.WeakRuns.{elapsed_at}
 use Rattle.job_release.specs.declared.row.JobRow.{JobRow}
 use Rattle.job_release.proofs.Causes.{without_cause, with_cause}
-use Rattle.job_release.proofs.EventOrders.{order_push, turn_push, in_own_turn, after_own_turn, no_units}
+use Rattle.job_release.proofs.EventOrders.{order_push, turn_push, in_own_turn, after_own_turn, no_units, has_no_units}
 use Rattle.job_release.proofs.RowCauses.{not_served, not_served_yet, is_served, not_asked_with_work, not_asked, is_asked}
 use Rattle.job_release.proofs.RowSteps.{Agree, row_kept}
 use Rattle.job_release.proofs.RowChanges.{one_more, row_not_settled, row_settled, row_supplied}
@@ -39,6 +41,8 @@ module _ (from now : DriverData) (n : ℕ) (moved left : Mark) (driving : IsDriv
       let room = driving.room in
       let each = driving.one_each in
       let count = driving.state.count in
+      let within = driving.within in
+      let horizon = driving.horizon_fits in
       omega (arith, sum, total)
 
   -- ---- one row is done
@@ -52,6 +56,7 @@ module _ (from now : DriverData) (n : ℕ) (moved left : Mark) (driving : IsDriv
     pub others : (u : ℕ) → u ≢ n → is_ready after.now u ≡ is_ready now.scheduler.now u
     pub timed : elapsed_at after.events ≡ now.moment
     pub in_order : AreInOrder (length now.rows) 0 after.events
+    pub units : All HasUnits after.events
     pub turn : turn_after_all (length now.rows) 0 after.events ≤ turn_of moved left (length now.rows) (n + 1)
     pub caused : AreCausedUpTo (length now.rows) now.moment (turn_of moved left (length now.rows) (n + 1)) (jobs_of now.rows) after.events after.states
 
@@ -71,6 +76,7 @@ module _ (from now : DriverData) (n : ℕ) (moved left : Mark) (driving : IsDriv
       others = λ u differs. refl;
       timed = driving.timed;
       in_order = driving.in_order;
+      units = driving.units;
       turn = (let turn = driving.turn in omega (arith, more));
       caused = subst (λ (turn : ℕ). AreCausedUpTo (length now.rows) now.moment turn (jobs_of now.rows) now.scheduler.events now.scheduler.states) more
           (without_cause (length now.rows) now.moment (turn_of moved left (length now.rows) n) (jobs_of now.rows) now.scheduler.events now.scheduler.states driving.caused n flag number own
@@ -92,6 +98,7 @@ module _ (from now : DriverData) (n : ℕ) (moved left : Mark) (driving : IsDriv
           others = readies.others;
           timed = (let none = no_units n flag in let timed = driving.timed in ap (λ (events : List Event). elapsed_at events) readies.given ∙ elapsed_push now.scheduler.events (event_of n flag) ∙ omega (arith, none, timed));
           in_order = rw readies.given (order_push (length now.rows) 0 now.scheduler.events (event_of n flag) driving.in_order in_turn);
+          units = rw readies.given (All-push HasUnits now.scheduler.events (event_of n flag) driving.units (has_no_units n flag));
           turn = rw (readies.given, turn_push) (omega (arith, next, own, more));
           caused =
               let P : ℕ → Type 0 = λ turn. AreCausedUpTo (length now.rows) now.moment turn (jobs_of now.rows) (now.scheduler.events ++ event_of n flag ∷ []) after.states in
@@ -139,6 +146,7 @@ module _ (from now : DriverData) (n : ℕ) (moved left : Mark) (driving : IsDriv
               (driving.rows_left t d (omega arith) fits_then));
           timed = leaves.timed;
           in_order = rw (length-set now.rows n row) leaves.in_order;
+          units = leaves.units;
           turn = rw (length-set now.rows n row) leaves.turn;
           caused = rw (listed, length-set now.rows n row) leaves.caused;
           room = (let room = driving.room in omega (arith, exchanged, gained));
@@ -171,6 +179,7 @@ all_moved from now n moved left all phases driving =
       rows_left = λ t d from fits. absurd (omega arith);
       timed = driving.timed;
       in_order = driving.in_order;
+      units = driving.units;
       turn =
           let round = rounds left.phase moved.phase (length now.rows) phases in
           let turn = rw (let e : n ≡ length now.rows = omega arith in e) at driving.turn in

@@ -1,6 +1,8 @@
 -- Time passes: it leads from a moment to the next one at which something is to be done.
 use Rattle.std.proofs.Common.{◌≡◌, ℕ, suc, ◌+◌, ◌*◌, ◌-◌, ◌^◌, ◌<◌, ◌≤◌, Bool, true, false, List, [], ◌∷◌, ◌++◌, length, get_or, All, refl, sym, ap, ◌∙◌, subst, inl, inr, arith}
 use Rattle.std.proofs.lemmas.List.{get_or-map}
+use Rattle.std.proofs.lemmas.List.Elements.{All-push}
+use Rattle.task_set.specs.Event.{HasUnits}
 use Rattle.task_set.specs.declared.event.Event.{Event}
 use Rattle.task_set.specs.declared.event.Event.TheVariants.{Tick}
 use Rattle.strong_apa.specs.State.{State, IsState, is_ready, is_linked}
@@ -125,6 +127,7 @@ module _ (from now : DriverData) (driving : IsDriving from now (length now.rows)
     ticked =
         let later = is_next.later in
         let within_horizon = is_next.within in
+        let units = is_next.units in
         let so_far = driving.room_before (omega arith) in
         let room = passes.keeps.room in
         let each = sum_of_less (work_of now.moment) (work_of next) now.rows ran (sym runs.count) no_less in
@@ -142,6 +145,8 @@ module _ (from now : DriverData) (driving : IsDriving from now (length now.rows)
           rows_moved = λ t d below fits. new_row t d (let count = runs.count in omega arith);
           rows_left = λ t d since fits. absurd (omega arith);
           timed = ap (λ (events : List Event). elapsed_at events) passes.given ∙ elapsed_push now.scheduler.events (Tick (next - now.moment)) ∙ (let timed = driving.timed in omega arith);
+          units = rw passes.given
+              (All-push HasUnits now.scheduler.events (Tick (next - now.moment)) driving.units (omega arith, omega arith));
           in_order = rw (runs.count, passes.given) (order_push (length now.rows) 0 now.scheduler.events (Tick (next - now.moment)) driving.in_order (omega arith));
           turn = rw (runs.count, passes.given) (let pushed = turn_push (length now.rows) 0 now.scheduler.events (Tick (next - now.moment)) in omega arith);
           caused =
@@ -151,8 +156,12 @@ module _ (from now : DriverData) (driving : IsDriving from now (length now.rows)
               (subst P turn (causes_after (length now.rows) now.moment (turn_of (supplied now.moment) (supplied now.moment) (length now.rows) (length now.rows)) next (next - now.moment)
               (jobs_of now.rows) now.scheduler.events now.scheduler.states after.states driving.caused all_turns driving.timed agree nothing_caused));
           room = omega (arith, so_far, each, room);
-          room_before = λ before.
-              let due = is_next.due before in
-              let more = sum_of_one_less (work_of now.moment) (work_of next) now.rows ran due.0 (sym runs.count) due.1 no_less (λ d. one_due due.0 d due.1 (due.2 d)) in
-              omega (arith, so_far, more, room);
+          room_before = λ before. elim is_next.due [
+            | inl last ↦ omega (arith, so_far, each, room, last)
+            | inr due ↦ (
+                let more =
+                sum_of_one_less (work_of now.moment) (work_of next) now.rows ran due.0 (sym runs.count) due.1 no_less
+                (λ d. one_due due.0 d due.1 (due.2 d)) in
+                omega (arith, so_far, more, room))
+          ];
         }

@@ -1,6 +1,7 @@
 -- Events in their order, as one more comes.
 use Rattle.std.proofs.Common.{◌≡◌, ℕ, ◌+◌, ◌-◌, ◌<◌, ◌≤◌, ◌⊎◌, Bool, true, false, List, [], ◌∷◌, ◌++◌, refl, ap, ◌∙◌, subst, inl, inr, arith}
 use Rattle.std.proofs.lemmas.List.Sums.{sum_by-cons}
+use Rattle.task_set.specs.Event.{HasUnits}
 use Rattle.task_set.specs.declared.event.Event.{Event}
 use Rattle.task_set.specs.declared.event.Event.TheVariants.{Arrive, Depart, Tick, Affinity, Offline, Online}
 use Rattle.job_release.specs.EventCauses.{ComesAt}
@@ -38,6 +39,11 @@ own_turn_from n turn t false is = is.0
 pub no_units : (t : ℕ) (f : Bool) → units_of (event_of t f) ≡ 0
 no_units t true = refl
 no_units t false = refl
+
+-- and what a tick has to have is not asked of it
+pub has_no_units : (t : ℕ) (f : Bool) → HasUnits (event_of t f)
+has_no_units t true = tt
+has_no_units t false = tt
 
 pub tick_is_no_change : (units t : ℕ) (f : Bool) → Tick units ≡ event_of t f → ⊥
 tick_is_no_change units t true e = let same : ◌≡◌ {A = Event} (Tick units) (Arrive t) = e in cc

@@ -3,8 +3,10 @@ use Rattle.std.proofs.Common.{◌≡◌, ℕ, suc, ◌+◌, ◌<◌, ◌≤◌, 
 use Rattle.std.proofs.lemmas.Bool.{cases_lt, true≢false}
 use Rattle.std.proofs.lemmas.Grind.{common_steps}
 use Rattle.std.proofs.lemmas.List.{get_or_append_left, get_or_at, length-map}
+use Rattle.std.proofs.lemmas.List.Elements.{All-nil}
 use Rattle.std.proofs.lemmas.List.Sums.{get_or-le-sum_by}
 use Rattle.task_set.specs.TaskSet.{TaskData}
+use Rattle.task_set.specs.Event.{HasUnits}
 use Rattle.strong_apa.specs.State.{IsState, task_count, is_ready}
 use Rattle.strong_apa.proofs.Start.{none_ready}
 use Rattle.job_release.specs.JobInput.{JobInputData, IsJobInput, AreJobs, jobs_at}
@@ -111,6 +113,7 @@ driving_fresh input scheduler rows valid state new fresh =
       rows_left = λ t d from within. absurd (omega arith);
       timed = rw new.events refl;
       in_order = rw new.events tt;
+      units = rw new.events (All-nil HasUnits);
       turn = rw new.events (omega arith);
       caused = rw new.events (nothing_caused (length rows) (turn_of (settled 0) (settled 0) (length rows) (length rows)) (jobs_of rows) scheduler.states (omega arith));
       room = omega arith;

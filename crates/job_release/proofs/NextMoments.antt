@@ -26,15 +26,17 @@ module _ (links : State) (moment next earlier : ℕ) where
 
   -- who is due
   abbrev pub SomeoneIsDue : ℕ → List JobRow → ℕ → ℕ → Type 0
-  SomeoneIsDue horizon rows t at = (at ≡ horizon) ⊎ ((u : ℕ) × (u < t) × ((d : JobRow) → IsDueAt links moment at u (row_at rows u d)))
+  SomeoneIsDue last rows t at = (at ≡ last) ⊎ ((u : ℕ) × (u < t) × ((d : JobRow) → IsDueAt links moment at u (row_at rows u d)))
 
-  same_due : (horizon : ℕ) (rows : List JobRow) (t : ℕ) → earlier ≡ next → SomeoneIsDue horizon rows t next → SomeoneIsDue horizon rows (t + 1) earlier
-  same_due horizon rows t same (inl end) = inl (same ∙ end)
-  same_due horizon rows t same (inr (u, below, due)) =
+  same_due : (last : ℕ) (rows : List JobRow) (t : ℕ) → earlier ≡ next → SomeoneIsDue last rows t next
+      → SomeoneIsDue last rows (t + 1) earlier
+  same_due last rows t same (inl end) = inl (same ∙ end)
+  same_due last rows t same (inr (u, below, due)) =
       inr (u, omega arith, λ d. let Q : ℕ → Type 0 = λ at. IsDueAt links moment at u (row_at rows u d) in subst Q (sym same) (due d))
 
-  pub due_earlier : (horizon : ℕ) (rows : List JobRow) (t : ℕ) → SomeoneIsDue horizon rows t next → ((d : JobRow) → IsEarlier links moment next t (row_at rows t d) earlier) → SomeoneIsDue horizon rows (t + 1) earlier
-  due_earlier horizon rows t old one = elim (cases_eq earlier next) [
-    | inl same ↦ same_due horizon rows t same old
+  pub due_earlier : (last : ℕ) (rows : List JobRow) (t : ℕ) → SomeoneIsDue last rows t next
+      → ((d : JobRow) → IsEarlier links moment next t (row_at rows t d) earlier) → SomeoneIsDue last rows (t + 1) earlier
+  due_earlier last rows t old one = elim (cases_eq earlier next) [
+    | inl same ↦ same_due last rows t same old
     | inr differs ↦ inr (t, omega arith, λ d. elim (one d).due [ inl same ↦ absurd (differs same) | inr due ↦ due ])
   ]

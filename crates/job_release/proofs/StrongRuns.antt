@@ -1,5 +1,7 @@
 -- What the strong scheduler leaves at the horizon: its history runs the jobs.
-use Rattle.std.proofs.Common.{map, sym, subst}
+use Rattle.std.proofs.Common.{◌<◌, List, length, map, get_or, All, sym, subst, arith}
+use Rattle.std.proofs.lemmas.List.{length-map, get_or-map}
+use Rattle.task_set.specs.declared.event.Event.{Event}
 use Rattle.task_set.specs.TaskSet.{IsTaskSet}
 use Rattle.strong_apa.specs.declared.reply.Entry.{Entry}
 use Rattle.strong_apa.specs.State.{State, start_of}
@@ -13,6 +15,13 @@ use Rattle.job_release.specs.Driven.{ServesJobs, RunsTheBest}
 use Rattle.job_release.specs.Moments.{state_at}
 use Rattle.job_release.specs.Strong.{IsOpen, strong_seen}
 use Rattle.job_release.proofs.Moments.{state_by_entries}
+
+-- what holds of the events of a history holds of its entries
+pub of_entries : (P : Event → Type 0) (history : List Entry) → All P (map (λ (entry : Entry). entry.event) history)
+    → All (λ (entry : Entry). P entry.event) history
+of_entries P history all k d within =
+    let event = λ (entry : Entry). entry.event in
+    subst P (get_or-map event history k d d.event within) (all k d.event (let count = length-map history event in omega arith))
 
 pub run_of_driven : (input : JobInputData) (driven : DrivenData CoreData) → IsTaskSet input.set → IsCore driven.scheduler → IsOpen driven.scheduler → IsDrivenOf strong_seen input driven
     → IsJobRunOf input (record { horizon = driven.horizon; jobs = driven.jobs; core = driven.scheduler })

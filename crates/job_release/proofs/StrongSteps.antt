@@ -25,6 +25,8 @@ module _ (old new : CoreData) (before : IsCore old) (valid : IsCore new) where
       not_closed = applied.closed ∙ opened.not_closed;
       events = (let P : List Entry → Type 0 = λ history. All (λ (e : Entry). IsJobEvent e.event) history in
           subst P (sym applied.history) (All-push (λ (e : Entry). IsJobEvent e.event) old.history entry opened.events job_event));
+      callers = (let P : List Entry → Type 0 = λ history. All (λ (e : Entry). e.caller ≡ 0) history in
+          subst P (sym applied.history) (All-push (λ (e : Entry). e.caller ≡ 0) old.history entry opened.callers refl));
     }
 
     -- the states are those of a history with one entry more

@@ -1,6 +1,6 @@
 -- How far a driver of jobs has come: per task, the jobs released and finished so far, and the service it got. Private: the contracts
 -- of this crate's own functions.
-use Rattle.std.specs.Prelude.{◌≡◌, ℕ, ◌+◌, ◌-◌, ◌*◌, ◌^◌, ◌<◌, ◌≤◌, ◌⊎◌, ◌↔◌, ◌==◌, ◌++◌, Bool, true, List, [], ◌∷◌, length, get_or, map, take, sum_by, nat_lt, Option, None, if◌then◌else◌}
+use Rattle.std.specs.Prelude.{◌≡◌, ℕ, ◌+◌, ◌-◌, ◌*◌, ◌/◌, ◌^◌, ◌<◌, ◌≤◌, ◌⊎◌, ◌↔◌, ◌==◌, ◌++◌, Bool, true, List, [], ◌∷◌, length, get_or, map, take, All, sum_by, nat_lt, min, Option, None, if◌then◌else◌}
 use Rattle.strong_apa.specs.State.{State, IsState, start_of, task_count, is_ready, is_linked}
 use Rattle.job_release.specs.Jobs.{job_at, cost_of, goal_of}
 use Rattle.job_release.specs.JobInput.{JobInputData, AreJobs, jobs_at, total_jobs}
@@ -12,6 +12,7 @@ use Rattle.job_release.specs.EventCauses.{ComesAt, HasCause}
 use Rattle.job_release.specs.EventOrder.{AreInOrder, turn_after_all, event_of, own_turn}
 use Rattle.job_release.specs.Scheduler.{SchedulerData, enough_room}
 use Rattle.job_release.specs.WeakRuns.{elapsed_at}
+use Rattle.task_set.specs.Event.{HasUnits}
 use Rattle.task_set.specs.declared.event.Event.{Event}
 use Rattle.job_release.specs.declared.driver.Driver.{Driver}
 use Rattle.job_release.specs.declared.row.JobRow.{JobRow}
@@ -147,6 +148,14 @@ work_of moment row =
     + (if nat_lt row.released (length row.jobs.items) then (if (job_at row.jobs.items row.released).release == moment then 1 else 0) else 0)
     + (if nat_lt (done_of row) row.released then (if row.service == goal_of row.jobs.items (done_of row) then 1 else 0) else 0)
 
+-- the most units of a tick, as in the texts
+abbrev pub most_units : ℕ
+most_units = 1000000
+
+-- how many ticks of so many units there may be before the moment
+abbrev pub long_ticks : ℕ → ℕ
+long_ticks moment = moment / most_units
+
 -- what contracts see of a driver
 pub record DriverData : Type 0 where
   pub scheduler : SchedulerData
@@ -190,10 +199,11 @@ pub record IsDriving (from now : DriverData) (n : ℕ) (moved left : Mark) : Typ
       → IsRowAt now.scheduler.states now.horizon (is_ready now.scheduler.now t) now.moment left t (row_at now.rows t d)
   pub timed : elapsed_at now.scheduler.events ≡ now.moment
   pub in_order : AreInOrder (length now.rows) 0 now.scheduler.events
+  pub units : All HasUnits now.scheduler.events
   pub turn : turn_after_all (length now.rows) 0 now.scheduler.events ≤ turn_of moved left (length now.rows) n
   pub caused : AreCausedUpTo (length now.rows) now.moment (turn_of moved left (length now.rows) n) (jobs_of now.rows) now.scheduler.events now.scheduler.states
-  pub room : enough_room ≤ now.scheduler.room + sum_by (work_of now.moment) now.rows + 1
-  pub room_before : now.moment < now.horizon → enough_room ≤ now.scheduler.room + sum_by (work_of now.moment) now.rows
+  pub room : enough_room ≤ now.scheduler.room + sum_by (work_of now.moment) now.rows + long_ticks now.moment + 1
+  pub room_before : now.moment < now.horizon → enough_room ≤ now.scheduler.room + sum_by (work_of now.moment) now.rows + long_ticks now.moment
 
 -- the same of the driver itself
 abbrev pub Drives : {S : Type 0} → (S → SchedulerData) → Driver S → Driver S → ℕ → Mark → Mark → Type 0
@@ -236,12 +246,17 @@ pub record IsEarlier (links : State) (moment next t : ℕ) (row : JobRow) (earli
   pub not_after : IsNotAfter links moment earlier t row
   pub due : (earlier ≡ next) ⊎ IsDueAt links moment earlier t row
 
--- the next moment at which something is to be done
+-- the last moment to which a tick goes
+abbrev pub last_of_tick : ℕ → ℕ → ℕ
+last_of_tick horizon moment = min horizon (moment + most_units)
+
+-- the next moment at which something is to be done, or to which a tick goes
 pub record IsNextMoment (links : State) (rows : List JobRow) (horizon moment next : ℕ) : Type 0 where
   pub later : moment < next
   pub within : next ≤ horizon
+  pub units : next ≤ moment + most_units
   pub not_after : (t : ℕ) (d : JobRow) → t < length rows → IsNotAfter links moment next t (row_at rows t d)
-  pub due : next < horizon → (t : ℕ) × (t < length rows) × ((d : JobRow) → IsDueAt links moment next t (row_at rows t d))
+  pub due : (next ≡ last_of_tick horizon moment) ⊎ ((t : ℕ) × (t < length rows) × ((d : JobRow) → IsDueAt links moment next t (row_at rows t d)))
 
 -- a row that can run so many units
 pub record RunFits (units : ℕ) (row : JobRow) : Type 0 where

@@ -1,5 +1,6 @@
 -- Runs of jobs: the horizon, the jobs of each task, and the scheduler that ran them, or the core of the strong one.
-use Rattle.std.specs.Prelude.{◌≡◌, ℕ, List, map}
+use Rattle.std.specs.Prelude.{◌≡◌, ℕ, List, map, All}
+use Rattle.task_set.specs.Event.{HasUnits}
 use Rattle.strong_apa.specs.declared.reply.Entry.{Entry}
 use Rattle.strong_apa.specs.State.{start_of}
 use Rattle.sched_core.specs.CoreData.{CoreData, IsCore}
@@ -37,6 +38,11 @@ pub record JobRunData : Type 0 where
 -- what holds of each run
 pub record IsValidRun (run : JobRunData) : Type 0 where
   pub core : IsCore run.core
+
+-- the entries are such as a text has: all are on stream 0, and each tick has from 1 to 1,000,000 units
+pub record CanBeWritten (history : List Entry) : Type 0 where
+  pub callers : All (λ (entry : Entry). entry.caller ≡ 0) history
+  pub units : All (λ (entry : Entry). HasUnits entry.event) history
 
 -- the run is one of the input: it has its horizon and its jobs, and begins with its tasks
 pub record IsOfInput (input : JobInputData) (run : JobRunData) : Type 0 where

@@ -6,10 +6,11 @@ use Rattle.job_release.specs.Driven.{IsJobEvent}
 use Rattle.job_release.specs.Moments.{elapsed, state_at}
 use Rattle.job_release.specs.Scheduler.{SchedulerData}
 
--- a core that takes events, and has had only those of jobs
+-- a core that takes events, and has had only those of jobs, on stream 0
 pub record IsOpen (core : CoreData) : Type 0 where
   pub not_closed : core.closed ≡ false
   pub events : All (λ (entry : Entry). IsJobEvent entry.event) core.history
+  pub callers : All (λ (entry : Entry). entry.caller ≡ 0) core.history
 
 -- its history says the state of each moment
 abbrev pub strong_seen : CoreData → SchedulerData

@@ -12,6 +12,7 @@ use crate::scheduler::JobScheduler;
 use affinity_mask::OutOfMemory;
 use link_table::Links;
 use std::alloc::Global;
+use text_fields::limits::MAX_UNITS;
 
 /// The scheduler that runs the jobs, and the row of each task, at a moment.
 #[derive(Drop)]
@@ -116,14 +117,15 @@ impl<S: JobScheduler> Driver<S> {
         Ok(())
     }
 
-    /// The next moment at which something is to be done: a release, the end of a running job, or the horizon.
+    /// The next moment at which something is to be done: a release, the end of a running job, or the horizon. Where that is
+    /// further than a tick of the texts goes, it is the moment to which one goes.
     pub fn next_moment(&self) -> u32
         requires driving { IsAt S.seen self.now self.now (supplied self.now.moment) }
         requires before { self.now.moment < self.now.horizon }
         ensures { IsNextMoment (S.seen self.now.scheduler).now self.now.rows.items
             self.now.horizon self.now.moment result }
     {
-        let mut next = self.horizon;
+        let mut next = self.horizon.min(self.moment + MAX_UNITS as u32);
         for t in 0..self.scheduler.links().len() {
             next = self.not_after(t, next);
         }

@@ -1,9 +1,10 @@
 //! Runs of the jobs of an input.
-ghost use Rattle.std.specs.Prelude.{◌≡◌, ◌<◌, ◌≤◌, IfOk, MatchOption, length};
+ghost use Rattle.std.specs.Prelude.{◌≡◌, ◌<◌, ◌≤◌, All, IfOk, MatchOption, length};
+ghost use Rattle.task_set.specs.Event.{HasUnits};
 ghost use Rattle.sched_core.specs.CoreData.{IsCore};
 ghost use Rattle.job_release.specs.Jobs.{goal_of};
 ghost use Rattle.job_release.specs.JobInput.{jobs_at};
-ghost use Rattle.job_release.specs.JobRun.{IsJobRunOf, IsValidRun, IsDrivenOf};
+ghost use Rattle.job_release.specs.JobRun.{CanBeWritten, IsJobRunOf, IsValidRun, IsDrivenOf};
 ghost use Rattle.job_release.specs.Moments.{state_at, IsFinish, IsUnfinished};
 ghost use Rattle.job_release.specs.Moves.{moves_of_all};
 ghost use Rattle.job_release.specs.Scheduler.{IsNewFor};
@@ -45,7 +46,8 @@ pub fn drive<S: JobScheduler>(
     scheduler: S,
 ) -> Result<Driven<S>, OutOfMemory>
     requires { IsNewFor input.now.set (S.seen scheduler) }
-    ensures { IfOk result (IsDrivenOf S.seen input.now) }
+    ensures driven { IfOk result (IsDrivenOf S.seen input.now) }
+    ensures units { IfOk result (λ driven. All HasUnits (S.seen driven.scheduler).events) }
 {
     let _valid = input.set();
     let mut driver = Driver::new(alloc, input, scheduler)?;
@@ -136,7 +138,8 @@ impl Model for JobRun {
 
 /// Releases the jobs of an input up to its horizon, and lets the strong scheduler run them. Refused only when out of memory.
 pub fn drive_jobs(alloc: Global, input: &JobInput) -> Result<JobRun, OutOfMemory>
-    ensures { IfOk result (IsJobRunOf input.now) }
+    ensures run { IfOk result (IsJobRunOf input.now) }
+    ensures writable { IfOk result (λ run. CanBeWritten run.core.history) }
 {
     let strong = Strong::new(alloc, input.set())?;
     let driven = drive(alloc, input, strong)?;

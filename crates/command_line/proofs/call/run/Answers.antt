@@ -10,7 +10,7 @@ use Rattle.commands.specs.Check.{RefusesCheck}
 use Rattle.commands.specs.NestedRun.{RefusesNested}
 use Rattle.commands.specs.Status.{BeforePut}
 use Rattle.command_line.specs.declared.words.Command.{Command}
-use Rattle.command_line.specs.declared.words.Command.TheVariants.{Run, Check, Weak, Nested, Jobs, WeakJobs, Watch, Import, ImportJobs, Draw, Chrome, Lost, Make, Large}
+use Rattle.command_line.specs.declared.words.Command.TheVariants.{Run, Check, Weak, Nested, Jobs, WeakJobs, RunJobs, Watch, Import, ImportJobs, Draw, Chrome, Lost, Make, Large}
 use Rattle.command_line.specs.Command.{IsCommand, Reads, Refuses, ReadsRefused}
 use Rattle.command_line.proofs.CommandBytes.{one_command, read_is_expected, never_too_long, too_long_said, within_said, takes_said, left_out}
 use Rattle.command_line.proofs.call.run.Goals as goal
@@ -94,6 +94,7 @@ is_refusal Weak read told refused = input_refusal _ told refused
 is_refusal Nested read told refused = nested_refusal read told refused
 is_refusal Jobs read told refused = input_refusal _ told refused
 is_refusal WeakJobs read told refused = input_refusal _ told refused
+is_refusal RunJobs read told refused = input_refusal _ told refused
 is_refusal (Watch observers) read told refused = input_refusal _ told refused
 is_refusal Import read told refused = input_refusal _ told refused
 is_refusal ImportJobs read told refused = input_refusal _ told refused

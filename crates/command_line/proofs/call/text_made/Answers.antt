@@ -25,6 +25,10 @@ pub returns-in-WeakJobs : goal.returns-in-WeakJobs
 unfolding Makes Accepts Refuses
 returns-in-WeakJobs g c = rw c.in-WeakJobs.is c.weak_jobs_text.ensures
 
+pub returns-in-RunJobs : goal.returns-in-RunJobs
+unfolding Makes Accepts Refuses
+returns-in-RunJobs g c = rw c.in-RunJobs.is c.jobs_schedule_text.ensures
+
 pub returns-in-Watch : goal.returns-in-Watch
 unfolding Makes Accepts Refuses
 returns-in-Watch g c = rw c.in-Watch.is c.watched_text.ensures

@@ -48,6 +48,9 @@ returns-in-jobs c = said_alone c.args.words.now _ _ _ c.in-len1.len_at_least c.i
 pub returns-in-weakjobs : goal.returns-in-weakjobs
 returns-in-weakjobs c = said_alone c.args.words.now _ _ _ c.in-len1.len_at_least c.in-len1.len_below c.word-item.is c.as_str.ensures.value c.in-weakjobs.is
 
+pub returns-in-runjobs : goal.returns-in-runjobs
+returns-in-runjobs c = said_alone c.args.words.now _ _ _ c.in-len1.len_at_least c.in-len1.len_below c.word-item.is c.as_str.ensures.value c.in-runjobs.is
+
 pub returns-in-import : goal.returns-in-import
 returns-in-import c = said_alone c.args.words.now _ _ _ c.in-len1.len_at_least c.in-len1.len_below c.word-item.is c.as_str.ensures.value c.in-import.is
 

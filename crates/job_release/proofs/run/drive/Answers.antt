@@ -3,8 +3,11 @@ use Rattle.job_release.specs.Driving.{driver_of}
 use Rattle.job_release.proofs.Runs.{serves_jobs, asked_at_end}
 use Rattle.job_release.proofs.run.drive.Goals as goal
 
-pub returns : goal.returns
-returns g c =
+pub returns-clause-units : goal.returns-clause-units
+returns-clause-units g c = rw c.new-2.ensures c.loop-driver.invariant.units
+
+pub returns-clause-driven : goal.returns-clause-driven
+returns-clause-driven g c =
     let input = c.args.input.now in
     let seen = g.S.JobScheduler.seen in
     let from = driver_of seen c.in_ok-driver.driver in
