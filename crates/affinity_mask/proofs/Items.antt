@@ -1,5 +1,6 @@
 -- The pieces of a text between commas, and the numbers of an item around its '-'.
-use Rattle.std.proofs.Common.{◌≡◌, ◌≢◌, ℕ, ◌<◌, inl, inr, Option, Some, None, MatchOption, IfNone, Bor, Bool, true, false, nat_eq, List, [], ◌∷◌, ◌++◌, length, All, Contains, refl, sym, ◌∙◌, ap, arith, ne_eqb}
+use Rattle.std.proofs.Common.{◌≡◌, ◌≢◌, ℕ, ◌<◌, inl, inr, Option, Some, None, MatchOption, IfNone, Bor, Bool, true, false, nat_eq, List, []}
+use Rattle.std.proofs.Common.{◌∷◌, ◌++◌, length, All, Contains, refl, sym, ◌∙◌, ap, arith, ne_eqb}
 use Rattle.std.specs.List.{slice_split, join_with_byte}
 use Rattle.std.specs.Option.{unwrap_or}
 use Rattle.std.specs.Bool.{then_some}
@@ -40,7 +41,8 @@ pieces-whole text lacks = slice_split_none (λ byte. nat_eq byte comma) text lac
 pub pieces-cut : (piece rest : List ℕ) → Lacks comma piece → pieces (piece ++ comma ∷ rest) ≡ piece ∷ pieces rest
 pieces-cut piece rest lacks = slice_split_at (λ byte. nat_eq byte comma) piece comma rest lacks refl
 
-pub pieces-joined : (first : List ℕ) (more : List (List ℕ)) → All (Lacks comma) (first ∷ more) → pieces (join_with_byte comma (first ∷ more)) ≡ first ∷ more
+pub pieces-joined : (first : List ℕ) (more : List (List ℕ)) → All (Lacks comma) (first ∷ more)
+    → pieces (join_with_byte comma (first ∷ more)) ≡ first ∷ more
 pieces-joined first [] lacks = pieces-whole first (All-head (Lacks comma) first [] lacks)
 pieces-joined first (next ∷ more) lacks =
     pieces-cut first (join_with_byte comma (next ∷ more)) (All-head (Lacks comma) first (next ∷ more) lacks)
@@ -133,11 +135,14 @@ ends_none piece a b (inr (cut, lacks)) none low high (inr (c, d, joined, nc, nd,
     none (rw first nc, rw second nd)
 
 -- the two parts around the first '-', or the piece twice, are its ends
-pub ends_from_cut : (piece : Bor (List ℕ)) (cut : Option (Bor (List ℕ) × Bor (List ℕ))) (ends : Bor (List ℕ) × Bor (List ℕ)) → MatchOption cut (Contains piece.now dash → ⊥) (λ parts. (piece.now ≡ parts.0.now ++ dash ∷ parts.1.now) × (Contains parts.0.now dash → ⊥)) → ends ≡ unwrap_or cut (piece, piece) → AreEnds piece.now ends.0.now ends.1.now
+pub ends_from_cut : (piece : Bor (List ℕ)) (cut : Option (Bor (List ℕ) × Bor (List ℕ))) (ends : Bor (List ℕ) × Bor (List ℕ))
+    → MatchOption cut (Contains piece.now dash → ⊥) (λ parts. (piece.now ≡ parts.0.now ++ dash ∷ parts.1.now)
+    × (Contains parts.0.now dash → ⊥)) → ends ≡ unwrap_or cut (piece, piece) → AreEnds piece.now ends.0.now ends.1.now
 ends_from_cut piece None ends lacks e = rw e (inl (lacks, refl, refl))
 ends_from_cut piece (Some parts) ends found e = rw e (inr found)
 
 -- where not both ends are numbers, no numbers are answered, and the piece is no item
-pub none_from_ends : {X : Type 0} (ends : X) (both : Bool) (piece a b : List ℕ) → AreEnds piece a b → ((IsNumber a × IsNumber b) → both ≡ true) → IfNone (then_some both ends) ((low high : ℕ) → ¬ IsItem piece low high)
+pub none_from_ends : {X : Type 0} (ends : X) (both : Bool) (piece a b : List ℕ) → AreEnds piece a b
+    → ((IsNumber a × IsNumber b) → both ≡ true) → IfNone (then_some both ends) ((low high : ℕ) → ¬ IsItem piece low high)
 none_from_ends ends true piece a b cut f = tt
 none_from_ends ends false piece a b cut f = ends_none piece a b cut (λ numbers. true≢false (sym (f numbers)))

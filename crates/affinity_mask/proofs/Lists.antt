@@ -1,5 +1,6 @@
 -- Canonical lists of small sets.
-use Rattle.std.proofs.Common.{◌≡◌, ◌≢◌, ℕ, zero, suc, Bool, true, false, not, ◌&&◌, ◌||◌, ◌+◌, ◌-◌, ◌<◌, ◌≤◌, ◌⊎◌, inl, inr, nat_eq, refl, ap₂, ◌∙◌, arith, ⊎_elim, eq-eqb, ne_eqb, List, [], ◌∷◌, ◌++◌, append-nil}
+use Rattle.std.proofs.Common.{◌≡◌, ◌≢◌, ℕ, zero, suc, Bool, true, false, not, ◌&&◌, ◌||◌, ◌+◌, ◌-◌, ◌<◌, ◌≤◌, ◌⊎◌, inl, inr, nat_eq, refl}
+use Rattle.std.proofs.Common.{ap₂, ◌∙◌, arith, ⊎_elim, eq-eqb, ne_eqb, List, [], ◌∷◌, ◌++◌, append-nil}
 use Rattle.std.proofs.lemmas.Bool.{cases_eq}
 use Rattle.affinity_mask.specs.Number.{canonical_number}
 use Rattle.affinity_mask.specs.ProcSet.{has, empty, passing_below}
@@ -23,13 +24,18 @@ passing_none test none zero = refl
 passing_none test none (suc n) = passing_same test n (none n) ∙ passing_none test none n
 
 -- where one number alone passes, the list is empty up to it, and has it alone from there on
-passing_one : (test : ℕ → Bool) (p : ℕ) → ((q : ℕ) → test q ≡ nat_eq q p) → (n : ℕ) → ((n ≤ p) × (passing_below test n ≡ [])) ⊎ ((p < n) × (passing_below test n ≡ p ∷ []))
+passing_one : (test : ℕ → Bool) (p : ℕ) → ((q : ℕ) → test q ≡ nat_eq q p) → (n : ℕ) → ((n ≤ p) × (passing_below test n ≡ []))
+    ⊎ ((p < n) × (passing_below test n ≡ p ∷ []))
 unfolding passing_below
 passing_one test p one zero = inl (omega arith, refl)
 passing_one test p one (suc n) =
     elim (passing_one test p one n) [
       | inl before ↦ ⊎_elim
-          (λ (e : n ≡ p). inr (omega arith, passing_more test n (one n ∙ eq-eqb n p e) ∙ ap₂ (λ (xs : List ℕ) (k : ℕ). xs ++ k ∷ []) (before.1) e))
+          (λ (e : n ≡ p). inr (
+            omega arith,
+            passing_more test n (one n ∙ eq-eqb n p e)
+                ∙ ap₂ (λ (xs : List ℕ) (k : ℕ). xs ++ k ∷ []) (before.1) e,
+          ))
           (λ (ne : n ≢ p). inl (omega (arith, before.0), passing_same test n (one n ∙ ne_eqb n p ne) ∙ before.1))
           (cases_eq n p)
       | inr after ↦

@@ -1,5 +1,6 @@
 -- Numbers as text: what tests of their digits say of their values.
-use Rattle.std.proofs.Common.{rules, ◌≡◌, ◌≢◌, ℕ, zero, suc, ◌+◌, ◌*◌, ◌-◌, ◌<◌, ◌≤◌, Bool, true, false, cond, nat_eq, nat_lt, List, [], ◌∷◌, length, drop, get_or, refl, sym, ◌∙◌, ap, arith, ⊎_elim, eq-eqb, ne_eqb, IsTrue, ◌↔◌, Some, take}
+use Rattle.std.proofs.Common.{rules, ◌≡◌, ◌≢◌, ℕ, zero, suc, ◌+◌, ◌*◌, ◌-◌, ◌<◌, ◌≤◌, Bool, true, false, cond, nat_eq, nat_lt, List, []}
+use Rattle.std.proofs.Common.{◌∷◌, length, drop, get_or, refl, sym, ◌∙◌, ap, arith, ⊎_elim, eq-eqb, ne_eqb, IsTrue, ◌↔◌, Some, take}
 use Rattle.std.specs.Char.{digit_value, is_ascii_digit}
 use Rattle.std.specs.List.{list_all, AllWithin, HoldsAt}
 use Rattle.std.specs.Str.Parse.{AllDigits, digits_value, digits_value_after}
@@ -32,7 +33,8 @@ digit_pos c small ne = omega (arith, digit_is c small)
 -- ---- values of texts of one length
 
 -- what goes on from a lesser number stays lesser
-pub after_below : (xs ys : List ℕ) (m n : ℕ) → length xs ≡ length ys → AllDigits 10 xs → m < n → digits_value_after 10 m xs < digits_value_after 10 n ys
+pub after_below : (xs ys : List ℕ) (m n : ℕ) → length xs ≡ length ys → AllDigits 10 xs → m < n
+    → digits_value_after 10 m xs < digits_value_after 10 n ys
 after_below [] [] m n e a lt = lt
 after_below [] (y ∷ ys) m n e a lt = absurd (omega (arith, e))
 after_below (x ∷ xs) [] m n e a lt = absurd (omega (arith, e))
@@ -41,7 +43,8 @@ after_below (x ∷ xs) (y ∷ ys) m n e a lt =
     after_below xs ys (m * 10 + digit_value x) (n * 10 + digit_value y) (omega (arith, e)) a.1 below
 
 -- what goes on from a number above zero is greater than what is not longer
-after_longer : (xs ys : List ℕ) (n : ℕ) → length xs ≤ length ys → AllDigits 10 xs → 0 < n → digits_value_after 10 0 xs < digits_value_after 10 n ys
+after_longer : (xs ys : List ℕ) (n : ℕ) → length xs ≤ length ys → AllDigits 10 xs → 0 < n
+    → digits_value_after 10 0 xs < digits_value_after 10 n ys
 after_longer xs [] n le a pos = after_below xs [] 0 n (omega arith) a pos
 after_longer xs (y ∷ ys) n le a pos =
     ⊎_elim
@@ -50,7 +53,8 @@ after_longer xs (y ∷ ys) n le a pos =
     (cases_eq (length xs) (length (y ∷ ys)))
 
 -- of two numbers whose first digits are not zero the longer one is greater
-pub longer_is_above : (xs ys : List ℕ) → length xs < length ys → AllDigits 10 xs → AllDigits 10 ys → (0 < length ys → get_or ys 0 0 ≢ 48) → digits_value 10 xs < digits_value 10 ys
+pub longer_is_above : (xs ys : List ℕ) → length xs < length ys → AllDigits 10 xs → AllDigits 10 ys → (0 < length ys → get_or ys 0 0 ≢ 48)
+    → digits_value 10 xs < digits_value 10 ys
 longer_is_above xs [] lt a b first = absurd (omega arith)
 longer_is_above xs (y ∷ ys) lt a b first =
     let pos : 0 < digit_value y = digit_pos y b.0 (first (omega arith)) in
@@ -70,7 +74,8 @@ not_below : (x y : ℕ) → y ≤ x → nat_lt x y ≡ false
 not_below x y le = grind arith
 
 -- two numbers of one length compare as their digits do
-after_compared : (xs ys : List ℕ) (m : ℕ) → length xs ≡ length ys → AllDigits 10 xs → AllDigits 10 ys → is_above_by_bytes xs ys ≡ nat_lt (digits_value_after 10 m ys) (digits_value_after 10 m xs)
+after_compared : (xs ys : List ℕ) (m : ℕ) → length xs ≡ length ys → AllDigits 10 xs → AllDigits 10 ys
+    → is_above_by_bytes xs ys ≡ nat_lt (digits_value_after 10 m ys) (digits_value_after 10 m xs)
 unfolding is_above_by_bytes
 after_compared [] [] m e a b = sym (not_below m m (omega arith))
 after_compared [] (y ∷ ys) m e a b = absurd (omega (arith, e))
@@ -80,7 +85,8 @@ after_compared (x ∷ xs) (y ∷ ys) m e a b =
     let u : ℕ = m * 10 + digit_value x in
     let v : ℕ = m * 10 + digit_value y in
     ⊎_elim
-    (λ (same : x ≡ y). rw (eq-eqb x y same) (after_compared xs ys u long a.1 b.1 ∙ ap (λ (d : ℕ). nat_lt (digits_value_after 10 (m * 10 + digit_value d) ys) (digits_value_after 10 u xs)) same))
+    (λ (same : x ≡ y). rw (eq-eqb x y same) (after_compared xs ys u long a.1 b.1
+    ∙ ap (λ (d : ℕ). nat_lt (digits_value_after 10 (m * 10 + digit_value d) ys) (digits_value_after 10 u xs)) same))
     (λ (ne : x ≢ y). rw (ne_eqb x y ne)
     (⊎_elim
     (λ (lt : y < x).
@@ -93,13 +99,15 @@ after_compared (x ∷ xs) (y ∷ ys) m e a b =
     (cases_lt y x)))
     (cases_eq x y)
 
-pub compared : (xs ys : List ℕ) → length xs ≡ length ys → AllDigits 10 xs → AllDigits 10 ys → is_above_by_bytes xs ys ≡ nat_lt (digits_value 10 ys) (digits_value 10 xs)
+pub compared : (xs ys : List ℕ) → length xs ≡ length ys → AllDigits 10 xs → AllDigits 10 ys
+    → is_above_by_bytes xs ys ≡ nat_lt (digits_value 10 ys) (digits_value 10 xs)
 compared xs ys e a b = after_compared xs ys 0 e a b
 
 -- ---- leading zeros
 
 -- zeros in front add nothing
-pub zeros_dropped : (n : ℕ) (ds : List ℕ) → n ≤ length ds → ((k : ℕ) → k < n → get_or ds k 0 ≡ 48) → digits_value 10 (drop n ds) ≡ digits_value 10 ds
+pub zeros_dropped : (n : ℕ) (ds : List ℕ) → n ≤ length ds → ((k : ℕ) → k < n → get_or ds k 0 ≡ 48)
+    → digits_value 10 (drop n ds) ≡ digits_value 10 ds
 zeros_dropped zero ds le zeros = refl
 zeros_dropped (suc n) [] le zeros = absurd (omega arith)
 zeros_dropped (suc n) (d ∷ ds) le zeros =
@@ -116,15 +124,18 @@ AllDigits-drop (suc n) (d ∷ ds) a = AllDigits-drop n ds a.1
 all_zeros : (ds : List ℕ) → ((k : ℕ) → k < length ds → get_or ds k 0 ≡ 48) → digits_value 10 ds ≡ 0
 all_zeros [] zeros = refl
 all_zeros (d ∷ ds) zeros =
-    ap (λ (c : ℕ). digits_value_after 10 (0 * 10 + digit_value c) ds) (zeros 0 (omega arith)) ∙ all_zeros ds (λ k lt. zeros (suc k) (omega arith))
+    ap (λ (c : ℕ). digits_value_after 10 (0 * 10 + digit_value c) ds) (zeros 0 (omega arith))
+    ∙ all_zeros ds (λ k lt. zeros (suc k) (omega arith))
 
-pub significant-at : (number : List ℕ) (at : ℕ) → AllDigits 10 number → at < length number → HoldsAt (λ d. d ≢ 48) number at → AllWithin (λ d. d ≡ 48) number 0 at → IsSignificant number (take (length number - at) (drop at number))
+pub significant-at : (number : List ℕ) (at : ℕ) → AllDigits 10 number → at < length number → HoldsAt (λ d. d ≢ 48) number at
+    → AllWithin (λ d. d ≡ 48) number 0 at → IsSignificant number (take (length number - at) (drop at number))
 significant-at number at a inside here before =
     let rest : take (length number - at) (drop at number) ≡ drop at number = between_to_end number at (length number) (omega arith) in
     rw rest (record {
       same_value = zeros_dropped at number (omega arith) (λ k lt. before k 0 (omega arith) lt);
       all_digits = AllDigits-drop at number a;
-      first = λ _ h. let same : at ≡ at + 0 = omega arith in here 0 (ap (λ (k : ℕ). get_or number k 0) same ∙ sym (get_or-drop at number 0 0) ∙ h);
+      first = λ _ h. let same : at ≡ at + 0 = omega arith in
+          here 0 (ap (λ (k : ℕ). get_or number k 0) same ∙ sym (get_or-drop at number 0 0) ∙ h);
     })
 
 pub significant-none : (number : List ℕ) → AllWithin (λ d. d ≡ 48) number 0 (length number) → IsSignificant number []
@@ -136,15 +147,19 @@ significant-none number zeros = record {
 
 -- ---- which of two numbers is above
 
-pub above-longer : (number other ds es : List ℕ) → IsSignificant number ds → IsSignificant other es → length es < length ds → number_value other < number_value number
+pub above-longer : (number other ds es : List ℕ) → IsSignificant number ds → IsSignificant other es → length es < length ds
+    → number_value other < number_value number
 above-longer number other ds es p q lt =
     omega (arith, p.same_value, q.same_value, longer_is_above es ds lt q.all_digits p.all_digits p.first)
 
-bytes_compared : (xs ys : List ℕ) (r : Bool) → r ≡ is_some_and is_gt (slice_partial_cmp (λ x y. Some (nat_cmp x y)) xs ys) → r ≡ is_above_by_bytes xs ys
+bytes_compared : (xs ys : List ℕ) (r : Bool) → r ≡ is_some_and is_gt (slice_partial_cmp (λ x y. Some (nat_cmp x y)) xs ys)
+    → r ≡ is_above_by_bytes xs ys
 unfolding is_above_by_bytes
-bytes_compared = same_from_slice_cmp_tested nat_cmp is_gt is_above_by_bytes refl (λ _ _. refl) (λ _ _. refl) (λ x y xs ys o h. grind (arith, nat_tests))
+bytes_compared =
+    same_from_slice_cmp_tested nat_cmp is_gt is_above_by_bytes refl (λ _ _. refl) (λ _ _. refl) (λ x y xs ys o h. grind (arith, nat_tests))
 
-pub above-compared : (number other ds es : List ℕ) (r : Bool) → IsSignificant number ds → IsSignificant other es → length ds ≡ length es → r ≡ is_some_and is_gt (slice_partial_cmp (λ x y. Some (nat_cmp x y)) ds es) → IsTrue r ↔ (number_value other < number_value number)
+pub above-compared : (number other ds es : List ℕ) (r : Bool) → IsSignificant number ds → IsSignificant other es → length ds ≡ length es
+    → r ≡ is_some_and is_gt (slice_partial_cmp (λ x y. Some (nat_cmp x y)) ds es) → IsTrue r ↔ (number_value other < number_value number)
 above-compared number other ds es r p q long e =
     let test : r ≡ nat_lt (number_value other) (number_value number) =
     rw (← p.same_value, ← q.same_value) (bytes_compared ds es r e ∙ compared ds es long p.all_digits q.all_digits) in
@@ -155,6 +170,7 @@ above-compared number other ds es r p q long e =
 pub digit-range : (number : List ℕ) (i : ℕ) → AllDigits 10 number → i < length number → IsInRange 48 57 (get_or number i 0)
 digit-range number i a lt = digit_at number i a lt
 
-pub value-more : (number : List ℕ) (i v : ℕ) → AllDigits 10 number → i < length number → v ≡ number_value (take i number) → v * 10 + (get_or number i 0 - 48) ≡ number_value (take (i + 1) number)
+pub value-more : (number : List ℕ) (i v : ℕ) → AllDigits 10 number → i < length number → v ≡ number_value (take i number)
+    → v * 10 + (get_or number i 0 - 48) ≡ number_value (take (i + 1) number)
 value-more number i v a lt e =
     omega (arith, e, digits_value_more 10 number i lt, digit_value_digit (get_or number i 0) (digit_at number i a lt))

@@ -1,5 +1,6 @@
 -- The canonical list of a set is a processor list of it: its runs are found from 0 upward, and each is an item.
-use Rattle.std.proofs.Common.{◌≡◌, ◌≢◌, ℕ, zero, suc, Bool, true, false, not, ◌&&◌, ◌||◌, ◌-◌, ◌<◌, ◌≤◌, ◌⊎◌, inl, inr, nat_eq, nat_lt, nat_le, refl, sym, ap, ap₂, ◌∙◌, arith, ⊎_elim, eq-eqb, ne_eqb, List, [], ◌∷◌, ◌++◌, map, All, Any, add-one}
+use Rattle.std.proofs.Common.{◌≡◌, ◌≢◌, ℕ, zero, suc, Bool, true, false, not, ◌&&◌, ◌||◌, ◌-◌, ◌<◌, ◌≤◌, ◌⊎◌, inl, inr, nat_eq, nat_lt}
+use Rattle.std.proofs.Common.{nat_le, refl, sym, ap, ap₂, ◌∙◌, arith, ⊎_elim, eq-eqb, ne_eqb, List, [], ◌∷◌, ◌++◌, map, All, Any, add-one}
 use Rattle.std.specs.List.{list_any, zip, join_with_byte}
 use Rattle.std.proofs.lemmas.Bool.{cases_eq, cases_Bool, true≢false}
 use Rattle.std.proofs.Math.Bool.{or_assoc, or-false, and-true, and-false}
@@ -111,7 +112,8 @@ skip X n done c out = record {
 }
 
 -- a run of n alone
-pub single : (X n : ℕ) (done : List (ℕ × ℕ)) → IsClosed X n done → has X n ≡ true → has X (suc n) ≡ false → IsClosed X (suc n) (done ++ (n, n) ∷ [])
+pub single : (X n : ℕ) (done : List (ℕ × ℕ)) → IsClosed X n done → has X n ≡ true → has X (suc n) ≡ false
+    → IsClosed X (suc n) (done ++ (n, n) ∷ [])
 unfolding covers
 single X n done c inside next = record {
   starts =
@@ -138,7 +140,8 @@ begin X n done c inside next = record {
 }
 
 -- the run that began at start ends at n
-pub finish : (X n : ℕ) (done : List (ℕ × ℕ)) (start : ℕ) → IsOpen X n done start → has X (suc n) ≡ false → IsClosed X (suc n) (done ++ (start, n) ∷ [])
+pub finish : (X n : ℕ) (done : List (ℕ × ℕ)) (start : ℕ) → IsOpen X n done start → has X (suc n) ≡ false
+    → IsClosed X (suc n) (done ++ (start, n) ∷ [])
 unfolding covers
 finish X n done start o next = record {
   starts =
@@ -230,7 +233,15 @@ item_form low high p q =
     ⊎_elim
     (λ (e : low ≡ high). rw (eq-eqb low high e) (inl ((number_of low p).0, (number_of low p).1, e)))
     (λ (ne : low ≢ high). rw (ne_eqb low high ne)
-    (inr (canonical_number low, canonical_number high, refl, (number_of low p).0, (number_of high q).0, (number_of low p).1, (number_of high q).1)))
+    (inr (
+      canonical_number low,
+      canonical_number high,
+      refl,
+      (number_of low p).0,
+      (number_of high q).0,
+      (number_of low p).1,
+      (number_of high q).1,
+    )))
     (cases_eq low high)
 
 item_lawful : (run : ℕ × ℕ) → Ascends 64 run → IsWellFormed (item_of run)
@@ -246,10 +257,12 @@ covered-items [] p = refl
 covered-items (run ∷ done) p = ap (λ (rest : Bool). covers p run || rest) (covered-items done p)
 
 -- a run that has p is an item that has p, and the other way round
-covered-Any : (done : List (ℕ × ℕ)) (p : ℕ) → covered done p ≡ true → Any (λ (item : Item). (item.low ≤ p) × (p ≤ item.high)) (map item_of done)
+covered-Any : (done : List (ℕ × ℕ)) (p : ℕ) → covered done p ≡ true
+    → Any (λ (item : Item). (item.low ≤ p) × (p ≤ item.high)) (map item_of done)
 covered-Any done p e = Any-from_covers p (map item_of done) (covered-items done p ∙ e)
 
-Any-covered : (done : List (ℕ × ℕ)) (p : ℕ) → Any (λ (item : Item). (item.low ≤ p) × (p ≤ item.high)) (map item_of done) → covered done p ≡ true
+Any-covered : (done : List (ℕ × ℕ)) (p : ℕ) → Any (λ (item : Item). (item.low ≤ p) × (p ≤ item.high)) (map item_of done)
+    → covered done p ≡ true
 Any-covered done p any = sym (covered-items done p) ∙ covers_from_Any p (map item_of done) any
 
 -- a set of processors has no member but those below 64

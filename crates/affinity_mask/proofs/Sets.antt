@@ -1,10 +1,13 @@
 -- What `has` answers on sets and on the words that stand for them, and that two sets with the same members are equal.
-use Rattle.std.proofs.Common.{◌≡◌, ℕ, Bool, true, false, not, ◌&&◌, ◌||◌, ◌-◌, ◌/◌, ◌^◌, ◌<◌, ◌≤◌, min, max, nat_eq, nat_lt, bit_and, bit_or, IsTrue, refl, sym, ap, ◌+◌, ◌%◌, add-one, ◌∙◌, arith, ⊎_elim, eq-eqb, ne_eqb, w64, eqb-true, ◌⊎◌, inl, inr}
+use Rattle.std.proofs.Common.{◌≡◌, ℕ, Bool, true, false, not, ◌&&◌, ◌||◌, ◌-◌, ◌/◌, ◌^◌, ◌<◌, ◌≤◌, min, max, nat_eq, nat_lt, bit_and}
+use Rattle.std.proofs.Common.{bit_or, IsTrue, refl, sym, ap, ◌+◌, ◌%◌, add-one, ◌∙◌, arith, ⊎_elim, eq-eqb, ne_eqb, w64, eqb-true, ◌⊎◌, inl}
+use Rattle.std.proofs.Common.{inr}
 use Rattle.std.proofs.lemmas.Bool.{cases_eq, cases_lt, true≢false, lt-ltb, or_cases, or_left, or_right}
 use Rattle.std.proofs.Math.Pow.{pow-lt}
 use Rattle.std.proofs.Math.Nat.{div-div-eq-div-mul, pow-succ', mul_comm}
 use Rattle.std.specs.Int.{bit_at}
-use Rattle.std.proofs.lemmas.Nat.Bits.{bit_at_and, bit_at_or, bit_at-lt, bit_at-pow_same, bit_at-pow_other, bit_at-zero, same_from_bits, bit_at_not, bit_at_xor, bit_at_above, shr_and_one, bit_at_ones, bit_at_ones_above}
+use Rattle.std.proofs.lemmas.Nat.Bits.{bit_at_and, bit_at_or, bit_at-lt, bit_at-pow_same, bit_at-pow_other, bit_at-zero, same_from_bits}
+use Rattle.std.proofs.lemmas.Nat.Bits.{bit_at_not, bit_at_xor, bit_at_above, shr_and_one, bit_at_ones, bit_at_ones_above}
 use Rattle.affinity_mask.specs.ProcSet.{has, empty, all_below, intersection, with_member, without_member, Within}
 
 max_is_one : (x y : ℕ) → x < 2 → y < 2 → nat_eq (max x y) 1 ≡ (nat_eq x 1 || nat_eq y 1)
@@ -124,7 +127,8 @@ is_zero x p = grind arith
 pub has-next : (X p : ℕ) → nat_eq (bit_and (X / 2 ^ p / 2) 1) 0 ≡ not (has X (p + 1))
 unfolding has
 has-next X p =
-    let next : X / 2 ^ p / 2 ≡ X / 2 ^ (p + 1) = div-div-eq-div-mul X (2 ^ p) 2 ∙ ap (λ (n : ℕ). X / n) (mul_comm (2 ^ p) 2 ∙ sym (pow-succ' 2 p) ∙ ap (λ (n : ℕ). 2 ^ n) (sym (add-one p))) in
+    let next : X / 2 ^ p / 2 ≡ X / 2 ^ (p + 1) = div-div-eq-div-mul X (2 ^ p) 2
+    ∙ ap (λ (n : ℕ). X / n) (mul_comm (2 ^ p) 2 ∙ sym (pow-succ' 2 p) ∙ ap (λ (n : ℕ). 2 ^ n) (sym (add-one p))) in
     rw (next, shr_and_one X (p + 1)) (is_zero _ (bit_at-lt X (p + 1)))
 
 pub has-with_member : (X p q : ℕ) → has (with_member X p) q ≡ (has X q || nat_eq q p)
@@ -137,7 +141,8 @@ xor_taken x y p q = grind arith
 
 pub has-without_member : (X p q : ℕ) → has (without_member X p) q ≡ (has X q && not (nat_eq q p))
 unfolding has without_member
-has-without_member X p q = rw (bit_at_xor X (bit_and X (2 ^ p)) q, bit_at_and X (2 ^ p) q, xor_taken _ _ (bit_at-lt X q) (bit_at-lt (2 ^ p) q), has-pow p q) refl
+has-without_member X p q =
+    rw (bit_at_xor X (bit_and X (2 ^ p)) q, bit_at_and X (2 ^ p) q, xor_taken _ _ (bit_at-lt X q) (bit_at-lt (2 ^ p) q), has-pow p q) refl
 
 -- a set and one member more
 module _ (X Y p : ℕ) (added : (q : ℕ) → has Y q ≡ (has X q || nat_eq q p)) where

@@ -1,5 +1,6 @@
 -- Each text is a processor list or has a fault: the pieces are tried in turn.
-use Rattle.std.proofs.Common.{◌≡◌, ◌≢◌, ℕ, zero, suc, ◌<◌, ◌≤◌, ◌⊎◌, inl, inr, true, false, nat_eq, List, [], ◌∷◌, ◌++◌, length, All, Contains, refl, sym, ◌∙◌, ap, arith, ⊎_elim, append_assoc, append-nil}
+use Rattle.std.proofs.Common.{◌≡◌, ◌≢◌, ℕ, zero, suc, ◌<◌, ◌≤◌, ◌⊎◌, inl, inr, true, false, nat_eq, List, [], ◌∷◌, ◌++◌, length, All}
+use Rattle.std.proofs.Common.{Contains, refl, sym, ◌∙◌, ap, arith, ⊎_elim, append_assoc, append-nil}
 use Rattle.std.specs.List.{join_with_byte, list_all}
 use Rattle.std.specs.Char.{is_ascii_digit}
 use Rattle.std.proofs.lemmas.Bool.{cases_Bool, cases_eq, cases_lt, true≢false}
@@ -31,7 +32,8 @@ lacks_more byte x xs ne lacks (zero, lt, e) = ne e
 lacks_more byte x xs ne lacks (suc k, lt, e) = lacks (k, omega arith, e)
 
 -- what stands around the first byte of this value, if there is one
-cut_cases : (byte : ℕ) (text : List ℕ) → (Contains text byte → ⊥) ⊎ ((a : List ℕ) × (b : List ℕ) × (text ≡ a ++ byte ∷ b) × (Contains a byte → ⊥))
+cut_cases : (byte : ℕ) (text : List ℕ) → (Contains text byte → ⊥)
+    ⊎ ((a : List ℕ) × (b : List ℕ) × (text ≡ a ++ byte ∷ b) × (Contains a byte → ⊥))
 cut_cases byte [] = inl (λ h. omega (arith, h.1))
 cut_cases byte (x ∷ xs) =
     ⊎_elim
@@ -74,10 +76,13 @@ piece_cases piece place = elim (item_cases piece) [
 -- ---- all pieces
 
 -- the pieces after well-formed ones are well-formed too, or one of them is the first that has a fault
-pieces_cases : (whole before rest : List (List ℕ)) → whole ≡ before ++ rest → All IsWellFormedPiece before → All IsWellFormedPiece whole ⊎ ((done : List (List ℕ)) × (piece : List ℕ) × (after : List (List ℕ)) × (fault : MaskFault) × (whole ≡ done ++ piece ∷ after) × All IsWellFormedPiece done × IsPieceFault piece (place_behind done) fault)
+pieces_cases : (whole before rest : List (List ℕ)) → whole ≡ before ++ rest → All IsWellFormedPiece before
+    → All IsWellFormedPiece whole ⊎ ((done : List (List ℕ)) × (piece : List ℕ) × (after : List (List ℕ)) × (fault : MaskFault)
+    × (whole ≡ done ++ piece ∷ after) × All IsWellFormedPiece done × IsPieceFault piece (place_behind done) fault)
 pieces_cases whole before [] e well_formed = inl (rw (e, append-nil) well_formed)
 pieces_cases whole before (piece ∷ rest) e well_formed = elim (piece_cases piece (place_behind before)) [
-  | inl item ↦ pieces_cases whole (before ++ piece ∷ []) rest (e ∙ sym (append_assoc before (piece ∷ []) rest)) (All-push IsWellFormedPiece before piece well_formed item)
+  | inl item ↦ pieces_cases whole (before ++ piece ∷ []) rest (e ∙ sym (append_assoc before (piece ∷ []) rest))
+      (All-push IsWellFormedPiece before piece well_formed item)
   | inr found ↦ inr (before, piece, rest, found.0, e, well_formed, found.1)
 ]
 

@@ -1,5 +1,6 @@
 -- What a word's `trailing_zeros` and `count_ones` say of the set that it stands for.
-use Rattle.std.proofs.Common.{◌≡◌, ℕ, zero, suc, ◌+◌, ◌%◌, ◌^◌, ◌<◌, ◌≤◌, nat_eq, refl, sym, ap, ap₂, ◌∙◌, add_comm, lit<, arith, ⊎_elim, w64, [], ◌∷◌, length, length-append, if◌then◌else◌}
+use Rattle.std.proofs.Common.{◌≡◌, ℕ, zero, suc, ◌+◌, ◌%◌, ◌^◌, ◌<◌, ◌≤◌, nat_eq, refl, sym, ap, ap₂, ◌∙◌, add_comm, lit<, arith, ⊎_elim}
+use Rattle.std.proofs.Common.{w64, [], ◌∷◌, length, length-append, if◌then◌else◌}
 use Rattle.std.proofs.lemmas.Bool.{cases_lt, true≢false}
 use Rattle.std.specs.Int.{bit_at, trailing_zeros}
 use Rattle.std.proofs.lemmas.Nat.{ones_cat, pow_pos}

@@ -1,5 +1,6 @@
 -- The canonical list, written from processor 0 upward: its text up to each processor.
-use Rattle.std.proofs.Common.{◌≡◌, ◌≢◌, ℕ, zero, suc, ◌<◌, ◌≤◌, inl, inr, true, false, nat_eq, List, [], ◌∷◌, ◌++◌, length, map, All, refl, sym, ◌∙◌, ap, ap₂, arith, ⊎_elim, ne_eqb, eq-eqb, append_assoc, append-nil, length-append, if◌then◌else◌}
+use Rattle.std.proofs.Common.{◌≡◌, ◌≢◌, ℕ, zero, suc, ◌<◌, ◌≤◌, inl, inr, true, false, nat_eq, List, [], ◌∷◌, ◌++◌, length, map, All, refl}
+use Rattle.std.proofs.Common.{sym, ◌∙◌, ap, ap₂, arith, ⊎_elim, ne_eqb, eq-eqb, append_assoc, append-nil, length-append, if◌then◌else◌}
 use Rattle.std.specs.List.{join_with_byte, zip}
 use Rattle.std.proofs.lemmas.Bool.{cases_Bool, cases_eq, cases_lt, true≢false}
 use Rattle.std.proofs.lemmas.List.{map-append}
@@ -9,7 +10,8 @@ use Rattle.affinity_mask.specs.ProcSet.{has, all_below, Within}
 use Rattle.affinity_mask.specs.ListText.{comma, dash, begins_run, ends_run, run_text, canonical_list}
 use Rattle.affinity_mask.specs.ListSteps.{end_text, list_below}
 use Rattle.affinity_mask.proofs.Sets.{has-all_below}
-use Rattle.affinity_mask.proofs.Runs.{IsClosed, IsOpen, Ascends, skip, single, begin, finish, stay, found_none, zip_back, number_of, ends-suc}
+use Rattle.affinity_mask.proofs.Runs.{IsClosed, IsOpen, Ascends, skip, single, begin, finish, stay, found_none, zip_back, number_of}
+use Rattle.affinity_mask.proofs.Runs.{ends-suc}
 
 -- ---- joined texts
 
@@ -22,7 +24,8 @@ join-goes_on (x ∷ next ∷ xs) y z =
     ∙ sym (append_assoc x (comma ∷ join_with_byte comma (next ∷ xs ++ y ∷ [])) z)
 
 -- one more text behind others
-join-push : (x : List ℕ) (xs : List (List ℕ)) (y : List ℕ) → join_with_byte comma (x ∷ xs ++ y ∷ []) ≡ join_with_byte comma (x ∷ xs) ++ (comma ∷ y)
+join-push : (x : List ℕ) (xs : List (List ℕ)) (y : List ℕ) → join_with_byte comma (x ∷ xs ++ y ∷ []) ≡ join_with_byte comma (x ∷ xs)
+    ++ (comma ∷ y)
 join-push x [] y = refl
 join-push x (next ∷ xs) y =
     ap (λ (rest : List ℕ). x ++ (comma ∷ rest)) (join-push next xs y)
@@ -34,10 +37,12 @@ join-some x [] some = some
 join-some x (next ∷ xs) some = omega (arith, length-append x (comma ∷ join_with_byte comma (next ∷ xs)))
 
 -- one more text, behind a comma unless it is the first
-join-more : (xs : List (List ℕ)) (y : List ℕ) → All (λ (x : List ℕ). 0 < length x) xs → join_with_byte comma (xs ++ y ∷ []) ≡ join_with_byte comma xs ++ ((if nat_eq (length (join_with_byte comma xs)) 0 then [] else comma ∷ []) ++ y)
+join-more : (xs : List (List ℕ)) (y : List ℕ) → All (λ (x : List ℕ). 0 < length x) xs → join_with_byte comma (xs ++ y ∷ [])
+    ≡ join_with_byte comma xs ++ ((if nat_eq (length (join_with_byte comma xs)) 0 then [] else comma ∷ []) ++ y)
 join-more [] y some = refl
 join-more (x ∷ xs) y some =
-    let long : length (join_with_byte comma (x ∷ xs)) ≢ 0 = omega (arith, join-some x xs (All-head (λ (x : List ℕ). 0 < length x) x xs some)) in
+    let long : length (join_with_byte comma (x ∷ xs))
+    ≢ 0 = omega (arith, join-some x xs (All-head (λ (x : List ℕ). 0 < length x) x xs some)) in
     rw (ne_eqb (length (join_with_byte comma (x ∷ xs))) 0 long) (join-push x xs y)
 
 -- ---- the text below a processor
@@ -64,23 +69,28 @@ texts-some n done le all =
 -- below n these runs ended and are written; or one more began, and its first number is written behind them
 data IsWritten (X n : ℕ) : Type 0 where
   closed : (done : List (ℕ × ℕ)) → IsClosed X n done → list_below X n ≡ join_with_byte comma (texts_of done) → IsWritten X n
-  opened : (done : List (ℕ × ℕ)) (start : ℕ) → IsOpen X n done start → list_below X n ≡ join_with_byte comma (texts_of done ++ canonical_number start ∷ []) → IsWritten X n
+  opened : (done : List (ℕ × ℕ)) (start : ℕ) → IsOpen X n done start
+      → list_below X n ≡ join_with_byte comma (texts_of done ++ canonical_number start ∷ []) → IsWritten X n
 
 -- what the next processor adds, in each case
 pub adds_nothing : (X n : ℕ) → begins_run X n ≡ false → ends_run X n ≡ false → list_below X (suc n) ≡ list_below X n
 unfolding list_below end_text
 adds_nothing X n out over = rw (out, over) (append-nil (list_below X n))
 
-pub adds_first : (X n : ℕ) → begins_run X n ≡ true → list_below X (suc n) ≡ list_below X n ++ ((if nat_eq (length (list_below X n)) 0 then [] else comma ∷ []) ++ canonical_number n)
+pub adds_first : (X n : ℕ) → begins_run X n ≡ true → list_below X (suc n) ≡ list_below X n
+    ++ ((if nat_eq (length (list_below X n)) 0 then [] else comma ∷ []) ++ canonical_number n)
 unfolding list_below end_text
 adds_first X n begins = rw begins refl
 
-pub adds_last : (X n : ℕ) → begins_run X n ≡ false → ends_run X n ≡ true → list_below X (suc n) ≡ list_below X n ++ (dash ∷ canonical_number n)
+pub adds_last : (X n : ℕ) → begins_run X n ≡ false → ends_run X n ≡ true → list_below X (suc n) ≡ list_below X n
+    ++ (dash ∷ canonical_number n)
 unfolding list_below end_text
 adds_last X n out ends = rw (out, ends) refl
 
 -- the number at which a run begins is written
-first_written : (X n : ℕ) (done : List (ℕ × ℕ)) → n < 64 → IsClosed X n done → has X n ≡ true → list_below X n ≡ join_with_byte comma (texts_of done) → list_below X (suc n) ≡ join_with_byte comma (texts_of done ++ canonical_number n ∷ [])
+first_written : (X n : ℕ) (done : List (ℕ × ℕ)) → n < 64 → IsClosed X n done → has X n ≡ true
+    → list_below X n ≡ join_with_byte comma (texts_of done)
+    → list_below X (suc n) ≡ join_with_byte comma (texts_of done ++ canonical_number n ∷ [])
 first_written X n done below c inside text =
     adds_first X n (c.fresh ∙ inside)
     ∙ ap (λ (ys : List ℕ). ys ++ ((if nat_eq (length ys) 0 then [] else comma ∷ []) ++ canonical_number n)) text
@@ -95,7 +105,8 @@ run_longer start n lt = let ne : start ≢ n = omega arith in rw (ne_eqb start n
 texts-push : (done : List (ℕ × ℕ)) (run : ℕ × ℕ) → texts_of (done ++ run ∷ []) ≡ texts_of done ++ run_text run ∷ []
 texts-push done run = map-append run_text done (run ∷ [])
 
-written_closed : (X n : ℕ) (done : List (ℕ × ℕ)) → n < 64 → IsClosed X n done → list_below X n ≡ join_with_byte comma (texts_of done) → IsWritten X (suc n)
+written_closed : (X n : ℕ) (done : List (ℕ × ℕ)) → n < 64 → IsClosed X n done → list_below X n ≡ join_with_byte comma (texts_of done)
+    → IsWritten X (suc n)
 written_closed X n done below c text =
     ⊎_elim
     (λ (inside : has X n ≡ true). ⊎_elim
@@ -108,10 +119,12 @@ written_closed X n done below c text =
     (λ (out : has X n ≡ false). closed done (skip X n done c out) (adds_nothing X n (c.fresh ∙ out) (rw out refl) ∙ text))
     (cases_Bool (has X n))
 
-written_open : (X n : ℕ) (done : List (ℕ × ℕ)) (start : ℕ) → IsOpen X n done start → list_below X n ≡ join_with_byte comma (texts_of done ++ canonical_number start ∷ []) → IsWritten X (suc n)
+written_open : (X n : ℕ) (done : List (ℕ × ℕ)) (start : ℕ) → IsOpen X n done start
+    → list_below X n ≡ join_with_byte comma (texts_of done ++ canonical_number start ∷ []) → IsWritten X (suc n)
 written_open X n done start o text =
     ⊎_elim
-    (λ (next : has X (suc n) ≡ true). opened done start (stay X n done start o next) (adds_nothing X n o.goes_on (ends-suc X n ∙ rw (o.member, next) refl) ∙ text))
+    (λ (next : has X (suc n) ≡ true). opened done start (stay X n done start o next)
+    (adds_nothing X n o.goes_on (ends-suc X n ∙ rw (o.member, next) refl) ∙ text))
     (λ (next : has X (suc n) ≡ false). closed (done ++ (start, n) ∷ []) (finish X n done start o next)
     (adds_last X n o.goes_on (ends-suc X n ∙ rw (o.member, next) refl)
     ∙ ap (λ (ys : List ℕ). ys ++ (dash ∷ canonical_number n)) text
@@ -136,7 +149,8 @@ written X (suc n) le =
 pub list_below-all : (X : ℕ) → Within X (all_below 64) → list_below X 64 ≡ canonical_list X
 list_below-all X within =
     elim (written X 64 (omega arith)) [
-      | closed done c text ↦ text ∙ ap (λ (found : List (ℕ × ℕ)). join_with_byte comma (map run_text found)) (sym (ap₂ zip c.starts c.ends ∙ zip_back done))
+      | closed done c text ↦ text ∙ ap (λ (found : List (ℕ × ℕ)). join_with_byte comma (map run_text found))
+          (sym (ap₂ zip c.starts c.ends ∙ zip_back done))
       | opened done start o text ↦ absurd (true≢false (sym (within 64 o.member) ∙ has-all_below 64 64))
     ]
 

@@ -7,7 +7,8 @@ use Rattle.affinity_mask.specs.declared.mask_fault.MaskFault.{MaskFault}
 
 -- the canonical list of a set of processors that is not empty is a processor list of that set
 abbrev pub CanonicalListIsListText : Type 0
-CanonicalListIsListText = (X : ℕ) → X ≢ empty → Within X (all_below 64) → IsListText (canonical_list X) X
+CanonicalListIsListText =
+    (X : ℕ) → X ≢ empty → Within X (all_below 64) → IsListText (canonical_list X) X
 
 -- a text is a processor list of one set at most
 abbrev pub ListTextHasOneSet : Type 0
@@ -15,12 +16,15 @@ ListTextHasOneSet = (text : List ℕ) (X Y : ℕ) → IsListText text X → IsLi
 
 -- a text has one fault at most
 abbrev pub ListTextHasOneFault : Type 0
-ListTextHasOneFault = (text : List ℕ) (one other : MaskFault) → IsListFault text one → IsListFault text other → one ≡ other
+ListTextHasOneFault = (text : List ℕ) (one other : MaskFault) → IsListFault text one
+    → IsListFault text other → one ≡ other
 
 -- no text is a processor list and has a fault
 abbrev pub ListTextHasNoFault : Type 0
-ListTextHasNoFault = (text : List ℕ) (X : ℕ) (fault : MaskFault) → IsListText text X → ¬ IsListFault text fault
+ListTextHasNoFault =
+    (text : List ℕ) (X : ℕ) (fault : MaskFault) → IsListText text X → ¬ IsListFault text fault
 
 -- each text is a processor list or has a fault
 abbrev pub TextIsListOrHasFault : Type 0
-TextIsListOrHasFault = (text : List ℕ) → ((X : ℕ) × IsListText text X) ⊎ ((fault : MaskFault) × IsListFault text fault)
+TextIsListOrHasFault =
+    (text : List ℕ) → ((X : ℕ) × IsListText text X) ⊎ ((fault : MaskFault) × IsListFault text fault)

@@ -1,12 +1,15 @@
 -- Single steps of reading and of writing a processor list. Private: the
 -- contracts of this crate's own functions.
-use Rattle.std.specs.Prelude.{◌≡◌, ◌≢◌, ℕ, zero, suc, ◌+◌, ◌<◌, ◌≤◌, ◌⊎◌, Bool, true, false, nat_le, ◌==◌, ◌&&◌, List, [], ◌∷◌, ◌++◌, length, map, slice_index, All, Contains, Option, MatchOption, if◌then◌else◌}
+use Rattle.std.specs.Prelude.{◌≡◌, ◌≢◌, ℕ, zero, suc, ◌+◌, ◌<◌, ◌≤◌, ◌⊎◌, Bool, true, false, nat_le}
+use Rattle.std.specs.Prelude.{◌==◌, ◌&&◌, List, [], ◌∷◌, ◌++◌, length, map, slice_index, All}
+use Rattle.std.specs.Prelude.{Contains, Option, MatchOption, if◌then◌else◌}
 use Rattle.std.specs.List.{list_any}
 use Rattle.std.specs.Borrow.{Bor}
 use Rattle.std.specs.Str.Parse.{AllDigits}
 use Rattle.affinity_mask.specs.ProcSet.{has}
 use Rattle.affinity_mask.specs.Number.{number_value, canonical_number}
-use Rattle.affinity_mask.specs.ListText.{comma, dash, Item, IsWellFormed, begins_run, ends_run, run_text, canonical_list}
+use Rattle.affinity_mask.specs.ListText.{comma, dash, Item, IsWellFormed, begins_run, ends_run}
+use Rattle.affinity_mask.specs.ListText.{run_text, canonical_list}
 use Rattle.affinity_mask.specs.ListFault.{pieces, place_behind}
 
 -- digits of the same value, of which the first is not zero
@@ -22,8 +25,8 @@ pub record ReadsItem (piece : List ℕ) (X : ℕ) : Type 0 where
   pub well_formed : IsWellFormed (record { text = piece; low = low; high = high })
   pub contents : (p : ℕ) → has X p ≡ (nat_le low p && nat_le p high)
 
--- what a processor adds to the canonical list: where a run begins its number, behind a comma unless it is the first,
--- and where a longer run ends its number behind '-'
+-- what a processor adds to the canonical list: where a run begins its number, behind a comma unless
+-- it is the first, and where a longer run ends its number behind '-'
 unfoldable pub end_text : ℕ → Bool → ℕ → List ℕ
 end_text X is_first p =
     if begins_run X p then (if is_first then [] else comma ∷ []) ++ canonical_number p
@@ -34,7 +37,8 @@ unfoldable pub list_below : ℕ → ℕ → List ℕ
 list_below X zero = []
 list_below X (suc n) = list_below X n ++ end_text X (length (list_below X n) == 0) n
 
--- a and b are what stands before and behind the first '-' of the piece, or the piece itself twice where it has none
+-- a and b are what stands before and behind the first '-' of the piece, or the piece itself twice
+-- where it has none
 abbrev pub AreEnds : List ℕ → List ℕ → List ℕ → Type 0
 AreEnds piece a b =
     ((Contains piece dash → ⊥) × (a ≡ piece) × (b ≡ piece))
@@ -77,8 +81,8 @@ pub record IsNextRun (X n low high : ℕ) : Type 0 where
       ≡ list_below X n ++ item_text (length (list_below X n) == 0) low high
 
 -- no member comes from n on
-abbrev pub IsWhole : ℕ → ℕ → Type 0
-IsWhole X n = list_below X n ≡ canonical_list X
+abbrev pub EndsBelow : ℕ → ℕ → Type 0
+EndsBelow X n = list_below X n ≡ canonical_list X
 
 -- what stands after these bytes at the head of a text, or that it does not begin with them
 abbrev pub AfterFront : List ℕ → List ℕ → Option (Bor (List ℕ)) → Type 0

@@ -1,6 +1,8 @@
--- Sets of processors. A set of processors is a number, and p is in the set where the number has a one at place p. So
--- each number is just one finite set, and two sets with the same members are equal.
-use Rattle.std.specs.Prelude.{ℕ, zero, suc, ◌-◌, ◌^◌, ◌≤◌, Bool, IsTrue, ◌==◌, bit_and, bit_or, bit_xor, List, [], ◌∷◌, ◌++◌, if◌then◌else◌}
+-- Sets of processors. A set of processors is a number, and p is in the set where the number has a
+-- one at place p. So each number is just one finite set, and two sets with the same members are
+-- equal.
+use Rattle.std.specs.Prelude.{ℕ, zero, suc, ◌-◌, ◌^◌, ◌≤◌, Bool, IsTrue, ◌==◌, bit_and, bit_or}
+use Rattle.std.specs.Prelude.{bit_xor, List, [], ◌∷◌, ◌++◌, if◌then◌else◌}
 use Rattle.std.specs.Int.{bit_at}
 
 -- whether p is in the set

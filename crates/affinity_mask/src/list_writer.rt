@@ -3,7 +3,7 @@
 ghost use Rattle.std.specs.Prelude.{◌≡◌, ℕ, ◌<◌, ◌≤◌, ◌↔◌, ◌++◌, IsTrue, [], ◌∷◌, length, take, OnOk, OnErr, MatchOption};
 ghost use Rattle.affinity_mask.specs.ListText.{canonical_list, run_text};
 ghost use Rattle.affinity_mask.specs.Number.{canonical_number};
-ghost use Rattle.affinity_mask.specs.ListSteps.{item_text, IsBetween, IsNextRun, IsWhole, AfterFront};
+ghost use Rattle.affinity_mask.specs.ListSteps.{item_text, IsBetween, IsNextRun, EndsBelow, AfterFront};
 
 use crate::out_of_memory::OutOfMemory;
 use crate::proc_set::ProcSet;
@@ -63,7 +63,7 @@ impl ProcSet {
     /// The first run of a set from a processor on, at which none goes on, by its ends.
     fn run_from(&self, from: u8) -> Option<(u8, u8)>
         requires { IsBetween self.now from }
-        ensures { MatchOption result (IsWhole self.now from)
+        ensures { MatchOption result (EndsBelow self.now from)
             (λ run. IsNextRun self.now from run.0 run.1) }
     {
         let _valid = self.count();

@@ -1,13 +1,16 @@
--- What each call does. A call that is refused answers the number of its fault, comes only with the cause of it, and
--- changes nothing. Any other call that is not a question does what it says.
-use Rattle.std.specs.Prelude.{◌≡◌, ◌≢◌, ℕ, ◌+◌, ◌<◌, ◌≤◌, ◌⊎◌, Result, Ok, Err, List, [], ◌++◌, length, codes, replicate, slice_get, Option, Some, None, Bool, true, false, is_some, if◌then◌else◌, ◌==◌}
+-- What each call does. A call that is refused answers the number of its fault, comes only with the
+-- cause of it, and changes nothing. Any other call that is not a question does what it says.
+use Rattle.std.specs.Prelude.{◌≡◌, ◌≢◌, ℕ, ◌+◌, ◌<◌, ◌≤◌, ◌⊎◌, Result, Ok, Err, List, [], ◌++◌}
+use Rattle.std.specs.Prelude.{length, codes, replicate, slice_get, Option, Some, None, Bool, true}
+use Rattle.std.specs.Prelude.{false, is_some, if◌then◌else◌, ◌==◌}
 use Rattle.affinity_mask.specs.ProcSet.{has}
 use Rattle.affinity_mask.specs.Number.{canonical_number}
 use Rattle.task_set.specs.TaskSet.{SetData, IsMask}
 use Rattle.task_set.specs.Name.{IsName}
 use Rattle.task_set.specs.Refusal.{AddsTask, IsPriorityOf, IsNameOf, new_task}
 use Rattle.task_set.specs.declared.event.Event.{Event}
-use Rattle.task_set.specs.declared.event.Event.TheVariants.{Arrive, Depart, Tick, Affinity, Offline, Online}
+use Rattle.task_set.specs.declared.event.Event.TheVariants.{Arrive, Depart, Tick, Affinity, Offline}
+use Rattle.task_set.specs.declared.event.Event.TheVariants.{Online}
 use Rattle.strong_apa.specs.State.{IsState, start_of, task_on, mask_of, is_ready, is_linked}
 use Rattle.strong_apa.specs.Step.{IsEventFor, SchedulerStep}
 use Rattle.strong_apa.specs.Certified.{HasCertificates}
@@ -16,24 +19,25 @@ use Rattle.strong_apa.specs.CertificateLaws.{LinkedIsBest, LinkedIsLargest, Link
 use Rattle.strong_apa.specs.declared.reply.Reply.TheVariants.{Ticked}
 use Rattle.live_core.specs.Live.{LiveData}
 use Rattle.live_core.specs.Lost.{FindsLost, HelpsLost, data_with_seen}
-use Rattle.live_core.specs.Moves.{Replays}
+use Rattle.live_core.specs.Moves.{MovesLead}
 use Rattle.live_core.specs.Needed.{AreNeeded}
 use Rattle.live_core.specs.Optimal.{IsOptimal}
-use Rattle.live_core.specs.Slots.{is_in_use, IsEventInUse, AreAllInUse, IsInUseWith, Admits, GetsPriority, data_with_free}
+use Rattle.live_core.specs.Slots.{is_in_use, IsEventInUse, AreAllInUse, IsInUseWith, Admits}
+use Rattle.live_core.specs.Slots.{GetsPriority, data_with_free}
 use Rattle.live_core.specs.declared.moves.Move.{Move}
 use Rattle.apa_c.specs.Stages.{nothing, number_of, answer_of, set_of, back_of, word_of}
 use Rattle.apa_c.specs.declared.table.Apa.{Apa}
-use Rattle.apa_c.specs.declared.table.Stage.{Stage}
-use Rattle.apa_c.specs.declared.table.Stage.TheVariants.{Empty, Draft, Running}
+use Rattle.apa_c.specs.declared.table.ApaStage.{ApaStage}
+use Rattle.apa_c.specs.declared.table.ApaStage.TheVariants.{Empty, Draft, Running}
 
 -- the scheduler runs, with this state, or it does not
-abbrev pub running_of : Stage → Option LiveData
+abbrev pub running_of : ApaStage → Option LiveData
 running_of (Running live) = Some live
 running_of Empty = None
 running_of (Draft set) = None
 
 -- tasks are being added to this set, or they are not
-abbrev pub draft_of : Stage → Option SetData
+abbrev pub draft_of : ApaStage → Option SetData
 draft_of (Draft set) = Some set
 draft_of Empty = None
 draft_of (Running live) = None
@@ -55,12 +59,13 @@ abbrev pub IsBadMask : ℕ → ℕ → Type 0
 IsBadMask processors mask = ¬ IsMask processors mask
 
 -- ---- opening
-abbrev pub OpenedAt : Stage → Apa → ℕ → ℕ → Apa → Type 0
+abbrev pub OpenedAt : ApaStage → Apa → ℕ → ℕ → Apa → Type 0
 OpenedAt (Draft set) old processors result new = IsNotNow old result new
 OpenedAt (Running live) old processors result new = IsNotNow old result new
 OpenedAt Empty old processors result new =
     ((result ≡ 3) × (new ≡ old) × ((processors ≡ 0) ⊎ (64 < processors)))
-    ⊎ (IsShort old result new ⊎ ((result ≡ 0) × (new.stage ≡ Draft (record { processors = processors; tasks = [] }))))
+    ⊎ (IsShort old result new ⊎ ((result ≡ 0)
+    × (new.stage ≡ Draft (record { processors = processors; tasks = [] }))))
 
 -- a closed scheduler takes a number of processors, and has no tasks then
 abbrev pub Opened : Apa → ℕ → ℕ → Apa → Type 0
@@ -78,28 +83,35 @@ IsNameFault set name = (¬ IsName name) ⊎ ((t : ℕ) × IsNameOf set t name)
 -- why a task is not added
 abbrev pub IsAddFault : SetData → ℕ → ℕ → ℕ → Type 0
 IsAddFault set priority mask result =
-    (result ≡ 1) ⊎ (((result ≡ 7) × (length set.tasks ≡ 1024)) ⊎ (((result ≡ 6) × ((t : ℕ) × IsPriorityOf set t priority))
-    ⊎ (((result ≡ 5) × IsBadMask set.processors mask) ⊎ ((result ≡ 9) × IsNameFault set (stored_name set)))))
+    (result ≡ 1) ⊎ (((result ≡ 7) × (length set.tasks ≡ 1024))
+    ⊎ (((result ≡ 6) × ((t : ℕ) × IsPriorityOf set t priority))
+    ⊎ (((result ≡ 5) × IsBadMask set.processors mask)
+    ⊎ ((result ≡ 9) × IsNameFault set (stored_name set)))))
 
 -- the task stands last in the set then, under its stored name, or the set stays
 abbrev pub AddsTo : SetData → ℕ → ℕ → ℕ → SetData → Type 0
 AddsTo old priority mask result new =
-    ((result ≡ 0) × AddsTask old new (new_task (stored_name old) priority mask) (length old.tasks)) ⊎ ((new ≡ old) × IsAddFault old priority mask result)
+    ((result ≡ 0) × AddsTask old new (new_task (stored_name old) priority mask) (length old.tasks))
+    ⊎ ((new ≡ old) × IsAddFault old priority mask result)
 
-abbrev pub AddedAt : Stage → Apa → ℕ → ℕ → ℕ → Apa → Type 0
+abbrev pub AddedAt : ApaStage → Apa → ℕ → ℕ → ℕ → Apa → Type 0
 AddedAt Empty old priority mask result new = IsNotNow old result new
 AddedAt (Running live) old priority mask result new = IsNotNow old result new
-AddedAt (Draft set) old priority mask result new = (after : SetData) × (new.stage ≡ Draft after) × AddsTo set priority mask result after
+AddedAt (Draft set) old priority mask result new =
+    (after : SetData) × (new.stage ≡ Draft after) × AddsTo set priority mask result after
 
 -- one task more of this priority and exactly this mask
 abbrev pub Added : Apa → ℕ → ℕ → ℕ → Apa → Type 0
 Added old priority mask result new = AddedAt old.stage old priority mask result new
 
 -- ---- starting
-abbrev pub StartedAt : Stage → Apa → ℕ → Apa → Type 0
+abbrev pub StartedAt : ApaStage → Apa → ℕ → Apa → Type 0
 StartedAt Empty old result new = IsNotNow old result new
 StartedAt (Running live) old result new = IsNotNow old result new
-StartedAt (Draft set) old result new = IsShort old result new ⊎ ((result ≡ 0) × ((live : LiveData) × (new.stage ≡ Running live) × (live.links ≡ start_of set) × (live.last ≡ Ticked) × (live.moves ≡ []) × (live.in_use ≡ replicate (length set.tasks) true) × (live.seen ≡ replicate (length set.tasks) None) × (live.holders ≡ None)))
+StartedAt (Draft set) old result new = IsShort old result new
+    ⊎ ((result ≡ 0) × ((live : LiveData) × (new.stage ≡ Running live) × (live.links ≡ start_of set)
+    × (live.last ≡ Ticked) × (live.moves ≡ []) × (live.in_use ≡ replicate (length set.tasks) true)
+    × (live.seen ≡ replicate (length set.tasks) None) × (live.holders ≡ None)))
 
 -- every task is absent then, its slot is in use, and it is seen nowhere
 abbrev pub Started : Apa → ℕ → Apa → Type 0
@@ -115,27 +127,30 @@ IsEventOf kind number mask (Affinity t X) = (kind ≡ 2) × (t ≡ number) × (X
 IsEventOf kind number mask (Offline p) = (kind ≡ 3) × (p ≡ number)
 IsEventOf kind number mask (Online p) = (kind ≡ 4) × (p ≡ number)
 
--- why there is no such event; there is no task of a number where no slot has it, and where the slot is free
+-- why there is no such event; there is no task of a number where no slot has it, and where the slot
+-- is free
 abbrev pub IsEventFault : LiveData → ℕ → ℕ → ℕ → ℕ → Type 0
 IsEventFault live kind number mask result =
-    ((result ≡ 8) × (4 < kind)) ⊎ (((result ≡ 4) × (kind ≤ 2) × (is_in_use live number ≡ false)) ⊎ (((result ≡ 5) × (kind ≡ 2) × IsBadMask live.links.processors mask)
+    ((result ≡ 8) × (4 < kind)) ⊎ (((result ≡ 4) × (kind ≤ 2) × (is_in_use live number ≡ false))
+    ⊎ (((result ≡ 5) × (kind ≡ 2) × IsBadMask live.links.processors mask)
     ⊎ ((result ≡ 3) × (3 ≤ kind) × (kind ≤ 4) × (live.links.processors ≤ number))))
 
 -- an event of the links and of a task in use, or a fault
 abbrev pub IsEventHere : LiveData → ℕ → ℕ → ℕ → Result Event ℕ → Type 0
-IsEventHere live kind number mask (Ok event) = IsEventFor live.links event × IsEventInUse live event × IsEventOf kind number mask event
+IsEventHere live kind number mask (Ok event) =
+    IsEventFor live.links event × IsEventInUse live event × IsEventOf kind number mask event
 IsEventHere live kind number mask (Err fault) = IsEventFault live kind number mask fault
 
--- the scheduler's step was taken, its moves lead from the old links to the new ones, and the linked tasks are the best
--- placeable set of the ready ones
-pub record Steps (old : LiveData) (kind number mask result : ℕ) (new : LiveData) : Type 0 where
+-- the scheduler's step was taken, its moves lead from the old links to the new ones, and the linked
+-- tasks are the best placeable set of the ready ones
+pub record TakesStep (old : LiveData) (kind number mask result : ℕ) (new : LiveData) : Type 0 where
   pub event : Event
   pub event_is : IsEventOf kind number mask event
   pub event_for : IsEventFor old.links event
   pub event_in_use : IsEventInUse old event
   pub answer : result ≡ answer_of new.last
   pub step : SchedulerStep old.links event new.last new.links
-  pub moves : Replays old.links.on new.moves new.links.on
+  pub moves : MovesLead old.links.on new.moves new.links.on
   pub few : length new.moves ≤ 130
   pub needed : AreNeeded event new.last old.links.on new.links.on new.moves
   pub certified : HasCertificates new.links
@@ -148,11 +163,13 @@ pub record Steps (old : LiveData) (kind number mask result : ℕ) (new : LiveDat
   pub seen : new.seen ≡ old.seen
   pub holders : new.holders ≡ None
 
-abbrev pub AppliedAt : Stage → Apa → ℕ → ℕ → ℕ → ℕ → Apa → Type 0
+abbrev pub AppliedAt : ApaStage → Apa → ℕ → ℕ → ℕ → ℕ → Apa → Type 0
 AppliedAt Empty old kind number mask result new = IsNotNow old result new
 AppliedAt (Draft set) old kind number mask result new = IsNotNow old result new
 AppliedAt (Running live) old kind number mask result new =
-    ((new ≡ old) × IsEventFault live kind number mask result) ⊎ ((after : LiveData) × (new.stage ≡ Running after) × Steps live kind number mask result after)
+    ((new ≡ old) × IsEventFault live kind number mask result)
+    ⊎ ((after : LiveData) × (new.stage ≡ Running after)
+    × TakesStep live kind number mask result after)
 
 -- an event was applied, or is refused
 abbrev pub Applied : Apa → ℕ → ℕ → ℕ → ℕ → Apa → Type 0
@@ -162,7 +179,9 @@ Applied old kind number mask result new = AppliedAt old.stage old kind number ma
 -- why a task is not admitted
 abbrev pub IsAdmissionFault : LiveData → ℕ → ℕ → ℕ → Type 0
 IsAdmissionFault live priority mask result =
-    ((result ≡ 5) × IsBadMask live.links.processors mask) ⊎ (((result ≡ 6) × ((u : ℕ) × IsInUseWith live priority u)) ⊎ ((result ≡ 11) × AreAllInUse live.in_use))
+    ((result ≡ 5) × IsBadMask live.links.processors mask)
+    ⊎ (((result ≡ 6) × ((u : ℕ) × IsInUseWith live priority u))
+    ⊎ ((result ≡ 11) × AreAllInUse live.in_use))
 
 -- a task was admitted, whose number is that of a slot that was free; the answer is 1,024 more
 pub record IsAdmission (old : LiveData) (priority mask result : ℕ) (new : LiveData) : Type 0 where
@@ -174,20 +193,24 @@ pub record IsAdmission (old : LiveData) (priority mask result : ℕ) (new : Live
 
 -- the task is there then, or nothing has changed
 abbrev pub AdmitsTo : LiveData → ℕ → ℕ → ℕ → LiveData → Type 0
-AdmitsTo old priority mask result new = IsAdmission old priority mask result new ⊎ ((new ≡ old) × IsAdmissionFault old priority mask result)
+AdmitsTo old priority mask result new = IsAdmission old priority mask result new
+    ⊎ ((new ≡ old) × IsAdmissionFault old priority mask result)
 
-abbrev pub AdmittedAt : Stage → Apa → ℕ → ℕ → ℕ → Apa → Type 0
+abbrev pub AdmittedAt : ApaStage → Apa → ℕ → ℕ → ℕ → Apa → Type 0
 AdmittedAt Empty old priority mask result new = IsNotNow old result new
 AdmittedAt (Draft set) old priority mask result new = IsNotNow old result new
-AdmittedAt (Running live) old priority mask result new = (after : LiveData) × (new.stage ≡ Running after) × AdmitsTo live priority mask result after
+AdmittedAt (Running live) old priority mask result new =
+    (after : LiveData) × (new.stage ≡ Running after) × AdmitsTo live priority mask result after
 
 -- a task comes: a free slot is in use with this priority and exactly this mask
 abbrev pub Admitted : Apa → ℕ → ℕ → ℕ → Apa → Type 0
 Admitted old priority mask result new = AdmittedAt old.stage old priority mask result new
 
--- why a task does not retire, and does not get a priority: there is none of this number, or it is ready
+-- why a task does not retire, and does not get a priority: there is none of this number, or it is
+-- ready
 abbrev pub IsPresenceFault : LiveData → ℕ → ℕ → Type 0
-IsPresenceFault live t result = ((result ≡ 4) × (is_in_use live t ≡ false)) ⊎ ((result ≡ 10) × (is_in_use live t ≡ true) × (is_ready live.links t ≡ true))
+IsPresenceFault live t result = ((result ≡ 4) × (is_in_use live t ≡ false))
+    ⊎ ((result ≡ 10) × (is_in_use live t ≡ true) × (is_ready live.links t ≡ true))
 
 -- a task in use that is absent
 pub record IsAbsent (live : LiveData) (t : ℕ) : Type 0 where
@@ -196,12 +219,14 @@ pub record IsAbsent (live : LiveData) (t : ℕ) : Type 0 where
 
 -- the slot of the task is free then, or nothing has changed
 abbrev pub RetiresFrom : LiveData → ℕ → ℕ → LiveData → Type 0
-RetiresFrom old t result new = ((result ≡ 0) × IsAbsent old t × (new ≡ data_with_free old t) × IsOptimal new.links) ⊎ ((new ≡ old) × IsPresenceFault old t result)
+RetiresFrom old t result new = ((result ≡ 0) × IsAbsent old t × (new ≡ data_with_free old t)
+    × IsOptimal new.links) ⊎ ((new ≡ old) × IsPresenceFault old t result)
 
-abbrev pub RetiredAt : Stage → Apa → ℕ → ℕ → Apa → Type 0
+abbrev pub RetiredAt : ApaStage → Apa → ℕ → ℕ → Apa → Type 0
 RetiredAt Empty old t result new = IsNotNow old result new
 RetiredAt (Draft set) old t result new = IsNotNow old result new
-RetiredAt (Running live) old t result new = (after : LiveData) × (new.stage ≡ Running after) × RetiresFrom live t result after
+RetiredAt (Running live) old t result new =
+    (after : LiveData) × (new.stage ≡ Running after) × RetiresFrom live t result after
 
 -- an absent task goes
 abbrev pub Retired : Apa → ℕ → ℕ → Apa → Type 0
@@ -209,20 +234,24 @@ Retired old t result new = RetiredAt old.stage old t result new
 
 -- why a task does not get a priority
 abbrev pub IsReorderFault : LiveData → ℕ → ℕ → ℕ → Type 0
-IsReorderFault live t priority result = IsPresenceFault live t result ⊎ ((result ≡ 6) × ((u : ℕ) × IsInUseWith live priority u × (u ≢ t)))
+IsReorderFault live t priority result = IsPresenceFault live t result
+    ⊎ ((result ≡ 6) × ((u : ℕ) × IsInUseWith live priority u × (u ≢ t)))
 
 -- the task has the priority then, or nothing has changed
 abbrev pub Reorders : LiveData → ℕ → ℕ → ℕ → LiveData → Type 0
-Reorders old t priority result new = ((result ≡ 0) × IsAbsent old t × GetsPriority old t priority new × IsOptimal new.links) ⊎ ((new ≡ old) × IsReorderFault old t priority result)
+Reorders old t priority result new = ((result ≡ 0) × IsAbsent old t
+    × GetsPriority old t priority new × IsOptimal new.links)
+    ⊎ ((new ≡ old) × IsReorderFault old t priority result)
 
-abbrev pub ReorderedAt : Stage → Apa → ℕ → ℕ → ℕ → Apa → Type 0
+abbrev pub ReorderedAt : ApaStage → Apa → ℕ → ℕ → ℕ → Apa → Type 0
 ReorderedAt Empty old t priority result new = IsNotNow old result new
 ReorderedAt (Draft set) old t priority result new = IsNotNow old result new
-ReorderedAt (Running live) old t priority result new = (after : LiveData) × (new.stage ≡ Running after) × Reorders live t priority result after
+ReorderedAt (Running live) old t priority result new =
+    (after : LiveData) × (new.stage ≡ Running after) × Reorders live t priority result after
 
 -- an absent task gets another priority
-abbrev pub Reordered : Apa → ℕ → ℕ → ℕ → Apa → Type 0
-Reordered old t priority result new = ReorderedAt old.stage old t priority result new
+abbrev pub HasNewPriority : Apa → ℕ → ℕ → ℕ → Apa → Type 0
+HasNewPriority old t priority result new = ReorderedAt old.stage old t priority result new
 
 -- ---- where another scheduler has the tasks
 -- the processor of a number, or none
@@ -231,17 +260,20 @@ place_of number = if number == nothing then None else Some number
 
 -- why a task is not seen there: there is none of this number, or no such processor
 abbrev pub IsSightFault : LiveData → ℕ → ℕ → ℕ → Type 0
-IsSightFault live t number result = ((result ≡ 4) × (is_in_use live t ≡ false)) ⊎ ((result ≡ 3) × (live.links.processors ≤ number) × (number ≢ nothing))
+IsSightFault live t number result = ((result ≡ 4) × (is_in_use live t ≡ false))
+    ⊎ ((result ≡ 3) × (live.links.processors ≤ number) × (number ≢ nothing))
 
 -- the task is seen there then, or nothing has changed
 abbrev pub Sees : LiveData → ℕ → ℕ → ℕ → LiveData → Type 0
 Sees old t number result new =
-    ((result ≡ 0) × (is_in_use old t ≡ true) × (new ≡ data_with_seen old t (place_of number))) ⊎ ((new ≡ old) × IsSightFault old t number result)
+    ((result ≡ 0) × (is_in_use old t ≡ true) × (new ≡ data_with_seen old t (place_of number)))
+    ⊎ ((new ≡ old) × IsSightFault old t number result)
 
-abbrev pub SeenAt : Stage → Apa → ℕ → ℕ → ℕ → Apa → Type 0
+abbrev pub SeenAt : ApaStage → Apa → ℕ → ℕ → ℕ → Apa → Type 0
 SeenAt Empty old t number result new = IsNotNow old result new
 SeenAt (Draft set) old t number result new = IsNotNow old result new
-SeenAt (Running live) old t number result new = (after : LiveData) × (new.stage ≡ Running after) × Sees live t number result after
+SeenAt (Running live) old t number result new =
+    (after : LiveData) × (new.stage ≡ Running after) × Sees live t number result after
 
 -- a task is seen on a processor, or nowhere
 abbrev pub Seen : Apa → ℕ → ℕ → ℕ → Apa → Type 0
@@ -251,21 +283,24 @@ Seen old t number result new = SeenAt old.stage old t number result new
 abbrev pub IsNobody : Apa → ℕ → Apa → Type 0
 IsNobody old result new = (result ≡ nothing) × (new ≡ old)
 
-abbrev pub LostAt : Stage → Apa → ℕ → Apa → Type 0
+abbrev pub LostAt : ApaStage → Apa → ℕ → Apa → Type 0
 LostAt Empty old result new = IsNobody old result new
 LostAt (Draft set) old result new = IsNobody old result new
-LostAt (Running live) old result new = (after : LiveData) × (new.stage ≡ Running after) × ((found : Option ℕ) × (result ≡ number_of found) × FindsLost live found after)
+LostAt (Running live) old result new = (after : LiveData) × (new.stage ≡ Running after)
+    × ((found : Option ℕ) × (result ≡ number_of found) × FindsLost live found after)
 
 -- the most urgent lost task, if any is lost; all else stays
 abbrev pub Lost : Apa → ℕ → Apa → Type 0
 Lost old result new = LostAt old.stage old result new
 
-abbrev pub HelpedAt : Stage → Apa → ℕ → Apa → Type 0
+abbrev pub HelpedAt : ApaStage → Apa → ℕ → Apa → Type 0
 HelpedAt Empty old result new = IsNobody old result new
 HelpedAt (Draft set) old result new = IsNobody old result new
-HelpedAt (Running live) old result new = (after : LiveData) × (new.stage ≡ Running after) × ((found : Option ℕ) × (result ≡ number_of found) × HelpsLost live found after)
+HelpedAt (Running live) old result new = (after : LiveData) × (new.stage ≡ Running after)
+    × ((found : Option ℕ) × (result ≡ number_of found) × HelpsLost live found after)
 
--- the most urgent lost task, if any is lost, is helped: the moves are those of a shortest chain that gives it a processor
+-- the most urgent lost task, if any is lost, is helped: the moves are those of a shortest chain
+-- that gives it a processor
 abbrev pub Helped : Apa → ℕ → Apa → Type 0
 Helped old result new = HelpedAt old.stage old result new
 
@@ -285,7 +320,8 @@ OnAnswer old p result new = (new ≡ old) × (result ≡ task_at (running_of old
 -- the processor that a task is on
 abbrev pub IsPlaceAt : Option LiveData → ℕ → ℕ → Type 0
 IsPlaceAt None t result = result ≡ nothing
-IsPlaceAt (Some live) t result = ((result ≡ nothing) × (is_linked live.links t ≡ false)) ⊎ (task_on live.links result ≡ Some t)
+IsPlaceAt (Some live) t result =
+    ((result ≡ nothing) × (is_linked live.links t ≡ false)) ⊎ (task_on live.links result ≡ Some t)
 
 abbrev pub OfAnswer : Apa → ℕ → ℕ → Apa → Type 0
 OfAnswer old t result new = (new ≡ old) × IsPlaceAt (running_of old.stage) t result
@@ -296,7 +332,8 @@ is_ready_at None t = false
 is_ready_at (Some live) t = is_ready live.links t
 
 abbrev pub ReadyAnswer : Apa → ℕ → ℕ → Apa → Type 0
-ReadyAnswer old t result new = (new ≡ old) × (result ≡ (if is_ready_at (running_of old.stage) t then 1 else 0))
+ReadyAnswer old t result new =
+    (new ≡ old) × (result ≡ (if is_ready_at (running_of old.stage) t then 1 else 0))
 
 -- the mask of a task; one that there is not has an empty one
 abbrev pub mask_at : Option LiveData → ℕ → ℕ
@@ -313,7 +350,8 @@ occupant_at (Some live) p = task_on live.links p
 
 -- the set of the processors that somebody is on
 abbrev pub OccupiedAnswer : Apa → ℕ → Apa → Type 0
-OccupiedAnswer old result new = (new ≡ old) × ((p : ℕ) → has result p ≡ is_some (occupant_at (running_of old.stage) p))
+OccupiedAnswer old result new =
+    (new ≡ old) × ((p : ℕ) → has result p ≡ is_some (occupant_at (running_of old.stage) p))
 
 -- the processors on line
 abbrev pub on_line_at : Option LiveData → ℕ
@@ -324,16 +362,17 @@ abbrev pub OnLineAnswer : Apa → ℕ → Apa → Type 0
 OnLineAnswer old result new = (new ≡ old) × (result ≡ on_line_at (running_of old.stage))
 
 -- the moves of the last event
-abbrev pub moves_of : Option LiveData → List Move
-moves_of None = []
-moves_of (Some live) = live.moves
+abbrev pub moves_told : Option LiveData → List Move
+moves_told None = []
+moves_told (Some live) = live.moves
 
 abbrev pub CountAnswer : Apa → ℕ → Apa → Type 0
-CountAnswer old result new = (new ≡ old) × (result ≡ length (moves_of (running_of old.stage)))
+CountAnswer old result new = (new ≡ old) × (result ≡ length (moves_told (running_of old.stage)))
 
 -- one of them
 abbrev pub MoveAnswer : Apa → ℕ → ℕ → Apa → Type 0
-MoveAnswer old i result new = (new ≡ old) × (result ≡ word_of (slice_get (moves_of (running_of old.stage)) i))
+MoveAnswer old i result new =
+    (new ≡ old) × (result ≡ word_of (slice_get (moves_told (running_of old.stage)) i))
 
 -- the set of the last reply
 abbrev pub set_at : Option LiveData → ℕ

@@ -1,9 +1,13 @@
--- What lies behind a pointer, as numbers: how far a scheduler is, what a reply is as an answer, and what a move is.
+-- What lies behind a pointer, as numbers: how far a scheduler is, what a reply is as an answer, and
+-- what a move is.
 use Rattle.std.specs.Prelude.{ℕ, ◌+◌, ◌*◌, Option, Some, None}
 use Rattle.strong_apa.specs.declared.reply.Came.{Came}
 use Rattle.strong_apa.specs.declared.reply.Came.TheVariants as came
 use Rattle.strong_apa.specs.declared.reply.Reply.{Reply}
-use Rattle.strong_apa.specs.declared.reply.Reply.TheVariants.{Placed, Displaced, Waits, Freed, Left, Ticked, AlreadyReady, NotReady, Masked, Remasked, AlreadyOff, AlreadyOn, Off, On}
+use Rattle.strong_apa.specs.declared.reply.Reply.TheVariants.{Placed, Displaced, Waits, Freed, Left}
+use Rattle.strong_apa.specs.declared.reply.Reply.TheVariants.{Ticked, AlreadyReady, NotReady}
+use Rattle.strong_apa.specs.declared.reply.Reply.TheVariants.{Masked, Remasked, AlreadyOff}
+use Rattle.strong_apa.specs.declared.reply.Reply.TheVariants.{AlreadyOn, Off, On}
 use Rattle.live_core.specs.declared.moves.Move.{Move}
 use Rattle.live_core.specs.declared.moves.Move.TheVariants.{Start, Shift, Stop}
 
@@ -56,7 +60,8 @@ back_of (Remasked (Some gone) came) = gone.back
 back_of (On parts) = parts.back
 back_of _ = 0
 
--- a task and two processors in one word: the task in its lower half, and each processor in 16 bits of the upper one
+-- a task and two processors in one word: the task in its lower half, and each processor in 16 bits
+-- of the upper one
 abbrev pub word : ℕ → ℕ → ℕ → ℕ
 word task from to = task + 4294967296 * from + 281474976710656 * to
 

@@ -11,7 +11,7 @@ mod table;
 ghost use Rattle.std.specs.Borrow.{sem};
 ghost use Rattle.std.specs.Prelude.{◌≡◌};
 ghost use Rattle.apa_c.specs.Handle.{apa_at, apa_after, apa_bytes, apa_room};
-ghost use Rattle.apa_c.specs.Calls.{Made, Opened, Added, Started, Applied, Admitted, Retired, Reordered, Seen, Lost, Helped, Closed, OnAnswer, OfAnswer, ReadyAnswer, MaskAnswer, OccupiedAnswer, OnLineAnswer, CountAnswer, MoveAnswer, SetAnswer, BackAnswer};
+ghost use Rattle.apa_c.specs.Calls.{Made, Opened, Added, Started, Applied, Admitted, Retired, HasNewPriority, Seen, Lost, Helped, Closed, OnAnswer, OfAnswer, ReadyAnswer, MaskAnswer, OccupiedAnswer, OnLineAnswer, CountAnswer, MoveAnswer, SetAnswer, BackAnswer};
 
 use std::alloc::Global;
 use table::Apa;
@@ -104,7 +104,7 @@ pub unsafe extern "C" fn apa_retire(at: *mut u8, task: u32) -> u32
 pub unsafe extern "C" fn apa_set_priority(at: *mut u8, task: u32, priority: u32) -> u32
     ghost value: { Apa }
     requires* { sem 𝓛 (apa_at at value) }
-    ensures* { sem 𝓛 (apa_after at (Reordered value task priority result)) }
+    ensures* { sem 𝓛 (apa_after at (HasNewPriority value task priority result)) }
 {
     table::set_priority(&mut *(at as *mut Apa), task, priority)
 }

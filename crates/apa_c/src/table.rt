@@ -2,7 +2,7 @@
 ghost use Rattle.std.specs.Prelude.{◌≡◌, ℕ, ◌<◌, ◌≤◌, MatchOption, slice_get};
 ghost use Rattle.task_set.specs.TaskSet.{IsMask};
 ghost use Rattle.apa_c.specs.Stages.{number_of};
-ghost use Rattle.apa_c.specs.Calls.{Opened, Added, AddsTo, Started, Applied, IsEventHere, IsBadMask, Admitted, AdmitsTo, Retired, RetiresFrom, Reordered, Reorders, IsAbsent, IsPresenceFault, Seen, Sees, Lost, Helped, Closed, OnAnswer, OfAnswer, ReadyAnswer, MaskAnswer, OccupiedAnswer, OnLineAnswer, CountAnswer, MoveAnswer, SetAnswer, BackAnswer, moves_of, running_of};
+ghost use Rattle.apa_c.specs.Calls.{Opened, Added, AddsTo, Started, Applied, IsEventHere, IsBadMask, Admitted, AdmitsTo, Retired, RetiresFrom, HasNewPriority, Reorders, IsAbsent, IsPresenceFault, Seen, Sees, Lost, Helped, Closed, OnAnswer, OfAnswer, ReadyAnswer, MaskAnswer, OccupiedAnswer, OnLineAnswer, CountAnswer, MoveAnswer, SetAnswer, BackAnswer, moves_told, running_of};
 
 use crate::answer::{
     BAD_MASK, DONE, FIRST_SLOT, NO_EVENT, NO_MEMORY, NO_MOVE, NO_NAME, NO_PROCESSOR, NO_SLOT,
@@ -16,7 +16,7 @@ use task_set::{Event, TaskFault, TaskSet};
 
 /// How far a scheduler is.
 #[derive(Drop)]
-pub enum Stage {
+pub enum ApaStage {
     /// It holds no memory.
     Empty,
 
@@ -31,16 +31,16 @@ pub enum Stage {
 #[derive(Drop)]
 pub struct Apa {
     pub alloc: Global,
-    pub stage: Stage,
+    pub stage: ApaStage,
 }
 
 /// A scheduler that is closed.
 pub fn empty(alloc: Global) -> Apa
-    ensures { result.stage ≡ Stage.Empty }
+    ensures { result.stage ≡ ApaStage.Empty }
 {
     Apa {
         alloc,
-        stage: Stage::Empty,
+        stage: ApaStage::Empty,
     }
 }
 
@@ -48,7 +48,7 @@ pub fn empty(alloc: Global) -> Apa
 pub fn open(apa: &mut Apa, processors: u32) -> u32
     ensures { Opened apa.old processors result apa.new }
 {
-    let Stage::Empty = &apa.stage else {
+    let ApaStage::Empty = &apa.stage else {
         return NOT_NOW;
     };
     if processors < 1 || processors > 64 {
@@ -56,7 +56,7 @@ pub fn open(apa: &mut Apa, processors: u32) -> u32
     }
     match TaskSet::new(apa.alloc, processors as u8) {
         Ok(set) => {
-            apa.stage = Stage::Draft(set);
+            apa.stage = ApaStage::Draft(set);
             DONE
         }
         Err(_) => NO_MEMORY,
@@ -68,7 +68,7 @@ pub fn add_task(apa: &mut Apa, priority: u32, mask: u64) -> u32
     ensures { Added apa.old priority mask result apa.new }
 {
     let alloc = apa.alloc;
-    let Stage::Draft(set) = &mut apa.stage else {
+    let ApaStage::Draft(set) = &mut apa.stage else {
         return NOT_NOW;
     };
     add_to(alloc, set, priority, mask)
@@ -97,12 +97,12 @@ fn add_to(alloc: Global, set: &mut TaskSet, priority: u32, mask: u64) -> u32
 pub fn start(apa: &mut Apa) -> u32
     ensures { Started apa.old result apa.new }
 {
-    let Stage::Draft(set) = &apa.stage else {
+    let ApaStage::Draft(set) = &apa.stage else {
         return NOT_NOW;
     };
     match LiveCore::new(apa.alloc, set) {
         Ok(live) => {
-            apa.stage = Stage::Running(live);
+            apa.stage = ApaStage::Running(live);
             DONE
         }
         Err(_) => NO_MEMORY,
@@ -113,7 +113,7 @@ pub fn start(apa: &mut Apa) -> u32
 pub fn apply(apa: &mut Apa, kind: u32, number: u32, mask: u64) -> u32
     ensures { Applied apa.old kind number mask result apa.new }
 {
-    let Stage::Running(live) = &mut apa.stage else {
+    let ApaStage::Running(live) = &mut apa.stage else {
         return NOT_NOW;
     };
     match event_of(live, kind, number, mask) {
@@ -129,7 +129,7 @@ pub fn apply(apa: &mut Apa, kind: u32, number: u32, mask: u64) -> u32
 pub fn admit(apa: &mut Apa, priority: u32, mask: u64) -> u32
     ensures { Admitted apa.old priority mask result apa.new }
 {
-    let Stage::Running(live) = &mut apa.stage else {
+    let ApaStage::Running(live) = &mut apa.stage else {
         return NOT_NOW;
     };
     admit_to(live, priority, mask)
@@ -153,7 +153,7 @@ fn admit_to(live: &mut LiveCore, priority: u32, mask: u64) -> u32
 pub fn retire(apa: &mut Apa, t: u32) -> u32
     ensures { Retired apa.old t result apa.new }
 {
-    let Stage::Running(live) = &mut apa.stage else {
+    let ApaStage::Running(live) = &mut apa.stage else {
         return NOT_NOW;
     };
     retire_from(live, t)
@@ -172,9 +172,9 @@ fn retire_from(live: &mut LiveCore, t: u32) -> u32
 
 /// An absent task gets another priority.
 pub fn set_priority(apa: &mut Apa, t: u32, priority: u32) -> u32
-    ensures { Reordered apa.old t priority result apa.new }
+    ensures { HasNewPriority apa.old t priority result apa.new }
 {
-    let Stage::Running(live) = &mut apa.stage else {
+    let ApaStage::Running(live) = &mut apa.stage else {
         return NOT_NOW;
     };
     reorder(live, t, priority)
@@ -210,7 +210,7 @@ fn presence_fault(live: &LiveCore, t: u32) -> Option<u32>
 pub fn seen(apa: &mut Apa, t: u32, place: u32) -> u32
     ensures { Seen apa.old t place result apa.new }
 {
-    let Stage::Running(live) = &mut apa.stage else {
+    let ApaStage::Running(live) = &mut apa.stage else {
         return NOT_NOW;
     };
     see(live, t, place)
@@ -238,7 +238,7 @@ fn see(live: &mut LiveCore, t: u32, place: u32) -> u32
 pub fn lost(apa: &mut Apa) -> u32
     ensures { Lost apa.old result apa.new }
 {
-    let Stage::Running(live) = &mut apa.stage else {
+    let ApaStage::Running(live) = &mut apa.stage else {
         return NOTHING;
     };
     number_of(live.lost())
@@ -248,7 +248,7 @@ pub fn lost(apa: &mut Apa) -> u32
 pub fn help(apa: &mut Apa) -> u32
     ensures { Helped apa.old result apa.new }
 {
-    let Stage::Running(live) = &mut apa.stage else {
+    let ApaStage::Running(live) = &mut apa.stage else {
         return NOTHING;
     };
     number_of(live.help())
@@ -268,7 +268,7 @@ fn number_of(task: Option<u32>) -> u32
 pub fn close(apa: &mut Apa) -> u32
     ensures { Closed apa.old result apa.new }
 {
-    apa.stage = Stage::Empty;
+    apa.stage = ApaStage::Empty;
     DONE
 }
 
@@ -276,7 +276,7 @@ pub fn close(apa: &mut Apa) -> u32
 pub fn on(apa: &mut Apa, p: u32) -> u32
     ensures { OnAnswer apa.old p result apa.new }
 {
-    let Stage::Running(live) = &apa.stage else {
+    let ApaStage::Running(live) = &apa.stage else {
         return NOTHING;
     };
     if p >= live.links().processors() as u32 {
@@ -292,7 +292,7 @@ pub fn on(apa: &mut Apa, p: u32) -> u32
 pub fn of(apa: &mut Apa, t: u32) -> u32
     ensures { OfAnswer apa.old t result apa.new }
 {
-    let Stage::Running(live) = &apa.stage else {
+    let ApaStage::Running(live) = &apa.stage else {
         return NOTHING;
     };
     if t >= live.links().len() {
@@ -308,7 +308,7 @@ pub fn of(apa: &mut Apa, t: u32) -> u32
 pub fn is_ready(apa: &mut Apa, t: u32) -> u32
     ensures { ReadyAnswer apa.old t result apa.new }
 {
-    let Stage::Running(live) = &apa.stage else {
+    let ApaStage::Running(live) = &apa.stage else {
         return 0;
     };
     if t >= live.links().len() {
@@ -321,7 +321,7 @@ pub fn is_ready(apa: &mut Apa, t: u32) -> u32
 pub fn mask(apa: &mut Apa, t: u32) -> u64
     ensures { MaskAnswer apa.old t result apa.new }
 {
-    let Stage::Running(live) = &apa.stage else {
+    let ApaStage::Running(live) = &apa.stage else {
         return 0;
     };
     if !live.is_in_use(t) {
@@ -335,7 +335,7 @@ pub fn occupied(apa: &mut Apa) -> u64
     ensures { OccupiedAnswer apa.old result apa.new }
 {
     match &apa.stage {
-        Stage::Running(live) => live.links().linked().bits(),
+        ApaStage::Running(live) => live.links().linked().bits(),
         _ => 0,
     }
 }
@@ -345,7 +345,7 @@ pub fn on_line(apa: &mut Apa) -> u64
     ensures { OnLineAnswer apa.old result apa.new }
 {
     match &apa.stage {
-        Stage::Running(live) => live.links().online().bits(),
+        ApaStage::Running(live) => live.links().online().bits(),
         _ => 0,
     }
 }
@@ -355,7 +355,7 @@ pub fn moves(apa: &mut Apa) -> u32
     ensures { CountAnswer apa.old result apa.new }
 {
     match &apa.stage {
-        Stage::Running(live) => live.moves().len() as u32,
+        ApaStage::Running(live) => live.moves().len() as u32,
         _ => 0,
     }
 }
@@ -371,11 +371,11 @@ pub fn whole_move(apa: &mut Apa, i: u32) -> u64
 }
 
 /// A move of the last event.
-fn move_at(stage: &Stage, i: u32) -> Option<Move>
-    ensures { result ≡ slice_get (moves_of (running_of stage.now)) i }
+fn move_at(stage: &ApaStage, i: u32) -> Option<Move>
+    ensures { result ≡ slice_get (moves_told (running_of stage.now)) i }
 {
     match stage {
-        Stage::Running(live) => live.moves().get(i as usize).copied(),
+        ApaStage::Running(live) => live.moves().get(i as usize).copied(),
         _ => None,
     }
 }
@@ -385,7 +385,7 @@ pub fn reached(apa: &mut Apa) -> u64
     ensures { SetAnswer apa.old result apa.new }
 {
     match &apa.stage {
-        Stage::Running(live) => set_of(live.last()),
+        ApaStage::Running(live) => set_of(live.last()),
         _ => 0,
     }
 }
@@ -395,7 +395,7 @@ pub fn back(apa: &mut Apa) -> u64
     ensures { BackAnswer apa.old result apa.new }
 {
     match &apa.stage {
-        Stage::Running(live) => back_of(live.last()),
+        ApaStage::Running(live) => back_of(live.last()),
         _ => 0,
     }
 }

@@ -1,5 +1,6 @@
 -- What a command read of a source that reports its bytes, and that words mean one command.
-use Rattle.std.proofs.Common.{◌≡◌, ℕ, ◌+◌, ◌*◌, ◌<◌, ◌≤◌, ◌==◌, ◌⊎◌, List, [], ◌∷◌, length, get_or, map, String, Option, if◌then◌else◌, refl, sym, ap, ◌∙◌, inl, inr, arith}
+use Rattle.std.proofs.Common.{◌≡◌, ℕ, ◌+◌, ◌*◌, ◌<◌, ◌≤◌, ◌==◌, ◌⊎◌, List, [], ◌∷◌, length, get_or, map, String, Option, if◌then◌else◌}
+use Rattle.std.proofs.Common.{refl, sym, ap, ◌∙◌, inl, inr, arith}
 use Rattle.std.specs.Prelude.{codes, string_bytes}
 use Rattle.std.specs.declared.alloc.Global.{Global}
 use Rattle.affinity_mask.specs.Number.{number_value}
@@ -7,12 +8,14 @@ use Rattle.shift_io.specs.Stream.{TakesExactly, TakesAtMost}
 use Rattle.commands.proofs.ReadBytes.{read_is_reported, not_longer}
 use Rattle.commands.specs.Sizes.{AreWithin}
 use Rattle.commands.specs.declared.sizes.Sizes.{Sizes}
-use Rattle.command_line.specs.Command.{IsCommand, IsSized, IsWindow, IsOfWhole, IsOfPart, word_of, AreSizes, IsBounded, byte_limit, IsToRead, Reads, ReadsNothing}
+use Rattle.command_line.specs.Command.{IsCommand, IsSized, IsWindow, IsOfWhole, IsOfPart, word_of, AreSizes, IsBounded, byte_limit}
+use Rattle.command_line.specs.Command.{IsToRead, Reads, ReadsNothing}
 use Rattle.schedule_picture.specs.declared.axis.Axis.{Axis}
 use Rattle.schedule_picture.specs.declared.axis.Axis.TheVariants.{Time, Steps}
 use Rattle.schedule_picture.specs.declared.window.Window.{Window}
 use Rattle.command_line.specs.declared.words.Command.{Command}
-use Rattle.command_line.specs.declared.words.Command.TheVariants.{Run, Check, Weak, Nested, Jobs, WeakJobs, RunJobs, Watch, Import, ImportJobs, Draw, Chrome, Lost, Make, Large}
+use Rattle.command_line.specs.declared.words.Command.TheVariants.{Run, Check, Weak, Nested, Jobs, WeakJobs, RunJobs, Watch, Import}
+use Rattle.command_line.specs.declared.words.Command.TheVariants.{ImportJobs, Draw, Chrome, Lost, Make, Large}
 
 -- a command reads nothing or something
 reads_or_not : (command : Command) → ReadsNothing command ⊎ (ReadsNothing command → ⊥)
@@ -33,16 +36,22 @@ reads_or_not (Make sizes) = inl tt
 reads_or_not (Large sizes) = inl tt
 
 -- what a command read is what it was to read
-expected_by : (command : Command) (left after : Option (List ℕ)) (read taken : List ℕ) → IsToRead command left read → Reads command left after taken → ReadsNothing command ⊎ (ReadsNothing command → ⊥) → taken ≡ read
+expected_by : (command : Command) (left after : Option (List ℕ)) (read taken : List ℕ) → IsToRead command left read
+    → Reads command left after taken → ReadsNothing command ⊎ (ReadsNothing command → ⊥) → taken ≡ read
 expected_by command left after read taken to_read reads (inl nothing) = (reads.none nothing).1 ∙ sym (to_read.none nothing)
-expected_by command left after read taken to_read reads (inr something) = read_is_reported (byte_limit command) left after read taken (to_read.all something) (reads.all something)
+expected_by command left after read taken to_read reads (inr something) =
+    read_is_reported (byte_limit command) left after read taken (to_read.all something) (reads.all something)
 
-pub read_is_expected : (command : Command) (left after : Option (List ℕ)) (read taken : List ℕ) → IsToRead command left read → Reads command left after taken → taken ≡ read
-read_is_expected command left after read taken to_read reads = expected_by command left after read taken to_read reads (reads_or_not command)
+pub read_is_expected : (command : Command) (left after : Option (List ℕ)) (read taken : List ℕ) → IsToRead command left read
+    → Reads command left after taken → taken ≡ read
+read_is_expected command left after read taken to_read reads =
+    expected_by command left after read taken to_read reads (reads_or_not command)
 
 -- a command that reads takes no more than it is to read
-pub never_too_long : (command : Command) (left after : Option (List ℕ)) (read : List ℕ) → IsToRead command left read → (ReadsNothing command → ⊥) → TakesExactly left after (byte_limit command + 1) → ⊥
-never_too_long command left after read to_read something longer = not_longer (byte_limit command) left after read (to_read.all something) longer
+pub never_too_long : (command : Command) (left after : Option (List ℕ)) (read : List ℕ) → IsToRead command left read
+    → (ReadsNothing command → ⊥) → TakesExactly left after (byte_limit command + 1) → ⊥
+never_too_long command left after read to_read something longer =
+    not_longer (byte_limit command) left after read (to_read.all something) longer
 
 -- ---- words mean one command
 -- a mark by which the first words of the commands differ: its first letter and its length
@@ -60,7 +69,8 @@ sizes_said words = record {
 
 -- the whole, or from the value of the second word to that of the third one, whether or not they are numbers
 window_said : List (List ℕ) → Window
-window_said words = if length words == 1 then record { from = 0; to = 18446744073709551615 } else record { from = number_value (get_or words 1 []); to = number_value (get_or words 2 []) }
+window_said words = if length words == 1 then record { from = 0; to = 18446744073709551615 }
+    else record { from = number_value (get_or words 1 []); to = number_value (get_or words 2 []) }
 
 -- zero, or the value of the second word, whether or not it is a number
 start_said : List (List ℕ) → ℕ
@@ -101,12 +111,14 @@ sizes_are_said number processors tasks events sizes sized first = λ k. record {
 }
 
 -- the values of two numbers are the window
-window_is_said : (from to : List ℕ) (window : Window) → IsWindow from to window → (first : List ℕ) → window_said (first ∷ from ∷ to ∷ []) ≡ window
+window_is_said : (from to : List ℕ) (window : Window) → IsWindow from to window → (first : List ℕ) → window_said (first ∷ from ∷ to ∷ [])
+    ≡ window
 unfolding window_said
 window_is_said from to window is_window first = λ k. record { from = is_window.is_from.0.1 k; to = is_window.is_to.0.1 k }
 
 -- one word says the whole
-whole_is_said : (words : List (List ℕ)) (window : Window) (first : List ℕ) → IsOfWhole first words window → window_said (first ∷ []) ≡ window
+whole_is_said : (words : List (List ℕ)) (window : Window) (first : List ℕ) → IsOfWhole first words window
+    → window_said (first ∷ []) ≡ window
 unfolding window_said
 whole_is_said words window first whole = λ k. record { from = sym whole.from_start k; to = sym whole.to_end k }
 
@@ -123,15 +135,21 @@ said_of words RunJobs spoken = ap command_said spoken
 said_of words (Watch observers) spoken = ap command_said spoken.each_word ∙ ap Watch spoken.is_number.0.1
 said_of words Import spoken = ap command_said spoken
 said_of words ImportJobs spoken = ap command_said spoken
-said_of words (Draw Time window) (inl whole) = ap command_said whole.each_word ∙ ap (Draw Time) (whole_is_said words window (codes "draw") whole)
-said_of words (Draw Time window) (inr part) = ap command_said part.each_word ∙ ap (Draw Time) (window_is_said part.from part.to window part.is_window (codes "draw"))
-said_of words (Draw Steps window) (inl whole) = ap command_said whole.each_word ∙ ap (Draw Steps) (whole_is_said words window (codes "steps") whole)
-said_of words (Draw Steps window) (inr part) = ap command_said part.each_word ∙ ap (Draw Steps) (window_is_said part.from part.to window part.is_window (codes "steps"))
+said_of words (Draw Time window) (inl whole) =
+    ap command_said whole.each_word ∙ ap (Draw Time) (whole_is_said words window (codes "draw") whole)
+said_of words (Draw Time window) (inr part) =
+    ap command_said part.each_word ∙ ap (Draw Time) (window_is_said part.from part.to window part.is_window (codes "draw"))
+said_of words (Draw Steps window) (inl whole) =
+    ap command_said whole.each_word ∙ ap (Draw Steps) (whole_is_said words window (codes "steps") whole)
+said_of words (Draw Steps window) (inr part) =
+    ap command_said part.each_word ∙ ap (Draw Steps) (window_is_said part.from part.to window part.is_window (codes "steps"))
 said_of words (Chrome start) (inl alone) = ap command_said alone.each_word ∙ ap Chrome (sym alone.from_zero)
 said_of words (Chrome start) (inr given) = ap command_said given.each_word ∙ ap Chrome given.is_number.0.1
 said_of words Lost spoken = ap command_said spoken
-said_of words (Make sizes) spoken = ap command_said spoken.each_word ∙ ap Make (sizes_are_said spoken.number spoken.processors spoken.tasks spoken.events sizes spoken.sized (codes "make"))
-said_of words (Large sizes) spoken = ap command_said spoken.each_word ∙ ap Large (sizes_are_said spoken.number spoken.processors spoken.tasks spoken.events sizes spoken.sized (codes "large"))
+said_of words (Make sizes) spoken = ap command_said spoken.each_word
+    ∙ ap Make (sizes_are_said spoken.number spoken.processors spoken.tasks spoken.events sizes spoken.sized (codes "make"))
+said_of words (Large sizes) spoken = ap command_said spoken.each_word
+    ∙ ap Large (sizes_are_said spoken.number spoken.processors spoken.tasks spoken.events sizes spoken.sized (codes "large"))
 
 -- so they mean one command
 pub one_command : (words : List (List ℕ)) (one other : Command) → IsCommand words one → IsCommand words other → one ≡ other
@@ -149,14 +167,18 @@ sized_within first words sizes sized = record {
 same_limit : (words : List (List ℕ)) (one other : Command) → IsCommand words one → IsCommand words other → byte_limit other ≡ byte_limit one
 same_limit words one other first second = sym (ap byte_limit (one_command words one other first second))
 
-pub too_long_said : (words : List (List ℕ)) (one other : Command) (left after : Option (List ℕ)) (most : ℕ) → IsCommand words one → IsCommand words other → most ≡ byte_limit one → TakesExactly left after (byte_limit one + 1)
+pub too_long_said : (words : List (List ℕ)) (one other : Command) (left after : Option (List ℕ)) (most : ℕ) → IsCommand words one
+    → IsCommand words other → most ≡ byte_limit one → TakesExactly left after (byte_limit one + 1)
     → (most ≡ byte_limit other) × TakesExactly left after (most + 1)
-too_long_said words one other left after most first second is_limit taken = (rw (same_limit words one other first second) is_limit, rw is_limit taken)
+too_long_said words one other left after most first second is_limit taken =
+    (rw (same_limit words one other first second) is_limit, rw is_limit taken)
 
-pub within_said : (words : List (List ℕ)) (one other : Command) (left after : Option (List ℕ)) → IsCommand words one → IsCommand words other → TakesAtMost left after (byte_limit one) → TakesAtMost left after (byte_limit other)
+pub within_said : (words : List (List ℕ)) (one other : Command) (left after : Option (List ℕ)) → IsCommand words one → IsCommand words other
+    → TakesAtMost left after (byte_limit one) → TakesAtMost left after (byte_limit other)
 within_said words one other left after first second taken = rw (same_limit words one other first second) taken
 
-pub takes_said : (words : List (List ℕ)) (one other : Command) (before after : ℕ) → IsCommand words one → IsCommand words other → after ≤ before + byte_limit one + 2 → after ≤ before + byte_limit other + 2
+pub takes_said : (words : List (List ℕ)) (one other : Command) (before after : ℕ) → IsCommand words one → IsCommand words other
+    → after ≤ before + byte_limit one + 2 → after ≤ before + byte_limit other + 2
 takes_said words one other before after first second few = rw (same_limit words one other first second) few
 
 -- what is left where the first of two does not hold
@@ -182,7 +204,9 @@ command_within words Lost spoken = tt
 command_within words (Make sizes) spoken = sized_within _ words sizes spoken
 command_within words (Large sizes) spoken = sized_within _ words sizes spoken
 
-no_sizes : (name : List ℕ) (words : List (List ℕ)) (number processors tasks events first : List ℕ) → words ≡ first ∷ number ∷ processors ∷ tasks ∷ events ∷ [] → ((sizes : Sizes) → AreSizes number processors tasks events sizes → ⊥) → (sizes : Sizes) → IsSized name words sizes → ⊥
+no_sizes : (name : List ℕ) (words : List (List ℕ)) (number processors tasks events first : List ℕ) → words ≡ first ∷ number ∷ processors
+    ∷ tasks ∷ events ∷ [] → ((sizes : Sizes) → AreSizes number processors tasks events sizes → ⊥) → (sizes : Sizes)
+    → IsSized name words sizes → ⊥
 no_sizes name words number processors tasks events first five none sizes sized =
     let same = sym sized.each_word ∙ five in
     let numbers : sized.number ≡ number = cc in
@@ -192,7 +216,9 @@ no_sizes name words number processors tasks events first five none sizes sized =
     none sizes (rw (numbers, counts, of_tasks, of_events) at sized.sized)
 
 -- words that say no four numbers mean no command
-pub unsized_words : (words : List (List ℕ)) (first number processors tasks events : List ℕ) → words ≡ first ∷ number ∷ processors ∷ tasks ∷ events ∷ [] → ((sizes : Sizes) → AreSizes number processors tasks events sizes → ⊥) → (command : Command) → IsCommand words command → ⊥
+pub unsized_words : (words : List (List ℕ)) (first number processors tasks events : List ℕ) → words ≡ first ∷ number ∷ processors ∷ tasks
+    ∷ events ∷ [] → ((sizes : Sizes) → AreSizes number processors tasks events sizes → ⊥) → (command : Command) → IsCommand words command
+    → ⊥
 unsized_words words first number processors tasks events five none Run spoken = let same = sym five ∙ spoken in cc
 unsized_words words first number processors tasks events five none Check spoken = let same = sym five ∙ spoken in cc
 unsized_words words first number processors tasks events five none Weak spoken = let same = sym five ∙ spoken in cc
@@ -203,23 +229,29 @@ unsized_words words first number processors tasks events five none RunJobs spoke
 unsized_words words first number processors tasks events five none (Watch observers) spoken = let same = sym five ∙ spoken.each_word in cc
 unsized_words words first number processors tasks events five none Import spoken = let same = sym five ∙ spoken in cc
 unsized_words words first number processors tasks events five none ImportJobs spoken = let same = sym five ∙ spoken in cc
-unsized_words words first number processors tasks events five none (Draw axis window) (inl whole) = let same = sym five ∙ whole.each_word in cc
-unsized_words words first number processors tasks events five none (Draw axis window) (inr part) = let same = sym five ∙ part.each_word in cc
+unsized_words words first number processors tasks events five none (Draw axis window) (inl whole) =
+    let same = sym five ∙ whole.each_word in cc
+unsized_words words first number processors tasks events five none (Draw axis window) (inr part) =
+    let same = sym five ∙ part.each_word in cc
 unsized_words words first number processors tasks events five none (Chrome start) (inl alone) = let same = sym five ∙ alone.each_word in cc
 unsized_words words first number processors tasks events five none (Chrome start) (inr given) = let same = sym five ∙ given.each_word in cc
 unsized_words words first number processors tasks events five none Lost spoken = let same = sym five ∙ spoken in cc
-unsized_words words first number processors tasks events five none (Make sizes) spoken = no_sizes _ words number processors tasks events first five none sizes spoken
-unsized_words words first number processors tasks events five none (Large sizes) spoken = no_sizes _ words number processors tasks events first five none sizes spoken
+unsized_words words first number processors tasks events five none (Make sizes) spoken =
+    no_sizes _ words number processors tasks events first five none sizes spoken
+unsized_words words first number processors tasks events five none (Large sizes) spoken =
+    no_sizes _ words number processors tasks events first five none sizes spoken
 
 -- three words of which the last two say no window mean no command
-no_window : (words : List (List ℕ)) (axis : Axis) (first from to : List ℕ) → words ≡ first ∷ from ∷ to ∷ [] → ((window : Window) → IsWindow from to window → ⊥) → (window : Window) → IsOfPart (word_of axis) words window → ⊥
+no_window : (words : List (List ℕ)) (axis : Axis) (first from to : List ℕ) → words ≡ first ∷ from ∷ to ∷ []
+    → ((window : Window) → IsWindow from to window → ⊥) → (window : Window) → IsOfPart (word_of axis) words window → ⊥
 no_window words axis first from to three none window part =
     let same = sym part.each_word ∙ three in
     let begins : part.from ≡ from = cc in
     let ends : part.to ≡ to = cc in
     none window (rw (begins, ends) at part.is_window)
 
-pub unwindowed_words : (words : List (List ℕ)) (first from to : List ℕ) → words ≡ first ∷ from ∷ to ∷ [] → ((window : Window) → IsWindow from to window → ⊥) → (command : Command) → IsCommand words command → ⊥
+pub unwindowed_words : (words : List (List ℕ)) (first from to : List ℕ) → words ≡ first ∷ from ∷ to ∷ []
+    → ((window : Window) → IsWindow from to window → ⊥) → (command : Command) → IsCommand words command → ⊥
 unwindowed_words words first from to three none Run spoken = let same = sym three ∙ spoken in cc
 unwindowed_words words first from to three none Check spoken = let same = sym three ∙ spoken in cc
 unwindowed_words words first from to three none Weak spoken = let same = sym three ∙ spoken in cc
@@ -239,14 +271,17 @@ unwindowed_words words first from to three none (Make sizes) spoken = let same =
 unwindowed_words words first from to three none (Large sizes) spoken = let same = sym three ∙ spoken.each_word in cc
 
 -- two words, each by its place
-pub two_words : (words : List (String Global)) (a b : String Global) → 2 ≤ length words → length words < 3 → a ≡ get_or words 0 a → b ≡ get_or words 1 b → map (string_bytes {Z = Global}) words ≡ string_bytes a ∷ string_bytes b ∷ []
+pub two_words : (words : List (String Global)) (a b : String Global) → 2 ≤ length words → length words < 3 → a ≡ get_or words 0 a
+    → b ≡ get_or words 1 b → map (string_bytes {Z = Global}) words ≡ string_bytes a ∷ string_bytes b ∷ []
 two_words (v ∷ w ∷ []) a b least most one two = rw (one, two) refl
 two_words [] a b least most one two = absurd (omega arith)
 two_words (v ∷ []) a b least most one two = absurd (omega arith)
 two_words (v ∷ w ∷ u ∷ more) a b least most one two = absurd (omega arith)
 
 -- three words, each by its place
-pub three_words : (words : List (String Global)) (a b c : String Global) → 3 ≤ length words → length words < 4 → a ≡ get_or words 0 a → b ≡ get_or words 1 b → c ≡ get_or words 2 c → map (string_bytes {Z = Global}) words ≡ string_bytes a ∷ string_bytes b ∷ string_bytes c ∷ []
+pub three_words : (words : List (String Global)) (a b c : String Global) → 3 ≤ length words → length words < 4 → a ≡ get_or words 0 a
+    → b ≡ get_or words 1 b → c ≡ get_or words 2 c → map (string_bytes {Z = Global}) words ≡ string_bytes a ∷ string_bytes b ∷ string_bytes c
+    ∷ []
 three_words (v ∷ w ∷ x ∷ []) a b c least most one two three = rw (one, two, three) refl
 three_words [] a b c least most one two three = absurd (omega arith)
 three_words (v ∷ []) a b c least most one two three = absurd (omega arith)
@@ -254,7 +289,8 @@ three_words (v ∷ w ∷ []) a b c least most one two three = absurd (omega arit
 three_words (v ∷ w ∷ x ∷ u ∷ more) a b c least most one two three = absurd (omega arith)
 
 -- five words, each by its place
-pub five_words : (words : List (String Global)) (a b c d e : String Global) → 5 ≤ length words → length words < 6 → a ≡ get_or words 0 a → b ≡ get_or words 1 b → c ≡ get_or words 2 c → d ≡ get_or words 3 d → e ≡ get_or words 4 e
+pub five_words : (words : List (String Global)) (a b c d e : String Global) → 5 ≤ length words → length words < 6 → a ≡ get_or words 0 a
+    → b ≡ get_or words 1 b → c ≡ get_or words 2 c → d ≡ get_or words 3 d → e ≡ get_or words 4 e
     → map (string_bytes {Z = Global}) words ≡ string_bytes a ∷ string_bytes b ∷ string_bytes c ∷ string_bytes d ∷ string_bytes e ∷ []
 five_words (v ∷ w ∷ x ∷ y ∷ z ∷ []) a b c d e least most one two three four five = rw (one, two, three, four, five) refl
 five_words [] a b c d e least most one two three four five = absurd (omega arith)

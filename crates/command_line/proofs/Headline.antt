@@ -9,7 +9,8 @@ use Rattle.trace_reader.specs.declared.posted.Posted.{Posted}
 use Rattle.trace_reader.specs.InputText.{IsInputText}
 use Rattle.command_line.specs.Run.{Replays, IsTextOfReplay}
 
-pub headline : (read put : List ℕ) (version : ℕ) (set : SetData) (events : List Posted) → IsInputText version read set events → (made : IsTextOfReplay version set events put)
+pub headline : (read put : List ℕ) (version : ℕ) (set : SetData) (events : List Posted) → IsInputText version read set events
+    → (made : IsTextOfReplay version set events put)
     → (replays : Replays read put) × (replays.set ≡ set) × (replays.history ≡ made.history)
 headline read put version set events input made = (
   record {
@@ -23,7 +24,8 @@ headline read put version set events input made = (
     merge = made.merge;
     legal = made.legal;
     best = legal_is_best set input.says.valid made.history made.legal;
-    no_improving_chain = passing_has_no_improving_chain set input.says.valid made.history (legal_passes (start_of set) made.history (IsState-start set input.says.valid) made.legal);
+    no_improving_chain = passing_has_no_improving_chain set input.says.valid made.history
+        (legal_passes (start_of set) made.history (IsState-start set input.says.valid) made.legal);
     contexts = made.contexts;
   },
   refl,

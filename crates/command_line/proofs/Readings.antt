@@ -1,5 +1,6 @@
 -- What an observer saw, by the history of which it saw the pictures.
-use Rattle.std.proofs.Common.{◌≡◌, ℕ, ◌<◌, ◌≤◌, Bool, true, false, ◌&&◌, nat_lt, List, take, map, All, None, refl, sym, ap, ◌∙◌, inl, inr, arith}
+use Rattle.std.proofs.Common.{◌≡◌, ℕ, ◌<◌, ◌≤◌, Bool, true, false, ◌&&◌, nat_lt, List, take, map, All, None, refl, sym, ap, ◌∙◌, inl, inr}
+use Rattle.std.proofs.Common.{arith}
 use Rattle.std.specs.Prelude.{is_some}
 use Rattle.std.proofs.lemmas.Bool.{cases_lt, lt-ltb}
 use Rattle.std.proofs.lemmas.List.{take_all, get_or_past}
@@ -31,7 +32,8 @@ not_below : (p : ℕ) → 64 ≤ p → nat_lt p 64 ≡ false
 not_below p past = grind arith
 
 -- the processors that a picture shows as occupied are those of the state
-occupied_set : (s : State) → IsState s → (picture : Picture) → ((p : ℕ) → p < 64 → task_at picture p ≡ task_on s p) → IsOccupiedSet s (snapshot_of picture).occupied
+occupied_set : (s : State) → IsState s → (picture : Picture) → ((p : ℕ) → p < 64 → task_at picture p ≡ task_on s p)
+    → IsOccupiedSet s (snapshot_of picture).occupied
 occupied_set s ok picture links p =
     has-set_below (λ (q : ℕ). is_some (task_at picture q)) 64 p
     ∙ elim (cases_lt p 64) [
@@ -40,8 +42,10 @@ occupied_set s ok picture links p =
     ]
 
 module _ (set : SetData) (history : List Entry) (valid : IsTaskSet set) (legal : IsLegal set history) where
-  snapshot_seen : (picture : Picture) → IsPictureOf set.processors (take picture.count history) picture → IsSnapshotOf set history (snapshot_of picture)
-  snapshot_seen picture drawn = occupied_set (state_at set history picture.count) (IsState-state_at set history picture.count valid legal) picture (drawn.links set refl)
+  snapshot_seen : (picture : Picture) → IsPictureOf set.processors (take picture.count history) picture
+      → IsSnapshotOf set history (snapshot_of picture)
+  snapshot_seen picture drawn = occupied_set (state_at set history picture.count) (IsState-state_at set history picture.count valid legal)
+      picture (drawn.links set refl)
 
   -- what was seen is what is read
   pub reading_seen : (seen : Sighting) → IsSightingOf set history seen → IsReadingOf set history (reading_of seen)
@@ -57,5 +61,6 @@ module _ (set : SetData) (history : List Entry) (valid : IsTaskSet set) (legal :
         whole = whole;
       }
 
-  pub readings_seen : (sightings : List Sighting) → All (IsSightingOf set history) sightings → All (IsReadingOf set history) (map reading_of sightings)
+  pub readings_seen : (sightings : List Sighting) → All (IsSightingOf set history) sightings
+      → All (IsReadingOf set history) (map reading_of sightings)
   readings_seen sightings says = All-map (IsReadingOf set history) reading_of sightings (λ k d within. reading_seen _ (says k d within))

@@ -23,7 +23,11 @@ writable_history read put replayed =
     let input_few = replayed.input.says.few in
     record {
       known = input_version replayed.version read replayed.set replayed.events replayed.input;
-      tasks = record { valid = replayed.input.says.valid; priorities = input_priorities replayed.version read replayed.set replayed.events replayed.input };
+      tasks = record {
+        valid = replayed.input.says.valid;
+        priorities = input_priorities replayed.version read replayed.set replayed.events
+            replayed.input;
+      };
       few = omega arith;
       posted = merge_posted (IsOfFormat replayed.version) replayed.events replayed.history posted replayed.merge;
       legal = replayed.legal;
@@ -36,7 +40,9 @@ is_run_of read put replayed =
         replayed = replayed;
         schedule = record { version = replayed.version; set = replayed.set; entries = replayed.history; contexts = replayed.printed };
         is_text = record {
-          is_schedule = subst (λ (contexts : List Context). IsSchedule (record { version = replayed.version; set = replayed.set; entries = replayed.history; contexts = contexts })) (sym replayed.contexts) made.0;
+          is_schedule = subst (λ (contexts : List Context). IsSchedule
+              (record { version = replayed.version; set = replayed.set; entries = replayed.history; contexts = contexts }))
+              (sym replayed.contexts) made.0;
           text = replayed.text;
         };
         valid = record { passing = made.1.passing; contexts = replayed.contexts };
@@ -46,7 +52,8 @@ is_run_of read put replayed =
     )
 
 -- the schedule text of a replay of an input is that of a run, which is of the same set and of the replay's history
-pub run_of_replay : (read put : List ℕ) (version : ℕ) (set : SetData) (events : List Posted) → IsInputText version read set events → (made : IsTextOfReplay version set events put)
+pub run_of_replay : (read put : List ℕ) (version : ℕ) (set : SetData) (events : List Posted) → IsInputText version read set events
+    → (made : IsTextOfReplay version set events put)
     → (run : IsRunOf read put) × (run.replayed.set ≡ set) × (run.replayed.history ≡ made.history)
 run_of_replay read put version set events input made =
     let replays = headline read put version set events input made in
@@ -54,7 +61,8 @@ run_of_replay read put version set events input made =
     (run.0, ap (λ (r : Replays read put). r.set) run.1 ∙ replays.1, ap (λ (r : Replays read put). r.history) run.1 ∙ replays.2)
 
 -- and with what observers read of it, that of a watch
-pub is_watch_of : (observers : ℕ) (read put : List ℕ) (version : ℕ) (set : SetData) (events : List Posted) → IsInputText version read set events → IsTextOfWatch observers version set events put → IsWatchOf observers read put
+pub is_watch_of : (observers : ℕ) (read put : List ℕ) (version : ℕ) (set : SetData) (events : List Posted)
+    → IsInputText version read set events → IsTextOfWatch observers version set events put → IsWatchOf observers read put
 is_watch_of observers read put version set events input made =
     let run = run_of_replay read made.schedule version set events input made.replayed in
     record {

@@ -19,10 +19,13 @@ text_of version set history = schedule_text version set history (contexts_of set
 pub one_text : (read put other : List ℕ) (first : Replays read put) → IsOnOneStream first.events → Replays read other → other ≡ put
 one_text read put other first one second =
     let stream = one.0 in
-    let same = text_has_one_input read second.version first.version second.set first.set second.events first.events second.input first.input in
+    let same = text_has_one_input read second.version first.version second.set first.set second.events first.events second.input
+    first.input in
     let merge : IsMerge first.events second.history = subst (λ (events : List Posted). IsMerge events second.history) same.2 second.merge in
-    let histories : second.history ≡ first.history = legal_history_is_unique first.set second.history first.history first.input.says.valid (rw same.1 at second.legal) first.legal
-    (pairs_same stream second.history first.history (callers_same stream first.events second.history one.1 merge) (callers_same stream first.events first.history one.1 first.merge)
+    let histories : second.history ≡ first.history = legal_history_is_unique first.set second.history first.history first.input.says.valid
+    (rw same.1 at second.legal) first.legal
+    (pairs_same stream second.history first.history (callers_same stream first.events second.history one.1 merge)
+    (callers_same stream first.events first.history one.1 first.merge)
     (events_same stream first.events second.history one.1 merge ∙ sym (events_same stream first.events first.history one.1 first.merge))) in
     second.text ∙ ap (schedule_text second.version second.set second.history) second.contexts
     ∙ ap (λ (version : ℕ). text_of version second.set second.history) same.0

@@ -27,7 +27,8 @@ unfolding set_below
 has-set_below test zero q = has-zero q ∙ not_below_zero q (test q)
 has-set_below test (suc n) q = go (has-set_below test n q) (test n) refl
   where
-    go : has (set_below test n) q ≡ (nat_lt q n && test q) → (b : Bool) → test n ≡ b → has (if b then with_member (set_below test n) n else set_below test n) q ≡ (nat_lt q (suc n) && test q)
+    go : has (set_below test n) q ≡ (nat_lt q n && test q) → (b : Bool) → test n ≡ b
+        → has (if b then with_member (set_below test n) n else set_below test n) q ≡ (nat_lt q (suc n) && test q)
     go below true passes = has-with_member (set_below test n) n q ∙ ap (λ (b : Bool). b || nat_eq q n) below ∙ added q n true test passes
     go below false fails = below ∙ kept q n test fails
 
@@ -36,4 +37,6 @@ and_same a b f = grind arith
 
 -- a set of processors is the set of those that pass a test that says who is in it
 pub shown_set : (X : ℕ) (test : ℕ → Bool) → Within X (all_below 64) → ((p : ℕ) → has X p ≡ test p) → X ≡ set_below test 64
-shown_set X test within members = same_set X (set_below test 64) (λ p. and_same (has X p) (nat_lt p 64) (λ inside. sym (has-all_below 64 p) ∙ within p inside) ∙ ap (λ (b : Bool). nat_lt p 64 && b) (members p) ∙ sym (has-set_below test 64 p))
+shown_set X test within members = same_set X (set_below test 64)
+    (λ p. and_same (has X p) (nat_lt p 64) (λ inside. sym (has-all_below 64 p) ∙ within p inside)
+    ∙ ap (λ (b : Bool). nat_lt p 64 && b) (members p) ∙ sym (has-set_below test 64 p))

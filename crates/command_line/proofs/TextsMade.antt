@@ -8,9 +8,11 @@ use Rattle.commands.specs.Refusal.{IsAccepted, IsAnsweredInput, RefusesInput}
 use Rattle.commands.specs.declared.status.Status.{Status}
 use Rattle.commands.specs.declared.status.Status.TheVariants.{OutOfMemory}
 
-pub answers_made : (IsMadeOf Makes : List ℕ → Type 0) (bytes : List ℕ) (result : Result (Vec ℕ Global) Status) → ((put : List ℕ) → IsMadeOf put → Makes put)
+pub answers_made : (IsMadeOf Makes : List ℕ → Type 0) (bytes : List ℕ) (result : Result (Vec ℕ Global) Status)
+    → ((put : List ℕ) → IsMadeOf put → Makes put)
     → IfOk result (λ (text : Vec ℕ Global). IsMadeOf text.items) → IfErr result (λ (status : Status). status ≡ OutOfMemory)
-    → ((line : ℕ) (cause : InputKind) → IsInputRefused bytes line cause → ⊥) → Answers Makes (IsAccepted bytes) (IsAnsweredInput (RefusesInput bytes)) result
+    → ((line : ℕ) (cause : InputKind) → IsInputRefused bytes line cause → ⊥)
+    → Answers Makes (IsAccepted bytes) (IsAnsweredInput (RefusesInput bytes)) result
 answers_made IsMadeOf Makes bytes (Ok text) makes made refused unrefused = record {
   makes = makes text.items made;
   refused = tt;

@@ -1,4 +1,5 @@
--- The commands: the words that they are, what they read, what they make of it, and what they refuse, each with one answer.
+-- The commands: the words that they are, what they read, what they make of it, and what they
+-- refuse, each with one answer.
 use Rattle.std.specs.Prelude.{◌≡◌, ◌⊎◌, ℕ, ◌≤◌, List, [], ◌∷◌, codes, Option}
 use Rattle.text_fields.specs.Number.{IsNumberWithin}
 use Rattle.commands.specs.Reading.{text_limit, trace_limit, ReadsAll, IsReported}
@@ -26,7 +27,10 @@ use Rattle.command_line.specs.Large.{IsLargeOf}
 use Rattle.command_line.specs.Run.{IsRunOf}
 use Rattle.command_line.specs.Watch.{IsWatchOf}
 use Rattle.command_line.specs.declared.words.Command.{Command}
-use Rattle.command_line.specs.declared.words.Command.TheVariants.{Run, Check, Weak, Nested, Jobs, WeakJobs, RunJobs, Watch, Import, ImportJobs, Draw, Chrome, Lost, Make, Large}
+use Rattle.command_line.specs.declared.words.Command.TheVariants.{Run, Check, Weak, Nested, Jobs}
+use Rattle.command_line.specs.declared.words.Command.TheVariants.{WeakJobs, RunJobs, Watch, Import}
+use Rattle.command_line.specs.declared.words.Command.TheVariants.{ImportJobs, Draw, Chrome, Lost}
+use Rattle.command_line.specs.declared.words.Command.TheVariants.{Make, Large}
 
 -- ---- words
 -- a number, and then how many processors, tasks and events there are; leading zeros are no fault
@@ -56,7 +60,8 @@ pub record IsChromeAlone (words : List (List ℕ)) (start : ℕ) : Type 0 where
   pub each_word : words ≡ codes "chrome" ∷ []
   pub from_zero : start ≡ 0
 
--- the word `chrome`, and the moment at which the trace begins, a number below 2^53; leading zeros are no fault
+-- the word `chrome`, and the moment at which the trace begins, a number below 2^53; leading zeros
+-- are no fault
 pub record IsChromeAt (words : List (List ℕ)) (start : ℕ) : Type 0 where
   pub number : List ℕ
   pub each_word : words ≡ codes "chrome" ∷ number ∷ []
@@ -97,7 +102,8 @@ IsCommand words RunJobs = words ≡ codes "runjobs" ∷ []
 IsCommand words (Watch observers) = IsWatch words observers
 IsCommand words Import = words ≡ codes "import" ∷ []
 IsCommand words ImportJobs = words ≡ codes "importjobs" ∷ []
-IsCommand words (Draw axis window) = IsOfWhole (word_of axis) words window ⊎ IsOfPart (word_of axis) words window
+IsCommand words (Draw axis window) =
+    IsOfWhole (word_of axis) words window ⊎ IsOfPart (word_of axis) words window
 IsCommand words (Chrome start) = IsChromeAlone words start ⊎ IsChromeAt words start
 IsCommand words Lost = words ≡ codes "lost" ∷ []
 IsCommand words (Make sizes) = IsSized (codes "make") words sizes
@@ -224,7 +230,8 @@ Refuses (Make sizes) bytes status = ⊥
 Refuses (Large sizes) bytes status = ⊥
 
 -- the words mean a command, which read what it is to read, and makes this of it
-pub record ReadsAndMakes (words : List (List ℕ)) (old new : Option (List ℕ)) (put : List ℕ) : Type 0 where
+pub record ReadsAndMakes (words : List (List ℕ)) (old new : Option (List ℕ))
+    (put : List ℕ) : Type 0 where
   pub command : Command
   pub spoken : IsCommand words command
   pub read : List ℕ
@@ -232,7 +239,8 @@ pub record ReadsAndMakes (words : List (List ℕ)) (old new : Option (List ℕ))
   pub made : Makes command read put
 
 -- the words mean a command, which read what it is to read, and refuses it with this answer
-pub record ReadsRefused (words : List (List ℕ)) (old new : Option (List ℕ)) (status : Status) : Type 0 where
+pub record ReadsRefused (words : List (List ℕ)) (old new : Option (List ℕ))
+    (status : Status) : Type 0 where
   pub command : Command
   pub spoken : IsCommand words command
   pub read : List ℕ

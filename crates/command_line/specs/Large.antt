@@ -11,15 +11,16 @@ use Rattle.commands.specs.Generating.{IsInputOf}
 use Rattle.commands.specs.Summary.{summary_text}
 use Rattle.commands.specs.declared.sizes.Sizes.{Sizes}
 
--- the schedule of these events: the history has an entry for each event, in their order, and is legal; and the context
--- of each task, in task order, is the one that the history gives it
-pub record Schedules (set : SetData) (events : List Posted) (entries : List Entry) (contexts : List Context) : Type 0 where
+-- the schedule of these events: the history has an entry for each event, in their order, and is
+-- legal; and the context of each task, in task order, is the one that the history gives it
+pub record Schedules (set : SetData) (events : List Posted) (entries : List Entry)
+    (contexts : List Context) : Type 0 where
   pub each_event : map posted_of entries ≡ events
   pub legal : IsLegal set entries
   pub each_context : contexts ≡ contexts_of set entries
 
--- the text is the summary of a legal history of the events of the input of these numbers, in their order, and of the
--- contexts that it gives
+-- the text is the summary of a legal history of the events of the input of these numbers, in their
+-- order, and of the contexts that it gives
 pub record Summarizes (sizes : Sizes) (put : List ℕ) : Type 0 where
   pub set : SetData
   pub events : List Posted

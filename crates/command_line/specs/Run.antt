@@ -1,6 +1,7 @@
--- What a replay of an input is: the bytes read are the text of one input, and the bytes written are the schedule text of one
--- history, which is a legal merge of its events, keeps the best set linked after every entry, so that no chain of shifts would
--- bring a waiting task in without displacing a more urgent one, and gives the contexts that are printed.
+-- What a replay of an input is: the bytes read are the text of one input, and the bytes written are
+-- the schedule text of one history, which is a legal merge of its events, keeps the best set linked
+-- after every entry, so that no chain of shifts would bring a waiting task in without displacing a
+-- more urgent one, and gives the contexts that are printed.
 use Rattle.strong_apa.specs.Dispatch.{contexts_of}
 use Rattle.std.specs.Prelude.{◌≡◌, ℕ, List}
 use Rattle.task_set.specs.TaskSet.{SetData}
@@ -30,17 +31,20 @@ pub record Replays (read put : List ℕ) : Type 0 where
   pub no_improving_chain : HasNoImprovingChainThroughout set history
   pub contexts : printed ≡ contexts_of set history
 
--- the headline; where the events read are of one stream, it allows no other text, so that the bytes written are one function
--- of the bytes read; and the bytes written are the text of a valid schedule, as a check says of it
+-- the headline; where the events read are of one stream, it allows no other text, so that the bytes
+-- written are one function of the bytes read; and the bytes written are the text of a valid
+-- schedule, as a check says of it
 pub record IsRunOf (read put : List ℕ) : Type 0 where
   pub replayed : Replays read put
   pub schedule : ScheduleData
   pub is_text : IsTextOf put schedule
   pub valid : IsValid schedule
-  pub one_stream : IsOnOneStream replayed.events → (other : List ℕ) → Replays read other → other ≡ put
+  pub one_stream : IsOnOneStream replayed.events → (other : List ℕ) → Replays read other
+      → other ≡ put
 
 -- the schedule text of one replay of these events, with the contexts that its history gives
-pub record IsTextOfReplay (version : ℕ) (set : SetData) (events : List Posted) (put : List ℕ) : Type 0 where
+pub record IsTextOfReplay (version : ℕ) (set : SetData) (events : List Posted)
+    (put : List ℕ) : Type 0 where
   pub history : List Entry
   pub printed : List Context
   pub merge : IsMerge events history

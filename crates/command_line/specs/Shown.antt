@@ -13,8 +13,13 @@ set_below test (suc n) = if test n then with_member (set_below test n) n else se
 
 -- the snapshot that a picture shows
 abbrev pub snapshot_of : Picture → Snapshot
-snapshot_of picture = record { count = picture.count; occupied = set_below (λ p. is_some (task_at picture p)) 64 }
+snapshot_of picture =
+    record { count = picture.count; occupied = set_below (λ p. is_some (task_at picture p)) 64 }
 
 -- what an observer read, by the pictures that it saw
 abbrev pub reading_of : Sighting → Reading
-reading_of seen = record { first = snapshot_of seen.first; last = snapshot_of seen.last; told = snapshot_of seen.told }
+reading_of seen = record {
+  first = snapshot_of seen.first;
+  last = snapshot_of seen.last;
+  told = snapshot_of seen.told;
+}

@@ -1,17 +1,19 @@
--- The text of what observers read: how many observers there are, a line for each of them, and the end. A snapshot says how
--- many entries there were, and which processors were occupied after them.
+-- The text of what observers read: how many observers there are, a line for each of them, and the
+-- end. A snapshot says how many entries there were, and which processors were occupied after them.
 use Rattle.std.specs.Prelude.{ℕ, List, ◌++◌, codes, length}
 use Rattle.std.specs.List.{flat_map, enumerate_from}
 use Rattle.affinity_mask.specs.Number.{canonical_number}
 use Rattle.text_fields.specs.LineText.{line}
 use Rattle.schedule_text.specs.ScheduleText.{set_text}
 
--- how many entries of a history there were, and the set of the processors that were occupied after them
+-- how many entries of a history there were, and the set of the processors that were occupied after
+-- them
 pub record Snapshot : Type 0 where
   pub count : ℕ
   pub occupied : ℕ
 
--- what an observer read: the first and the last of its reads beside the posts, and the one after it was told of all entries
+-- what an observer read: the first and the last of its reads beside the posts, and the one after it
+-- was told of all entries
 pub record Reading : Type 0 where
   pub first : Snapshot
   pub last : Snapshot

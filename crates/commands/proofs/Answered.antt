@@ -15,13 +15,16 @@ use Rattle.commands.specs.declared.status.Status.TheVariants.{OutOfMemory}
 use Rattle.commands.proofs.Refusals.{memory_of_fault, refusal_of_fault, status_of_refused}
 
 -- out of memory may come in place of each answer
-pub answers_memory : {Makes : List ℕ → Type 0} {Accepts : Type 0} {Refuses : Status → Type 0} → Answers Makes Accepts Refuses (Err OutOfMemory)
+pub answers_memory : {Makes : List ℕ → Type 0} {Accepts : Type 0} {Refuses : Status → Type 0}
+    → Answers Makes Accepts Refuses (Err OutOfMemory)
 answers_memory = record { makes = tt; refused = inr refl; accepts = λ a. refl; refuses = λ expected why. inr refl }
 
 -- the fault of an input text, as `read_input` has it
-pub answers_fault : {Makes : List ℕ → Type 0} (bytes : List ℕ) (fault : InputFault) → ((version : ℕ) (set : SetData) (events : List Posted) → IsInputText version bytes set events → fault.kind ≡ kind.OutOfMemory)
+pub answers_fault : {Makes : List ℕ → Type 0} (bytes : List ℕ) (fault : InputFault)
+    → ((version : ℕ) (set : SetData) (events : List Posted) → IsInputText version bytes set events → fault.kind ≡ kind.OutOfMemory)
     → (fault.kind ≡ kind.OutOfMemory) ⊎ IsInputRefused bytes fault.line fault.kind
-    → ((line : ℕ) (cause : InputKind) → IsInputRefused bytes line cause → (fault.kind ≡ kind.OutOfMemory) ⊎ ((fault.line ≡ line) × (fault.kind ≡ cause)))
+    → ((line : ℕ) (cause : InputKind) → IsInputRefused bytes line cause → (fault.kind ≡ kind.OutOfMemory)
+    ⊎ ((fault.line ≡ line) × (fault.kind ≡ cause)))
     → Answers Makes (IsAccepted bytes) (IsAnsweredInput (RefusesInput bytes)) (Err (status_of_fault fault))
 answers_fault bytes fault accepts refused refuses = record {
   makes = tt;

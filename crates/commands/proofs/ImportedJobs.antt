@@ -12,7 +12,8 @@ use Rattle.trace_losses.specs.declared.job.TraceJob.{TraceJob}
 use Rattle.trace_losses.proofs.OneJobs.{one_jobs}
 use Rattle.commands.specs.Answers.{Answers}
 use Rattle.commands.specs.Lost.{AcceptsTaskTrace, RefusesTaskTrace}
-use Rattle.commands.specs.ImportJobs.{moments_of, AreJobsIn, IsHorizon, listed, job_text, IsImportedJobsOf, AcceptsJobTrace, IsRefusedList, RefusesJobTrace}
+use Rattle.commands.specs.ImportJobs.{moments_of, AreJobsIn, IsHorizon, listed, job_text, IsImportedJobsOf, AcceptsJobTrace, IsRefusedList}
+use Rattle.commands.specs.ImportJobs.{RefusesJobTrace}
 use Rattle.commands.specs.declared.status.Status.{Status}
 use Rattle.commands.specs.declared.status.Status.TheVariants.{Input, OutOfMemory}
 
@@ -76,7 +77,8 @@ module _ (bytes : List ℕ) (trace : TaskTraceData) (is_text : IsTaskTraceText b
       | inl cause ↦ unrefused why.number cause.cause cause.refused
       | inr list ↦
           fits_or_not (moments_of trace) (length jobs) why.kind fits few
-          (held (λ (span count : ℕ). IsRefusedList span count why.kind) list.trace list.cause.jobs list.is_text list.cause.are list.cause.cause)
+          (held (λ (span count : ℕ). IsRefusedList span count why.kind) list.trace list.cause.jobs list.is_text list.cause.are
+          list.cause.cause)
     ]
 
     pub answers_jobs : (put : Vec ℕ Global) → IsTaskTrace bytes trace → put.items ≡ job_text trace (map listed jobs)
@@ -93,7 +95,8 @@ module _ (bytes : List ℕ) (trace : TaskTraceData) (is_text : IsTaskTraceText b
       refuses = λ expected why. accepted_unrefused expected why;
     }
 
-  module _ (line kind : ℕ) (after_last : line ≡ length (lines_of bytes) + 1) (cause : IsRefusedList (moments_of trace) (length jobs) kind) where
+  module _ (line kind : ℕ) (after_last : line ≡ length (lines_of bytes) + 1)
+      (cause : IsRefusedList (moments_of trace) (length jobs) kind) where
     not_accepted : AcceptsJobTrace bytes → ⊥
     not_accepted accepted =
         let has = accepted.has in
@@ -106,7 +109,8 @@ module _ (bytes : List ℕ) (trace : TaskTraceData) (is_text : IsTaskTraceText b
       | inl found ↦ absurd (unrefused why.number found.cause found.refused)
       | inr list ↦ (
           let other =
-          held (λ (span count : ℕ). IsRefusedList span count why.kind) list.trace list.cause.jobs list.is_text list.cause.are list.cause.cause in
+          held (λ (span count : ℕ). IsRefusedList span count why.kind) list.trace list.cause.jobs list.is_text list.cause.are
+          list.cause.cause in
           let kinds : kind ≡ why.kind = one_kind (moments_of trace) (length jobs) kind why.kind cause other in
           let lines : line ≡ why.number = after_last ∙ sym list.after_last in
           ap (λ (n : ℕ). Input n kind) lines ∙ ap (Input why.number) kinds ∙ sym why.answer)

@@ -1,12 +1,14 @@
 -- A legal history of posted entries is that of a valid schedule: its replies pass, they name tasks of the set and processors
 -- below 64, and the contexts that it gives have numbers of the format. So it can be written, and its text can be read.
-use Rattle.std.proofs.Common.{◌≡◌, ℕ, zero, suc, ◌+◌, ◌*◌, ◌-◌, ◌%◌, ◌^◌, ◌<◌, ◌≤◌, ◌&&◌, not, List, [], ◌∷◌, length, map, All, IfSome, refl, ◌∙◌, arith}
+use Rattle.std.proofs.Common.{◌≡◌, ℕ, zero, suc, ◌+◌, ◌*◌, ◌-◌, ◌%◌, ◌^◌, ◌<◌, ◌≤◌, ◌&&◌, not, List, [], ◌∷◌, length, map, All, IfSome}
+use Rattle.std.proofs.Common.{refl, ◌∙◌, arith}
 use Rattle.std.specs.Prelude.{slice_get}
 use Rattle.std.specs.List.{range_with_len}
 use Rattle.std.proofs.lemmas.Bool.{lt-ltb}
 use Rattle.std.proofs.lemmas.List.{length-map}
 use Rattle.std.proofs.lemmas.List.Elements.{All-nil, All-cons, All-head, All-tail, All-append, All-filter, All-weaker}
-use Rattle.std.proofs.lemmas.List.FromFn.{length-range_with_len, get_or-range_with_len, length-map-range_with_len, get_or-map-range_with_len}
+use Rattle.std.proofs.lemmas.List.FromFn.{length-range_with_len, get_or-range_with_len, length-map-range_with_len}
+use Rattle.std.proofs.lemmas.List.FromFn.{get_or-map-range_with_len}
 use Rattle.affinity_mask.proofs.Sets.{has-all_below}
 use Rattle.task_set.specs.TaskSet.{TaskData, SetData}
 use Rattle.task_set.specs.declared.event.Event.{Event}
@@ -51,14 +53,16 @@ module _ (s : State) (ok : IsState s) where
 abbrev IsKnownReply : ℕ → Reply → Type 0
 IsKnownReply count reply = All (λ t. t < count) (tasks_named reply) × HasProcessors reply
 
-known_reply : (count : ℕ) (s : State) (event : Event) (reply : Reply) (new : State) → IsState s → task_count s ≡ count → SchedulerStep s event reply new → IsKnownReply count reply
+known_reply : (count : ℕ) (s : State) (event : Event) (reply : Reply) (new : State) → IsState s → task_count s ≡ count
+    → SchedulerStep s event reply new → IsKnownReply count reply
 known_reply count s event reply new ok same step =
     let on = step_is_on s event reply new ok step in
     (rw (← same) on.tasks, reply_processors s ok reply on.chains on.sets)
 
 -- ---- the entries
 -- the event is of a task and a processor of the set
-about_step : (set : SetData) (s : State) (event : Event) (reply : Reply) (new : State) → task_count s ≡ length set.tasks → s.processors ≡ set.processors → SchedulerStep s event reply new → IsAboutSet set event
+about_step : (set : SetData) (s : State) (event : Event) (reply : Reply) (new : State) → task_count s ≡ length set.tasks
+    → s.processors ≡ set.processors → SchedulerStep s event reply new → IsAboutSet set event
 about_step set s (Arrive t) reply new same machine step = rw (← same) step.0
 about_step set s (Depart t) reply new same machine step = rw (← same) step.0
 about_step set s (Tick units) reply new same machine step = tt
@@ -66,20 +70,24 @@ about_step set s (Affinity t mask) reply new same machine step = (rw (← same) 
 about_step set s (Offline p) reply new same machine step = rw (← machine) step.0
 about_step set s (Online p) reply new same machine step = rw (← machine) step.0
 
-about_from : (set : SetData) (s : State) (history : List Entry) → task_count s ≡ length set.tasks → s.processors ≡ set.processors → IsLegalFrom s history → All (λ (e : Entry). IsAboutSet set e.event) history
+about_from : (set : SetData) (s : State) (history : List Entry) → task_count s ≡ length set.tasks → s.processors ≡ set.processors
+    → IsLegalFrom s history → All (λ (e : Entry). IsAboutSet set e.event) history
 about_from set s [] same machine legal = All-nil (λ (e : Entry). IsAboutSet set e.event)
 about_from set s (entry ∷ rest) same machine legal =
     All-cons (λ (e : Entry). IsAboutSet set e.event) entry rest
     (about_step set s entry.event entry.reply (effect_of s entry) same machine legal.0)
-    (about_from set (effect_of s entry) rest (same_count s (effect_of s entry) (same_tasks-effect s entry) ∙ same) ((same_tasks-effect s entry).processors ∙ machine) legal.1)
+    (about_from set (effect_of s entry) rest (same_count s (effect_of s entry) (same_tasks-effect s entry) ∙ same)
+    ((same_tasks-effect s entry).processors ∙ machine) legal.1)
 
-replies_from : (count : ℕ) (s : State) (history : List Entry) → IsState s → task_count s ≡ count → IsLegalFrom s history → All (λ (e : Entry). IsKnownReply count e.reply) history
+replies_from : (count : ℕ) (s : State) (history : List Entry) → IsState s → task_count s ≡ count → IsLegalFrom s history
+    → All (λ (e : Entry). IsKnownReply count e.reply) history
 replies_from count s [] ok same legal = All-nil (λ (e : Entry). IsKnownReply count e.reply)
 replies_from count s (entry ∷ rest) ok same legal =
     let next = effect_of s entry in
     All-cons (λ (e : Entry). IsKnownReply count e.reply) entry rest
     (known_reply count s entry.event entry.reply next ok same legal.0)
-    (replies_from count next rest (step_keeps_state s entry.event entry.reply next ok legal.0) (same_count s next (same_tasks-effect s entry) ∙ same) legal.1)
+    (replies_from count next rest (step_keeps_state s entry.event entry.reply next ok legal.0)
+    (same_count s next (same_tasks-effect s entry) ∙ same) legal.1)
 
 -- ---- the contexts
 -- a history takes a task on processors that there are
@@ -118,13 +126,16 @@ given_context s history t few number = record {
   trail = trail_below t (runs_of s history t) (omega arith);
 }
 
-contexts_in_order : (s : State) (history : List Entry) (n : ℕ) → s.processors ≤ 64 → n ≤ 1024 → AreInOrder (map (context_of s history) (range_with_len 0 n))
+contexts_in_order : (s : State) (history : List Entry) (n : ℕ) → s.processors ≤ 64 → n ≤ 1024
+    → AreInOrder (map (context_of s history) (range_with_len 0 n))
 contexts_in_order s history n few most t context within =
     let long = length-map-range_with_len (context_of s history) 0 n in
-    rw (get_or-map-range_with_len (context_of s history) 0 n t t context (omega arith) (omega arith)) (given_context s history t few (omega arith))
+    rw (get_or-map-range_with_len (context_of s history) 0 n t t context (omega arith) (omega arith))
+    (given_context s history t few (omega arith))
 
 -- ---- the schedule
-legal_schedule : (version : ℕ) (set : SetData) (history : List Entry) → IsWritableHistory version set history → IsSchedule (schedule_of version set history)
+legal_schedule : (version : ℕ) (set : SetData) (history : List Entry) → IsWritableHistory version set history
+    → IsSchedule (schedule_of version set history)
 legal_schedule version set history writable =
     let valid = writable.tasks.valid in
     let start = start_of set in
@@ -136,12 +147,19 @@ legal_schedule version set history writable =
       known = writable.known;
       tasks = writable.tasks;
       few = writable.few;
-      each_entry = λ k d within. record { caller = (writable.posted k d within).0; tasks = record { event = about k d within; reply = (known k d within).0 }; of_version = record { event = (of_version k d within).0; reply = (of_version k d within).1 }; units = (writable.posted k d within).1; processors = (known k d within).1 };
+      each_entry = λ k d within. record {
+        caller = (writable.posted k d within).0;
+        tasks = record { event = about k d within; reply = (known k d within).0 };
+        of_version = record { event = (of_version k d within).0; reply = (of_version k d within).1 };
+        units = (writable.posted k d within).1;
+        processors = (known k d within).1;
+      };
       one_each = length-map-range_with_len (context_of start history) 0 (length set.tasks);
       in_order = contexts_in_order start history (length set.tasks) valid.processors.1 valid.count;
     }
 
-pub legal_is_valid : (version : ℕ) (set : SetData) (history : List Entry) → IsWritableHistory version set history → IsSchedule (schedule_of version set history) × IsValid (schedule_of version set history)
+pub legal_is_valid : (version : ℕ) (set : SetData) (history : List Entry) → IsWritableHistory version set history
+    → IsSchedule (schedule_of version set history) × IsValid (schedule_of version set history)
 legal_is_valid version set history writable = (
   legal_schedule version set history writable,
   record { passing = legal_passes (start_of set) history (IsState-start set writable.tasks.valid) writable.legal; contexts = refl },

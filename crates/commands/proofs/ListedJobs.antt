@@ -24,4 +24,5 @@ pub clock_written : (clock : Option ℕ) (list none word stamp end text : List �
 clock_written clock list none word stamp end text a b c d e =
     e
     ∙ ap (λ (t : List ℕ). t ++ list)
-    (d ∙ ap (λ (t : List ℕ). t ++ 10 ∷ []) (c ∙ ap (λ (t : List ℕ). t ++ stamp_text clock) (b ∙ ap (λ (t : List ℕ). t ++ codes "# moment 0 is at ") a)))
+    (d ∙ ap (λ (t : List ℕ). t ++ 10 ∷ []) (c
+    ∙ ap (λ (t : List ℕ). t ++ stamp_text clock) (b ∙ ap (λ (t : List ℕ). t ++ codes "# moment 0 is at ") a)))

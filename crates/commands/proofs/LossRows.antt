@@ -1,5 +1,6 @@
 -- What is told of each task, by what it lost.
-use Rattle.std.proofs.Common.{◌≡◌, ℕ, suc, ◌+◌, ◌<◌, ◌≤◌, ◌^◌, Bool, true, false, List, [], ◌∷◌, ◌++◌, length, take, get_or, Option, None, Some, refl, ap, ◌∙◌, subst, arith}
+use Rattle.std.proofs.Common.{◌≡◌, ℕ, suc, ◌+◌, ◌<◌, ◌≤◌, ◌^◌, Bool, true, false, List, [], ◌∷◌, ◌++◌, length, take, get_or, Option, None}
+use Rattle.std.proofs.Common.{Some, refl, ap, ◌∙◌, subst, arith}
 use Rattle.std.specs.Prelude.{All, IfSome, slice_get, slice_index_or}
 use Rattle.std.proofs.lemmas.List.{length-map, length-take-le, take_more}
 use Rattle.std.proofs.lemmas.List.Elements.{All-nil, All-cons, All-head, All-tail, All-weaker}
@@ -15,7 +16,8 @@ use Rattle.commands.specs.Lost.{told_row, told_rows, AreNumbered}
 abbrev HasRivalOf : ℕ → Loss → Type 0
 HasRivalOf tasks loss = IfSome loss.rival (λ t. t < tasks)
 
-rival_within : (counts priorities : List ℕ) (tasks : ℕ) (rival : Option ℕ) → IsMostOf counts priorities tasks rival → IfSome rival (λ t. t < tasks)
+rival_within : (counts priorities : List ℕ) (tasks : ℕ) (rival : Option ℕ) → IsMostOf counts priorities tasks rival
+    → IfSome rival (λ t. t < tasks)
 rival_within counts priorities tasks None most = tt
 rival_within counts priorities tasks (Some u) most = most.within
 
@@ -32,7 +34,8 @@ rivals_within set threads passages units losses beside are =
     (λ k loss e. let rival = (each k loss e).rival in
     subst (λ (n : ℕ). HasRivalOf n loss) count (rival_within rival.counts (priorities set) (length (priorities set)) loss.rival rival.most))
 
-pub numbered : (set : SetData) (threads : ℕ) (passages : List Passage) (units : ℕ) (losses : List Loss) (beside : List ℕ) → length set.tasks ≤ 1024
+pub numbered : (set : SetData) (threads : ℕ) (passages : List Passage) (units : ℕ) (losses : List Loss) (beside : List ℕ)
+    → length set.tasks ≤ 1024
     → AreLosses set threads passages units losses beside → AreNumbered losses
 numbered set threads passages units losses beside bound are =
     All-weaker (HasRivalOf (length set.tasks)) (HasRivalOf (2 ^ 32)) (λ loss within. narrow loss.rival within) losses
@@ -86,7 +89,8 @@ told_push mentioned t n [] loss place =
     ap (λ (k : ℕ). told_row (slice_index_or mentioned k false) loss ∷ []) same
 told_push mentioned t n (first ∷ rest) loss place =
     let next : t + 1 + length rest ≡ n = omega (arith, place) in
-    ap (λ (rows : List (Option LossRow)). told_row (slice_index_or mentioned t false) first ∷ rows) (told_push mentioned (t + 1) n rest loss next)
+    ap (λ (rows : List (Option LossRow)). told_row (slice_index_or mentioned t false) first ∷ rows)
+    (told_push mentioned (t + 1) n rest loss next)
 
 pub told_more : (mentioned : List Bool) (t : ℕ) (losses : List Loss) → t < length losses
     → told_rows mentioned 0 (take (t + 1) losses)

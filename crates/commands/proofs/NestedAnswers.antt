@@ -24,22 +24,30 @@ use Rattle.commands.proofs.Refusals.{memory_of_fault, refusal_of_fault, status_o
 use Rattle.commands.specs.NestedRun.{IsNestedOf, AcceptsNested, RefusesNested, status_of_nested}
 
 -- ---- bytes that are no input text
-read_refused : (bytes : List ℕ) (fault : InputFault) → (fault.kind ≡ kind.OutOfMemory) ⊎ IsInputRefused bytes fault.line fault.kind → RefusesNested bytes (status_of_fault fault) ⊎ (status_of_fault fault ≡ OutOfMemory)
+read_refused : (bytes : List ℕ) (fault : InputFault) → (fault.kind ≡ kind.OutOfMemory) ⊎ IsInputRefused bytes fault.line fault.kind
+    → RefusesNested bytes (status_of_fault fault) ⊎ (status_of_fault fault ≡ OutOfMemory)
 read_refused bytes fault why = elim (refusal_of_fault bytes fault why) [
   | inl input ↦ inl (inl input)
   | inr memory ↦ inr memory
 ]
 
-read_status : (bytes : List ℕ) (fault : InputFault) (expected : Status) → ((version : ℕ) (set : SetData) (events : List Posted) → IsInputText version bytes set events → fault.kind ≡ kind.OutOfMemory)
-    → ((line : ℕ) (cause : InputKind) → IsInputRefused bytes line cause → (fault.kind ≡ kind.OutOfMemory) ⊎ ((fault.line ≡ line) × (fault.kind ≡ cause)))
+read_status : (bytes : List ℕ) (fault : InputFault) (expected : Status)
+    → ((version : ℕ) (set : SetData) (events : List Posted) → IsInputText version bytes set events → fault.kind ≡ kind.OutOfMemory)
+    → ((line : ℕ) (cause : InputKind) → IsInputRefused bytes line cause → (fault.kind ≡ kind.OutOfMemory)
+    ⊎ ((fault.line ≡ line) × (fault.kind ≡ cause)))
     → RefusesNested bytes expected → (status_of_fault fault ≡ expected) ⊎ (status_of_fault fault ≡ OutOfMemory)
-read_status bytes fault expected accepts refuses (inl why) = status_of_refused bytes expected fault why (refuses why.number why.cause.cause why.cause.refused)
-read_status bytes fault expected accepts refuses (inr (inl second)) = inr (memory_of_fault fault (accepts 2 second.set second.events second.is_text))
-read_status bytes fault expected accepts refuses (inr (inr crossing)) = inr (memory_of_fault fault (accepts 1 crossing.set crossing.events crossing.is_text))
+read_status bytes fault expected accepts refuses (inl why) =
+    status_of_refused bytes expected fault why (refuses why.number why.cause.cause why.cause.refused)
+read_status bytes fault expected accepts refuses (inr (inl second)) =
+    inr (memory_of_fault fault (accepts 2 second.set second.events second.is_text))
+read_status bytes fault expected accepts refuses (inr (inr crossing)) =
+    inr (memory_of_fault fault (accepts 1 crossing.set crossing.events crossing.is_text))
 
-pub answers_read : (bytes : List ℕ) (fault : InputFault) → ((version : ℕ) (set : SetData) (events : List Posted) → IsInputText version bytes set events → fault.kind ≡ kind.OutOfMemory)
+pub answers_read : (bytes : List ℕ) (fault : InputFault)
+    → ((version : ℕ) (set : SetData) (events : List Posted) → IsInputText version bytes set events → fault.kind ≡ kind.OutOfMemory)
     → (fault.kind ≡ kind.OutOfMemory) ⊎ IsInputRefused bytes fault.line fault.kind
-    → ((line : ℕ) (cause : InputKind) → IsInputRefused bytes line cause → (fault.kind ≡ kind.OutOfMemory) ⊎ ((fault.line ≡ line) × (fault.kind ≡ cause)))
+    → ((line : ℕ) (cause : InputKind) → IsInputRefused bytes line cause → (fault.kind ≡ kind.OutOfMemory)
+    ⊎ ((fault.line ≡ line) × (fault.kind ≡ cause)))
     → Answers (IsNestedOf bytes) (AcceptsNested bytes) (RefusesNested bytes) (Err (status_of_fault fault))
 answers_read bytes fault accepts refused refuses = record {
   makes = tt;
@@ -49,7 +57,8 @@ answers_read bytes fault accepts refused refuses = record {
 }
 
 -- ---- an input text, which is of one input
-module _ (bytes : List ℕ) (version : ℕ) (set : SetData) (events : List Posted) (valid : IsVersion version) (text : IsInputText version bytes set events)
+module _ (bytes : List ℕ) (version : ℕ) (set : SetData) (events : List Posted) (valid : IsVersion version)
+    (text : IsInputText version bytes set events)
     (only : (v : ℕ) (s : SetData) (es : List Posted) → IsInputText v bytes s es → (version ≡ v) × (set ≡ s) × (events ≡ es))
     (unrefused : (line : ℕ) (cause : InputKind) → IsInputRefused bytes line cause → ⊥) where
   -- it is of version 2
@@ -82,9 +91,11 @@ module _ (bytes : List ℕ) (version : ℕ) (set : SetData) (events : List Poste
     unrefused_laminar : IsLaminar (masks set) → (expected : Status) → RefusesNested bytes expected → ⊥
     unrefused_laminar laminar expected (inl why) = unrefused why.number why.cause.cause why.cause.refused
     unrefused_laminar laminar expected (inr (inl why)) = not_second why.set why.events why.is_text
-    unrefused_laminar laminar expected (inr (inr why)) = laminar_crosses_none (masks set) why.one why.other laminar (rw (only 1 why.set why.events why.is_text).1 why.first)
+    unrefused_laminar laminar expected (inr (inr why)) =
+        laminar_crosses_none (masks set) why.one why.other laminar (rw (only 1 why.set why.events why.is_text).1 why.first)
 
-    pub answers_text : (put : Vec ℕ Global) → IsLaminar (masks set) → IsNestedText set events put.items → Answers (IsNestedOf bytes) (AcceptsNested bytes) (RefusesNested bytes) (Ok put)
+    pub answers_text : (put : Vec ℕ Global) → IsLaminar (masks set) → IsNestedText set events put.items
+        → Answers (IsNestedOf bytes) (AcceptsNested bytes) (RefusesNested bytes) (Ok put)
     answers_text put laminar written = record {
       makes = record { set = set; events = events; is_text = first_text; laminar = laminar; text = written };
       refused = tt;
@@ -93,26 +104,34 @@ module _ (bytes : List ℕ) (version : ℕ) (set : SetData) (events : List Poste
     }
 
     -- the replay was refused
-    fault_refused : (f : NestedFault) → (f ≡ fault.OutOfMemory) ⊎ IsCrossingFault set f → RefusesNested bytes (status_of_nested f) ⊎ (status_of_nested f ≡ OutOfMemory)
+    fault_refused : (f : NestedFault) → (f ≡ fault.OutOfMemory) ⊎ IsCrossingFault set f → RefusesNested bytes (status_of_nested f)
+        ⊎ (status_of_nested f ≡ OutOfMemory)
     fault_refused (fault.Crossing one other) (inl memory) = inr (ap status_of_nested memory)
-    fault_refused (fault.Crossing one other) (inr crossing) = inl (inr (inr record { set = set; events = events; one = one; other = other; answer = refl; is_text = first_text; first = crossing }))
+    fault_refused (fault.Crossing one other) (inr crossing) = inl
+        (inr (inr record { set = set; events = events; one = one; other = other; answer = refl; is_text = first_text; first = crossing }))
     fault_refused fault.OutOfMemory why = inr refl
 
-    fault_accepted : (f : NestedFault) → (f ≡ fault.OutOfMemory) ⊎ IsCrossingFault set f → AcceptsNested bytes → status_of_nested f ≡ OutOfMemory
+    fault_accepted : (f : NestedFault) → (f ≡ fault.OutOfMemory) ⊎ IsCrossingFault set f → AcceptsNested bytes
+        → status_of_nested f ≡ OutOfMemory
     fault_accepted (fault.Crossing one other) (inl memory) accepted = ap status_of_nested memory
-    fault_accepted (fault.Crossing one other) (inr crossing) accepted = absurd (laminar_crosses_none (masks set) one other (rw (only 1 accepted.0 accepted.1 accepted.2).1 accepted.3) crossing)
+    fault_accepted (fault.Crossing one other) (inr crossing) accepted =
+        absurd (laminar_crosses_none (masks set) one other (rw (only 1 accepted.0 accepted.1 accepted.2).1 accepted.3) crossing)
     fault_accepted fault.OutOfMemory why accepted = refl
 
-    fault_expected : (f : NestedFault) → (f ≡ fault.OutOfMemory) ⊎ IsCrossingFault set f → (expected : Status) → RefusesNested bytes expected → (status_of_nested f ≡ expected) ⊎ (status_of_nested f ≡ OutOfMemory)
+    fault_expected : (f : NestedFault) → (f ≡ fault.OutOfMemory) ⊎ IsCrossingFault set f → (expected : Status)
+        → RefusesNested bytes expected → (status_of_nested f ≡ expected) ⊎ (status_of_nested f ≡ OutOfMemory)
     fault_expected (fault.Crossing one other) (inl memory) expected refusal = inr (ap status_of_nested memory)
-    fault_expected (fault.Crossing one other) (inr crossing) expected (inl why) = absurd (unrefused why.number why.cause.cause why.cause.refused)
+    fault_expected (fault.Crossing one other) (inr crossing) expected (inl why) =
+        absurd (unrefused why.number why.cause.cause why.cause.refused)
     fault_expected (fault.Crossing one other) (inr crossing) expected (inr (inl why)) = absurd (not_second why.set why.events why.is_text)
     fault_expected (fault.Crossing one other) (inr crossing) expected (inr (inr why)) =
-        let same = first_crossing_once (masks set) one other why.one why.other crossing (rw (only 1 why.set why.events why.is_text).1 why.first) in
+        let same = first_crossing_once (masks set) one other why.one why.other crossing
+        (rw (only 1 why.set why.events why.is_text).1 why.first) in
         inl (rw (same.0, same.1) (sym why.answer))
     fault_expected fault.OutOfMemory why expected refusal = inr refl
 
-    pub answers_nested_fault : (f : NestedFault) → (f ≡ fault.OutOfMemory) ⊎ IsCrossingFault set f → Answers (IsNestedOf bytes) (AcceptsNested bytes) (RefusesNested bytes) (Err (status_of_nested f))
+    pub answers_nested_fault : (f : NestedFault) → (f ≡ fault.OutOfMemory) ⊎ IsCrossingFault set f
+        → Answers (IsNestedOf bytes) (AcceptsNested bytes) (RefusesNested bytes) (Err (status_of_nested f))
     answers_nested_fault f why = record {
       makes = tt;
       refused = fault_refused f why;

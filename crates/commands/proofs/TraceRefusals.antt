@@ -41,7 +41,8 @@ module _ (IsRefused : ℕ → TraceKind → Type 0) where
   pub answers_fault : {Makes : List ℕ → Type 0} {Text : Type 0} (IsText : Text → Type 0) (fault : TraceFault)
       → ((text : Text) → IsText text → fault.kind ≡ kind.OutOfMemory)
       → (fault.kind ≡ kind.OutOfMemory) ⊎ IsRefused fault.line fault.kind
-      → ((line : ℕ) (cause : TraceKind) → IsRefused line cause → (fault.kind ≡ kind.OutOfMemory) ⊎ ((fault.line ≡ line) × (fault.kind ≡ cause)))
+      → ((line : ℕ) (cause : TraceKind) → IsRefused line cause → (fault.kind ≡ kind.OutOfMemory)
+      ⊎ ((fault.line ≡ line) × (fault.kind ≡ cause)))
       → Answers Makes ((text : Text) × IsText text) Refuses (Err (status_of_trace_fault fault))
   answers_fault IsText fault accepts refused refuses = record {
     makes = tt;

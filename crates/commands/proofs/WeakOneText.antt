@@ -11,4 +11,5 @@ pub weak_text_is_unique : WeakTextIsUnique
 weak_text_is_unique read put other one two =
     let same = text_has_one_input read two.version one.version two.set one.set two.events one.events two.input one.input in
     events_have_one_text one.set one.events put other one.input.says.valid one.compared
-    (subst (λ (events : List Posted). IsWeakTextOf one.set events other) same.2 (subst (λ (set : SetData). IsWeakTextOf set two.events other) same.1 two.compared))
+    (subst (λ (events : List Posted). IsWeakTextOf one.set events other) same.2
+    (subst (λ (set : SetData). IsWeakTextOf set two.events other) same.1 two.compared))

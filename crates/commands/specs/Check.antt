@@ -1,6 +1,7 @@
--- What a check of a schedule says. The bytes read are the text of one schedule; where that is valid, the bytes written are
--- a line with the number of its entries; else it is refused at the first entry that has a defect, or, where all replies
--- pass, at the first context that differs. Any other text is refused at its first faulty line.
+-- What a check of a schedule says. The bytes read are the text of one schedule; where that is
+-- valid, the bytes written are a line with the number of its entries; else it is refused at the
+-- first entry that has a defect, or, where all replies pass, at the first context that differs. Any
+-- other text is refused at its first faulty line.
 use Rattle.std.specs.Prelude.{◌≡◌, ◌⊎◌, ℕ, List, ◌++◌, length, codes}
 use Rattle.affinity_mask.specs.Number.{canonical_number}
 use Rattle.strong_apa.specs.History.{IsBestThroughout}
@@ -15,9 +16,9 @@ use Rattle.commands.specs.Valid.{IsTextOf, IsValid, IsInvalidText}
 abbrev pub valid_text : ℕ → List ℕ
 valid_text count = line (codes "valid " ++ canonical_number count)
 
--- from the bytes of a valid schedule to the bytes written: after every entry the linked tasks are the best placeable set of
--- the ready ones, and no chain of shifts would bring a waiting task in without displacing a more urgent one, whoever made the
--- schedule
+-- from the bytes of a valid schedule to the bytes written: after every entry the linked tasks are
+-- the best placeable set of the ready ones, and no chain of shifts would bring a waiting task in
+-- without displacing a more urgent one, whoever made the schedule
 pub record IsCheckOf (read put : List ℕ) : Type 0 where
   pub schedule : ScheduleData
   pub is_text : IsTextOf read schedule
@@ -28,4 +29,5 @@ pub record IsCheckOf (read put : List ℕ) : Type 0 where
 
 -- the bytes that a check refuses, each with its answer
 abbrev pub RefusesCheck : List ℕ → Status → Type 0
-RefusesCheck bytes status = IsAnsweredInput (RefusesSchedule bytes) status ⊎ IsAnsweredInvalid (IsInvalidText bytes) status
+RefusesCheck bytes status =
+    IsAnsweredInput (RefusesSchedule bytes) status ⊎ IsAnsweredInvalid (IsInvalidText bytes) status

@@ -1,5 +1,5 @@
--- One step of a check: the words of the contracts of private functions. The public one says by the definitions of a valid
--- and of a wrong schedule what was found.
+-- One step of a check: the words of the contracts of private functions. The public one says by the
+-- definitions of a valid and of a wrong schedule what was found.
 use Rattle.strong_apa.specs.Dispatch.{contexts_of}
 use Rattle.std.specs.Prelude.{◌≡◌, ℕ, take}
 use Rattle.strong_apa.specs.History.{state_at}
@@ -18,12 +18,15 @@ pub record HasFollowed (schedule : ScheduleData) (n : ℕ) (checker : CheckerDat
 
 -- the answer for the first entry that has a defect
 abbrev pub IsBadEntryStatus : ScheduleData → Status → Type 0
-IsBadEntryStatus schedule status = (number : ℕ) × (defect : ℕ) × (status ≡ Invalid number defect) × HasBadEntry schedule number defect
+IsBadEntryStatus schedule status = (number : ℕ) × (defect : ℕ) × (status ≡ Invalid number defect)
+    × HasBadEntry schedule number defect
 
 -- the answer for the first context that differs
 abbrev pub IsBadContextStatus : ScheduleData → Status → Type 0
-IsBadContextStatus schedule status = (number : ℕ) × (defect : ℕ) × (status ≡ Invalid number defect) × HasBadContext schedule number defect
+IsBadContextStatus schedule status = (number : ℕ) × (defect : ℕ) × (status ≡ Invalid number defect)
+    × HasBadContext schedule number defect
 
 -- the answer for a schedule that is wrong
 abbrev pub IsInvalidStatus : ScheduleData → Status → Type 0
-IsInvalidStatus schedule status = (number : ℕ) × (defect : ℕ) × (status ≡ Invalid number defect) × IsInvalid schedule number defect
+IsInvalidStatus schedule status = (number : ℕ) × (defect : ℕ) × (status ≡ Invalid number defect)
+    × IsInvalid schedule number defect

@@ -9,7 +9,8 @@ use Rattle.commands.specs.declared.sizes.Sizes.{Sizes}
 
 -- the input of these numbers
 abbrev pub IsInputOf : Sizes → SetData → List Posted → Type 0
-IsInputOf sizes set events = IsGeneratedInput sizes.number sizes.processors sizes.tasks sizes.events set events
+IsInputOf sizes set events =
+    IsGeneratedInput sizes.number sizes.processors sizes.tasks sizes.events set events
 
 -- the text is the canonical one of the input of these numbers, in the first version
 pub record WritesInput (sizes : Sizes) (put : List ℕ) : Type 0 where

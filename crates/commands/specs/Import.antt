@@ -12,8 +12,9 @@ use Rattle.commands.specs.Refusal.{IsAnsweredInput}
 use Rattle.commands.specs.Status.{status_of_number}
 use Rattle.commands.specs.declared.status.Status.{Status}
 
--- the bytes read are the text of a trace, and the bytes written are the canonical text of the input that it comes to, and so
--- an input text of it: the ready tasks are those that the trace says are ready, and the ticks are its time
+-- the bytes read are the text of a trace, and the bytes written are the canonical text of the input
+-- that it comes to, and so an input text of it: the ready tasks are those that the trace says are
+-- ready, and the ticks are its time
 pub record IsImportOf (read put : List ℕ) : Type 0 where
   pub input : InputData
   pub is_text : IsTraceText read input

@@ -1,6 +1,8 @@
--- The jobs of a trace, from the bytes of a trace of the Linux scheduler to those of an input of jobs. A stretch in which a task is
--- ready is a job of it, released at its first moment and with as many units as there are moments of it at which the task runs.
-use Rattle.std.specs.Prelude.{◌≡◌, ◌⊎◌, ℕ, ◌+◌, ◌<◌, ◌≤◌, ◌^◌, List, ◌++◌, codes, length, map, Option}
+-- The jobs of a trace, from the bytes of a trace of the Linux scheduler to those of an input of
+-- jobs. A stretch in which a task is ready is a job of it, released at its first moment and with as
+-- many units as there are moments of it at which the task runs.
+use Rattle.std.specs.Prelude.{◌≡◌, ◌⊎◌, ℕ, ◌+◌, ◌<◌, ◌≤◌, ◌^◌, List, ◌++◌, codes, length, map}
+use Rattle.std.specs.Prelude.{Option}
 use Rattle.job_release.specs.JobList.{job_list_text}
 use Rattle.job_release.specs.declared.job_list.ListedJob.{ListedJob}
 use Rattle.kernel_trace.specs.Passage.{TaskTraceData, IsTaskTraceText, IsTaskTraceRefused}
@@ -62,9 +64,10 @@ pub record IsJobListOf (trace : TaskTraceData) (put : List ℕ) : Type 0 where
   pub has : HasJobs trace jobs
   pub text : put ≡ job_text trace (map listed jobs)
 
--- the bytes read are the text of a trace, and the bytes written are a comment with the clock of its first moment and the text of its
--- tasks, its span and its jobs: for each stretch in which a task is ready and runs a job of it, in the order in which the stretches
--- begin, with the first moment of the stretch and the number of its moments at which the task runs
+-- the bytes read are the text of a trace, and the bytes written are a comment with the clock of its
+-- first moment and the text of its tasks, its span and its jobs: for each stretch in which a task
+-- is ready and runs a job of it, in the order in which the stretches begin, with the first moment
+-- of the stretch and the number of its moments at which the task runs
 pub record IsImportedJobsOf (read put : List ℕ) : Type 0 where
   pub trace : TaskTraceData
   pub is_text : IsTaskTraceText read trace
@@ -81,7 +84,8 @@ pub record AcceptsJobTrace (bytes : List ℕ) : Type 0 where
 -- ---- what is refused
 -- no input of jobs has so many moments, or else so many jobs; the kind has this number
 abbrev pub IsRefusedList : ℕ → ℕ → ℕ → Type 0
-IsRefusedList span count kind = (IsNoHorizon span × (kind ≡ 14)) ⊎ (IsHorizon span × (4000 < count) × (kind ≡ 15))
+IsRefusedList span count kind =
+    (IsNoHorizon span × (kind ≡ 14)) ⊎ (IsHorizon span × (4000 < count) × (kind ≡ 15))
 
 -- no input of jobs has the jobs of the trace
 pub record HasNoList (trace : TaskTraceData) (kind : ℕ) : Type 0 where
@@ -98,7 +102,8 @@ pub record RefusesJobList (bytes : List ℕ) (line kind : ℕ) : Type 0 where
 
 -- the bytes are refused at this line, as the text of a trace or as that of its jobs
 abbrev pub RefusesJobTraceText : List ℕ → ℕ → ℕ → Type 0
-RefusesJobTraceText bytes line kind = RefusesTraceText (IsTaskTraceRefused bytes) line kind ⊎ RefusesJobList bytes line kind
+RefusesJobTraceText bytes line kind =
+    RefusesTraceText (IsTaskTraceRefused bytes) line kind ⊎ RefusesJobList bytes line kind
 
 -- the bytes are refused with this status
 abbrev pub RefusesJobTrace : List ℕ → Status → Type 0

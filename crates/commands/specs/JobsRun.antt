@@ -12,7 +12,8 @@ use Rattle.commands.specs.Refusal.{IsAnsweredInput}
 use Rattle.commands.specs.Status.{status_of_number}
 use Rattle.commands.specs.declared.status.Status.{Status}
 
--- the bytes read are the text of an input, and the bytes written say when the jobs are finished in a history that runs them
+-- the bytes read are the text of an input, and the bytes written say when the jobs are finished in
+-- a history that runs them
 pub record IsJobsOf (read put : List ℕ) : Type 0 where
   pub input : JobInputData
   pub history : List Entry

@@ -1,6 +1,8 @@
--- What the kernel lost beside the best set, from the bytes of a trace of the Linux scheduler. The numbers of a task are counts: of the
--- moments of the trace, each a microsecond from the first change to the last used line, at which something holds of it.
-use Rattle.std.specs.Prelude.{◌≡◌, ℕ, ◌+◌, ◌<◌, ◌^◌, Bool, false, List, [], ◌∷◌, length, All, Option, None, Some, IfSome, slice_index_or, if◌then◌else◌}
+-- What the kernel lost beside the best set, from the bytes of a trace of the Linux scheduler. The
+-- numbers of a task are counts: of the moments of the trace, each a microsecond from the first
+-- change to the last used line, at which something holds of it.
+use Rattle.std.specs.Prelude.{◌≡◌, ℕ, ◌+◌, ◌<◌, ◌^◌, Bool, false, List, [], ◌∷◌, length, All}
+use Rattle.std.specs.Prelude.{Option, None, Some, IfSome, slice_index_or, if◌then◌else◌}
 use Rattle.kernel_trace.specs.LossText.{loss_text}
 use Rattle.kernel_trace.specs.Passage.{TaskTraceData, IsTaskTraceText, IsTaskTraceRefused}
 use Rattle.kernel_trace.specs.Passages.{IsTaskTrace}
@@ -15,8 +17,8 @@ use Rattle.commands.specs.declared.status.Status.{Status}
 
 -- ---- what is written
 -- the row of a task, by what it lost
-abbrev pub row_of : Loss → LossRow
-row_of loss = record {
+abbrev pub loss_row : Loss → LossRow
+loss_row loss = record {
   ready = loss.ready;
   ran = loss.served;
   lost = loss.lost;
@@ -28,19 +30,21 @@ row_of loss = record {
 
 -- what is told of a task: the row, where the trace mentions it
 abbrev pub told_row : Bool → Loss → Option LossRow
-told_row mentioned loss = if mentioned then Some (row_of loss) else None
+told_row mentioned loss = if mentioned then Some (loss_row loss) else None
 
 -- the same of tasks that follow each other, from this one on
 abbrev pub told_rows : List Bool → ℕ → List Loss → List (Option LossRow)
 told_rows mentioned t [] = []
-told_rows mentioned t (loss ∷ rest) = told_row (slice_index_or mentioned t false) loss ∷ told_rows mentioned (t + 1) rest
+told_rows mentioned t (loss ∷ rest) =
+    told_row (slice_index_or mentioned t false) loss ∷ told_rows mentioned (t + 1) rest
 
 -- each rival has a task's number
 abbrev pub AreNumbered : List Loss → Type 0
 AreNumbered losses = All (λ (loss : Loss). IfSome loss.rival (λ t. t < 2 ^ 32)) losses
 
--- the bytes are the text of the span of a trace with the clock of its first moment, of what each of its tasks lost that a used line
--- mentions, and of how many switches are from another task than the one that came last; the threads that are told apart are the tasks
+-- the bytes are the text of the span of a trace with the clock of its first moment, of what each of
+-- its tasks lost that a used line mentions, and of how many switches are from another task than the
+-- one that came last; the threads that are told apart are the tasks
 pub record IsLossText (trace : TaskTraceData) (put : List ℕ) : Type 0 where
   pub units : ℕ
   pub losses : List Loss
@@ -51,10 +55,11 @@ pub record IsLossText (trace : TaskTraceData) (put : List ℕ) : Type 0 where
   pub are_jumps : AreJumps trace.passages jumps
   pub text : put ≡ loss_text trace.set trace.clock units (told_rows trace.mentioned 0 losses) jumps
 
--- the bytes read are the text of a trace, and the bytes written are the text of what its tasks lost: of each task the number of moments
--- of the span at which it is ready, at which it is ready and runs, and at which it is in the best placeable set of the ready tasks and
--- runs nowhere; how many of the latter stand in stretches of more than 50; the longest stretch of them, the first of several; and who
--- ran most in it without being in that set
+-- the bytes read are the text of a trace, and the bytes written are the text of what its tasks
+-- lost: of each task the number of moments of the span at which it is ready, at which it is ready
+-- and runs, and at which it is in the best placeable set of the ready tasks and runs nowhere; how
+-- many of the latter stand in stretches of more than 50; the longest stretch of them, the first of
+-- several; and who ran most in it without being in that set
 pub record IsLossOf (read put : List ℕ) : Type 0 where
   pub trace : TaskTraceData
   pub is_text : IsTaskTraceText read trace

@@ -1,5 +1,6 @@
--- Which bytes are refused as a text, and with which answer: each text that is not accepted is refused at one line, with one
--- kind, and a schedule text that is wrong at one line, with one defect.
+-- Which bytes are refused as a text, and with which answer: each text that is not accepted is
+-- refused at one line, with one kind, and a schedule text that is wrong at one line, with one
+-- defect.
 use Rattle.std.specs.Prelude.{◌≡◌, ℕ, List, Some}
 use Rattle.task_set.specs.TaskSet.{SetData}
 use Rattle.trace_reader.specs.declared.fault.InputKind.{InputKind}
@@ -13,7 +14,8 @@ use Rattle.commands.specs.declared.status.Status.TheVariants.{Input, Invalid}
 
 -- the bytes are an input text, of either version
 abbrev pub IsAccepted : List ℕ → Type 0
-IsAccepted bytes = (version : ℕ) × (set : SetData) × (events : List Posted) × IsInputText version bytes set events
+IsAccepted bytes =
+    (version : ℕ) × (set : SetData) × (events : List Posted) × IsInputText version bytes set events
 
 -- the bytes are no input text: refused at this line, with a kind of this number
 pub record RefusesInput (bytes : List ℕ) (line kind : ℕ) : Type 0 where

@@ -1,5 +1,5 @@
--- The answers of a program, as numbers and as lines: each has the exit status and the line that are fixed for it here, and
--- Done has no line.
+-- The answers of a program, as numbers and as lines: each has the exit status and the line that are
+-- fixed for it here, and Done has no line.
 use Rattle.std.specs.Prelude.{ℕ, List, [], ◌++◌, codes, Option, None, Some}
 use Rattle.trace_reader.specs.declared.fault.InputFault.{InputFault}
 use Rattle.trace_reader.specs.InputFault.{kind_number}
@@ -7,7 +7,9 @@ use Rattle.affinity_mask.specs.Number.{canonical_number}
 use Rattle.schedule_text.specs.declared.fault.TextFault.{TextFault}
 use Rattle.schedule_text.specs.ScheduleFault as text
 use Rattle.commands.specs.declared.status.Status.{Status}
-use Rattle.commands.specs.declared.status.Status.TheVariants.{Done, Invalid, Usage, Input, Version, Crossing, TooLong, ReadFault, WriteFault, OutOfMemory}
+use Rattle.commands.specs.declared.status.Status.TheVariants.{Done, Invalid, Usage, Input, Version}
+use Rattle.commands.specs.declared.status.Status.TheVariants.{Crossing, TooLong, ReadFault}
+use Rattle.commands.specs.declared.status.Status.TheVariants.{WriteFault, OutOfMemory}
 
 -- the exit status of the process after an answer
 abbrev pub exit_status_of : Status → ℕ
@@ -25,11 +27,16 @@ exit_status_of OutOfMemory = 6
 -- the line that reports an answer, without its line feed
 abbrev pub status_text : Status → List ℕ
 status_text Done = []
-status_text (Invalid line defect) = codes "invalid: line " ++ canonical_number line ++ codes ", defect " ++ canonical_number defect
-status_text Usage = codes "usage: run, check, make n p t e, large n p t e, weak, nested, jobs, watch k, import, draw [A B], steps [A B], chrome [AT], lost, weakjobs, importjobs, runjobs"
-status_text (Input line kind) = codes "input: line " ++ canonical_number line ++ codes ", kind " ++ canonical_number kind
+status_text (Invalid line defect) =
+    codes "invalid: line " ++ canonical_number line ++ codes ", defect " ++ canonical_number defect
+status_text Usage = codes
+    "usage: run, check, make n p t e, large n p t e, weak, nested, jobs, watch k, import, draw [A B], steps [A B], chrome [AT], lost, weakjobs, importjobs, runjobs"
+status_text (Input line kind) =
+    codes "input: line " ++ canonical_number line ++ codes ", kind " ++ canonical_number kind
 status_text Version = codes "input: version 1 wanted"
-status_text (Crossing one other) = codes "input: tasks " ++ (canonical_number one ++ (codes " and " ++ (canonical_number other ++ codes " have crossing masks")))
+status_text (Crossing one other) = codes "input: tasks "
+    ++ (canonical_number one ++ (codes " and "
+    ++ (canonical_number other ++ codes " have crossing masks")))
 status_text (TooLong most) = codes "input: more than " ++ canonical_number most ++ codes " bytes"
 status_text ReadFault = codes "read fault"
 status_text WriteFault = codes "write fault"

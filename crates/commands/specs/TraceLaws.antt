@@ -9,4 +9,5 @@ LostTextIsUnique = (read put other : List ℕ) → IsLossOf read put → IsLossO
 
 -- and at most one text of its jobs
 abbrev pub ImportedJobsTextIsUnique : Type 0
-ImportedJobsTextIsUnique = (read put other : List ℕ) → IsImportedJobsOf read put → IsImportedJobsOf read other → put ≡ other
+ImportedJobsTextIsUnique = (read put other : List ℕ) → IsImportedJobsOf read put
+    → IsImportedJobsOf read other → put ≡ other

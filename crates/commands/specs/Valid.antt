@@ -1,6 +1,7 @@
--- What a valid schedule is, and where a wrong one is wrong first: a schedule is valid where each of its replies passes and
--- each of its contexts is what its history gives; else the first entry that has a defect decides, or, where all pass, the
--- first context that differs. Lines are numbered from 1.
+-- What a valid schedule is, and where a wrong one is wrong first: a schedule is valid where each of
+-- its replies passes and each of its contexts is what its history gives; else the first entry that
+-- has a defect decides, or, where all pass, the first context that differs. Lines are numbered from
+-- 1.
 use Rattle.std.specs.Prelude.{◌≡◌, ◌≢◌, ◌⊎◌, ℕ, ◌+◌, ◌<◌, List, length, take, slice_get, Some}
 use Rattle.task_set.specs.TaskSet.{SetData}
 use Rattle.strong_apa.specs.declared.reply.Entry.{Entry}
@@ -34,9 +35,11 @@ pub record HasWrongContextAt (schedule : ScheduleData) (t : ℕ) : Type 0 where
   pub there : t < length schedule.contexts
   pub passing : IsPassing schedule.set schedule.entries
   pub before : take t schedule.contexts ≡ take t (contexts_of schedule.set schedule.entries)
-  pub differs : slice_get schedule.contexts t ≢ slice_get (contexts_of schedule.set schedule.entries) t
+  pub differs : slice_get schedule.contexts t
+      ≢ slice_get (contexts_of schedule.set schedule.entries) t
 
--- the line of entry n: the header, the processors, the tasks and the number of entries stand before the entries
+-- the line of entry n: the header, the processors, the tasks and the number of entries stand before
+-- the entries
 abbrev pub entry_line_number : ScheduleData → ℕ → ℕ
 entry_line_number schedule n = length schedule.set.tasks + 4 + n
 
@@ -65,13 +68,15 @@ pub record HasBadContext (schedule : ScheduleData) (number defect : ℕ) : Type 
 
 -- the schedule is wrong, first in this line, with a defect of this number
 abbrev pub IsInvalid : ScheduleData → ℕ → ℕ → Type 0
-IsInvalid schedule number defect = HasBadEntry schedule number defect ⊎ HasBadContext schedule number defect
+IsInvalid schedule number defect =
+    HasBadEntry schedule number defect ⊎ HasBadContext schedule number defect
 
 -- the bytes are the text of a valid schedule
 abbrev pub IsValidText : List ℕ → Type 0
 IsValidText bytes = (schedule : ScheduleData) × IsTextOf bytes schedule × IsValid schedule
 
--- the bytes are the text of a schedule that is wrong, first in this line, with a defect of this number
+-- the bytes are the text of a schedule that is wrong, first in this line, with a defect of this
+-- number
 pub record IsInvalidText (bytes : List ℕ) (number defect : ℕ) : Type 0 where
   pub schedule : ScheduleData
   pub is_text : IsTextOf bytes schedule
@@ -79,4 +84,5 @@ pub record IsInvalidText (bytes : List ℕ) (number defect : ℕ) : Type 0 where
 
 -- the schedule of a history in a version of the format, with the contexts that it gives
 abbrev pub schedule_of : ℕ → SetData → List Entry → ScheduleData
-schedule_of version set history = record { version = version; set = set; entries = history; contexts = contexts_of set history }
+schedule_of version set history =
+    record { version = version; set = set; entries = history; contexts = contexts_of set history }

@@ -1,5 +1,6 @@
--- The comparison of an input, from bytes to bytes: the bytes read are the text of one input, and the bytes written are the text
--- that compares what the weak and the strong scheduler do at its events.
+-- The comparison of an input, from bytes to bytes: the bytes read are the text of one input, and
+-- the bytes written are the text that compares what the weak and the strong scheduler do at its
+-- events.
 use Rattle.std.specs.Prelude.{ℕ, List}
 use Rattle.task_set.specs.TaskSet.{SetData}
 use Rattle.trace_reader.specs.declared.posted.Posted.{Posted}

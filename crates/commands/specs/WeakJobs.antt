@@ -4,8 +4,8 @@ use Rattle.job_release.specs.JobInput.{JobInputData}
 use Rattle.job_release.specs.JobText.{IsJobText}
 use Rattle.job_release.specs.WeakServes.{IsWeakJobsTextOf}
 
--- the bytes read are the text of an input, and the bytes written say what one run of the weak scheduler and one history of the strong one
--- make of its jobs
+-- the bytes read are the text of an input, and the bytes written say what one run of the weak
+-- scheduler and one history of the strong one make of its jobs
 pub record IsWeakJobsOf (read put : List ℕ) : Type 0 where
   pub input : JobInputData
   pub is_text : IsJobText read input

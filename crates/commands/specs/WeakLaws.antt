@@ -1,5 +1,5 @@
--- What holds of every comparison of an input, whatever program writes it. The law is proved as the contract of a function of
--- `laws`.
+-- What holds of every comparison of an input, whatever program writes it. The law is proved as the
+-- contract of a function of `laws`.
 use Rattle.std.specs.Prelude.{◌≡◌, ℕ, List}
 use Rattle.commands.specs.Weak.{IsWeakOf}
 

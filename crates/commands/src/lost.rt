@@ -2,7 +2,7 @@
 ghost use Rattle.std.specs.Prelude.{◌≡◌, ◌<◌, ◌^◌, length, IfOk, IfSome};
 ghost use Rattle.trace_passages.specs.Passages.{ArePassages};
 ghost use Rattle.commands.specs.Answers.{Answers};
-ghost use Rattle.commands.specs.Lost.{row_of, told_row, told_rows, AreNumbered, IsLossText, IsLossOf, AcceptsTaskTrace, RefusesTaskTrace};
+ghost use Rattle.commands.specs.Lost.{loss_row, told_row, told_rows, AreNumbered, IsLossText, IsLossOf, AcceptsTaskTrace, RefusesTaskTrace};
 
 use crate::import::status_of;
 use crate::status::Status;
@@ -70,7 +70,7 @@ fn told_row(mentioned: bool, loss: Loss) -> Option<LossRow>
 /// The row of a task, by what it lost.
 fn row_of(loss: Loss) -> LossRow
     requires { IfSome loss.rival (λ t. t < 2 ^ 32) }
-    ensures { result ≡ row_of loss }
+    ensures { result ≡ loss_row loss }
 {
     LossRow {
         ready: loss.ready,

@@ -2,7 +2,7 @@
 ghost use Rattle.std.specs.Prelude.{◌≡◌, ◌<◌, ◌≤◌, ◌+◌, ◌*◌, ◌%◌, ◌^◌, ◌++◌, codes, length, IfOk, OnOk, if◌then◌else◌};
 ghost use Rattle.affinity_mask.specs.Number.{canonical_number};
 ghost use Rattle.text_fields.specs.LineText.{line};
-ghost use Rattle.commands.specs.Summary.{displaces, makes_wait, replies_of, moves_of, trails_of, sizes_text, summary_text};
+ghost use Rattle.commands.specs.Summary.{displaces, makes_wait, replies_of, sum_of_moves, trails_of, sizes_text, summary_text};
 
 use crate::sizes::Sizes;
 use affinity_mask::OutOfMemory;
@@ -129,7 +129,7 @@ fn replies_in(history: &[Entry]) -> Replies
 /// Adds up what all tasks have run.
 fn totals_of(contexts: &[Context]) -> Totals
     requires { length contexts.now ≤ 1024 }
-    ensures moves { result.moves ≡ moves_of contexts.now }
+    ensures moves { result.moves ≡ sum_of_moves contexts.now }
     ensures trails { result.trails ≡ trails_of contexts.now }
 {
     let mut totals = Totals {

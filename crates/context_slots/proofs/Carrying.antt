@@ -16,7 +16,8 @@ pub all_carried : (all : List Stint) (n : ℕ) (l : List Context) → AllCame al
 all_carried all n [] h = tt
 all_carried all n (c ∷ cs) h = (came_carried all n c h.0, all_carried all (n + 1) cs h.1)
 
-pub are_own : (m : ℕ) (all : List Stint) (n : ℕ) (l : List Context) → All (λ (stint : Stint). stint.processor < m) all → AllCarried all n l → AreOwn m n l
+pub are_own : (m : ℕ) (all : List Stint) (n : ℕ) (l : List Context) → All (λ (stint : Stint). stint.processor < m) all → AllCarried all n l
+    → AreOwn m n l
 are_own m all n [] low h = tt
 are_own m all n (c ∷ cs) low h =
     let own = subst (λ (x : Context). (x.task ≡ n) × IfSome x.last (λ p. p < m)) (sym h.0) (carried_context-own m n all low) in

@@ -1,5 +1,6 @@
 -- A new table keeps the rule.
-use Rattle.std.proofs.Common.{◌≡◌, ℕ, zero, suc, ◌+◌, ◌<◌, List, [], ◌∷◌, ◌++◌, ◌⊎◌, inl, inr, length, map, get_or, sym, refl, ap, ◌∙◌, subst, ⊎_elim, arith, Option, Some}
+use Rattle.std.proofs.Common.{◌≡◌, ℕ, zero, suc, ◌+◌, ◌<◌, List, [], ◌∷◌, ◌++◌, ◌⊎◌, inl, inr, length, map, get_or, sym, refl, ap, ◌∙◌}
+use Rattle.std.proofs.Common.{subst, ⊎_elim, arith, Option, Some}
 use mathlib.Core.Option.{some, some-injective, some-ne-none}
 use mathlib.Core.Logic.{dite}
 use native.Mathlib.Decide.{dec_le}
@@ -53,7 +54,8 @@ only : (v u : HandView) (j : ℕ) → get_elem? (v ∷ []) j ≡ some u → v �
 only v u zero e = some-injective v u e
 only v u (suc j) e = absurd (some-ne-none u (sym e))
 
-pub opens_lem : (processors n : ℕ) (ws : List ℕ) (xs : List (Option Context)) → length ws ≡ n → length xs ≡ n → ((k : ℕ) → get_or ws k 0 ≡ 0) → Home xs n → HandOverRule processors (opening ws xs (dealing processors 1))
+pub opens_lem : (processors n : ℕ) (ws : List ℕ) (xs : List (Option Context)) → length ws ≡ n → length xs ≡ n
+    → ((k : ℕ) → get_or ws k 0 ≡ 0) → Home xs n → HandOverRule processors (opening ws xs (dealing processors 1))
 opens_lem processors n ws xs words slots zero_words home = record {
   log = λ _. [];
   whole = omega arith;

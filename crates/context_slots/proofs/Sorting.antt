@@ -1,5 +1,6 @@
 -- Lists of stints, sorted by their numbers.
-use Rattle.std.proofs.Common.{◌≡◌, ◌≢◌, ℕ, ◌+◌, ◌<◌, ◌≤◌, ◌⊎◌, ◌&&◌, eqb, cond, Bool, true, false, List, [], ◌∷◌, sym, refl, ap, ◌∙◌, subst, inl, inr, ⊎_elim, arith, eq-eqb, ne_eqb, lt-ltb, le-ltb}
+use Rattle.std.proofs.Common.{◌≡◌, ◌≢◌, ℕ, ◌+◌, ◌<◌, ◌≤◌, ◌⊎◌, ◌&&◌, eqb, cond, Bool, true, false, List, [], ◌∷◌, sym, refl, ap, ◌∙◌, subst}
+use Rattle.std.proofs.Common.{inl, inr, ⊎_elim, arith, eq-eqb, ne_eqb, lt-ltb, le-ltb}
 use Rattle.std.specs.Prelude.{nat_lt}
 use mathlib.Core.Logic.{dite}
 use native.Mathlib.Decide.{ℕ_discrete, dec_le}
@@ -23,7 +24,8 @@ Has e (s ∷ ss) = (s ≡ e) ⊎ Has e ss
 
 -- by cases on an order of two numbers
 ordered : (a b : ℕ) (P : Bool → Type 0) → (a < b → P true) → (b ≤ a → P false) → P (nat_lt a b)
-ordered a b P less rest = dite (dec_le b a) (λ h. subst P (sym (le-ltb a b h)) (rest h)) (λ h. let lt : a < b = omega arith in subst P (sym (lt-ltb a b lt)) (less lt))
+ordered a b P less rest = dite (dec_le b a) (λ h. subst P (sym (le-ltb a b h)) (rest h))
+    (λ h. let lt : a < b = omega arith in subst P (sym (lt-ltb a b lt)) (less lt))
 
 equal : (a b : ℕ) (P : Bool → Type 0) → (a ≡ b → P true) → (a ≢ b → P false) → P (eqb a b)
 equal a b P hit miss = dite (ℕ_discrete a b) (λ e. subst P (sym (eq-eqb a b e)) (hit e)) (λ ne. subst P (sym (ne_eqb a b ne)) (miss ne))
@@ -31,12 +33,14 @@ equal a b P hit miss = dite (ℕ_discrete a b) (λ e. subst P (sym (eq-eqb a b e
 total_with : (h : Stint → ℕ) (s : Stint) (l : List Stint) → total h (with_stint s l) ≡ h s + total h l
 total_with h s [] = omega arith
 total_with h s (x ∷ xs) = let ih = total_with h s xs in
-    ordered s.number x.number (λ b. total h (cond b (s ∷ x ∷ xs) (x ∷ with_stint s xs)) ≡ h s + (h x + total h xs)) (λ _. refl) (λ _. omega (arith, ih))
+    ordered s.number x.number (λ b. total h (cond b (s ∷ x ∷ xs) (x ∷ with_stint s xs)) ≡ h s + (h x + total h xs)) (λ _. refl)
+    (λ _. omega (arith, ih))
 
 total_of : (t : ℕ) (h : Stint → ℕ) (all : List Stint) → total h (stints_of_task t all) ≡ total (of_task t h) all
 total_of t h [] = refl
 total_of t h (x ∷ xs) = let ih = total_of t h xs in let w = total_with h x (stints_of_task t xs) in
-    equal x.task t (λ b. total h (cond b (with_stint x (stints_of_task t xs)) (stints_of_task t xs)) ≡ cond b (h x) 0 + total (of_task t h) xs) (λ _. omega (arith, ih, w)) (λ _. omega (arith, ih))
+    equal x.task t (λ b. total h (cond b (with_stint x (stints_of_task t xs)) (stints_of_task t xs)) ≡ cond b (h x) 0
+    + total (of_task t h) xs) (λ _. omega (arith, ih, w)) (λ _. omega (arith, ih))
 
 at_least_less : (m n : ℕ) (l : List Stint) → m ≤ n → AtLeast n l → AtLeast m l
 at_least_less m n [] le h = tt
@@ -57,7 +61,8 @@ sorted_with s (x ∷ xs) h = let ih = sorted_with s xs h.1 in
 sorted_of : (t : ℕ) (all : List Stint) → Sorted (stints_of_task t all)
 sorted_of t [] = tt
 sorted_of t (x ∷ xs) = let ih = sorted_of t xs in
-    equal x.task t (λ b. Sorted (cond b (with_stint x (stints_of_task t xs)) (stints_of_task t xs))) (λ _. sorted_with x (stints_of_task t xs) ih) (λ _. ih)
+    equal x.task t (λ b. Sorted (cond b (with_stint x (stints_of_task t xs)) (stints_of_task t xs)))
+    (λ _. sorted_with x (stints_of_task t xs) ih) (λ _. ih)
 
 -- whether two stints are one
 abbrev same_units : List ℕ → List ℕ → Bool
@@ -95,10 +100,17 @@ same_equal a b h =
     let p = both (eqb a.task b.task) _ h in
     let q = both (eqb a.number b.number) _ p.1 in
     let r = both (eqb a.processor b.processor) _ q.1 in
-    λ i. record { task = is_equal a.task b.task p.0 i; number = is_equal a.number b.number q.0 i; processor = is_equal a.processor b.processor r.0 i; units = units_equal a.units b.units r.1 i }
+    λ i. record {
+      task = is_equal a.task b.task p.0 i;
+      number = is_equal a.number b.number q.0 i;
+      processor = is_equal a.processor b.processor r.0 i;
+      units = units_equal a.units b.units r.1 i;
+    }
 
 same_itself : (a : Stint) → same a a ≡ true
-same_itself a = both_true (eqb a.task a.task) _ (eq-eqb a.task a.task refl) (both_true (eqb a.number a.number) _ (eq-eqb a.number a.number refl) (both_true (eqb a.processor a.processor) _ (eq-eqb a.processor a.processor refl) (units_same a.units)))
+same_itself a = both_true (eqb a.task a.task) _ (eq-eqb a.task a.task refl)
+    (both_true (eqb a.number a.number) _ (eq-eqb a.number a.number refl)
+    (both_true (eqb a.processor a.processor) _ (eq-eqb a.processor a.processor refl) (units_same a.units)))
 
 abbrev is_one : Stint → Stint → ℕ
 is_one e x = cond (same x e) 1 0
@@ -119,7 +131,8 @@ found e (x ∷ xs) h = by (same x e) refl (found e xs) h
 
 low_at_least : (n : ℕ) (l : List Stint) → total (is_low n) l ≡ 0 → AtLeast n l
 low_at_least n [] h = tt
-low_at_least n (x ∷ xs) h = ordered x.number n (λ b. cond b 1 0 + total (is_low n) xs ≡ 0 → AtLeast n (x ∷ xs)) (λ _ z. absurd (omega (arith, z))) (λ le z. (le, low_at_least n xs (omega (arith, z)))) h
+low_at_least n (x ∷ xs) h = ordered x.number n (λ b. cond b 1 0 + total (is_low n) xs ≡ 0 → AtLeast n (x ∷ xs))
+    (λ _ z. absurd (omega (arith, z))) (λ le z. (le, low_at_least n xs (omega (arith, z)))) h
 
 numbered_low : (t m n : ℕ) (l : List Stint) → m ≤ n → IsNumbered t n l → total (is_low m) l ≡ 0
 numbered_low t m n [] le h = refl
@@ -133,18 +146,21 @@ numbered_at t m n (x ∷ xs) lt h = let ih = numbered_at t m (n + 1) xs (omega a
 
 has_at : (e : Stint) (l : List Stint) → Has e l → 1 ≤ total (is_at e.number) l
 has_at e [] h = absurd h
-has_at e (x ∷ xs) h = ⊎_elim (λ (is : x ≡ e). let one : is_at e.number x ≡ 1 = ap (λ (b : Bool). cond b 1 0) (eq-eqb x.number e.number (ap (λ (s : Stint). s.number) is)) in omega (arith, one))
+has_at e (x ∷ xs) h = ⊎_elim (λ (is : x ≡ e). let one : is_at e.number x
+    ≡ 1 = ap (λ (b : Bool). cond b 1 0) (eq-eqb x.number e.number (ap (λ (s : Stint). s.number) is)) in omega (arith, one))
     (λ (d : Has e xs). omega (arith, has_at e xs d)) h
 
 has_at_least : (e : Stint) (n : ℕ) (l : List Stint) → AtLeast n l → Has e l → n ≤ e.number
 has_at_least e n [] a h = absurd h
-has_at_least e n (x ∷ xs) a h = ⊎_elim (λ (is : x ≡ e). omega (arith, a.0, ap (λ (s : Stint). s.number) is)) (λ (d : Has e xs). has_at_least e n xs a.1 d) h
+has_at_least e n (x ∷ xs) a h =
+    ⊎_elim (λ (is : x ≡ e). omega (arith, a.0, ap (λ (s : Stint). s.number) is)) (λ (d : Has e xs). has_at_least e n xs a.1 d) h
 
 -- a sorted list that has the weights of a numbered one is that one
 one_list : (t n : ℕ) (log l : List Stint) → IsNumbered t n log → Sorted l → ((h : Stint → ℕ) → total h l ≡ total h log) → l ≡ log
 one_list t n [] [] num sorted eq = refl
 one_list t n [] (x ∷ xs) num sorted eq = absurd (omega (arith, eq (λ _. 1)))
-one_list t n (e ∷ es) [] num sorted eq = let one : is_one e e ≡ 1 = ap (λ (b : Bool). cond b 1 0) (same_itself e) in absurd (omega (arith, eq (is_one e), one))
+one_list t n (e ∷ es) [] num sorted eq =
+    let one : is_one e e ≡ 1 = ap (λ (b : Bool). cond b 1 0) (same_itself e) in absurd (omega (arith, eq (is_one e), one))
 one_list t n (e ∷ es) (x ∷ xs) num sorted eq =
     let one : is_one e e ≡ 1 = ap (λ (b : Bool). cond b 1 0) (same_itself e) in
     let there : Has e (x ∷ xs) = found e (x ∷ xs) (omega (arith, eq (is_one e), one)) in

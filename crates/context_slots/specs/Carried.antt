@@ -9,7 +9,8 @@ abbrev pub AllCarried : List Stint → ℕ → List Context → Type 0
 AllCarried stints n [] = Unit {0}
 AllCarried stints n (c ∷ cs) = (c ≡ carried_context n stints) × AllCarried stints (n + 1) cs
 
--- the contexts from the n-th task on, each of its own task, with a last processor below m where it has one
+-- the contexts from the n-th task on, each of its own task, with a last processor below m where it
+-- has one
 abbrev pub AreOwn : ℕ → ℕ → List Context → Type 0
 AreOwn m n [] = Unit {0}
 AreOwn m n (c ∷ cs) = (c.task ≡ n) × IfSome c.last (λ p. p < m) × AreOwn m (n + 1) cs

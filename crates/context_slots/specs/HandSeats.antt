@@ -6,8 +6,14 @@ use Rattle.context_slots.specs.declared.hand_seat.HandSeat.{HandSeat}
 use Rattle.context_slots.specs.Hands.{HandData}
 
 -- what contracts see of a hand with this seat
-abbrev pub data_of : HandSeat → HandData
-data_of a = record { slots = a.seat.table_id; number = a.number; holds = a.seat.me.0.holds; ended = a.seat.me.0.ended; looks = a.seat.me.0.looks }
+abbrev pub hand_data_of : HandSeat → HandData
+hand_data_of a = record {
+  slots = a.seat.table_id;
+  number = a.number;
+  holds = a.seat.me.0.holds;
+  ended = a.seat.me.0.ended;
+  looks = a.seat.me.0.looks;
+}
 
 -- the empty slot that goes with a stint
 abbrev pub slots_of : Option OpenStint → List (ℕ × Option Context)

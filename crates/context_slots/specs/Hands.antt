@@ -1,6 +1,8 @@
--- What contracts see of slots and of hands, and what each call does to a hand. A hand is of one processor and holds at
--- most one stint; a stint adds its units in order, and its context is its base after the take and the runs.
-use Rattle.std.specs.Prelude.{◌≡◌, ℕ, ◌+◌, ◌*◌, ◌<◌, Option, None, Some, List, [], ◌∷◌, ◌++◌, length}
+-- What contracts see of slots and of hands, and what each call does to a hand. A hand is of one
+-- processor and holds at most one stint; a stint adds its units in order, and its context is its
+-- base after the take and the runs.
+use Rattle.std.specs.Prelude.{◌≡◌, ℕ, ◌+◌, ◌*◌, ◌<◌, Option, None, Some, List, [], ◌∷◌, ◌++◌}
+use Rattle.std.specs.Prelude.{length}
 use Rattle.atomic_table.specs.Seated.{TableId}
 use Rattle.task_set.specs.declared.context.Context.{Context}
 use Rattle.task_set.specs.Orders.{Stint}
@@ -15,8 +17,8 @@ pub record SlotsData : Type 0 where
   pub id : TableId
   pub set : SetData
 
--- the slots that it is of, its processor, the stint that it runs, the stints that it ended, and what its own loads and
--- exchanges found: the task, and its word
+-- the slots that it is of, its processor, the stint that it runs, the stints that it ended, and
+-- what its own loads and exchanges found: the task, and its word
 pub record HandData : Type 0 where
   pub slots : TableId
   pub number : ℕ
@@ -26,25 +28,28 @@ pub record HandData : Type 0 where
 
 -- a hand that did nothing
 abbrev pub new_hand : TableId → ℕ → HandData
-new_hand slots number = record { slots = slots; number = number; holds = None; ended = []; looks = [] }
+new_hand slots number =
+    record { slots = slots; number = number; holds = None; ended = []; looks = [] }
 
 -- new hands of these slots, for the processors from n on
-abbrev pub AreNewFrom : TableId → ℕ → List HandData → Type 0
-AreNewFrom slots n [] = Unit {0}
-AreNewFrom slots n (hand ∷ rest) = (hand ≡ new_hand slots n) × AreNewFrom slots (n + 1) rest
+abbrev pub AreNewHandsFrom : TableId → ℕ → List HandData → Type 0
+AreNewHandsFrom slots n [] = Unit {0}
+AreNewHandsFrom slots n (hand ∷ rest) =
+    (hand ≡ new_hand slots n) × AreNewHandsFrom slots (n + 1) rest
 
 -- a new hand for each processor, in order
-abbrev pub AreNew : SlotsData → List HandData → Type 0
-AreNew slots hands = (length hands ≡ slots.set.processors) × AreNewFrom slots.id 0 hands
+abbrev pub AreNewHands : SlotsData → List HandData → Type 0
+AreNewHands slots hands = (length hands ≡ slots.set.processors) × AreNewHandsFrom slots.id 0 hands
 
 -- hands of these slots that hold nothing, for the processors from n on
 abbrev pub AreFreeFrom : TableId → ℕ → List HandData → Type 0
 AreFreeFrom slots n [] = Unit {0}
-AreFreeFrom slots n (hand ∷ rest) = (hand.slots ≡ slots) × (hand.number ≡ n) × (hand.holds ≡ None) × AreFreeFrom slots (n + 1) rest
+AreFreeFrom slots n (hand ∷ rest) =
+    (hand.slots ≡ slots) × (hand.number ≡ n) × (hand.holds ≡ None) × AreFreeFrom slots (n + 1) rest
 
 -- these are all hands, in order, and none holds anything
-abbrev pub AreAll : SlotsData → List HandData → Type 0
-AreAll slots hands = (length hands ≡ slots.set.processors) × AreFreeFrom slots.id 0 hands
+abbrev pub AreAllHands : SlotsData → List HandData → Type 0
+AreAllHands slots hands = (length hands ≡ slots.set.processors) × AreFreeFrom slots.id 0 hands
 
 -- the stints that the hands ended
 abbrev pub all_ended : List HandData → List Stint
@@ -61,7 +66,8 @@ with_run stint units = record stint { units = stint.units ++ units ∷ [] }
 
 -- a stint, as one that has ended on p
 abbrev pub closed : ℕ → OpenStint → Stint
-closed p stint = record { task = stint.task; number = stint.number; processor = p; units = stint.units }
+closed p stint =
+    record { task = stint.task; number = stint.number; processor = p; units = stint.units }
 
 -- the hand after a load or an exchange that found this word
 abbrev pub after_look : HandData → ℕ → ℕ → HandData
@@ -69,7 +75,10 @@ after_look hand task found = record hand { looks = hand.looks ++ (task, found) �
 
 -- the hand after it took a task from this context at home, by an exchange that found its turn
 abbrev pub after_take : HandData → ℕ → ℕ → Context → HandData
-after_take hand task number base = record hand { holds = Some (begun task number base); looks = hand.looks ++ (task, 2 * number) ∷ [] }
+after_take hand task number base = record hand {
+  holds = Some (begun task number base);
+  looks = hand.looks ++ (task, 2 * number) ∷ [];
+}
 
 -- the stint that is held, with a run more
 abbrev pub held_with_run : Option OpenStint → ℕ → Option OpenStint
@@ -87,13 +96,15 @@ held_closed p (Some stint) = closed p stint ∷ []
 
 -- the hand after it let its task go
 abbrev pub after_release : HandData → HandData
-after_release hand = record hand { holds = None; ended = hand.ended ++ held_closed hand.number hand.holds }
+after_release hand =
+    record hand { holds = None; ended = hand.ended ++ held_closed hand.number hand.holds }
 
 -- the context in a stint on p
 abbrev pub context_in : ℕ → OpenStint → Context
 context_in p stint = context_after_runs (context_after_take stint.base p) p stint.units
 
--- the hand took this: it runs this stint of this task, in this context; the task has a word, and is not the last one
+-- the hand took this: it runs this stint of this task, in this context; the task has a word, and is
+-- not the last one
 pub record Took (hand : HandData) (held : HeldContext) : Type 0 where
   pub stint : OpenStint
   pub holds : hand.holds ≡ Some stint
@@ -108,8 +119,10 @@ pub record IsInStint (c : Context) (t number p : ℕ) : Type 0 where
   pub stints : c.stints ≡ number + 1
   pub last : c.last ≡ Some p
 
--- a hand takes a task for the stint with this number, from the context after all earlier stints of the task
-pub record Takes (old : HandData) (task number : ℕ) (held : HeldContext) (new : HandData) : Type 0 where
+-- a hand takes a task for the stint with this number, from the context after all earlier stints of
+-- the task
+pub record TakesStint (old : HandData) (task number : ℕ) (held : HeldContext)
+    (new : HandData) : Type 0 where
   pub task_is : held.task ≡ task
   pub number_is : held.number ≡ number
   pub base : Context

@@ -1,6 +1,6 @@
 //! The hand of a processor.
 ghost use Rattle.std.specs.Prelude.{◌≡◌, ◌<◌};
-ghost use Rattle.context_slots.specs.HandSeats.{data_of, IsWhole};
+ghost use Rattle.context_slots.specs.HandSeats.{hand_data_of, IsWhole};
 
 use crate::hand_seat::HandSeat;
 use std::marker::Model;
@@ -38,7 +38,7 @@ impl Hand {
 
     // Takes it apart.
     pub(crate) fn into_hand_seat(self) -> HandSeat
-        ensures data { data_of result ≡ self }
+        ensures data { hand_data_of result ≡ self }
         ensures whole { IsWhole result }
     {
         self.hand_seat

@@ -16,7 +16,7 @@ pub struct HandSeat {
 
 /// A context that was taken, with its task and the number of the stint.
 #[derive(Drop)]
-pub struct Taken {
+pub struct TakenStint {
     pub task: u32,
     pub number: u32,
     pub context: Context,

@@ -1,7 +1,7 @@
 //! A context that was taken, and why one was not.
 ghost use Rattle.std.specs.Prelude.{◌≡◌};
 
-use crate::hand_seat::Taken;
+use crate::hand_seat::TakenStint;
 use std::marker::Model;
 use task_set::Context;
 
@@ -9,7 +9,7 @@ use task_set::Context;
 /// out for good, and the slots can then never be closed.
 #[derive(Drop)]
 pub struct Held {
-    pub(crate) taken: Taken,
+    pub(crate) taken: TakenStint,
 }
 
 impl Model for Held {

@@ -1,6 +1,6 @@
 //! The contexts of all tasks, handed over by turn words.
 ghost use Rattle.std.specs.Prelude.{◌≡◌, ◌≢◌, ◌*◌, ◌<◌, None, MatchResult, IfOk, IfErr, length};
-ghost use Rattle.context_slots.specs.Hands.{AreNew, AreAll, all_ended, after_look, after_run, after_release, Took, Takes};
+ghost use Rattle.context_slots.specs.Hands.{AreNewHands, AreAllHands, all_ended, after_look, after_run, after_release, Took, TakesStint};
 ghost use Rattle.context_slots.specs.Carried.{AllCarried, AreOwn};
 
 use crate::hand::Hand;
@@ -47,7 +47,7 @@ impl Slots {
     /// their numbers. Refused only where out of memory.
     pub fn new(alloc: Global, set: &TaskSet) -> Result<(Slots, Vec<Hand>), OutOfMemory>
         ensures slots { IfOk result (λ made. made.0.set ≡ set.now) }
-        ensures hands { IfOk result (λ made. AreNew made.0 made.1.items) }
+        ensures hands { IfOk result (λ made. AreNewHands made.0 made.1.items) }
     {
         let tasks = set.len();
         let processors = set.processors();
@@ -79,7 +79,7 @@ impl Slots {
         requires task { task < length self.now.set.tasks }
         requires free { hand.old.holds ≡ None }
         ensures turn { MatchResult result
-            (λ held. Takes hand.old task number held hand.new)
+            (λ held. TakesStint hand.old task number held hand.new)
             (λ no. (no.found ≢ 2 * number) × (hand.new ≡ after_look hand.old task no.found)) }
     {
         match self.words.take(&mut hand.hand_seat, task, number) {
@@ -126,7 +126,7 @@ impl Slots {
     /// The contexts in the order of their tasks, each carried through all stints of its task, whichever hands ended
     /// them. The hands are those that `new` gave, all of them and in their order. Refused only where out of memory.
     pub fn close(self, alloc: Global, mut hands: Vec<Hand>) -> Result<Vec<Context>, Unclosed>
-        requires { AreAll self hands.items }
+        requires { AreAllHands self hands.items }
         ensures contexts { IfOk result (λ contexts.
             (length contexts.items ≡ length self.set.tasks)
             × AllCarried (all_ended hands.items) 0 contexts.items) }

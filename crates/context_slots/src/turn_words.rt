@@ -7,9 +7,9 @@ ghost use Rattle.std.specs.Prelude.{◌≡◌, ◌≢◌, ℕ, ◌+◌, ◌*◌,
 ghost use Rattle.context_slots.specs.HandOver.{HandOverRule, IsHomeAfter};
 ghost use Rattle.context_slots.specs.Hands.{begun, with_run, closed, IsInStint};
 ghost use Rattle.context_slots.specs.HandSeats.{IsSameHand};
-ghost use Rattle.context_slots.specs.HandSteps.{looked, holding, looks_play, takes_play, runs_play, releases_play, HoldsNothing, TookHeld, dealing, dealt, next_hand, joined, spent};
+ghost use Rattle.context_slots.specs.HandSteps.{looked_at_turn, holding, looks_play, takes_play, runs_play, releases_play, HoldsNothing, TookHeld, dealing, dealt, next_hand, joined, spent_hand};
 
-use crate::hand_seat::{HandSeat, Taken};
+use crate::hand_seat::{HandSeat, TakenStint};
 use crate::held::NotTurn;
 use crate::view::HandView;
 use atomic_table::{Join, Play, Seat, Split, Table, TableRule};
@@ -69,7 +69,7 @@ pub struct Gathers;
 impl Join<HandView> for Gathers {
     ghost both = { joined };
 
-    ghost spent = { spent };
+    ghost spent = { spent_hand };
 }
 
 /// The units of one run. They are no operand of the load that notes them, so the call picks them.
@@ -131,7 +131,7 @@ pub fn open(
 
 impl TurnWords {
     /// Takes a task for the stint with this number, by one compare and exchange.
-    pub fn take(&self, hand: &mut HandSeat, task: u32, number: u32) -> Result<Taken, NotTurn>
+    pub fn take(&self, hand: &mut HandSeat, task: u32, number: u32) -> Result<TakenStint, NotTurn>
         requires task { task < self.now.tasks }
         requires hand { (hand.old.seat.table_id ≡ self.now.table.shared.table_id)
             × HoldsNothing hand.old.seat.me × (0 < hand.old.seat.me.0.parts) }
@@ -140,11 +140,11 @@ impl TurnWords {
             (λ held. (held.task ≡ task) × (held.number ≡ number)
             × TookHeld hand.new.seat.me task number held.context
             × ((base : Context) × IsHomeAfter base task number × (hand.new.seat.me.0
-            ≡ holding (looked hand.old.seat.me.0 task (2 * number))
+            ≡ holding (looked_at_turn hand.old.seat.me.0 task (2 * number))
             (Some (begun task number base))))
             × IsInStint held.context task number hand.old.number)
             (λ no. (no.found ≢ 2 * number)
-            × (hand.new.seat.me ≡ (looked hand.old.seat.me.0 task no.found, []))) }
+            × (hand.new.seat.me ≡ (looked_at_turn hand.old.seat.me.0 task no.found, []))) }
     {
         let shared = &self.table.shared;
         let word = task as usize;
@@ -155,7 +155,7 @@ impl TurnWords {
         }
         let mut context = shared.exchange(&mut hand.seat, word, None).unwrap();
         context.took(hand.number);
-        Ok(Taken {
+        Ok(TakenStint {
             task,
             number,
             context,
@@ -163,7 +163,7 @@ impl TurnWords {
     }
 
     /// Runs a number of units, and notes them by one load.
-    pub fn run(&self, hand: &mut HandSeat, held: &mut Taken, units: u32)
+    pub fn run(&self, hand: &mut HandSeat, held: &mut TakenStint, units: u32)
         requires hand { (hand.old.seat.table_id ≡ self.now.table.shared.table_id)
             × TookHeld hand.old.seat.me held.old.task held.old.number held.old.context
             × (0 < hand.old.seat.me.0.parts) }
@@ -196,7 +196,7 @@ impl TurnWords {
     }
 
     /// Puts the context home, by one store.
-    pub fn release(&self, hand: &mut HandSeat, held: Taken)
+    pub fn release(&self, hand: &mut HandSeat, held: TakenStint)
         requires hand { (hand.old.seat.table_id ≡ self.now.table.shared.table_id)
             × TookHeld hand.old.seat.me held.task held.number held.context
             × (0 < hand.old.seat.me.0.parts) }
@@ -221,7 +221,7 @@ impl TurnWords {
             × (0 < hand.old.seat.me.0.parts) }
         ensures same { IsSameHand hand.old hand.new }
         ensures look { hand.new.seat.me
-            ≡ (looked hand.old.seat.me.0 task result, hand.old.seat.me.1) }
+            ≡ (looked_at_turn hand.old.seat.me.0 task result, hand.old.seat.me.1) }
     {
         self.table
             .shared

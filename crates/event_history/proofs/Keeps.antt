@@ -1,5 +1,7 @@
 -- Each step keeps the rule of the turn word.
-use Rattle.std.proofs.Common.{◌≡◌, ℕ, ◌+◌, ◌-◌, ◌*◌, ◌%◌, ◌<◌, ◌≤◌, ◌&&◌, not, eqb, cond, Bool, true, false, ◌≢◌, List, [], ◌∷◌, ◌++◌, length, length-append, get_or, set, sym, refl, ap, ◌∙◌, subst, ⊎_elim, arith, length-set, get_or-set_same, eq-eqb, ne_eqb, lt-ltb, le-ltb, Option, Some, None, MatchBool}
+use Rattle.std.proofs.Common.{◌≡◌, ℕ, ◌+◌, ◌-◌, ◌*◌, ◌%◌, ◌<◌, ◌≤◌, ◌&&◌, not, eqb, cond, Bool, true, false, ◌≢◌, List, [], ◌∷◌, ◌++◌}
+use Rattle.std.proofs.Common.{length, length-append, get_or, set, sym, refl, ap, ◌∙◌, subst, ⊎_elim, arith, length-set, get_or-set_same}
+use Rattle.std.proofs.Common.{eq-eqb, ne_eqb, lt-ltb, le-ltb, Option, Some, None, MatchBool}
 use mathlib.Core.Logic.{dite}
 use mathlib.Core.Option.{some, none}
 use mathlib.Core.List.{IsPrefix}
@@ -16,8 +18,10 @@ use Rattle.strong_apa.specs.History.{IsLegal, IsLegalFrom}
 use Rattle.sched_core.specs.CoreData.{CoreData, IsCore}
 use Rattle.event_history.specs.declared.view.PassView.{PassView}
 use Rattle.event_history.specs.Holdings.{HeldData, queues_of}
-use Rattle.event_history.specs.Places.{places_of, CallersBelow}
-use Rattle.event_history.specs.Turn.{Setting, turns, turn_count, Holds, own_pass, unmade_pass, ended_pass, passes_of, AllBegin, AllSaw, AllMine, Fits, TurnRule, TurnSeat, IsOver, GoesOn, loaded, looked, with_turn, loads_play, takes_play, posts_play, leaves_play, after_post, after_leave, IsFree, MayRecord, MayLeave}
+use Rattle.event_history.specs.Places.{own_places, CallersBelow}
+use Rattle.event_history.specs.Turn.{Setting, turns, turn_count, Holds, own_pass, unmade_pass, ended_pass, passes_of, AllBegin, AllSaw}
+use Rattle.event_history.specs.Turn.{AllMine, Fits, TurnRule, TurnSeat, IsOver, GoesOn, loaded, found_another, with_turn, loads_play}
+use Rattle.event_history.specs.Turn.{turn_play, posts_play, leaves_play, after_post, after_leave, IsFree, MayRecord, MayLeave}
 use Rattle.task_set.specs.Sum.{total}
 use Rattle.task_set.proofs.Sums.{total-set, term_le, terms_le}
 use Rattle.event_history.proofs.Prefixes.{prefix_refl, prefix_trans, prefix_length, places_here, places_else}
@@ -29,22 +33,27 @@ abbrev pub with_views : St → List PassView → St
 with_views s vs = record s { views = vs }
 
 tested : (n old : ℕ) (P : Bool → Type 0) → (n ≡ old → P true) → (n ≢ old → P false) → P (eqb n old)
-tested n old P hit miss = dite (ℕ_discrete n old) (λ e. subst P (sym (eq-eqb n old e)) (hit e)) (λ ne. subst P (sym (ne_eqb n old ne)) (miss ne))
+tested n old P hit miss =
+    dite (ℕ_discrete n old) (λ e. subst P (sym (eq-eqb n old e)) (hit e)) (λ ne. subst P (sym (ne_eqb n old ne)) (miss ne))
 
 -- the lists that were compared begin what was seen
-all_begin : (history : List Entry) (closed : Bool) (seen : List Entry) (olds : List (List Entry × Bool)) → AllSaw history closed seen olds → AllBegin olds seen
+all_begin : (history : List Entry) (closed : Bool) (seen : List Entry) (olds : List (List Entry × Bool)) → AllSaw history closed seen olds
+    → AllBegin olds seen
 all_begin history closed seen [] h = tt
 all_begin history closed seen (o ∷ os) h = (h.0, all_begin history closed seen os h.2)
 
 -- they begin what begins with it
-pub all_further : (history : List Entry) (closed : Bool) (olds : List (List Entry × Bool)) (xs ys : List Entry) → IsPrefix xs ys → AllSaw history closed xs olds → AllSaw history closed ys olds
+pub all_further : (history : List Entry) (closed : Bool) (olds : List (List Entry × Bool)) (xs ys : List Entry) → IsPrefix xs ys
+    → AllSaw history closed xs olds → AllSaw history closed ys olds
 all_further history closed [] xs ys p h = tt
 all_further history closed (o ∷ os) xs ys p h = (prefix_trans o.0 xs ys h.0 p, h.1, all_further history closed os xs ys p h.2)
 
 -- those that are the closed history stay it, since it does not grow
-all_saw_after : (history h' : List Entry) (closed closed' : Bool) (seen : List Entry) (olds : List (List Entry × Bool)) → (closed ≡ true → (h' ≡ history) × (closed' ≡ true)) → AllSaw history closed seen olds → AllSaw h' closed' seen olds
+all_saw_after : (history h' : List Entry) (closed closed' : Bool) (seen : List Entry) (olds : List (List Entry × Bool))
+    → (closed ≡ true → (h' ≡ history) × (closed' ≡ true)) → AllSaw history closed seen olds → AllSaw h' closed' seen olds
 all_saw_after history h' closed closed' seen [] close h = tt
-all_saw_after history h' closed closed' seen (o ∷ os) close h = (h.0, (λ saw. let e = h.1 saw in let t = close e.1 in (e.0 ∙ sym t.0, t.1)), all_saw_after history h' closed closed' seen os close h.2)
+all_saw_after history h' closed closed' seen (o ∷ os) close h =
+    (h.0, (λ saw. let e = h.1 saw in let t = close e.1 in (e.0 ∙ sym t.0, t.1)), all_saw_after history h' closed closed' seen os close h.2)
 
 callers_snoc : (n : ℕ) (l : List Entry) (e : Entry) → CallersBelow n l → e.caller < n → CallersBelow n (l ++ e ∷ [])
 callers_snoc n [] e h is = (is, tt)
@@ -64,13 +73,15 @@ by_itself : (v : PassView) → v.is_pass ≡ true → own_pass v.caller v ≡ 1
 by_itself v is = by_same v.caller v is refl
 
 -- what ended passes have stands, where none of them is the caller p
-all_mine_kept : (callers p : ℕ) (hist h' : List Entry) (l : List (ℕ × List ℕ)) → total (ended_pass p) l ≡ 0 → ((x : ℕ) → x ≢ p → places_of x h' ≡ places_of x hist) → AllMine callers hist l → AllMine callers h' l
+all_mine_kept : (callers p : ℕ) (hist h' : List Entry) (l : List (ℕ × List ℕ)) → total (ended_pass p) l ≡ 0
+    → ((x : ℕ) → x ≢ p → own_places x h' ≡ own_places x hist) → AllMine callers hist l → AllMine callers h' l
 all_mine_kept callers p hist h' [] not same h = tt
 all_mine_kept callers p hist h' (e ∷ es) not same h =
     let other : e.0 ≢ p = λ is. let one : ended_pass p e ≡ 1 = ap one_if (eq-eqb e.0 p is) in absurd (omega arith) in
     (h.0 ∙ sym (same e.0 other), h.1, all_mine_kept callers p hist h' es (omega arith) same h.2)
 
-pub mine_append : (callers : ℕ) (hist : List Entry) (l m : List (ℕ × List ℕ)) → AllMine callers hist l → AllMine callers hist m → AllMine callers hist (l ++ m)
+pub mine_append : (callers : ℕ) (hist : List Entry) (l m : List (ℕ × List ℕ)) → AllMine callers hist l → AllMine callers hist m
+    → AllMine callers hist (l ++ m)
 mine_append callers hist [] m a b = b
 mine_append callers hist (x ∷ xs) m a b = (a.0, a.1, mine_append callers hist xs m a.2 b)
 
@@ -85,10 +96,12 @@ one_held a b e =
 pub legal_over : (of : SetData) (core : CoreData) → IsCore core → core.start ≡ start_of of → IsLegal of core.history
 legal_over of core valid start = subst (λ s. IsLegalFrom s core.history) start valid.legal
 
-pub is_over : (of : Setting) (held : HeldData) → IsCore held.core → held.core.start ≡ start_of of.set → queues_of held.senders ≡ of.queues → IsOver of held
+pub is_over : (of : Setting) (held : HeldData) → IsCore held.core → held.core.start ≡ start_of of.set → queues_of held.senders ≡ of.queues
+    → IsOver of held
 is_over of held valid start queues = record { start = start; queues = queues; legal = legal_over of.set held.core valid start }
 
-pub put_back_is : (m m' : TurnSeat) (held : HeldData) → m.1 ≡ (0, None) ∷ [] → m' ≡ (m.0, (0, Some held) ∷ rest m.1) → m' ≡ (m.0, (0, Some held) ∷ [])
+pub put_back_is : (m m' : TurnSeat) (held : HeldData) → m.1 ≡ (0, None) ∷ [] → m' ≡ (m.0, (0, Some held) ∷ rest m.1)
+    → m' ≡ (m.0, (0, Some held) ∷ [])
 put_back_is m m' held slot put = put ∙ ap (λ l. (m.0, (0, Some held) ∷ rest l)) slot
 
 -- of a pass that is still to be made, once one more was made
@@ -102,7 +115,12 @@ pub unmade_next : (x made : ℕ) → 0 < made → unmade_pass x (made + 1) + one
 unmade_next x made any = dite (dec_le made x)
     (λ above. dite (ℕ_discrete made x)
     (λ e. omega (arith, unmade_not x (made + 1) (omega arith), ap one_if (eq-eqb made x e), unmade_before x made any above))
-    (λ ne. omega (arith, unmade_before x (made + 1) (omega arith) (omega arith), ap one_if (ne_eqb made x ne), unmade_before x made any above)))
+    (λ ne. omega (
+      arith,
+      unmade_before x (made + 1) (omega arith) (omega arith),
+      ap one_if (ne_eqb made x ne),
+      unmade_before x made any above,
+    )))
     (λ below. let lt : x < made = omega arith in let ne : made ≢ x = λ e. absurd (omega arith) in
     omega (arith, unmade_not x (made + 1) (omega arith), ap one_if (ne_eqb made x ne), unmade_not x made lt))
 
@@ -111,7 +129,8 @@ module _ (of : Setting) (callers : ℕ) where
   Kept s = TurnRule of callers s
 
   -- a step that changes one view alone
-  shown : (id : ℕ) (v w : PassView) (s : St) → (k : Kept s) → get_elem? s.views id ≡ some v → turns w ≡ turns v → ((x : ℕ) → passes_of x w ≤ passes_of x v) → Fits callers k.history k.closed w
+  shown : (id : ℕ) (v w : PassView) (s : St) → (k : Kept s) → get_elem? s.views id ≡ some v → turns w ≡ turns v
+      → ((x : ℕ) → passes_of x w ≤ passes_of x v) → Fits callers k.history k.closed w
       → Kept (with_views s (set s.views id w))
   shown id v w s k at turn by fit = record {
     history = k.history;
@@ -127,7 +146,8 @@ module _ (of : Setting) (callers : ℕ) where
     few = k.few;
   }
 
-  unworded : (id : ℕ) (w : PassView) (s : St) → Kept (with_views s (set s.views id w)) → Kept (record { words = set s.words 0 (get_or s.words 0 0); homes = s.homes; views = set s.views id w })
+  unworded : (id : ℕ) (w : PassView) (s : St) → Kept (with_views s (set s.views id w))
+      → Kept (record { words = set s.words 0 (get_or s.words 0 0); homes = s.homes; views = set s.views id w })
   unworded id w s k = subst (λ ws. Kept (record { words = ws; homes = s.homes; views = set s.views id w })) (sym (set-get_or s.words 0 0)) k
 
   pub loads_lem : (slots id : ℕ) (m : TurnSeat) → Allows (TurnRule of callers) slots id m 0 (λ n. n) (loads_play (step slots 0 0 0 none) m)
@@ -136,16 +156,34 @@ module _ (of : Setting) (callers : ℕ) where
       let n : ℕ = get_or s.words 0 0 in
       let w : PassView = loaded v n in
       let f = k.fits id v at in
-      let fit : Fits callers k.history k.closed w = record { seen = f.seen; known = omega (arith, f.known, k.count); close = f.close; held = f.held; holder = f.holder; olds = tt; mine = f.mine; unmade = f.unmade; ended = f.ended } in
-      (w, keeps, tt, unworded id w s (shown id v w s k at refl (λ x. omega arith) fit), (refl, all_begin k.history k.closed v.seen v.olds f.olds, omega (arith, f.known, k.count)))
+      let fit : Fits callers k.history k.closed w = record {
+        seen = f.seen;
+        known = omega (arith, f.known, k.count);
+        close = f.close;
+        held = f.held;
+        holder = f.holder;
+        olds = tt;
+        mine = f.mine;
+        unmade = f.unmade;
+        ended = f.ended;
+      } in (
+        w,
+        keeps,
+        tt,
+        unworded id w s (shown id v w s k at refl (λ x. omega arith) fit),
+        (refl, all_begin k.history k.closed v.seen v.olds f.olds, omega (arith, f.known, k.count)),
+      )
 
   abbrev Taking : ℕ → TurnSeat → St → ℕ → Bool → Type 0
-  Taking id m s old b = let n : ℕ = get_or s.words 0 0 in (w : PassView) × (a : Act (Option HeldData)) × Valid s.homes m.1 a × Kept (stepped s 0 (either b (old + 1) n) id m.1 w a)
+  Taking id m s old b = let n : ℕ = get_or s.words 0 0 in (w : PassView) × (a : Act (Option HeldData)) × Valid s.homes m.1 a
+      × Kept (stepped s 0 (either b (old + 1) n) id m.1 w a)
       × MatchBool b
-      ((held : HeldData) × ◌≡◌ {A = TurnSeat} (w, carried_after m.1 a) (with_turn m.0 n held.core, (0, Some held) ∷ []) × GoesOn of m.0 n held)
-      (◌≡◌ {A = TurnSeat} (w, carried_after m.1 a) (looked m.0 n, m.1))
+      ((held : HeldData) × ◌≡◌ {A = TurnSeat} (w, carried_after m.1 a) (with_turn m.0 n held.core, (0, Some held) ∷ [])
+      × GoesOn of m.0 n held)
+      (◌≡◌ {A = TurnSeat} (w, carried_after m.1 a) (found_another m.0 n, m.1))
 
-  taken : (id old : ℕ) (m : TurnSeat) → IsFree m → old % 2 ≡ 0 → (s : St) (k : Kept s) → get_elem? s.views id ≡ some m.0 → get_or s.words 0 0 ≡ old → Taking id m s old true
+  taken : (id old : ℕ) (m : TurnSeat) → IsFree m → old % 2 ≡ 0 → (s : St) (k : Kept s) → get_elem? s.views id ≡ some m.0
+      → get_or s.words 0 0 ≡ old → Taking id m s old true
   taken id old m free even s k at hit =
       let v : PassView = m.0 in
       let n : ℕ = get_or s.words 0 0 in
@@ -161,7 +199,17 @@ module _ (of : Setting) (callers : ℕ) where
       let shut : core.closed ≡ k.closed = home.3 in
       let nobody : turns v ≡ 0 = ap turn_count free.held in
       let word : get_or (set s.words 0 (old + 1)) 0 0 ≡ old + 1 = get_or-set_same s.words 0 (old + 1) 0 near in
-      let fit : Fits callers k.history k.closed w = record { seen = f.seen; known = f.known; close = f.close; held = (items, shut); holder = λ p. absurd (cc (sym free.pass ∙ p)); olds = f.olds; mine = f.mine; unmade = f.unmade; ended = f.ended } in (
+      let fit : Fits callers k.history k.closed w = record {
+        seen = f.seen;
+        known = f.known;
+        close = f.close;
+        held = (items, shut);
+        holder = λ p. absurd (cc (sym free.pass ∙ p));
+        olds = f.olds;
+        mine = f.mine;
+        unmade = f.unmade;
+        ended = f.ended;
+      } in (
         w,
         takes 0 (Some held),
         home.1,
@@ -195,27 +243,41 @@ module _ (of : Setting) (callers : ℕ) where
   missed : (id old : ℕ) (m : TurnSeat) (s : St) (k : Kept s) → get_elem? s.views id ≡ some m.0 → Taking id m s old false
   missed id old m s k at =
       let v : PassView = m.0 in
-      let w : PassView = looked v (get_or s.words 0 0) in
+      let w : PassView = found_another v (get_or s.words 0 0) in
       let f = k.fits id v at in
-      let fit : Fits callers k.history k.closed w = record { seen = f.seen; known = f.known; close = f.close; held = f.held; holder = f.holder; olds = f.olds; mine = f.mine; unmade = f.unmade; ended = f.ended } in
+      let fit : Fits callers k.history k.closed w = record {
+        seen = f.seen;
+        known = f.known;
+        close = f.close;
+        held = f.held;
+        holder = f.holder;
+        olds = f.olds;
+        mine = f.mine;
+        unmade = f.unmade;
+        ended = f.ended;
+      } in
       (w, keeps, tt, unworded id w s (shown id v w s k at refl (λ x. omega arith) fit), refl)
 
   pub takes_lem : (slots id old : ℕ) (m : TurnSeat) → IsFree m → old % 2 ≡ 0
-      → Allows (TurnRule of callers) slots id m 0 (λ n. either (eqb n old) (old + 1) n) (takes_play of (step slots 0 old (old + 1) none) m)
+      → Allows (TurnRule of callers) slots id m 0 (λ n. either (eqb n old) (old + 1) n) (turn_play of (step slots 0 old (old + 1) none) m)
   takes_lem slots id old m free even s k wide at small =
       tested (get_or s.words 0 0) old (Taking id m s old) (λ hit. taken id old m free even s k at hit) (λ miss. missed id old m s k at)
 
   pub takes_of_lem : (named : Setting) (slots id old : ℕ) (m : TurnSeat) → named ≡ of → IsFree m → old % 2 ≡ 0
-      → Allows (TurnRule of callers) slots id m 0 (λ n. either (eqb n old) (old + 1) n) (takes_play named (step slots 0 old (old + 1) none) m)
-  takes_of_lem named slots id old m same free even = subst (λ x. Allows (TurnRule of callers) slots id m 0 (λ n. either (eqb n old) (old + 1) n) (takes_play x (step slots 0 old (old + 1) none) m)) (sym same) (takes_lem slots id old m free even)
+      → Allows (TurnRule of callers) slots id m 0 (λ n. either (eqb n old) (old + 1) n)
+      (turn_play named (step slots 0 old (old + 1) none) m)
+  takes_of_lem named slots id old m same free even = subst
+      (λ x. Allows (TurnRule of callers) slots id m 0 (λ n. either (eqb n old) (old + 1) n)
+      (turn_play x (step slots 0 old (old + 1) none) m)) (sym same) (takes_lem slots id old m free even)
 
   -- how the others stand once the pass id has ended its turn, with the history that it leaves
-  turn_ended : (id : ℕ) (v w : PassView) (h' : List Entry) (closed' : Bool) (held : HeldData) (word : ℕ) (s : St) → (k : Kept s) → get_elem? s.views id ≡ some v
+  turn_ended : (id : ℕ) (v w : PassView) (h' : List Entry) (closed' : Bool) (held : HeldData) (word : ℕ) (s : St) → (k : Kept s)
+      → get_elem? s.views id ≡ some v
       → turns v ≡ 1 → turns w ≡ 0 → ((x : ℕ) → passes_of x w ≡ passes_of x v)
       → held.core.history ≡ h' → held.core.closed ≡ closed' → IsOver of held → word ≡ 2 * length h'
       → IsPrefix k.history h' → CallersBelow callers h'
       → (k.closed ≡ true → (h' ≡ k.history) × (closed' ≡ true))
-      → v.is_pass ≡ true → ((x : ℕ) → x ≢ v.caller → places_of x h' ≡ places_of x k.history)
+      → v.is_pass ≡ true → ((x : ℕ) → x ≢ v.caller → own_places x h' ≡ own_places x k.history)
       → Fits callers h' closed' w
       → Kept (record { words = set s.words 0 word; homes = set s.homes 0 (some (Some held)); views = set s.views id w })
   turn_ended id v w h' closed' held word s k at one none_now by items shut over is longer_hist few close pass others fit =
@@ -233,7 +295,8 @@ module _ (of : Setting) (callers : ℕ) where
         holders = omega (arith, total-set turns s.views id v w at, k.holders, term_le turns s.views id v at);
         home = λ e. (held, set_here s.homes 0 (some (Some held)) near', items, shut, over.start, over.queues);
         fits = λ j u e. ⊎_elim (λ d. subst (Fits callers h' closed') d.1 fit)
-            (λ d. let f = k.fits j u d.1 in let two = terms_le (passes_of v.caller) s.views id j v u d.0 at d.1 in let limit = k.apart v.caller in let first = by_itself v pass in record {
+            (λ d. let f = k.fits j u d.1 in let two = terms_le (passes_of v.caller) s.views id j v u d.0 at d.1 in
+            let limit = k.apart v.caller in let first = by_itself v pass in record {
               seen = prefix_trans u.seen k.history h' f.seen longer_hist;
               known = omega (arith, f.known, prefix_length k.history h' longer_hist);
               close = λ saw. let c = f.close saw in let t = close c.1 in (c.0 ∙ sym t.0, t.1);
@@ -241,7 +304,8 @@ module _ (of : Setting) (callers : ℕ) where
               holder = f.holder;
               olds = all_saw_after k.history h' k.closed closed' u.seen u.olds close f.olds;
               mine = λ p. ((f.mine p).0 ∙ sym (others u.caller (λ same. absurd (omega (arith, by_same v.caller u p same)))), (f.mine p).1);
-              unmade = λ x is. others x (λ same. let here : unmade_pass v.caller u.made ≡ 1 = subst (λ y. unmade_pass y u.made ≡ 1) same is in absurd (omega arith)) ∙ f.unmade x is;
+              unmade = λ x is. others x (λ same. let here : unmade_pass v.caller u.made
+                  ≡ 1 = subst (λ y. unmade_pass y u.made ≡ 1) same is in absurd (omega arith)) ∙ f.unmade x is;
               ended = all_mine_kept callers v.caller k.history h' u.ended (omega arith) others f.ended;
             })
             (at_set s.views id j w u e);
@@ -249,8 +313,10 @@ module _ (of : Setting) (callers : ℕ) where
         few = few;
       }
 
-  posted : (slots id : ℕ) (v : PassView) (h : List Entry) (e : Entry) (got : HeldData) → v.held ≡ Some (h, false) → v.is_pass ≡ true → got.core.history ≡ h ++ e ∷ [] → got.core.closed ≡ false → e.caller ≡ v.caller → IsOver of got
-      → Allows (TurnRule of callers) slots id (v, (0, Some got) ∷ []) 0 (λ _. 2 * length h + 2) (λ _. posts_play (step slots 0 (2 * length h + 2) 0 none) (v, (0, Some got) ∷ []) (2 * length h + 2))
+  posted : (slots id : ℕ) (v : PassView) (h : List Entry) (e : Entry) (got : HeldData) → v.held ≡ Some (h, false) → v.is_pass ≡ true
+      → got.core.history ≡ h ++ e ∷ [] → got.core.closed ≡ false → e.caller ≡ v.caller → IsOver of got
+      → Allows (TurnRule of callers) slots id (v, (0, Some got) ∷ []) 0 (λ _. 2 * length h + 2)
+      (λ _. posts_play (step slots 0 (2 * length h + 2) 0 none) (v, (0, Some got) ∷ []) (2 * length h + 2))
   posted slots id v h e got holds pass items is_open by over s k wide at small =
       let core : CoreData = got.core in
       let h' : List Entry = h ++ e ∷ [] in
@@ -260,11 +326,15 @@ module _ (of : Setting) (callers : ℕ) where
       let not_closed : k.closed ≡ false = sym held.1 in
       let lens : length h' ≡ length h + 1 = length-append h (e ∷ []) in
       let grows : IsPrefix k.history h' = subst (λ (l : List Entry). IsPrefix l h') hist (e ∷ [], refl) in
-      let never : k.closed ≡ true → (h' ≡ k.history) × (false ≡ true) = λ yes. let no : false ≡ true = sym not_closed ∙ yes in absurd (cc no) in
+      let never : k.closed ≡ true → (h' ≡ k.history) × (false ≡ true) = λ yes. let no : false ≡ true = sym not_closed
+      ∙ yes in absurd (cc no) in
       let m = f.mine pass in
       let w : PassView = after_post v core in
-      let mine_is : w.mine ≡ places_of v.caller h' = (λ i. (m.0 ∙ ap (places_of v.caller) (sym hist)) i ++ (let z : length core.history - 1 ≡ 0 + length h = omega (arith, ap length items) in z) i ∷ []) ∙ sym (places_here v.caller 0 h e by) in
-      let others : (x : ℕ) → x ≢ v.caller → places_of x h' ≡ places_of x k.history = λ x ne. places_else x 0 h e (λ same. ne (sym same ∙ by)) ∙ ap (places_of x) hist in
+      let mine_is : w.mine ≡ own_places v.caller h' = (λ i. (m.0 ∙ ap (own_places v.caller) (sym hist)) i
+      ++ (let z : length core.history - 1 ≡ 0 + length h = omega (arith, ap length items) in z) i ∷ [])
+      ∙ sym (places_here v.caller 0 h e by) in
+      let others : (x : ℕ) → x ≢ v.caller → own_places x h' ≡ own_places x k.history = λ x ne. places_else x 0 h e
+      (λ same. ne (sym same ∙ by)) ∙ ap (own_places x) hist in
       let first = by_itself v pass in
       let limit = k.apart v.caller in
       let own = term_le (passes_of v.caller) s.views id v at in
@@ -277,13 +347,15 @@ module _ (of : Setting) (callers : ℕ) where
         holder = λ _. refl;
         olds = tt;
         mine = λ p. (mine_is, m.1);
-        unmade = λ x is. others x (λ same. let here : unmade_pass v.caller v.made ≡ 1 = subst (λ y. unmade_pass y v.made ≡ 1) same is in absurd (omega arith)) ∙ f.unmade x is;
+        unmade = λ x is. others x (λ same. let here : unmade_pass v.caller v.made ≡ 1 = subst (λ y. unmade_pass y v.made ≡ 1) same is in
+            absurd (omega arith)) ∙ f.unmade x is;
         ended = all_mine_kept callers v.caller k.history h' v.ended alone others f.ended;
       } in (
         w,
         gives,
         tt,
-        turn_ended id v w h' false got (2 * length h + 2) s k at (ap turn_count holds) refl (λ x. refl) items is_open over (omega arith) grows
+        turn_ended id v w h' false got (2 * length h + 2) s k at (ap turn_count holds) refl (λ x. refl) items is_open over (omega arith)
+            grows
             (callers_snoc callers h e (subst (CallersBelow callers) (sym hist) k.few) (omega (arith, m.1)))
             never
             pass
@@ -292,8 +364,10 @@ module _ (of : Setting) (callers : ℕ) where
         λ other is. ap (λ (c : HeldData). (after_post v c.core, [])) (one_held got other is),
       )
 
-  left : (slots id : ℕ) (v : PassView) (h : List Entry) (was : Bool) (got : HeldData) → v.held ≡ Some (h, was) → v.is_pass ≡ true → got.core.history ≡ h → (was ≡ true → got.core.closed ≡ true) → IsOver of got
-      → Allows (TurnRule of callers) slots id (v, (0, Some got) ∷ []) 0 (λ _. 2 * length h) (λ _. leaves_play (step slots 0 (2 * length h) 0 none) (v, (0, Some got) ∷ []) (2 * length h))
+  left : (slots id : ℕ) (v : PassView) (h : List Entry) (was : Bool) (got : HeldData) → v.held ≡ Some (h, was) → v.is_pass ≡ true
+      → got.core.history ≡ h → (was ≡ true → got.core.closed ≡ true) → IsOver of got
+      → Allows (TurnRule of callers) slots id (v, (0, Some got) ∷ []) 0 (λ _. 2 * length h)
+      (λ _. leaves_play (step slots 0 (2 * length h) 0 none) (v, (0, Some got) ∷ []) (2 * length h))
   left slots id v h was got holds pass items stays over s k wide at small =
       let core : CoreData = got.core in
       let f = k.fits id v at in
@@ -308,33 +382,41 @@ module _ (of : Setting) (callers : ℕ) where
         held = tt;
         holder = λ _. refl;
         olds = tt;
-        mine = λ p. (m.0 ∙ ap (places_of v.caller) (sym hist), m.1);
-        unmade = λ x is. ap (places_of x) hist ∙ f.unmade x is;
+        mine = λ p. (m.0 ∙ ap (own_places v.caller) (sym hist), m.1);
+        unmade = λ x is. ap (own_places x) hist ∙ f.unmade x is;
         ended = subst (λ l. AllMine callers l v.ended) (sym hist) f.ended;
       } in (
         w,
         gives,
         tt,
-        turn_ended id v w h core.closed got (2 * length h) s k at (ap turn_count holds) refl (λ x. refl) items refl over refl (subst (λ (l : List Entry). IsPrefix l h) hist (prefix_refl h))
+        turn_ended id v w h core.closed got (2 * length h) s k at (ap turn_count holds) refl (λ x. refl) items refl over refl
+            (subst (λ (l : List Entry). IsPrefix l h) hist (prefix_refl h))
             (subst (CallersBelow callers) (sym hist) k.few)
             (λ yes. (hist, stays (held.1 ∙ yes)))
             pass
-            (λ x ne. ap (places_of x) hist)
+            (λ x ne. ap (own_places x) hist)
             fit,
         λ other is. ap (λ (c : HeldData). (after_leave v c.core, [])) (one_held got other is),
       )
 
-  pub records_lem : (slots id word : ℕ) (m m' : TurnSeat) (held : HeldData) → MayRecord of m held → IsCore held.core → m' ≡ (m.0, (0, Some held) ∷ rest m.1) → word ≡ 2 * length held.core.history
+  pub records_lem : (slots id word : ℕ) (m m' : TurnSeat) (held : HeldData) → MayRecord of m held → IsCore held.core
+      → m' ≡ (m.0, (0, Some held) ∷ rest m.1) → word ≡ 2 * length held.core.history
       → Allows (TurnRule of callers) slots id m' 0 (λ _. word) (λ _. posts_play (step slots 0 word 0 none) m' word)
   records_lem slots id word m m' held may valid put is =
       let now = put_back_is m m' held may.slot put in
       let at : word ≡ 2 * length may.before + 2 = omega (arith, ap length may.items, length-append may.before (may.entry ∷ [])) in
-      let P : ℕ → TurnSeat → Type 0 = λ n x. Allows (TurnRule of callers) slots id x 0 (λ _. n) (λ _. posts_play (step slots 0 n 0 none) x n) in
-      subst (P word) (sym now) (subst (λ n. P n (m.0, (0, Some held) ∷ [])) (sym at) (posted slots id m.0 may.before may.entry held may.had may.pass may.items may.is_open may.by (is_over of held valid may.start may.queues)))
+      let P : ℕ → TurnSeat → Type 0 = λ n x. Allows (TurnRule of callers) slots id x 0 (λ _. n)
+      (λ _. posts_play (step slots 0 n 0 none) x n) in
+      subst (P word) (sym now) (subst (λ n. P n (m.0, (0, Some held) ∷ [])) (sym at)
+      (posted slots id m.0 may.before may.entry held may.had may.pass may.items may.is_open may.by
+      (is_over of held valid may.start may.queues)))
 
-  pub leaving_lem : (slots id word : ℕ) (m m' : TurnSeat) (held : HeldData) → MayLeave of m held → IsCore held.core → m' ≡ (m.0, (0, Some held) ∷ rest m.1) → word ≡ 2 * length held.core.history
+  pub leaving_lem : (slots id word : ℕ) (m m' : TurnSeat) (held : HeldData) → MayLeave of m held → IsCore held.core
+      → m' ≡ (m.0, (0, Some held) ∷ rest m.1) → word ≡ 2 * length held.core.history
       → Allows (TurnRule of callers) slots id m' 0 (λ _. word) (λ _. leaves_play (step slots 0 word 0 none) m' word)
   leaving_lem slots id word m m' held may valid put is =
       let now = put_back_is m m' held may.slot put in
-      let P : ℕ → TurnSeat → Type 0 = λ n x. Allows (TurnRule of callers) slots id x 0 (λ _. n) (λ _. leaves_play (step slots 0 n 0 none) x n) in
-      subst (P word) (sym now) (subst (λ n. P n (m.0, (0, Some held) ∷ [])) (sym is) (left slots id m.0 held.core.history may.was held may.had may.pass refl may.stays (is_over of held valid may.start may.queues)))
+      let P : ℕ → TurnSeat → Type 0 = λ n x. Allows (TurnRule of callers) slots id x 0 (λ _. n)
+      (λ _. leaves_play (step slots 0 n 0 none) x n) in
+      subst (P word) (sym now) (subst (λ n. P n (m.0, (0, Some held) ∷ [])) (sym is)
+      (left slots id m.0 held.core.history may.was held may.had may.pass refl may.stays (is_over of held valid may.start may.queues)))

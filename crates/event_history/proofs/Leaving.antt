@@ -1,5 +1,6 @@
 -- What a pass has seen and done after a turn that left no entry, or where it found the turn busy.
-use Rattle.std.proofs.Common.{◌≡◌, ℕ, ◌*◌, ◌≤◌, Bool, true, List, [], ◌∷◌, ◌++◌, length, max, Some, refl, sym, ap, ◌∙◌, subst, ⊎_elim, arith}
+use Rattle.std.proofs.Common.{◌≡◌, ℕ, ◌*◌, ◌≤◌, Bool, true, List, [], ◌∷◌, ◌++◌, length, max, Some, refl, sym, ap, ◌∙◌, subst, ⊎_elim}
+use Rattle.std.proofs.Common.{arith}
 use mathlib.Core.List.{IsPrefix}
 use Rattle.atomic_table.specs.Seated.{TableId}
 use Rattle.task_set.specs.TaskSet.{SetData}
@@ -13,7 +14,7 @@ use Rattle.event_history.specs.Boards.{Grown}
 use Rattle.event_history.specs.Copying.{HadTurn}
 use Rattle.event_history.specs.Entering.{Entered}
 use Rattle.event_history.specs.Holdings.{HeldData, queues_of}
-use Rattle.event_history.specs.PassStates.{data_of}
+use Rattle.event_history.specs.PassStates.{pass_data_of}
 use Rattle.event_history.specs.Posting.{SawAll, WasBusy, BusyLooks, turn_looks}
 use Rattle.event_history.specs.Turn.{Setting, TurnSeat, HasTurn, IsBusy, MayLeave, MayRecord, after_leave}
 use Rattle.event_history.specs.declared.fault.Receipt.{Receipt}
@@ -25,7 +26,8 @@ pub busy_looks : (before after : List ℕ) (found : ℕ) → BusyLooks before af
 busy_looks before after found looks = ⊎_elim (λ odd. (found ∷ [], odd.0)) (λ even. (even.0 ∷ found ∷ [], even.1)) looks
 
 -- a pass that found the turn busy has grown, and knows no more of the history
-pub busy_grown : (id : TableId) (old new : List EyeData) (v : PassView) (m : TurnSeat) (found : ℕ) → IsBusy v m found → Grown (data_of id old v) (data_of id new m.0)
+pub busy_grown : (id : TableId) (old new : List EyeData) (v : PassView) (m : TurnSeat) (found : ℕ) → IsBusy v m found
+    → Grown (pass_data_of id old v) (pass_data_of id new m.0)
 busy_grown id old new v m found busy = record {
   board = refl;
   caller = busy.caller;
@@ -35,12 +37,15 @@ busy_grown id old new v m found busy = record {
   looks = busy_looks v.looks m.0.looks found busy.looks;
 }
 
-pub busy_was : (id : TableId) (old new : List EyeData) (v : PassView) (m : TurnSeat) (found : ℕ) → IsBusy v m found → WasBusy (data_of id old v) (data_of id new m.0) found
+pub busy_was : (id : TableId) (old new : List EyeData) (v : PassView) (m : TurnSeat) (found : ℕ) → IsBusy v m found
+    → WasBusy (pass_data_of id old v) (pass_data_of id new m.0) found
 busy_was id old new v m found busy = record { seen = busy.seen; mine = busy.mine; close = busy.close; looks = busy.looks }
 
 -- what was taken may be left, where its history is the same, and it is closed if it was
-pub may_leave : (of to : Setting) (v : PassView) (m : TurnSeat) (held now : HeldData) → of ≡ to → HasTurn of v m held → now.core.history ≡ held.core.history
-    → (held.core.closed ≡ true → now.core.closed ≡ true) → now.core.start ≡ held.core.start → queues_of now.senders ≡ queues_of held.senders → MayLeave to m now
+pub may_leave : (of to : Setting) (v : PassView) (m : TurnSeat) (held now : HeldData) → of ≡ to → HasTurn of v m held
+    → now.core.history ≡ held.core.history
+    → (held.core.closed ≡ true → now.core.closed ≡ true) → now.core.start ≡ held.core.start → queues_of now.senders ≡ queues_of held.senders
+    → MayLeave to m now
 may_leave of to v m held now is turn history stays start queues = record {
   pass = turn.pass;
   slot = turn.slot;
@@ -52,7 +57,8 @@ may_leave of to v m held now is turn history stays start queues = record {
 }
 
 -- what was taken may be put back with one entry more
-pub may_record : (of to : Setting) (v : PassView) (m : TurnSeat) (held now : HeldData) (caller : ℕ) (event : Event) (receipt : Receipt) → of ≡ to → HasTurn of v m held
+pub may_record : (of to : Setting) (v : PassView) (m : TurnSeat) (held now : HeldData) (caller : ℕ) (event : Event) (receipt : Receipt)
+    → of ≡ to → HasTurn of v m held
     → Entered held.core caller event now.core receipt → now.senders ≡ held.senders → caller ≡ m.0.caller → MayRecord to m now
 may_record of to v m held now caller event receipt is turn entered senders by = record {
   pass = turn.pass;
@@ -69,8 +75,9 @@ may_record of to v m held now caller event receipt is turn entered senders by = 
 
 module _ (of : Setting) (id : TableId) (old new : List EyeData) (v : PassView) (m left : TurnSeat) (held : HeldData) (core : CoreData) where
   -- a pass that left its turn has grown
-  pub left_grown : HasTurn of v m held → core.history ≡ held.core.history → (held.core.closed ≡ true → core.closed ≡ true) → left ≡ (after_leave m.0 core, [])
-      → Grown (data_of id old v) (data_of id new left.0)
+  pub left_grown : HasTurn of v m held → core.history ≡ held.core.history → (held.core.closed ≡ true → core.closed ≡ true)
+      → left ≡ (after_leave m.0 core, [])
+      → Grown (pass_data_of id old v) (pass_data_of id new left.0)
   left_grown turn history stays is =
       let view : left.0 ≡ after_leave m.0 core = ap (λ (s : TurnSeat). s.0) is in
       let known : left.0.known ≡ max m.0.known (length core.history) = ap (λ (x : PassView). x.known) view in
@@ -88,8 +95,9 @@ module _ (of : Setting) (id : TableId) (old new : List EyeData) (v : PassView) (
   left_mine turn is = ap (λ (s : TurnSeat). s.0.mine) is ∙ turn.mine
 
   -- it has seen the whole history of that turn
-  pub left_saw : (set : SetData) → HasTurn of v m held → core.history ≡ held.core.history → left ≡ (after_leave m.0 core, []) → IsLegal set core.history
-      → SawAll set (data_of id old v) (data_of id new left.0)
+  pub left_saw : (set : SetData) → HasTurn of v m held → core.history ≡ held.core.history → left ≡ (after_leave m.0 core, [])
+      → IsLegal set core.history
+      → SawAll set (pass_data_of id old v) (pass_data_of id new left.0)
   left_saw set turn history is legal =
       let seen : left.0.seen ≡ core.history = ap (λ (s : TurnSeat). s.0.seen) is in
       let known : left.0.known ≡ max m.0.known (length core.history) = ap (λ (s : TurnSeat). s.0.known) is in
@@ -100,13 +108,15 @@ module _ (of : Setting) (id : TableId) (old new : List EyeData) (v : PassView) (
         known = omega (arith, known, had, ap length history, ap length seen);
       }
 
-  pub left_looks : HasTurn of v m held → core.history ≡ held.core.history → left ≡ (after_leave m.0 core, []) → left.0.looks ≡ turn_looks v.looks (length left.0.seen)
+  pub left_looks : HasTurn of v m held → core.history ≡ held.core.history → left ≡ (after_leave m.0 core, [])
+      → left.0.looks ≡ turn_looks v.looks (length left.0.seen)
   left_looks turn history is =
       let seen : left.0.seen ≡ held.core.history = ap (λ (s : TurnSeat). s.0.seen) is ∙ history in
       ap (λ (s : TurnSeat). s.0.looks) is ∙ turn.looks ∙ ap (λ (l : List Entry). turn_looks v.looks (length l)) (sym seen)
 
-  pub left_had : (set : SetData) → HasTurn of v m held → core.history ≡ held.core.history → left ≡ (after_leave m.0 core, []) → IsLegal set core.history → length core.history ≤ max_entries
-      → HadTurn set (data_of id old v) (data_of id new left.0)
+  pub left_had : (set : SetData) → HasTurn of v m held → core.history ≡ held.core.history → left ≡ (after_leave m.0 core, [])
+      → IsLegal set core.history → length core.history ≤ max_entries
+      → HadTurn set (pass_data_of id old v) (pass_data_of id new left.0)
   left_had set turn history is legal fits =
       let seen : left.0.seen ≡ core.history = ap (λ (s : TurnSeat). s.0.seen) is in
       record { saw = left_saw set turn history is legal; few = omega (arith, fits, ap length seen); looks = left_looks turn history is }

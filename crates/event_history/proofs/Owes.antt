@@ -1,5 +1,6 @@
 -- What may be sent of a core, and what its orders are once it changed.
-use Rattle.std.proofs.Common.{◌≡◌, ℕ, zero, suc, ◌≤◌, Bool, true, false, if◌then◌else◌, List, [], ◌∷◌, ◌++◌, length, map, slice_get, Some, Result, Ok, Err, IfOk, IfErr, sym, refl, ap, ◌∙◌, subst, arith, append_assoc, append-nil}
+use Rattle.std.proofs.Common.{◌≡◌, ℕ, zero, suc, ◌≤◌, Bool, true, false, if◌then◌else◌, List, [], ◌∷◌, ◌++◌, length, map, slice_get, Some}
+use Rattle.std.proofs.Common.{Result, Ok, Err, IfOk, IfErr, sym, refl, ap, ◌∙◌, subst, arith, append_assoc, append-nil}
 use mathlib.Core.List.{IsPrefix}
 use Rattle.task_set.specs.TaskSet.{SetData, IsTaskSet}
 use Rattle.task_set.specs.declared.order.Order.{Order}
@@ -31,10 +32,18 @@ may_cases : (set : SetData) (h : List Entry) (p : ℕ) → IsTaskSet set → IsL
     → MaySend (length set.tasks) (if b then closed_orders_of (start_of set) h p else orders_of (start_of set) h p)
 may_cases set h p is_set legal low true =
     let few = orders_count set h p legal in
-    record { obeyable = (orders_obeyable set h p legal).after_close; below = (orders_name_tasks set h p is_set legal).1; few = omega (arith, few.0, few.1) }
+    record {
+      obeyable = (orders_obeyable set h p legal).after_close;
+      below = (orders_name_tasks set h p is_set legal).1;
+      few = omega (arith, few.0, few.1);
+    }
 may_cases set h p is_set legal low false =
     let few = orders_count set h p legal in
-    record { obeyable = (orders_obeyable set h p legal).before_close; below = (orders_name_tasks set h p is_set legal).0; few = omega (arith, few.0) }
+    record {
+      obeyable = (orders_obeyable set h p legal).before_close;
+      below = (orders_name_tasks set h p is_set legal).0;
+      few = omega (arith, few.0);
+    }
 
 pub may_send : (set : SetData) (core : CoreData) (queues : List QueueData) → IsTaskSet set → AreFor set queues → IsCore core
     → core.start ≡ start_of set → AllMaySend queues core

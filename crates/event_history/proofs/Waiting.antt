@@ -61,12 +61,14 @@ posted_more set a b c event receipt waited posted = record {
 }
 
 -- the looks of a turn that refused the event
-pub refused_looks : (set : SetData) (b c : PassData) (fault : CoreFault) → Refused set b (post_fault fault) c → c.looks ≡ turn_looks b.looks (length c.seen)
+pub refused_looks : (set : SetData) (b c : PassData) (fault : CoreFault) → Refused set b (post_fault fault) c
+    → c.looks ≡ turn_looks b.looks (length c.seen)
 refused_looks set b c Closed refused = refused.1
 refused_looks set b c Full refused = refused.1
 refused_looks set b c OutOfMemory refused = refused.1
 
-pub ended_more : (set : SetData) (a b c : PassData) (fault : CoreFault) → Waited a b → Refused set b (post_fault fault) c → Ended set a (end_fault fault) c
+pub ended_more : (set : SetData) (a b c : PassData) (fault : CoreFault) → Waited a b → Refused set b (post_fault fault) c
+    → Ended set a (end_fault fault) c
 ended_more set a b c Closed waited refused = (saw_more set a b c waited.mine refused.0, refused.2)
 ended_more set a b c Full waited refused = (saw_more set a b c waited.mine refused.0, refused.2, refused.3)
 ended_more set a b c OutOfMemory waited refused = (saw_more set a b c waited.mine refused.0, refused.2, refused.3)

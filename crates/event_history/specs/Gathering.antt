@@ -13,7 +13,8 @@ Has x (y ∷ ys) = (x ≡ y) ⊎ Has x ys
 
 -- what the pass saw and did is known to the view
 pub record IsIn (pass : PassData) (v : PassView) : Type 0 where
-  pub saw : ((v.seen ≡ pass.seen) × (v.saw_close ≡ pass.saw_close)) ⊎ Has (pass.seen, pass.saw_close) v.olds
+  pub saw : ((v.seen ≡ pass.seen) × (v.saw_close ≡ pass.saw_close))
+      ⊎ Has (pass.seen, pass.saw_close) v.olds
   pub own : ((v.caller ≡ pass.caller) × (v.mine ≡ pass.mine)) ⊎ Has (pass.caller, pass.mine) v.ended
 
 -- what each of these passes saw and did is known to the view

@@ -1,4 +1,5 @@
--- What a turn gives: the core, and a sender for each processor, which sent a beginning of the processor's orders.
+-- What a turn gives: the core, and a sender for each processor, which sent a beginning of the
+-- processor's orders.
 use Rattle.std.specs.Prelude.{◌≡◌, ℕ, List, [], ◌∷◌, map, slice_get, Option, Some, None, false}
 use mathlib.Core.List.{IsPrefix}
 use Rattle.task_set.specs.TaskSet.{SetData}
@@ -17,11 +18,13 @@ queues_of senders = map (λ (s : SenderData). s.queue) senders
 
 -- what each sender sent begins the orders of its processor
 abbrev pub SentBegins : CoreData → List SenderData → Type 0
-SentBegins core senders = (p : ℕ) (s : SenderData) → slice_get senders p ≡ Some s → IsPrefix s.sent (core_orders core p)
+SentBegins core senders =
+    (p : ℕ) (s : SenderData) → slice_get senders p ≡ Some s → IsPrefix s.sent (core_orders core p)
 
 -- the core began as it did, and the orders that it had begin those that it has
 abbrev pub CoreGrows : CoreData → CoreData → Type 0
-CoreGrows old new = (new.start ≡ old.start) × ((p : ℕ) → IsPrefix (core_orders old p) (core_orders new p))
+CoreGrows old new =
+    (new.start ≡ old.start) × ((p : ℕ) → IsPrefix (core_orders old p) (core_orders new p))
 
 -- no sender sent anything
 abbrev pub NoneSent : List SenderData → Type 0
@@ -30,7 +33,8 @@ NoneSent (s ∷ rest) = (s.sent ≡ []) × NoneSent rest
 
 -- a core of this set to which nothing happened
 abbrev pub new_core : SetData → CoreData
-new_core set = record { start = start_of set; history = []; links = start_of set; closed = false; spare = 0 }
+new_core set =
+    record { start = start_of set; history = []; links = start_of set; closed = false; spare = 0 }
 
 -- the one slot of a new turn word: such a core, and these senders
 abbrev pub new_slots : SetData → List SenderData → List (Option HeldData)

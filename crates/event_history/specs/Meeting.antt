@@ -25,12 +25,13 @@ pub record Told (from old new : PassData) : Type 0 where
   pub shown : IsPrefix from.seen new.seen
   pub either : (new.seen ≡ old.seen) ⊎ (new.seen ≡ from.seen)
 
--- both have seen the longer of the two lists, of which one begins the other, know at least the greater count, and saw the
--- close where either did; callers and own places stay
+-- both have seen the longer of the two lists, of which one begins the other, know at least the
+-- greater count, and saw the close where either did; callers and own places stay
 pub record Met (one other one' other' : PassData) : Type 0 where
   pub grown : Grown one one' × Grown other other'
   pub mine : (one'.mine ≡ one.mine) × (other'.mine ≡ other.mine)
   pub same : one'.seen ≡ other'.seen
   pub either : (one'.seen ≡ one.seen) ⊎ (one'.seen ≡ other.seen)
   pub known : (max one.known other.known ≤ one'.known) × (max one.known other.known ≤ other'.known)
-  pub close : (one'.saw_close ≡ (one.saw_close || other.saw_close)) × (other'.saw_close ≡ (one.saw_close || other.saw_close))
+  pub close : (one'.saw_close ≡ (one.saw_close || other.saw_close)) × (other'.saw_close
+      ≡ (one.saw_close || other.saw_close))

@@ -1,4 +1,5 @@
--- The orders that a pass sees: those of the history that it has seen, and of the close where it saw the close.
+-- The orders that a pass sees: those of the history that it has seen, and of the close where it saw
+-- the close.
 use Rattle.std.specs.Prelude.{ℕ, List, if◌then◌else◌}
 use Rattle.task_set.specs.TaskSet.{SetData}
 use Rattle.task_set.specs.declared.order.Order.{Order}
@@ -8,4 +9,5 @@ use Rattle.event_history.specs.Boards.{PassData}
 
 -- the orders to p that the pass sees
 abbrev pub orders_seen : SetData → PassData → ℕ → List Order
-orders_seen set pass p = if pass.saw_close then closed_orders_of (start_of set) pass.seen p else orders_of (start_of set) pass.seen p
+orders_seen set pass p = if pass.saw_close then closed_orders_of (start_of set) pass.seen p
+    else orders_of (start_of set) pass.seen p

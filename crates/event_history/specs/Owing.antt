@@ -17,4 +17,5 @@ pub record MaySend (tasks : ℕ) (orders : List Order) : Type 0 where
 
 -- the orders of each processor may be sent
 abbrev pub AllMaySend : List QueueData → CoreData → Type 0
-AllMaySend queues core = (p : ℕ) (q : QueueData) → slice_get queues p ≡ Some q → MaySend q.tasks (core_orders core p)
+AllMaySend queues core =
+    (p : ℕ) (q : QueueData) → slice_get queues p ≡ Some q → MaySend q.tasks (core_orders core p)

@@ -21,9 +21,18 @@ pub record Agrees (state : PassState) : Type 0 where
   pub close : state.saw_close ≡ state.seat.me.0.saw_close
 
 -- what contracts see of a view at a board, with these eyes
-abbrev pub data_of : TableId → List EyeData → PassView → PassData
-data_of id eyes v = record { board = id; caller = v.caller; seen = v.seen; mine = v.mine; known = v.known; saw_close = v.saw_close; looks = v.looks; eyes = eyes }
+abbrev pub pass_data_of : TableId → List EyeData → PassView → PassData
+pass_data_of id eyes v = record {
+  board = id;
+  caller = v.caller;
+  seen = v.seen;
+  mine = v.mine;
+  known = v.known;
+  saw_close = v.saw_close;
+  looks = v.looks;
+  eyes = eyes;
+}
 
 -- what contracts see of a pass at a board, by its state
 abbrev pub data_at : TableId → PassState → PassData
-data_at id state = data_of id state.eyes state.seat.me.0
+data_at id state = pass_data_of id state.eyes state.seat.me.0

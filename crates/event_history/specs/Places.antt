@@ -5,11 +5,12 @@ use Rattle.strong_apa.specs.declared.reply.Entry.{Entry}
 -- the places of the caller's entries, from the n-th on
 abbrev pub places : ℕ → ℕ → List Entry → List ℕ
 places caller n [] = []
-places caller n (entry ∷ rest) = cond (entry.caller == caller) (n ∷ places caller (n + 1) rest) (places caller (n + 1) rest)
+places caller n (entry ∷ rest) =
+    cond (entry.caller == caller) (n ∷ places caller (n + 1) rest) (places caller (n + 1) rest)
 
 -- the places of the caller's entries in the history
-abbrev pub places_of : ℕ → List Entry → List ℕ
-places_of caller history = places caller 0 history
+abbrev pub own_places : ℕ → List Entry → List ℕ
+own_places caller history = places caller 0 history
 
 -- each entry is of one of so many callers
 abbrev pub CallersBelow : ℕ → List Entry → Type 0

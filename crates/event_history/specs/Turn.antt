@@ -1,5 +1,7 @@
 -- The rule of the turn word, and what each of its steps does.
-use Rattle.std.specs.Prelude.{◌≡◌, ℕ, ◌+◌, ◌-◌, ◌*◌, ◌/◌, ◌%◌, ◌<◌, ◌≤◌, ◌==◌, nat_lt, cond, max, Bool, true, false, ◌||◌, ◌&&◌, not, List, [], ◌∷◌, ◌++◌, length, slice_index, Option, Some, None, MatchBool}
+use Rattle.std.specs.Prelude.{◌≡◌, ℕ, ◌+◌, ◌-◌, ◌*◌, ◌/◌, ◌%◌, ◌<◌, ◌≤◌, ◌==◌, nat_lt, cond, max}
+use Rattle.std.specs.Prelude.{Bool, true, false, ◌||◌, ◌&&◌, not, List, [], ◌∷◌, ◌++◌, length}
+use Rattle.std.specs.Prelude.{slice_index, Option, Some, None, MatchBool}
 use mathlib.Core.Option.{some}
 use mathlib.Core.List.{IsPrefix}
 use lib.ListN.{get_elem?}
@@ -13,7 +15,7 @@ use Rattle.order_queues.specs.Ends.{QueueData, SenderData}
 use Rattle.event_history.specs.Holdings.{HeldData, queues_of}
 use Rattle.event_history.specs.declared.turn.About.{About}
 use Rattle.event_history.specs.declared.view.PassView.{PassView}
-use Rattle.event_history.specs.Places.{places_of, CallersBelow}
+use Rattle.event_history.specs.Places.{own_places, CallersBelow}
 use Rattle.event_history.specs.Posting.{BusyLooks}
 use Rattle.task_set.specs.Sum.{total}
 
@@ -56,12 +58,14 @@ AllBegin (old ∷ olds) seen = IsPrefix old.0 seen × AllBegin olds seen
 abbrev pub AllSaw : List Entry → Bool → List Entry → List (List Entry × Bool) → Type 0
 AllSaw history closed seen [] = Unit {0}
 AllSaw history closed seen (old ∷ olds) =
-    IsPrefix old.0 seen × (old.1 ≡ true → (old.0 ≡ history) × (closed ≡ true)) × AllSaw history closed seen olds
+    IsPrefix old.0 seen × (old.1 ≡ true → (old.0 ≡ history) × (closed ≡ true))
+    × AllSaw history closed seen olds
 
 -- each of the passes that were taken in has the places of its caller, who is one of so many
 abbrev pub AllMine : ℕ → List Entry → List (ℕ × List ℕ) → Type 0
 AllMine callers history [] = Unit {0}
-AllMine callers history (e ∷ es) = (e.1 ≡ places_of e.0 history) × (e.0 < callers) × AllMine callers history es
+AllMine callers history (e ∷ es) =
+    (e.1 ≡ own_places e.0 history) × (e.0 < callers) × AllMine callers history es
 
 -- what a view says of the history
 pub record Fits (callers : ℕ) (history : List Entry) (closed : Bool) (v : PassView) : Type 0 where
@@ -71,8 +75,8 @@ pub record Fits (callers : ℕ) (history : List Entry) (closed : Bool) (v : Pass
   pub held : Holds history closed v.held
   pub holder : v.is_pass ≡ false → v.held ≡ None
   pub olds : AllSaw history closed v.seen v.olds
-  pub mine : v.is_pass ≡ true → (v.mine ≡ places_of v.caller history) × (v.caller < callers)
-  pub unmade : (x : ℕ) → unmade_pass x v.made ≡ 1 → places_of x history ≡ []
+  pub mine : v.is_pass ≡ true → (v.mine ≡ own_places v.caller history) × (v.caller < callers)
+  pub unmade : (x : ℕ) → unmade_pass x v.made ≡ 1 → own_places x history ≡ []
   pub ended : AllMine callers history v.ended
 
 -- over which set a turn word is made, and for which queues
@@ -94,9 +98,11 @@ pub record IsOver (of : Setting) (held : HeldData) : Type 0 where
   pub queues : queues_of held.senders ≡ of.queues
   pub legal : IsLegal of.set held.core.history
 
--- the word is 2c or 2c + 1, where c is the number of entries; it is odd just while one view has the turn, and while it is
--- even the core is at home; each view fits the history, and each caller has one pass
-pub record TurnRule (of : Setting) (callers : ℕ) (s : State (Option HeldData) PassView) : Type 0 where
+-- the word is 2c or 2c + 1, where c is the number of entries; it is odd just while one view has the
+-- turn, and while it is even the core is at home; each view fits the history, and each caller has
+-- one pass
+pub record TurnRule (of : Setting) (callers : ℕ) (s : State (Option HeldData) PassView) : Type
+    0 where
   pub history : List Entry
   pub closed : Bool
   pub legal : IsLegal of.set history
@@ -105,8 +111,10 @@ pub record TurnRule (of : Setting) (callers : ℕ) (s : State (Option HeldData) 
   pub count : slice_index s.words 0 / 2 ≡ length history
   pub holders : total turns s.views ≡ slice_index s.words 0 % 2
   pub home : slice_index s.words 0 % 2 ≡ 0
-      → (held : HeldData) × (get_elem? s.homes 0 ≡ some (some (Some held))) × (held.core.history ≡ history)
-      × (held.core.closed ≡ closed) × (held.core.start ≡ start_of of.set) × (queues_of held.senders ≡ of.queues)
+      → (held : HeldData) × (get_elem? s.homes 0 ≡ some (some (Some held)))
+      × (held.core.history ≡ history)
+      × (held.core.closed ≡ closed) × (held.core.start ≡ start_of of.set)
+      × (queues_of held.senders ≡ of.queues)
   pub fits : (j : ℕ) (v : PassView) → get_elem? s.views j ≡ some v → Fits callers history closed v
   pub apart : (x : ℕ) → total (passes_of x) s.views ≤ 1
   pub few : CallersBelow callers history
@@ -124,8 +132,8 @@ abbrev pub loads_play : Step (Option HeldData) → TurnSeat → ℕ → TurnSeat
 loads_play st m n m' = (m' ≡ (loaded m.0 n, m.1)) × AllBegin m.0.olds m.0.seen × (m.0.known ≤ n / 2)
 
 -- the view after an exchange that found another word
-abbrev pub looked : PassView → ℕ → PassView
-looked v n = record v { looks = v.looks ++ n ∷ [] }
+abbrev pub found_another : PassView → ℕ → PassView
+found_another v n = record v { looks = v.looks ++ n ∷ [] }
 
 -- the view after an exchange that took the turn with this core
 abbrev pub with_turn : PassView → ℕ → CoreData → PassView
@@ -141,10 +149,11 @@ pub record GoesOn (of : Setting) (v : PassView) (n : ℕ) (held : HeldData) : Ty
   pub close : v.saw_close ≡ true → held.core.closed ≡ true
 
 -- the turn is taken, with the core; or another word was found
-abbrev pub takes_play : Setting → Step (Option HeldData) → TurnSeat → ℕ → TurnSeat → Type 0
-takes_play of st m n m' = MatchBool (n == st.first)
-    ((held : HeldData) × (m' ≡ (with_turn m.0 n held.core, (0, Some held) ∷ [])) × GoesOn of m.0 n held)
-    (m' ≡ (looked m.0 n, m.1))
+abbrev pub turn_play : Setting → Step (Option HeldData) → TurnSeat → ℕ → TurnSeat → Type 0
+turn_play of st m n m' = MatchBool (n == st.first)
+    ((held : HeldData) × (m' ≡ (with_turn m.0 n held.core, (0, Some held) ∷ []))
+    × GoesOn of m.0 n held)
+    (m' ≡ (found_another m.0 n, m.1))
 
 -- the view after a turn, whose core has this history
 abbrev pub after_turn : PassView → List Entry → PassView
@@ -153,24 +162,30 @@ after_turn v history = record v { seen = history; held = None; olds = [] }
 -- the view after a turn that left this core with an entry more
 abbrev pub after_post : PassView → CoreData → PassView
 after_post v core =
-    let n = length core.history in record (after_turn v core.history) { mine = v.mine ++ (n - 1) ∷ []; known = n }
+    let n = length core.history in
+    record (after_turn v core.history) { mine = v.mine ++ (n - 1) ∷ []; known = n }
 
 -- the view after a turn that left this core without an entry
 abbrev pub after_leave : PassView → CoreData → PassView
 after_leave v core =
-    record (after_turn v core.history) { known = max v.known (length core.history); saw_close = core.closed }
+    record (after_turn v core.history) {
+      known = max v.known (length core.history);
+      saw_close = core.closed;
+    }
 
 -- the entry was added, and the turn ends
 abbrev pub posts_play : Step (Option HeldData) → TurnSeat → ℕ → TurnSeat → Type 0
-posts_play st m n m' = (held : HeldData) → m.1 ≡ (0, Some held) ∷ [] → m' ≡ (after_post m.0 held.core, [])
+posts_play st m n m' =
+    (held : HeldData) → m.1 ≡ (0, Some held) ∷ [] → m' ≡ (after_post m.0 held.core, [])
 
 -- the turn ends without an entry
 abbrev pub leaves_play : Step (Option HeldData) → TurnSeat → ℕ → TurnSeat → Type 0
-leaves_play st m n m' = (held : HeldData) → m.1 ≡ (0, Some held) ∷ [] → m' ≡ (after_leave m.0 held.core, [])
+leaves_play st m n m' =
+    (held : HeldData) → m.1 ≡ (0, Some held) ∷ [] → m' ≡ (after_leave m.0 held.core, [])
 
 -- what is left of a seat that was joined to another: the view of no pass, which knows nothing
-abbrev pub spent : PassView
-spent = record {
+abbrev pub spent_pass : PassView
+spent_pass = record {
   is_pass = false;
   caller = 0;
   made = 0;
@@ -186,7 +201,7 @@ spent = record {
 
 -- the view of a new pass
 abbrev pub fresh : ℕ → ℕ → PassView
-fresh caller made = record spent { is_pass = true; caller = caller; made = made }
+fresh caller made = record spent_pass { is_pass = true; caller = caller; made = made }
 
 -- a pass is made: the maker counts on
 abbrev pub made_one : PassView → PassView
@@ -198,7 +213,7 @@ newcomer v = fresh v.made 0
 
 -- a note of what a pass knows
 abbrev pub note : PassView → PassView
-note v = record spent { seen = v.seen; known = v.known; saw_close = v.saw_close }
+note v = record spent_pass { seen = v.seen; known = v.known; saw_close = v.saw_close }
 
 -- the longer of two lists
 abbrev pub longer : List Entry → List Entry → List Entry
@@ -233,7 +248,8 @@ pub record HasTurn (of : Setting) (v : PassView) (m : TurnSeat) (held : HeldData
   pub mine : m.0.mine ≡ v.mine
   pub seen : m.0.seen ≡ v.seen
   pub close : m.0.saw_close ≡ v.saw_close
-  pub looks : m.0.looks ≡ v.looks ++ (2 * length held.core.history) ∷ (2 * length held.core.history) ∷ []
+  pub looks : m.0.looks ≡ v.looks ++ (2 * length held.core.history) ∷ (2 * length held.core.history)
+      ∷ []
   pub knows : v.known ≤ m.0.known
   pub known : m.0.known ≡ length held.core.history
   pub had : m.0.held ≡ Some (held.core.history, held.core.closed)

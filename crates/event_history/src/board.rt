@@ -1,7 +1,7 @@
 //! The board that the callers share, and the calls that they make with their passes.
 ghost use Rattle.std.specs.Prelude.{◌≡◌, ◌≤◌, length, map, true, IfOk, IfErr, OnOk, IsOk};
 ghost use Rattle.order_queues.specs.Ends.{new_eye, new_sender};
-ghost use Rattle.event_history.specs.Boards.{AreNew, AreAll, AreEyesOf, AreFor, Grown, IsMade};
+ghost use Rattle.event_history.specs.Boards.{AreNewPasses, AreAllPasses, AreEyesOf, AreFor, Grown, IsMade};
 ghost use Rattle.event_history.specs.Holdings.{queues_of};
 ghost use Rattle.event_history.specs.Gathering.{AreRows};
 ghost use Rattle.event_history.specs.Meeting.{Counted, Met};
@@ -64,8 +64,8 @@ impl Board {
         ensures board { IfOk result
             (λ made. (made.0.set ≡ set.now) × (made.0.queues ≡ queues.now)
             × (made.0.callers ≡ callers)) }
-        ensures passes { IfOk result (λ made. AreNew made.0 made.1.items) }
-        ensures all { IfOk result (λ made. AreAll made.0 made.1.items) }
+        ensures passes { IfOk result (λ made. AreNewPasses made.0 made.1.items) }
+        ensures all { IfOk result (λ made. AreAllPasses made.0 made.1.items) }
         ensures unmade { IfErr result (λ unmade. unmade.senders.items ≡ senders.items) }
     {
         let _number = set.len();
@@ -208,7 +208,7 @@ impl Board {
     /// The core with the whole history, and the senders. All passes come back, in the order of their callers, so nobody
     /// posts or sends any more. It is never refused; the Err is there for a board that would need memory.
     pub fn close(self, mut passes: Vec<Pass>) -> Result<(Core, Vec<Sender>), Unfinished>
-        requires { AreAll self passes.items }
+        requires { AreAllPasses self passes.items }
         ensures never_refused { IsOk result }
         ensures closed { IfOk result (λ back. IsCoreOf self passes.items back.0) }
         ensures senders { IfOk result (λ back. AreSendersOf self back.0 back.1.items) }

@@ -33,11 +33,11 @@ impl Model for Held {
 
     ghost Value = { HeldData };
 
-    ghost use Rattle.event_history.specs.HeldParts.{held_data, IsHeld};
+    ghost use Rattle.event_history.specs.HeldParts.{turn_data, IsHeldByTurn};
 
-    ghost view = { held_data };
+    ghost view = { turn_data };
 
-    ghost invariant = { IsHeld };
+    ghost invariant = { IsHeldByTurn };
 }
 
 impl Held {

@@ -1,7 +1,7 @@
 //! The turn word: its rule, the kinds of step that change it, and the calls that are made of these steps.
 ghost use Rattle.std.specs.Prelude.{◌≡◌, ℕ, ◌+◌, ◌<◌, ◌≤◌, [], length, map, IfOk, IfErr, OnOk, true};
 ghost use Rattle.task_set.specs.TaskSet.{IsTaskSet};
-ghost use Rattle.event_history.specs.Turn.{Setting, setting_of, TurnRule, fresh, loads_play, takes_play, posts_play, leaves_play, made_one, newcomer, note, informed, taken_in, spent};
+ghost use Rattle.event_history.specs.Turn.{Setting, setting_of, TurnRule, fresh, loads_play, turn_play, posts_play, leaves_play, made_one, newcomer, note, informed, taken_in, spent_pass};
 
 use crate::eyes::Eyes;
 use crate::held::Held;
@@ -64,7 +64,7 @@ impl Over for Brand {
 pub struct Takes<J>(PhantomData<J>);
 
 impl<J: Over> Play<Option<Held>, PassView> for Takes<J> {
-    ghost then = { takes_play J.setting };
+    ghost then = { turn_play J.setting };
 }
 
 /// A store that ends the turn with one entry more.
@@ -102,7 +102,7 @@ impl Split<PassView> for Note {
 impl Join<PassView> for Note {
     ghost both = { informed };
 
-    ghost spent = { spent };
+    ghost spent = { spent_pass };
 }
 
 /// A pass takes in another, and stands for its caller too.
@@ -111,7 +111,7 @@ pub struct Gathers;
 impl Join<PassView> for Gathers {
     ghost both = { taken_in };
 
-    ghost spent = { spent };
+    ghost spent = { spent_pass };
 }
 
 ghost use Rattle.strong_apa.specs.History.{IsLegal};

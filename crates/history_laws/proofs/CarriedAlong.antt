@@ -1,5 +1,6 @@
 -- A task carries its context along a history: what holds of its stints after each entry, and at the close.
-use Rattle.std.proofs.Common.{◌≡◌, ◌≢◌, ℕ, ◌+◌, ◌<◌, Bool, true, false, not, ◌&&◌, ◌==◌, ◌⊎◌, List, [], ◌∷◌, ◌++◌, length, Option, Some, None, refl, ap, ◌∙◌, arith, append-nil, ne_eqb}
+use Rattle.std.proofs.Common.{◌≡◌, ◌≢◌, ℕ, ◌+◌, ◌<◌, Bool, true, false, not, ◌&&◌, ◌==◌, ◌⊎◌, List, [], ◌∷◌, ◌++◌, length, Option, Some}
+use Rattle.std.proofs.Common.{None, refl, ap, ◌∙◌, arith, append-nil, ne_eqb}
 use Rattle.std.specs.Prelude.{All}
 use Rattle.std.specs.List.{range_with_len, flat_map}
 use Rattle.std.proofs.lemmas.Bool.{false≢true}
@@ -42,18 +43,23 @@ taken-none old new t stays =
     (λ q le. and_not _ _ (λ e. ap (is_task t) (stays q (is_task-true t _ e)) ∙ is_task-same t))
 
 -- a task that comes to p is taken there
-pub taken-one : (old new : State) (t p : ℕ) → p < old.processors → task_on new p ≡ Some t → task_on old p ≢ Some t → ((q : ℕ) → task_on new q ≡ Some t → q ≡ p) → taken_between old new t ≡ p ∷ []
+pub taken-one : (old new : State) (t p : ℕ) → p < old.processors → task_on new p ≡ Some t → task_on old p ≢ Some t
+    → ((q : ℕ) → task_on new q ≡ Some t → q ≡ p) → taken_between old new t ≡ p ∷ []
 taken-one old new t p fits is was alone =
-    filter_range-one (λ p. is_task t (task_on new p) && not (is_task t (task_on old p))) p 0 old.processors (omega arith) (omega (arith, fits))
+    filter_range-one (λ p. is_task t (task_on new p) && not (is_task t (task_on old p))) p 0 old.processors (omega arith)
+    (omega (arith, fits))
     (and_comes _ _ (ap (is_task t) is ∙ is_task-same t) (is_task-other t (task_on old p) was))
     (λ q other. and_absent _ _ (is_task-other t (task_on new q) (λ e. other (alone q e))))
 
 pub places-none : (s : State) (t : ℕ) → ((q : ℕ) → task_on s q ≢ Some t) → places_of s t ≡ []
-places-none s t nowhere = filter_range-none (λ p. is_task t (task_on s p)) 0 s.processors (λ q le. is_task-other t (task_on s q) (nowhere q))
+places-none s t nowhere =
+    filter_range-none (λ p. is_task t (task_on s p)) 0 s.processors (λ q le. is_task-other t (task_on s q) (nowhere q))
 
-pub places-one : (s : State) (t p : ℕ) → p < s.processors → task_on s p ≡ Some t → ((q : ℕ) → task_on s q ≡ Some t → q ≡ p) → places_of s t ≡ p ∷ []
+pub places-one : (s : State) (t p : ℕ) → p < s.processors → task_on s p ≡ Some t → ((q : ℕ) → task_on s q ≡ Some t → q ≡ p)
+    → places_of s t ≡ p ∷ []
 places-one s t p fits is alone =
-    filter_range-one (λ p. is_task t (task_on s p)) p 0 s.processors (omega arith) (omega (arith, fits)) (ap (is_task t) is ∙ is_task-same t)
+    filter_range-one (λ p. is_task t (task_on s p)) p 0 s.processors (omega arith) (omega (arith, fits))
+    (ap (is_task t) is ∙ is_task-same t)
     (λ q other. is_task-other t (task_on s q) (λ e. other (alone q e)))
 
 -- ---- what holds of the stints of a task
@@ -94,33 +100,45 @@ IsFollowed start history t = IsResting start history t ⊎ ((p : ℕ) × IsUnder
 
 -- ---- one more entry
 -- the context, where the entry gives these runs and takes
-pub context_of-push : (start : State) (history : List Entry) (entry : Entry) (t : ℕ) (runs : List (ℕ × ℕ)) (taken : List ℕ) → tick_runs entry.event (places_of (state_after start history) t) ≡ runs
+pub context_of-push : (start : State) (history : List Entry) (entry : Entry) (t : ℕ) (runs : List (ℕ × ℕ)) (taken : List ℕ)
+    → tick_runs entry.event (places_of (state_after start history) t) ≡ runs
     → taken_between (state_after start history) (next_state start history entry) t ≡ taken
     → context_of start (history ++ entry ∷ []) t ≡ context_from t (runs_of start history t ++ runs) (processors_of start history t ++ taken)
 context_of-push start history entry t runs taken runs_are taken_is =
     rw (runs_of-push start history entry t, processors_of-push start history entry t, runs_are, taken_is) refl
 
-pub processors_of-entry : (start : State) (history : List Entry) (entry : Entry) (t : ℕ) (taken : List ℕ) → taken_between (state_after start history) (next_state start history entry) t ≡ taken
+pub processors_of-entry : (start : State) (history : List Entry) (entry : Entry) (t : ℕ) (taken : List ℕ)
+    → taken_between (state_after start history) (next_state start history entry) t ≡ taken
     → processors_of start (history ++ entry ∷ []) t ≡ processors_of start history t ++ taken
-processors_of-entry start history entry t taken taken_is = processors_of-push start history entry t ∙ ap (λ (l : List ℕ). processors_of start history t ++ l) taken_is
+processors_of-entry start history entry t taken taken_is =
+    processors_of-push start history entry t ∙ ap (λ (l : List ℕ). processors_of start history t ++ l) taken_is
 
-pub times_taken-push : (start : State) (history : List Entry) (entry : Entry) (t : ℕ) (taken : List ℕ) → taken_between (state_after start history) (next_state start history entry) t ≡ taken
+pub times_taken-push : (start : State) (history : List Entry) (entry : Entry) (t : ℕ) (taken : List ℕ)
+    → taken_between (state_after start history) (next_state start history entry) t ≡ taken
     → times_taken start (history ++ entry ∷ []) t ≡ times_taken start history t + length taken
 times_taken-push start history entry t taken taken_is =
-    ap length (processors_of-push start history entry t) ∙ length-append (processors_of start history t) _ ∙ ap (λ (l : List ℕ). times_taken start history t + length l) taken_is
+    ap length (processors_of-push start history entry t) ∙ length-append (processors_of start history t) _
+    ∙ ap (λ (l : List ℕ). times_taken start history t + length l) taken_is
 
 module _ (start : State) (idle : (q : ℕ) → task_on start q ≡ None) (history : List Entry) (t : ℕ) (entry : Entry) where
   pub ended_on-push : (p : ℕ) (orders : List Order) → next_orders start history entry p ≡ orders
-      → ended_on start (history ++ entry ∷ []) t p ≡ ended_on start history t p ++ own t (stints_from p (under_way_on start history p) orders)
+      → ended_on start (history ++ entry ∷ []) t p ≡ ended_on start history t p
+      ++ own t (stints_from p (under_way_on start history p) orders)
   ended_on-push p orders are =
-      ap (own t) (ended-push start history entry p ∙ ap (λ (l : List Order). stints_in p (orders_of start history p) ++ stints_from p (under_way_on start history p) l) are)
-      ∙ filter-append (λ (stint : Stint). stint.task == t) (stints_in p (orders_of start history p)) (stints_from p (under_way_on start history p) orders)
+      ap (own t) (ended-push start history entry p
+      ∙ ap (λ (l : List Order). stints_in p (orders_of start history p) ++ stints_from p (under_way_on start history p) l) are)
+      ∙ filter-append (λ (stint : Stint). stint.task == t) (stints_in p (orders_of start history p))
+      (stints_from p (under_way_on start history p) orders)
 
   -- no stint of t ends here
-  pub ended_on-none : (p : ℕ) (orders : List Order) → next_orders start history entry p ≡ orders → own t (stints_from p (under_way_on start history p) orders) ≡ []
+  pub ended_on-none : (p : ℕ) (orders : List Order) → next_orders start history entry p ≡ orders
+      → own t (stints_from p (under_way_on start history p) orders) ≡ []
       → ended_on start (history ++ entry ∷ []) t p ≡ ended_on start history t p
-  ended_on-none p orders are none = ended_on-push p orders are ∙ ap (λ (l : List Stint). ended_on start history t p ++ l) none ∙ append-nil (ended_on start history t p)
+  ended_on-none p orders are none =
+      ended_on-push p orders are ∙ ap (λ (l : List Stint). ended_on start history t p ++ l) none ∙ append-nil (ended_on start history t p)
 
   -- no stint of t ends at all
-  pub ended-none : ((p : ℕ) → ended_on start (history ++ entry ∷ []) t p ≡ ended_on start history t p) → ended start (history ++ entry ∷ []) t ≡ ended start history t
-  ended-none same = flat_range-same (ended_on start history t) (ended_on start (history ++ entry ∷ []) t) 0 start.processors (λ q le. same q)
+  pub ended-none : ((p : ℕ) → ended_on start (history ++ entry ∷ []) t p ≡ ended_on start history t p)
+      → ended start (history ++ entry ∷ []) t ≡ ended start history t
+  ended-none same =
+      flat_range-same (ended_on start history t) (ended_on start (history ++ entry ∷ []) t) 0 start.processors (λ q le. same q)

@@ -1,7 +1,8 @@
 -- Two small histories, worked by hand. In the one the second task may run on processor 0 alone, so the first one moves on to 1: it is
 -- legal, and gives the links, orders and contexts that a reader expects. In the other one a task is shifted along a longer chain than
 -- there is, and so it is not legal.
-use Rattle.std.proofs.Common.{◌≡◌, ℕ, zero, suc, ◌≤◌, false, List, [], ◌∷◌, map, length, Option, Some, refl, sym, ap, ◌∙◌, inl, inr, ◌⊎◌, arith, subst}
+use Rattle.std.proofs.Common.{◌≡◌, ℕ, zero, suc, ◌≤◌, false, List, [], ◌∷◌, map, length, Option, Some, refl, sym, ap, ◌∙◌, inl, inr, ◌⊎◌}
+use Rattle.std.proofs.Common.{arith, subst}
 use Rattle.std.specs.List.{range_with_len}
 use Rattle.std.proofs.lemmas.Bool.{ltb-true, cases_order}
 use Rattle.affinity_mask.specs.ProcSet.{has, all_below, intersection}
@@ -99,7 +100,8 @@ b_is_placed = record {
   shifted = refl;
 }
 
-arrives : (chain : List ℕ) {s : State} {t : ℕ} {new : State} → is_ready s t ≡ false → ComesPlaced s t chain new → ArriveStep s t (Placed chain) new
+arrives : (chain : List ℕ) {s : State} {t : ℕ} {new : State} → is_ready s t ≡ false → ComesPlaced s t chain new
+    → ArriveStep s t (Placed chain) new
 arrives chain absent comes = inr record { absent = absent; came = came.Placed chain; answer = refl; comes = comes }
 
 first_shift_legal : IsLegal first_shift_set first_shift

@@ -15,7 +15,8 @@ use Rattle.strong_apa.proofs.Kept.{passing_is_certified-from, legal_passes}
 use Rattle.strong_apa.proofs.Ranked.{linked_is_as_urgent}
 use Rattle.history_laws.specs.Start.{NobodyIsReady}
 use Rattle.history_laws.specs.ImprovingLaw.{LegalHistoryHasNoImprovingChainFrom}
-use Rattle.history_laws.specs.LegalLaw.{HoldsThroughoutLegal, LegalHistoryHasCertificatesFrom, LegalHistoryIsBestFrom, LegalHistoryIsMostUrgentFrom}
+use Rattle.history_laws.specs.LegalLaw.{HoldsThroughoutLegal, LegalHistoryHasCertificatesFrom, LegalHistoryIsBestFrom}
+use Rattle.history_laws.specs.LegalLaw.{LegalHistoryIsMostUrgentFrom}
 use Rattle.history_laws.proofs.Starts.{nobody_ready}
 
 -- where nobody is ready, nobody waits
@@ -28,7 +29,8 @@ throughout_legal Law holds start history ok nobody legal n within =
     holds (state_after start (take n history)) kept.0 kept.1
 
 -- from the start of a set
-pub throughout_legal-set : (Law : State → Type 0) → HoldsThroughoutLegal Law → (set : SetData) → IsTaskSet set → (history : List Entry) → IsLegal set history → HoldsThroughout Law (start_of set) history
+pub throughout_legal-set : (Law : State → Type 0) → HoldsThroughoutLegal Law → (set : SetData) → IsTaskSet set → (history : List Entry)
+    → IsLegal set history → HoldsThroughout Law (start_of set) history
 throughout_legal-set Law law set valid_set history = law (start_of set) history (IsState-start set valid_set) (nobody_ready set)
 
 -- ---- the laws
@@ -39,7 +41,8 @@ pub legal_is_best-from : LegalHistoryIsBestFrom
 legal_is_best-from = throughout_legal LinkedIsBest linked_is_best
 
 pub legal_is_most_urgent-from : LegalHistoryIsMostUrgentFrom
-legal_is_most_urgent-from = throughout_legal (λ s. LinkedIsLargest s × LinkedIsAsUrgent s) (λ s ok certificates. (linked_is_largest s ok certificates, linked_is_as_urgent s ok certificates))
+legal_is_most_urgent-from = throughout_legal (λ s. LinkedIsLargest s × LinkedIsAsUrgent s)
+    (λ s ok certificates. (linked_is_largest s ok certificates, linked_is_as_urgent s ok certificates))
 
 pub legal_has_no_improving_chain-from : LegalHistoryHasNoImprovingChainFrom
 legal_has_no_improving_chain-from = throughout_legal HasNoImprovingChain (λ s ok. no_improving_chain s)

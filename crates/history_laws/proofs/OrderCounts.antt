@@ -1,5 +1,6 @@
 -- How many orders a legal history gives a processor.
-use Rattle.std.proofs.Common.{◌≡◌, ℕ, ◌+◌, ◌*◌, ◌≤◌, List, [], ◌∷◌, length, Option, None, Some, refl, inl, inr, arith, append-nil, eq-eqb, ne_eqb}
+use Rattle.std.proofs.Common.{◌≡◌, ℕ, ◌+◌, ◌*◌, ◌≤◌, List, [], ◌∷◌, length, Option, None, Some, refl, inl, inr, arith, append-nil, eq-eqb}
+use Rattle.std.proofs.Common.{ne_eqb}
 use Rattle.std.proofs.lemmas.Bool.{cases_eq}
 use Rattle.std.proofs.lemmas.List.{length-append}
 use Rattle.task_set.specs.declared.event.Event.{Event}
@@ -26,15 +27,19 @@ length-tick : (units : ℕ) (o : Option ℕ) → length (tick_orders (Tick units
 length-tick units None = omega arith
 length-tick units (Some a) = omega arith
 
-length-event : (takes : ℕ → ℕ) (event : Event) (old new : Option ℕ) → ((units : ℕ) → event ≡ Tick units → new ≡ old) → length (event_orders takes event old new) ≤ 2
+length-event : (takes : ℕ → ℕ) (event : Event) (old new : Option ℕ) → ((units : ℕ) → event ≡ Tick units → new ≡ old)
+    → length (event_orders takes event old new) ≤ 2
 length-event takes (Tick units) old new stays = rw (event_orders-tick takes units old new (stays units refl)) (length-tick units old)
 length-event takes event old new stays = rw (append-nil (change_orders takes old new)) (length-change takes old new)
 
 -- a step gives a processor at most two orders
-pub length-entry_orders : (s : State) (takes : ℕ → ℕ) (entry : Entry) (p : ℕ) → SchedulerStep s entry.event entry.reply (effect_of s entry) → length (entry_orders s takes entry p) ≤ 2
-length-entry_orders s takes entry p step = length-event takes entry.event (task_on s p) (task_on (effect_of s entry) p) (tick_stays s entry.event entry.reply (effect_of s entry) step p)
+pub length-entry_orders : (s : State) (takes : ℕ → ℕ) (entry : Entry) (p : ℕ) → SchedulerStep s entry.event entry.reply (effect_of s entry)
+    → length (entry_orders s takes entry p) ≤ 2
+length-entry_orders s takes entry p step = length-event takes entry.event (task_on s p) (task_on (effect_of s entry) p)
+    (tick_stays s entry.event entry.reply (effect_of s entry) step p)
 
-pub length-orders_from : (s : State) (takes : ℕ → ℕ) (history : List Entry) (p : ℕ) → IsLegalFrom s history → length (orders_from s takes history p) ≤ 2 * length history
+pub length-orders_from : (s : State) (takes : ℕ → ℕ) (history : List Entry) (p : ℕ) → IsLegalFrom s history
+    → length (orders_from s takes history p) ≤ 2 * length history
 length-orders_from s takes [] p legal = omega arith
 length-orders_from s takes (first ∷ rest) p legal =
     let next = effect_of s first in
@@ -49,7 +54,8 @@ length-close : (o : Option ℕ) → length (close_orders o) ≤ 2
 length-close None = omega arith
 length-close (Some a) = omega arith
 
-pub length-closed_orders_of : (s : State) (history : List Entry) (p : ℕ) → length (closed_orders_of s history p) ≤ length (orders_of s history p) + 2
+pub length-closed_orders_of : (s : State) (history : List Entry) (p : ℕ) → length (closed_orders_of s history p)
+    ≤ length (orders_of s history p) + 2
 length-closed_orders_of s history p =
     let close = length-close (task_on (state_after s history) p) in
     let both = length-append (orders_of s history p) (close_orders (task_on (state_after s history) p)) in

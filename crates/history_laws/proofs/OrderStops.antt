@@ -1,5 +1,6 @@
 -- The Stop among the orders of a history: it comes at the close, and is the last.
-use Rattle.std.proofs.Common.{◌≡◌, ◌≢◌, ℕ, ◌+◌, true, false, List, [], ◌∷◌, ◌++◌, length, Option, None, Some, refl, sym, ap, ◌∙◌, subst, append-nil}
+use Rattle.std.proofs.Common.{◌≡◌, ◌≢◌, ℕ, ◌+◌, true, false, List, [], ◌∷◌, ◌++◌, length, Option, None, Some, refl, sym, ap, ◌∙◌, subst}
+use Rattle.std.proofs.Common.{append-nil}
 use Rattle.std.specs.Prelude.{All}
 use Rattle.std.proofs.lemmas.List.Elements.{All-nil, All-head, All-tail, All-append}
 use Rattle.task_set.specs.declared.order.Order.{Order}
@@ -11,7 +12,8 @@ use Rattle.strong_apa.specs.State.{State, task_on}
 use Rattle.strong_apa.specs.History.{effect_of, state_after}
 use Rattle.strong_apa.specs.Dispatch.{orders_from, orders_of, taken_between}
 use Rattle.strong_apa.proofs.Histories.{entry_orders}
-use Rattle.history_laws.specs.SentLaws.{AreSentOf, CloseAddsOrders, NoStopBeforeClose, StopComesAtClose, StopIsLastSent, SentIsObeyable, NextSentMayCome}
+use Rattle.history_laws.specs.SentLaws.{AreSentOf, CloseAddsOrders, NoStopBeforeClose, StopComesAtClose, StopIsLastSent, SentIsObeyable}
+use Rattle.history_laws.specs.SentLaws.{NextSentMayCome}
 use Rattle.history_laws.proofs.OrderLists.{close_orders, closed_orders_of-split, orders_obeyable-from}
 use Rattle.history_laws.proofs.OrderNames.{all-event}
 
@@ -59,8 +61,10 @@ pub close_adds_orders : CloseAddsOrders
 close_adds_orders s history p = (close_orders (task_on (state_after s history) p), sym (closed_orders_of-split s history p))
 
 -- ---- what was sent
-whole_obeyable : (start : State) (history : List Entry) (p : ℕ) (sent : List Order) (are : AreSentOf start history p sent) → IsObeyable (sent ++ are.begins.0)
-whole_obeyable start history p sent are = subst IsObeyable (sym are.begins.1) (orders_obeyable-from start history p are.nobody are.legal).after_close
+whole_obeyable : (start : State) (history : List Entry) (p : ℕ) (sent : List Order) (are : AreSentOf start history p sent)
+    → IsObeyable (sent ++ are.begins.0)
+whole_obeyable start history p sent are =
+    subst IsObeyable (sym are.begins.1) (orders_obeyable-from start history p are.nobody are.legal).after_close
 
 pub sent_is_obeyable : SentIsObeyable
 sent_is_obeyable start history p sent are = IsObeyableFrom-front None sent are.begins.0 (whole_obeyable start history p sent are)

@@ -1,5 +1,6 @@
 -- In every state there is a step at every event of a task or a processor.
-use Rattle.std.proofs.Common.{◌≡◌, ℕ, ◌<◌, ◌≤◌, true, false, List, [], ◌∷◌, reverse, Option, Some, None, refl, sym, ap, ◌∙◌, subst, inl, inr, ◌⊎◌, IsTrue, arith, le_antisymm}
+use Rattle.std.proofs.Common.{◌≡◌, ℕ, ◌<◌, ◌≤◌, true, false, List, [], ◌∷◌, reverse, Option, Some, None, refl, sym, ap, ◌∙◌, subst, inl}
+use Rattle.std.proofs.Common.{inr, ◌⊎◌, IsTrue, arith, le_antisymm}
 use Rattle.std.proofs.lemmas.Bool.{cases_lt, cases_Bool, true≢false}
 use Rattle.std.proofs.lemmas.List.{get_or_past}
 use Rattle.affinity_mask.specs.ProcSet.{has}
@@ -10,11 +11,15 @@ use Rattle.strong_apa.specs.declared.reply.Came.{Came}
 use Rattle.strong_apa.specs.declared.reply.Came.TheVariants.{Placed, Displaced, Waits}
 use Rattle.strong_apa.specs.declared.reply.Gone.{Gone}
 use Rattle.strong_apa.specs.declared.reply.Moved.{Moved}
-use Rattle.strong_apa.specs.declared.reply.Reply.TheVariants.{Left, Ticked, AlreadyReady, NotReady, Masked, Remasked, AlreadyOff, AlreadyOn, Off, On}
+use Rattle.strong_apa.specs.declared.reply.Reply.TheVariants.{Left, Ticked, AlreadyReady, NotReady, Masked, Remasked, AlreadyOff, AlreadyOn}
+use Rattle.strong_apa.specs.declared.reply.Reply.TheVariants.{Off, On}
 use Rattle.strong_apa.specs.Reply.{reply_of_came, reply_of_gone}
-use Rattle.strong_apa.specs.State.{State, IsState, IsWaiting, IsMoreUrgent, task_on, task_count, is_ready, is_linked, priority_of, effective_mask, state_with_ready, state_with_absent, state_with_mask, state_with_online, state_with_offline, state_after_leaving}
+use Rattle.strong_apa.specs.State.{State, IsState, IsWaiting, IsMoreUrgent, task_on, task_count, is_ready, is_linked, priority_of}
+use Rattle.strong_apa.specs.State.{effective_mask, state_with_ready, state_with_absent, state_with_mask, state_with_online}
+use Rattle.strong_apa.specs.State.{state_with_offline, state_after_leaving}
 use Rattle.strong_apa.specs.Chain.{IsReach, IsBackReach, EndsIdle, CanEnterAt, state_after_shift}
-use Rattle.strong_apa.specs.Step.{IsOccupied, Comes, ArriveStep, DepartStep, EnterStep, Fills, LeaveStep, AffinityStep, OfflineStep, OnlineStep}
+use Rattle.strong_apa.specs.Step.{IsOccupied, Comes, ArriveStep, DepartStep, EnterStep, Fills, LeaveStep, AffinityStep, OfflineStep}
+use Rattle.strong_apa.specs.Step.{OnlineStep}
 use Rattle.strong_apa.proofs.Changes.{IsState-state_with_online}
 use Rattle.strong_apa.proofs.Ends.{has_decided, least_chain_to_idle, least_chain_to_task, least_back_chain}
 use Rattle.strong_apa.proofs.Least.{Decided}
@@ -51,7 +56,8 @@ module _ (s : State) (ok : IsState s) (t : ℕ) (number : t < task_count s) (abs
     waits more_urgent = (Waits reach, state_with_ready s t, record { reached = reached; more_urgent = more_urgent; waits = refl })
 
     -- the occupants of p are the least urgent ones that are reached
-    module _ (p : ℕ) (inside : IsTrue (has reach p)) (least_urgent : (q : ℕ) → IsTrue (has reach q) → priority_on s (task_on s q) ≤ priority_on s (task_on s p)) (d : ℕ) (on : task_on s p ≡ Some d) where
+    module _ (p : ℕ) (inside : IsTrue (has reach p)) (least_urgent : (q : ℕ) → IsTrue (has reach q)
+        → priority_on s (task_on s q) ≤ priority_on s (task_on s p)) (d : ℕ) (on : task_on s p ≡ Some d) where
       no_less_urgent : (q u : ℕ) → IsTrue (has reach q) → task_on s q ≡ Some u → priority_of s u ≤ priority_of s d
       no_less_urgent q u there on_q =
           let le = least_urgent q there in
@@ -85,7 +91,9 @@ module _ (s : State) (ok : IsState s) (t : ℕ) (number : t < task_count s) (abs
             on_q,
             elim (cases_lt (priority_of s u) (priority_of s t)) [
               | inl lt ↦ lt
-              | inr ge ↦ absurd (true≢false (sym (ok.linked_ready q u on_q) ∙ subst (λ (v : ℕ). is_ready s v ≡ false) (sym (ok.distinct u t (linked_number s q u ok on_q) number (le_antisymm (omega arith) ge))) absent))
+              | inr ge ↦ absurd (true≢false (sym (ok.linked_ready q u on_q)
+                  ∙ subst (λ (v : ℕ). is_ready s v ≡ false)
+                  (sym (ok.distinct u t (linked_number s q u ok on_q) number (le_antisymm (omega arith) ge))) absent))
             ],
           ))
 
@@ -94,7 +102,8 @@ module _ (s : State) (ok : IsState s) (t : ℕ) (number : t < task_count s) (abs
     NoMoreUrgentOn p q = priority_on s (task_on s q) ≤ priority_on s (task_on s p)
 
     all_occupied : SomeComing s t
-    all_occupied = go (first_below (λ p. IsTrue (has reach p)) (has_decided reach) NoMoreUrgentOn (λ p q. either (priority_on s (task_on s q)) (priority_on s (task_on s p))) (λ p q r le more. omega arith) s.processors)
+    all_occupied = go (first_below (λ p. IsTrue (has reach p)) (has_decided reach) NoMoreUrgentOn
+        (λ p q. either (priority_on s (task_on s q)) (priority_on s (task_on s p))) (λ p q r le more. omega arith) s.processors)
       where
         inside_below : (p : ℕ) → IsTrue (has reach p) → p < s.processors
         inside_below p there = let u = occupied p there in occupied_number s p u.0 ok u.1
@@ -104,7 +113,8 @@ module _ (s : State) (ok : IsState s) (t : ℕ) (number : t < task_count s) (abs
         go (inl found) =
             let p = found.0 in
             let d = occupied p found.2 in
-            let least_urgent : (q : ℕ) → IsTrue (has reach q) → priority_on s (task_on s q) ≤ priority_on s (task_on s p) = λ q there. found.3 q (inside_below q there) there in
+            let least_urgent : (q : ℕ) → IsTrue (has reach q)
+            → priority_on s (task_on s q) ≤ priority_on s (task_on s p) = λ q there. found.3 q (inside_below q there) there in
             elim (cases_lt (priority_of s t) (priority_of s d.0)) [
               | inl lt ↦ displaced p found.2 least_urgent d.0 d.1 lt
               | inr ge ↦ kept_out p found.2 least_urgent d.0 d.1 ge
@@ -114,13 +124,17 @@ module _ (s : State) (ok : IsState s) (t : ℕ) (number : t < task_count s) (abs
   comes_exists =
       let reach = (reach_exists s ok t).0 in
       let reached = (reach_exists s ok t).1 in
-      elim (exists_below (λ q. IsTrue (has reach q) × (task_on s q ≡ None)) (λ q. both_decided (IsTrue (has reach q)) (task_on s q ≡ None) (has_decided reach q) (nobody_decided (task_on s q))) s.processors) [
-        | inl found ↦ (let path = (reached found.0).0 found.2.0 in placed path.0 (found.0, path.1, (Reaches-online s t found.0 path, found.2.1)))
+      elim (exists_below (λ q. IsTrue (has reach q) × (task_on s q ≡ None))
+      (λ q. both_decided (IsTrue (has reach q)) (task_on s q ≡ None) (has_decided reach q) (nobody_decided (task_on s q))) s.processors) [
+        | inl found ↦ (let path = (reached found.0).0 found.2.0 in
+            placed path.0 (found.0, path.1, (Reaches-online s t found.0 path, found.2.1)))
         | inr none ↦ all_occupied reach reached (λ p there. occupant_of p reach reached none there (task_on s p) refl)
       ]
     where
-      occupant_of : (p reach : ℕ) → IsReach s t reach → ((q : ℕ) × (q < s.processors) × (IsTrue (has reach q) × (task_on s q ≡ None)) → ⊥) → IsTrue (has reach p) → (o : Option ℕ) → task_on s p ≡ o → (u : ℕ) × (task_on s p ≡ Some u)
-      occupant_of p reach reached none there None idle = absurd (none (p, online_below s ok p (Reaches-online s t p ((reached p).0 there)), (there, idle)))
+      occupant_of : (p reach : ℕ) → IsReach s t reach → ((q : ℕ) × (q < s.processors) × (IsTrue (has reach q) × (task_on s q ≡ None)) → ⊥)
+          → IsTrue (has reach p) → (o : Option ℕ) → task_on s p ≡ o → (u : ℕ) × (task_on s p ≡ Some u)
+      occupant_of p reach reached none there None idle =
+          absurd (none (p, online_below s ok p (Reaches-online s t p ((reached p).0 there)), (there, idle)))
       occupant_of p reach reached none there (Some u) on = (u, on)
 
 abbrev SomeArriveStep : State → ℕ → Type 0
@@ -167,7 +181,9 @@ module _ (s : State) (ok : IsState s) (p : ℕ) (inside : p < s.processors) (bac
   may_come_in_decided : (v : ℕ) → Decided (MayComeIn v)
   may_come_in_decided v =
       both_decided (IsWaiting s v) (EntersSomewhere v) (waiting_decided s v)
-      (exists_below (λ q. IsTrue (has back q) × CanEnterAt s v q) (λ q. both_decided (IsTrue (has back q)) (CanEnterAt s v q) (has_decided back q) (has_decided (effective_mask s v) q)) s.processors)
+      (exists_below (λ q. IsTrue (has back q) × CanEnterAt s v q)
+      (λ q. both_decided (IsTrue (has back q)) (CanEnterAt s v q) (has_decided back q) (has_decided (effective_mask s v) q))
+      s.processors)
 
   may_come_in : (v q : ℕ) → IsWaiting s v → IsTrue (has back q) → CanEnterAt s v q → MayComeIn v
   may_come_in v q waiting there enters = (waiting, (q, effective_mask_below s ok v q enters, (there, enters)))
@@ -177,10 +193,21 @@ module _ (s : State) (ok : IsState s) (p : ℕ) (inside : p < s.processors) (bac
   NoLessUrgent v w = priority_of s v ≤ priority_of s w
 
   enter_exists : SomeEnterStep s p back
-  enter_exists = go (first_below MayComeIn may_come_in_decided NoLessUrgent (λ v w. either (priority_of s v) (priority_of s w)) (λ u v w le more. omega arith) (task_count s))
+  enter_exists = go (first_below MayComeIn may_come_in_decided NoLessUrgent (λ v w. either (priority_of s v) (priority_of s w))
+      (λ u v w le more. omega arith) (task_count s))
     where
       go : FirstBelow MayComeIn NoLessUrgent (task_count s) → SomeEnterStep s p back
-      go (inr none) = (None, p ∷ [], s, ((λ v q waiting there enters. none v (waiting_number s ok v waiting) (may_come_in v q waiting there enters)), refl, refl))
+      go (inr none) = (
+        None,
+        p ∷ [],
+        s,
+        (
+          (λ v q waiting there enters. none v (waiting_number s ok v waiting)
+              (may_come_in v q waiting there enters)),
+          refl,
+          refl,
+        ),
+      )
       go (inl found) =
           let w = found.0 in
           let q = found.2.1.0 in
@@ -195,7 +222,8 @@ module _ (s : State) (ok : IsState s) (p : ℕ) (inside : p < s.processors) (bac
               record {
                 waits = found.2.0;
                 there = (q, there, enters);
-                most_urgent = λ v r waiting inside_back enters_r. found.3 v (waiting_number s ok v waiting) (may_come_in v r waiting inside_back enters_r);
+                most_urgent = λ v r waiting inside_back enters_r. found.3 v (waiting_number s ok v waiting)
+                    (may_come_in v r waiting inside_back enters_r);
               },
               least.1,
               refl,
@@ -211,7 +239,8 @@ fill_exists s ok p inside =
 
 -- ---- departures
 -- a ready task leaves
-leave_exists : (s : State) → IsState s → (t : ℕ) → is_ready s t ≡ true → (gone : Option Gone) × (between : State) × LeaveStep s t gone between
+leave_exists : (s : State) → IsState s → (t : ℕ) → is_ready s t ≡ true → (gone : Option Gone) × (between : State)
+    × LeaveStep s t gone between
 leave_exists s ok t ready = elim (cases_Bool (is_linked s t)) [
   | inl linked ↦
       let p = place_in t s.on in
@@ -226,7 +255,8 @@ SomeDepartStep s t = (reply : Reply) × (new : State) × DepartStep s t reply ne
 
 departs : (s : State) (t : ℕ) (gone : Option Gone) (new : State) → LeaveStep s t gone new → SomeDepartStep s t
 departs s t None new leaves = (Left, new, inr (inl record { waits = leaves.0; answer = refl; left = leaves.1 }))
-departs s t (Some gone) new leaves = (reply_of_gone gone, new, inr (inr record { place = leaves.0; linked = leaves.1; gone = gone; answer = refl; fills = leaves.2 }))
+departs s t (Some gone) new leaves =
+    (reply_of_gone gone, new, inr (inr record { place = leaves.0; linked = leaves.1; gone = gone; answer = refl; fills = leaves.2 }))
 
 depart_exists : (s : State) → IsState s → (t : ℕ) → SomeDepartStep s t
 depart_exists s ok t = elim (cases_Bool (is_ready s t)) [
@@ -235,13 +265,24 @@ depart_exists s ok t = elim (cases_Bool (is_ready s t)) [
 ]
 
 -- ---- changes of masks
-affinity_exists : (s : State) → IsState s → (t mask : ℕ) → t < task_count s → IsMask s.processors mask → (reply : Reply) × (new : State) × AffinityStep s t mask reply new
+affinity_exists : (s : State) → IsState s → (t mask : ℕ) → t < task_count s → IsMask s.processors mask → (reply : Reply) × (new : State)
+    × AffinityStep s t mask reply new
 affinity_exists s ok t mask number lawful = elim (cases_Bool (is_ready s t)) [
   | inl ready ↦
       let gone = leave_exists s ok t ready in
       let left = has_left s ok t mask gone.0 gone.1 number lawful gone.2 in
-      let came = comes_exists (state_with_mask gone.1 t mask) (IsState-remasked s t mask gone.1 left) t left.number left.absent in
-      (Remasked gone.0 came.0, came.1, inr record { gone = gone.0; came = came.0; answer = refl; between = gone.1; leaves = gone.2; comes = came.2 })
+      let came = comes_exists (state_with_mask gone.1 t mask) (IsState-remasked s t mask gone.1 left) t left.number left.absent in (
+        Remasked gone.0 came.0,
+        came.1,
+        inr record {
+          gone = gone.0;
+          came = came.0;
+          answer = refl;
+          between = gone.1;
+          leaves = gone.2;
+          comes = came.2;
+        },
+      )
   | inr absent ↦ (Masked, state_with_mask s t mask, inl record { absent = absent; answer = refl; masked = refl })
 ]
 
@@ -253,7 +294,8 @@ module _ (s : State) (ok : IsState s) (p : ℕ) where
   goes_off : IsTrue (has s.online p) → (o : Option ℕ) → task_on s p ≡ o → SomeOfflineStep
   goes_off online None idle = (Off None, state_with_offline s p, inr (inl record { idle = (online, idle); answer = refl; off = refl }))
   goes_off online (Some t) on =
-      let came = comes_exists (state_with_offline (state_after_leaving s t) p) (IsState-moved s ok p t on) t (linked_number s p t ok on) (absent_moved s ok p t on) in
+      let came = comes_exists (state_with_offline (state_after_leaving s t) p) (IsState-moved s ok p t on) t (linked_number s p t ok on)
+      (absent_moved s ok p t on) in
       let moved : Moved = record { task = t; came = came.0 } in
       (Off (Some moved), came.1, inr (inr record { moved = moved; occupied = on; answer = refl; comes = came.2 }))
 
@@ -276,6 +318,7 @@ pub step_exists : StepExists
 step_exists s (Arrive t) ok number = let step = arrive_exists s ok t number in (step.0, step.1, (number, step.2))
 step_exists s (Depart t) ok number = let step = depart_exists s ok t in (step.0, step.1, (number, step.2))
 step_exists s (Tick units) ok tick = (Ticked, s, (refl, refl))
-step_exists s (Affinity t mask) ok known = let step = affinity_exists s ok t mask known.0 known.1 in (step.0, step.1, (known.0, known.1, step.2))
+step_exists s (Affinity t mask) ok known =
+    let step = affinity_exists s ok t mask known.0 known.1 in (step.0, step.1, (known.0, known.1, step.2))
 step_exists s (Offline p) ok number = let step = offline_exists s ok p in (step.0, step.1, (number, step.2))
 step_exists s (Online p) ok number = let step = online_exists s ok p number in (step.0, step.1, (number, step.2))

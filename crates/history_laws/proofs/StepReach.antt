@@ -22,13 +22,15 @@ use Rattle.history_laws.proofs.StepSearch.{set_below}
 -- whether a list is a path from p to q
 path_decided : (Step : ℕ → ℕ → Type 0) → ((p q : ℕ) → Decided (Step p q)) → (p : ℕ) (rest : List ℕ) (q : ℕ) → Decided (IsPath Step p rest q)
 path_decided Step step_decided p [] q = cases_eq p q
-path_decided Step step_decided p (r ∷ rest) q = both_decided (Step p r) (IsPath Step r rest q) (step_decided p r) (path_decided Step step_decided r rest q)
+path_decided Step step_decided p (r ∷ rest) q =
+    both_decided (Step p r) (IsPath Step r rest q) (step_decided p r) (path_decided Step step_decided r rest q)
 
 -- a path of at most n steps leads from p to q
 abbrev LeadsWithin : (ℕ → ℕ → Type 0) → ℕ → ℕ → ℕ → Type 0
 LeadsWithin Step n p q = (rest : List ℕ) × (length rest ≤ n) × IsPath Step p rest q
 
-leads_within_decided : (Step : ℕ → ℕ → Type 0) → ((p q : ℕ) → Decided (Step p q)) → (m : ℕ) → ((p q : ℕ) → Step p q → q < m) → (n p q : ℕ) → Decided (LeadsWithin Step n p q)
+leads_within_decided : (Step : ℕ → ℕ → Type 0) → ((p q : ℕ) → Decided (Step p q)) → (m : ℕ) → ((p q : ℕ) → Step p q → q < m) → (n p q : ℕ)
+    → Decided (LeadsWithin Step n p q)
 leads_within_decided Step step_decided m below zero p q = elim (cases_eq p q) [
   | inl same ↦ inl ([], omega arith, same)
   | inr other ↦ inr (no_path other)
@@ -39,10 +41,11 @@ leads_within_decided Step step_decided m below zero p q = elim (cases_eq p q) [
     no_path other (r ∷ rest, short, path) = omega arith
 leads_within_decided Step step_decided m below (suc n) p q = elim (cases_eq p q) [
   | inl same ↦ inl ([], omega arith, same)
-  | inr other ↦ elim (exists_below (λ r. Step p r × LeadsWithin Step n r q) (λ r. both_decided (Step p r) (LeadsWithin Step n r q) (step_decided p r) (leads_within_decided Step step_decided m below n r q)) m) [
-    | inl found ↦ inl (found.0 ∷ found.2.1.0, (let short = found.2.1.1 in omega arith), (found.2.0, found.2.1.2))
-    | inr none ↦ inr (first_step other none)
-  ]
+  | inr other ↦ elim (exists_below (λ r. Step p r × LeadsWithin Step n r q)
+      (λ r. both_decided (Step p r) (LeadsWithin Step n r q) (step_decided p r) (leads_within_decided Step step_decided m below n r q)) m) [
+        | inl found ↦ inl (found.0 ∷ found.2.1.0, (let short = found.2.1.1 in omega arith), (found.2.0, found.2.1.2))
+        | inr none ↦ inr (first_step other none)
+      ]
 ]
   where
     first_step : (p ≡ q → ⊥) → ((r : ℕ) × (r < m) × (Step p r × LeadsWithin Step n r q) → ⊥) → LeadsWithin Step (suc n) p q → ⊥
@@ -64,7 +67,8 @@ module _ (s : State) (ok : IsState s) (direction : Direction) where
 
     path_to_decided : (q : ℕ) (path : List ℕ) → Decided (PathTo q path)
     path_to_decided q [] = inr (λ h. h)
-    path_to_decided q (p ∷ rest) = both_decided (IsTrue (has start p)) (IsPath (Steps s direction) p rest q) (has_decided start p) (path_decided (Steps s direction) steps_decided p rest q)
+    path_to_decided q (p ∷ rest) = both_decided (IsTrue (has start p)) (IsPath (Steps s direction) p rest q) (has_decided start p)
+        (path_decided (Steps s direction) steps_decided p rest q)
 
     least_is_simple : (q : ℕ) (path : List ℕ) → IsLeastSuch (PathTo q) path → IsSimple path
     least_is_simple q [] least = absurd least.itself
@@ -79,8 +83,13 @@ module _ (s : State) (ok : IsState s) (direction : Direction) where
     -- where there is a path, there is one with at most as many processors as there are
     short_path : (q : ℕ) (path : List ℕ) → PathTo q path → (short : List ℕ) × PathTo q short × (length short ≤ s.processors)
     short_path q path h =
-        let least = least_exists s.processors (PathTo q) (path_to_decided q) (λ other h'. IsPathFrom-all_below s ok direction start other q start_inside h') path h in
-        (least.0, least.1.itself, length-simple s.processors least.0 (least_is_simple q least.0 least.1) (IsPathFrom-all_below s ok direction start least.0 q start_inside least.1.itself))
+        let least = least_exists s.processors (PathTo q) (path_to_decided q)
+        (λ other h'. IsPathFrom-all_below s ok direction start other q start_inside h') path h in (
+          least.0,
+          least.1.itself,
+          length-simple s.processors least.0 (least_is_simple q least.0 least.1)
+              (IsPathFrom-all_below s ok direction start least.0 q start_inside least.1.itself),
+        )
 
     -- a path to q begins with p
     abbrev BeginsTo : ℕ → ℕ → Type 0
@@ -88,10 +97,12 @@ module _ (s : State) (ok : IsState s) (direction : Direction) where
 
     -- whether the set leads to q
     leads_to_decided : (q : ℕ) → Decided (LeadsTo (Steps s direction) start q)
-    leads_to_decided q = elim (exists_below (BeginsTo q) (λ p. both_decided (IsTrue (has start p)) (LeadsWithin (Steps s direction) s.processors p q) (has_decided start p) (leads_within_decided (Steps s direction) steps_decided s.processors (Steps-below s ok direction) s.processors p q)) s.processors) [
-      | inl found ↦ inl (found.0 ∷ found.2.1.0, (found.2.0, found.2.1.2))
-      | inr none ↦ inr (λ h. let short = short_path q h.0 h.1 in no_start none short.0 short.1 short.2)
-    ]
+    leads_to_decided q = elim (exists_below (BeginsTo q)
+        (λ p. both_decided (IsTrue (has start p)) (LeadsWithin (Steps s direction) s.processors p q) (has_decided start p)
+        (leads_within_decided (Steps s direction) steps_decided s.processors (Steps-below s ok direction) s.processors p q)) s.processors) [
+          | inl found ↦ inl (found.0 ∷ found.2.1.0, (found.2.0, found.2.1.2))
+          | inr none ↦ inr (λ h. let short = short_path q h.0 h.1 in no_start none short.0 short.1 short.2)
+        ]
       where
         no_start : ((p : ℕ) × (p < s.processors) × BeginsTo q p → ⊥) → (path : List ℕ) → PathTo q path → length path ≤ s.processors → ⊥
         no_start none [] path short = path

@@ -12,7 +12,8 @@ module _ (P : ℕ → Type 0) (decided : (x : ℕ) → Decided (P x)) where
   set_below zero = (empty, λ q. (λ h. absurd (no_member empty q refl h), λ h. absurd (let lt = h.0 in omega arith)))
   set_below (suc n) = go (set_below n) (decided n)
     where
-      go : (X : ℕ) × ((q : ℕ) → IsTrue (has X q) ↔ ((q < n) × P q)) → Decided (P n) → (X : ℕ) × ((q : ℕ) → IsTrue (has X q) ↔ ((q < suc n) × P q))
+      go : (X : ℕ) × ((q : ℕ) → IsTrue (has X q) ↔ ((q < n) × P q)) → Decided (P n)
+          → (X : ℕ) × ((q : ℕ) → IsTrue (has X q) ↔ ((q < suc n) × P q))
       go (X, is) (inl here) =
           let Y = bit_or X (2 ^ n) in
           let added = λ (q : ℕ). has-or X (2 ^ n) q ∙ ap (λ b. has X q || b) (has-pow n q) in (

@@ -1,5 +1,6 @@
 -- The stints in the orders of one processor: those that ended, and the one that is under way, entry by entry.
-use Rattle.std.proofs.Common.{◌≡◌, ◌≢◌, ℕ, Bool, true, false, ◌==◌, List, [], ◌∷◌, ◌++◌, length, fold, Option, Some, None, refl, sym, ap, ◌∙◌, eq-eqb, ne_eqb, if◌then◌else◌}
+use Rattle.std.proofs.Common.{◌≡◌, ◌≢◌, ℕ, Bool, true, false, ◌==◌, List, [], ◌∷◌, ◌++◌, length, fold, Option, Some, None, refl, sym, ap}
+use Rattle.std.proofs.Common.{◌∙◌, eq-eqb, ne_eqb, if◌then◌else◌}
 use Rattle.std.specs.Prelude.{option_to_list}
 use Rattle.std.specs.Option.{option_map}
 use Rattle.std.proofs.lemmas.List.Sums.{fold-append}
@@ -26,7 +27,8 @@ abbrev pub under_way_on : State → List Entry → ℕ → Option Stint
 under_way_on start history p = stint_under_way p (orders_of start history p)
 
 -- the stint under way is of the task that is linked
-pub task_of-under_way : (start : State) → ((q : ℕ) → task_on start q ≡ None) → (history : List Entry) (p : ℕ) → task_of (under_way_on start history p) ≡ task_on (state_after start history) p
+pub task_of-under_way : (start : State) → ((q : ℕ) → task_on start q ≡ None) → (history : List Entry) (p : ℕ)
+    → task_of (under_way_on start history p) ≡ task_on (state_after start history) p
 task_of-under_way start idle history p =
     sym (task_held-stint_under_way p (orders_of start history p))
     ∙ ap (λ held. fold held_after held (orders_of start history p)) (sym (idle p))
@@ -38,24 +40,28 @@ begun p takes t = record { task = t; number = takes t; processor = p; units = []
 
 -- ---- the orders at a change of the occupant
 change_stints : (p : ℕ) (takes : ℕ → ℕ) (under_way : Option Stint) (new : Option ℕ)
-    → stints_from p under_way (change_orders takes (task_of under_way) new) ≡ (if is_same_occupant (task_of under_way) new then [] else option_to_list under_way)
+    → stints_from p under_way (change_orders takes (task_of under_way) new)
+    ≡ (if is_same_occupant (task_of under_way) new then [] else option_to_list under_way)
 change_stints p takes None None = refl
 change_stints p takes None (Some b) = refl
 change_stints p takes (Some stint) None = refl
 change_stints p takes (Some stint) (Some b) = by (stint.task == b)
   where
-    by : (same : Bool) → stints_from p (Some stint) (if same then [] else Release stint.task ∷ Take b (takes b) ∷ []) ≡ (if same then [] else stint ∷ [])
+    by : (same : Bool) → stints_from p (Some stint) (if same then [] else Release stint.task ∷ Take b (takes b) ∷ [])
+        ≡ (if same then [] else stint ∷ [])
     by true = refl
     by false = refl
 
 change_under_way : (p : ℕ) (takes : ℕ → ℕ) (under_way : Option Stint) (new : Option ℕ)
-    → fold (stint_after p) under_way (change_orders takes (task_of under_way) new) ≡ (if is_same_occupant (task_of under_way) new then under_way else option_map (begun p takes) new)
+    → fold (stint_after p) under_way (change_orders takes (task_of under_way) new)
+    ≡ (if is_same_occupant (task_of under_way) new then under_way else option_map (begun p takes) new)
 change_under_way p takes None None = refl
 change_under_way p takes None (Some b) = refl
 change_under_way p takes (Some stint) None = refl
 change_under_way p takes (Some stint) (Some b) = by (stint.task == b)
   where
-    by : (same : Bool) → fold (stint_after p) (Some stint) (if same then [] else Release stint.task ∷ Take b (takes b) ∷ []) ≡ (if same then Some stint else Some (begun p takes b))
+    by : (same : Bool) → fold (stint_after p) (Some stint) (if same then [] else Release stint.task ∷ Take b (takes b) ∷ [])
+        ≡ (if same then Some stint else Some (begun p takes b))
     by true = refl
     by false = refl
 
@@ -97,7 +103,8 @@ module _ (p t : ℕ) (takes : ℕ → ℕ) (under_way : Option Stint) (old new :
   under_way-stays was is = rw (was, is, eq-eqb t t refl) refl
 
   -- t leaves: its stint ends
-  pub ended-leaves : (stint : Stint) → under_way ≡ Some stint → stint.task ≡ t → old ≡ Some t → new ≢ Some t → own t (stints_from p under_way (change_orders takes old new)) ≡ stint ∷ []
+  pub ended-leaves : (stint : Stint) → under_way ≡ Some stint → stint.task ≡ t → old ≡ Some t → new ≢ Some t
+      → own t (stints_from p under_way (change_orders takes old new)) ≡ stint ∷ []
   ended-leaves stint it task was leaves =
       let apart : is_same_occupant (task_of under_way) new ≡ false = same_occupant-leaves (task_of under_way) new t (held ∙ was) leaves in
       let all : own t (stints_from p under_way (change_orders takes (task_of under_way) new)) ≡ stint ∷ [] =
@@ -109,7 +116,8 @@ module _ (p t : ℕ) (takes : ℕ → ℕ) (under_way : Option Stint) (old new :
   -- t comes: a stint begins
   pub under_way-comes : new ≡ Some t → old ≢ Some t → fold (stint_after p) under_way (change_orders takes old new) ≡ Some (begun p takes t)
   under_way-comes is comes =
-      let apart : is_same_occupant (task_of under_way) new ≡ false = same_occupant-comes (task_of under_way) new t is (λ e. comes (sym held ∙ e)) in
+      let apart : is_same_occupant (task_of under_way) new ≡ false = same_occupant-comes (task_of under_way) new t is
+      (λ e. comes (sym held ∙ e)) in
       let all : fold (stint_after p) under_way (change_orders takes (task_of under_way) new) ≡ Some (begun p takes t) =
       change_under_way p takes under_way new
       ∙ ap (λ (same : Bool). if same then under_way else option_map (begun p takes) new) apart
@@ -117,13 +125,15 @@ module _ (p t : ℕ) (takes : ℕ → ℕ) (under_way : Option Stint) (old new :
       rw (← held) all
 
 -- a tick ends no stint
-pub ended-tick : (p : ℕ) (under_way : Option Stint) (event : Event) (occupant : Option ℕ) → stints_from p under_way (tick_orders event occupant) ≡ []
+pub ended-tick : (p : ℕ) (under_way : Option Stint) (event : Event) (occupant : Option ℕ)
+    → stints_from p under_way (tick_orders event occupant) ≡ []
 ended-tick p under_way (Tick units) None = refl
 ended-tick p under_way (Tick units) (Some t) = refl
 ended-tick p under_way event occupant = refl
 
 -- the orders after the close end the stint that is under way
-pub ended-close : (p : ℕ) (under_way : Option Stint) (occupant : Option ℕ) → task_of under_way ≡ occupant → stints_from p under_way (close_orders occupant) ≡ option_to_list under_way
+pub ended-close : (p : ℕ) (under_way : Option Stint) (occupant : Option ℕ) → task_of under_way ≡ occupant
+    → stints_from p under_way (close_orders occupant) ≡ option_to_list under_way
 ended-close p None occupant held = rw (← held) refl
 ended-close p (Some stint) occupant held = rw (← held) refl
 
@@ -141,8 +151,10 @@ next_orders start history entry p = entry_orders (state_after start history) (ti
 
 pub ended-push : (start : State) (history : List Entry) (entry : Entry) (p : ℕ) → stints_in p (orders_of start (history ++ entry ∷ []) p)
     ≡ stints_in p (orders_of start history p) ++ stints_from p (under_way_on start history p) (next_orders start history entry p)
-ended-push start history entry p = ap (stints_in p) (orders_of-push start history entry p) ∙ stints_from-append p None (orders_of start history p) _
+ended-push start history entry p =
+    ap (stints_in p) (orders_of-push start history entry p) ∙ stints_from-append p None (orders_of start history p) _
 
 pub under_way-push : (start : State) (history : List Entry) (entry : Entry) (p : ℕ)
     → under_way_on start (history ++ entry ∷ []) p ≡ fold (stint_after p) (under_way_on start history p) (next_orders start history entry p)
-under_way-push start history entry p = ap (stint_under_way p) (orders_of-push start history entry p) ∙ fold-append (stint_after p) None (orders_of start history p) _
+under_way-push start history entry p =
+    ap (stint_under_way p) (orders_of-push start history entry p) ∙ fold-append (stint_after p) None (orders_of start history p) _

@@ -12,4 +12,5 @@ LegalHistoryHasNoImprovingChainFrom = HoldsThroughoutLegal HasNoImprovingChain
 
 -- nor by one of a set
 abbrev pub LegalHistoryHasNoImprovingChain : Type 0
-LegalHistoryHasNoImprovingChain = (set : SetData) → IsTaskSet set → (history : List Entry) → IsLegal set history → HasNoImprovingChainThroughout set history
+LegalHistoryHasNoImprovingChain = (set : SetData) → IsTaskSet set → (history : List Entry)
+    → IsLegal set history → HasNoImprovingChainThroughout set history

@@ -17,16 +17,22 @@ StartIsState = (set : SetData) → IsTaskSet set → IsState (start_of set)
 
 -- a legal history leads from a state to a state
 abbrev pub LegalHistoryKeepsState : Type 0
-LegalHistoryKeepsState = (start : State) (history : List Entry) → IsState start → IsLegalFrom start history → IsState (state_after start history)
+LegalHistoryKeepsState = (start : State) (history : List Entry) → IsState start
+    → IsLegalFrom start history → IsState (state_after start history)
 
 -- the second part of a history leads on from the state after the first part
 abbrev pub StateAfterParts : Type 0
-StateAfterParts = (start : State) (first second : List Entry) → state_after start (first ++ second) ≡ state_after (state_after start first) second
+StateAfterParts = (start : State) (first second : List Entry) → state_after start (first ++ second)
+    ≡ state_after (state_after start first) second
 
--- a history is legal exactly where its first part is, and its second part is from the state after the first
+-- a history is legal exactly where its first part is, and its second part is from the state after
+-- the first
 abbrev pub IsLegalInParts : Type 0
-IsLegalInParts = (start : State) (first second : List Entry) → IsLegalFrom start (first ++ second) ↔ (IsLegalFrom start first × IsLegalFrom (state_after start first) second)
+IsLegalInParts = (start : State) (first second : List Entry)
+    → IsLegalFrom start (first ++ second) ↔
+    (IsLegalFrom start first × IsLegalFrom (state_after start first) second)
 
 -- a prefix of a legal history is legal
 abbrev pub PrefixIsLegal : Type 0
-PrefixIsLegal = (start : State) (shorter longer : List Entry) → IsPrefix shorter longer → IsLegalFrom start longer → IsLegalFrom start shorter
+PrefixIsLegal = (start : State) (shorter longer : List Entry) → IsPrefix shorter longer
+    → IsLegalFrom start longer → IsLegalFrom start shorter

@@ -1,6 +1,7 @@
--- Stints and contexts. After the close of a history the orders of all processors together have the stints of each task;
--- a task that went through its stints in the order of their numbers, and carried its context from each to the next, has
--- the context that the history gives it. Its stints are the takes of the history.
+-- Stints and contexts. After the close of a history the orders of all processors together have the
+-- stints of each task; a task that went through its stints in the order of their numbers, and
+-- carried its context from each to the next, has the context that the history gives it. Its stints
+-- are the takes of the history.
 use Rattle.std.specs.Prelude.{◌≡◌, ℕ, List, map, length}
 use Rattle.std.specs.List.{range_with_len, flat_map}
 use Rattle.task_set.specs.TaskSet.{SetData, IsTaskSet}
@@ -14,17 +15,22 @@ use Rattle.history_laws.specs.Start.{NobodyIsReady}
 
 -- the stints that a history from `start` and its close order, processor by processor
 abbrev pub stints_of_history : State → List Entry → List Stint
-stints_of_history start history = flat_map (λ p. stints_in p (closed_orders_of start history p)) (range_with_len 0 start.processors)
+stints_of_history start history = flat_map (λ p. stints_in p (closed_orders_of start history p))
+    (range_with_len 0 start.processors)
 
--- the context that a task carries through its stints on all processors is the one that the history gives it
+-- the context that a task carries through its stints on all processors is the one that the history
+-- gives it
 abbrev pub StintsGiveContextFrom : Type 0
-StintsGiveContextFrom = (start : State) (history : List Entry) (t : ℕ) → IsState start → NobodyIsReady start → IsLegalFrom start history
+StintsGiveContextFrom = (start : State) (history : List Entry) (t : ℕ) → IsState start
+    → NobodyIsReady start → IsLegalFrom start history
     → carried_context t (stints_of_history start history) ≡ context_of start history t
 
 -- so it is by a history of a set
 abbrev pub StintsGiveContext : Type 0
-StintsGiveContext = (set : SetData) (history : List Entry) (t : ℕ) → IsTaskSet set → IsLegal set history
-    → carried_context t (stints_of_history (start_of set) history) ≡ context_of (start_of set) history t
+StintsGiveContext =
+    (set : SetData) (history : List Entry) (t : ℕ) → IsTaskSet set → IsLegal set history
+    → carried_context t (stints_of_history (start_of set) history)
+    ≡ context_of (start_of set) history t
 
 -- these stints are the takes on these processors, numbered from 0 on
 pub record AreTakes (stints : List Stint) (taken : List ℕ) : Type 0 where
@@ -33,10 +39,13 @@ pub record AreTakes (stints : List Stint) (taken : List ℕ) : Type 0 where
 
 -- the stints of a task, in order of their numbers, are the takes by which the history takes it
 abbrev pub StintsAreTakesFrom : Type 0
-StintsAreTakesFrom = (start : State) (history : List Entry) (t : ℕ) → IsState start → NobodyIsReady start → IsLegalFrom start history
+StintsAreTakesFrom = (start : State) (history : List Entry) (t : ℕ) → IsState start
+    → NobodyIsReady start → IsLegalFrom start history
     → AreTakes (stints_of_task t (stints_of_history start history)) (processors_of start history t)
 
 -- so they are by a history of a set
 abbrev pub StintsAreTakes : Type 0
-StintsAreTakes = (set : SetData) (history : List Entry) (t : ℕ) → IsTaskSet set → IsLegal set history
-    → AreTakes (stints_of_task t (stints_of_history (start_of set) history)) (processors_of (start_of set) history t)
+StintsAreTakes =
+    (set : SetData) (history : List Entry) (t : ℕ) → IsTaskSet set → IsLegal set history
+    → AreTakes (stints_of_task t (stints_of_history (start_of set) history))
+    (processors_of (start_of set) history t)

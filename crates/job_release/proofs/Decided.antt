@@ -1,5 +1,6 @@
 -- Each line comes to an outcome, and so each text is that of an input or is refused.
-use Rattle.std.proofs.Common.{◌≡◌, ◌≢◌, ℕ, ◌-◌, ◌<◌, ◌≤◌, ◌⊎◌, true, List, [], ◌∷◌, codes, Option, Some, None, refl, sym, ap, subst, inl, inr, arith}
+use Rattle.std.proofs.Common.{◌≡◌, ◌≢◌, ℕ, ◌-◌, ◌<◌, ◌≤◌, ◌⊎◌, true, List, [], ◌∷◌, codes, Option, Some, None, refl, sym, ap, subst, inl}
+use Rattle.std.proofs.Common.{inr, arith}
 use Rattle.std.proofs.lemmas.Bool.{cases_eq, cases_lt}
 use Rattle.affinity_mask.proofs.TextCases.{text_list_or_fault}
 use Rattle.task_set.specs.TaskSet.{SetData, IsTaskSet}
@@ -18,9 +19,12 @@ use Rattle.job_release.specs.JobFault.{job_kind}
 use Rattle.text_fields.specs.Machine.{Outcome, Leads, Fails, IsMachine}
 use Rattle.text_fields.proofs.TextLaws.{one_value, ends_valid}
 use Rattle.job_release.specs.JobInput.{JobInputData, IsJobInput, total_jobs, without_tasks}
-use Rattle.job_release.specs.JobText.{IsWorded, TaskLine, AreTimes, AreTimeFields, AreTimesOf, IsTaskForm, JobLine, IsDeadline, SaysJob, IsJobForm, end_line, max_horizon, Progress, HeaderExpected, ProcessorsExpected, HorizonExpected, Listed, Ended, BeginsTask, IsForTask, IsCountOutcome, IsAddOutcome, IsTaskOutcome, IsJobOutcome, IsListedOutcome, IsWordedOutcome, IsOutcome, IsEndOutcome}
+use Rattle.job_release.specs.JobText.{IsWorded, TaskLine, AreTimes, AreTimeFields, AreTimesOf, IsTaskForm, JobLine, IsDeadline, SaysJob}
+use Rattle.job_release.specs.JobText.{IsJobForm, end_line, max_horizon, Progress, HeaderExpected, ProcessorsExpected, HorizonExpected}
+use Rattle.job_release.specs.JobText.{Listed, Ended, BeginsTask, IsForTask, IsCountOutcome, IsAddOutcome, IsTaskOutcome, IsJobOutcome}
+use Rattle.job_release.specs.JobText.{IsListedOutcome, IsWordedOutcome, IsOutcome, IsEndOutcome}
 use Rattle.job_release.specs.TextLaws.{TextHasOneInput, TextIsOfValidInput}
-use Rattle.job_release.specs.Reading.{IsValid, IsVersion}
+use Rattle.job_release.specs.Reading.{IsSoundSoFar, IsVersion}
 use Rattle.job_release.specs.declared.fault.JobKind.{JobKind}
 use Rattle.job_release.specs.declared.fault.JobKind.TheVariants.{BadHeader, BadProcessors, BadHorizon, NoEnd}
 use Rattle.job_release.specs.declared.input.Job.{Job}
@@ -39,23 +43,29 @@ worded_decided word least most (first ∷ number ∷ []) = elim (bytes_decided f
 ]
 worded_decided word least most fields = inr (λ n is. let e = is.1 in cc)
 
-times_decided : (offset period cost : List ℕ) → ((job : JobTask) × AreTimes offset period cost job) ⊎ ((job : JobTask) → AreTimes offset period cost job → ⊥)
+times_decided : (offset period cost : List ℕ) → ((job : JobTask) × AreTimes offset period cost job)
+    ⊎ ((job : JobTask) → AreTimes offset period cost job → ⊥)
 times_decided offset period cost = elim (number_within_decided 0 1000000 offset) [
   | inr none ↦ inr (λ job times. none job.offset times.offset_is)
   | inl first ↦ elim (number_within_decided 1 1000000 period) [
     | inr none ↦ inr (λ job times. none job.period times.period_is)
     | inl every ↦ elim (number_within_decided 1 1000000 cost) [
       | inr none ↦ inr (λ job times. none job.cost times.cost_is)
-      | inl each ↦ inl (record { offset = first.0; period = every.0; cost = each.0 }, record { offset_is = first.1; period_is = every.1; cost_is = each.1 })
+      | inl each ↦ inl (
+        record { offset = first.0; period = every.0; cost = each.0 },
+        record { offset_is = first.1; period_is = every.1; cost_is = each.1 },
+      )
     ]
   ]
 ]
 
 -- three fields, or another number of them
-other : (fields : List (List ℕ)) {job : JobTask} → AreTimeFields fields job → ((first every each : List ℕ) → fields ≡ first ∷ every ∷ each ∷ [] → ⊥) → ⊥
+other : (fields : List (List ℕ)) {job : JobTask} → AreTimeFields fields job
+    → ((first every each : List ℕ) → fields ≡ first ∷ every ∷ each ∷ [] → ⊥) → ⊥
 other fields (first, every, each, cut, are) never = never first every each cut
 
-pub no_time_fields : (fields : List (List ℕ)) (offset period cost : List ℕ) → fields ≡ offset ∷ period ∷ cost ∷ [] → ((job : JobTask) → AreTimes offset period cost job → ⊥)
+pub no_time_fields : (fields : List (List ℕ)) (offset period cost : List ℕ) → fields ≡ offset ∷ period ∷ cost ∷ []
+    → ((job : JobTask) → AreTimes offset period cost job → ⊥)
     → (job : JobTask) → AreTimeFields fields job → ⊥
 no_time_fields fields offset period cost same none job (first, every, each, cut, are) =
     let offsets : first ≡ offset = cc in
@@ -63,7 +73,8 @@ no_time_fields fields offset period cost same none job (first, every, each, cut,
     let costs : each ≡ cost = cc in
     none job (rw (offsets, periods, costs) at are)
 
-time_fields_decided : (fields : List (List ℕ)) → ((job : JobTask) × AreTimeFields fields job) ⊎ ((job : JobTask) → AreTimeFields fields job → ⊥)
+time_fields_decided : (fields : List (List ℕ)) → ((job : JobTask) × AreTimeFields fields job)
+    ⊎ ((job : JobTask) → AreTimeFields fields job → ⊥)
 time_fields_decided (offset ∷ period ∷ cost ∷ []) = elim (times_decided offset period cost) [
   | inl times ↦ inl (times.0, (offset, period, cost, refl, times.1))
   | inr none ↦ inr (no_time_fields _ offset period cost refl none)
@@ -77,7 +88,8 @@ nothing_decided : (fields : List (List ℕ)) → (fields ≡ []) ⊎ (fields ≡
 nothing_decided [] = inl refl
 nothing_decided (first ∷ rest) = inr (λ e. cc)
 
-pub no_times_of : (version : ℕ) (fields : List (List ℕ)) → ((job : JobTask) → version ≡ 1 → AreTimeFields fields job → ⊥) → (version ≡ 2 → fields ≡ [] → ⊥)
+pub no_times_of : (version : ℕ) (fields : List (List ℕ)) → ((job : JobTask) → version ≡ 1 → AreTimeFields fields job → ⊥)
+    → (version ≡ 2 → fields ≡ [] → ⊥)
     → (times : Option JobTask) → AreTimesOf version fields times → ⊥
 no_times_of version fields some none None are = none are.0 are.1
 no_times_of version fields some none (Some job) are = some job are.0 are.1
@@ -103,9 +115,11 @@ task_form_decided : (version : ℕ) (fields : List (List ℕ)) → IsVersion ver
 task_form_decided version (word ∷ name ∷ priority ∷ list ∷ rest) within = elim (bytes_decided word (codes "task")) [
   | inr differs ↦ inr (λ line form. let e = form.each_field in differs (cc))
   | inl same ↦ elim (number_within_decided 0 4294967295 priority) [
-    | inr none ↦ inr (λ line form. let e = form.each_field in none line.priority (subst (λ (text : List ℕ). IsNumberWithin 0 4294967295 text line.priority) (cc) form.priority_is))
+    | inr none ↦ inr (λ line form. let e = form.each_field in
+        none line.priority (subst (λ (text : List ℕ). IsNumberWithin 0 4294967295 text line.priority) (cc) form.priority_is))
     | inl urgency ↦ elim (times_of_decided version rest within) [
-      | inr none ↦ inr (λ line form. let e = form.each_field in none line.times (subst (λ (fields : List (List ℕ)). AreTimesOf version fields line.times) (cc) form.times))
+      | inr none ↦ inr (λ line form. let e = form.each_field in
+          none line.times (subst (λ (fields : List (List ℕ)). AreTimesOf version fields line.times) (cc) form.times))
       | inl times ↦ inl (
         record { name = name; priority = urgency.0; list = list; times = times.0 },
         record {
@@ -121,14 +135,16 @@ task_form_decided version (word ∷ name ∷ priority ∷ list ∷ rest) within 
 ]
 task_form_decided version fields within = inr (λ line form. let e = form.each_field in cc)
 
-deadline_decided : (fields : List (List ℕ)) → ((deadline : Option ℕ) × IsDeadline fields deadline) ⊎ ((deadline : Option ℕ) → IsDeadline fields deadline → ⊥)
+deadline_decided : (fields : List (List ℕ)) → ((deadline : Option ℕ) × IsDeadline fields deadline)
+    ⊎ ((deadline : Option ℕ) → IsDeadline fields deadline → ⊥)
 deadline_decided [] = inl (None, refl)
 deadline_decided (number ∷ []) = elim (number_within_decided 1 10000000 number) [
   | inl found ↦ inl (Some found.0, (number, refl, found.1))
   | inr none ↦ inr (no_deadline number none)
 ]
   where
-    no_deadline : (number : List ℕ) → ((n : ℕ) → IsNumberWithin 1 10000000 number n → ⊥) → (deadline : Option ℕ) → IsDeadline (number ∷ []) deadline → ⊥
+    no_deadline : (number : List ℕ) → ((n : ℕ) → IsNumberWithin 1 10000000 number n → ⊥) → (deadline : Option ℕ)
+        → IsDeadline (number ∷ []) deadline → ⊥
     no_deadline number none None is = let e = is in cc
     no_deadline number none (Some n) is = let e = is.1 in none n (subst (λ (text : List ℕ). IsNumberWithin 1 10000000 text n) (cc) is.2)
 deadline_decided (first ∷ second ∷ rest) = inr many
@@ -145,12 +161,16 @@ says_job_decided horizon release cost rest = elim (number_within_decided 0 (hori
     | inr none ↦ inr (λ job says. none job.cost says.cost_is)
     | inl units ↦ elim (deadline_decided rest) [
       | inr none ↦ inr (λ job says. none job.deadline says.deadline_is)
-      | inl end ↦ inl (record { release = moment.0; cost = units.0; deadline = end.0 }, record { release_is = moment.1; cost_is = units.1; deadline_is = end.1 })
+      | inl end ↦ inl (
+        record { release = moment.0; cost = units.0; deadline = end.0 },
+        record { release_is = moment.1; cost_is = units.1; deadline_is = end.1 },
+      )
     ]
   ]
 ]
 
-job_form_decided : (horizon : ℕ) (fields : List (List ℕ)) → ((line : JobLine) × IsJobForm horizon fields line) ⊎ ((line : JobLine) → IsJobForm horizon fields line → ⊥)
+job_form_decided : (horizon : ℕ) (fields : List (List ℕ)) → ((line : JobLine) × IsJobForm horizon fields line)
+    ⊎ ((line : JobLine) → IsJobForm horizon fields line → ⊥)
 job_form_decided horizon (word ∷ name ∷ release ∷ cost ∷ rest) = elim (bytes_decided word (codes "job")) [
   | inr differs ↦ inr (λ line form. let e = form.each_field in differs (cc))
   | inl same ↦ elim (says_job_decided horizon release cost rest) [
@@ -193,7 +213,8 @@ for_task_decided input fields = elim (cases_eq input.version 1) [
   ]
 ]
   where
-    not_for_task : (input : JobInputData) (fields : List (List ℕ)) → input.version ≢ 1 → (total_jobs input.jobs ≡ 0 → BeginsTask fields → ⊥) → IsForTask input fields → ⊥
+    not_for_task : (input : JobInputData) (fields : List (List ℕ)) → input.version ≢ 1 → (total_jobs input.jobs ≡ 0 → BeginsTask fields → ⊥)
+        → IsForTask input fields → ⊥
     not_for_task input fields other none (inl first) = other first
     not_for_task input fields other none (inr later) = none later.0 later.1
 
@@ -251,10 +272,12 @@ listed : (input : JobInputData) (fields : List (List ℕ)) → IsJobInput input 
 listed input fields valid =
     choice (end_decided fields) (λ end. only _)
     (λ not_end. choice (for_task_decided input fields)
-    (λ task. reading (task_form_decided input.version fields valid.version) (same_line input.version fields) (λ line is. listed_task input line valid.valid) (only _))
-    (λ job. reading (job_form_decided input.horizon fields) (same_job_line input.horizon fields) (λ line is. listed_job input line valid.valid) (only _)))
+    (λ task. reading (task_form_decided input.version fields valid.version) (same_line input.version fields)
+    (λ line is. listed_task input line valid.valid) (only _))
+    (λ job. reading (job_form_decided input.horizon fields) (same_job_line input.horizon fields)
+    (λ line is. listed_job input line valid.valid) (only _)))
 
-fields_decided : (expected : Progress) (fields : List (List ℕ)) → IsValid expected → IsDecided (IsOutcome expected fields)
+fields_decided : (expected : Progress) (fields : List (List ℕ)) → IsSoundSoFar expected → IsDecided (IsOutcome expected fields)
 fields_decided HeaderExpected fields valid = worded (codes "jobs") 1 2 fields ProcessorsExpected BadHeader
 fields_decided (ProcessorsExpected version) fields valid = worded (codes "processors") 1 64 fields (HorizonExpected version) BadProcessors
 fields_decided (HorizonExpected version m) fields valid =
@@ -270,7 +293,7 @@ end_comes (Listed input) = (Fails NoEnd, refl)
 end_comes (Ended input) = (Leads input, refl)
 
 -- ---- the machine
-pub job_machine : IsMachine HeaderExpected IsValid IsOutcome IsEndOutcome
+pub job_machine : IsMachine HeaderExpected IsSoundSoFar IsOutcome IsEndOutcome
 job_machine = record {
   starts = tt;
   keeps = outcome_valid;
@@ -281,10 +304,12 @@ job_machine = record {
 }
 
 -- ---- the input of a text
-input_at_end : (last : Progress) (input : JobInputData) → IsValid last → IsEndOutcome last (Leads input) → IsJobInput input
+input_at_end : (last : Progress) (input : JobInputData) → IsSoundSoFar last → IsEndOutcome last (Leads input) → IsJobInput input
 input_at_end HeaderExpected input valid e = let f : ◌≡◌ {A = Outcome JobInputData JobKind} (Leads input) (Fails NoEnd) = e in cc
-input_at_end (ProcessorsExpected version) input valid e = let f : ◌≡◌ {A = Outcome JobInputData JobKind} (Leads input) (Fails NoEnd) = e in cc
-input_at_end (HorizonExpected version m) input valid e = let f : ◌≡◌ {A = Outcome JobInputData JobKind} (Leads input) (Fails NoEnd) = e in cc
+input_at_end (ProcessorsExpected version) input valid e =
+    let f : ◌≡◌ {A = Outcome JobInputData JobKind} (Leads input) (Fails NoEnd) = e in cc
+input_at_end (HorizonExpected version m) input valid e =
+    let f : ◌≡◌ {A = Outcome JobInputData JobKind} (Leads input) (Fails NoEnd) = e in cc
 input_at_end (Listed other) input valid e = let f : ◌≡◌ {A = Outcome JobInputData JobKind} (Leads input) (Fails NoEnd) = e in cc
 input_at_end (Ended other) input valid e = let same : input ≡ other = cc in subst IsJobInput (sym same) valid
 

@@ -1,5 +1,6 @@
 -- What the first jobs of a list ask for, and so what all that are released by a moment ask for.
-use Rattle.std.proofs.Common.{◌≡◌, ℕ, zero, suc, ◌+◌, ◌*◌, ◌-◌, ◌<◌, ◌≤◌, true, false, List, [], ◌∷◌, length, take, nat_le, refl, sym, ap, ◌∙◌, inl, inr, arith}
+use Rattle.std.proofs.Common.{◌≡◌, ℕ, zero, suc, ◌+◌, ◌*◌, ◌-◌, ◌<◌, ◌≤◌, true, false, List, [], ◌∷◌, length, take, nat_le, refl, sym, ap}
+use Rattle.std.proofs.Common.{◌∙◌, inl, inr, arith}
 use Rattle.std.proofs.lemmas.Bool.{cases_lt, cases_eq}
 use Rattle.std.proofs.lemmas.Bool.Decides.{nat_tests}
 use Rattle.std.proofs.lemmas.List.Sums.{sum_by-cons, sum_by_more}
@@ -23,7 +24,8 @@ asked_past [] n past = asked_none (n + 1) ∙ sym (asked_none n)
 asked_past (job ∷ jobs) zero past = absurd (omega arith)
 asked_past (job ∷ jobs) (suc n) past =
     let next : suc n + 1 ≡ suc (n + 1) = omega arith in
-    ap (asked_by (job ∷ jobs)) next ∙ sum_by-cons cost_of job (take (n + 1) jobs) ∙ ap (λ (k : ℕ). job.cost + k) (asked_past jobs n (omega arith))
+    ap (asked_by (job ∷ jobs)) next ∙ sum_by-cons cost_of job (take (n + 1) jobs)
+    ∙ ap (λ (k : ℕ). job.cost + k) (asked_past jobs n (omega arith))
     ∙ sym (sum_by-cons cost_of job (take n jobs))
 
 pub asked_grows : (jobs : List Job) (n d : ℕ) → asked_by jobs n ≤ asked_by jobs (n + d)
@@ -88,7 +90,8 @@ asks_no_more x job = elim (cases_lt x job.release) [
 ]
 
 -- no job from r on is released by the moment
-demand_most : (jobs : List Job) (r x : ℕ) → ((k : ℕ) → r ≤ k → k < length jobs → x < (job_at jobs k).release) → demand jobs x ≤ asked_by jobs r
+demand_most : (jobs : List Job) (r x : ℕ) → ((k : ℕ) → r ≤ k → k < length jobs → x < (job_at jobs k).release)
+    → demand jobs x ≤ asked_by jobs r
 demand_most [] zero x after = omega arith
 demand_most [] (suc r) x after = omega arith
 demand_most (job ∷ jobs) zero x after =
@@ -101,19 +104,24 @@ demand_most (job ∷ jobs) (suc r) x after =
     omega (arith, sum_by-cons (asked_at x) job jobs, sum_by-cons cost_of job (take r jobs), here, rest)
 
 -- the first r jobs are released by the moment, and no other one
-pub demand_is : (jobs : List Job) (r x : ℕ) → r ≤ length jobs → ((k : ℕ) → k < r → (job_at jobs k).release ≤ x) → ((k : ℕ) → r ≤ k → k < length jobs → x < (job_at jobs k).release)
+pub demand_is : (jobs : List Job) (r x : ℕ) → r ≤ length jobs → ((k : ℕ) → k < r → (job_at jobs k).release ≤ x)
+    → ((k : ℕ) → r ≤ k → k < length jobs → x < (job_at jobs k).release)
     → demand jobs x ≡ asked_by jobs r
 demand_is [] zero x few before after = refl
 demand_is [] (suc r) x few before after = refl
 demand_is (job ∷ jobs) zero x few before after =
     let here = asks_nothing x job (after 0 (omega arith) (omega arith)) in
-    let rest = demand_is jobs zero x (omega arith) (λ k below. absurd (omega arith)) (λ k from within. after (suc k) (omega arith) (omega arith)) in
+    let rest = demand_is jobs zero x (omega arith) (λ k below. absurd (omega arith))
+    (λ k from within. after (suc k) (omega arith) (omega arith)) in
     omega (arith, sum_by-cons (asked_at x) job jobs, here, rest)
 demand_is (job ∷ jobs) (suc r) x few before after =
     let here = asks_all x job (before 0 (omega arith)) in
-    let rest = demand_is jobs r x (omega arith) (λ k below. before (suc k) (omega arith)) (λ k from within. after (suc k) (omega arith) (omega arith)) in
+    let rest = demand_is jobs r x (omega arith) (λ k below. before (suc k) (omega arith))
+    (λ k from within. after (suc k) (omega arith) (omega arith)) in
     omega (arith, sum_by-cons (asked_at x) job jobs, sum_by-cons cost_of job (take r jobs), here, rest)
 
 -- before the release of job k no more is asked for than by the jobs before it
-pub demand_before : (horizon : ℕ) (jobs : List Job) → AreJobs horizon jobs → (k x : ℕ) → k < length jobs → x < (job_at jobs k).release → demand jobs x ≤ asked_by jobs k
-demand_before horizon jobs valid k x within early = demand_most jobs k x (λ j from inside. let order = released_later horizon jobs valid k j from inside in omega arith)
+pub demand_before : (horizon : ℕ) (jobs : List Job) → AreJobs horizon jobs → (k x : ℕ) → k < length jobs → x < (job_at jobs k).release
+    → demand jobs x ≤ asked_by jobs k
+demand_before horizon jobs valid k x within early =
+    demand_most jobs k x (λ j from inside. let order = released_later horizon jobs valid k j from inside in omega arith)

@@ -17,17 +17,20 @@ use Rattle.job_release.specs.WeakRuns.{IsNeededIn, IsRunFrom, AreStatesOf, State
 use Rattle.job_release.proofs.WeakHistories.{last_push, run_push, needed_push}
 
 -- ---- the list that is stored is the only one
-pub only_states : (now : State) (events : List Event) (stored : StatesOf now events) (states : List State) → AreStatesOf now events states → states ≡ stored.0
+pub only_states : (now : State) (events : List Event) (stored : StatesOf now events) (states : List State) → AreStatesOf now events states
+    → states ≡ stored.0
 only_states now events stored states are = ap (λ (s : StatesOf now events). s.0) (StatesOf-prop now events (states, merely are) stored)
 
-pub stored_are : (now : State) (events : List Event) (stored : StatesOf now events) (states : List State) → AreStatesOf now events states → AreStatesOf now events stored.0
+pub stored_are : (now : State) (events : List Event) (stored : StatesOf now events) (states : List State) → AreStatesOf now events states
+    → AreStatesOf now events stored.0
 stored_are now events stored states are = subst (AreStatesOf now events) (only_states now events stored states are) are
 
 -- ---- before any event
 pub begun_start : (set : SetData) → begun_before (start_of set) ≡ start_of set
 begun_start set = ap (λ (n : ℕ). record (start_of set) { ready = replicate n false }) (length-map set.tasks (λ t. t.priority))
 
-pub none_yet : (set : SetData) (now : State) (events : List Event) → now ≡ start_of set → events ≡ [] → IsState now → IsWeaklyStable now → AreStatesOf now events []
+pub none_yet : (set : SetData) (now : State) (events : List Event) → now ≡ start_of set → events ≡ [] → IsState now → IsWeaklyStable now
+    → AreStatesOf now events []
 none_yet set now events is none ok stable =
     let begun : begun_before now ≡ now = ap (λ (s : State). begun_before s) is ∙ begun_start set ∙ sym is in (
       subst (λ (list : List Event). IsRunFrom (begun_before now) list []) (sym none) (record {
@@ -57,8 +60,10 @@ pub record Entered (taken : Type 0 → Type 0) (old new : State) (events : List 
   pub begun : taken (begun_before new ≡ begun_before old)
   pub grown : taken (states ≡ before ++ new ∷ [])
 
-pub entered : {E : Type 0} (result : Result (Unit {0}) E) (event : Event) (old new : State) (events more : List Event) (before : List State) → AreStatesOf old events before → IsJobEvent event → IsNeededIn old event
-    → OnOk result (WeakStep old event new) → OnOk result (Follows old event new) → OnOk result (IsWeaklyStable new) → OnOk result (more ≡ events ++ event ∷ [])
+pub entered : {E : Type 0} (result : Result (Unit {0}) E) (event : Event) (old new : State) (events more : List Event) (before : List State)
+    → AreStatesOf old events before → IsJobEvent event → IsNeededIn old event
+    → OnOk result (WeakStep old event new) → OnOk result (Follows old event new) → OnOk result (IsWeaklyStable new)
+    → OnOk result (more ≡ events ++ event ∷ [])
     → OnErr result (new ≡ old) → OnErr result (more ≡ events) → Entered (OnOk result) old new more before
 entered (Ok x) event old new events more before are of_jobs needed step follows stable listed same same_events =
     let begun = begun_kept old event new of_jobs follows in
@@ -67,17 +72,20 @@ entered (Ok x) event old new events more before are of_jobs needed step follows 
       begins = are.0.begins;
       run = run_push (begun_before old) events before event new are.0.run step';
       each_event = All-push IsJobEvent events event are.0.each_event of_jobs;
-      needed = needed_push (begun_before old) events before event new are.0.needed are.0.run (subst (λ (s : State). IsNeededIn s event) are.1 needed);
+      needed = needed_push (begun_before old) events before event new are.0.needed are.0.run
+          (subst (λ (s : State). IsNeededIn s event) are.1 needed);
       stable_first = are.0.stable_first;
       stable = All-push IsWeaklyStable before new are.0.stable stable;
     } in
     let all : IsRunFrom (begun_before new) more (before ++ new ∷ []) =
-    subst (λ (s : State). IsRunFrom s more (before ++ new ∷ [])) (sym begun) (subst (λ (list : List Event). IsRunFrom (begun_before old) list (before ++ new ∷ [])) (sym listed) run) in
+    subst (λ (s : State). IsRunFrom s more (before ++ new ∷ [])) (sym begun)
+    (subst (λ (list : List Event). IsRunFrom (begun_before old) list (before ++ new ∷ [])) (sym listed) run) in
     record { states = before ++ new ∷ []; are = (all, sym (last_push (begun_before new) before new)); begun = begun; grown = refl }
 entered (Err e) event old new events more before are of_jobs needed step follows stable listed same same_events =
     record {
       states = before;
-      are = subst (λ (s : State). AreStatesOf s more before) (sym same) (subst (λ (list : List Event). AreStatesOf old list before) (sym same_events) are);
+      are = subst (λ (s : State). AreStatesOf s more before) (sym same)
+          (subst (λ (list : List Event). AreStatesOf old list before) (sym same_events) are);
       begun = tt;
       grown = tt;
     }
@@ -86,9 +94,12 @@ entered (Err e) event old new events more before are of_jobs needed step follows
 abbrev seen_of : (now : State) (events : List Event) → List State → WeakHistoryData
 seen_of now events states = record { start = begun_before now; events = events; states = states }
 
-pub continued : {E : Type 0} (result : Result (Unit {0}) E) (event : Event) (before : WeakHistoryData) (old : State) (events : List Event) (states : List State) → before ≡ seen_of old events states
-    → old ≡ last_state (begun_before old) states → (new : State) (more : List Event) (stored : StatesOf new more) → Entered (OnOk result) old new more states
-    → OnOk result (WeakStep old event new) → OnOk result (more ≡ events ++ event ∷ []) → OnOk result (Continues before event (seen_of new more stored.0))
+pub continued : {E : Type 0} (result : Result (Unit {0}) E) (event : Event) (before : WeakHistoryData) (old : State) (events : List Event)
+    (states : List State) → before ≡ seen_of old events states
+    → old ≡ last_state (begun_before old) states → (new : State) (more : List Event) (stored : StatesOf new more)
+    → Entered (OnOk result) old new more states
+    → OnOk result (WeakStep old event new) → OnOk result (more ≡ events ++ event ∷ [])
+    → OnOk result (Continues before event (seen_of new more stored.0))
 continued (Err e) event before old events states is old_is new more stored done step listed = tt
 continued (Ok x) event before old events states is old_is new more stored done step listed =
     let only = only_states new more stored done.states done.are in

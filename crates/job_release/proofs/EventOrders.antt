@@ -1,5 +1,6 @@
 -- Events in their order, as one more comes.
-use Rattle.std.proofs.Common.{◌≡◌, ℕ, ◌+◌, ◌-◌, ◌<◌, ◌≤◌, ◌⊎◌, Bool, true, false, List, [], ◌∷◌, ◌++◌, refl, ap, ◌∙◌, subst, inl, inr, arith}
+use Rattle.std.proofs.Common.{◌≡◌, ℕ, ◌+◌, ◌-◌, ◌<◌, ◌≤◌, ◌⊎◌, Bool, true, false, List, [], ◌∷◌, ◌++◌, refl, ap, ◌∙◌, subst, inl, inr}
+use Rattle.std.proofs.Common.{arith}
 use Rattle.std.proofs.lemmas.List.Sums.{sum_by-cons}
 use Rattle.task_set.specs.Event.{HasUnits}
 use Rattle.task_set.specs.declared.event.Event.{Event}
@@ -9,11 +10,13 @@ use Rattle.job_release.specs.EventOrder.{IsInTurn, AreInOrder, turn_after, turn_
 use Rattle.job_release.specs.Moments.{units_of}
 use Rattle.job_release.specs.WeakRuns.{elapsed_at}
 
-pub turn_push : (n turn : ℕ) (events : List Event) (event : Event) → turn_after_all n turn (events ++ event ∷ []) ≡ turn_after n (turn_after_all n turn events) event
+pub turn_push : (n turn : ℕ) (events : List Event) (event : Event) → turn_after_all n turn (events ++ event ∷ [])
+    ≡ turn_after n (turn_after_all n turn events) event
 turn_push n turn [] event = refl
 turn_push n turn (first ∷ events) event = turn_push n (turn_after n turn first) events event
 
-pub order_push : (n turn : ℕ) (events : List Event) (event : Event) → AreInOrder n turn events → IsInTurn n (turn_after_all n turn events) event → AreInOrder n turn (events ++ event ∷ [])
+pub order_push : (n turn : ℕ) (events : List Event) (event : Event) → AreInOrder n turn events
+    → IsInTurn n (turn_after_all n turn events) event → AreInOrder n turn (events ++ event ∷ [])
 order_push n turn [] event so_far in_turn = (in_turn, tt)
 order_push n turn (first ∷ events) event so_far in_turn = (so_far.0, order_push n (turn_after n turn first) events event so_far.1 in_turn)
 
@@ -67,7 +70,8 @@ later_turns n turn (first ∷ rest) order none =
     omega arith
 
 -- a change whose turn is still to come has not come at the moment
-pub not_come : (n turn : ℕ) (events : List Event) (t : ℕ) (f : Bool) → AreInOrder n turn events → turn_after_all n turn events ≤ own_turn n t f → ComesAt events (event_of t f) (elapsed_at events) → ⊥
+pub not_come : (n turn : ℕ) (events : List Event) (t : ℕ) (f : Bool) → AreInOrder n turn events
+    → turn_after_all n turn events ≤ own_turn n t f → ComesAt events (event_of t f) (elapsed_at events) → ⊥
 not_come n turn [] t f order from comes = absurd comes
 not_come n turn (first ∷ rest) t f order from (inl here) =
     let sum = sum_by-cons units_of first rest in
@@ -81,7 +85,8 @@ not_come n turn (first ∷ rest) t f order from (inr later) =
     not_come n (turn_after n turn first) rest t f order.1 from (subst (ComesAt rest (event_of t f)) left later.1)
 
 -- a change whose turn is over does not come any more at the moment
-pub comes_no_more : (n turn : ℕ) (events : List Event) (t : ℕ) (f : Bool) → AreInOrder n turn events → own_turn n t f < turn → ComesAt events (event_of t f) 0 → ⊥
+pub comes_no_more : (n turn : ℕ) (events : List Event) (t : ℕ) (f : Bool) → AreInOrder n turn events → own_turn n t f < turn
+    → ComesAt events (event_of t f) 0 → ⊥
 comes_no_more n turn [] t f order over comes = absurd comes
 comes_no_more n turn (first ∷ rest) t f order over (inl here) =
     let from = own_turn_from n turn t f (subst (IsInTurn n turn) here.0 order.0) in
@@ -114,7 +119,8 @@ comes_last (first ∷ rest) event =
     let left : elapsed_at rest ≡ elapsed_at (first ∷ rest) - units_of first = omega arith in
     inr (omega arith, subst (ComesAt (rest ++ event ∷ []) event) left (comes_last rest event))
 
-pub comes_of_more : (events : List Event) (last event : Event) (x : ℕ) → ComesAt (events ++ last ∷ []) event x → ComesAt events event x ⊎ ((last ≡ event) × (x ≡ elapsed_at events))
+pub comes_of_more : (events : List Event) (last event : Event) (x : ℕ) → ComesAt (events ++ last ∷ []) event x
+    → ComesAt events event x ⊎ ((last ≡ event) × (x ≡ elapsed_at events))
 comes_of_more [] last event x (inl here) = inr here
 comes_of_more [] last event x (inr later) = absurd later.1
 comes_of_more (first ∷ rest) last event x (inl here) = inl (inl here)

@@ -1,6 +1,7 @@
 -- A job is finished no earlier than its cost after its release: before its release the task got no more than the jobs before it
 -- ask for, and from then on it got one unit at most in a moment.
-use Rattle.std.proofs.Common.{◌≡◌, ℕ, zero, suc, ◌+◌, ◌-◌, ◌<◌, ◌≤◌, List, [], length, Option, Some, None, IfSome, MatchOption, ap, inl, inr, arith}
+use Rattle.std.proofs.Common.{◌≡◌, ℕ, zero, suc, ◌+◌, ◌-◌, ◌<◌, ◌≤◌, List, [], length, Option, Some, None, IfSome, MatchOption, ap, inl}
+use Rattle.std.proofs.Common.{inr, arith}
 use Rattle.std.proofs.lemmas.Bool.{cases_Bool, cases_lt}
 use Rattle.strong_apa.specs.State.{is_linked}
 use Rattle.strong_apa.proofs.Counts.{count_below-more, count_below-same}
@@ -14,7 +15,8 @@ use Rattle.job_release.specs.Moments.{Timeline, service_of, IsFinish, IsUnfinish
 use Rattle.job_release.proofs.Demands.{asked_more, demand_before}
 use Rattle.job_release.proofs.Moments.{no_service, service_grows}
 
-module _ (input : JobInputData) (states : Timeline) (t : ℕ) (serves : ServesJobs input states) (number : t < length input.jobs) (valid : AreJobs input.horizon (jobs_at input.jobs t)) where
+module _ (input : JobInputData) (states : Timeline) (t : ℕ) (serves : ServesJobs input states) (number : t < length input.jobs)
+    (valid : AreJobs input.horizon (jobs_at input.jobs t)) where
   abbrev jobs : List Job
   jobs = jobs_at input.jobs t
 
@@ -39,7 +41,8 @@ module _ (input : JobInputData) (states : Timeline) (t : ℕ) (serves : ServesJo
       let few = demand_before input.horizon jobs valid k y inside (omega arith) in
       omega arith
 
-  after_release : (k x : ℕ) → k < length jobs → 1 ≤ (job_at jobs k).cost → IsFinish states t (goal_of jobs k) input.horizon x → (job_at jobs k).release + (job_at jobs k).cost ≤ x
+  after_release : (k x : ℕ) → k < length jobs → 1 ≤ (job_at jobs k).cost → IsFinish states t (goal_of jobs k) input.horizon x
+      → (job_at jobs k).release + (job_at jobs k).cost ≤ x
   after_release k x inside some found =
       let within = found.within in
       let got = found.got in
@@ -84,8 +87,10 @@ finish_follows_release input states t k x valid serves number inside found =
     let job = jobs.each k no_job inside in
     after_release input states t serves number jobs k x inside job.cost.0 found
 
-pub released_before_finish : (input : JobInputData) (states : Timeline) (t k : ℕ) (finish : Option ℕ) → IsJobInput input → ServesJobs input states → t < length input.set.tasks → k < length (jobs_at input.jobs t)
-    → MatchOption finish (IsUnfinished states t (goal_of (jobs_at input.jobs t) k) input.horizon) (IsFinish states t (goal_of (jobs_at input.jobs t) k) input.horizon)
+pub released_before_finish : (input : JobInputData) (states : Timeline) (t k : ℕ) (finish : Option ℕ) → IsJobInput input
+    → ServesJobs input states → t < length input.set.tasks → k < length (jobs_at input.jobs t)
+    → MatchOption finish (IsUnfinished states t (goal_of (jobs_at input.jobs t) k) input.horizon)
+    (IsFinish states t (goal_of (jobs_at input.jobs t) k) input.horizon)
     → IfSome finish (λ x. (job_at (jobs_at input.jobs t) k).release ≤ x)
 released_before_finish input states t k None valid serves number inside unfinished = tt
 released_before_finish input states t k (Some x) valid serves number inside found =

@@ -1,5 +1,6 @@
 -- Inputs with one task more, or one job more, are inputs.
-use Rattle.std.proofs.Common.{◌≡◌, ℕ, zero, suc, ◌+◌, ◌-◌, ◌<◌, ◌≤◌, List, [], ◌∷◌, ◌++◌, length, set, get_or, AllPairs, refl, ap, ◌∙◌, inl, inr, arith, length-append, length-set, Option, Some, None}
+use Rattle.std.proofs.Common.{◌≡◌, ℕ, zero, suc, ◌+◌, ◌-◌, ◌<◌, ◌≤◌, List, [], ◌∷◌, ◌++◌, length, set, get_or, AllPairs, refl, ap, ◌∙◌, inl}
+use Rattle.std.proofs.Common.{inr, arith, length-append, length-set, Option, Some, None}
 use Rattle.std.specs.Option.{IfSome}
 use Rattle.std.proofs.lemmas.Bool.{cases_lt}
 use Rattle.std.proofs.lemmas.List.{get_or_append_left, get_or_at}
@@ -9,20 +10,25 @@ use Rattle.task_set.specs.TaskSet.{TaskData}
 use Rattle.task_set.specs.Refusal.{CanAdd}
 use Rattle.task_set.proofs.Added.{IsTaskSet-push}
 use Rattle.job_release.specs.Jobs.{no_job, released_before}
-use Rattle.job_release.specs.JobInput.{JobInputData, IsJobInput, IsJobTask, IsJob, IsNoLater, AreJobs, jobs_at, total_jobs, last_release, with_jobs, with_job}
+use Rattle.job_release.specs.JobInput.{JobInputData, IsJobInput, IsJobTask, IsJob, IsReleasedNoLater, AreJobs, jobs_at, total_jobs}
+use Rattle.job_release.specs.JobInput.{last_release, with_jobs, with_job}
 use Rattle.job_release.specs.JobText.{jobs_of_times}
 use Rattle.job_release.specs.declared.input.Job.{Job}
 use Rattle.job_release.specs.declared.input.JobTask.{JobTask}
 use Rattle.job_release.proofs.Periodic.{periodic_valid, length-periodic_jobs}
 
-pub jobs_of_times_valid : (horizon : ℕ) (times : Option JobTask) → horizon ≤ 10000000 → IfSome times IsJobTask → AreJobs horizon (jobs_of_times horizon times)
+pub jobs_of_times_valid : (horizon : ℕ) (times : Option JobTask) → horizon ≤ 10000000 → IfSome times IsJobTask
+    → AreJobs horizon (jobs_of_times horizon times)
 jobs_of_times_valid horizon None fits are = record { each = All-nil (IsJob horizon); in_order = λ i j d less below. absurd (omega arith) }
 jobs_of_times_valid horizon (Some task) fits are = periodic_valid horizon task are
 
-pub length-jobs_of_times : (horizon : ℕ) (times : Option JobTask) (task : JobTask) → times ≡ Some task → length (jobs_of_times horizon times) ≡ released_before task horizon
-length-jobs_of_times horizon times task is = ap (λ (given : Option JobTask). length (jobs_of_times horizon given)) is ∙ length-periodic_jobs horizon task
+pub length-jobs_of_times : (horizon : ℕ) (times : Option JobTask) (task : JobTask) → times ≡ Some task
+    → length (jobs_of_times horizon times) ≡ released_before task horizon
+length-jobs_of_times horizon times task is =
+    ap (λ (given : Option JobTask). length (jobs_of_times horizon given)) is ∙ length-periodic_jobs horizon task
 
-pub valid_with_jobs : (input : JobInputData) (task : TaskData) (jobs : List Job) → IsJobInput input → CanAdd input.set task → AreJobs input.horizon jobs
+pub valid_with_jobs : (input : JobInputData) (task : TaskData) (jobs : List Job) → IsJobInput input → CanAdd input.set task
+    → AreJobs input.horizon jobs
     → total_jobs (input.jobs ++ jobs ∷ []) ≤ 4000 → IsJobInput (with_jobs input task jobs)
 valid_with_jobs input task jobs valid can are few = record {
   valid = IsTaskSet-push input.set task valid.valid can;
@@ -35,15 +41,18 @@ valid_with_jobs input task jobs valid can are few = record {
 
 -- ---- one job more
 -- a job that is released no earlier than the last of these is released no earlier than each
-after_last : (jobs : List Job) (release k : ℕ) (d : Job) → AllPairs IsNoLater jobs → last_release jobs ≤ release → k < length jobs → (get_or jobs k d).release ≤ release
+after_last : (jobs : List Job) (release k : ℕ) (d : Job) → AllPairs IsReleasedNoLater jobs → last_release jobs ≤ release → k < length jobs
+    → (get_or jobs k d).release ≤ release
 after_last jobs release k d in_order order below = elim (cases_lt k (length jobs - 1)) [
   | inl before ↦ (
-      let last : (get_or jobs k no_job).release ≤ (get_or jobs (length jobs - 1) no_job).release = in_order k (length jobs - 1) no_job before (omega arith) in
+      let last : (get_or jobs k no_job).release ≤ (get_or jobs (length jobs - 1) no_job).release = in_order k (length jobs - 1)
+      no_job before (omega arith) in
       let same : get_or jobs k d ≡ get_or jobs k no_job = same_default jobs k d no_job below in
       rw same (let within : (get_or jobs k no_job).release ≤ release = omega (arith, last, order) in within))
   | inr end ↦ (
       let here : k ≡ length jobs - 1 = omega arith in
-      let same : get_or jobs k d ≡ get_or jobs (length jobs - 1) no_job = same_default jobs k d no_job below ∙ ap (λ (i : ℕ). get_or jobs i no_job) here in
+      let same : get_or jobs k d ≡ get_or jobs (length jobs - 1) no_job = same_default jobs k d no_job below
+      ∙ ap (λ (i : ℕ). get_or jobs i no_job) here in
       rw same order)
 ]
   where
@@ -52,7 +61,8 @@ after_last jobs release k d in_order order below = elim (cases_lt k (length jobs
     same_default (x ∷ xs) zero d e below = refl
     same_default (x ∷ xs) (suc i) d e below = same_default xs i d e (omega arith)
 
-pub are_jobs_push : (horizon : ℕ) (jobs : List Job) (job : Job) → AreJobs horizon jobs → IsJob horizon job → last_release jobs ≤ job.release → AreJobs horizon (jobs ++ job ∷ [])
+pub are_jobs_push : (horizon : ℕ) (jobs : List Job) (job : Job) → AreJobs horizon jobs → IsJob horizon job → last_release jobs ≤ job.release
+    → AreJobs horizon (jobs ++ job ∷ [])
 are_jobs_push horizon jobs job are is order = record {
   each = All-push (IsJob horizon) jobs job are.each is;
   in_order = λ i j d less below.
@@ -68,7 +78,8 @@ are_jobs_push horizon jobs job are is order = record {
       ];
 }
 
-pub total_with_job : (lists : List (List Job)) (t : ℕ) (job : Job) → t < length lists → total_jobs (set lists t (jobs_at lists t ++ job ∷ [])) ≡ total_jobs lists + 1
+pub total_with_job : (lists : List (List Job)) (t : ℕ) (job : Job) → t < length lists
+    → total_jobs (set lists t (jobs_at lists t ++ job ∷ [])) ≡ total_jobs lists + 1
 total_with_job lists t job within =
     let longer = length-append (jobs_at lists t) (job ∷ []) in
     omega (arith, longer, sum_by-set length lists t (jobs_at lists t ++ job ∷ []) [] within)
@@ -84,6 +95,7 @@ valid_with_job input t job valid within is order room =
       horizon = valid.horizon;
       one_each = length-set input.jobs t (jobs ++ job ∷ []) ∙ valid.one_each;
       each_jobs = All-set (AreJobs input.horizon) input.jobs t (jobs ++ job ∷ [])
-          (are_jobs_push input.horizon jobs job (All-get_or (AreJobs input.horizon) input.jobs t [] here valid.each_jobs) is order) valid.each_jobs;
+          (are_jobs_push input.horizon jobs job (All-get_or (AreJobs input.horizon) input.jobs t [] here valid.each_jobs) is order)
+          valid.each_jobs;
       few = omega (arith, total_with_job input.jobs t job here, room);
     }

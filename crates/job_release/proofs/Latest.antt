@@ -1,5 +1,6 @@
 -- A job that is finished after it is due is late, and one that is finished by then is not.
-use Rattle.std.proofs.Common.{◌≡◌, ℕ, zero, suc, ◌+◌, ◌-◌, ◌≤◌, true, false, ◌&&◌, nat_le, nat_lt, Option, Some, None, MatchOption, IfSome, sym, ap, ◌∙◌, inl, inr, arith}
+use Rattle.std.proofs.Common.{◌≡◌, ℕ, zero, suc, ◌+◌, ◌-◌, ◌≤◌, true, false, ◌&&◌, nat_le, nat_lt, Option, Some, None, MatchOption, IfSome}
+use Rattle.std.proofs.Common.{sym, ap, ◌∙◌, inl, inr, arith}
 use Rattle.std.proofs.lemmas.Bool.{cases_lt, cases_Bool}
 use Rattle.std.proofs.lemmas.Bool.Decides.{nat_tests}
 use Rattle.strong_apa.specs.State.{is_linked}
@@ -47,6 +48,7 @@ late_is states t goal horizon due finish within is =
     ])
 
 -- a finish is no later than the horizon
-pub finish_within : (states : Timeline) (t goal horizon : ℕ) (finish : Option ℕ) → MatchOption finish (IsUnfinished states t goal horizon) (IsFinish states t goal horizon) → IfSome finish (λ x. x ≤ horizon)
+pub finish_within : (states : Timeline) (t goal horizon : ℕ) (finish : Option ℕ)
+    → MatchOption finish (IsUnfinished states t goal horizon) (IsFinish states t goal horizon) → IfSome finish (λ x. x ≤ horizon)
 finish_within states t goal horizon None unfinished = tt
 finish_within states t goal horizon (Some x) is = is.within

@@ -13,13 +13,16 @@ use Rattle.job_release.specs.Reading.{IsRefusedBy}
 use Rattle.job_release.specs.declared.fault.JobKind.TheVariants.{ManyJobs}
 use Rattle.job_release.specs.declared.input.Job.{Job}
 
-pub task_refused : (input : JobInputData) (line : TaskLine) (given : List ℕ) (mask : ℕ) (fault : TaskFault) → given ≡ line.name → IsListText line.list mask
-    → (fault ≡ task.OutOfMemory) ⊎ IsRefusal input.set (new_task given line.priority mask) fault → IsRefusedBy (IsTaskOutcome input line) (kind_of_refusal fault)
+pub task_refused : (input : JobInputData) (line : TaskLine) (given : List ℕ) (mask : ℕ) (fault : TaskFault) → given ≡ line.name
+    → IsListText line.list mask
+    → (fault ≡ task.OutOfMemory) ⊎ IsRefusal input.set (new_task given line.priority mask) fault
+    → IsRefusedBy (IsTaskOutcome input line) (kind_of_refusal fault)
 task_refused input line given mask task.OutOfMemory same listed why = inl refl
 task_refused input line given mask fault same listed (inl none) = absurd (cc)
 task_refused input line given mask fault same listed (inr why) = inr (inl (mask, listed, inr (fault, rw (← same) why, refl)))
 
-module _ (input : JobInputData) (line : TaskLine) (given : List ℕ) (mask : ℕ) (same : given ≡ line.name) (listed : IsListText line.list mask) (allowed : CanAdd input.set (new_task given line.priority mask)) where
+module _ (input : JobInputData) (line : TaskLine) (given : List ℕ) (mask : ℕ) (same : given ≡ line.name)
+    (listed : IsListText line.list mask) (allowed : CanAdd input.set (new_task given line.priority mask)) where
   can : CanAdd input.set (new_task line.name line.priority mask)
   can = let P : List ℕ → Type 0 = λ name. CanAdd input.set (new_task name line.priority mask) in subst P same allowed
 
@@ -27,9 +30,11 @@ module _ (input : JobInputData) (line : TaskLine) (given : List ℕ) (mask : ℕ
   one_more jobs = sum_by_push length input.jobs jobs
 
   pub too_many : 4000 < total_jobs input.jobs + length (jobs_of_times input.horizon line.times) → IsTaskOutcome input line (Fails ManyJobs)
-  too_many many = inl (mask, listed, inl (can, inr ((λ few. omega (arith, one_more (jobs_of_times input.horizon line.times), few, many)), refl)))
+  too_many many =
+      inl (mask, listed, inl (can, inr ((λ few. omega (arith, one_more (jobs_of_times input.horizon line.times), few, many)), refl)))
 
-  pub task_listed : (jobs : List Job) (next : JobInputData) → jobs ≡ jobs_of_times input.horizon line.times → total_jobs input.jobs + length jobs ≤ 4000
+  pub task_listed : (jobs : List Job) (next : JobInputData) → jobs ≡ jobs_of_times input.horizon line.times
+      → total_jobs input.jobs + length jobs ≤ 4000
       → next ≡ with_jobs input (new_task given line.priority mask) jobs → IsTaskOutcome input line (Leads (Listed next))
   task_listed jobs next are few is =
       let within : total_jobs (input.jobs ++ jobs ∷ []) ≤ 4000 = omega (arith, one_more jobs, few) in

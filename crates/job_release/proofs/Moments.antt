@@ -1,5 +1,6 @@
 -- The states of single moments, as a history grows: an entry changes no moment before its own, and a tick changes none.
-use Rattle.std.proofs.Common.{◌≡◌, ℕ, zero, suc, ◌+◌, ◌<◌, ◌≤◌, Bool, true, false, List, [], ◌∷◌, ◌++◌, length, nat_le, take, if◌then◌else◌, refl, sym, ap, ◌∙◌, inl, inr, arith, append_assoc, append-nil}
+use Rattle.std.proofs.Common.{◌≡◌, ℕ, zero, suc, ◌+◌, ◌<◌, ◌≤◌, Bool, true, false, List, [], ◌∷◌, ◌++◌, length, nat_le, take, if◌then◌else◌}
+use Rattle.std.proofs.Common.{refl, sym, ap, ◌∙◌, inl, inr, arith, append_assoc, append-nil}
 use Rattle.std.proofs.lemmas.Bool.{cases_Bool, true≢false}
 use Rattle.std.proofs.lemmas.Bool.Decides.{nat_tests}
 use Rattle.std.proofs.lemmas.List.Sums.{sum_by-cons, sum_by_push}
@@ -10,7 +11,7 @@ use Rattle.strong_apa.specs.declared.reply.Entry.{Entry}
 use Rattle.strong_apa.specs.State.{State, is_linked}
 use Rattle.strong_apa.specs.History.{state_after, state_after_reply, effect_of}
 use Rattle.strong_apa.proofs.Counts.{count_below-agree, count_below-more, count_below-same, count_below-zero, count_below-bound}
-use Rattle.job_release.specs.Moments.{is_tick, units_of, elapsed, change_by, changes_by, Timeline, state_at, service_of}
+use Rattle.job_release.specs.Moments.{is_tick, units_of, elapsed, change_by, changes_by, Timeline, state_of_moment, service_of}
 
 abbrev units : Entry → ℕ
 units entry = units_of entry.event
@@ -27,7 +28,8 @@ tick_changes_nothing s (Online p) reply tick = absurd (true≢false (sym tick))
 pub elapsed_push : (history : List Entry) (entry : Entry) → elapsed (history ++ entry ∷ []) ≡ elapsed history + units_of entry.event
 elapsed_push history entry = sum_by_push units history entry
 
-changes_push : (x m : ℕ) (history : List Entry) (entry : Entry) → changes_by x m (history ++ entry ∷ []) ≡ changes_by x m history ++ change_by x (m + elapsed history) entry
+changes_push : (x m : ℕ) (history : List Entry) (entry : Entry) → changes_by x m (history ++ entry ∷ []) ≡ changes_by x m history
+    ++ change_by x (m + elapsed history) entry
 changes_push x m [] entry =
     let here : m + 0 ≡ m = omega arith in
     append-nil (change_by x m entry) ∙ ap (λ (k : ℕ). change_by x k entry) (sym here)
@@ -50,20 +52,25 @@ change_after x m entry later = by (is_tick entry.event)
     by true = refl
     by false = rw not_by refl
 
-state_without : (start : State) (history : List Entry) (entry : Entry) (x : ℕ) → change_by x (0 + elapsed history) entry ≡ [] → state_at start (history ++ entry ∷ []) x ≡ state_at start history x
+state_without : (start : State) (history : List Entry) (entry : Entry) (x : ℕ) → change_by x (0 + elapsed history) entry ≡ []
+    → state_of_moment start (history ++ entry ∷ []) x ≡ state_of_moment start history x
 state_without start history entry x none =
-    ap (state_after start) (changes_push x 0 history entry ∙ ap (λ (more : List Entry). changes_by x 0 history ++ more) none ∙ append-nil (changes_by x 0 history))
+    ap (state_after start) (changes_push x 0 history entry ∙ ap (λ (more : List Entry). changes_by x 0 history ++ more) none
+    ∙ append-nil (changes_by x 0 history))
 
 -- an entry changes no moment before its own
-pub state_before : (start : State) (history : List Entry) (entry : Entry) (x : ℕ) → x < elapsed history → state_at start (history ++ entry ∷ []) x ≡ state_at start history x
+pub state_before : (start : State) (history : List Entry) (entry : Entry) (x : ℕ) → x < elapsed history
+    → state_of_moment start (history ++ entry ∷ []) x ≡ state_of_moment start history x
 state_before start history entry x before = state_without start history entry x (change_after x (0 + elapsed history) entry (omega arith))
 
 -- a tick changes no moment
-pub state_with_tick : (start : State) (history : List Entry) (entry : Entry) (x : ℕ) → is_tick entry.event ≡ true → state_at start (history ++ entry ∷ []) x ≡ state_at start history x
+pub state_with_tick : (start : State) (history : List Entry) (entry : Entry) (x : ℕ) → is_tick entry.event ≡ true
+    → state_of_moment start (history ++ entry ∷ []) x ≡ state_of_moment start history x
 state_with_tick start history entry x tick = state_without start history entry x (change_of_tick x (0 + elapsed history) entry tick)
 
 -- ---- from the last moment on, the state is that after the history
-all_changes : (s : State) (x m : ℕ) (history : List Entry) → m + elapsed history ≤ x → state_after s (changes_by x m history) ≡ state_after s history
+all_changes : (s : State) (x m : ℕ) (history : List Entry) → m + elapsed history ≤ x → state_after s (changes_by x m history)
+    ≡ state_after s history
 all_changes s x m [] within = refl
 all_changes s x m (first ∷ rest) within =
     let sum = sum_by-cons units first rest in
@@ -81,13 +88,15 @@ all_changes s x m (first ∷ rest) within =
           ∙ all_changes (effect_of s first) x (m + units first) rest later)
     ]
 
-pub state_from : (start : State) (history : List Entry) (x : ℕ) → elapsed history ≤ x → state_at start history x ≡ state_after start history
+pub state_from : (start : State) (history : List Entry) (x : ℕ) → elapsed history ≤ x → state_of_moment start history x
+    ≡ state_after start history
 state_from start history x from = all_changes start x 0 history (omega arith)
 
 -- ---- service
 -- states that agree below a moment give the same service up to it
 pub same_service : (one other : Timeline) (t x : ℕ) → ((y : ℕ) → y < x → one y ≡ other y) → service_of one t x ≡ service_of other t x
-same_service one other t x agree = count_below-agree (λ y. is_linked (one y) t) (λ y. is_linked (other y) t) x (λ y below. ap (λ (s : State). is_linked s t) (agree y below))
+same_service one other t x agree = count_below-agree (λ y. is_linked (one y) t) (λ y. is_linked (other y) t) x
+    (λ y below. ap (λ (s : State). is_linked s t) (agree y below))
 
 pub no_service : (states : Timeline) (t : ℕ) → service_of states t 0 ≡ 0
 no_service states t = count_below-zero (λ y. is_linked (states y) t)
@@ -101,7 +110,8 @@ service_while states t m zero links still = elim (cases_Bool (is_linked links t)
 ]
 service_while states t m (suc d) links still =
     let before = service_while states t m d links (λ y from below. still y from (omega arith)) in
-    let here : is_linked (states (m + d)) t ≡ is_linked links t = ap (λ (s : State). is_linked s t) (still (m + d) (omega arith) (omega arith)) in
+    let here : is_linked (states (m + d)) t ≡ is_linked links t = ap (λ (s : State). is_linked s t)
+    (still (m + d) (omega arith) (omega arith)) in
     let next : m + suc d ≡ suc (m + d) = omega arith in
     elim (cases_Bool (is_linked links t)) [
       | inl linked ↦ (
@@ -137,15 +147,20 @@ pub none_later : (x m : ℕ) (history : List Entry) → x < m → changes_by x m
 none_later x m [] later = refl
 none_later x m (first ∷ rest) later = rw (change_after x m first later) (none_later x (m + units first) rest (omega arith))
 
-pub state_by_entries : (s : State) (history : List Entry) (x m : ℕ) → (n : ℕ) × (n ≤ length history) × (state_after s (changes_by x m history) ≡ state_after s (take n history))
+pub state_by_entries : (s : State) (history : List Entry) (x m : ℕ)
+    → (n : ℕ) × (n ≤ length history) × (state_after s (changes_by x m history) ≡ state_after s (take n history))
 state_by_entries s [] x m = (0, omega arith, refl)
 state_by_entries s (first ∷ rest) x m = elim (cases_Bool (is_tick first.event)) [
   | inl tick ↦ (
       let later = state_by_entries s rest x (m + units first) in
       let none = change_of_tick x m first tick in
       let still : effect_of s first ≡ s = tick_changes_nothing s first.event first.reply tick in
-      let fits = later.1 in
-      (suc later.0, omega arith, ap (λ (now : List Entry). state_after s (now ++ changes_by x (m + units first) rest)) none ∙ later.2 ∙ ap (λ (s' : State). state_after s' (take later.0 rest)) (sym still)))
+      let fits = later.1 in (
+        suc later.0,
+        omega arith,
+        ap (λ (now : List Entry). state_after s (now ++ changes_by x (m + units first) rest)) none ∙ later.2
+            ∙ ap (λ (s' : State). state_after s' (take later.0 rest)) (sym still),
+      ))
   | inr change ↦ elim (cases_Bool (nat_le m x)) [
     | inl by ↦ (
         let later = state_by_entries (effect_of s first) rest x (m + units first) in

@@ -1,5 +1,6 @@
 -- The last place of a task and its moves, as time passes.
-use Rattle.std.proofs.Common.{◌≡◌, ℕ, zero, suc, ◌+◌, ◌<◌, ◌≤◌, ◌↔◌, true, false, List, [], ◌∷◌, length, get_or, set, subst, Option, Some, None, IfSome, if◌then◌else◌, refl, sym, ap, ◌∙◌, inl, inr, arith, eq-eqb}
+use Rattle.std.proofs.Common.{◌≡◌, ℕ, zero, suc, ◌+◌, ◌<◌, ◌≤◌, ◌↔◌, true, false, List, [], ◌∷◌, length, get_or, set, subst, Option, Some}
+use Rattle.std.proofs.Common.{None, IfSome, if◌then◌else◌, refl, sym, ap, ◌∙◌, inl, inr, arith, eq-eqb}
 use Rattle.std.specs.Prelude.{IsNone, is_some}
 use Rattle.std.specs.List.{list_any}
 use Rattle.std.proofs.lemmas.Bool.{cases_Bool, cases_eq, true≢false, or_left}
@@ -9,7 +10,7 @@ use Rattle.strong_apa.proofs.Linked.{is_task-same, is_task-true}
 use Rattle.strong_apa.proofs.Counts.{count_below-agree, count_below-more, count_below-same, count_below-zero, count_below-bound}
 use Rattle.job_release.specs.Moments.{Timeline}
 use Rattle.job_release.specs.Moves.{place_from, place_of, later_place, last_place, is_other_place, is_move, moves_of}
-use Rattle.job_release.specs.Driving.{RowRuns}
+use Rattle.job_release.specs.Driving.{JobRowRuns}
 use Rattle.job_release.specs.declared.row.JobRow.{JobRow}
 
 -- ---- where a task is
@@ -21,7 +22,8 @@ nowhere t k (occupant ∷ rest) none = elim (cases_Bool (is_task t occupant)) [
 ]
 
 -- where it stands at a place, the first place is one at which it stands
-somewhere : (t k p : ℕ) (on : List (Option ℕ)) → get_or on p None ≡ Some t → (q : ℕ) × (place_from t k on ≡ Some (k + q)) × (get_or on q None ≡ Some t)
+somewhere : (t k p : ℕ) (on : List (Option ℕ)) → get_or on p None ≡ Some t → (q : ℕ) × (place_from t k on ≡ Some (k + q))
+    × (get_or on q None ≡ Some t)
 somewhere t k p [] there = cc
 somewhere t k zero (occupant ∷ rest) there =
     let here : is_task t occupant ≡ true = ap (is_task t) there ∙ is_task-same t in
@@ -36,7 +38,8 @@ somewhere t k (suc p) (occupant ∷ rest) there = elim (cases_Bool (is_task t oc
 ]
 
 -- what a place says of a task is where it is
-pub place_is : (s : State) (t : ℕ) (place : Option ℕ) → IsState s → IfSome place (λ p. task_on s p ≡ Some t) → IsNone place ↔ (is_linked s t ≡ false) → place ≡ place_of s t
+pub place_is : (s : State) (t : ℕ) (place : Option ℕ) → IsState s → IfSome place (λ p. task_on s p ≡ Some t)
+    → IsNone place ↔ (is_linked s t ≡ false) → place ≡ place_of s t
 place_is s t None ok there none = sym (nowhere t 0 s.on (none.0 refl))
 place_is s t (Some p) ok there none =
     let found = somewhere t 0 p s.on there in
@@ -51,7 +54,8 @@ same_place one other t (suc x) agree = rw (same_place one other t x (λ y below.
 
 pub same_moves : (one other : Timeline) (t x : ℕ) → ((y : ℕ) → y < x → one y ≡ other y) → moves_of one t x ≡ moves_of other t x
 same_moves one other t x agree =
-    count_below-agree (is_move one t) (is_move other t) x (λ y below. rw (same_place one other t y (λ z lower. agree z (omega arith)), agree y below) refl)
+    count_below-agree (is_move one t) (is_move other t) x
+    (λ y below. rw (same_place one other t y (λ z lower. agree z (omega arith)), agree y below) refl)
 
 -- ---- before the first moment
 pub no_place : (states : Timeline) (t : ℕ) → last_place states t 0 ≡ None
@@ -65,7 +69,8 @@ pub moves_within : (states : Timeline) (t x : ℕ) → moves_of states t x ≤ x
 moves_within states t x = count_below-bound (is_move states t) x
 
 -- ---- while a state stays
-next_place : (states : Timeline) (t x : ℕ) (place : Option ℕ) → place_of (states x) t ≡ place → last_place states t (suc x) ≡ later_place (last_place states t x) place
+next_place : (states : Timeline) (t x : ℕ) (place : Option ℕ) → place_of (states x) t ≡ place
+    → last_place states t (suc x) ≡ later_place (last_place states t x) place
 unfolding last_place
 next_place states t x place is = rw is refl
 
@@ -79,14 +84,16 @@ no_move_twice (Some p) None = refl
 no_move_twice earlier (Some p) = rw (eq-eqb p p refl) refl
 
 module _ (states : Timeline) (t m : ℕ) (links : State) where
-  pub place_while : (d : ℕ) → ((y : ℕ) → m ≤ y → y < m + suc d → states y ≡ links) → last_place states t (m + suc d) ≡ later_place (last_place states t m) (place_of links t)
+  pub place_while : (d : ℕ) → ((y : ℕ) → m ≤ y → y < m + suc d → states y ≡ links) → last_place states t (m + suc d)
+      ≡ later_place (last_place states t m) (place_of links t)
   place_while zero still =
       let next : m + 1 ≡ suc m = omega arith in
       let here : place_of (states m) t ≡ place_of links t = ap (λ (s : State). place_of s t) (still m (omega arith) (omega arith)) in
       ap (last_place states t) next ∙ next_place states t m (place_of links t) here
   place_while (suc d) still =
       let next : m + suc (suc d) ≡ suc (m + suc d) = omega arith in
-      let here : place_of (states (m + suc d)) t ≡ place_of links t = ap (λ (s : State). place_of s t) (still (m + suc d) (omega arith) (omega arith)) in
+      let here : place_of (states (m + suc d)) t ≡ place_of links t = ap (λ (s : State). place_of s t)
+      (still (m + suc d) (omega arith) (omega arith)) in
       let before = place_while d (λ y from below. still y from (omega arith)) in
       ap (last_place states t) next ∙ next_place states t (m + suc d) (place_of links t) here
       ∙ ap (λ (earlier : Option ℕ). later_place earlier (place_of links t)) before ∙ later_twice (last_place states t m) (place_of links t)
@@ -108,7 +115,8 @@ module _ (states : Timeline) (t m : ℕ) (links : State) where
       let place = place_while d (λ y from below. still y from (omega arith)) in
       let here : is_move states t (m + suc d) ≡ false =
       ap (λ (s : State). is_other_place (last_place states t (m + suc d)) (place_of s t)) (still (m + suc d) (omega arith) (omega arith))
-      ∙ ap (λ (earlier : Option ℕ). is_other_place earlier (place_of links t)) place ∙ no_move_twice (last_place states t m) (place_of links t) in
+      ∙ ap (λ (earlier : Option ℕ). is_other_place earlier (place_of links t)) place
+      ∙ no_move_twice (last_place states t m) (place_of links t) in
       ap (moves_of states t) next ∙ count_below-same (is_move states t) (m + suc d) here ∙ before
 
 -- ---- rows run
@@ -125,7 +133,7 @@ pub stays_nowhere : (earlier : Option ℕ) → is_other_place earlier None ≡ f
 stays_nowhere None = refl
 stays_nowhere (Some p) = refl
 
-pub not_run : (units : ℕ) (row : JobRow) → RowRuns false None units row row
+pub not_run : (units : ℕ) (row : JobRow) → JobRowRuns false None units row row
 not_run units row = record {
   jobs = refl;
   released = refl;
@@ -137,21 +145,22 @@ not_run units row = record {
 }
 
 abbrev pub RunsIn : State → ℕ → List JobRow → List JobRow → ℕ → JobRow → Type 0
-RunsIn links units old new k d = RowRuns (is_linked links k) (place_of links k) units (get_or old k d) (get_or new k d)
+RunsIn links units old new k d = JobRowRuns (is_linked links k) (place_of links k) units (get_or old k d) (get_or new k d)
 
 -- one row more has run
-pub run_more : (links : State) (units : ℕ) (old rows : List JobRow) (t : ℕ) (read new : JobRow) (place : Option ℕ) → place ≡ place_of links t → is_some place ≡ is_linked links t
-    → t < length rows → ((d : JobRow) → get_or rows t d ≡ read) → RowRuns (is_some place) place units read new
+pub run_more : (links : State) (units : ℕ) (old rows : List JobRow) (t : ℕ) (read new : JobRow) (place : Option ℕ)
+    → place ≡ place_of links t → is_some place ≡ is_linked links t
+    → t < length rows → ((d : JobRow) → get_or rows t d ≡ read) → JobRowRuns (is_some place) place units read new
     → ((k : ℕ) (d : JobRow) → k < t → RunsIn links units old rows k d) → ((k : ℕ) (d : JobRow) → t ≤ k → get_or rows k d ≡ get_or old k d)
     → (k : ℕ) (d : JobRow) → k < t + 1 → RunsIn links units old (set rows t new) k d
 run_more links units old rows t read new place is there within at ran moved left k d below = elim (cases_eq k t) [
   | inl same ↦ (
-      let own : RowRuns (is_linked links t) (place_of links t) units read new = rw (there, is) at ran in
-      let P : JobRow → Type 0 = λ r. RowRuns (is_linked links t) (place_of links t) units r new in
-      let Q : JobRow → Type 0 = λ r. RowRuns (is_linked links t) (place_of links t) units (get_or old t d) r in
+      let own : JobRowRuns (is_linked links t) (place_of links t) units read new = rw (there, is) at ran in
+      let P : JobRow → Type 0 = λ r. JobRowRuns (is_linked links t) (place_of links t) units r new in
+      let Q : JobRow → Type 0 = λ r. JobRowRuns (is_linked links t) (place_of links t) units (get_or old t d) r in
       let R : ℕ → Type 0 = λ n. RunsIn links units old (set rows t new) n d in
       subst R (sym same) (subst Q (sym (get_or-set_same rows t new d within)) (subst P (sym (at d) ∙ left t d (omega arith)) own)))
   | inr other ↦ (
-      let Q : JobRow → Type 0 = λ r. RowRuns (is_linked links k) (place_of links k) units (get_or old k d) r in
+      let Q : JobRow → Type 0 = λ r. JobRowRuns (is_linked links k) (place_of links k) units (get_or old k d) r in
       subst Q (sym (get_or-set_other rows t k new d other)) (moved k d (omega arith)))
 ]

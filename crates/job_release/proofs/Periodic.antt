@@ -1,10 +1,13 @@
 -- The jobs of a periodic task: its demand is the cost of each job that is released, and its goals are multiples of the cost.
-use Rattle.std.proofs.Common.{◌≡◌, ℕ, zero, suc, ◌+◌, ◌-◌, ◌*◌, ◌<◌, ◌≤◌, List, length, get_or, map, Some, nat_le, sum_by, true, false, refl, sym, ap, ◌∙◌, subst, inl, inr, arith}
+use Rattle.std.proofs.Common.{◌≡◌, ℕ, zero, suc, ◌+◌, ◌-◌, ◌*◌, ◌<◌, ◌≤◌, List, length, get_or, map, Some, nat_le, sum_by, true, false}
+use Rattle.std.proofs.Common.{refl, sym, ap, ◌∙◌, subst, inl, inr, arith}
 use Rattle.std.specs.List.{range_with_len}
 use Rattle.std.proofs.lemmas.Bool.{cases_lt}
 use Rattle.std.proofs.lemmas.Bool.Decides.{nat_tests}
-use Rattle.std.proofs.lemmas.List.FromFn.{length-map-range_with_len, get_or-map-range_with_len, take-map-range_with_len, sum_by-map-range_with_len_more}
-use Rattle.job_release.specs.Jobs.{no_job, job_at, asked_at, cost_of, due_after, release_of, released_before, released_by, periodic_job, periodic_jobs}
+use Rattle.std.proofs.lemmas.List.FromFn.{length-map-range_with_len, get_or-map-range_with_len, take-map-range_with_len}
+use Rattle.std.proofs.lemmas.List.FromFn.{sum_by-map-range_with_len_more}
+use Rattle.job_release.specs.Jobs.{no_job, job_at, asked_at, cost_of, due_after, release_moment, released_before, released_by, periodic_job}
+use Rattle.job_release.specs.Jobs.{periodic_jobs}
 use Rattle.job_release.specs.JobInput.{IsJobTask, IsJob, AreJobs}
 use Rattle.job_release.specs.declared.input.Job.{Job}
 use Rattle.job_release.specs.declared.input.JobTask.{JobTask}
@@ -14,12 +17,15 @@ use Rattle.job_release.proofs.Released.{release_more, released_below, released_a
 pub length-periodic_jobs : (horizon : ℕ) (task : JobTask) → length (periodic_jobs horizon task) ≡ released_before task horizon
 length-periodic_jobs horizon task = length-map-range_with_len (periodic_job task) 0 (released_before task horizon)
 
-pub periodic_at : (horizon : ℕ) (task : JobTask) (k : ℕ) (d : Job) → k < length (periodic_jobs horizon task) → get_or (periodic_jobs horizon task) k d ≡ periodic_job task k
+pub periodic_at : (horizon : ℕ) (task : JobTask) (k : ℕ) (d : Job) → k < length (periodic_jobs horizon task)
+    → get_or (periodic_jobs horizon task) k d ≡ periodic_job task k
 periodic_at horizon task k d below =
-    get_or-map-range_with_len (periodic_job task) 0 (released_before task horizon) k k d (let count = length-periodic_jobs horizon task in omega arith) (omega arith)
+    get_or-map-range_with_len (periodic_job task) 0 (released_before task horizon) k k d
+    (let count = length-periodic_jobs horizon task in omega arith) (omega arith)
 
 -- ---- they are jobs
-periodic_job_valid : (horizon : ℕ) (task : JobTask) (k : ℕ) → IsJobTask task → k < released_before task horizon → IsJob horizon (periodic_job task k)
+periodic_job_valid : (horizon : ℕ) (task : JobTask) (k : ℕ) → IsJobTask task → k < released_before task horizon
+    → IsJob horizon (periodic_job task k)
 periodic_job_valid horizon task k is below = record {
   release = released_below task k horizon below;
   cost = (is.cost.0, (let most = is.cost.1 in omega arith));
@@ -30,7 +36,8 @@ pub periodic_valid : (horizon : ℕ) (task : JobTask) → IsJobTask task → Are
 periodic_valid horizon task is =
     let count = length-periodic_jobs horizon task in
     record {
-      each = λ k d below. subst (IsJob horizon) (sym (periodic_at horizon task k d below)) (periodic_job_valid horizon task k is (let within : k < released_before task horizon = omega arith in within));
+      each = λ k d below. subst (IsJob horizon) (sym (periodic_at horizon task k d below))
+          (periodic_job_valid horizon task k is (let within : k < released_before task horizon = omega arith in within));
       in_order = λ i j d less below.
           let first = periodic_at horizon task i d (omega arith) in
           let second = periodic_at horizon task j d below in
@@ -44,14 +51,15 @@ released_again task x y some within =
 
 -- a job is released at a moment up to x where fewer are before it than are released by then
 asked_before : (task : JobTask) (x k : ℕ) → k < released_by task x → asked_at x (periodic_job task k) ≡ task.cost
-asked_before task x k below = let before = released_below task k (x + 1) below in let here : nat_le (release_of task k) x ≡ true = within_is _ _ (omega arith) in rw here refl
+asked_before task x k below = let before = released_below task k (x + 1) below in let here : nat_le (release_moment task k) x
+    ≡ true = within_is _ _ (omega arith) in rw here refl
   where
     within_is : (a b : ℕ) → a ≤ b → nat_le a b ≡ true
     within_is a b within = grind (arith, nat_tests)
 
 asked_after : (task : JobTask) (x k : ℕ) → 1 ≤ task.period → released_by task x ≤ k → asked_at x (periodic_job task k) ≡ 0
-asked_after task x k some from = elim (cases_lt x (release_of task k)) [
-  | inl later ↦ (let here : nat_le (release_of task k) x ≡ false = beyond_is _ _ later in rw here refl)
+asked_after task x k some from = elim (cases_lt x (release_moment task k)) [
+  | inl later ↦ (let here : nat_le (release_moment task k) x ≡ false = beyond_is _ _ later in rw here refl)
   | inr within ↦ (
       let least = released_at_least task (k + 1) (x + 1) some (λ j below. let more = release_more task j k (omega arith) in omega arith) in
       absurd (omega arith))
@@ -112,7 +120,8 @@ cost_of_first task (suc n) =
 pub periodic_goals : PeriodicGoals
 unfolding first_jobs
 periodic_goals horizon task k below =
-    ap (sum_by cost_of) (take-map-range_with_len (periodic_job task) 0 (released_before task horizon) (k + 1) (omega arith)) ∙ cost_of_first task (k + 1)
+    ap (sum_by cost_of) (take-map-range_with_len (periodic_job task) 0 (released_before task horizon) (k + 1) (omega arith))
+    ∙ cost_of_first task (k + 1)
 
 pub periodic_due : PeriodicDueTimes
 periodic_due horizon task k below =
@@ -120,4 +129,4 @@ periodic_due horizon task k below =
     let here : job_at (periodic_jobs horizon task) k ≡ periodic_job task k = periodic_at horizon task k no_job (omega arith) in
     ap (λ (job : Job). due_after (periodic_jobs horizon task) k job.deadline) here
     ∙ ap (λ (job : Job). Some (job.release + task.period)) here
-    ∙ ap Some (let next : release_of task k + task.period ≡ release_of task (k + 1) = omega arith in next)
+    ∙ ap Some (let next : release_moment task k + task.period ≡ release_moment task (k + 1) = omega arith in next)

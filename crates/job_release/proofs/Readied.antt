@@ -1,5 +1,6 @@
 -- Who is ready after an arrival and after a departure.
-use Rattle.std.proofs.Common.{◌≡◌, ◌≢◌, ℕ, ◌<◌, Bool, true, false, List, length, set, Option, Some, None, refl, ap, ◌∙◌, inl, inr, get_or-set_same, get_or-set_other}
+use Rattle.std.proofs.Common.{◌≡◌, ◌≢◌, ℕ, ◌<◌, Bool, true, false, List, length, set, Option, Some, None, refl, ap, ◌∙◌, inl, inr}
+use Rattle.std.proofs.Common.{get_or-set_same, get_or-set_other}
 use Rattle.task_set.specs.declared.event.Event.TheVariants.{Arrive, Depart}
 use Rattle.strong_apa.specs.declared.reply.Came.{Came}
 use Rattle.strong_apa.specs.declared.reply.Came.TheVariants.{Placed, Displaced, Waits}
@@ -34,25 +35,31 @@ flags_kept old new t flag has is = rw is (record { same = has; other = λ u diff
 
 arrived : (s : State) (t : ℕ) (reply : Reply) (new : State) → t < length s.ready → ArriveStep s t reply new → Flags s new t true
 arrived s t reply new within (inl again) = flags_kept s new t true again.ready again.same
-arrived s t reply new within (inr arrives) = flags_set s new t true within (ap (λ (x : State). x.ready) (comes_effect s t arrives.came new arrives.comes) ∙ came_ready s t arrives.came)
+arrived s t reply new within (inr arrives) = flags_set s new t true within
+    (ap (λ (x : State). x.ready) (comes_effect s t arrives.came new arrives.comes) ∙ came_ready s t arrives.came)
 
 departed : (s : State) (t : ℕ) (reply : Reply) (new : State) → t < length s.ready → DepartStep s t reply new → Flags s new t false
 departed s t reply new within (inl again) = flags_kept s new t false again.absent again.same
 departed s t reply new within (inr (inl waiting)) = flags_set s new t false within (ap (λ (x : State). x.ready) waiting.left)
 departed s t reply new within (inr (inr linked)) =
-    flags_set s new t false within (ap (λ (x : State). x.ready) (fills_effect (state_after_leaving s t) linked.place linked.gone new linked.fills)
+    flags_set s new t false within (ap (λ (x : State). x.ready)
+    (fills_effect (state_after_leaving s t) linked.place linked.gone new linked.fills)
     ∙ entering_ready (state_after_leaving s t) linked.gone.entered linked.gone.chain)
 
 -- after an arrival the task is ready, and the others are as they were
-pub ready_arrived : (s : State) (t : ℕ) (reply : Reply) (new : State) → IsState s → SchedulerStep s (Arrive t) reply new → is_ready new t ≡ true
+pub ready_arrived : (s : State) (t : ℕ) (reply : Reply) (new : State) → IsState s → SchedulerStep s (Arrive t) reply new
+    → is_ready new t ≡ true
 ready_arrived s t reply new ok step = (arrived s t reply new (rw ok.ready_count step.0) step.1).same
 
-pub ready_beside_arrived : (s : State) (t : ℕ) (reply : Reply) (new : State) → IsState s → SchedulerStep s (Arrive t) reply new → (u : ℕ) → u ≢ t → is_ready new u ≡ is_ready s u
+pub ready_beside_arrived : (s : State) (t : ℕ) (reply : Reply) (new : State) → IsState s → SchedulerStep s (Arrive t) reply new → (u : ℕ)
+    → u ≢ t → is_ready new u ≡ is_ready s u
 ready_beside_arrived s t reply new ok step = (arrived s t reply new (rw ok.ready_count step.0) step.1).other
 
 -- after a departure the task is absent, and the others are as they were
-pub ready_departed : (s : State) (t : ℕ) (reply : Reply) (new : State) → IsState s → SchedulerStep s (Depart t) reply new → is_ready new t ≡ false
+pub ready_departed : (s : State) (t : ℕ) (reply : Reply) (new : State) → IsState s → SchedulerStep s (Depart t) reply new
+    → is_ready new t ≡ false
 ready_departed s t reply new ok step = (departed s t reply new (rw ok.ready_count step.0) step.1).same
 
-pub ready_beside_departed : (s : State) (t : ℕ) (reply : Reply) (new : State) → IsState s → SchedulerStep s (Depart t) reply new → (u : ℕ) → u ≢ t → is_ready new u ≡ is_ready s u
+pub ready_beside_departed : (s : State) (t : ℕ) (reply : Reply) (new : State) → IsState s → SchedulerStep s (Depart t) reply new → (u : ℕ)
+    → u ≢ t → is_ready new u ≡ is_ready s u
 ready_beside_departed s t reply new ok step = (departed s t reply new (rw ok.ready_count step.0) step.1).other

@@ -19,7 +19,8 @@ module _ (states : Timeline) (horizon : ℕ) (flag : Bool) (moment t : ℕ) (row
   abbrev jobs : List Job
   jobs = row.jobs.items
 
-  earlier_here : (mark : Mark) → mark.upto ≡ moment → IsRowAt states horizon flag moment mark t row → earlier_demand jobs moment ≡ asked_by jobs row.released
+  earlier_here : (mark : Mark) → mark.upto ≡ moment → IsRowAt states horizon flag moment mark t row
+      → earlier_demand jobs moment ≡ asked_by jobs row.released
   earlier_here mark upto at =
       earlier_is jobs row.released moment at.sizes.listed (λ k below. let due = at.due_before k below in omega arith)
       (λ k from within.
@@ -111,5 +112,8 @@ module _ (states : Timeline) (horizon : ℕ) (flag : Bool) (moment t : ℕ) (row
         let listed = listed_then states horizon flag moment t row old new begins flag in
         let grows = goal_more horizon jobs old.jobs row.released (omega arith) in
         let upto = asked_upto jobs (row.released + 1) new.released (omega arith) in
-        let now = demand_then in
-        (sym old.service ∙ old.idle idle ∙ old.sizes.asked ∙ ap (asked_by jobs) idle ∙ sym earlier, omega (arith, earlier, grows, upto, now))
+        let now = demand_then in (
+          sym old.service ∙ old.idle idle ∙ old.sizes.asked ∙ ap (asked_by jobs) idle
+              ∙ sym earlier,
+          omega (arith, earlier, grows, upto, now),
+        )

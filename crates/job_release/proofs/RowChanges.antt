@@ -1,5 +1,6 @@
 -- A row at one moment: its job is finished, or its next ones are released.
-use Rattle.std.proofs.Common.{◌≡◌, ◌≢◌, ℕ, ◌+◌, ◌-◌, ◌<◌, ◌≤◌, ◌↔◌, Bool, true, List, [], ◌∷◌, ◌++◌, length, get_or, sym, ap, ◌∙◌, subst, inl, inr, arith, length-append}
+use Rattle.std.proofs.Common.{◌≡◌, ◌≢◌, ℕ, ◌+◌, ◌-◌, ◌<◌, ◌≤◌, ◌↔◌, Bool, true, List, [], ◌∷◌, ◌++◌, length, get_or, sym, ap, ◌∙◌, subst}
+use Rattle.std.proofs.Common.{inl, inr, arith, length-append}
 use Rattle.std.proofs.lemmas.Bool.{cases_lt}
 use Rattle.std.proofs.lemmas.List.{get_or_append_left, get_or_at}
 use Rattle.job_release.specs.Jobs.{job_at, goal_of}
@@ -18,7 +19,8 @@ module _ (states : Timeline) (horizon : ℕ) (flag : Bool) (moment t : ℕ) (row
   jobs = row.jobs.items
 
   -- ---- no job has its cost
-  pub row_not_settled : IsRowAt states horizon flag moment (grown moment) t row → (HasCost row → ⊥) → IsRowAt states horizon flag moment (settled moment) t row
+  pub row_not_settled : IsRowAt states horizon flag moment (grown moment) t row → (HasCost row → ⊥)
+      → IsRowAt states horizon flag moment (settled moment) t row
   row_not_settled old none = record {
     sizes = old.sizes;
     jobs = old.jobs;
@@ -44,7 +46,8 @@ module _ (states : Timeline) (horizon : ℕ) (flag : Bool) (moment t : ℕ) (row
   }
 
   -- ---- a job is finished
-  module _ (old : IsRowAt states horizon flag moment (grown moment) t row) (has : HasCost row) (new : JobRow) (ends : Finishes moment row new) (flag' : Bool) where
+  module _ (old : IsRowAt states horizon flag moment (grown moment) t row) (has : HasCost row) (new : JobRow)
+      (ends : Finishes moment row new) (flag' : Bool) where
     pub one_more : done_of new ≡ done + 1
     one_more = ap length ends.finishes ∙ length-append row.finishes.items (moment ∷ [])
 
@@ -110,7 +113,8 @@ module _ (states : Timeline) (horizon : ℕ) (flag : Bool) (moment t : ℕ) (row
         })
 
   -- ---- jobs are released
-  module _ (old : IsRowAt states horizon flag moment (settled moment) t row) (new : JobRow) (begins : Releases moment row new) (flag' : Bool) where
+  module _ (old : IsRowAt states horizon flag moment (settled moment) t row) (new : JobRow) (begins : Releases moment row new)
+      (flag' : Bool) where
     pub listed_then : new.released ≤ length jobs
     listed_then = elim (cases_lt row.released new.released) [
       | inl more ↦ (let last = begins.begin (new.released - 1) (omega arith) (omega arith) in let inside = last.0 in omega arith)
@@ -137,7 +141,12 @@ module _ (states : Timeline) (horizon : ℕ) (flag : Bool) (moment t : ℕ) (row
         let more = begins.more in
         let ready_then : (flag' ≡ true) ↔ (done < new.released) = rw begins.finishes at ready in
         rw (begins.jobs, begins.finishes) (record {
-          sizes = record { few = omega arith; listed = listed_then; asked = begins.asked ∙ old.sizes.asked; fits = (let fits = old.sizes.fits in let same = begins.asked in omega arith) };
+          sizes = record {
+            few = omega arith;
+            listed = listed_then;
+            asked = begins.asked ∙ old.sizes.asked;
+            fits = (let fits = old.sizes.fits in let same = begins.asked in omega arith);
+          };
           jobs = old.jobs;
           count = old.count;
           past = old.past;
@@ -150,7 +159,8 @@ module _ (states : Timeline) (horizon : ℕ) (flag : Bool) (moment t : ℕ) (row
           due_next = not_yet;
           low = (let low = old.low in let asked = begins.asked in let service = begins.service in omega arith);
           high = λ work.
-              let short = is_short states horizon flag moment t (settled moment) row old (omega arith) (let listed = listed_then in omega arith) in
+              let short = is_short states horizon flag moment t (settled moment) row old (omega arith)
+              (let listed = listed_then in omega arith) in
               let service = begins.service in
               omega arith;
           idle = λ all. begins.service ∙ old.idle (omega arith) ∙ sym begins.asked;

@@ -1,11 +1,12 @@
 -- A row from step to step.
-use Rattle.std.proofs.Common.{◌≡◌, ℕ, suc, ◌+◌, ◌-◌, ◌<◌, ◌≤◌, ◌↔◌, Bool, true, false, List, length, Option, if◌then◌else◌, sym, ap, ◌∙◌, subst, inl, inr, arith}
+use Rattle.std.proofs.Common.{◌≡◌, ℕ, suc, ◌+◌, ◌-◌, ◌<◌, ◌≤◌, ◌↔◌, Bool, true, false, List, length, Option, if◌then◌else◌, sym, ap, ◌∙◌}
+use Rattle.std.proofs.Common.{subst, inl, inr, arith}
 use Rattle.std.proofs.lemmas.Bool.{cases_Bool, cases_lt}
 use Rattle.strong_apa.specs.State.{State, is_ready, is_linked}
 use Rattle.job_release.specs.Jobs.{goal_of, demand}
 use Rattle.job_release.specs.Driven.{IsReadyWhileWorkIsLeft, GetsNoMore, RunsOnlyReady}
-use Rattle.job_release.specs.Driving.{IsRowAt, Mark, done_of, asked_by, HasWork, grown, supplied, IsNotAfter, RowRuns}
-use Rattle.job_release.specs.EventCauses.{HasCause, earlier_demand}
+use Rattle.job_release.specs.Driving.{IsRowAt, Mark, done_of, asked_by, HasWork, grown, supplied, IsNotAfter, JobRowRuns}
+use Rattle.job_release.specs.EventCauses.{HasCauseToChange, earlier_demand}
 use Rattle.job_release.specs.Moments.{Timeline, service_of, IsFinish}
 use Rattle.job_release.specs.Moves.{place_of, later_place, is_other_place, last_place, moves_of}
 use Rattle.job_release.specs.declared.input.Job.{Job}
@@ -50,14 +51,16 @@ module _ (states longer : Timeline) (moment : ℕ) (agree : Agree states longer 
       }
 
   -- the row of a task whose flag stays
-  pub row_kept : (horizon : ℕ) (flag flag' : Bool) (mark : Mark) (row : JobRow) → flag' ≡ flag → IsRowAt states horizon flag moment mark t row → IsRowAt longer horizon flag' moment mark t row
+  pub row_kept : (horizon : ℕ) (flag flag' : Bool) (mark : Mark) (row : JobRow) → flag' ≡ flag
+      → IsRowAt states horizon flag moment mark t row → IsRowAt longer horizon flag' moment mark t row
   row_kept horizon flag flag' mark row same old = record {
     sizes = old.sizes;
     jobs = old.jobs;
     count = old.count;
     past = λ x below. ready_kept row.jobs.items x below (old.past x below);
     past_service = λ x below. service_kept x _ (omega arith) (old.past_service x below);
-    past_linked = λ x below. let P : State → Type 0 = λ s. is_linked s t ≡ true → is_ready s t ≡ true in subst P (sym (agree x below)) (old.past_linked x below);
+    past_linked = λ x below. let P : State → Type 0 = λ s. is_linked s t ≡ true
+        → is_ready s t ≡ true in subst P (sym (agree x below)) (old.past_linked x below);
     service = old.service ∙ sym (serves moment (omega arith));
     finishes = λ k d few. finish_kept _ _ (old.finishes k d few);
     unfinished = λ x below within. below_kept x _ (omega arith) (old.unfinished x below within);
@@ -73,7 +76,8 @@ module _ (states longer : Timeline) (moment : ℕ) (agree : Agree states longer 
   }
 
 -- ---- the first job that is not finished
-module _ (states : Timeline) (horizon : ℕ) (flag : Bool) (moment t : ℕ) (mark : Mark) (row : JobRow) (at : IsRowAt states horizon flag moment mark t row) where
+module _ (states : Timeline) (horizon : ℕ) (flag : Bool) (moment t : ℕ) (mark : Mark) (row : JobRow)
+    (at : IsRowAt states horizon flag moment mark t row) where
   -- it is not yet served, where those with their cost are finished
   pub is_short : mark.slack ≡ 0 → done_of row < length row.jobs.items → row.service < goal_of row.jobs.items (done_of row)
   is_short none within = elim (cases_lt (done_of row) row.released) [
@@ -91,7 +95,8 @@ module _ (states : Timeline) (horizon : ℕ) (flag : Bool) (moment t : ℕ) (mar
 
 -- ---- time passes
 module _ (states : Timeline) (horizon : ℕ) (links : State) (moment next : ℕ) (after : moment < next)
-    (still : (y : ℕ) → moment ≤ y → y < next → states y ≡ links) (t : ℕ) (row : JobRow) (runs_ready : is_linked links t ≡ true → is_ready links t ≡ true)
+    (still : (y : ℕ) → moment ≤ y → y < next → states y ≡ links) (t : ℕ) (row : JobRow) (runs_ready : is_linked links t ≡ true
+    → is_ready links t ≡ true)
     (old : IsRowAt states horizon (is_ready links t) moment (supplied moment) t row) (not_after : IsNotAfter links moment next t row) where
   abbrev done : ℕ
   done = done_of row
@@ -206,7 +211,7 @@ module _ (states : Timeline) (horizon : ℕ) (links : State) (moment next : ℕ)
   ]
 
   -- the task has no cause to depart or to arrive on the way
-  pub no_cause : (x : ℕ) (change : Bool) → moment < x → x < next → HasCause states t jobs change x → ⊥
+  pub no_cause : (x : ℕ) (change : Bool) → moment < x → x < next → HasCauseToChange states t jobs change x → ⊥
   no_cause x change after_moment below cause =
       let earlier : earlier_demand jobs x ≡ asked_by jobs row.released =
       earlier_is jobs row.released x old.sizes.listed (λ k few. let due = old.due_before k few in omega arith)
@@ -216,7 +221,7 @@ module _ (states : Timeline) (horizon : ℕ) (links : State) (moment next : ℕ)
       omega arith) in
       by change cause earlier
     where
-      by : (change : Bool) → HasCause states t jobs change x → earlier_demand jobs x ≡ asked_by jobs row.released → ⊥
+      by : (change : Bool) → HasCauseToChange states t jobs change x → earlier_demand jobs x ≡ asked_by jobs row.released → ⊥
       by true cause earlier = let more = cause.1 in let asked = asked_here x (omega arith) below in omega (arith, earlier, more, asked)
       by false cause earlier =
           let less = cause.1 in
@@ -225,11 +230,13 @@ module _ (states : Timeline) (horizon : ℕ) (links : State) (moment next : ℕ)
           let short = (ready_here x (omega arith) below).0 ready in
           omega (arith, short, meets, earlier)
 
-  module _ (new : JobRow) (ran : RowRuns (is_linked links t) (place_of links t) (next - moment) row new) where
+  module _ (new : JobRow) (ran : JobRowRuns (is_linked links t) (place_of links t) (next - moment) row new) where
     ran_service : new.service ≡ service_of states t next
     ran_service = elim (cases_Bool (is_linked links t)) [
-      | inl linked ↦ (let run : new.service ≡ row.service + (next - moment) = rw linked at ran.service in run ∙ sym (served_linked linked next (omega arith) (omega arith)))
-      | inr not_linked ↦ (let run : new.service ≡ row.service + 0 = rw not_linked at ran.service in run ∙ (omega arith) ∙ sym (served_not not_linked next (omega arith) (omega arith)))
+      | inl linked ↦ (let run : new.service ≡ row.service + (next - moment) = rw linked at ran.service in run
+          ∙ sym (served_linked linked next (omega arith) (omega arith)))
+      | inr not_linked ↦ (let run : new.service ≡ row.service + 0 = rw not_linked at ran.service in run ∙ (omega arith)
+          ∙ sym (served_not not_linked next (omega arith) (omega arith)))
     ]
 
     ran_more : row.service ≤ new.service
@@ -270,27 +277,39 @@ module _ (states : Timeline) (horizon : ℕ) (links : State) (moment next : ℕ)
     ran_moves : new.moves ≡ moves_of states t next
     ran_moves =
         let moved = ap {B = ℕ} (λ (earlier : Option ℕ). if is_other_place earlier (place_of links t) then 1 else 0) old.place in
-        ran.moves ∙ omega (arith, moved, old.moves) ∙ sym (moves_while states t moment links (next - moment - 1) still_then) ∙ ap (moves_of states t) (sym next_is)
+        ran.moves ∙ omega (arith, moved, old.moves) ∙ sym (moves_while states t moment links (next - moment - 1) still_then)
+        ∙ ap (moves_of states t) (sym next_is)
 
     -- the row of a task after a tick
     pub row_ran : IsRowAt states horizon (is_ready links t) next (grown next) t new
     row_ran =
         rw (ran.jobs, ran.released, ran.finishes) (record {
-          sizes = record { few = old.sizes.few; listed = old.sizes.listed; asked = ran.asked ∙ old.sizes.asked; fits = (let fits = old.sizes.fits in let same = ran.asked in omega arith) };
+          sizes = record {
+            few = old.sizes.few;
+            listed = old.sizes.listed;
+            asked = ran.asked ∙ old.sizes.asked;
+            fits = (let fits = old.sizes.fits in let same = ran.asked in omega arith);
+          };
           jobs = old.jobs;
           count = old.count;
           past = past_here;
           past_service = past_service_here;
           past_linked = past_linked_here;
           service = ran_service;
-          finishes = λ k d few. let old_one = old.finishes k d few in let within = old_one.within in record { within = omega arith; got = old_one.got; least = old_one.least };
-          unfinished = λ x below within. elim (cases_lt x moment) [ inl before ↦ old.unfinished x before within | inr from ↦ below_goal x from below within ];
+          finishes = λ k d few. let old_one = old.finishes k d few in let within = old_one.within in
+              record { within = omega arith; got = old_one.got; least = old_one.least };
+          unfinished = λ x below within. elim (cases_lt x moment) [
+            | inl before ↦ old.unfinished x before within
+            | inr from
+                ↦ below_goal x from below within
+          ];
           due_before = λ k few. let due = old.due_before k few in omega arith;
           due_next = not_after.release;
           low = (let low = old.low in let same = ran.asked in omega (arith, low, ran_more));
           high = ran_high;
           idle = λ idle. ran_idle idle ∙ old.idle idle ∙ sym ran.asked;
-          rested = λ slack idle. ran_service ∙ idle_service idle next (omega arith) (omega arith) ∙ sym (idle_service idle (next - 1) (omega arith) (omega arith));
+          rested = λ slack idle. ran_service ∙ idle_service idle next (omega arith) (omega arith)
+              ∙ sym (idle_service idle (next - 1) (omega arith) (omega arith));
           ready = old.ready;
           place = ran_place;
           moves = ran_moves;

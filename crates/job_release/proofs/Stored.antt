@@ -14,15 +14,19 @@ Row = Vec Job Global
 
 -- ---- the rows
 pub row_stored : (rows : List Row) (t : ℕ) (row : Row) → t < length rows → row ≡ get_or rows t row → jobs_at (lists_of rows) t ≡ row.items
-row_stored rows t row within is = get_or-map (λ (vector : Row). vector.items) rows t row [] within ∙ ap (λ (vector : Row). vector.items) (sym is)
+row_stored rows t row within is =
+    get_or-map (λ (vector : Row). vector.items) rows t row [] within ∙ ap (λ (vector : Row). vector.items) (sym is)
 
-pub row_pushed : (rows : List Row) (t : ℕ) (old new : Row) (job : Job) → t < length rows → old ≡ get_or rows t old → new.items ≡ old.items ++ job ∷ []
+pub row_pushed : (rows : List Row) (t : ℕ) (old new : Row) (job : Job) → t < length rows → old ≡ get_or rows t old
+    → new.items ≡ old.items ++ job ∷ []
     → lists_of (set rows t new) ≡ set (lists_of rows) t (jobs_at (lists_of rows) t ++ job ∷ [])
 row_pushed rows t old new job within is pushed =
     map-set (λ (vector : Row). vector.items) rows t new
-    ∙ ap (λ (jobs : List Job). set (lists_of rows) t jobs) (pushed ∙ ap (λ (jobs : List Job). jobs ++ job ∷ []) (sym (row_stored rows t old within is)))
+    ∙ ap (λ (jobs : List Job). set (lists_of rows) t jobs)
+    (pushed ∙ ap (λ (jobs : List Job). jobs ++ job ∷ []) (sym (row_stored rows t old within is)))
 
-pub row_kept : (rows : List Row) (t : ℕ) (old new : Row) → t < length rows → old ≡ get_or rows t old → new.items ≡ old.items → lists_of (set rows t new) ≡ lists_of rows
+pub row_kept : (rows : List Row) (t : ℕ) (old new : Row) → t < length rows → old ≡ get_or rows t old → new.items ≡ old.items
+    → lists_of (set rows t new) ≡ lists_of rows
 row_kept rows t old new within is kept =
     map-set (λ (vector : Row). vector.items) rows t new
     ∙ ap (λ (jobs : List Job). set (lists_of rows) t jobs) (kept ∙ sym (row_stored rows t old within is)) ∙ set-get_or (lists_of rows) t []
@@ -46,11 +50,16 @@ count_within rows i row within is =
     omega (arith, sum_by_more_le length (lists_of rows) i [] (omega (arith, count, within)), here)
 
 -- ---- inputs
-pub stored_with_jobs : (input : JobInputData) (task : TaskData) (jobs : List Job) (set : SetData) (lists : List (List Job)) → IsJobInput input → CanAdd input.set task → AreJobs input.horizon jobs
-    → total_jobs input.jobs + length jobs ≤ 4000 → set ≡ with_task input.set task → lists ≡ input.jobs ++ jobs ∷ [] → IsJobInput (record input { set = set; jobs = lists })
+pub stored_with_jobs : (input : JobInputData) (task : TaskData) (jobs : List Job) (set : SetData) (lists : List (List Job))
+    → IsJobInput input → CanAdd input.set task → AreJobs input.horizon jobs
+    → total_jobs input.jobs + length jobs ≤ 4000 → set ≡ with_task input.set task → lists ≡ input.jobs ++ jobs ∷ []
+    → IsJobInput (record input { set = set; jobs = lists })
 stored_with_jobs input task jobs set lists valid can are few set_is lists_are =
     rw (set_is, lists_are) (valid_with_jobs input task jobs valid can are (omega (arith, sum_by_push length input.jobs jobs, few)))
 
-pub stored_with_job : (input : JobInputData) (t : ℕ) (job : Job) (lists : List (List Job)) → IsJobInput input → t < length input.set.tasks → IsJob input.horizon job
-    → last_release (jobs_at input.jobs t) ≤ job.release → total_jobs input.jobs < 4000 → lists ≡ (with_job input t job).jobs → IsJobInput (record input { jobs = lists })
-stored_with_job input t job lists valid within is order room lists_are = rw lists_are (valid_with_job input t job valid within is order room)
+pub stored_with_job : (input : JobInputData) (t : ℕ) (job : Job) (lists : List (List Job)) → IsJobInput input → t < length input.set.tasks
+    → IsJob input.horizon job
+    → last_release (jobs_at input.jobs t) ≤ job.release → total_jobs input.jobs < 4000 → lists ≡ (with_job input t job).jobs
+    → IsJobInput (record input { jobs = lists })
+stored_with_job input t job lists valid within is order room lists_are =
+    rw lists_are (valid_with_job input t job valid within is order room)

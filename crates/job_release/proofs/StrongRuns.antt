@@ -12,7 +12,7 @@ use Rattle.job_release.specs.EventCauses.{AreAskedFor}
 use Rattle.job_release.specs.JobInput.{JobInputData}
 use Rattle.job_release.specs.JobRun.{DrivenData, IsDrivenOf, IsJobRunOf}
 use Rattle.job_release.specs.Driven.{ServesJobs, RunsTheBest}
-use Rattle.job_release.specs.Moments.{state_at}
+use Rattle.job_release.specs.Moments.{state_of_moment}
 use Rattle.job_release.specs.Strong.{IsOpen, strong_seen}
 use Rattle.job_release.proofs.Moments.{state_by_entries}
 
@@ -23,7 +23,8 @@ of_entries P history all k d within =
     let event = λ (entry : Entry). entry.event in
     subst P (get_or-map event history k d d.event within) (all k d.event (let count = length-map history event in omega arith))
 
-pub run_of_driven : (input : JobInputData) (driven : DrivenData CoreData) → IsTaskSet input.set → IsCore driven.scheduler → IsOpen driven.scheduler → IsDrivenOf strong_seen input driven
+pub run_of_driven : (input : JobInputData) (driven : DrivenData CoreData) → IsTaskSet input.set → IsCore driven.scheduler
+    → IsOpen driven.scheduler → IsDrivenOf strong_seen input driven
     → IsJobRunOf input (record { horizon = driven.horizon; jobs = driven.jobs; core = driven.scheduler })
 run_of_driven input driven valid core opened served =
     let set = input.set in
@@ -39,7 +40,8 @@ run_of_driven input driven valid core opened served =
             let prefix = state_by_entries (start_of set) history x 0 in
             let best = legal_is_best set valid history legal prefix.0 prefix.1 in
             subst RunsTheBest (sym prefix.2) best;
-        served = (let P : State → Type 0 = λ s. ServesJobs input (state_at s history) in subst P served.start served.served);
+        served = (let P : State → Type 0 = λ s. ServesJobs input (state_of_moment s history) in subst P served.start served.served);
       };
-      asked = (let P : State → Type 0 = λ s. AreAskedFor input (map (λ (entry : Entry). entry.event) history) (state_at s history) in subst P served.start served.asked);
+      asked = (let P : State → Type 0 = λ s. AreAskedFor input (map (λ (entry : Entry). entry.event) history) (state_of_moment s history) in
+          subst P served.start served.asked);
     }

@@ -1,5 +1,6 @@
 -- What an event leaves of the strong scheduler.
-use Rattle.std.proofs.Common.{◌≡◌, ℕ, ◌+◌, true, false, List, [], ◌∷◌, ◌++◌, length, map, All, refl, sym, ap, ◌∙◌, subst, arith, length-append}
+use Rattle.std.proofs.Common.{◌≡◌, ℕ, ◌+◌, true, false, List, [], ◌∷◌, ◌++◌, length, map, All, refl, sym, ap, ◌∙◌, subst, arith}
+use Rattle.std.proofs.Common.{length-append}
 use Rattle.std.proofs.lemmas.List.{map-append}
 use Rattle.std.proofs.lemmas.List.Elements.{All-push}
 use Rattle.task_set.specs.declared.event.Event.{Event}
@@ -9,8 +10,8 @@ use Rattle.strong_apa.specs.State.{State}
 use Rattle.strong_apa.proofs.SameTasks.{same_tasks-step, same_count}
 use Rattle.sched_core.specs.CoreData.{CoreData, IsCore, Applied, entry_of}
 use Rattle.job_release.specs.Driven.{IsJobEvent}
-use Rattle.job_release.specs.Moments.{elapsed, units_of, state_at}
-use Rattle.job_release.specs.Scheduler.{Keeps, Readies, Passes}
+use Rattle.job_release.specs.Moments.{elapsed, units_of, state_of_moment}
+use Rattle.job_release.specs.Scheduler.{Keeps, Readies, TimePasses}
 use Rattle.job_release.specs.Strong.{IsOpen, strong_seen}
 use Rattle.job_release.proofs.Moments.{elapsed_push, state_before, state_from, state_with_tick}
 use Rattle.job_release.proofs.Readied.{ready_arrived, ready_beside_arrived, ready_departed, ready_beside_departed}
@@ -30,7 +31,8 @@ module _ (old new : CoreData) (before : IsCore old) (valid : IsCore new) where
     }
 
     -- the states are those of a history with one entry more
-    states_are : (x : ℕ) (s : State) → state_at old.start (old.history ++ entry ∷ []) x ≡ s → state_at new.start new.history x ≡ s
+    states_are : (x : ℕ) (s : State) → state_of_moment old.start (old.history ++ entry ∷ []) x ≡ s → state_of_moment new.start new.history x
+        ≡ s
     states_are x s is = rw (applied.start, applied.history) is
 
     keeps : Keeps (strong_seen old) (strong_seen new)
@@ -68,12 +70,13 @@ module _ (old new : CoreData) (before : IsCore old) (valid : IsCore new) where
     others = ready_beside_departed old.links t applied.reply new.links before.state applied.step;
   }
 
-  pub passes : (units : ℕ) → Applied old 0 (Tick units) (length old.history) new → Passes units (strong_seen old) (strong_seen new)
+  pub passes : (units : ℕ) → Applied old 0 (Tick units) (length old.history) new → TimePasses units (strong_seen old) (strong_seen new)
   passes units applied = record {
     keeps = keeps (Tick units) applied;
     elapsed = time (Tick units) applied;
     given = given (Tick units) applied;
     same = applied.step.1;
     passed = λ x from below. states_are (Tick units) applied x old.links
-        (state_with_tick old.start old.history (entry (Tick units) applied) x refl ∙ state_from old.start old.history x from ∙ sym before.links);
+        (state_with_tick old.start old.history (entry (Tick units) applied) x refl ∙ state_from old.start old.history x from
+        ∙ sym before.links);
   }

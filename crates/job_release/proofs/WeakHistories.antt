@@ -22,12 +22,14 @@ run_push s [] (after ∷ states) event new run step = absurd run
 run_push s (first ∷ events) [] event new run step = absurd run
 run_push s (first ∷ events) (after ∷ states) event new run step = (run.0, run_push after events states event new run.1 step)
 
-pub needed_push : (s : State) (events : List Event) (states : List State) (event : Event) (new : State) → AreNeededFrom s events states → IsWeakRun s events states
+pub needed_push : (s : State) (events : List Event) (states : List State) (event : Event) (new : State) → AreNeededFrom s events states
+    → IsWeakRun s events states
     → IsNeededIn (last_state s states) event → AreNeededFrom s (events ++ event ∷ []) (states ++ new ∷ [])
 needed_push s [] [] event new needed run one = (one, tt)
 needed_push s [] (after ∷ states) event new needed run one = absurd run
 needed_push s (first ∷ events) [] event new needed run one = absurd run
-needed_push s (first ∷ events) (after ∷ states) event new needed run one = (needed.0, needed_push after events states event new needed.1 run.1 one)
+needed_push s (first ∷ events) (after ∷ states) event new needed run one =
+    (needed.0, needed_push after events states event new needed.1 run.1 one)
 
 -- ---- the state of a moment
 pub elapsed_push : (events : List Event) (event : Event) → elapsed_at (events ++ event ∷ []) ≡ elapsed_at events + units_of event
@@ -49,7 +51,8 @@ then_before s (first ∷ events) (after ∷ states) event new x run before = eli
 
 -- the moments of an event are in the state before it
 pub then_passed : (s : State) (events : List Event) (states : List State) (event : Event) (new : State) (x : ℕ) → IsWeakRun s events states
-    → elapsed_at events ≤ x → x < elapsed_at events + units_of event → state_then s (events ++ event ∷ []) (states ++ new ∷ []) x ≡ last_state s states
+    → elapsed_at events ≤ x → x < elapsed_at events + units_of event → state_then s (events ++ event ∷ []) (states ++ new ∷ []) x
+    ≡ last_state s states
 then_passed s [] [] event new x run from before =
     let here : nat_lt x (units_of event) ≡ true = grind (arith, nat_tests) in
     rw here refl

@@ -1,5 +1,6 @@
 -- Sums over rows, and how many events they account for.
-use Rattle.std.proofs.Common.{◌≡◌, ℕ, zero, suc, ◌+◌, ◌*◌, ◌<◌, ◌≤◌, Bool, true, false, List, [], ◌∷◌, length, get_or, sum_by, ◌==◌, if◌then◌else◌, nat_lt, refl, sym, ap, ◌∙◌, inl, inr, arith, length-append, eq-eqb, ne_eqb}
+use Rattle.std.proofs.Common.{◌≡◌, ℕ, zero, suc, ◌+◌, ◌*◌, ◌<◌, ◌≤◌, Bool, true, false, List, [], ◌∷◌, length, get_or, sum_by, ◌==◌}
+use Rattle.std.proofs.Common.{if◌then◌else◌, nat_lt, refl, sym, ap, ◌∙◌, inl, inr, arith, length-append, eq-eqb, ne_eqb}
 use Rattle.std.proofs.lemmas.Bool.{cases_lt}
 use Rattle.std.proofs.lemmas.Bool.Decides.{nat_tests}
 use Rattle.std.proofs.lemmas.List.Sums.{sum_by-cons, get_or-le-sum_by}
@@ -11,7 +12,8 @@ use Rattle.job_release.specs.declared.row.JobRow.{JobRow}
 
 -- ---- sums
 -- smaller terms have a smaller sum
-pub sum_of_less : {X : Type 0} (f g : X → ℕ) (xs ys : List X) → length xs ≡ length ys → ((k : ℕ) (d : X) → k < length xs → f (get_or xs k d) ≤ g (get_or ys k d)) → sum_by f xs ≤ sum_by g ys
+pub sum_of_less : {X : Type 0} (f g : X → ℕ) (xs ys : List X) → length xs ≡ length ys
+    → ((k : ℕ) (d : X) → k < length xs → f (get_or xs k d) ≤ g (get_or ys k d)) → sum_by f xs ≤ sum_by g ys
 sum_of_less f g [] ys count each = omega arith
 sum_of_less f g (x ∷ xs) [] count each = absurd (omega arith)
 sum_of_less f g (x ∷ xs) (y ∷ ys) count each =
@@ -20,7 +22,8 @@ sum_of_less f g (x ∷ xs) (y ∷ ys) count each =
     omega (arith, sum_by-cons f x xs, sum_by-cons g y ys)
 
 -- and where one is less by one at least, so is the sum
-pub sum_of_one_less : {X : Type 0} (f g : X → ℕ) (xs ys : List X) (t : ℕ) → length xs ≡ length ys → t < length xs → ((k : ℕ) (d : X) → k < length xs → f (get_or xs k d) ≤ g (get_or ys k d))
+pub sum_of_one_less : {X : Type 0} (f g : X → ℕ) (xs ys : List X) (t : ℕ) → length xs ≡ length ys → t < length xs
+    → ((k : ℕ) (d : X) → k < length xs → f (get_or xs k d) ≤ g (get_or ys k d))
     → ((d : X) → f (get_or xs t d) + 1 ≤ g (get_or ys t d)) → sum_by f xs + 1 ≤ sum_by g ys
 sum_of_one_less f g [] ys t count within each one = absurd (omega arith)
 sum_of_one_less f g (x ∷ xs) [] t count within each one = absurd (omega arith)
@@ -34,7 +37,8 @@ sum_of_one_less f g (x ∷ xs) (y ∷ ys) (suc t) count within each one =
     omega (arith, sum_by-cons f x xs, sum_by-cons g y ys)
 
 -- four times a term and two bound the term of another sum
-pub sum_within : {X : Type 0} (f g : X → ℕ) (xs : List X) → ((k : ℕ) (d : X) → k < length xs → f (get_or xs k d) ≤ 4 * g (get_or xs k d) + 2) → sum_by f xs ≤ 4 * sum_by g xs + 2 * length xs
+pub sum_within : {X : Type 0} (f g : X → ℕ) (xs : List X)
+    → ((k : ℕ) (d : X) → k < length xs → f (get_or xs k d) ≤ 4 * g (get_or xs k d) + 2) → sum_by f xs ≤ 4 * sum_by g xs + 2 * length xs
 sum_within f g [] each = omega arith
 sum_within f g (x ∷ xs) each =
     let rest = sum_within f g xs (λ k d below. each (suc k) d (omega arith)) in
@@ -45,15 +49,18 @@ sum_within f g (x ∷ xs) each =
 pub total_of_rows : (rows : List JobRow) → total_jobs (jobs_of rows) ≡ sum_by (λ (row : JobRow). length row.jobs.items) rows
 total_of_rows [] = refl
 total_of_rows (row ∷ rows) =
-    sum_by-cons (λ (jobs : List Job). length jobs) row.jobs.items (jobs_of rows) ∙ ap (λ (n : ℕ). length row.jobs.items + n) (total_of_rows rows)
+    sum_by-cons (λ (jobs : List Job). length jobs) row.jobs.items (jobs_of rows)
+    ∙ ap (λ (n : ℕ). length row.jobs.items + n) (total_of_rows rows)
     ∙ sym (sum_by-cons (λ (r : JobRow). length r.jobs.items) row rows)
 
-pub count_within_total : (rows : List JobRow) (t : ℕ) (d : JobRow) → t < length rows → length (get_or rows t d).jobs.items ≤ total_jobs (jobs_of rows)
+pub count_within_total : (rows : List JobRow) (t : ℕ) (d : JobRow) → t < length rows → length (get_or rows t d).jobs.items
+    ≤ total_jobs (jobs_of rows)
 count_within_total rows t d within = rw (total_of_rows rows) (get_or-le-sum_by (λ (row : JobRow). length row.jobs.items) rows t d within)
 
 -- ---- what one row accounts for
 abbrev release_bit : ℕ → JobRow → ℕ
-release_bit moment row = if nat_lt row.released (length row.jobs.items) then (if (job_at row.jobs.items row.released).release == moment then 1 else 0) else 0
+release_bit moment row =
+    if nat_lt row.released (length row.jobs.items) then (if (job_at row.jobs.items row.released).release == moment then 1 else 0) else 0
 
 abbrev finish_bit : JobRow → ℕ
 finish_bit row = if nat_lt (done_of row) row.released then (if row.service == goal_of row.jobs.items (done_of row) then 1 else 0) else 0
@@ -83,34 +90,55 @@ work_least moment row = omega arith
 -- without a release or a finish that is due
 pub no_release_bit : (moment : ℕ) (row : JobRow) → (BeginsAt moment row.jobs.items row.released → ⊥) → release_bit moment row ≡ 0
 no_release_bit moment row none = elim (cases_lt row.released (length row.jobs.items)) [
-  | inl within ↦ rw (is_below row.released (length row.jobs.items) within, ne_eqb (job_at row.jobs.items row.released).release moment (λ e. none (within, e))) refl
+  | inl within ↦ rw (
+    is_below row.released (length row.jobs.items) within,
+    ne_eqb (job_at row.jobs.items row.released).release moment
+        (λ e. none (within, e)),
+  ) refl
   | inr past ↦ rw (not_below row.released (length row.jobs.items) past) refl
 ]
 
 pub no_finish_bit : (row : JobRow) → (HasCost row → ⊥) → finish_bit row ≡ 0
 no_finish_bit row none = elim (cases_lt (done_of row) row.released) [
-  | inl work ↦ rw (is_below (done_of row) row.released work, ne_eqb row.service (goal_of row.jobs.items (done_of row)) (λ e. none (work, e))) refl
+  | inl work ↦ rw (
+    is_below (done_of row) row.released work,
+    ne_eqb row.service (goal_of row.jobs.items (done_of row))
+        (λ e. none (work, e)),
+  ) refl
   | inr idle ↦ rw (not_below (done_of row) row.released idle) refl
 ]
 
 -- nothing is due
-pub work_without : (moment : ℕ) (row : JobRow) → (BeginsAt moment row.jobs.items row.released → ⊥) → (HasCost row → ⊥) → work_of moment row ≡ 2 * (row.released + done_of row)
+pub work_without : (moment : ℕ) (row : JobRow) → (BeginsAt moment row.jobs.items row.released → ⊥) → (HasCost row → ⊥)
+    → work_of moment row ≡ 2 * (row.released + done_of row)
 work_without moment row no_release no_finish = omega (arith, no_release_bit moment row no_release, no_finish_bit row no_finish)
 
 -- no finish is due
 pub work_unfinished : (moment : ℕ) (row : JobRow) → (HasCost row → ⊥) → work_of moment row ≤ 2 * (row.released + done_of row) + 1
 work_unfinished moment row no_finish =
-    omega (arith, bit (nat_lt row.released (length row.jobs.items)) ((job_at row.jobs.items row.released).release == moment), no_finish_bit row no_finish)
+    omega (
+      arith,
+      bit (nat_lt row.released (length row.jobs.items)) ((job_at row.jobs.items row.released).release == moment),
+      no_finish_bit row no_finish,
+    )
 
 -- something is due
-pub work_with_release : (moment : ℕ) (row : JobRow) → BeginsAt moment row.jobs.items row.released → 2 * (row.released + done_of row) + 1 ≤ work_of moment row
+pub work_with_release : (moment : ℕ) (row : JobRow) → BeginsAt moment row.jobs.items row.released → 2 * (row.released + done_of row) + 1
+    ≤ work_of moment row
 work_with_release moment row (within, release) =
-    let one : release_bit moment row ≡ 1 = rw (is_below row.released (length row.jobs.items) within, eq-eqb (job_at row.jobs.items row.released).release moment release) refl in
+    let one : release_bit moment row ≡ 1 = rw (
+      is_below row.released (length row.jobs.items) within,
+      eq-eqb (job_at row.jobs.items row.released).release moment release,
+    ) refl in
     omega (arith, one)
 
 pub work_with_finish : (moment : ℕ) (row : JobRow) → HasCost row → 2 * (row.released + done_of row) + 1 ≤ work_of moment row
 work_with_finish moment row (work, finish) =
-    let one : finish_bit row ≡ 1 = rw (is_below (done_of row) row.released work, eq-eqb row.service (goal_of row.jobs.items (done_of row)) finish) refl in
+    let one : finish_bit row ≡ 1 = rw (
+      is_below (done_of row) row.released work,
+      eq-eqb row.service (goal_of row.jobs.items (done_of row))
+          finish,
+    ) refl in
     omega (arith, one)
 
 -- ---- what a change of the row accounts for
@@ -123,7 +151,8 @@ work_settled moment old new ends =
     omega (arith, done, same, bit (nat_lt (done_of old) old.released) (old.service == goal_of old.jobs.items (done_of old)))
 
 -- jobs that are released pay for one event, where no finish is due
-pub work_more_supplied : (moment : ℕ) (old new : JobRow) → Releases moment old new → (HasCost old → ⊥) → old.released < new.released → work_of moment old + 1 ≤ work_of moment new
+pub work_more_supplied : (moment : ℕ) (old new : JobRow) → Releases moment old new → (HasCost old → ⊥) → old.released < new.released
+    → work_of moment old + 1 ≤ work_of moment new
 work_more_supplied moment old new begins none more =
     let done : done_of new ≡ done_of old = rw begins.finishes refl in
     omega (arith, done, work_unfinished moment old none, work_least moment new)

@@ -1,5 +1,7 @@
--- What the report says of one job, and of the jobs of a task, under one scheduler. Private: the contracts of this crate's own functions.
-use Rattle.std.specs.Prelude.{◌≡◌, ℕ, ◌+◌, ◌-◌, ◌*◌, ◌≤◌, Bool, List, [], ◌∷◌, ◌++◌, length, sum, Option, Some, None, IfSome, if◌then◌else◌}
+-- What the report says of one job, and of the jobs of a task, under one scheduler. Private: the
+-- contracts of this crate's own functions.
+use Rattle.std.specs.Prelude.{◌≡◌, ℕ, ◌+◌, ◌-◌, ◌*◌, ◌≤◌, Bool, List, [], ◌∷◌, ◌++◌, length, sum}
+use Rattle.std.specs.Prelude.{Option, Some, None, IfSome, if◌then◌else◌}
 use Rattle.job_release.specs.Jobs.{job_at}
 use Rattle.job_release.specs.JobInput.{JobInputData, jobs_at}
 use Rattle.job_release.specs.Moments.{Timeline}
@@ -8,7 +10,8 @@ use Rattle.job_release.specs.declared.figures.Figures.{Figures}
 use Rattle.job_release.specs.declared.outcome.Outcome.{Outcome}
 
 -- what became of job k of the task t
-pub record IsOutcomeOfJob (input : JobInputData) (states : Timeline) (t k : ℕ) (outcome : Outcome) : Type 0 where
+pub record IsOutcomeOfJob (input : JobInputData) (states : Timeline) (t k : ℕ)
+    (outcome : Outcome) : Type 0 where
   pub finish : outcome.finish ≡ finish_under input states t k
   pub late : outcome.is_late ≡ is_late input states t k
   pub after : IfSome outcome.finish (λ x. (job_at (jobs_at input.jobs t) k).release ≤ x)
@@ -31,6 +34,7 @@ abbrev pub more_late : ℕ → Bool → ℕ
 more_late late is_late_too = late + (if is_late_too then 1 else 0)
 
 -- the figures of the first n jobs of the task t
-pub record AreFiguresOf (input : JobInputData) (states : Timeline) (t n : ℕ) (figures : Figures) : Type 0 where
+pub record AreFiguresOf (input : JobInputData) (states : Timeline) (t n : ℕ)
+    (figures : Figures) : Type 0 where
   pub summary : Summarizes (responses input states t n) (late_count input states t n) figures
   pub fits : figures.total ≤ n * 10000000

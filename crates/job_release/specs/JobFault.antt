@@ -5,7 +5,11 @@ use Rattle.task_set.specs.declared.fault.TaskFault.TheVariants as task
 use Rattle.text_fields.specs.declared.kind.LineKind.{LineKind}
 use Rattle.text_fields.specs.declared.kind.LineKind.TheVariants as line
 use Rattle.job_release.specs.declared.fault.JobKind.{JobKind}
-use Rattle.job_release.specs.declared.fault.JobKind.TheVariants.{BadByte, LongLine, BadHeader, BadProcessors, BadHorizon, BadTask, BadMask, TaskRefused, BadJob, UnknownTask, Backward, ManyJobs, AfterEnd, NoEnd, OutOfMemory}
+use Rattle.job_release.specs.declared.fault.JobKind.TheVariants.{BadByte, LongLine, BadHeader}
+use Rattle.job_release.specs.declared.fault.JobKind.TheVariants.{BadProcessors, BadHorizon, BadTask}
+use Rattle.job_release.specs.declared.fault.JobKind.TheVariants.{BadMask, TaskRefused, BadJob}
+use Rattle.job_release.specs.declared.fault.JobKind.TheVariants.{UnknownTask, Backward, ManyJobs}
+use Rattle.job_release.specs.declared.fault.JobKind.TheVariants.{AfterEnd, NoEnd, OutOfMemory}
 
 -- the number of a kind; out of memory has none
 abbrev pub kind_number : JobKind → Option ℕ

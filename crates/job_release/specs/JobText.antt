@@ -1,9 +1,11 @@
--- The text of an input of jobs. The lines that are not skipped are a header, the number of processors, the horizon, the tasks and the
--- end, in this order; in version 1 the line of a task says its jobs, and in version 2 each job has a line of its own after the tasks.
--- Lines and fields are cut and skipped as those of input texts are, and numbers have any length and leading zeros. What a line comes
--- to is said by what is expected: something else is expected then, or the line has a fault, the first of its kinds in their order.
--- The first line with a fault decides.
-use Rattle.std.specs.Prelude.{◌≡◌, ℕ, ◌⊎◌, ◌-◌, ◌<◌, ◌≤◌, true, List, [], ◌∷◌, codes, nat_eq, Option, Some, None, if◌then◌else◌}
+-- The text of an input of jobs. The lines that are not skipped are a header, the number of
+-- processors, the horizon, the tasks and the end, in this order; in version 1 the line of a task
+-- says its jobs, and in version 2 each job has a line of its own after the tasks. Lines and fields
+-- are cut and skipped as those of input texts are, and numbers have any length and leading zeros.
+-- What a line comes to is said by what is expected: something else is expected then, or the line
+-- has a fault, the first of its kinds in their order. The first line with a fault decides.
+use Rattle.std.specs.Prelude.{◌≡◌, ℕ, ◌⊎◌, ◌-◌, ◌<◌, ◌≤◌, true, List, [], ◌∷◌, codes, nat_eq}
+use Rattle.std.specs.Prelude.{Option, Some, None, if◌then◌else◌}
 use Rattle.affinity_mask.specs.ListText.{IsListText}
 use Rattle.affinity_mask.specs.ListFault.{IsListFault}
 use Rattle.task_set.specs.Refusal.{new_task, CanAdd, IsRefusal, IsNameOf}
@@ -15,9 +17,14 @@ use Rattle.text_fields.specs.Machine.{Outcome, Leads, Fails}
 use Rattle.text_fields.specs.Laws.{IsTextOf, IsRefused}
 use Rattle.job_release.specs.JobFault.{job_kind}
 use Rattle.job_release.specs.Jobs.{periodic_jobs}
-use Rattle.job_release.specs.JobInput.{JobInputData, jobs_at, total_jobs, without_tasks, with_jobs, with_job, last_release}
+use Rattle.job_release.specs.JobInput.{JobInputData, jobs_at, total_jobs, without_tasks, with_jobs}
+use Rattle.job_release.specs.JobInput.{with_job, last_release}
 use Rattle.job_release.specs.declared.fault.JobKind.{JobKind}
-use Rattle.job_release.specs.declared.fault.JobKind.TheVariants.{BadHeader, BadProcessors, BadHorizon, BadTask, BadMask, TaskRefused, BadJob, UnknownTask, Backward, ManyJobs, AfterEnd, NoEnd}
+use Rattle.job_release.specs.declared.fault.JobKind.TheVariants.{BadHeader, BadProcessors}
+use Rattle.job_release.specs.declared.fault.JobKind.TheVariants.{BadHorizon, BadTask, BadMask}
+use Rattle.job_release.specs.declared.fault.JobKind.TheVariants.{TaskRefused, BadJob, UnknownTask}
+use Rattle.job_release.specs.declared.fault.JobKind.TheVariants.{Backward, ManyJobs, AfterEnd}
+use Rattle.job_release.specs.declared.fault.JobKind.TheVariants.{NoEnd}
 use Rattle.job_release.specs.declared.input.Job.{Job}
 use Rattle.job_release.specs.declared.input.JobTask.{JobTask}
 
@@ -41,9 +48,11 @@ max_horizon version = if nat_eq version 1 then 1000000 else 10000000
 
 -- `horizon` and the moment before which jobs are released, from 1 on
 abbrev pub IsHorizonLine : ℕ → ℕ → List (List ℕ) → Type 0
-IsHorizonLine version horizon fields = IsWorded (codes "horizon") 1 (max_horizon version) horizon fields
+IsHorizonLine version horizon fields =
+    IsWorded (codes "horizon") 1 (max_horizon version) horizon fields
 
--- what a task line says, with its list as it stands, and the times of its jobs where the line has them
+-- what a task line says, with its list as it stands, and the times of its jobs where the line has
+-- them
 pub record TaskLine : Type 0 where
   pub name : List ℕ
   pub priority : ℕ
@@ -59,15 +68,16 @@ pub record AreTimes (offset period cost : List ℕ) (job : JobTask) : Type 0 whe
 -- three fields that say the times of jobs
 abbrev pub AreTimeFields : List (List ℕ) → JobTask → Type 0
 AreTimeFields fields job =
-    (offset : List ℕ) × (period : List ℕ) × (cost : List ℕ) × (fields ≡ offset ∷ period ∷ cost ∷ []) × AreTimes offset period cost job
+    (offset : List ℕ) × (period : List ℕ) × (cost : List ℕ) × (fields ≡ offset ∷ period ∷ cost ∷ [])
+    × AreTimes offset period cost job
 
 -- the last fields of a task line: the times of its jobs in version 1, and none in version 2
 abbrev pub AreTimesOf : ℕ → List (List ℕ) → Option JobTask → Type 0
 AreTimesOf version fields (Some job) = (version ≡ 1) × AreTimeFields fields job
 AreTimesOf version fields None = (version ≡ 2) × (fields ≡ [])
 
--- `task`, any field for a name, a priority below 2 to the power of 32, any field for a list, and the times of its jobs where the
--- version has them
+-- `task`, any field for a name, a priority below 2 to the power of 32, any field for a list, and
+-- the times of its jobs where the version has them
 pub record IsTaskForm (version : ℕ) (fields : List (List ℕ)) (line : TaskLine) : Type 0 where
   pub priority : List ℕ
   pub rest : List (List ℕ)
@@ -82,11 +92,13 @@ pub record JobLine : Type 0 where
 
 -- the last fields of a job line: a deadline from 1 to 10,000,000, or none
 abbrev pub IsDeadline : List (List ℕ) → Option ℕ → Type 0
-IsDeadline fields (Some deadline) = (number : List ℕ) × (fields ≡ number ∷ []) × IsNumberWithin 1 10000000 number deadline
+IsDeadline fields (Some deadline) =
+    (number : List ℕ) × (fields ≡ number ∷ []) × IsNumberWithin 1 10000000 number deadline
 IsDeadline fields None = fields ≡ []
 
 -- a release below the horizon, a cost from 1 to 10,000,000, and the deadline if there is one
-pub record SaysJob (horizon : ℕ) (release cost : List ℕ) (rest : List (List ℕ)) (job : Job) : Type 0 where
+pub record SaysJob (horizon : ℕ) (release cost : List ℕ) (rest : List (List ℕ))
+    (job : Job) : Type 0 where
   pub release_is : IsNumberWithin 0 (horizon - 1) release job.release
   pub cost_is : IsNumberWithin 1 10000000 cost job.cost
   pub deadline_is : IsDeadline rest job.deadline
@@ -104,7 +116,8 @@ abbrev pub end_line : List (List ℕ)
 end_line = codes "end" ∷ []
 
 -- ---- what a line comes to
--- what is expected: the header, the processors, the horizon, tasks, jobs or the end after what was listed so far, or nothing
+-- what is expected: the header, the processors, the horizon, tasks, jobs or the end after what was
+-- listed so far, or nothing
 pub data Progress : Type 0 where
   HeaderExpected : Progress
   ProcessorsExpected : ℕ → Progress
@@ -124,8 +137,10 @@ jobs_of_times horizon None = []
 -- the task can be added: it is listed, where there are not too many jobs
 abbrev pub IsCountOutcome : JobInputData → TaskLine → ℕ → LineOutcome → Type 0
 IsCountOutcome input line mask outcome =
-    let next = with_jobs input (new_task line.name line.priority mask) (jobs_of_times input.horizon line.times) in
-    IsChoice (total_jobs next.jobs ≤ 4000) (IsOnly (Leads (Listed next))) (IsOnly (Fails ManyJobs)) outcome
+    let next = with_jobs input (new_task line.name line.priority mask)
+    (jobs_of_times input.horizon line.times) in
+    IsChoice (total_jobs next.jobs ≤ 4000) (IsOnly (Leads (Listed next))) (IsOnly (Fails ManyJobs))
+    outcome
 
 -- the list is a mask: the task can be added, or the task set refuses it
 abbrev pub IsAddOutcome : JobInputData → TaskLine → ℕ → LineOutcome → Type 0
@@ -137,27 +152,33 @@ IsAddOutcome input line mask outcome =
 -- the line has the form of a task: its list is a mask, or has a fault
 abbrev pub IsTaskOutcome : JobInputData → TaskLine → LineOutcome → Type 0
 IsTaskOutcome input line outcome =
-    IsJudging (IsListText line.list) (IsListFault line.list) (IsAddOutcome input line) (λ fault. IsOnly (Fails (BadMask fault))) outcome
+    IsJudging (IsListText line.list) (IsListFault line.list) (IsAddOutcome input line)
+    (λ fault. IsOnly (Fails (BadMask fault))) outcome
 
 -- a task is expected
 abbrev pub IsTaskLineOutcome : JobInputData → List (List ℕ) → LineOutcome → Type 0
 IsTaskLineOutcome input fields outcome =
-    IsReading (IsTaskForm input.version fields) (IsTaskOutcome input) (IsOnly (Fails BadTask)) outcome
+    IsReading (IsTaskForm input.version fields) (IsTaskOutcome input) (IsOnly (Fails BadTask))
+    outcome
 
--- the job is not released before the one before it of its task: it is listed, where there are not too many
+-- the job is not released before the one before it of its task: it is listed, where there are not
+-- too many
 abbrev pub IsRoomOutcome : JobInputData → ℕ → Job → LineOutcome → Type 0
 IsRoomOutcome input t job outcome =
-    IsChoice (total_jobs input.jobs < 4000) (IsOnly (Leads (Listed (with_job input t job)))) (IsOnly (Fails ManyJobs)) outcome
+    IsChoice (total_jobs input.jobs < 4000) (IsOnly (Leads (Listed (with_job input t job))))
+    (IsOnly (Fails ManyJobs)) outcome
 
 -- there is a task of this name, whose job it is
 abbrev pub IsOrderOutcome : JobInputData → ℕ → Job → LineOutcome → Type 0
 IsOrderOutcome input t job outcome =
-    IsChoice (last_release (jobs_at input.jobs t) ≤ job.release) (IsRoomOutcome input t job) (IsOnly (Fails Backward)) outcome
+    IsChoice (last_release (jobs_at input.jobs t) ≤ job.release) (IsRoomOutcome input t job)
+    (IsOnly (Fails Backward)) outcome
 
 -- the line has the form of a job: there is a task of its name, or none
 abbrev pub IsJobOutcome : JobInputData → JobLine → LineOutcome → Type 0
 IsJobOutcome input line outcome =
-    IsReading (λ t. IsNameOf input.set t line.name) (λ t. IsOrderOutcome input t line.job) (IsOnly (Fails UnknownTask)) outcome
+    IsReading (λ t. IsNameOf input.set t line.name) (λ t. IsOrderOutcome input t line.job)
+    (IsOnly (Fails UnknownTask)) outcome
 
 -- a job is expected
 abbrev pub IsJobLineOutcome : JobInputData → List (List ℕ) → LineOutcome → Type 0
@@ -168,7 +189,8 @@ IsJobLineOutcome input fields outcome =
 abbrev pub BeginsTask : List (List ℕ) → Type 0
 BeginsTask fields = (rest : List (List ℕ)) × (fields ≡ codes "task" ∷ rest)
 
--- the line is for a task: in version 1 each is, and in version 2 one whose first field is `task`, where no job came yet
+-- the line is for a task: in version 1 each is, and in version 2 one whose first field is `task`,
+-- where no job came yet
 abbrev pub IsForTask : JobInputData → List (List ℕ) → Type 0
 IsForTask input fields = (input.version ≡ 1) ⊎ ((total_jobs input.jobs ≡ 0) × BeginsTask fields)
 
@@ -176,11 +198,13 @@ IsForTask input fields = (input.version ≡ 1) ⊎ ((total_jobs input.jobs ≡ 0
 abbrev pub IsListedOutcome : JobInputData → List (List ℕ) → LineOutcome → Type 0
 IsListedOutcome input fields outcome =
     IsChoice (fields ≡ end_line) (IsOnly (Leads (Ended input)))
-    (IsChoice (IsForTask input fields) (IsTaskLineOutcome input fields) (IsJobLineOutcome input fields)) outcome
+    (IsChoice (IsForTask input fields) (IsTaskLineOutcome input fields)
+    (IsJobLineOutcome input fields)) outcome
 
 -- a line with a word and a number leads on, or has this fault
 abbrev pub IsWordedOutcome : (ℕ → Type 0) → (ℕ → Progress) → JobKind → LineOutcome → Type 0
-IsWordedOutcome Is next kind outcome = IsReading Is (λ n. IsOnly (Leads (next n))) (IsOnly (Fails kind)) outcome
+IsWordedOutcome Is next kind outcome =
+    IsReading Is (λ n. IsOnly (Leads (next n))) (IsOnly (Fails kind)) outcome
 
 -- what the fields of a line come to, by what is expected
 abbrev pub IsOutcome : Progress → List (List ℕ) → LineOutcome → Type 0
@@ -189,7 +213,8 @@ IsOutcome HeaderExpected fields outcome =
 IsOutcome (ProcessorsExpected version) fields outcome =
     IsWordedOutcome (λ m. IsProcessorsLine m fields) (HorizonExpected version) BadProcessors outcome
 IsOutcome (HorizonExpected version m) fields outcome =
-    IsWordedOutcome (λ horizon. IsHorizonLine version horizon fields) (λ horizon. Listed (without_tasks version m horizon)) BadHorizon
+    IsWordedOutcome (λ horizon. IsHorizonLine version horizon fields)
+    (λ horizon. Listed (without_tasks version m horizon)) BadHorizon
     outcome
 IsOutcome (Listed input) fields outcome = IsListedOutcome input fields outcome
 IsOutcome (Ended input) fields outcome = IsOnly (Fails AfterEnd) outcome
@@ -205,8 +230,10 @@ IsEndOutcome (Listed input) outcome = outcome ≡ Fails NoEnd
 -- ---- what a text comes to, line by line
 -- the bytes are the text of this input
 abbrev pub IsJobText : List ℕ → JobInputData → Type 0
-IsJobText bytes input = IsTextOf lines_of HeaderExpected (IsLineOutcome 4096 true job_kind IsOutcome) IsEndOutcome bytes input
+IsJobText bytes input = IsTextOf lines_of HeaderExpected
+    (IsLineOutcome 4096 true job_kind IsOutcome) IsEndOutcome bytes input
 
 -- the bytes are refused with this line and kind
 abbrev pub IsJobRefused : List ℕ → ℕ → JobKind → Type 0
-IsJobRefused bytes number kind = IsRefused lines_of HeaderExpected (IsLineOutcome 4096 true job_kind IsOutcome) IsEndOutcome bytes number kind
+IsJobRefused bytes number kind = IsRefused lines_of HeaderExpected
+    (IsLineOutcome 4096 true job_kind IsOutcome) IsEndOutcome bytes number kind

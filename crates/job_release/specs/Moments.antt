@@ -1,9 +1,12 @@
--- Moments of a history. Time passes in ticks alone: the moment of an entry is the sum of the units of the ticks before it. What
--- is said of a moment counts single moments, from 0 on, and knows nothing of where the ticks begin and end.
-use Rattle.std.specs.Prelude.{ℕ, ◌+◌, ◌<◌, ◌≤◌, Bool, true, false, List, [], ◌∷◌, ◌++◌, length, nat_le, sum_by, if◌then◌else◌}
+-- Moments of a history. Time passes in ticks alone: the moment of an entry is the sum of the units
+-- of the ticks before it. What is said of a moment counts single moments, from 0 on, and knows
+-- nothing of where the ticks begin and end.
+use Rattle.std.specs.Prelude.{ℕ, ◌+◌, ◌<◌, ◌≤◌, Bool, true, false, List, [], ◌∷◌, ◌++◌, length}
+use Rattle.std.specs.Prelude.{nat_le, sum_by, if◌then◌else◌}
 use Rattle.affinity_mask.specs.ProcSet.{passing_below}
 use Rattle.task_set.specs.declared.event.Event.{Event}
-use Rattle.task_set.specs.declared.event.Event.TheVariants.{Arrive, Depart, Tick, Affinity, Offline, Online}
+use Rattle.task_set.specs.declared.event.Event.TheVariants.{Arrive, Depart, Tick, Affinity, Offline}
+use Rattle.task_set.specs.declared.event.Event.TheVariants.{Online}
 use Rattle.strong_apa.specs.declared.reply.Entry.{Entry}
 use Rattle.strong_apa.specs.State.{State, is_linked}
 use Rattle.strong_apa.specs.History.{state_after}
@@ -41,20 +44,22 @@ changes_by x entry_moment [] = []
 changes_by x entry_moment (entry ∷ rest) =
     change_by x entry_moment entry ++ changes_by x (entry_moment + units_of entry.event) rest
 
--- the state of the moment x: the state after all entries that are no ticks and whose moment is at most x
-abbrev pub state_at : State → List Entry → ℕ → State
-state_at start history x = state_after start (changes_by x 0 history)
+-- the state of the moment x: the state after all entries that are no ticks and whose moment is at
+-- most x
+abbrev pub state_of_moment : State → List Entry → ℕ → State
+state_of_moment start history x = state_after start (changes_by x 0 history)
 
 -- what is linked at each moment, whatever scheduler links it
 abbrev pub Timeline : Type 0
 Timeline = ℕ → State
 
--- the service that a task got before the moment x: the number of moments below x in whose state it is linked
+-- the service that a task got before the moment x: the number of moments below x in whose state it
+-- is linked
 abbrev pub service_of : Timeline → ℕ → ℕ → ℕ
 service_of states t x = length (passing_below (λ y. is_linked (states y) t) x)
 
--- a job of the task t, which is finished after so many units of service, is finished at the moment x: x is the least moment up to the
--- horizon before which the task got them
+-- a job of the task t, which is finished after so many units of service, is finished at the moment
+-- x: x is the least moment up to the horizon before which the task got them
 pub record IsFinish (states : Timeline) (t goal horizon x : ℕ) : Type 0 where
   pub within : x ≤ horizon
   pub got : goal ≤ service_of states t x

@@ -1,5 +1,7 @@
--- Moves: how often a task is linked to another processor than the one to which it was linked last, however long ago that was.
-use Rattle.std.specs.Prelude.{ℕ, ◌+◌, ◌==◌, Bool, false, not, zero, suc, List, [], ◌∷◌, length, sum_by, Option, Some, None, if◌then◌else◌}
+-- Moves: how often a task is linked to another processor than the one to which it was linked last,
+-- however long ago that was.
+use Rattle.std.specs.Prelude.{ℕ, ◌+◌, ◌==◌, Bool, false, not, zero, suc, List, [], ◌∷◌, length}
+use Rattle.std.specs.Prelude.{sum_by, Option, Some, None, if◌then◌else◌}
 use Rattle.std.specs.List.{range_with_len}
 use Rattle.affinity_mask.specs.ProcSet.{passing_below}
 use Rattle.strong_apa.specs.State.{State, is_task}

@@ -1,6 +1,7 @@
 -- One step of the reader. Private: the contracts of this crate's own functions.
 use Rattle.std.specs.Prelude.{◌≡◌, ℕ, true, false, ◌⊎◌, ◌≤◌}
-use Rattle.job_release.specs.JobText.{Progress, HeaderExpected, ProcessorsExpected, HorizonExpected, Listed, Ended, LineOutcome, TaskLine, JobLine}
+use Rattle.job_release.specs.JobText.{Progress, HeaderExpected, ProcessorsExpected, HorizonExpected}
+use Rattle.job_release.specs.JobText.{Listed, Ended, LineOutcome, TaskLine, JobLine}
 use Rattle.text_fields.specs.Machine.{Fails}
 use Rattle.job_release.specs.JobInput.{IsJobInput}
 use Rattle.job_release.specs.declared.fault.JobKind.{JobKind}
@@ -23,12 +24,12 @@ abbrev pub IsVersion : ℕ → Type 0
 IsVersion version = (1 ≤ version) × (version ≤ 2)
 
 -- what was said so far is within the bounds, and what was listed is an input
-abbrev pub IsValid : Progress → Type 0
-IsValid HeaderExpected = Unit {0}
-IsValid (ProcessorsExpected version) = IsVersion version
-IsValid (HorizonExpected version m) = IsVersion version × (1 ≤ m) × (m ≤ 64)
-IsValid (Listed input) = IsJobInput input
-IsValid (Ended input) = IsJobInput input
+abbrev pub IsSoundSoFar : Progress → Type 0
+IsSoundSoFar HeaderExpected = Unit {0}
+IsSoundSoFar (ProcessorsExpected version) = IsVersion version
+IsSoundSoFar (HorizonExpected version m) = IsVersion version × (1 ≤ m) × (m ≤ 64)
+IsSoundSoFar (Listed input) = IsJobInput input
+IsSoundSoFar (Ended input) = IsJobInput input
 
 -- out of memory
 abbrev pub IsOutOfMemory : JobKind → Type 0
@@ -40,7 +41,12 @@ IsRefusedBy Comes kind = IsOutOfMemory kind ⊎ Comes (Fails kind)
 
 -- what a task line says, as the code has it
 abbrev pub line_of : TaskForm → TaskLine
-line_of form = record { name = form.name.now; priority = form.priority; list = form.list.now; times = form.times }
+line_of form = record {
+  name = form.name.now;
+  priority = form.priority;
+  list = form.list.now;
+  times = form.times;
+}
 
 -- what a job line says, as the code has it
 abbrev pub job_line_of : JobForm → JobLine

@@ -1,9 +1,10 @@
--- The strong scheduler, as one that jobs are driven with: a core that is open, and whose events are arrivals, departures and ticks.
+-- The strong scheduler, as one that jobs are driven with: a core that is open, and whose events are
+-- arrivals, departures and ticks.
 use Rattle.std.specs.Prelude.{◌≡◌, ◌-◌, false, length, map, All}
 use Rattle.strong_apa.specs.declared.reply.Entry.{Entry}
 use Rattle.sched_core.specs.CoreData.{CoreData, max_entries}
 use Rattle.job_release.specs.Driven.{IsJobEvent}
-use Rattle.job_release.specs.Moments.{elapsed, state_at}
+use Rattle.job_release.specs.Moments.{elapsed, state_of_moment}
 use Rattle.job_release.specs.Scheduler.{SchedulerData}
 
 -- a core that takes events, and has had only those of jobs, on stream 0
@@ -17,7 +18,7 @@ abbrev pub strong_seen : CoreData → SchedulerData
 strong_seen core = record {
   start = core.start;
   now = core.links;
-  states = state_at core.start core.history;
+  states = state_of_moment core.start core.history;
   elapsed = elapsed core.history;
   events = map (λ (entry : Entry). entry.event) core.history;
   room = max_entries - length core.history;

@@ -35,7 +35,8 @@ begun_with set = record { start = start_of set; events = []; states = [] }
 
 -- the stored parts
 abbrev pub history_view : Inside → WeakHistoryData
-history_view a = record { start = begun_before a.weak; events = a.events.items; states = a.states_so_far.0 }
+history_view a =
+    record { start = begun_before a.weak; events = a.events.items; states = a.states_so_far.0 }
 
 -- the invariant of the fields
 pub record AreWeakStepsKept (a : Inside) : Type 0 where

@@ -3,7 +3,7 @@ ghost use Rattle.std.specs.Prelude.{◌≡◌, ◌<◌, ◌≤◌, ◌+◌, ℕ,
 ghost use Rattle.strong_apa.specs.State.{IsState, task_count, is_linked};
 ghost use Rattle.job_release.specs.Moves.{place_of};
 ghost use Rattle.job_release.specs.Scheduler.{IsNewFor};
-ghost use Rattle.job_release.specs.Driving.{AreFresh, Begins, Drives, IsAt, IsEarlier, IsNextMoment, RowsRun, RunFits, row_at, grown, settled, supplied};
+ghost use Rattle.job_release.specs.Driving.{AreFresh, DriverBegins, Drives, IsAt, IsEarlier, IsNextMoment, JobRowsRun, RunFits, job_row_at, grown, settled, supplied};
 ghost use Rattle.job_release.specs.declared.row.JobRow.{JobRow};
 
 use crate::input::JobInput;
@@ -27,7 +27,7 @@ impl<S: JobScheduler> Driver<S> {
     /// At moment 0, before anything has happened.
     pub fn new(alloc: Global, input: &JobInput, scheduler: S) -> Result<Driver<S>, OutOfMemory>
         requires { IsNewFor input.now.set (S.seen scheduler) }
-        ensures { IfOk result (Begins S.seen input.now) }
+        ensures { IfOk result (DriverBegins S.seen input.now) }
     {
         let _valid = scheduler.links();
         let rows = fresh_rows(alloc, input)?;
@@ -138,7 +138,7 @@ impl<S: JobScheduler> Driver<S> {
         requires within { t < length self.now.rows.items }
         requires later { self.now.moment < next }
         ensures { (d : JobRow) → IsEarlier (S.seen self.now.scheduler).now self.now.moment next t
-            (row_at self.now.rows.items t d) result }
+            (job_row_at self.now.rows.items t d) result }
     {
         let row = &self.rows[t as usize];
         let next = match row.next_release() {
@@ -193,7 +193,7 @@ fn processor_of(links: &Links, t: u32) -> Option<u8>
 fn run_rows(links: &Links, rows: &mut [JobRow], units: u32)
     requires one_each { length rows.old ≡ task_count links.now }
     requires fits { All (RunFits units) rows.old }
-    ensures { RowsRun links.now units rows.old rows.new }
+    ensures { JobRowsRun links.now units rows.old rows.new }
 {
     for t in 0..links.len() {
         rows[t as usize].run(processor_of(links, t), units);

@@ -1,6 +1,6 @@
 //! Inputs: tasks, a horizon, and the jobs of each task.
 ghost use Rattle.std.specs.Prelude.{◌≡◌, ◌⊎◌, ◌<◌, ◌≤◌, ◌+◌, All, length, IfOk, IfErr, OnOk};
-ghost use Rattle.job_release.specs.Jobs.{release_of, released_before, periodic_jobs};
+ghost use Rattle.job_release.specs.Jobs.{release_moment, released_before, periodic_jobs};
 ghost use Rattle.job_release.specs.JobInput.{lists_of, total_jobs};
 ghost use Rattle.task_set.specs.declared.fault.TaskFault.{TaskFault};
 
@@ -43,7 +43,7 @@ pub struct JobTask {
 impl JobTask {
     /// When job k is released.
     pub fn release(&self, k: u32) -> u64
-        ensures { result ≡ release_of self.now k }
+        ensures { result ≡ release_moment self.now k }
     {
         self.offset as u64 + k as u64 * self.period as u64
     }

@@ -2,7 +2,7 @@
 ghost use Rattle.std.specs.Prelude.{◌≡◌, ◌<◌, ◌≤◌, ◌+◌, ◌^◌, ◌↔◌, IsTrue, Some, IfOk, OnOk, MatchOption, is_some, length, sum_by};
 ghost use Rattle.job_release.specs.Jobs.{job_at, goal_of};
 ghost use Rattle.job_release.specs.Moves.{is_other_place};
-ghost use Rattle.job_release.specs.Driving.{IsRow, IsFresh, done_of, HasWork, HasCost, BeginsAt, Releases, Finishes, RowRuns, RunFits, moves_in};
+ghost use Rattle.job_release.specs.Driving.{IsRow, IsFresh, done_of, HasWork, HasCost, BeginsAt, Releases, Finishes, JobRowRuns, RunFits, moves_in};
 
 use crate::input::Job;
 use affinity_mask::OutOfMemory;
@@ -99,7 +99,7 @@ impl JobRow {
     /// Runs the task for so many units, on a processor if it is linked to one.
     pub fn run(&mut self, place: Option<u8>, units: u32)
         requires { RunFits units self.old }
-        ensures { RowRuns (is_some place) place units self.old self.new }
+        ensures { JobRowRuns (is_some place) place units self.old self.new }
     {
         let Some(place) = place else {
             return;

@@ -5,7 +5,7 @@ ghost use Rattle.sched_core.specs.CoreData.{IsCore};
 ghost use Rattle.job_release.specs.Jobs.{goal_of};
 ghost use Rattle.job_release.specs.JobInput.{jobs_at};
 ghost use Rattle.job_release.specs.JobRun.{CanBeWritten, IsJobRunOf, IsValidRun, IsDrivenOf};
-ghost use Rattle.job_release.specs.Moments.{state_at, IsFinish, IsUnfinished};
+ghost use Rattle.job_release.specs.Moments.{state_of_moment, IsFinish, IsUnfinished};
 ghost use Rattle.job_release.specs.Moves.{moves_of_all};
 ghost use Rattle.job_release.specs.Scheduler.{IsNewFor};
 
@@ -173,9 +173,9 @@ impl JobRun {
         requires task { t < length self.now.jobs }
         requires job { k < length (jobs_at self.now.jobs t) }
         ensures { MatchOption result
-            (IsUnfinished (state_at self.now.core.start self.now.core.history) t
+            (IsUnfinished (state_of_moment self.now.core.start self.now.core.history) t
             (goal_of (jobs_at self.now.jobs t) k) self.now.horizon)
-            (IsFinish (state_at self.now.core.start self.now.core.history) t
+            (IsFinish (state_of_moment self.now.core.start self.now.core.history) t
             (goal_of (jobs_at self.now.jobs t) k) self.now.horizon) }
     {
         self.driven.finish(t, k)

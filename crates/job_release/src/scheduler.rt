@@ -1,7 +1,7 @@
 //! The schedulers that jobs can be driven with.
 ghost use Rattle.std.specs.Prelude.{◌≡◌, ◌<◌, ◌≤◌, OnOk, true, false};
 ghost use Rattle.strong_apa.specs.State.{IsState, task_count, is_ready};
-ghost use Rattle.job_release.specs.Scheduler.{SchedulerData, Readies, Passes};
+ghost use Rattle.job_release.specs.Scheduler.{SchedulerData, Readies, TimePasses};
 
 use affinity_mask::OutOfMemory;
 use link_table::Links;
@@ -33,5 +33,5 @@ pub trait JobScheduler: Drop {
     /// So many units of time pass. Refused only when out of memory.
     fn pass(&mut self, units: u32) -> Result<(), OutOfMemory>
         requires room { 1 ≤ (seen self.old).room }
-        ensures { OnOk result (Passes units (seen self.old) (seen self.new)) };
+        ensures { OnOk result (TimePasses units (seen self.old) (seen self.new)) };
 }

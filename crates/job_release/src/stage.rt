@@ -2,7 +2,7 @@
 ghost use Rattle.std.specs.Prelude.{◌≡◌, ◌≢◌, ◌+◌, ℕ, ◌≤◌, ◌<◌, ◌↔◌, length, IsTrue, IfOk, IfErr, IfSome, OnOk, MatchOption, MatchBool};
 ghost use Rattle.job_release.specs.JobInput.{IsJob, IsJobTask, IsJobInput, last_release, total_jobs};
 ghost use Rattle.job_release.specs.JobText.{IsWorded, IsTaskOutcome, IsTaskLineOutcome, IsJobOutcome, IsJobLineOutcome, IsListedOutcome, IsOutcome, IsForTask, BeginsTask, HeaderExpected, ProcessorsExpected, HorizonExpected, Listed, end_line, max_horizon, jobs_of_times};
-ghost use Rattle.job_release.specs.Reading.{progress_of, line_of, job_line_of, IsValid, IsVersion, IsRefusedBy};
+ghost use Rattle.job_release.specs.Reading.{progress_of, line_of, job_line_of, IsSoundSoFar, IsVersion, IsRefusedBy};
 ghost use Rattle.job_release.specs.declared.stage.Stage.TheVariants as stage;
 ghost use Rattle.text_fields.specs.Fields.{texts};
 ghost use Rattle.text_fields.specs.Machine.{Leads};
@@ -56,7 +56,7 @@ impl LineMachine for Stage {
 
     ghost begins = { HeaderExpected };
 
-    ghost IsValid = { IsValid };
+    ghost IsValid = { IsSoundSoFar };
 
     ghost Says = { IsOutcome };
 

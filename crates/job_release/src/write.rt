@@ -4,7 +4,7 @@ ghost use Rattle.std.specs.List.{flat_map, range_with_len};
 ghost use Rattle.strong_apa.specs.State.{start_of};
 ghost use Rattle.job_release.specs.JobRun.{IsJobRunOf};
 ghost use Rattle.job_release.specs.JobsText.{heading_text, jobs_text, job_line, lines_of_task, response_text};
-ghost use Rattle.job_release.specs.Moments.{state_at};
+ghost use Rattle.job_release.specs.Moments.{state_of_moment};
 
 use crate::input::JobInput;
 use crate::run::JobRun;
@@ -40,7 +40,7 @@ fn write_heading(text: &mut Vec<u8>, input: &JobInput) -> Result<(), OutOfMemory
 fn write_tasks(text: &mut Vec<u8>, input: &JobInput, run: &JobRun) -> Result<(), OutOfMemory>
     requires { IsJobRunOf input.now run.now }
     ensures { OnOk result (text.new.items ≡ text.old.items
-        ++ flat_map (lines_of_task input.now (state_at (start_of input.now.set) run.now.core.history))
+        ++ flat_map (lines_of_task input.now (state_of_moment (start_of input.now.set) run.now.core.history))
         (range_with_len 0 (length input.now.set.tasks))) }
 {
     for t in 0..input.set().len() {
@@ -54,7 +54,7 @@ fn write_task(text: &mut Vec<u8>, input: &JobInput, run: &JobRun, t: u32) -> Res
     requires run { IsJobRunOf input.now run.now }
     requires task { t < length input.now.set.tasks }
     ensures { OnOk result (text.new.items ≡ text.old.items
-        ++ lines_of_task input.now (state_at (start_of input.now.set) run.now.core.history) t) }
+        ++ lines_of_task input.now (state_of_moment (start_of input.now.set) run.now.core.history) t) }
 {
     let jobs = input.jobs(t);
     for k in 0..jobs.len() {

@@ -1,5 +1,7 @@
 -- What is known stays well formed: mentions are of tasks, and what is written is events of the set.
-use Rattle.std.proofs.Common.{◌≡◌, ℕ, zero, suc, ◌+◌, ◌-◌, ◌/◌, ◌%◌, ◌<◌, ◌≤◌, Bool, true, false, nat_eq, nat_lt, List, [], ◌∷◌, ◌++◌, length, set, Option, None, Some, refl, sym, ap, ◌∙◌, subst, inl, inr, arith, length-append, length-set, ne_eqb, lit<, lit≤, append-nil, IsTrue, ◌↔◌}
+use Rattle.std.proofs.Common.{◌≡◌, ℕ, zero, suc, ◌+◌, ◌-◌, ◌/◌, ◌%◌, ◌<◌, ◌≤◌, Bool, true, false, nat_eq, nat_lt, List, [], ◌∷◌, ◌++◌}
+use Rattle.std.proofs.Common.{length, set, Option, None, Some, refl, sym, ap, ◌∙◌, subst, inl, inr, arith, length-append, length-set}
+use Rattle.std.proofs.Common.{ne_eqb, lit<, lit≤, append-nil, IsTrue, ◌↔◌}
 use Rattle.std.specs.Prelude.{All, replicate, position, option_to_list, min, if◌then◌else◌}
 use Rattle.std.specs.Option.{option_map}
 use Rattle.std.proofs.lemmas.Bool.{cases_eq, cases_lt, ltb-true, lt-ltb, true≢false}
@@ -11,7 +13,8 @@ use Rattle.task_set.specs.declared.event.Event.TheVariants.{Arrive, Depart, Tick
 use Rattle.task_set.specs.Event.{IsOfVersion}
 use Rattle.trace_reader.specs.Input.{IsPostedOf, AreOfVersion}
 use Rattle.trace_reader.specs.declared.posted.Posted.{Posted}
-use Rattle.kernel_trace.specs.Course.{CourseData, mention_of, mentions, on_first_stream, last_tick, ticks, passed, written, event_of, after_mention, after_mentions, agrees, is_ready, standing_of, standing_after}
+use Rattle.kernel_trace.specs.Course.{CourseData, mention_of, mentions, on_first_stream, last_tick, ticks, passed, written, event_of}
+use Rattle.kernel_trace.specs.Course.{after_mention, after_mentions, agrees, says_ready, standing_of, standing_after}
 use Rattle.kernel_trace.specs.declared.change.Change.{Change}
 use Rattle.kernel_trace.specs.declared.change.Change.TheVariants.{Wakeup, Switch}
 use Rattle.trace_passages.specs.declared.passage.Readiness.{Readiness}
@@ -30,7 +33,8 @@ last_posted s units below = elim (cases_eq units 0) [
   | inl none ↦ subst (λ (n : ℕ). All (IsPostedOf s) (last_tick n)) (sym none) (All-nil (IsPostedOf s))
   | inr some ↦
       subst (All (IsPostedOf s)) (sym (last_some units some))
-      (All-cons (IsPostedOf s) (on_first_stream (Tick units)) [] (tick_posted s units (omega (arith, some)) (omega arith)) (All-nil (IsPostedOf s)))
+      (All-cons (IsPostedOf s) (on_first_stream (Tick units)) [] (tick_posted s units (omega (arith, some)) (omega arith))
+      (All-nil (IsPostedOf s)))
 ]
 
 full_posted : (set : SetData) (count : ℕ) → All (IsPostedOf set) (replicate count (on_first_stream (Tick 1000000)))
@@ -177,11 +181,11 @@ step_keeps false c m is below = (
 )
 
 agreement : CourseData → Readiness → Bool
-agreement c m = agrees (is_ready (standing_of c.standings m.task)) m.is_in
+agreement c m = agrees (says_ready (standing_of c.standings m.task)) m.is_in
 
 pub mention_keeps : (c : CourseData) (m : Readiness) → IsCourse c → m.task < length c.set.tasks
     → IsCourse (after_mention c m) × ((after_mention c m).set ≡ c.set) × ((after_mention c m).used ≡ c.used)
-mention_keeps c m is below = step_keeps (agrees (is_ready (standing_of c.standings m.task)) m.is_in) c m is below
+mention_keeps c m is below = step_keeps (agrees (says_ready (standing_of c.standings m.task)) m.is_in) c m is below
 
 -- ---- what is written only grows
 no_time : (c : CourseData) → passed (record c { clock = c.used }) ≡ 0
@@ -198,7 +202,7 @@ step_grows false c m =
     omega (arith, length-append (written c) (event ∷ []), length-append (written c ++ event ∷ []) (ticks (passed (step_by false c m))))
 
 pub mention_grows : (c : CourseData) (m : Readiness) → length (written c) ≤ length (written (after_mention c m))
-mention_grows c m = step_grows (agrees (is_ready (standing_of c.standings m.task)) m.is_in) c m
+mention_grows c m = step_grows (agrees (says_ready (standing_of c.standings m.task)) m.is_in) c m
 
 pub mentions_grow : (c : CourseData) (ms : List Readiness) → length (written c) ≤ length (written (after_mentions c ms))
 mentions_grow c [] = omega arith
@@ -210,7 +214,7 @@ step_passed true c m = omega arith
 step_passed false c m = omega (arith, no_time c)
 
 pub mention_passed : (c : CourseData) (m : Readiness) → passed (after_mention c m) ≤ passed c
-mention_passed c m = step_passed (agrees (is_ready (standing_of c.standings m.task)) m.is_in) c m
+mention_passed c m = step_passed (agrees (says_ready (standing_of c.standings m.task)) m.is_in) c m
 
 -- ---- the mentions of a line
 abbrev mention_as : Bool → ℕ → Readiness
@@ -229,7 +233,8 @@ mention_task ids id is_in =
 pub mentions_tasks : (ids : List ℕ) (change : Change) → AreTasks (length ids) (mentions ids change)
 mentions_tasks ids (Wakeup id) = mention_task ids id true
 mentions_tasks ids (Switch from stays to) =
-    All-append (λ (m : Readiness). m.task < length ids) (option_to_list (mention_of ids from stays)) (option_to_list (mention_of ids to true))
+    All-append (λ (m : Readiness). m.task < length ids) (option_to_list (mention_of ids from stays))
+    (option_to_list (mention_of ids to true))
     (mention_task ids from stays) (mention_task ids to true)
 
 -- ---- ticks as they are written

@@ -1,5 +1,6 @@
 -- Digits and their values.
-use Rattle.std.proofs.Common.{◌≡◌, ℕ, zero, suc, ◌+◌, ◌-◌, ◌*◌, ◌<◌, ◌≤◌, true, List, [], ◌∷◌, ◌++◌, length, take, drop, get_or, refl, sym, ap, ◌∙◌, subst, arith, length-append, length-drop, lit<, lit≤}
+use Rattle.std.proofs.Common.{◌≡◌, ℕ, zero, suc, ◌+◌, ◌-◌, ◌*◌, ◌<◌, ◌≤◌, true, List, [], ◌∷◌, ◌++◌, length, take, drop, get_or, refl, sym}
+use Rattle.std.proofs.Common.{ap, ◌∙◌, subst, arith, length-append, length-drop, lit<, lit≤}
 use Rattle.std.specs.Prelude.{replicate, min}
 use Rattle.std.specs.Char.{digit_value, is_ascii_digit}
 use Rattle.std.specs.List.{list_all}
@@ -37,12 +38,14 @@ value_after_zeros zero text = refl
 value_after_zeros (suc k) text = value_after_zeros k text
 
 -- ---- the first digits of a number, and the others
-value_cut : (n m : ℕ) (text : List ℕ) → digits_value_after 10 m text ≡ digits_value_after 10 (digits_value_after 10 m (take n text)) (drop n text)
+value_cut : (n m : ℕ) (text : List ℕ) → digits_value_after 10 m text ≡ digits_value_after 10 (digits_value_after 10 m (take n text))
+    (drop n text)
 value_cut zero m text = refl
 value_cut (suc n) m [] = refl
 value_cut (suc n) m (x ∷ xs) = value_cut n (m * 10 + digit_value x) xs
 
-after_below : (xs ys : List ℕ) (m n : ℕ) → length xs ≡ length ys → AllDigits 10 xs → m < n → digits_value_after 10 m xs < digits_value_after 10 n ys
+after_below : (xs ys : List ℕ) (m n : ℕ) → length xs ≡ length ys → AllDigits 10 xs → m < n
+    → digits_value_after 10 m xs < digits_value_after 10 n ys
 after_below [] [] m n e a lt = lt
 after_below [] (y ∷ ys) m n e a lt = absurd (omega (arith, e))
 after_below (x ∷ xs) [] m n e a lt = absurd (omega (arith, e))
@@ -62,7 +65,8 @@ less_by_first text other n same digits less =
     let one = value_cut n 0 text in
     let two = value_cut n 0 other in
     let long : length (drop n text) ≡ length (drop n other) = length-drop n text ∙ ap (λ (k : ℕ). k - n) same ∙ sym (length-drop n other) in
-    let lt = after_below (drop n text) (drop n other) (number_value (take n text)) (number_value (take n other)) long (digits_drop n text digits) less in
+    let lt = after_below (drop n text) (drop n other) (number_value (take n text)) (number_value (take n other)) long
+    (digits_drop n text digits) less in
     omega (arith, one, two, lt)
 
 -- ---- nine digits
@@ -76,7 +80,8 @@ pub nine_below : (text : List ℕ) (n : ℕ) → is_number text ≡ true → len
 nine_below text n is few =
     let most = digits_value-take-le 10 (to_nine text) n (lit≤ tt) in
     let long = nine_length text few in
-    let below : number_value (to_nine text) < 1000000000 = digits_value_short digits_model (to_nine text) 9 (digits_model.from (to_nine text) (nine_digits text is)) (omega (arith, long)) in
+    let below : number_value (to_nine text) < 1000000000 = digits_value_short digits_model (to_nine text) 9
+    (digits_model.from (to_nine text) (nine_digits text is)) (omega (arith, long)) in
     omega (arith, most, below)
 
 pub nine_step : (text : List ℕ) (place nanos digit : ℕ) → is_number text ≡ true → length text ≤ 9 → place < 9
@@ -89,7 +94,8 @@ nine_step text place nanos digit is few within so_far next =
 
 -- ---- numbers in as many places
 pub places_digits : (places : ℕ) (text : List ℕ) → is_number text ≡ true → AllDigits 10 (in_places places text)
-places_digits places text is = digits_append (replicate (places - length text) 48) text (digits_zeros (places - length text)) (number_digits text is)
+places_digits places text is =
+    digits_append (replicate (places - length text) 48) text (digits_zeros (places - length text)) (number_digits text is)
 
 pub places_length : (places : ℕ) (text : List ℕ) → length text ≤ places → length (in_places places text) ≡ places
 places_length places text few = omega (arith, length-append (replicate (places - length text) 48) text, length_zeros (places - length text))
@@ -99,7 +105,8 @@ places_value places text = value_after_zeros (places - length text) text
 
 places_step : (places : ℕ) (text : List ℕ) (place digit : ℕ) → is_number text ≡ true → length text ≤ places → place < places
     → digit ≡ get_or (in_places places text) place 0 - 48
-    → (number_value (take place (in_places places text)) * 10 + digit ≡ number_value (take (place + 1) (in_places places text))) × (digit < 10)
+    → (number_value (take place (in_places places text)) * 10 + digit ≡ number_value (take (place + 1) (in_places places text)))
+    × (digit < 10)
 places_step places text place digit is few within next =
     let long = places_length places text few in
     let all = places_digits places text is in
@@ -117,7 +124,8 @@ gap_step a b ahead d e most some le is small little enough = (omega arith, omega
 gap_stop : (a b ahead d e most : ℕ) → 1 ≤ most → b ≤ a → ahead ≡ min (a - b) most → e < 10 → ahead * 10 + d < e → a * 10 + d < b * 10 + e
 gap_stop a b ahead d e most some le is small less = omega arith
 
-module _ (earlier later : List ℕ) (places place ahead d e most : ℕ) (some : 1 ≤ most) (one : is_number earlier ≡ true) (two : is_number later ≡ true)
+module _ (earlier later : List ℕ) (places place ahead d e most : ℕ) (some : 1 ≤ most) (one : is_number earlier ≡ true)
+    (two : is_number later ≡ true)
     (fits : length earlier ≤ places) (room : length later ≤ places) (within : place < places)
     (le : first_of places earlier place ≤ first_of places later place)
     (is : ahead ≡ min (first_of places later place - first_of places earlier place) most)
@@ -141,7 +149,8 @@ module _ (earlier later : List ℕ) (places place ahead d e most : ℕ) (some : 
       let long = places_length places later room in
       let long' = places_length places earlier fits in
       let below : number_value (in_places places later) < number_value (in_places places earlier) =
-      less_by_first (in_places places later) (in_places places earlier) (place + 1) (long ∙ sym long') (places_digits places later two) (omega (arith, a.0, b.0, lt)) in
+      less_by_first (in_places places later) (in_places places earlier) (place + 1) (long ∙ sym long') (places_digits places later two)
+      (omega (arith, a.0, b.0, lt)) in
       omega (arith, below, places_value places later, places_value places earlier)
 
 -- all places were taken

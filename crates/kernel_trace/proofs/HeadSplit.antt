@@ -1,15 +1,18 @@
 -- The lines of a head, the line `events`, and what follows.
-use Rattle.std.proofs.Common.{◌≡◌, ℕ, zero, suc, ◌+◌, Bool, true, false, List, [], ◌∷◌, ◌++◌, get_or, Option, None, Some, refl, sym, ap, ◌∙◌, subst, inl, inr}
+use Rattle.std.proofs.Common.{◌≡◌, ℕ, zero, suc, ◌+◌, Bool, true, false, List, [], ◌∷◌, ◌++◌, get_or, Option, None, Some, refl, sym, ap}
+use Rattle.std.proofs.Common.{◌∙◌, subst, inl, inr}
 use Rattle.std.specs.Prelude.{if◌then◌else◌}
 use Rattle.text_fields.specs.LineRule.{IsLineOutcome}
 use Rattle.text_fields.specs.Lines.{fields_of}
 use Rattle.text_fields.specs.Machine.{Leads, Fails, Leading}
 use Rattle.kernel_trace.specs.Course.{CourseData, WindowData}
 use Rattle.kernel_trace.specs.Import.{IsHead}
-use Rattle.kernel_trace.specs.Reading.{IsCourse, IsValid}
+use Rattle.kernel_trace.specs.Reading.{IsCourse, IsSoundSoFar}
 use Rattle.kernel_trace.specs.Survey.{SurveyData}
 use Rattle.kernel_trace.specs.TraceFault.{trace_kind}
-use Rattle.kernel_trace.specs.TraceText.{TaskLine, events_line, window_of, Progress, HeaderExpected, ProcessorsExpected, Listed, Tracing, LineOutcome, without_tasks, with_listed, IsAddOutcome, window_outcome, IsListedOutcome, IsHeadOutcome, IsLine}
+use Rattle.kernel_trace.specs.TraceText.{TaskLine, events_line, window_of, Progress, HeaderExpected, ProcessorsExpected, Listed, Tracing}
+use Rattle.kernel_trace.specs.TraceText.{LineOutcome, without_tasks, with_listed, IsAddOutcome, window_outcome, IsListedOutcome}
+use Rattle.kernel_trace.specs.TraceText.{IsHeadOutcome, IsLine}
 use Rattle.kernel_trace.specs.declared.change.Standing.{Standing}
 use Rattle.kernel_trace.specs.declared.change.Standing.TheVariants.{Unmentioned}
 use Rattle.kernel_trace.specs.declared.fault.TraceKind.TheVariants.{BadHeader, BadProcessors, BadMask, TaskRefused, SamePid, BadWindow}
@@ -61,7 +64,8 @@ head_window c window is = record {
 
 module _ (c : CourseData) (fields : List (List ℕ)) (next : Progress) (is : IsHead c) where
   id_goes : (b : Bool) (line : TaskLine) (mask : ℕ)
-      → ◌≡◌ {A = LineOutcome} (Leads next) (if b then Fails SamePid else Leads (Listed (with_listed c line mask))) → Goes (Listed c) fields next
+      → ◌≡◌ {A = LineOutcome} (Leads next) (if b then Fails SamePid else Leads (Listed (with_listed c line mask)))
+      → Goes (Listed c) fields next
   id_goes true line mask e = fails_not_leads next SamePid e
   id_goes false line mask e = goes_to (Listed c) fields next (Listed (with_listed c line mask)) e (head_more c line mask is)
 
@@ -71,7 +75,8 @@ module _ (c : CourseData) (fields : List (List ℕ)) (next : Progress) (is : IsH
 
   window_goes : (before window : Option WindowData) → ◌≡◌ {A = LineOutcome} (Leads next) (window_outcome c before window)
       → Goes (Listed c) fields next
-  window_goes None (Some window) e = goes_to (Listed c) fields next (Listed (record c { window = Some window })) e (head_window c (Some window) is)
+  window_goes None (Some window) e =
+      goes_to (Listed c) fields next (Listed (record c { window = Some window })) e (head_window c (Some window) is)
   window_goes None None e = fails_not_leads next BadWindow e
   window_goes (Some before) window e = fails_not_leads next BadWindow e
 
@@ -108,7 +113,8 @@ read_goes p line next begun (inr (inl long)) = fails_not_leads next (trace_kind 
 read_goes p line next begun (inr (inr (inl skipped))) = goes_to p (fields_of line) next p skipped.2 (begun_goes p (fields_of line) begun)
 read_goes p line next begun (inr (inr (inr says))) = fields_go p (fields_of line) next begun says.2
 
-line_goes : (look : SurveyData) (p : Progress) (line : List ℕ) (next : Progress) → Begun p → IsLine look p line (Leads next) → Goes p (fields_of line) next
+line_goes : (look : SurveyData) (p : Progress) (line : List ℕ) (next : Progress) → Begun p → IsLine look p line (Leads next)
+    → Goes p (fields_of line) next
 line_goes look HeaderExpected line next begun comes = read_goes HeaderExpected line next begun comes
 line_goes look ProcessorsExpected line next begun comes = read_goes ProcessorsExpected line next begun comes
 line_goes look (Listed c) line next begun comes = read_goes (Listed c) line next begun comes
@@ -146,7 +152,8 @@ module _ (look : SurveyData) (Follows : ℕ → Progress → List (List ℕ) →
       answer = split.answer;
     }
 
-    split_next : (next : Progress) → IsLine look p line (Leads next) → Goes p (fields_of line) next → IsValid next → Follows (number + 1) next rest
+    split_next : (next : Progress) → IsLine look p line (Leads next) → Goes p (fields_of line) next → IsSoundSoFar next
+        → Follows (number + 1) next rest
         → (Begun next → Split next rest) → Split p (line ∷ rest)
     split_next HeaderExpected comes goes valid answer later = more_head HeaderExpected comes (later tt)
     split_next ProcessorsExpected comes goes valid answer later = more_head ProcessorsExpected comes (later tt)
@@ -170,11 +177,12 @@ module _ (look : SurveyData) (Follows : ℕ → Progress → List (List ℕ) →
   LedOn number p line rest = (next : Progress) × IsLine look p line (Leads next) × Follows (number + 1) next rest
 
   module _ (never_ends : (number : ℕ) (p : Progress) → Begun p → Follows number p [] → ⊥)
-      (leads : (number : ℕ) (p : Progress) (line : List ℕ) (rest : List (List ℕ)) → Begun p → Follows number p (line ∷ rest) → LedOn number p line rest) where
-    pub head_split : (number : ℕ) (p : Progress) (lines : List (List ℕ)) → Begun p → IsValid p → Follows number p lines → Split p lines
+      (leads : (number : ℕ) (p : Progress) (line : List ℕ) (rest : List (List ℕ)) → Begun p → Follows number p (line ∷ rest)
+      → LedOn number p line rest) where
+    pub head_split : (number : ℕ) (p : Progress) (lines : List (List ℕ)) → Begun p → IsSoundSoFar p → Follows number p lines → Split p lines
     head_split number p [] begun valid follows = absurd (never_ends number p begun follows)
     head_split number p (line ∷ rest) begun valid follows =
         let next = leads number p line rest begun follows in
-        let valid_next : IsValid next.0 = line_valid look p line next.0 valid next.1 in
+        let valid_next : IsSoundSoFar next.0 = line_valid look p line next.0 valid next.1 in
         split_next p line rest number begun next.0 next.1 (line_goes look p line next.0 begun next.1) valid_next next.2
         (λ more. head_split (number + 1) next.0 rest more valid_next next.2)

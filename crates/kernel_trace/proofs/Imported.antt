@@ -1,5 +1,6 @@
 -- The input of the text of a trace is the import of that trace.
-use Rattle.std.proofs.Common.{◌≡◌, ℕ, zero, suc, ◌+◌, ◌/◌, ◌%◌, ◌<◌, ◌≤◌, Bool, true, false, nat_lt, List, [], ◌∷◌, ◌++◌, length, take, drop, Option, None, Some, refl, sym, ap, ◌∙◌, subst, inl, inr, arith, append_assoc, append-nil, lit<, lit≤}
+use Rattle.std.proofs.Common.{◌≡◌, ℕ, zero, suc, ◌+◌, ◌/◌, ◌%◌, ◌<◌, ◌≤◌, Bool, true, false, nat_lt, List, [], ◌∷◌, ◌++◌, length, take}
+use Rattle.std.proofs.Common.{drop, Option, None, Some, refl, sym, ap, ◌∙◌, subst, inl, inr, arith, append_assoc, append-nil, lit<, lit≤}
 use Rattle.std.specs.Prelude.{All, replicate, if◌then◌else◌}
 use Rattle.std.specs.Option.{option_or}
 use Rattle.std.proofs.lemmas.Bool.{cases_eq}
@@ -13,20 +14,27 @@ use Rattle.trace_reader.specs.Input.{InputData}
 use Rattle.trace_reader.specs.declared.posted.Posted.{Posted}
 use Rattle.text_fields.specs.Lines.{lines_of, fields_of}
 use Rattle.text_fields.specs.Machine.{Outcome, Leads, Fails, Answer, IsText, Refuses, answer_at_end, IsAnswer}
-use Rattle.kernel_trace.specs.Course.{CourseData, WindowData, mentions, is_unseen, is_backward, is_in_window, on_first_stream, last_tick, ticks, between, passed, written, event_of, after_mention, after_mentions, agrees, is_ready, standing_of, names_task}
-use Rattle.kernel_trace.specs.Import.{after_said, course_after, mentions_said, AllChange, all_units, ReadyChange, ready_changes, changes_said, changes_in, changes_made, times_of, time_said, used_times, first_time, last_time, Lasts, told_by, all_told, IsHead, IsWrittenBy, IsImport, ImportIsFaithful}
+use Rattle.kernel_trace.specs.Course.{CourseData, WindowData, mentions, is_unseen, is_backward, is_in_window, on_first_stream, last_tick}
+use Rattle.kernel_trace.specs.Course.{ticks, between, passed, written, event_of, after_mention, after_mentions, agrees, says_ready}
+use Rattle.kernel_trace.specs.Course.{standing_of, names_task}
+use Rattle.kernel_trace.specs.Import.{after_said, course_after, mentions_said, AllChange, all_units, ReadyChange, ready_changes}
+use Rattle.kernel_trace.specs.Import.{changes_said, changes_in, changes_made, times_of, time_said, used_times, first_time, last_time, Lasts}
+use Rattle.kernel_trace.specs.Import.{told_by, all_told, IsHead, IsWrittenBy, IsImport, ImportIsFaithful}
 use Rattle.kernel_trace.specs.Reading.{AreTasks}
 use Rattle.kernel_trace.specs.Survey.{SurveyData, survey_of, is_gap}
 use Rattle.kernel_trace.specs.TraceLine.{Said, Nothing, LostEvents, Malformed, Happened, said_by}
-use Rattle.kernel_trace.specs.TraceText.{Progress, HeaderExpected, ProcessorsExpected, Listed, Tracing, LineOutcome, counted_outcome, used_outcome, timed_outcome, said_outcome, IsLine, input_of, IsEndOutcome}
+use Rattle.kernel_trace.specs.TraceText.{Progress, HeaderExpected, ProcessorsExpected, Listed, Tracing, LineOutcome, counted_outcome}
+use Rattle.kernel_trace.specs.TraceText.{used_outcome, timed_outcome, said_outcome, IsLine, input_of, IsEndOutcome}
 use Rattle.kernel_trace.specs.declared.change.Change.{Change}
 use Rattle.trace_passages.specs.declared.passage.Readiness.{Readiness}
 use Rattle.kernel_trace.specs.declared.fault.TraceKind.{TraceKind}
-use Rattle.kernel_trace.specs.declared.fault.TraceKind.TheVariants.{Backward, Lost, BadForm, Unseen, ManyEvents, NoEvents, Overwritten, NothingSaid}
+use Rattle.kernel_trace.specs.declared.fault.TraceKind.TheVariants.{Backward, Lost, BadForm, Unseen, ManyEvents, NoEvents, Overwritten}
+use Rattle.kernel_trace.specs.declared.fault.TraceKind.TheVariants.{NothingSaid}
 use Rattle.kernel_trace.proofs.Courses.{step_by, last_some, million}
 use Rattle.kernel_trace.proofs.Decided.{same_next, fails_not_leads, not_above}
 use Rattle.kernel_trace.proofs.HeadSplit.{Begun, Split, LedOn, head_split}
-use Rattle.kernel_trace.proofs.Imports.{fold_append, units_append, written_units, change_written, Tells, step_tells, step_length, Follows, known_tasks, said_follows, lines_follow, head_follows}
+use Rattle.kernel_trace.proofs.Imports.{fold_append, units_append, written_units, change_written, Tells, step_tells, step_length, Follows}
+use Rattle.kernel_trace.proofs.Imports.{known_tasks, said_follows, lines_follow, head_follows}
 
 -- ---- the head
 -- the answer to some lines is this input
@@ -91,9 +99,11 @@ timed_leads : (b : Bool) (c : CourseData) (time : ℕ) (change : Change) (next :
     → ◌≡◌ {A = LineOutcome} (Leads next) (if b
     then used_outcome (record c { last = Some time; used = Some time }) change
     else Leads (Tracing (record c { last = Some time })))
-    → next ≡ Tracing (if b then after_mentions (record c { last = Some time; used = Some time }) (mentions c.ids change) else record c { last = Some time })
+    → next ≡ Tracing (if b then after_mentions (record c { last = Some time; used = Some time }) (mentions c.ids change)
+    else record c { last = Some time })
 timed_leads true c time change next e =
-    used_leads (is_unseen c.standings c.ids change) (after_mentions (record c { last = Some time; used = Some time }) (mentions c.ids change)) next e
+    used_leads (is_unseen c.standings c.ids change)
+    (after_mentions (record c { last = Some time; used = Some time }) (mentions c.ids change)) next e
 timed_leads false c time change next e = same_next next (Tracing (record c { last = Some time })) e
 
 said_leads : (c : CourseData) (said : Said) (next : Progress) → ◌≡◌ {A = LineOutcome} (Leads next) (said_outcome c said)
@@ -103,7 +113,8 @@ said_leads c LostEvents next e = fails_not_leads next Lost e
 said_leads c Malformed next e = fails_not_leads next BadForm e
 said_leads c (Happened time change) next e = by (is_backward c.last time) refl e
   where
-    by : (b : Bool) → is_backward c.last time ≡ b → ◌≡◌ {A = LineOutcome} (Leads next) (if b then Fails Backward else timed_outcome c time change)
+    by : (b : Bool) → is_backward c.last time ≡ b
+        → ◌≡◌ {A = LineOutcome} (Leads next) (if b then Fails Backward else timed_outcome c time change)
         → (next ≡ Tracing (after_said c (Happened time change))) × Forward c (Happened time change)
     by true is e = fails_not_leads next Backward e
     by false is e = (timed_leads (is_in_window c.window time) c time change next e, not_backward c.last time is)
@@ -111,7 +122,8 @@ said_leads c (Happened time change) next e = by (is_backward c.last time) refl e
 -- no line is before the one before it
 abbrev AllForward : Bool → CourseData → List (List ℕ) → Type 0
 AllForward waking c [] = Unit {0}
-AllForward waking c (line ∷ rest) = Forward c (said_by waking (fields_of line)) × AllForward waking (after_said c (said_by waking (fields_of line))) rest
+AllForward waking c (line ∷ rest) =
+    Forward c (said_by waking (fields_of line)) × AllForward waking (after_said c (said_by waking (fields_of line))) rest
 
 -- a line that leads on has no gap before it
 whole_leads : (b : Bool) (c : CourseData) (said : Said) (next : Progress)
@@ -134,7 +146,8 @@ ended : (b : Bool) (c : CourseData) (input : InputData) (number : ℕ) (last : O
 ended true c input number last ends e = text_input c input number last ends e
 ended false c input number last ends e = text_not_refused input number NothingSaid (e ∙ ap (answer_at_end number) ends)
 
-trace_leads : (look : SurveyData) (number : ℕ) (c : CourseData) (lines : List (List ℕ)) (input : InputData) → IsRest look input number (Tracing c) lines
+trace_leads : (look : SurveyData) (number : ℕ) (c : CourseData) (lines : List (List ℕ)) (input : InputData)
+    → IsRest look input number (Tracing c) lines
     → AllForward look.waking c lines × (input ≡ input_of (course_after look.waking c lines))
 trace_leads look number c [] input (last, ends, e) = (tt, ended (names_task c.standings) c input number last ends e)
 trace_leads look number c (line ∷ rest) input (inl (kind, comes, e)) = text_not_refused input number kind e
@@ -146,9 +159,11 @@ trace_leads look number c (line ∷ rest) input (inr (next, comes, answer)) =
     ((leads.1, later.0), later.1)
 
 -- the first lines of some lines
-forward_first : (waking : Bool) (c : CourseData) (first rest : List (List ℕ)) → AllForward waking c (first ++ rest) → AllForward waking c first
+forward_first : (waking : Bool) (c : CourseData) (first rest : List (List ℕ)) → AllForward waking c (first ++ rest)
+    → AllForward waking c first
 forward_first waking c [] rest all = tt
-forward_first waking c (line ∷ first) rest all = (all.0, forward_first waking (after_said c (said_by waking (fields_of line))) first rest all.1)
+forward_first waking c (line ∷ first) rest all =
+    (all.0, forward_first waking (after_said c (said_by waking (fields_of line))) first rest all.1)
 
 -- ---- times
 last_append : (times : List ℕ) (time : ℕ) → last_time (times ++ time ∷ []) ≡ Some time
@@ -165,7 +180,8 @@ lasts_some : (first clock : ℕ) (used : Option ℕ) (units : ℕ) → Lasts (So
 lasts_some first clock None units lasts most = absurd most
 lasts_some first clock (Some used) units lasts most = let whole = whole_less clock used most in omega (arith, lasts, whole)
 
-lasts_more : (times : List ℕ) (used : Option ℕ) (units : ℕ) → Lasts (first_time times) (last_time times) units → AtMost (last_time times) used
+lasts_more : (times : List ℕ) (used : Option ℕ) (units : ℕ) → Lasts (first_time times) (last_time times) units
+    → AtMost (last_time times) used
     → Lasts (first_time times) used (units + between (last_time times) used)
 lasts_more [] used units lasts most = omega (arith, lasts)
 lasts_more (time ∷ times) used units lasts most = by (last_time times) lasts most
@@ -187,7 +203,8 @@ IsAlone posted = (posted.stream ≡ 0) × HasUnits posted.event
 alone_full : (count : ℕ) → All IsAlone (replicate count (on_first_stream (Tick 1000000)))
 alone_full zero = All-nil IsAlone
 alone_full (suc count) =
-    All-cons IsAlone (on_first_stream (Tick 1000000)) (replicate count (on_first_stream (Tick 1000000))) (refl, (lit≤ tt, lit≤ tt)) (alone_full count)
+    All-cons IsAlone (on_first_stream (Tick 1000000)) (replicate count (on_first_stream (Tick 1000000))) (refl, (lit≤ tt, lit≤ tt))
+    (alone_full count)
 
 alone_last : (units : ℕ) → units < 1000000 → All IsAlone (last_tick units)
 alone_last units below = elim (cases_eq units 0) [
@@ -206,7 +223,8 @@ alone_ticks units =
 told_append : (xs ys : List Posted) → all_told (xs ++ ys) ≡ all_told xs ++ all_told ys
 told_append [] ys = refl
 told_append (x ∷ xs) ys =
-    ap (λ (more : List Readiness). told_by x.event ++ more) (told_append xs ys) ∙ sym (append_assoc (told_by x.event) (all_told xs) (all_told ys))
+    ap (λ (more : List Readiness). told_by x.event ++ more) (told_append xs ys)
+    ∙ sym (append_assoc (told_by x.event) (all_told xs) (all_told ys))
 
 told_full : (count : ℕ) → all_told (replicate count (on_first_stream (Tick 1000000))) ≡ []
 told_full zero = refl
@@ -222,7 +240,8 @@ told_ticks : (units : ℕ) → all_told (ticks units) ≡ []
 unfolding ticks
 told_ticks units =
     told_append (replicate (units / 1000000) (on_first_stream (Tick 1000000))) (last_tick (units % 1000000))
-    ∙ ap (λ (more : List Readiness). all_told (replicate (units / 1000000) (on_first_stream (Tick 1000000))) ++ more) (told_last (units % 1000000))
+    ∙ ap (λ (more : List Readiness). all_told (replicate (units / 1000000) (on_first_stream (Tick 1000000))) ++ more)
+    (told_last (units % 1000000))
     ∙ append-nil (all_told (replicate (units / 1000000) (on_first_stream (Tick 1000000))))
     ∙ told_full (units / 1000000)
 
@@ -274,7 +293,8 @@ module _ (c : CourseData) (m : Readiness) (changes : List ReadyChange) (times : 
   passed_is : passed c ≡ between (last_time (times_of changes)) (Some time)
   passed_is = ap (λ (clock : Option ℕ). between clock c.used) timed.clock ∙ ap (between (last_time (times_of changes))) now
 
-  units_more : all_units (written c ++ on_first_stream (event_of m) ∷ []) ≡ all_units c.events + between (last_time (times_of changes)) (Some time)
+  units_more : all_units (written c ++ on_first_stream (event_of m) ∷ []) ≡ all_units c.events
+      + between (last_time (times_of changes)) (Some time)
   units_more =
       let parts = units_append (written c) (on_first_stream (event_of m) ∷ []) in
       let whole = written_units c in
@@ -289,9 +309,12 @@ module _ (c : CourseData) (m : Readiness) (changes : List ReadyChange) (times : 
       subst (λ (clock : Option ℕ). AtMost clock (Some time)) timed.clock (subst (AtMost c.clock) now timed.since) in
       let next = lasts_next (times_of changes) time (all_units c.events) timed.lasts since in
       let P : List ℕ → Option ℕ → ℕ → Type 0 = λ all last units. Lasts (first_time all) last units in
-      subst (λ (units : ℕ). P (times_of (changes ++ the_change ∷ [])) (last_time (times_of (changes ++ the_change ∷ []))) units) (sym units_more)
-      (subst (λ (all : List ℕ). P all (last_time all) (all_units c.events + between (last_time (times_of changes)) (Some time))) (sym times_more)
-      (subst (λ (last : Option ℕ). P (times_of changes ++ time ∷ []) last (all_units c.events + between (last_time (times_of changes)) (Some time)))
+      subst (λ (units : ℕ). P (times_of (changes ++ the_change ∷ [])) (last_time (times_of (changes ++ the_change ∷ []))) units)
+      (sym units_more)
+      (subst (λ (all : List ℕ). P all (last_time all) (all_units c.events + between (last_time (times_of changes)) (Some time)))
+      (sym times_more)
+      (subst (λ (last : Option ℕ). P (times_of changes ++ time ∷ []) last
+      (all_units c.events + between (last_time (times_of changes)) (Some time)))
       (sym (last_append (times_of changes) time)) next))
 
   told_then : all_told (written c ++ on_first_stream (event_of m) ∷ []) ≡ changes_made (changes ++ the_change ∷ [])
@@ -324,7 +347,8 @@ module _ (c : CourseData) (m : Readiness) (changes : List ReadyChange) (times : 
   }
 
 -- ---- the mentions of a line, one after another
-module _ (c : CourseData) (ms : List Readiness) (m : Readiness) (more : List Readiness) (changes : List ReadyChange) (times : List ℕ) (time : ℕ)
+module _ (c : CourseData) (ms : List Readiness) (m : Readiness) (more : List Readiness) (changes : List ReadyChange) (times : List ℕ)
+    (time : ℕ)
     (now : c.used ≡ Some time) (tells : Tells c ms) (within : m.task < length c.standings) (tasks : AreTasks (length c.standings) more)
     (timed : Timed c changes times)
     (later : (d : CourseData) (found : List ReadyChange) → d.used ≡ Some time → Tells d (ms ++ m ∷ []) → AreTasks (length d.standings) more
@@ -332,17 +356,19 @@ module _ (c : CourseData) (ms : List Readiness) (m : Readiness) (more : List Rea
   tasks_then : (b : Bool) → AreTasks (length (step_by b c m).standings) more
   tasks_then b = subst (λ (n : ℕ). AreTasks n more) (sym (step_length b c m)) tasks
 
-  first_timed : (b : Bool) → agrees (is_ready (standing_of c.standings m.task)) m.is_in ≡ b
+  first_timed : (b : Bool) → agrees (says_ready (standing_of c.standings m.task)) m.is_in ≡ b
       → Timed (after_mentions (step_by b c m) more)
       (changes ++ (if b
       then ready_changes time (ms ++ m ∷ []) more
       else record { time = time; mention = m } ∷ ready_changes time (ms ++ m ∷ []) more)) times
   first_timed true same =
-      later (step_by true c m) changes now (step_tells c ms m tells within true same) (tasks_then true) (step_timed c m changes times time now timed true)
+      later (step_by true c m) changes now (step_tells c ms m tells within true same) (tasks_then true)
+      (step_timed c m changes times time now timed true)
   first_timed false other =
       let change : ReadyChange = record { time = time; mention = m } in
       let next = ready_changes time (ms ++ m ∷ []) more in
-      subst (λ (all : List ReadyChange). Timed (after_mentions (step_by false c m) more) all times) (append_assoc changes (change ∷ []) next)
+      subst (λ (all : List ReadyChange). Timed (after_mentions (step_by false c m) more) all times)
+      (append_assoc changes (change ∷ []) next)
       (later (step_by false c m) (changes ++ change ∷ []) now (step_tells c ms m tells within false other) (tasks_then false)
       (step_timed c m changes times time now timed false))
 
@@ -351,12 +377,13 @@ module _ (c : CourseData) (ms : List Readiness) (m : Readiness) (more : List Rea
       let next = ready_changes time (ms ++ m ∷ []) more in
       let found : Bool → List ReadyChange = λ before. if agrees before m.is_in then next else record { time = time; mention = m } ∷ next in
       subst (λ (before : Bool). Timed (after_mentions c (m ∷ more)) (changes ++ found before) times) (sym (tells.said m.task))
-      (first_timed (agrees (is_ready (standing_of c.standings m.task)) m.is_in) refl)
+      (first_timed (agrees (says_ready (standing_of c.standings m.task)) m.is_in) refl)
 
 mentions_timed : (c : CourseData) (ms more : List Readiness) (changes : List ReadyChange) (times : List ℕ) (time : ℕ)
     → c.used ≡ Some time → Tells c ms → AreTasks (length c.standings) more → Timed c changes times
     → Timed (after_mentions c more) (changes ++ ready_changes time ms more) times
-mentions_timed c ms [] changes times time now tells tasks timed = subst (λ (all : List ReadyChange). Timed c all times) (sym (append-nil changes)) timed
+mentions_timed c ms [] changes times time now tells tasks timed =
+    subst (λ (all : List ReadyChange). Timed c all times) (sym (append-nil changes)) timed
 mentions_timed c ms (m ∷ more) changes times time now tells tasks timed =
     by_mentions c ms m more changes times time now tells (All-head (λ (m : Readiness). m.task < length c.standings) m more tasks)
     (All-tail (λ (m : Readiness). m.task < length c.standings) m more tasks) timed
@@ -366,7 +393,8 @@ mentions_timed c ms (m ∷ more) changes times time now tells tasks timed =
 module _ (waking : Bool) (head : CourseData) (one_each : length head.standings ≡ length head.ids) where
   timed_line : (b : Bool) (c : CourseData) (ms : List Readiness) (changes : List ReadyChange) (times : List ℕ) (time : ℕ) (change : Change)
       → Follows head c ms → AtMost c.last (Some time) → Timed c changes times
-      → Timed (if b then after_mentions (record c { last = Some time; used = Some time }) (mentions c.ids change) else record c { last = Some time })
+      → Timed (if b then after_mentions (record c { last = Some time; used = Some time }) (mentions c.ids change)
+      else record c { last = Some time })
       (changes ++ ready_changes time ms (if b then mentions c.ids change else [])) (times ++ (if b then time ∷ [] else []))
   timed_line true c ms changes times time change follows forward timed =
       let now : CourseData = record c { last = Some time; used = Some time } in
@@ -397,7 +425,8 @@ module _ (waking : Bool) (head : CourseData) (one_each : length head.standings �
       subst (λ (all : List ReadyChange). Timed later all (times ++ [])) (sym (append-nil changes))
       (subst (λ (all : List ℕ). Timed later changes all) (sym (append-nil times)) timed_now)
 
-  same_timed : (c : CourseData) (changes : List ReadyChange) (times : List ℕ) → Timed c changes times → Timed c (changes ++ []) (times ++ [])
+  same_timed : (c : CourseData) (changes : List ReadyChange) (times : List ℕ) → Timed c changes times
+      → Timed c (changes ++ []) (times ++ [])
   same_timed c changes times timed =
       subst (λ (all : List ReadyChange). Timed c all (times ++ [])) (sym (append-nil changes))
       (subst (λ (all : List ℕ). Timed c changes all) (sym (append-nil times)) timed)
@@ -414,11 +443,13 @@ module _ (waking : Bool) (head : CourseData) (one_each : length head.standings �
       let P : List ℕ → Option WindowData → Type 0 =
       λ ids window. Timed (after_said c said) (changes ++ changes_said ids window ms said) (times ++ time_said window said) in
       subst (λ (window : Option WindowData). P head.ids window) stays.window
-      (subst (λ (ids : List ℕ). P ids c.window) stays.ids (timed_line (is_in_window c.window time) c ms changes times time change follows forward timed))
+      (subst (λ (ids : List ℕ). P ids c.window) stays.ids
+      (timed_line (is_in_window c.window time) c ms changes times time change follows forward timed))
 
   lines_timed : (c : CourseData) (ms : List Readiness) (changes : List ReadyChange) (times : List ℕ) (lines : List (List ℕ))
       → Follows head c ms → AllForward waking c lines → Timed c changes times
-      → Timed (course_after waking c lines) (changes ++ changes_in waking head.ids head.window ms lines) (times ++ used_times waking head.window lines)
+      → Timed (course_after waking c lines) (changes ++ changes_in waking head.ids head.window ms lines)
+      (times ++ used_times waking head.window lines)
   lines_timed c ms changes times [] follows forward timed = same_timed c changes times timed
   lines_timed c ms changes times (line ∷ rest) follows forward timed =
       let said : Said = said_by waking (fields_of line) in
@@ -427,7 +458,8 @@ module _ (waking : Bool) (head : CourseData) (one_each : length head.standings �
       let later = ms ++ mentions_said head.ids head.window said in
       let next = lines_timed (after_said c said) later (changes ++ made) (times ++ used) rest
       (said_follows waking head one_each c ms said follows) forward.1 (said_timed c ms changes times said follows forward.0 timed) in
-      subst (λ (all : List ReadyChange). Timed (course_after waking c (line ∷ rest)) all (times ++ (used ++ used_times waking head.window rest)))
+      subst (λ (all : List ReadyChange). Timed (course_after waking c (line ∷ rest)) all
+      (times ++ (used ++ used_times waking head.window rest)))
       (append_assoc changes made (changes_in waking head.ids head.window later rest))
       (subst (Timed (course_after waking c (line ∷ rest)) ((changes ++ made) ++ changes_in waking head.ids head.window later rest))
       (append_assoc times used (used_times waking head.window rest)) next)
@@ -464,7 +496,7 @@ mentions_extend : (c : CourseData) (ms : List Readiness) → Extends c (after_me
 mentions_extend c [] = ([], sym (append-nil c.events))
 mentions_extend c (m ∷ ms) =
     extends_over c (after_mention c m) (after_mentions c (m ∷ ms))
-    (step_extends (agrees (is_ready (standing_of c.standings m.task)) m.is_in) c m) (mentions_extend (after_mention c m) ms)
+    (step_extends (agrees (says_ready (standing_of c.standings m.task)) m.is_in) c m) (mentions_extend (after_mention c m) ms)
 
 said_extends : (c : CourseData) (said : Said) → Extends c (after_said c said)
 said_extends c Nothing = ([], sym (append-nil c.events))
@@ -482,7 +514,8 @@ lines_extend : (waking : Bool) (c : CourseData) (lines : List (List ℕ)) → Ex
 lines_extend waking c [] = ([], sym (append-nil c.events))
 lines_extend waking c (line ∷ rest) =
     let said : Said = said_by waking (fields_of line) in
-    extends_over c (after_said c said) (course_after waking c (line ∷ rest)) (said_extends c said) (lines_extend waking (after_said c said) rest)
+    extends_over c (after_said c said) (course_after waking c (line ∷ rest)) (said_extends c said)
+    (lines_extend waking (after_said c said) rest)
 
 -- ---- the import
 module _ (waking : Bool) (head : CourseData) (one_each : length head.standings ≡ length head.ids) (is : IsHead head) where
@@ -578,7 +611,8 @@ of_split bytes input split =
           (each_written waking head one_each split.is_head split.rest forward n);
       time =
           let times = times_of (changes_in waking head.ids head.window [] split.rest) in
-          subst (λ (all : List Posted). Lasts (first_time times) (last_time (used_times waking head.window split.rest)) (all_units all)) (sym events)
+          subst (λ (all : List Posted). Lasts (first_time times) (last_time (used_times waking head.window split.rest)) (all_units all))
+          (sym events)
           (whole_lasts waking head one_each split.is_head split.rest forward);
       changing = subst (AllChange []) (sym events) (all_change waking head one_each split.is_head split.rest);
       short = All-weaker IsAlone (λ (posted : Posted). HasUnits posted.event) (λ posted alone. alone.1) input.events alone;
@@ -587,4 +621,5 @@ of_split bytes input split =
 pub import_is_faithful : ImportIsFaithful
 import_is_faithful bytes input is =
     let look : SurveyData = survey_of (lines_of bytes) in
-    of_split bytes input (head_split look (IsRest look input) (no_end look input) (line_leads look input) 1 HeaderExpected (lines_of bytes) tt tt is)
+    of_split bytes input (head_split look (IsRest look input) (no_end look input) (line_leads look input) 1 HeaderExpected (lines_of bytes)
+    tt tt is)

@@ -1,5 +1,7 @@
 -- What is known after some lines of a trace, in the words of the trace.
-use Rattle.std.proofs.Common.{◌≡◌, ℕ, zero, suc, ◌+◌, ◌*◌, ◌/◌, ◌%◌, ◌<◌, ◌==◌, Bool, true, false, List, [], ◌∷◌, ◌++◌, length, set, fold, Option, Some, refl, sym, ap, ◌∙◌, subst, inl, inr, arith, append_assoc, append-nil, length-set, eq-eqb, ne_eqb, add-zero}
+use Rattle.std.proofs.Common.{◌≡◌, ℕ, zero, suc, ◌+◌, ◌*◌, ◌/◌, ◌%◌, ◌<◌, ◌==◌, Bool, true, false, List, [], ◌∷◌, ◌++◌, length, set, fold}
+use Rattle.std.proofs.Common.{Option, Some, refl, sym, ap, ◌∙◌, subst, inl, inr, arith, append_assoc, append-nil, length-set, eq-eqb}
+use Rattle.std.proofs.Common.{ne_eqb, add-zero}
 use Rattle.std.specs.Prelude.{replicate, if◌then◌else◌}
 use Rattle.std.proofs.lemmas.Bool.{cases_eq}
 use Rattle.std.proofs.lemmas.List.Elements.{All-head, All-tail}
@@ -7,8 +9,10 @@ use Rattle.std.proofs.lemmas.List.{get_or-set_same, get_or-set_other}
 use Rattle.std.proofs.lemmas.Nat.{div-add-mod'}
 use Rattle.task_set.specs.declared.event.Event.TheVariants.{Arrive, Depart, Tick}
 use Rattle.trace_reader.specs.declared.posted.Posted.{Posted}
-use Rattle.kernel_trace.specs.Course.{CourseData, WindowData, mentions, is_in_window, on_first_stream, last_tick, ticks, passed, written, event_of, after_mention, after_mentions, agrees, is_ready, standing_of, standing_after}
-use Rattle.kernel_trace.specs.Import.{mention_says, is_last_in, event_says, is_ready_after, Changes, AllChange, all_units, ReadyAsMentioned, after_said, course_after, mentions_said, mentions_in, IsHead}
+use Rattle.kernel_trace.specs.Course.{CourseData, WindowData, mentions, is_in_window, on_first_stream, last_tick, ticks, passed, written}
+use Rattle.kernel_trace.specs.Course.{event_of, after_mention, after_mentions, agrees, says_ready, standing_of, standing_after}
+use Rattle.kernel_trace.specs.Import.{mention_says, is_last_in, event_says, is_ready_after, Changes, AllChange, all_units, ReadyAsMentioned}
+use Rattle.kernel_trace.specs.Import.{after_said, course_after, mentions_said, mentions_in, IsHead}
 use Rattle.text_fields.specs.Lines.{fields_of}
 use Rattle.kernel_trace.specs.TraceLine.{Said, Nothing, LostEvents, Malformed, Happened, said_by}
 use Rattle.kernel_trace.specs.declared.change.Change.{Change}
@@ -79,8 +83,11 @@ written_units c = units_append c.events (ticks (passed c)) ∙ ap (λ (n : ℕ).
 -- ---- events that change something
 change_append : (before xs ys : List Posted) → AllChange before xs → AllChange (before ++ xs) ys → AllChange before (xs ++ ys)
 change_append before [] ys one two = subst (λ (b : List Posted). AllChange b ys) (append-nil before) two
-change_append before (x ∷ xs) ys one two =
-    (one.0, change_append (before ++ x ∷ []) xs ys one.1 (subst (λ (b : List Posted). AllChange b ys) (sym (append_assoc before (x ∷ []) xs)) two))
+change_append before (x ∷ xs) ys one two = (
+  one.0,
+  change_append (before ++ x ∷ []) xs ys one.1
+      (subst (λ (b : List Posted). AllChange b ys) (sym (append_assoc before (x ∷ []) xs)) two),
+)
 
 change_full : (before : List Posted) (count : ℕ) → AllChange before (replicate count (on_first_stream (Tick 1000000)))
 change_full before zero = tt
@@ -113,25 +120,27 @@ event_mentions t before m = by m.is_in
     by true = refl
     by false = refl
 
-standing_is : (is_in : Bool) → is_ready (standing_after is_in) ≡ is_in
+standing_is : (is_in : Bool) → says_ready (standing_after is_in) ≡ is_in
 standing_is true = refl
 standing_is false = refl
 
 -- the standing of a task after a mention
 pub standing_mentions : (standings : List Standing) (m : Readiness) (t : ℕ) → m.task < length standings
-    → is_ready (standing_of (set standings m.task (standing_after m.is_in)) t) ≡ mentioned m.task m.is_in (is_ready (standing_of standings t)) t
+    → says_ready (standing_of (set standings m.task (standing_after m.is_in)) t)
+    ≡ mentioned m.task m.is_in (says_ready (standing_of standings t)) t
 standing_mentions standings m t within = elim (cases_eq m.task t) [
   | inl same ↦ (
-      let chosen : mentioned m.task m.is_in (is_ready (standing_of standings t)) t ≡ m.is_in =
-      ap (λ (b : Bool). if b then m.is_in else is_ready (standing_of standings t)) (eq-eqb m.task t same) in
-      let here : standing_of (set standings m.task (standing_after m.is_in)) m.task ≡ standing_after m.is_in = get_or-set_same standings m.task (standing_after m.is_in) Unmentioned within in
+      let chosen : mentioned m.task m.is_in (says_ready (standing_of standings t)) t ≡ m.is_in =
+      ap (λ (b : Bool). if b then m.is_in else says_ready (standing_of standings t)) (eq-eqb m.task t same) in
+      let here : standing_of (set standings m.task (standing_after m.is_in)) m.task
+      ≡ standing_after m.is_in = get_or-set_same standings m.task (standing_after m.is_in) Unmentioned within in
       let there : standing_of (set standings m.task (standing_after m.is_in)) t ≡ standing_after m.is_in =
       subst (λ (n : ℕ). standing_of (set standings m.task (standing_after m.is_in)) n ≡ standing_after m.is_in) same here in
-      ap is_ready there ∙ standing_is m.is_in ∙ sym chosen)
+      ap says_ready there ∙ standing_is m.is_in ∙ sym chosen)
   | inr differs ↦ (
-      let chosen : mentioned m.task m.is_in (is_ready (standing_of standings t)) t ≡ is_ready (standing_of standings t) =
-      ap (λ (b : Bool). if b then m.is_in else is_ready (standing_of standings t)) (ne_eqb m.task t differs) in
-      ap is_ready (get_or-set_other standings m.task t (standing_after m.is_in) Unmentioned (λ e. differs (sym e))) ∙ sym chosen)
+      let chosen : mentioned m.task m.is_in (says_ready (standing_of standings t)) t ≡ says_ready (standing_of standings t) =
+      ap (λ (b : Bool). if b then m.is_in else says_ready (standing_of standings t)) (ne_eqb m.task t differs) in
+      ap says_ready (get_or-set_other standings m.task t (standing_after m.is_in) Unmentioned (λ e. differs (sym e))) ∙ sym chosen)
 ]
 
 pub agreed : (a b : Bool) → agrees a b ≡ true → a ≡ b
@@ -142,8 +151,8 @@ agreed false false e = refl
 
 -- what events and mentions say beside what is known
 pub record Tells (c : CourseData) (ms : List Readiness) : Type 0 where
-  pub ready : (t : ℕ) → is_ready_after t c.events ≡ is_ready (standing_of c.standings t)
-  pub said : (t : ℕ) → is_last_in t ms ≡ is_ready (standing_of c.standings t)
+  pub ready : (t : ℕ) → is_ready_after t c.events ≡ says_ready (standing_of c.standings t)
+  pub said : (t : ℕ) → is_last_in t ms ≡ says_ready (standing_of c.standings t)
   pub changing : AllChange [] c.events
 
 -- a mention of a task that it finds so changes nothing
@@ -161,13 +170,13 @@ disagreed false true before task e fails = e
 disagreed false false before task e fails = cc
 
 module _ (c : CourseData) (ms : List Readiness) (m : Readiness) (tells : Tells c ms) (within : m.task < length c.standings) where
-  said_more : (t : ℕ) → is_last_in t (ms ++ m ∷ []) ≡ is_ready (standing_of (set c.standings m.task (standing_after m.is_in)) t)
+  said_more : (t : ℕ) → is_last_in t (ms ++ m ∷ []) ≡ says_ready (standing_of (set c.standings m.task (standing_after m.is_in)) t)
   said_more t =
       fold_append (mention_says t) false ms (m ∷ [])
       ∙ ap (λ (before : Bool). mentioned m.task m.is_in before t) (tells.said t)
       ∙ sym (standing_mentions c.standings m t within)
 
-  pub step_tells : (b : Bool) → agrees (is_ready (standing_of c.standings m.task)) m.is_in ≡ b
+  pub step_tells : (b : Bool) → agrees (says_ready (standing_of c.standings m.task)) m.is_in ≡ b
       → Tells (if b
       then record c { standings = set c.standings m.task (standing_after m.is_in) }
       else record c {
@@ -178,8 +187,9 @@ module _ (c : CourseData) (ms : List Readiness) (m : Readiness) (tells : Tells c
   step_tells true same = record {
     ready = λ t.
         (tells.ready t
-        ∙ same_mention (is_ready (standing_of c.standings t)) m.is_in m.task t
-        (λ here. subst (λ (n : ℕ). is_ready (standing_of c.standings n) ≡ m.is_in) here (agreed (is_ready (standing_of c.standings m.task)) m.is_in same))
+        ∙ same_mention (says_ready (standing_of c.standings t)) m.is_in m.task t
+        (λ here. subst (λ (n : ℕ). says_ready (standing_of c.standings n) ≡ m.is_in) here
+        (agreed (says_ready (standing_of c.standings m.task)) m.is_in same))
         ∙ sym (standing_mentions c.standings m t within));
     said = said_more;
     changing = tells.changing;
@@ -188,16 +198,19 @@ module _ (c : CourseData) (ms : List Readiness) (m : Readiness) (tells : Tells c
     ready = λ t.
         (fold_append (posted_says t) false (written c) (on_first_stream (event_of m) ∷ [])
         ∙ ap (λ (before : Bool). event_says t before (event_of m)) (written_says t c ∙ tells.ready t)
-        ∙ event_mentions t (is_ready (standing_of c.standings t)) m
+        ∙ event_mentions t (says_ready (standing_of c.standings t)) m
         ∙ sym (standing_mentions c.standings m t within));
     said = said_more;
     changing =
-        change_append [] (written c) (on_first_stream (event_of m) ∷ []) (change_written c tells.changing)
-        (disagreed (is_ready (standing_of c.standings m.task)) m.is_in (written c) m.task (written_says m.task c ∙ tells.ready m.task) other, tt);
+        change_append [] (written c) (on_first_stream (event_of m) ∷ []) (change_written c tells.changing) (
+          disagreed (says_ready (standing_of c.standings m.task)) m.is_in (written c) m.task (written_says m.task c ∙ tells.ready m.task)
+              other,
+          tt,
+        );
   }
 
   mention_tells : Tells (after_mention c m) (ms ++ m ∷ [])
-  mention_tells = step_tells (agrees (is_ready (standing_of c.standings m.task)) m.is_in) refl
+  mention_tells = step_tells (agrees (says_ready (standing_of c.standings m.task)) m.is_in) refl
 
 -- ---- the mentions of a line, one after another
 pub step_length : (b : Bool) (c : CourseData) (m : Readiness) → length (if b
@@ -210,11 +223,12 @@ pub step_length : (b : Bool) (c : CourseData) (m : Readiness) → length (if b
 step_length true c m = length-set c.standings m.task (standing_after m.is_in)
 step_length false c m = length-set c.standings m.task (standing_after m.is_in)
 
-mentions_tell : (c : CourseData) (ms more : List Readiness) → Tells c ms → AreTasks (length c.standings) more → Tells (after_mentions c more) (ms ++ more)
+mentions_tell : (c : CourseData) (ms more : List Readiness) → Tells c ms → AreTasks (length c.standings) more
+    → Tells (after_mentions c more) (ms ++ more)
 mentions_tell c ms [] tells tasks = subst (Tells c) (sym (append-nil ms)) tells
 mentions_tell c ms (m ∷ more) tells tasks =
     let first = mention_tells c ms m tells (All-head (λ (m : Readiness). m.task < length c.standings) m more tasks) in
-    let same = step_length (agrees (is_ready (standing_of c.standings m.task)) m.is_in) c m in
+    let same = step_length (agrees (says_ready (standing_of c.standings m.task)) m.is_in) c m in
     let rest = mentions_tell (after_mention c m) (ms ++ m ∷ []) more first
     (subst (λ (n : ℕ). AreTasks n more) (sym same) (All-tail (λ (m : Readiness). m.task < length c.standings) m more tasks)) in
     subst (Tells (after_mentions c (m ∷ more))) (append_assoc ms (m ∷ []) more) rest
@@ -239,9 +253,15 @@ step_stays false c m = record { set = refl; ids = refl; window = refl; standings
 mentions_stay : (c d : CourseData) (ms : List Readiness) → Stays c d → Stays c (after_mentions d ms)
 mentions_stay c d [] stays = stays
 mentions_stay c d (m ∷ ms) stays =
-    let next = step_stays (agrees (is_ready (standing_of d.standings m.task)) m.is_in) d m in
+    let next = step_stays (agrees (says_ready (standing_of d.standings m.task)) m.is_in) d m in
     mentions_stay c (after_mention d m) ms
-    (record { set = next.set ∙ stays.set; ids = next.ids ∙ stays.ids; window = next.window ∙ stays.window; standings = next.standings ∙ stays.standings })
+    (record {
+      set = next.set ∙ stays.set;
+      ids = next.ids ∙ stays.ids;
+      window = next.window ∙ stays.window;
+      standings = next.standings
+          ∙ stays.standings;
+    })
 
 -- ---- lines, one after another
 -- what holds over a line: the mentions are told, and the tasks stay the same
@@ -258,7 +278,8 @@ module _ (waking : Bool) (head : CourseData) (one_each : length head.standings �
 
   -- a line, by whether it is in the window
   timed_follows : (b : Bool) (c : CourseData) (ms : List Readiness) (time : ℕ) (change : Change) → Follows head c ms
-      → Follows head (if b then after_mentions (record c { last = Some time; used = Some time }) (mentions c.ids change) else record c { last = Some time })
+      → Follows head (if b then after_mentions (record c { last = Some time; used = Some time }) (mentions c.ids change)
+      else record c { last = Some time })
       (ms ++ (if b then mentions c.ids change else []))
   timed_follows true c ms time change follows =
       let now : CourseData = record c { last = Some time; used = Some time } in
@@ -290,7 +311,8 @@ module _ (waking : Bool) (head : CourseData) (one_each : length head.standings �
   said_follows c ms Malformed follows = unchanged c ms follows
   said_follows c ms (Happened time change) follows =
       let stays = follows.stays in
-      let P : List ℕ → Option WindowData → Type 0 = λ ids window. Follows head (after_said c (Happened time change)) (ms ++ mentions_said ids window (Happened time change)) in
+      let P : List ℕ → Option WindowData → Type 0 = λ ids window. Follows head (after_said c (Happened time change))
+      (ms ++ mentions_said ids window (Happened time change)) in
       subst (λ (window : Option WindowData). P head.ids window) stays.window
       (subst (λ (ids : List ℕ). P ids c.window) stays.ids (timed_follows (is_in_window c.window time) c ms time change follows))
 
@@ -300,21 +322,23 @@ module _ (waking : Bool) (head : CourseData) (one_each : length head.standings �
   lines_follow c ms (line ∷ rest) follows =
       let said : Said = said_by waking (fields_of line) in
       let first = said_follows c ms said follows in
-      subst (Follows head (course_after waking c (line ∷ rest))) (append_assoc ms (mentions_said head.ids head.window said) (mentions_in waking head.ids head.window rest))
+      subst (Follows head (course_after waking c (line ∷ rest)))
+      (append_assoc ms (mentions_said head.ids head.window said) (mentions_in waking head.ids head.window rest))
       (lines_follow (after_said c said) (ms ++ mentions_said head.ids head.window said) rest first)
 
   -- from a head on
   pub head_follows : IsHead head → Follows head head []
   head_follows is = record {
     tells = record {
-      ready = λ t. (ap (is_ready_after t) is.no_events ∙ sym (ap is_ready (is.unmentioned t)));
-      said = λ t. sym (ap is_ready (is.unmentioned t));
+      ready = λ t. (ap (is_ready_after t) is.no_events ∙ sym (ap says_ready (is.unmentioned t)));
+      said = λ t. sym (ap says_ready (is.unmentioned t));
       changing = subst (AllChange []) (sym is.no_events) tt;
     };
     stays = record { set = refl; ids = refl; window = refl; standings = refl };
   }
 
-  trace_follows : IsHead head → (lines : List (List ℕ)) → Tells (course_after waking head lines) (mentions_in waking head.ids head.window lines)
+  trace_follows : IsHead head → (lines : List (List ℕ))
+      → Tells (course_after waking head lines) (mentions_in waking head.ids head.window lines)
   trace_follows is lines = let all = lines_follow head [] lines (head_follows is) in all.tells
 
 pub ready_as_mentioned : ReadyAsMentioned

@@ -9,7 +9,8 @@ use Rattle.kernel_trace.specs.Stamp.{microsecond}
 use Rattle.trace_passages.specs.Passages.{ArePassages}
 use Rattle.trace_passages.specs.declared.passage.Passage.{Passage}
 
-at_least : (moment : ℕ) (passages : List Passage) (k : ℕ) (passage : Passage) → NeverFall moment passages → slice_get passages k ≡ Some passage
+at_least : (moment : ℕ) (passages : List Passage) (k : ℕ) (passage : Passage) → NeverFall moment passages
+    → slice_get passages k ≡ Some passage
     → moment ≤ passage.moment
 at_least moment [] k passage rise e = cc
 at_least moment (next ∷ rest) zero passage rise e = let same : next ≡ passage = cc in subst (λ (p : Passage). moment ≤ p.moment) same rise.0
@@ -29,7 +30,8 @@ rising moment (next ∷ rest) zero (suc l) one other rise order e f =
     let same : next ≡ one = cc in
     subst (λ (p : Passage). p.moment ≤ other.moment) same (at_least next.moment rest l other rise.1 f)
 rising moment (next ∷ rest) (suc k) zero one other rise order e f = absurd (omega (arith, order))
-rising moment (next ∷ rest) (suc k) (suc l) one other rise order e f = rising next.moment rest k l one other rise.1 (omega (arith, order)) e f
+rising moment (next ∷ rest) (suc k) (suc l) one other rise order e f =
+    rising next.moment rest k l one other rise.1 (omega (arith, order)) e f
 
 -- the first moment is that of the first line since itself
 begins : (lines : List UsedLine) (passage : Passage) → slice_get (passages_since lines) 0 ≡ Some passage → passage.moment ≡ 0
@@ -38,7 +40,8 @@ begins (first ∷ rest) passage e =
     let same : passage_since first.time first ≡ passage = cc in
     sym (ap (λ (p : Passage). p.moment) same) ∙ sub_self (microsecond first.time)
 
-pub passages_in_order : (count : ℕ) (lines : List UsedLine) (passages : List Passage) → passages ≡ passages_since lines → NeverFall 0 passages
+pub passages_in_order : (count : ℕ) (lines : List UsedLine) (passages : List Passage) → passages ≡ passages_since lines
+    → NeverFall 0 passages
     → All (IsPassageOf count) passages → ArePassages count count passages
 passages_in_order count lines passages are rise of_set = record {
   all = omega arith;

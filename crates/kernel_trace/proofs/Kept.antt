@@ -1,5 +1,6 @@
 -- The passages that are kept are those of the lines.
-use Rattle.std.proofs.Common.{◌≡◌, ℕ, ◌+◌, ◌<◌, ◌≤◌, Bool, true, false, nat_lt, nat_eq, List, [], ◌∷◌, ◌++◌, length, Option, None, Some, refl, sym, ap, ◌∙◌, subst, arith, append_assoc, append-nil}
+use Rattle.std.proofs.Common.{◌≡◌, ℕ, ◌+◌, ◌<◌, ◌≤◌, Bool, true, false, nat_lt, nat_eq, List, [], ◌∷◌, ◌++◌, length, Option, None, Some}
+use Rattle.std.proofs.Common.{refl, sym, ap, ◌∙◌, subst, arith, append_assoc, append-nil}
 use Rattle.std.specs.Prelude.{All, position, is_some, ◌||◌, option_to_list, if◌then◌else◌}
 use Rattle.std.specs.Option.{ForSome, option_map}
 use Rattle.std.proofs.lemmas.Bool.{ltb-true}
@@ -8,8 +9,11 @@ use Rattle.text_fields.specs.Machine.{Leads, Fails}
 use Rattle.task_set.specs.TaskSet.{SetData}
 use Rattle.kernel_trace.specs.Course.{CourseData, WindowData, mentions, is_unseen, is_backward, is_in_window}
 use Rattle.kernel_trace.specs.Import.{mentions_said}
-use Rattle.kernel_trace.specs.Passage.{task_of, task_change, turn_of, first_mention, second_mention, changing, marked, FollowingData, FollowingOutcome, after_marks, start_after, kept_outcome, marked_outcome, used_outcome, timed_outcome, told_outcome, said_outcome, span_of}
-use Rattle.kernel_trace.specs.Passages.{UsedLine, turning, used_line, used_told, used_said, turns, from_turn, first_use, passage_since, passages_since, all_changes, AllTurn, NeverFall, IsPassageOf}
+use Rattle.kernel_trace.specs.Passage.{task_of, task_change, turn_of, first_mention, second_mention, changing, marked, FollowingData}
+use Rattle.kernel_trace.specs.Passage.{FollowingOutcome, after_marks, start_after, kept_outcome, marked_outcome, used_outcome}
+use Rattle.kernel_trace.specs.Passage.{timed_outcome, told_outcome, said_outcome, span_of}
+use Rattle.kernel_trace.specs.Passages.{UsedLine, turning, used_line, used_told, used_said, turns, from_turn, first_use, passage_since}
+use Rattle.kernel_trace.specs.Passages.{passages_since, all_changes, AllTurn, NeverFall, IsPassageOf}
 use Rattle.kernel_trace.specs.Reading.{IsCourse}
 use Rattle.kernel_trace.specs.Stamp.{microsecond}
 use Rattle.kernel_trace.specs.TraceLine.{Said as SaidData, Nothing, LostEvents, Malformed, Happened}
@@ -27,7 +31,8 @@ use Rattle.trace_passages.specs.declared.turn.Turn.TheVariants as turn
 use Rattle.kernel_trace.proofs.Decided.{not_above, with_times, with_last}
 use Rattle.kernel_trace.proofs.Followed.{same_following, faulty, marks_valid}
 use Rattle.kernel_trace.proofs.Positions.{position_some}
-use Rattle.kernel_trace.proofs.Turns.{Said, Named, IsKnown, mark_said, mark_named, changing_is, change_said, turn_append, change_turns, mentions_are, from_none, from_some, passages_more, changes_append, span_append, fall_append}
+use Rattle.kernel_trace.proofs.Turns.{Said, Named, IsKnown, mark_said, mark_named, changing_is, change_said, turn_append, change_turns}
+use Rattle.kernel_trace.proofs.Turns.{mentions_are, from_none, from_some, passages_more, changes_append, span_append, fall_append}
 
 -- ---- tasks of a line
 mention_known : (count : ℕ) (is_in : Bool) (found : Option ℕ) → ((k : ℕ) → found ≡ Some k → k < count)
@@ -64,7 +69,8 @@ IsAboutTasks count (task.Wakeup woken) = ForSome woken (λ t. t < count)
 IsAboutTasks count (task.Switch processor from to) = ForSome from (λ t. t < count) × ForSome to (λ t. t < count)
 
 -- and so is what it says of who runs where
-turn_about : (count : ℕ) (told : TaskChange) (first : Option Readiness) → IsAboutTasks count told → ForSome (turn_of told first) (AreThreads count)
+turn_about : (count : ℕ) (told : TaskChange) (first : Option Readiness) → IsAboutTasks count told
+    → ForSome (turn_of told first) (AreThreads count)
 turn_about count (task.Wakeup None) first about = λ turned is. cc
 turn_about count (task.Wakeup (Some woken)) None about = λ turned is. cc
 turn_about count (task.Wakeup (Some woken)) (Some mention) about =
@@ -89,7 +95,8 @@ IsSince None last span = span ≡ 0
 IsSince (Some start) None span = ⊥
 IsSince (Some start) (Some last) span = microsecond start + span ≤ microsecond last
 
-since_later : (start last : Option ℕ) (span time : ℕ) → IsSince start last span → is_backward last time ≡ false → IsSince start (Some time) span
+since_later : (start last : Option ℕ) (span time : ℕ) → IsSince start last span → is_backward last time ≡ false
+    → IsSince start (Some time) span
 since_later None last span time since forward = since
 since_later (Some start) None span time since forward = absurd since
 since_later (Some start) (Some last) span time since forward = let most = not_above time last forward in omega (arith, since, most)
@@ -110,7 +117,8 @@ pub record Kept (head c : CourseData) (f : FollowingData) (ms : List Readiness) 
   pub of_set : All (IsPassageOf (length c.set.tasks)) f.passages
 
 -- a line leads on, and what was kept before it stays
-pub record Stepped (head : CourseData) (before : List Passage) (next : FollowingData) (ms : List Readiness) (used : List UsedLine) : Type 0 where
+pub record Stepped (head : CourseData) (before : List Passage) (next : FollowingData) (ms : List Readiness)
+    (used : List UsedLine) : Type 0 where
   pub course : CourseData
   pub expects : next.progress ≡ Tracing course
   pub kept : Kept head course next ms used
@@ -118,7 +126,8 @@ pub record Stepped (head : CourseData) (before : List Passage) (next : Following
   pub grows : next.passages ≡ before ++ later
 
 -- ---- a used line
-module _ (head c : CourseData) (f : FollowingData) (ms : List Readiness) (used : List UsedLine) (time : ℕ) (change : Change) (told : TaskChange)
+module _ (head c : CourseData) (f : FollowingData) (ms : List Readiness) (used : List UsedLine) (time : ℕ) (change : Change)
+    (told : TaskChange)
     (kept : Kept head c f ms used) (now : c.last ≡ Some time) (about : IsAboutTasks (length c.set.tasks) told) where
   abbrev first : Option Readiness
   first = first_mention c.ids change
@@ -155,13 +164,15 @@ module _ (head c : CourseData) (f : FollowingData) (ms : List Readiness) (used :
   said_then : Said after.standings (ms ++ mentions c.ids change)
   said_then =
       subst (Said after.standings)
-      (append_assoc ms (option_to_list first) (option_to_list second) ∙ ap (λ (all : List Readiness). ms ++ all) (sym (mentions_are c.ids change)))
+      (append_assoc ms (option_to_list first) (option_to_list second)
+      ∙ ap (λ (all : List Readiness). ms ++ all) (sym (mentions_are c.ids change)))
       (mark_said between (ms ++ option_to_list first) second known_second (mark_said c.standings ms first known_first kept.said))
 
   named_then : Named after.standings (ms ++ mentions c.ids change)
   named_then =
       subst (Named after.standings)
-      (append_assoc ms (option_to_list first) (option_to_list second) ∙ ap (λ (all : List Readiness). ms ++ all) (sym (mentions_are c.ids change)))
+      (append_assoc ms (option_to_list first) (option_to_list second)
+      ∙ ap (λ (all : List Readiness). ms ++ all) (sym (mentions_are c.ids change)))
       (mark_named between (ms ++ option_to_list first) second known_second (mark_named c.standings ms first known_first kept.named))
 
   told_first : Said between (all_changes f.passages ++ option_to_list line.first)
@@ -176,18 +187,22 @@ module _ (head c : CourseData) (f : FollowingData) (ms : List Readiness) (used :
   turned_then =
       let one = change_turns c.standings (all_changes f.passages) first kept.told in
       let two = change_turns between (all_changes f.passages ++ option_to_list line.first) second told_first in
-      turn_append [] (all_changes f.passages) more kept.turned (turn_append (all_changes f.passages) (option_to_list line.first) (option_to_list line.second) one two)
+      turn_append [] (all_changes f.passages) more kept.turned
+      (turn_append (all_changes f.passages) (option_to_list line.first) (option_to_list line.second) one two)
 
   -- the line is the one that the mentions before it make
   line_is : line ≡ used_line c.ids ms time change told
   line_is =
-      let made : Option Readiness → Option Readiness → UsedLine = λ one two. record { time = time; change = told; first = one; second = two } in
+      let made : Option Readiness → Option Readiness
+      → UsedLine = λ one two. record { time = time; change = told; first = one; second = two } in
       ap (λ (one : Option Readiness). made one (changing between second)) (changing_is c.standings ms first kept.said)
-      ∙ ap (made (turning ms first)) (changing_is between (ms ++ option_to_list first) second (mark_said c.standings ms first known_first kept.said))
+      ∙ ap (made (turning ms first)) (changing_is between (ms ++ option_to_list first) second
+      (mark_said c.standings ms first known_first kept.said))
 
   -- one passage more
   module _ (start : ℕ) (lines : List UsedLine) (from : from_turn (used ++ line ∷ []) ≡ lines) (begins : first_use lines ≡ Some start)
-      (all : passages_since lines ≡ f.passages ++ passage_since start line ∷ []) (since : microsecond start + span_of f.passages ≤ microsecond time) where
+      (all : passages_since lines ≡ f.passages ++ passage_since start line ∷ [])
+      (since : microsecond start + span_of f.passages ≤ microsecond time) where
     abbrev passage : Passage
     passage = passage_since start line
 
@@ -205,8 +220,10 @@ module _ (head c : CourseData) (f : FollowingData) (ms : List Readiness) (used :
         record {
           tasks = record {
             turn = turn_about (length c.set.tasks) told line.first about;
-            first = subst (λ (n : ℕ). ForSome line.first (λ (m : Readiness). m.task < n)) valid.ids (changing_known (length c.ids) c.standings first (first_known c.ids change));
-            second = subst (λ (n : ℕ). ForSome line.second (λ (m : Readiness). m.task < n)) valid.ids (changing_known (length c.ids) between second (second_known c.ids change));
+            first = subst (λ (n : ℕ). ForSome line.first (λ (m : Readiness). m.task < n)) valid.ids
+                (changing_known (length c.ids) c.standings first (first_known c.ids change));
+            second = subst (λ (n : ℕ). ForSome line.second (λ (m : Readiness). m.task < n)) valid.ids
+                (changing_known (length c.ids) between second (second_known c.ids change));
           };
           moment = short;
         }
@@ -234,7 +251,8 @@ module _ (head c : CourseData) (f : FollowingData) (ms : List Readiness) (used :
         → ◌≡◌ {A = FollowingOutcome} (Leads found) (if b then Leads next else Fails ManyEvents)
         → Stepped head f.passages found (ms ++ mentions c.ids change) (used ++ line ∷ [])
     passage_steps true found short e =
-        subst (λ (found : FollowingData). Stepped head f.passages found (ms ++ mentions c.ids change) (used ++ line ∷ [])) (sym (same_following found next e))
+        subst (λ (found : FollowingData). Stepped head f.passages found (ms ++ mentions c.ids change) (used ++ line ∷ []))
+        (sym (same_following found next e))
         (record {
           course = after;
           expects = refl;
@@ -249,7 +267,8 @@ module _ (head c : CourseData) (f : FollowingData) (ms : List Readiness) (used :
 
   -- there was a change before
   started : (start : ℕ) (lines : List UsedLine) (found : FollowingData) → f.start ≡ Some start → from_turn used ≡ lines
-      → ◌≡◌ {A = FollowingOutcome} (Leads found) (kept_outcome (record f { progress = Tracing after }) (Some start) time told line.first line.second)
+      → ◌≡◌ {A = FollowingOutcome} (Leads found)
+      (kept_outcome (record f { progress = Tracing after }) (Some start) time told line.first line.second)
       → Steps found
   started start [] found begins from e =
       let none : ◌≡◌ {A = Option ℕ} (Some start) None = sym begins ∙ kept.start ∙ ap first_use from in cc
@@ -268,7 +287,8 @@ module _ (head c : CourseData) (f : FollowingData) (ms : List Readiness) (used :
   -- there was none
   nothing_yet : (lines : List UsedLine) → f.start ≡ None → from_turn used ≡ lines → from_turn used ≡ []
   nothing_yet [] begins from = from
-  nothing_yet (one ∷ rest) begins from = let none : ◌≡◌ {A = Option ℕ} None (Some one.time) = sym begins ∙ kept.start ∙ ap first_use from in cc
+  nothing_yet (one ∷ rest) begins from =
+      let none : ◌≡◌ {A = Option ℕ} None (Some one.time) = sym begins ∙ kept.start ∙ ap first_use from in cc
 
   starting : (changes : Bool) (found : FollowingData) → f.start ≡ None → turns line ≡ changes
       → ◌≡◌ {A = FollowingOutcome} (Leads found)
@@ -299,7 +319,8 @@ module _ (head c : CourseData) (f : FollowingData) (ms : List Readiness) (used :
           valid = marks_valid c first second kept.valid;
           said = said_then;
           named = named_then;
-          told = subst (Said after.standings) (ap (λ (last : List Readiness). all_changes f.passages ++ last) no_more ∙ append-nil (all_changes f.passages)) told_then;
+          told = subst (Said after.standings) (ap (λ (last : List Readiness). all_changes f.passages ++ last) no_more
+              ∙ append-nil (all_changes f.passages)) told_then;
           passages = kept.passages ∙ ap passages_since (none ∙ sym from);
           start = kept.start ∙ ap first_use (none ∙ sym from);
           turned = kept.turned;
@@ -334,7 +355,8 @@ module _ (head c : CourseData) (f : FollowingData) (ms : List Readiness) (used :
       → Stepped head f.passages found (ms ++ mentions c.ids change) (used ++ used_line c.ids ms time change told ∷ [])
   used_steps true found e = faulty found Unseen e
   used_steps false found e =
-      subst (λ (made : UsedLine). Stepped head f.passages found (ms ++ mentions c.ids change) (used ++ made ∷ [])) line_is (line_steps found e)
+      subst (λ (made : UsedLine). Stepped head f.passages found (ms ++ mentions c.ids change) (used ++ made ∷ [])) line_is
+      (line_steps found e)
 
 -- ---- a line of the trace
 abbrev clock_at : Bool → CourseData → ℕ → CourseData
@@ -392,7 +414,8 @@ module _ (head c : CourseData) (f next : FollowingData) (ms : List Readiness) (u
       })))
 
   -- a line with its form, by whether it is in the window
-  timed_steps : (b : Bool) (time : ℕ) (change : Change) (told : TaskChange) → is_backward c.last time ≡ false → IsAboutTasks (length c.set.tasks) told
+  timed_steps : (b : Bool) (time : ℕ) (change : Change) (told : TaskChange) → is_backward c.last time ≡ false
+      → IsAboutTasks (length c.set.tasks) told
       → ◌≡◌ {A = FollowingOutcome} (Leads next)
       (if b then used_outcome f (clock_at b c time) time change told else Leads (record f { progress = Tracing (clock_at b c time) }))
       → Stepped head f.passages next (ms ++ (if b then mentions c.ids change else []))
@@ -405,7 +428,8 @@ module _ (head c : CourseData) (f next : FollowingData) (ms : List Readiness) (u
       unkept (clock_at false c time) later (same_following next later e) refl refl (clock_kept false later time forward refl refl)
 
   -- a line with a change, by what it says of tasks
-  told_steps : (told : Option TaskChange) (time : ℕ) (change : Change) → ((some : TaskChange) → told ≡ Some some → IsAboutTasks (length c.set.tasks) some)
+  told_steps : (told : Option TaskChange) (time : ℕ) (change : Change)
+      → ((some : TaskChange) → told ≡ Some some → IsAboutTasks (length c.set.tasks) some)
       → ◌≡◌ {A = FollowingOutcome} (Leads next) (told_outcome f c time change told)
       → Stepped head f.passages next (ms ++ (if is_in_window c.window time then mentions c.ids change else []))
       (used ++ (if is_in_window c.window time then used_told c.ids ms time change told else []))
@@ -421,7 +445,8 @@ module _ (head c : CourseData) (f next : FollowingData) (ms : List Readiness) (u
 
   pub said_steps : (said : SaidData) (processor : Option ℕ) → f.progress ≡ Tracing c
       → ◌≡◌ {A = FollowingOutcome} (Leads next) (said_outcome f c said processor)
-      → Stepped head f.passages next (ms ++ mentions_said head.ids head.window said) (used ++ used_said head.ids head.window ms said processor)
+      → Stepped head f.passages next (ms ++ mentions_said head.ids head.window said)
+      (used ++ used_said head.ids head.window ms said processor)
   said_steps Nothing processor expected e = unkept c f (same_following next f e) expected refl kept
   said_steps LostEvents processor expected e = faulty next Lost e
   said_steps Malformed processor expected e = faulty next BadForm e

@@ -9,7 +9,8 @@ use Rattle.kernel_trace.specs.declared.loss_text.LossRow.{LossRow}
 
 -- ---- a line
 pieces : (old a b c d e f g h i j k l m n : List ℕ)
-    → old ++ a ++ b ++ c ++ d ++ e ++ f ++ g ++ h ++ i ++ j ++ k ++ l ++ m ++ n ≡ old ++ (a ++ b ++ c ++ d ++ e ++ f ++ g ++ h ++ i ++ j ++ k ++ l ++ m ++ n)
+    → old ++ a ++ b ++ c ++ d ++ e ++ f ++ g ++ h ++ i ++ j ++ k ++ l ++ m ++ n ≡ old
+    ++ (a ++ b ++ c ++ d ++ e ++ f ++ g ++ h ++ i ++ j ++ k ++ l ++ m ++ n)
 pieces old a b c d e f g h i j k l m n = simp append_assoc
 
 pub row_written : (set : SetData) (clock : Option ℕ) (row : LossRow) (t0 t1 t2 t3 t4 t5 t6 t7 t8 t9 : List ℕ)
@@ -22,7 +23,8 @@ unfolding row_text
 row_written set clock row t0 t1 t2 t3 t4 t5 t6 t7 t8 t9 e1 e2 e3 e4 e5 e6 e7 e8 e9 =
     rw (e9, e8, e7, e6, e5, e4, e3, e2, e1)
     (pieces t0 (codes " ready ") (canonical_number row.ready) (codes " ran ") (canonical_number row.ran) (codes " lost ")
-    (canonical_number row.lost) (codes " over ") (canonical_number row.over) (codes " longest ") (canonical_number row.longest) (codes " at ")
+    (canonical_number row.lost) (codes " over ") (canonical_number row.over) (codes " longest ") (canonical_number row.longest)
+    (codes " at ")
     (moment_text clock row.longest row.first) (codes " while ") (rival_text set row.rival))
 
 line_pieces : (old a b c : List ℕ) → old ++ a ++ b ++ c ≡ old ++ ((a ++ b) ++ c)
@@ -45,7 +47,8 @@ span_written clock span t0 t1 t2 t3 t4 e1 e2 e3 e4 =
 end_pieces : (a b c d e : List ℕ) → [] ++ a ++ b ++ c ++ d ++ (10 ∷ e) ≡ a ++ b ++ c ++ (d ++ 10 ∷ []) ++ e
 end_pieces a b c d e = simp append_assoc
 
-pub text_written : (set : SetData) (clock : Option ℕ) (span : ℕ) (rows : List (Option LossRow)) (jumps : ℕ) (t0 t1 t2 t3 t4 : List ℕ) → t0 ≡ []
+pub text_written : (set : SetData) (clock : Option ℕ) (span : ℕ) (rows : List (Option LossRow)) (jumps : ℕ) (t0 t1 t2 t3 t4 : List ℕ)
+    → t0 ≡ []
     → t1 ≡ t0 ++ span_text clock span → t2 ≡ t1 ++ loss_lines set clock 0 rows → t3 ≡ t2 ++ codes "jumps " ++ canonical_number jumps
     → t4 ≡ t3 ++ codes "\nend\n" → t4 ≡ loss_text set clock span rows jumps
 unfolding loss_text

@@ -1,15 +1,18 @@
 -- What is read of a trace are its passages.
-use Rattle.std.proofs.Common.{◌≡◌, ℕ, zero, suc, ◌+◌, Bool, true, false, List, [], ◌∷◌, ◌++◌, length, take, None, refl, sym, ap, ◌∙◌, subst, inl, inr, append_assoc, append-nil}
+use Rattle.std.proofs.Common.{◌≡◌, ℕ, zero, suc, ◌+◌, Bool, true, false, List, [], ◌∷◌, ◌++◌, length, take, None, refl, sym, ap, ◌∙◌, subst}
+use Rattle.std.proofs.Common.{inl, inr, append_assoc, append-nil}
 use Rattle.std.specs.Prelude.{All, slice_index_or, if◌then◌else◌}
 use Rattle.std.proofs.Math.ListN.{get_or-map}
 use Rattle.std.proofs.lemmas.List.{length-map}
 use Rattle.std.proofs.lemmas.List.Elements.{All-nil}
 use Rattle.text_fields.specs.Lines.{lines_of, fields_of}
 use Rattle.text_fields.specs.Machine.{Outcome, Leads, Fails, Answer, IsText, Refuses, answer_at_end, IsAnswer}
-use Rattle.kernel_trace.specs.Course.{CourseData, is_ready, is_mentioned, names_task}
+use Rattle.kernel_trace.specs.Course.{CourseData, says_ready, is_mentioned, names_task}
 use Rattle.kernel_trace.specs.Import.{mentions_said, mentions_in, is_last_in, IsHead}
-use Rattle.kernel_trace.specs.Passage.{FollowingData, FollowingOutcome, TaskTraceData, clock_of, trace_of, IsFollowed, IsFollowedEnd, IsLineAt, IsEndAt, IsOfHead}
-use Rattle.kernel_trace.specs.Passages.{UsedLine, used_said, used_lines, from_turn, passages_since, passages_in, all_changes, NeverFall, AllTurn, IsPassageOf, IsTaskTrace, PassagesAreFaithful}
+use Rattle.kernel_trace.specs.Passage.{FollowingData, FollowingOutcome, TaskTraceData, clock_of, trace_of, IsFollowed, IsFollowedEnd}
+use Rattle.kernel_trace.specs.Passage.{IsLineAt, IsEndAt, IsOfHead}
+use Rattle.kernel_trace.specs.Passages.{UsedLine, used_said, used_lines, from_turn, passages_since, passages_in, all_changes, NeverFall}
+use Rattle.kernel_trace.specs.Passages.{AllTurn, IsPassageOf, IsTaskTrace, PassagesAreFaithful}
 use Rattle.kernel_trace.specs.Processor.{processor_of}
 use Rattle.kernel_trace.specs.Reading.{IsCourse}
 use Rattle.kernel_trace.specs.Survey.{SurveyData, survey_of, is_gap}
@@ -47,13 +50,15 @@ module _ (look : SurveyData) (head : CourseData) (trace : TaskTraceData) where
   met ms used lines = used ++ used_lines look.waking head.ids head.window ms lines
 
   -- one line
-  line_steps : (c : CourseData) (f next : FollowingData) (ms : List Readiness) (used : List UsedLine) (line : List ℕ) → f.progress ≡ Tracing c
+  line_steps : (c : CourseData) (f next : FollowingData) (ms : List Readiness) (used : List UsedLine) (line : List ℕ)
+      → f.progress ≡ Tracing c
       → Kept head c f ms used → IsFollowed look f line (Leads next)
       → Stepped head f.passages next (ms ++ mentions_said head.ids head.window (said_by look.waking (fields_of line)))
       (used ++ used_said head.ids head.window ms (said_by look.waking (fields_of line)) (processor_of look.waking (fields_of line)))
   line_steps c f next ms used line expects kept comes =
       said_steps head c f next ms used kept (said_by look.waking (fields_of line)) (processor_of look.waking (fields_of line)) expects
-      (whole_leads (is_gap look c.window (fields_of line)) f next _ (subst (λ (p : Progress). IsLineAt look f p line (Leads next)) expects comes))
+      (whole_leads (is_gap look c.window (fields_of line)) f next _
+      (subst (λ (p : Progress). IsLineAt look f p line (Leads next)) expects comes))
 
   at_end : (b : Bool) (number : ℕ) (f : FollowingData) (c : CourseData) (last : Outcome TaskTraceData TraceKind)
       → last ≡ (if b then Leads (trace_of f c) else Fails NothingSaid)
@@ -74,7 +79,8 @@ module _ (look : SurveyData) (head : CourseData) (trace : TaskTraceData) where
     later : List Passage
     grows : trace.passages ≡ before ++ later
 
-  whole : (number : ℕ) (c : CourseData) (f : FollowingData) (ms : List Readiness) (used : List UsedLine) (lines : List (List ℕ)) → f.progress ≡ Tracing c
+  whole : (number : ℕ) (c : CourseData) (f : FollowingData) (ms : List Readiness) (used : List UsedLine) (lines : List (List ℕ))
+      → f.progress ≡ Tracing c
       → Kept head c f ms used → IsRest look number f lines trace → Whole (made ms lines) (met ms used lines) f.passages
   whole number c f ms used [] expects kept (last, ends, e) =
       let is = at_end (names_task c.standings) number f c last (subst (λ (p : Progress). IsEndAt f p last) expects ends) e in
@@ -96,7 +102,8 @@ module _ (look : SurveyData) (head : CourseData) (trace : TaskTraceData) where
       let seen = used_said head.ids head.window ms said (processor_of look.waking (fields_of line)) in
       let later = whole (number + 1) step.course next (ms ++ told) (used ++ seen) rest step.expects step.kept answer in
       let all : Whole (made ms (line ∷ rest)) (met ms used (line ∷ rest)) next.passages =
-      subst (λ (ms_all : List Readiness). Whole ms_all (met ms used (line ∷ rest)) next.passages) (append_assoc ms told (mentions_in look.waking head.ids head.window rest))
+      subst (λ (ms_all : List Readiness). Whole ms_all (met ms used (line ∷ rest)) next.passages)
+      (append_assoc ms told (mentions_in look.waking head.ids head.window rest))
       (subst (λ (used_all : List UsedLine). Whole (made (ms ++ told) rest) used_all next.passages)
       (append_assoc used seen (used_lines look.waking head.ids head.window (ms ++ told) rest)) later) in
       record {
@@ -116,7 +123,8 @@ module _ (look : SurveyData) (head : CourseData) (trace : TaskTraceData) where
     exact : passages ≡ passages_since (from_turn used)
     ready : (t : ℕ) → is_last_in t (all_changes passages) ≡ is_last_in t ms
 
-  here : (number : ℕ) (c : CourseData) (f : FollowingData) (ms : List Readiness) (used : List UsedLine) (lines : List (List ℕ)) → f.progress ≡ Tracing c
+  here : (number : ℕ) (c : CourseData) (f : FollowingData) (ms : List Readiness) (used : List UsedLine) (lines : List (List ℕ))
+      → f.progress ≡ Tracing c
       → Kept head c f ms used → IsRest look number f lines trace → First (ms ++ []) (used ++ [])
   here number c f ms used lines expects kept answer =
       let all = whole number c f ms used lines expects kept answer in
@@ -130,7 +138,8 @@ module _ (look : SurveyData) (head : CourseData) (trace : TaskTraceData) where
         ready = λ t. (kept.told t ∙ sym (kept.said t));
       }))
 
-  each : (n number : ℕ) (c : CourseData) (f : FollowingData) (ms : List Readiness) (used : List UsedLine) (lines : List (List ℕ)) → f.progress ≡ Tracing c
+  each : (n number : ℕ) (c : CourseData) (f : FollowingData) (ms : List Readiness) (used : List UsedLine) (lines : List (List ℕ))
+      → f.progress ≡ Tracing c
       → Kept head c f ms used → IsRest look number f lines trace → First (made ms (take n lines)) (met ms used (take n lines))
   each zero number c f ms used lines expects kept answer = here number c f ms used lines expects kept answer
   each (suc n) number c f ms used [] expects kept answer = here number c f ms used [] expects kept answer
@@ -141,8 +150,10 @@ module _ (look : SurveyData) (head : CourseData) (trace : TaskTraceData) where
       let told = mentions_said head.ids head.window said in
       let seen = used_said head.ids head.window ms said (processor_of look.waking (fields_of line)) in
       let later = each n (number + 1) step.course next (ms ++ told) (used ++ seen) rest step.expects step.kept answer in
-      subst (λ (all : List Readiness). First all (met ms used (line ∷ take n rest))) (append_assoc ms told (mentions_in look.waking head.ids head.window (take n rest)))
-      (subst (First (made (ms ++ told) (take n rest))) (append_assoc used seen (used_lines look.waking head.ids head.window (ms ++ told) (take n rest))) later)
+      subst (λ (all : List Readiness). First all (met ms used (line ∷ take n rest)))
+      (append_assoc ms told (mentions_in look.waking head.ids head.window (take n rest)))
+      (subst (First (made (ms ++ told) (take n rest)))
+      (append_assoc used seen (used_lines look.waking head.ids head.window (ms ++ told) (take n rest))) later)
 
   -- from a head on
   head_kept : IsHead head → IsCourse head → Kept head head (record { progress = Tracing head; start = None; passages = [] }) [] []
@@ -151,9 +162,9 @@ module _ (look : SurveyData) (head : CourseData) (trace : TaskTraceData) where
     ids = refl;
     window = refl;
     valid = valid;
-    said = λ t. sym (ap is_ready (is.unmentioned t));
+    said = λ t. sym (ap says_ready (is.unmentioned t));
     named = λ t. ap is_mentioned (is.unmentioned t);
-    told = λ t. sym (ap is_ready (is.unmentioned t));
+    told = λ t. sym (ap says_ready (is.unmentioned t));
     passages = refl;
     start = refl;
     turned = tt;
@@ -242,10 +253,12 @@ of_split bytes trace split =
       changing = subst (λ (p : List Passage). AllTurn [] (all_changes p)) (sym passages) kept.turned;
       of_set = of_set;
       in_order =
-          passages_in_order (length trace.set.tasks) (from_turn (used_lines look.waking head.ids head.window [] split.rest)) trace.passages exact rising of_set;
+          passages_in_order (length trace.set.tasks) (from_turn (used_lines look.waking head.ids head.window [] split.rest))
+          trace.passages exact rising of_set;
     }
 
 pub passages_are_faithful : PassagesAreFaithful
 passages_are_faithful bytes trace is =
     let look : SurveyData = survey_of (lines_of bytes) in
-    of_split bytes trace (head_split look (IsHeaded look trace) (no_end look trace) (line_leads look trace) 1 HeaderExpected (lines_of bytes) tt tt is)
+    of_split bytes trace (head_split look (IsHeaded look trace) (no_end look trace) (line_leads look trace) 1 HeaderExpected
+    (lines_of bytes) tt tt is)

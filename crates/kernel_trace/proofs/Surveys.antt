@@ -7,7 +7,8 @@ use Rattle.kernel_trace.specs.Survey.{has_wakeup, tells_of_overwriting, begins_o
 use Rattle.kernel_trace.specs.TraceLine.{event_in}
 
 -- ---- the word of a wakeup
-pub found_line : (lines after : List (List ℕ)) (line : List ℕ) → lines ≡ line ∷ after → has_wakeup line ≡ true → list_any has_wakeup lines ≡ true
+pub found_line : (lines after : List (List ℕ)) (line : List ℕ) → lines ≡ line ∷ after → has_wakeup line ≡ true
+    → list_any has_wakeup lines ≡ true
 found_line lines after line cut has = ap (list_any has_wakeup) cut ∙ ap (λ (b : Bool). b || list_any has_wakeup after) has
 
 pub passed_line : (lines after : List (List ℕ)) (line : List ℕ) → lines ≡ line ∷ after → has_wakeup line ≡ false
@@ -31,7 +32,8 @@ module _ (waking : Bool) (lines after : List (List ℕ)) (line : List ℕ) (cut 
       ap (begins_overwritten waking) cut ∙ ap (λ (b : Bool). begins_by b is_event (begins_overwritten waking after)) tells
       ∙ ap (λ (b : Bool). begins_by false b (begins_overwritten waking after)) event
 
-  pub no_event_here : tells_of_overwriting (fields_of line) ≡ false → is_event ≡ false → begins_overwritten waking lines ≡ begins_overwritten waking after
+  pub no_event_here : tells_of_overwriting (fields_of line) ≡ false → is_event ≡ false → begins_overwritten waking lines
+      ≡ begins_overwritten waking after
   no_event_here tells event =
       ap (begins_overwritten waking) cut ∙ ap (λ (b : Bool). begins_by b is_event (begins_overwritten waking after)) tells
       ∙ ap (λ (b : Bool). begins_by false b (begins_overwritten waking after)) event

@@ -1,14 +1,16 @@
 -- What mentions and passages say, one after another.
-use Rattle.std.proofs.Common.{◌≡◌, ℕ, ◌<◌, ◌≤◌, ◌==◌, Bool, true, false, set, eq-eqb, ne_eqb, inl, inr, List, [], ◌∷◌, ◌++◌, length, Option, None, Some, refl, sym, ap, ◌∙◌, subst, arith, append_assoc, append-nil}
+use Rattle.std.proofs.Common.{◌≡◌, ℕ, ◌<◌, ◌≤◌, ◌==◌, Bool, true, false, set, eq-eqb, ne_eqb, inl, inr, List, [], ◌∷◌, ◌++◌, length, Option}
+use Rattle.std.proofs.Common.{None, Some, refl, sym, ap, ◌∙◌, subst, arith, append_assoc, append-nil}
 use Rattle.std.specs.Prelude.{option_to_list, ◌||◌, if◌then◌else◌}
 use Rattle.std.specs.Option.{ForSome}
 use Rattle.std.proofs.lemmas.Bool.{cases_eq}
 use Rattle.std.proofs.lemmas.List.{map-append, get_or-set_same, get_or-set_other}
 use Rattle.std.proofs.lemmas.List.Folds.{list_any-append}
-use Rattle.kernel_trace.specs.Course.{mention_of, mentions, agrees, is_ready, is_mentioned, standing_of, standing_after}
+use Rattle.kernel_trace.specs.Course.{mention_of, mentions, agrees, says_ready, is_mentioned, standing_of, standing_after}
 use Rattle.kernel_trace.specs.Import.{mention_says, is_last_in}
 use Rattle.kernel_trace.specs.Passage.{first_mention, second_mention, changing, marked, span_of}
-use Rattle.kernel_trace.specs.Passages.{UsedLine, turning, turns, from_turn, passage_since, passages_since, all_changes, is_named_in, AllTurn, NeverFall}
+use Rattle.kernel_trace.specs.Passages.{UsedLine, turning, turns, from_turn, passage_since, passages_since, all_changes, is_named_in}
+use Rattle.kernel_trace.specs.Passages.{AllTurn, NeverFall}
 use Rattle.kernel_trace.specs.declared.change.Change.{Change}
 use Rattle.kernel_trace.specs.declared.change.Change.TheVariants.{Wakeup, Switch}
 use Rattle.trace_passages.specs.declared.passage.Readiness.{Readiness}
@@ -20,7 +22,7 @@ use Rattle.kernel_trace.proofs.Imports.{fold_append, mentioned, standing_mention
 -- ---- one mention more
 -- the last mentions of these are those that are known
 abbrev pub Said : List Standing → List Readiness → Type 0
-Said standings ms = (t : ℕ) → is_last_in t ms ≡ is_ready (standing_of standings t)
+Said standings ms = (t : ℕ) → is_last_in t ms ≡ says_ready (standing_of standings t)
 
 -- the tasks of a mention are among those that are known
 abbrev pub IsKnown : List Standing → Option Readiness → Type 0
@@ -51,7 +53,8 @@ or_false true = refl
 or_false false = refl
 
 -- one mention more is of its task
-named_more : (t : ℕ) (ms : List Readiness) (m : Readiness) (b : Bool) → (m.task == t) ≡ b → is_named_in t (ms ++ m ∷ []) ≡ (is_named_in t ms || b)
+named_more : (t : ℕ) (ms : List Readiness) (m : Readiness) (b : Bool) → (m.task == t) ≡ b
+    → is_named_in t (ms ++ m ∷ []) ≡ (is_named_in t ms || b)
 named_more t ms m b is =
     list_any-append (λ (m : Readiness). m.task == t) ms (m ∷ [])
     ∙ ap (λ (here : Bool). is_named_in t ms || here) (or_false (m.task == t) ∙ is)
@@ -61,7 +64,8 @@ pub mark_named : (standings : List Standing) (ms : List Readiness) (m : Option R
 mark_named standings ms None known named t = named t ∙ ap (is_named_in t) (sym (append-nil ms))
 mark_named standings ms (Some m) known named t = elim (cases_eq m.task t) [
   | inl same ↦ (
-      let here : standing_of (set standings m.task (standing_after m.is_in)) m.task ≡ standing_after m.is_in = get_or-set_same standings m.task (standing_after m.is_in) Unmentioned (known m refl) in
+      let here : standing_of (set standings m.task (standing_after m.is_in)) m.task
+      ≡ standing_after m.is_in = get_or-set_same standings m.task (standing_after m.is_in) Unmentioned (known m refl) in
       let there : standing_of (set standings m.task (standing_after m.is_in)) t ≡ standing_after m.is_in =
       subst (λ (n : ℕ). standing_of (set standings m.task (standing_after m.is_in)) n ≡ standing_after m.is_in) same here in
       ap is_mentioned there ∙ mentioned_after m.is_in ∙ sym (named_more t ms m true (eq-eqb m.task t same) ∙ or_true (is_named_in t ms)))
@@ -72,7 +76,8 @@ mark_named standings ms (Some m) known named t = elim (cases_eq m.task t) [
 ]
 
 -- a mention changes its task where it says otherwise than the last one
-pub changing_is : (standings : List Standing) (ms : List Readiness) (m : Option Readiness) → Said standings ms → changing standings m ≡ turning ms m
+pub changing_is : (standings : List Standing) (ms : List Readiness) (m : Option Readiness) → Said standings ms
+    → changing standings m ≡ turning ms m
 changing_is standings ms None said = refl
 changing_is standings ms (Some m) said = ap (λ (before : Bool). if agrees before m.is_in then None else Some m) (sym (said m.task))
 
@@ -80,33 +85,39 @@ changing_is standings ms (Some m) said = ap (λ (before : Bool). if agrees befor
 pub change_said : (standings : List Standing) (ms : List Readiness) (m : Option Readiness) → IsKnown standings m → Said standings ms
     → Said (marked standings m) (ms ++ option_to_list (changing standings m))
 change_said standings ms None known said t = ap (is_last_in t) (append-nil ms) ∙ said t
-change_said standings ms (Some m) known said t = by (agrees (is_ready (standing_of standings m.task)) m.is_in) refl
+change_said standings ms (Some m) known said t = by (agrees (says_ready (standing_of standings m.task)) m.is_in) refl
   where
-    by : (b : Bool) → agrees (is_ready (standing_of standings m.task)) m.is_in ≡ b
-        → is_last_in t (ms ++ option_to_list (if b then None else Some m)) ≡ is_ready (standing_of (marked standings (Some m)) t)
+    by : (b : Bool) → agrees (says_ready (standing_of standings m.task)) m.is_in ≡ b
+        → is_last_in t (ms ++ option_to_list (if b then None else Some m)) ≡ says_ready (standing_of (marked standings (Some m)) t)
     by true same =
         ap (is_last_in t) (append-nil ms) ∙ said t
-        ∙ same_mention (is_ready (standing_of standings t)) m.is_in m.task t
-        (λ here. subst (λ (n : ℕ). is_ready (standing_of standings n) ≡ m.is_in) here (agreed (is_ready (standing_of standings m.task)) m.is_in same))
+        ∙ same_mention (says_ready (standing_of standings t)) m.is_in m.task t
+        (λ here. subst (λ (n : ℕ). says_ready (standing_of standings n) ≡ m.is_in) here
+        (agreed (says_ready (standing_of standings m.task)) m.is_in same))
         ∙ sym (standing_mentions standings m t (known m refl))
     by false other = mark_said standings ms (Some m) known said t
 
 pub turn_append : (before xs ys : List Readiness) → AllTurn before xs → AllTurn (before ++ xs) ys → AllTurn before (xs ++ ys)
 turn_append before [] ys one two = subst (λ (b : List Readiness). AllTurn b ys) (append-nil before) two
-turn_append before (x ∷ xs) ys one two =
-    (one.0, turn_append (before ++ x ∷ []) xs ys one.1 (subst (λ (b : List Readiness). AllTurn b ys) (sym (append_assoc before (x ∷ []) xs)) two))
+turn_append before (x ∷ xs) ys one two = (
+  one.0,
+  turn_append (before ++ x ∷ []) xs ys one.1
+      (subst (λ (b : List Readiness). AllTurn b ys) (sym (append_assoc before (x ∷ []) xs)) two),
+)
 
 pub change_turns : (standings : List Standing) (ms : List Readiness) (m : Option Readiness) → Said standings ms
     → AllTurn ms (option_to_list (changing standings m))
 change_turns standings ms None said = tt
-change_turns standings ms (Some m) said = by (agrees (is_ready (standing_of standings m.task)) m.is_in) refl
+change_turns standings ms (Some m) said = by (agrees (says_ready (standing_of standings m.task)) m.is_in) refl
   where
-    by : (b : Bool) → agrees (is_ready (standing_of standings m.task)) m.is_in ≡ b → AllTurn ms (option_to_list (if b then None else Some m))
+    by : (b : Bool) → agrees (says_ready (standing_of standings m.task)) m.is_in ≡ b
+        → AllTurn ms (option_to_list (if b then None else Some m))
     by true same = tt
     by false other = (ap (λ (before : Bool). agrees before m.is_in) (said m.task) ∙ other, tt)
 
 -- ---- the two mentions of a line
-pub mentions_are : (ids : List ℕ) (change : Change) → mentions ids change ≡ option_to_list (first_mention ids change) ++ option_to_list (second_mention ids change)
+pub mentions_are : (ids : List ℕ) (change : Change) → mentions ids change ≡ option_to_list (first_mention ids change)
+    ++ option_to_list (second_mention ids change)
 mentions_are ids (Wakeup id) = sym (append-nil (option_to_list (mention_of ids id true)))
 mentions_are ids (Switch from stays to) = refl
 
@@ -116,7 +127,8 @@ from_none [] line none = refl
 from_none (first ∷ rest) line none = by (turns first) (λ e. from_none rest line e) none
   where
     by : (b : Bool) → (from_turn rest ≡ [] → from_turn (rest ++ line ∷ []) ≡ from_turn (line ∷ []))
-        → (if b then first ∷ rest else from_turn rest) ≡ [] → (if b then first ∷ (rest ++ line ∷ []) else from_turn (rest ++ line ∷ [])) ≡ from_turn (line ∷ [])
+        → (if b then first ∷ rest else from_turn rest) ≡ [] → (if b then first ∷ (rest ++ line ∷ []) else from_turn (rest ++ line ∷ []))
+        ≡ from_turn (line ∷ [])
     by true later none = cc
     by false later none = later none
 
@@ -150,7 +162,8 @@ span_append (one ∷ two ∷ rest) passage = span_append (two ∷ rest) passage
 -- moments that never fall are at most the last one
 below_last : (moment : ℕ) (one : Passage) (rest : List Passage) → NeverFall moment (one ∷ rest) → moment ≤ span_of (one ∷ rest)
 below_last moment one [] falls = falls.0
-below_last moment one (two ∷ rest) falls = let first = falls.0 in let later = below_last one.moment two rest falls.1 in omega (arith, first, later)
+below_last moment one (two ∷ rest) falls =
+    let first = falls.0 in let later = below_last one.moment two rest falls.1 in omega (arith, first, later)
 
 pub fall_append : (moment : ℕ) (passages : List Passage) (passage : Passage) → moment ≤ passage.moment → NeverFall moment passages
     → span_of passages ≤ passage.moment → NeverFall moment (passages ++ passage ∷ [])

@@ -1,6 +1,9 @@
--- What is known after some lines of a trace. A line mentions tasks as in or out; a task is ready where its last mention says in.
--- Where a task's readiness changes, first the time since the last event is written as ticks, and then its arrival or departure.
-use Rattle.std.specs.Prelude.{ℕ, ◌-◌, ◌/◌, ◌%◌, Bool, true, false, ◌==◌, nat_eq, nat_lt, nat_le, ◌&&◌, ◌||◌, List, [], ◌∷◌, ◌++◌, get_or, set, replicate, fold, position, Option, None, Some, option_to_list, if◌then◌else◌}
+-- What is known after some lines of a trace. A line mentions tasks as in or out; a task is ready
+-- where its last mention says in. Where a task's readiness changes, first the time since the last
+-- event is written as ticks, and then its arrival or departure.
+use Rattle.std.specs.Prelude.{ℕ, ◌-◌, ◌/◌, ◌%◌, Bool, true, false, ◌==◌, nat_eq, nat_lt, nat_le}
+use Rattle.std.specs.Prelude.{◌&&◌, ◌||◌, List, [], ◌∷◌, ◌++◌, get_or, set, replicate, fold}
+use Rattle.std.specs.Prelude.{position, Option, None, Some, option_to_list, if◌then◌else◌}
 use Rattle.std.specs.List.{list_any}
 use Rattle.std.specs.Option.{option_map}
 use Rattle.task_set.specs.TaskSet.{SetData}
@@ -19,8 +22,9 @@ pub record WindowData : Type 0 where
   pub from : ℕ
   pub to : ℕ
 
--- what is known: the tasks, their thread ids, the window, the time of the last line of the scheduler, that of the last event and of
--- the last used line, in nanoseconds, each task's last mention, and the events so far
+-- what is known: the tasks, their thread ids, the window, the time of the last line of the
+-- scheduler, that of the last event and of the last used line, in nanoseconds, each task's last
+-- mention, and the events so far
 pub record CourseData : Type 0 where
   pub set : SetData
   pub ids : List ℕ
@@ -34,22 +38,24 @@ pub record CourseData : Type 0 where
 -- ---- mentions
 -- the task of a thread, mentioned as in or out; other threads are nobody's
 abbrev pub mention_of : List ℕ → ℕ → Bool → Option Readiness
-mention_of ids id is_in = option_map (λ task. record { task = task; is_in = is_in }) (position (nat_eq id) ids)
+mention_of ids id is_in =
+    option_map (λ task. record { task = task; is_in = is_in }) (position (nat_eq id) ids)
 
 -- the mentions of a change, in their order
 abbrev pub mentions : List ℕ → Change → List Readiness
 mentions ids (Wakeup id) = option_to_list (mention_of ids id true)
-mentions ids (Switch from stays to) = option_to_list (mention_of ids from stays) ++ option_to_list (mention_of ids to true)
+mentions ids (Switch from stays to) =
+    option_to_list (mention_of ids from stays) ++ option_to_list (mention_of ids to true)
 
 -- what a mention says of a task
 abbrev pub standing_after : Bool → Standing
 standing_after true = Ready
 standing_after false = Absent
 
-abbrev pub is_ready : Standing → Bool
-is_ready Ready = true
-is_ready Absent = false
-is_ready Unmentioned = false
+abbrev pub says_ready : Standing → Bool
+says_ready Ready = true
+says_ready Absent = false
+says_ready Unmentioned = false
 
 abbrev pub is_absent : Standing → Bool
 is_absent Absent = true
@@ -79,12 +85,14 @@ standing_of standings task = get_or standings task Unmentioned
 abbrev pub misses_wakeup : List Standing → List Readiness → Bool
 misses_wakeup standings [] = false
 misses_wakeup standings (m ∷ rest) =
-    is_absent (standing_of standings m.task) || misses_wakeup (set standings m.task (standing_after m.is_in)) rest
+    is_absent (standing_of standings m.task)
+    || misses_wakeup (set standings m.task (standing_after m.is_in)) rest
 
 -- a switch mentions such a task
 abbrev pub is_unseen : List Standing → List ℕ → Change → Bool
 is_unseen standings ids (Wakeup id) = false
-is_unseen standings ids (Switch from stays to) = misses_wakeup standings (mentions ids (Switch from stays to))
+is_unseen standings ids (Switch from stays to) =
+    misses_wakeup standings (mentions ids (Switch from stays to))
 
 -- ---- what is written
 -- an event on the first stream
@@ -97,7 +105,8 @@ last_tick units = if units == 0 then [] else on_first_stream (Tick units) ∷ []
 
 -- ticks for so many microseconds: all but the last have 1,000,000 units
 unfoldable pub ticks : ℕ → List Posted
-ticks units = replicate (units / 1000000) (on_first_stream (Tick 1000000)) ++ last_tick (units % 1000000)
+ticks units =
+    replicate (units / 1000000) (on_first_stream (Tick 1000000)) ++ last_tick (units % 1000000)
 
 -- the microseconds from one time to another
 abbrev pub between : Option ℕ → Option ℕ → ℕ
@@ -120,7 +129,7 @@ event_of m = if m.is_in then Arrive m.task else Depart m.task
 -- after a mention
 abbrev pub after_mention : CourseData → Readiness → CourseData
 after_mention c m =
-    if agrees (is_ready (standing_of c.standings m.task)) m.is_in
+    if agrees (says_ready (standing_of c.standings m.task)) m.is_in
     then record c { standings = set c.standings m.task (standing_after m.is_in) }
     else record c {
       standings = set c.standings m.task (standing_after m.is_in);

@@ -1,17 +1,20 @@
--- What an import is, in the words of the trace: the mentions of its used lines, the tasks that they say are ready, and the events of
--- the input.
-use Rattle.std.specs.Prelude.{◌≡◌, ℕ, ◌+◌, ◌==◌, Bool, true, false, List, [], ◌∷◌, ◌++◌, length, take, map, fold, All, Option, None, Some, if◌then◌else◌}
+-- What an import is, in the words of the trace: the mentions of its used lines, the tasks that they
+-- say are ready, and the events of the input.
+use Rattle.std.specs.Prelude.{◌≡◌, ℕ, ◌+◌, ◌==◌, Bool, true, false, List, [], ◌∷◌, ◌++◌, length}
+use Rattle.std.specs.Prelude.{take, map, fold, All, Option, None, Some, if◌then◌else◌}
 use Rattle.std.specs.Option.{option_or}
 use Rattle.task_set.specs.Event.{HasUnits}
 use Rattle.task_set.specs.declared.event.Event.{Event}
-use Rattle.task_set.specs.declared.event.Event.TheVariants.{Arrive, Depart, Tick, Affinity, Offline, Online}
+use Rattle.task_set.specs.declared.event.Event.TheVariants.{Arrive, Depart, Tick, Affinity, Offline}
+use Rattle.task_set.specs.declared.event.Event.TheVariants.{Online}
 use Rattle.trace_reader.specs.Input.{InputData}
 use Rattle.trace_reader.specs.declared.posted.Posted.{Posted}
 use Rattle.text_fields.specs.Lines.{lines_of, fields_of}
 use Rattle.text_fields.specs.Machine.{Leading}
 use Rattle.kernel_trace.specs.Stamp.{microsecond}
 use Rattle.kernel_trace.specs.Survey.{SurveyData, survey_of}
-use Rattle.kernel_trace.specs.Course.{CourseData, WindowData, mentions, after_mentions, agrees, is_in_window, standing_of}
+use Rattle.kernel_trace.specs.Course.{CourseData, WindowData, mentions, after_mentions, agrees}
+use Rattle.kernel_trace.specs.Course.{is_in_window, standing_of}
 use Rattle.kernel_trace.specs.TraceLine.{Said, Nothing, LostEvents, Malformed, Happened, said_by}
 use Rattle.kernel_trace.specs.TraceText.{HeaderExpected, Listed, IsLine, IsTraceText, events_line}
 use Rattle.trace_passages.specs.declared.passage.Readiness.{Readiness}
@@ -30,7 +33,8 @@ after_said c (Happened time change) =
 
 -- after some lines
 abbrev pub course_after : Bool → CourseData → List (List ℕ) → CourseData
-course_after waking c lines = fold (λ known line. after_said known (said_by waking (fields_of line))) c lines
+course_after waking c lines =
+    fold (λ known line. after_said known (said_by waking (fields_of line))) c lines
 
 -- ---- mentions
 -- the mentions of a line, where it is used, by the thread ids and the window
@@ -38,7 +42,8 @@ abbrev pub mentions_said : List ℕ → Option WindowData → Said → List Read
 mentions_said ids window Nothing = []
 mentions_said ids window LostEvents = []
 mentions_said ids window Malformed = []
-mentions_said ids window (Happened time change) = if is_in_window window time then mentions ids change else []
+mentions_said ids window (Happened time change) =
+    if is_in_window window time then mentions ids change else []
 
 -- the mentions of some lines, in their order
 abbrev pub mentions_in : Bool → List ℕ → Option WindowData → List (List ℕ) → List Readiness
@@ -77,11 +82,13 @@ changes_said ids window before (Happened time change) =
     ready_changes time before (mentions_said ids window (Happened time change))
 
 -- the changes of some lines, in their order; these mentions stand before them
-abbrev pub changes_in : Bool → List ℕ → Option WindowData → List Readiness → List (List ℕ) → List ReadyChange
+abbrev pub changes_in : Bool → List ℕ → Option WindowData → List Readiness → List (List ℕ)
+    → List ReadyChange
 changes_in waking ids window before [] = []
 changes_in waking ids window before (line ∷ rest) =
     let said = said_by waking (fields_of line) in
-    changes_said ids window before said ++ changes_in waking ids window (before ++ mentions_said ids window said) rest
+    changes_said ids window before said
+    ++ changes_in waking ids window (before ++ mentions_said ids window said) rest
 
 -- their mentions
 abbrev pub changes_made : List ReadyChange → List Readiness
@@ -102,7 +109,8 @@ time_said window (Happened time change) = if is_in_window window time then time 
 -- the times of the used lines among some lines, in their order
 abbrev pub used_times : Bool → Option WindowData → List (List ℕ) → List ℕ
 used_times waking window [] = []
-used_times waking window (line ∷ rest) = time_said window (said_by waking (fields_of line)) ++ used_times waking window rest
+used_times waking window (line ∷ rest) =
+    time_said window (said_by waking (fields_of line)) ++ used_times waking window rest
 
 -- the first of some times
 abbrev pub first_time : List ℕ → Option ℕ
@@ -114,7 +122,8 @@ abbrev pub last_time : List ℕ → Option ℕ
 last_time [] = None
 last_time (time ∷ rest) = option_or (last_time rest) (Some time)
 
--- from one time to another, in nanoseconds, pass so many microseconds; none pass where there is no such time
+-- from one time to another, in nanoseconds, pass so many microseconds; none pass where there is no
+-- such time
 abbrev pub Lasts : Option ℕ → Option ℕ → ℕ → Type 0
 Lasts None to units = units ≡ 0
 Lasts (Some from) None units = units ≡ 0
@@ -157,10 +166,12 @@ Changes before (Affinity t mask) = ⊥
 Changes before (Offline p) = ⊥
 Changes before (Online p) = ⊥
 
--- each of these events changes whether its task is ready, or lets time pass; these stand before them
+-- each of these events changes whether its task is ready, or lets time pass; these stand before
+-- them
 abbrev pub AllChange : List Posted → List Posted → Type 0
 AllChange before [] = Unit {0}
-AllChange before (posted ∷ rest) = Changes before posted.event × AllChange (before ++ posted ∷ []) rest
+AllChange before (posted ∷ rest) =
+    Changes before posted.event × AllChange (before ++ posted ∷ []) rest
 
 -- the units of an event
 abbrev pub units_of : Event → ℕ
@@ -185,19 +196,23 @@ pub record IsHead (c : CourseData) : Type 0 where
   pub no_events : c.events ≡ []
   pub unmentioned : (t : ℕ) → standing_of c.standings t ≡ Unmentioned
 
--- the first events of an import are those of some first lines of its trace: their arrivals and departures are the changes of the
--- lines, the ready tasks those whose last mention is in, and their ticks the time from the first change to the last one
-pub record IsWrittenBy (waking : Bool) (ids : List ℕ) (window : Option WindowData) (lines : List (List ℕ)) (all : List Posted) : Type 0 where
+-- the first events of an import are those of some first lines of its trace: their arrivals and
+-- departures are the changes of the lines, the ready tasks those whose last mention is in, and
+-- their ticks the time from the first change to the last one
+pub record IsWrittenBy (waking : Bool) (ids : List ℕ) (window : Option WindowData)
+    (lines : List (List ℕ)) (all : List Posted) : Type 0 where
   pub events : List Posted
   pub later : List Posted
   pub order : all ≡ events ++ later
   pub changes : all_told events ≡ changes_made (changes_in waking ids window [] lines)
   pub ready : (t : ℕ) → is_ready_after t events ≡ is_last_in t (mentions_in waking ids window lines)
-  pub time : let times = times_of (changes_in waking ids window [] lines) in Lasts (first_time times) (last_time times) (all_units events)
+  pub time : let times = times_of (changes_in waking ids window [] lines) in
+      Lasts (first_time times) (last_time times) (all_units events)
 
--- the bytes are the lines of a head, the line `events` and the lines of a trace, and the input is the import of that trace: it has
--- the set of the head, and for each number n its first events are those of the first n lines; its ticks are the time from the
--- first change to the last used line; each arrival or departure changes whether its task is ready, and no tick is too long
+-- the bytes are the lines of a head, the line `events` and the lines of a trace, and the input is
+-- the import of that trace: it has the set of the head, and for each number n its first events are
+-- those of the first n lines; its ticks are the time from the first change to the last used line;
+-- each arrival or departure changes whether its task is ready, and no tick is too long
 pub record IsImport (bytes : List ℕ) (input : InputData) : Type 0 where
   pub look : SurveyData
   pub surveyed : look ≡ survey_of (lines_of bytes)
@@ -215,18 +230,23 @@ pub record IsImport (bytes : List ℕ) (input : InputData) : Type 0 where
   pub each : (n : ℕ) → IsWrittenBy look.waking head.ids head.window (take n lines) input.events
   pub time :
       let times = times_of (changes_in look.waking head.ids head.window [] lines) in
-      Lasts (first_time times) (last_time (used_times look.waking head.window lines)) (all_units input.events)
+      Lasts (first_time times) (last_time (used_times look.waking head.window lines))
+      (all_units input.events)
   pub changing : AllChange [] input.events
   pub short : All (λ (posted : Posted). HasUnits posted.event) input.events
 
 -- ---- the laws of imports
--- after the events of some lines of a trace the ready tasks are those whose last mention is in, and each event changes its task
+-- after the events of some lines of a trace the ready tasks are those whose last mention is in, and
+-- each event changes its task
 abbrev pub ReadyAsMentioned : Type 0
 ReadyAsMentioned =
-    (waking : Bool) (head : CourseData) (lines : List (List ℕ)) → IsHead head → length head.standings ≡ length head.ids
-    → ((t : ℕ) → is_ready_after t (course_after waking head lines).events ≡ is_last_in t (mentions_in waking head.ids head.window lines))
+    (waking : Bool) (head : CourseData) (lines : List (List ℕ)) → IsHead head
+    → length head.standings ≡ length head.ids
+    → ((t : ℕ) → is_ready_after t (course_after waking head lines).events
+    ≡ is_last_in t (mentions_in waking head.ids head.window lines))
     × AllChange [] (course_after waking head lines).events
 
 -- the input of the text of a trace is the import of that trace
 abbrev pub ImportIsFaithful : Type 0
-ImportIsFaithful = (bytes : List ℕ) (input : InputData) → IsTraceText bytes input → IsImport bytes input
+ImportIsFaithful =
+    (bytes : List ℕ) (input : InputData) → IsTraceText bytes input → IsImport bytes input

@@ -9,13 +9,15 @@ use Rattle.kernel_trace.specs.declared.fault.TraceKind.{TraceKind}
 -- a text is that of at most one input
 abbrev pub TextHasOneInput : Type 0
 TextHasOneInput =
-    (bytes : List ℕ) (input other : InputData) → IsTraceText bytes input → IsTraceText bytes other → input ≡ other
+    (bytes : List ℕ) (input other : InputData) → IsTraceText bytes input → IsTraceText bytes other
+    → input ≡ other
 
 -- a text is refused with at most one line and one kind
 abbrev pub TextHasOneFault : Type 0
 TextHasOneFault =
     (bytes : List ℕ) (line number : ℕ) (kind other : TraceKind)
-    → IsTraceRefused bytes line kind → IsTraceRefused bytes number other → (line ≡ number) × (kind ≡ other)
+    → IsTraceRefused bytes line kind → IsTraceRefused bytes number other
+    → (line ≡ number) × (kind ≡ other)
 
 -- no text is both that of an input and refused
 abbrev pub InputHasNoFault : Type 0
@@ -34,13 +36,15 @@ AcceptedOrRefused =
 -- a text is that of at most one trace
 abbrev pub TextHasOneTrace : Type 0
 TextHasOneTrace =
-    (bytes : List ℕ) (trace other : TaskTraceData) → IsTaskTraceText bytes trace → IsTaskTraceText bytes other → trace ≡ other
+    (bytes : List ℕ) (trace other : TaskTraceData) → IsTaskTraceText bytes trace
+    → IsTaskTraceText bytes other → trace ≡ other
 
 -- a text is refused with at most one line and one kind
 abbrev pub TraceTextHasOneFault : Type 0
 TraceTextHasOneFault =
     (bytes : List ℕ) (line number : ℕ) (kind other : TraceKind)
-    → IsTaskTraceRefused bytes line kind → IsTaskTraceRefused bytes number other → (line ≡ number) × (kind ≡ other)
+    → IsTaskTraceRefused bytes line kind → IsTaskTraceRefused bytes number other
+    → (line ≡ number) × (kind ≡ other)
 
 -- no text is both that of a trace and refused
 abbrev pub TraceHasNoFault : Type 0

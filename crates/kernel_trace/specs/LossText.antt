@@ -1,9 +1,12 @@
--- The text of what a kernel did beside the best set: the span, with the clock of its first moment, and for each task that the trace
--- mentions at how many moments it was ready, ran, and was lost, and how many of the lost ones stand in a long stretch; the longest
--- stretch of lost moments with its first one and the clock then, `-` where there is none; and the task that ran then. A task that no
--- line mentions has `-`. Last stands how many switches are from another task than the one that the switch before it on the same
--- processor went to. Lines end with a line feed, fields are separated by one space, and numbers are canonical.
-use Rattle.std.specs.Prelude.{ℕ, ◌+◌, ◌==◌, List, [], ◌∷◌, ◌++◌, codes, Option, Some, None, if◌then◌else◌}
+-- The text of what a kernel did beside the best set: the span, with the clock of its first moment,
+-- and for each task that the trace mentions at how many moments it was ready, ran, and was lost,
+-- and how many of the lost ones stand in a long stretch; the longest stretch of lost moments with
+-- its first one and the clock then, `-` where there is none; and the task that ran then. A task
+-- that no line mentions has `-`. Last stands how many switches are from another task than the one
+-- that the switch before it on the same processor went to. Lines end with a line feed, fields are
+-- separated by one space, and numbers are canonical.
+use Rattle.std.specs.Prelude.{ℕ, ◌+◌, ◌==◌, List, [], ◌∷◌, ◌++◌, codes, Option, Some, None}
+use Rattle.std.specs.Prelude.{if◌then◌else◌}
 use Rattle.affinity_mask.specs.Number.{canonical_number}
 use Rattle.task_set.specs.TaskSet.{SetData}
 use Rattle.text_fields.specs.EventText.{name_of}
@@ -14,7 +17,8 @@ use Rattle.kernel_trace.specs.declared.loss_text.LossRow.{LossRow}
 -- the first moment of so many, with its clock, by that of moment 0
 abbrev pub moment_text : Option ℕ → ℕ → ℕ → List ℕ
 moment_text clock count first =
-    if count == 0 then codes "- -" else canonical_number first ++ codes " " ++ stamp_text (clock_after clock first)
+    if count == 0 then codes "- -" else canonical_number first ++ codes " "
+    ++ stamp_text (clock_after clock first)
 
 -- the task that ran meanwhile, `nobody` where there is none
 abbrev pub rival_text : SetData → Option ℕ → List ℕ
@@ -26,7 +30,8 @@ unfoldable pub row_text : SetData → Option ℕ → LossRow → List ℕ
 row_text set clock row =
     codes " ready " ++ canonical_number row.ready ++ codes " ran " ++ canonical_number row.ran
     ++ codes " lost " ++ canonical_number row.lost ++ codes " over " ++ canonical_number row.over
-    ++ codes " longest " ++ canonical_number row.longest ++ codes " at " ++ moment_text clock row.longest row.first
+    ++ codes " longest " ++ canonical_number row.longest ++ codes " at "
+    ++ moment_text clock row.longest row.first
     ++ codes " while " ++ rival_text set row.rival
 
 -- the same, where a line mentions the task
@@ -45,9 +50,11 @@ loss_lines set clock t (row ∷ rest) = loss_line set clock t row ++ loss_lines 
 
 -- the header and the span
 unfoldable pub span_text : Option ℕ → ℕ → List ℕ
-span_text clock span = codes "lost 2\nspan " ++ canonical_number span ++ codes " at " ++ line (stamp_text clock)
+span_text clock span =
+    codes "lost 2\nspan " ++ canonical_number span ++ codes " at " ++ line (stamp_text clock)
 
 -- after them the tasks, the count of switches and the end
 unfoldable pub loss_text : SetData → Option ℕ → ℕ → List (Option LossRow) → ℕ → List ℕ
 loss_text set clock span rows jumps =
-    span_text clock span ++ loss_lines set clock 0 rows ++ codes "jumps " ++ line (canonical_number jumps) ++ codes "end\n"
+    span_text clock span ++ loss_lines set clock 0 rows ++ codes "jumps "
+    ++ line (canonical_number jumps) ++ codes "end\n"

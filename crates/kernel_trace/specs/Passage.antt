@@ -1,7 +1,9 @@
--- The text of a trace, read as what its used lines say of tasks. Its head is that of an input, and its lines have the same faults, but
--- for two: a switch that names no processor has not its form, and no history is kept, so that no list of events is too long. In its
--- place a moment is too late that is 2^63 microseconds after the first change.
-use Rattle.std.specs.Prelude.{◌≡◌, ℕ, ◌-◌, Bool, true, false, nat_eq, nat_lt, ◌||◌, is_some, List, [], ◌∷◌, ◌++◌, map, set, position, Option, None, Some, if◌then◌else◌}
+-- The text of a trace, read as what its used lines say of tasks. Its head is that of an input, and
+-- its lines have the same faults, but for two: a switch that names no processor has not its form,
+-- and no history is kept, so that no list of events is too long. In its place a moment is too late
+-- that is 2^63 microseconds after the first change.
+use Rattle.std.specs.Prelude.{◌≡◌, ℕ, ◌-◌, Bool, true, false, nat_eq, nat_lt, ◌||◌, is_some, List}
+use Rattle.std.specs.Prelude.{[], ◌∷◌, ◌++◌, map, set, position, Option, None, Some, if◌then◌else◌}
 use Rattle.task_set.specs.TaskSet.{SetData}
 use Rattle.text_fields.specs.Lines.{lines_of, fields_of}
 use Rattle.text_fields.specs.Machine.{Outcome, Leads, Fails}
@@ -10,8 +12,11 @@ use Rattle.kernel_trace.specs.Stamp.{microsecond, clock_at}
 use Rattle.kernel_trace.specs.TraceLine.{Said, Nothing, LostEvents, Malformed, Happened, said_by}
 use Rattle.kernel_trace.specs.Processor.{processor_of}
 use Rattle.kernel_trace.specs.Survey.{SurveyData, survey_of, is_gap}
-use Rattle.kernel_trace.specs.Course.{CourseData, mention_of, is_unseen, is_backward, is_in_window, agrees, is_ready, is_mentioned, standing_of, standing_after, names_task}
-use Rattle.kernel_trace.specs.TraceText.{Progress, HeaderExpected, ProcessorsExpected, Listed, Tracing, LineOutcome, IsLine}
+use Rattle.kernel_trace.specs.Course.{CourseData, mention_of, is_unseen, is_backward, is_in_window}
+use Rattle.kernel_trace.specs.Course.{agrees, says_ready, is_mentioned, standing_of, standing_after}
+use Rattle.kernel_trace.specs.Course.{names_task}
+use Rattle.kernel_trace.specs.TraceText.{Progress, HeaderExpected, ProcessorsExpected, Listed}
+use Rattle.kernel_trace.specs.TraceText.{Tracing, LineOutcome, IsLine}
 use Rattle.kernel_trace.specs.declared.change.Change.{Change}
 use Rattle.kernel_trace.specs.declared.change.Change.TheVariants.{Wakeup, Switch}
 use Rattle.trace_passages.specs.declared.passage.Readiness.{Readiness}
@@ -23,25 +28,30 @@ use Rattle.kernel_trace.specs.declared.task_trace.TaskTrace.TheInside.{Inside}
 use Rattle.trace_passages.specs.declared.turn.Turn.{Turn}
 use Rattle.trace_passages.specs.declared.turn.Turn.TheVariants as turn
 use Rattle.kernel_trace.specs.declared.fault.TraceKind.{TraceKind}
-use Rattle.kernel_trace.specs.declared.fault.TraceKind.TheVariants.{Lost, BadForm, Backward, Unseen, ManyEvents, NoEvents, Overwritten, NothingSaid}
+use Rattle.kernel_trace.specs.declared.fault.TraceKind.TheVariants.{Lost, BadForm, Backward, Unseen}
+use Rattle.kernel_trace.specs.declared.fault.TraceKind.TheVariants.{ManyEvents, NoEvents}
+use Rattle.kernel_trace.specs.declared.fault.TraceKind.TheVariants.{Overwritten, NothingSaid}
 
 -- ---- what a line says of tasks
 -- the task of a thread
 abbrev pub task_of : List ℕ → ℕ → Option ℕ
 task_of ids id = position (nat_eq id) ids
 
--- what a change says of tasks, with the processor that its line names; a switch says nothing without it
+-- what a change says of tasks, with the processor that its line names; a switch says nothing
+-- without it
 abbrev pub task_change : List ℕ → Change → Option ℕ → Option TaskChange
 task_change ids (Wakeup id) processor = Some (task.Wakeup (task_of ids id))
 task_change ids (Switch from stays to) None = None
-task_change ids (Switch from stays to) (Some processor) = Some (task.Switch processor (task_of ids from) (task_of ids to))
+task_change ids (Switch from stays to) (Some processor) =
+    Some (task.Switch processor (task_of ids from) (task_of ids to))
 
 -- what a wakeup of a task says of who runs, where it makes the task ready
 abbrev pub woken_by : ℕ → Option Readiness → Option Turn
 woken_by task None = None
 woken_by task (Some mention) = Some (turn.Woken task)
 
--- what a line says of who runs where, by what it says of tasks and the mention that changes whether its first task is ready
+-- what a line says of who runs where, by what it says of tasks and the mention that changes whether
+-- its first task is ready
 abbrev pub turn_of : TaskChange → Option Readiness → Option Turn
 turn_of (task.Wakeup None) first = None
 turn_of (task.Wakeup (Some woken)) first = woken_by woken first
@@ -60,7 +70,8 @@ second_mention ids (Switch from stays to) = mention_of ids to true
 -- a mention, where it changes whether its task is ready
 abbrev pub changing : List Standing → Option Readiness → Option Readiness
 changing standings None = None
-changing standings (Some m) = if agrees (is_ready (standing_of standings m.task)) m.is_in then None else Some m
+changing standings (Some m) =
+    if agrees (says_ready (standing_of standings m.task)) m.is_in then None else Some m
 
 -- what the last mentions say after one more
 abbrev pub marked : List Standing → Option Readiness → List Standing
@@ -68,7 +79,8 @@ marked standings None = standings
 marked standings (Some m) = set standings m.task (standing_after m.is_in)
 
 -- ---- what is known
--- what is expected and known of the trace, the time of the first change, in nanoseconds, and the passages so far
+-- what is expected and known of the trace, the time of the first change, in nanoseconds, and the
+-- passages so far
 pub record FollowingData : Type 0 where
   pub progress : Progress
   pub start : Option ℕ
@@ -94,7 +106,8 @@ abbrev pub after_marks : CourseData → Option Readiness → Option Readiness �
 after_marks c first second = record c { standings = marked (marked c.standings first) second }
 
 -- ---- what a line of the trace comes to
--- the time of the first change: that of this line, where there was none before and this line has one
+-- the time of the first change: that of this line, where there was none before and this line has
+-- one
 abbrev pub start_after : Option ℕ → Bool → ℕ → Option ℕ
 start_after (Some start) changes time = Some start
 start_after None true time = Some time
@@ -108,20 +121,30 @@ passage_outcome f start passage =
     else Fails ManyEvents
 
 -- the line is kept from the first change on
-abbrev pub kept_outcome : FollowingData → Option ℕ → ℕ → TaskChange → Option Readiness → Option Readiness → FollowingOutcome
+abbrev pub kept_outcome : FollowingData → Option ℕ → ℕ → TaskChange → Option Readiness
+    → Option Readiness → FollowingOutcome
 kept_outcome f None time told first second = Leads f
 kept_outcome f (Some start) time told first second =
-    passage_outcome f start (record { moment = microsecond time - microsecond start; turn = turn_of told first; first = first; second = second })
+    passage_outcome f start (record {
+      moment = microsecond time - microsecond start;
+      turn = turn_of told first;
+      first = first;
+      second = second;
+    })
 
 -- the changes of the line are known
-abbrev pub changed_outcome : FollowingData → ℕ → TaskChange → Option Readiness → Option Readiness → FollowingOutcome
+abbrev pub changed_outcome : FollowingData → ℕ → TaskChange → Option Readiness → Option Readiness
+    → FollowingOutcome
 changed_outcome f time told first second =
-    kept_outcome f (start_after f.start (is_some first || is_some second) time) time told first second
+    kept_outcome f (start_after f.start (is_some first || is_some second) time)
+    time told first second
 
 -- the mentions of the line are followed
-abbrev pub marked_outcome : FollowingData → CourseData → ℕ → TaskChange → Option Readiness → Option Readiness → FollowingOutcome
+abbrev pub marked_outcome : FollowingData → CourseData → ℕ → TaskChange → Option Readiness
+    → Option Readiness → FollowingOutcome
 marked_outcome f c time told first second =
-    changed_outcome (record f { progress = Tracing (after_marks c first second) }) time told (changing c.standings first)
+    changed_outcome (record f { progress = Tracing (after_marks c first second) }) time told
+    (changing c.standings first)
     (changing (marked c.standings first) second)
 
 -- the line is used: no wakeup is missing
@@ -139,7 +162,8 @@ timed_outcome f c time change told =
     else Leads (record f { progress = Tracing (at_time c time) })
 
 -- the line has its form
-abbrev pub told_outcome : FollowingData → CourseData → ℕ → Change → Option TaskChange → FollowingOutcome
+abbrev pub told_outcome : FollowingData → CourseData → ℕ → Change → Option TaskChange
+    → FollowingOutcome
 told_outcome f c time change None = Fails BadForm
 told_outcome f c time change (Some told) =
     if is_backward c.last time then Fails Backward else timed_outcome f c time change told
@@ -149,10 +173,12 @@ abbrev pub said_outcome : FollowingData → CourseData → Said → Option ℕ �
 said_outcome f c Nothing processor = Leads f
 said_outcome f c LostEvents processor = Fails Lost
 said_outcome f c Malformed processor = Fails BadForm
-said_outcome f c (Happened time change) processor = told_outcome f c time change (task_change c.ids change processor)
+said_outcome f c (Happened time change) processor =
+    told_outcome f c time change (task_change c.ids change processor)
 
 -- what the fields of a line of the trace come to
-abbrev pub fields_outcome : SurveyData → FollowingData → CourseData → List (List ℕ) → FollowingOutcome
+abbrev pub fields_outcome : SurveyData → FollowingData → CourseData → List (List ℕ)
+    → FollowingOutcome
 fields_outcome look f c fields =
     if is_gap look c.window fields
     then Fails Overwritten
@@ -172,14 +198,15 @@ IsOfHead f Comes outcome = (head : LineOutcome) × Comes head × (outcome ≡ he
 abbrev pub IsLineAt : SurveyData → FollowingData → Progress → List ℕ → FollowingOutcome → Type 0
 IsLineAt look f (Tracing c) line outcome = outcome ≡ fields_outcome look f c (fields_of line)
 IsLineAt look f HeaderExpected line outcome = IsOfHead f (IsLine look HeaderExpected line) outcome
-IsLineAt look f ProcessorsExpected line outcome = IsOfHead f (IsLine look ProcessorsExpected line) outcome
+IsLineAt look f ProcessorsExpected line outcome =
+    IsOfHead f (IsLine look ProcessorsExpected line) outcome
 IsLineAt look f (Listed c) line outcome = IsOfHead f (IsLine look (Listed c) line) outcome
 
 abbrev pub IsFollowed : SurveyData → FollowingData → List ℕ → FollowingOutcome → Type 0
 IsFollowed look f line outcome = IsLineAt look f f.progress line outcome
 
--- what contracts see of a trace: its tasks, the microseconds of the first change by its own clock, its passages, and whether some
--- used line named each task
+-- what contracts see of a trace: its tasks, the microseconds of the first change by its own clock,
+-- its passages, and whether some used line named each task
 pub record TaskTraceData : Type 0 where
   pub set : SetData
   pub clock : Option ℕ
@@ -225,11 +252,13 @@ IsFollowedEnd f outcome = IsEndAt f f.progress outcome
 
 -- where this is said of the whole text, its lines come to these tasks and passages
 abbrev pub IsTaskTextBy : SurveyData → List ℕ → TaskTraceData → Type 0
-IsTaskTextBy look bytes trace = IsTextOf lines_of nothing_followed (IsFollowed look) IsFollowedEnd bytes trace
+IsTaskTextBy look bytes trace =
+    IsTextOf lines_of nothing_followed (IsFollowed look) IsFollowedEnd bytes trace
 
 -- or they are refused with this line and kind
 abbrev pub IsTaskRefusedBy : SurveyData → List ℕ → ℕ → TraceKind → Type 0
-IsTaskRefusedBy look bytes number kind = IsRefused lines_of nothing_followed (IsFollowed look) IsFollowedEnd bytes number kind
+IsTaskRefusedBy look bytes number kind =
+    IsRefused lines_of nothing_followed (IsFollowed look) IsFollowedEnd bytes number kind
 
 -- the bytes are the text of a trace of these tasks and passages
 abbrev pub IsTaskTraceText : List ℕ → TaskTraceData → Type 0
@@ -237,7 +266,8 @@ IsTaskTraceText bytes trace = IsTaskTextBy (survey_of (lines_of bytes)) bytes tr
 
 -- the bytes are refused with this line and kind
 abbrev pub IsTaskTraceRefused : List ℕ → ℕ → TraceKind → Type 0
-IsTaskTraceRefused bytes number kind = IsTaskRefusedBy (survey_of (lines_of bytes)) bytes number kind
+IsTaskTraceRefused bytes number kind =
+    IsTaskRefusedBy (survey_of (lines_of bytes)) bytes number kind
 
 -- how many microseconds passed from the first change to the last used line
 abbrev pub span_of : List Passage → ℕ

@@ -3,9 +3,10 @@ use Rattle.std.specs.Prelude.{◌⊎◌}
 use Rattle.std.specs.Option.{option_map}
 use Rattle.text_fields.specs.Machine.{Fails}
 use Rattle.kernel_trace.specs.Passage.{FollowingData, FollowingOutcome}
-use Rattle.kernel_trace.specs.Reading.{progress_of, IsValid, IsCourse, IsOutOfMemory}
+use Rattle.kernel_trace.specs.Reading.{progress_of, IsSoundSoFar, IsCourse, IsOutOfMemory}
 use Rattle.kernel_trace.specs.StampView.{time_of}
-use Rattle.kernel_trace.specs.TraceText.{Progress, HeaderExpected, ProcessorsExpected, Listed, Tracing}
+use Rattle.kernel_trace.specs.TraceText.{Progress, HeaderExpected, ProcessorsExpected, Listed}
+use Rattle.kernel_trace.specs.TraceText.{Tracing}
 use Rattle.kernel_trace.specs.declared.fault.TraceKind.{TraceKind}
 use Rattle.kernel_trace.specs.declared.task_stage.TaskStage.{TaskStage}
 
@@ -19,9 +20,9 @@ following_of stage = record {
 
 -- what is known makes a head, or is followed by lines of a trace
 abbrev pub IsFollowing : Progress → Type 0
-IsFollowing HeaderExpected = IsValid HeaderExpected
-IsFollowing ProcessorsExpected = IsValid ProcessorsExpected
-IsFollowing (Listed c) = IsValid (Listed c)
+IsFollowing HeaderExpected = IsSoundSoFar HeaderExpected
+IsFollowing ProcessorsExpected = IsSoundSoFar ProcessorsExpected
+IsFollowing (Listed c) = IsSoundSoFar (Listed c)
 IsFollowing (Tracing c) = IsCourse c
 
 -- the same of all that is known

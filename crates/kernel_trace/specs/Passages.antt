@@ -1,6 +1,9 @@
--- What the passages of a trace are, in the words of the trace: its used lines from the first change on, with what they say of who runs
--- where and which of their mentions change whether a task is ready.
-use Rattle.std.specs.Prelude.{◌≡◌, ℕ, ◌-◌, ◌<◌, ◌≤◌, ◌==◌, Bool, false, ◌||◌, is_some, List, [], ◌∷◌, ◌++◌, length, take, map, All, Option, None, Some, option_to_list, slice_index_or, if◌then◌else◌}
+-- What the passages of a trace are, in the words of the trace: its used lines from the first change
+-- on, with what they say of who runs where and which of their mentions change whether a task is
+-- ready.
+use Rattle.std.specs.Prelude.{◌≡◌, ℕ, ◌-◌, ◌<◌, ◌≤◌, ◌==◌, Bool, false, ◌||◌, is_some, List, []}
+use Rattle.std.specs.Prelude.{◌∷◌, ◌++◌, length, take, map, All, Option, None, Some, option_to_list}
+use Rattle.std.specs.Prelude.{slice_index_or, if◌then◌else◌}
 use Rattle.std.specs.List.{list_any}
 use Rattle.text_fields.specs.Lines.{lines_of, fields_of}
 use Rattle.text_fields.specs.Machine.{Leading}
@@ -8,7 +11,8 @@ use Rattle.kernel_trace.specs.Stamp.{microsecond}
 use Rattle.kernel_trace.specs.Survey.{SurveyData, survey_of}
 use Rattle.kernel_trace.specs.Course.{CourseData, WindowData, agrees, is_in_window}
 use Rattle.kernel_trace.specs.Import.{mentions_said, mentions_in, is_last_in, IsHead}
-use Rattle.kernel_trace.specs.Passage.{task_change, first_mention, second_mention, turn_of, clock_of, TaskTraceData, IsTaskTraceText}
+use Rattle.kernel_trace.specs.Passage.{task_change, first_mention, second_mention, turn_of}
+use Rattle.kernel_trace.specs.Passage.{clock_of, TaskTraceData, IsTaskTraceText}
 use Rattle.kernel_trace.specs.Processor.{processor_of}
 use Rattle.kernel_trace.specs.TraceLine.{Said, Nothing, LostEvents, Malformed, Happened, said_by}
 use Rattle.kernel_trace.specs.TraceText.{HeaderExpected, Listed, IsLine, events_line}
@@ -19,7 +23,8 @@ use Rattle.kernel_trace.specs.declared.task_change.TaskChange.{TaskChange}
 use Rattle.trace_passages.specs.Passages as shared
 
 -- ---- used lines
--- a used line: when, in nanoseconds, what it says of tasks, and those of its mentions that change whether a task is ready
+-- a used line: when, in nanoseconds, what it says of tasks, and those of its mentions that change
+-- whether a task is ready
 pub record UsedLine : Type 0 where
   pub time : ℕ
   pub change : TaskChange
@@ -37,7 +42,8 @@ used_line ids before time change told = record {
   time = time;
   change = told;
   first = turning before (first_mention ids change);
-  second = turning (before ++ option_to_list (first_mention ids change)) (second_mention ids change);
+  second =
+      turning (before ++ option_to_list (first_mention ids change)) (second_mention ids change);
 }
 
 -- the line, where it says something of tasks
@@ -51,10 +57,12 @@ used_said ids window before Nothing processor = []
 used_said ids window before LostEvents processor = []
 used_said ids window before Malformed processor = []
 used_said ids window before (Happened time change) processor =
-    if is_in_window window time then used_told ids before time change (task_change ids change processor) else []
+    if is_in_window window time then used_told ids before time change
+    (task_change ids change processor) else []
 
 -- the used ones of some lines, in their order; these mentions stand before them
-abbrev pub used_lines : Bool → List ℕ → Option WindowData → List Readiness → List (List ℕ) → List UsedLine
+abbrev pub used_lines : Bool → List ℕ → Option WindowData → List Readiness → List (List ℕ)
+    → List UsedLine
 used_lines waking ids window before [] = []
 used_lines waking ids window before (line ∷ rest) =
     let said = said_by waking (fields_of line) in
@@ -97,17 +105,20 @@ passages_since (line ∷ rest) = map (passage_since line.time) (line ∷ rest)
 
 -- the passages of some lines of a trace
 abbrev pub passages_in : Bool → List ℕ → Option WindowData → List (List ℕ) → List Passage
-passages_in waking ids window lines = passages_since (from_turn (used_lines waking ids window [] lines))
+passages_in waking ids window lines =
+    passages_since (from_turn (used_lines waking ids window [] lines))
 
 -- the changes of some passages, in their order
 abbrev pub all_changes : List Passage → List Readiness
 all_changes [] = []
-all_changes (passage ∷ rest) = option_to_list passage.first ++ option_to_list passage.second ++ all_changes rest
+all_changes (passage ∷ rest) =
+    option_to_list passage.first ++ option_to_list passage.second ++ all_changes rest
 
 -- each mention says otherwise than the last mention of its task before; these stand before them
 abbrev pub AllTurn : List Readiness → List Readiness → Type 0
 AllTurn before [] = Unit {0}
-AllTurn before (m ∷ rest) = (agrees (is_last_in m.task before) m.is_in ≡ false) × AllTurn (before ++ m ∷ []) rest
+AllTurn before (m ∷ rest) =
+    (agrees (is_last_in m.task before) m.is_in ≡ false) × AllTurn (before ++ m ∷ []) rest
 
 -- no moment is less than the one before it
 abbrev pub NeverFall : ℕ → List Passage → Type 0
@@ -120,18 +131,22 @@ pub record IsPassageOf (count : ℕ) (passage : Passage) : Type 0 where
   pub moment : passage.moment < 9223372036854775808
 
 -- ---- the passages of a trace
--- the first passages are those of some first lines, and after them the ready tasks are those whose last mention is in
-pub record ArePassagesOf (waking : Bool) (ids : List ℕ) (window : Option WindowData) (lines : List (List ℕ)) (all : List Passage) : Type 0 where
+-- the first passages are those of some first lines, and after them the ready tasks are those whose
+-- last mention is in
+pub record ArePassagesOf (waking : Bool) (ids : List ℕ) (window : Option WindowData)
+    (lines : List (List ℕ)) (all : List Passage) : Type 0 where
   pub passages : List Passage
   pub later : List Passage
   pub order : all ≡ passages ++ later
   pub exact : passages ≡ passages_in waking ids window lines
-  pub ready : (t : ℕ) → is_last_in t (all_changes passages) ≡ is_last_in t (mentions_in waking ids window lines)
+  pub ready : (t : ℕ) → is_last_in t (all_changes passages)
+      ≡ is_last_in t (mentions_in waking ids window lines)
 
--- the bytes are the lines of a head, the line `events` and the lines of a trace, and the trace has the set of the head and the passages
--- of its lines: for each number n, the first passages are those of the first n lines; no moment is less than the one before; and each
--- change is one. They are of the tasks of the set, and begin at moment 0. The clock is that of the first used line that has a change,
--- and a task is mentioned where some used line mentions it
+-- the bytes are the lines of a head, the line `events` and the lines of a trace, and the trace has
+-- the set of the head and the passages of its lines: for each number n, the first passages are
+-- those of the first n lines; no moment is less than the one before; and each change is one. They
+-- are of the tasks of the set, and begin at moment 0. The clock is that of the first used line that
+-- has a change, and a task is mentioned where some used line mentions it
 pub record IsTaskTrace (bytes : List ℕ) (trace : TaskTraceData) : Type 0 where
   pub look : SurveyData
   pub surveyed : look ≡ survey_of (lines_of bytes)
@@ -144,10 +159,12 @@ pub record IsTaskTrace (bytes : List ℕ) (trace : TaskTraceData) : Type 0 where
   pub opens : fields_of opening ≡ events_line
   pub no_line : IsHead head
   pub set : trace.set ≡ head.set
-  pub clock : trace.clock ≡ clock_of (first_use (from_turn (used_lines look.waking head.ids head.window [] lines)))
+  pub clock : trace.clock ≡ clock_of
+      (first_use (from_turn (used_lines look.waking head.ids head.window [] lines)))
   pub passages : trace.passages ≡ passages_in look.waking head.ids head.window lines
   pub counted : length trace.mentioned ≡ length trace.set.tasks
-  pub mentioned : (t : ℕ) → slice_index_or trace.mentioned t false ≡ is_named_in t (mentions_in look.waking head.ids head.window lines)
+  pub mentioned : (t : ℕ) → slice_index_or trace.mentioned t false
+      ≡ is_named_in t (mentions_in look.waking head.ids head.window lines)
   pub each : (n : ℕ) → ArePassagesOf look.waking head.ids head.window (take n lines) trace.passages
   pub rising : NeverFall 0 trace.passages
   pub changing : AllTurn [] (all_changes trace.passages)
@@ -156,4 +173,5 @@ pub record IsTaskTrace (bytes : List ℕ) (trace : TaskTraceData) : Type 0 where
 
 -- what is read of a trace are its passages
 abbrev pub PassagesAreFaithful : Type 0
-PassagesAreFaithful = (bytes : List ℕ) (trace : TaskTraceData) → IsTaskTraceText bytes trace → IsTaskTrace bytes trace
+PassagesAreFaithful =
+    (bytes : List ℕ) (trace : TaskTraceData) → IsTaskTraceText bytes trace → IsTaskTrace bytes trace

@@ -1,12 +1,15 @@
--- The processor of a line of the scheduler. It stands in brackets before the stamp, as `[003]`; of several such fields the last one
--- counts, since the name of a thread may have brackets in it.
-use Rattle.std.specs.Prelude.{ℕ, ◌-◌, Bool, ◌&&◌, ◌==◌, nat_lt, List, [], ◌∷◌, codes, length, get_or, Option, None, Some, if◌then◌else◌}
+-- The processor of a line of the scheduler. It stands in brackets before the stamp, as `[003]`; of
+-- several such fields the last one counts, since the name of a thread may have brackets in it.
+use Rattle.std.specs.Prelude.{ℕ, ◌-◌, Bool, ◌&&◌, ◌==◌, nat_lt, List, [], ◌∷◌, codes, length}
+use Rattle.std.specs.Prelude.{get_or, Option, None, Some, if◌then◌else◌}
 use Rattle.affinity_mask.specs.Number.{number_value}
-use Rattle.kernel_trace.specs.TraceLine.{after_key, is_keyed, word_of, before_last, TraceEvent, event_at}
+use Rattle.kernel_trace.specs.TraceLine.{after_key, is_keyed, word_of, before_last, TraceEvent}
+use Rattle.kernel_trace.specs.TraceLine.{event_at}
 
 -- the field is digits in brackets
 unfoldable pub is_processor : List ℕ → Bool
-is_processor field = (get_or field (length field - 1) 0 == 93) && is_keyed (codes "[") (before_last field)
+is_processor field =
+    (get_or field (length field - 1) 0 == 93) && is_keyed (codes "[") (before_last field)
 
 -- the number, where it is below 2^32
 abbrev pub small_number : ℕ → Option ℕ
@@ -29,7 +32,8 @@ named_at None named later = later
 abbrev pub named_before : Bool → Option ℕ → List ℕ → List (List ℕ) → Option ℕ
 named_before waking named field [] = None
 named_before waking named field (next ∷ rest) =
-    named_at (event_at field (word_of waking next) rest) named (named_before waking (processor_after named field) next rest)
+    named_at (event_at field (word_of waking next) rest) named
+    (named_before waking (processor_after named field) next rest)
 
 -- the processor that the fields of a line name, where it is of the scheduler
 abbrev pub processor_of : Bool → List (List ℕ) → Option ℕ

@@ -1,12 +1,14 @@
 -- Steps of the reader. Private: the contracts of this crate's own functions.
-use Rattle.std.specs.Prelude.{◌≡◌, ℕ, Bool, not, ◌-◌, ◌<◌, ◌≤◌, ◌⊎◌, List, ◌∷◌, ◌++◌, length, replicate, All, option_to_list}
+use Rattle.std.specs.Prelude.{◌≡◌, ℕ, Bool, not, ◌-◌, ◌<◌, ◌≤◌, ◌⊎◌, List, ◌∷◌, ◌++◌, length}
+use Rattle.std.specs.Prelude.{replicate, All, option_to_list}
 use Rattle.std.specs.Option.{option_map}
 use Rattle.task_set.specs.TaskSet.{IsTaskSet}
 use Rattle.trace_reader.specs.Input.{IsPostedOf, AreOfVersion}
 use Rattle.text_fields.specs.Machine.{Fails}
 use Rattle.kernel_trace.specs.StampView.{time_of}
 use Rattle.kernel_trace.specs.Course.{CourseData, WindowData, written}
-use Rattle.kernel_trace.specs.TraceText.{Progress, HeaderExpected, ProcessorsExpected, Listed, Tracing, LineOutcome, TaskLine}
+use Rattle.kernel_trace.specs.TraceText.{Progress, HeaderExpected, ProcessorsExpected, Listed}
+use Rattle.kernel_trace.specs.TraceText.{Tracing, LineOutcome, TaskLine}
 use Rattle.trace_passages.specs.declared.passage.Readiness.{Readiness}
 use Rattle.kernel_trace.specs.declared.course.Course.{Course}
 use Rattle.kernel_trace.specs.declared.course.Mentions.{Mentions}
@@ -17,7 +19,9 @@ use Rattle.kernel_trace.specs.declared.stage.Stage.{Stage}
 use Rattle.kernel_trace.specs.declared.stage.Step.{Step}
 use Rattle.kernel_trace.specs.declared.stage.Step.TheVariants as step
 use Rattle.kernel_trace.specs.declared.stage.TaskForm.{TaskForm}
-use Rattle.kernel_trace.specs.TraceLine.{LastFields as LastFieldsData, Leaving as LeavingData, EventFields as EventFieldsData, TraceEvent, Said as SaidData, Nothing, LostEvents, Malformed, Happened}
+use Rattle.kernel_trace.specs.TraceLine.{LastFields as LastFieldsData, Leaving as LeavingData}
+use Rattle.kernel_trace.specs.TraceLine.{EventFields as EventFieldsData, TraceEvent}
+use Rattle.kernel_trace.specs.TraceLine.{Said as SaidData, Nothing, LostEvents, Malformed, Happened}
 use Rattle.kernel_trace.specs.declared.event.LastFields.{LastFields}
 use Rattle.kernel_trace.specs.declared.event.EventFields.{EventFields}
 use Rattle.kernel_trace.specs.declared.event.Leaving.{Leaving}
@@ -42,7 +46,8 @@ in_places places number = replicate (places - length number) 48 ++ number
 -- ---- what contracts see of what was read of a line
 -- the last fields
 abbrev pub ends_view : LastFields → LastFieldsData
-ends_view f = record { fourth = f.fourth.now; third = f.third.now; second = f.second.now; last = f.last.now }
+ends_view f =
+    record { fourth = f.fourth.now; third = f.third.now; second = f.second.now; last = f.last.now }
 
 -- a thread that leaves
 abbrev pub left_view : Leaving → LeavingData
@@ -54,7 +59,8 @@ fields_view e = record { ends = ends_view e.ends; leaving = option_map left_view
 
 -- an event
 abbrev pub event_view : SchedulerEvent → TraceEvent
-event_view event = record { time = time_of event.stamp; word = event.word; fields = fields_of event.fields.now }
+event_view event =
+    record { time = time_of event.stamp; word = event.word; fields = fields_of event.fields.now }
 
 -- what a line says
 abbrev pub said_view : Said → SaidData
@@ -98,7 +104,8 @@ progress_of stage = progress_at stage.step (course_of stage.course)
 
 -- what a task line says, as the code has it
 abbrev pub line_of : TaskForm → TaskLine
-line_of form = record { name = form.name.now; level = form.level; list = form.list.now; id = form.id }
+line_of form =
+    record { name = form.name.now; level = form.level; list = form.list.now; id = form.id }
 
 -- the mentions are of the first so many tasks
 abbrev pub AreTasks : ℕ → List Readiness → Type 0
@@ -113,11 +120,11 @@ pub record IsCourse (c : CourseData) : Type 0 where
   pub of_version : AreOfVersion 1 c.events
 
 -- what is known makes an input
-abbrev pub IsValid : Progress → Type 0
-IsValid HeaderExpected = Unit {0}
-IsValid ProcessorsExpected = Unit {0}
-IsValid (Listed c) = IsCourse c × (length (written c) ≤ 20000)
-IsValid (Tracing c) = IsCourse c × (length (written c) ≤ 20000)
+abbrev pub IsSoundSoFar : Progress → Type 0
+IsSoundSoFar HeaderExpected = Unit {0}
+IsSoundSoFar ProcessorsExpected = Unit {0}
+IsSoundSoFar (Listed c) = IsCourse c × (length (written c) ≤ 20000)
+IsSoundSoFar (Tracing c) = IsCourse c × (length (written c) ≤ 20000)
 
 -- out of memory
 abbrev pub IsOutOfMemory : TraceKind → Type 0

@@ -1,6 +1,7 @@
--- Stamps of trace lines: whole seconds, a point, and one to nine digits of a fraction of a second. The digits of the seconds
--- have any count, and leading zeros.
-use Rattle.std.specs.Prelude.{ℕ, ◌+◌, ◌-◌, ◌*◌, ◌/◌, Bool, not, ◌&&◌, ◌==◌, nat_lt, nat_le, List, ◌++◌, length, replicate, Option, None, Some, if◌then◌else◌}
+-- Stamps of trace lines: whole seconds, a point, and one to nine digits of a fraction of a second.
+-- The digits of the seconds have any count, and leading zeros.
+use Rattle.std.specs.Prelude.{ℕ, ◌+◌, ◌-◌, ◌*◌, ◌/◌, Bool, not, ◌&&◌, ◌==◌, nat_lt, nat_le, List}
+use Rattle.std.specs.Prelude.{◌++◌, length, replicate, Option, None, Some, if◌then◌else◌}
 use Rattle.std.specs.Char.{is_ascii_digit}
 use Rattle.std.specs.List.{list_all, before_first, after_first}
 use Rattle.affinity_mask.specs.Number.{number_value}
@@ -39,7 +40,8 @@ is_stamp text = is_number (seconds_text text) && is_fraction (fraction_text text
 
 -- the nanoseconds of a stamp
 unfoldable pub nanoseconds : List ℕ → ℕ
-nanoseconds text = number_value (seconds_text text) * 1000000000 + fraction_value (fraction_text text)
+nanoseconds text =
+    number_value (seconds_text text) * 1000000000 + fraction_value (fraction_text text)
 
 -- the whole microseconds of some nanoseconds
 abbrev pub microsecond : ℕ → ℕ
@@ -47,4 +49,5 @@ microsecond nanos = nanos / 1000
 
 -- those of a time, where they are less than 2^63
 abbrev pub clock_at : ℕ → Option ℕ
-clock_at time = if nat_lt (microsecond time) 9223372036854775808 then Some (microsecond time) else None
+clock_at time =
+    if nat_lt (microsecond time) 9223372036854775808 then Some (microsecond time) else None

@@ -1,5 +1,5 @@
--- Times of a trace's own clock as they are written: whole seconds as a canonical number, a point, and six digits; `-` where there is no
--- time.
+-- Times of a trace's own clock as they are written: whole seconds as a canonical number, a point,
+-- and six digits; `-` where there is no time.
 use Rattle.std.specs.Prelude.{ℕ, ◌+◌, ◌/◌, ◌%◌, List, [], ◌∷◌, ◌++◌, codes, Option, Some, None}
 use Rattle.affinity_mask.specs.Number.{canonical_number}
 
@@ -10,7 +10,8 @@ last_digit n = 48 + n % 10
 -- its last six digits
 unfoldable pub six_digits : ℕ → List ℕ
 six_digits n =
-    last_digit (n / 100000) ∷ last_digit (n / 10000) ∷ last_digit (n / 1000) ∷ last_digit (n / 100) ∷ last_digit (n / 10) ∷ last_digit n ∷ []
+    last_digit (n / 100000) ∷ last_digit (n / 10000) ∷ last_digit (n / 1000) ∷ last_digit (n / 100)
+    ∷ last_digit (n / 10) ∷ last_digit n ∷ []
 
 -- whole seconds and the microseconds that are left
 unfoldable pub time_text : ℕ → ℕ → List ℕ

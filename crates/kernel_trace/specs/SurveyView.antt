@@ -1,4 +1,5 @@
--- What contracts see of a first look over a text. Private: the contracts of this crate's own functions.
+-- What contracts see of a first look over a text. Private: the contracts of this crate's own
+-- functions.
 use Rattle.std.specs.Option.{option_map}
 use Rattle.kernel_trace.specs.StampView.{time_of}
 use Rattle.kernel_trace.specs.Survey.{SurveyData, SightingData}
@@ -11,4 +12,5 @@ look_of survey = record { waking = survey.waking; whole = option_map time_of sur
 
 -- what was seen of its lines
 abbrev pub sightings_of : Sightings → SightingData
-sightings_of sightings = record { processors = sightings.processors.keys; time = option_map time_of sightings.time }
+sightings_of sightings =
+    record { processors = sightings.processors.keys; time = option_map time_of sightings.time }

@@ -5,7 +5,13 @@ use Rattle.task_set.specs.declared.fault.TaskFault.TheVariants as task
 use Rattle.text_fields.specs.declared.kind.LineKind.{LineKind}
 use Rattle.text_fields.specs.declared.kind.LineKind.TheVariants as line
 use Rattle.kernel_trace.specs.declared.fault.TraceKind.{TraceKind}
-use Rattle.kernel_trace.specs.declared.fault.TraceKind.TheVariants.{BadByte, LongLine, BadHeader, BadProcessors, BadTask, BadMask, TaskRefused, SamePid, BadWindow, BadHead, Lost, BadForm, Backward, Unseen, ManyEvents, NoEvents, Overwritten, NothingSaid, OutOfMemory}
+use Rattle.kernel_trace.specs.declared.fault.TraceKind.TheVariants.{BadByte, LongLine, BadHeader}
+use Rattle.kernel_trace.specs.declared.fault.TraceKind.TheVariants.{BadProcessors, BadTask, BadMask}
+use Rattle.kernel_trace.specs.declared.fault.TraceKind.TheVariants.{TaskRefused, SamePid, BadWindow}
+use Rattle.kernel_trace.specs.declared.fault.TraceKind.TheVariants.{BadHead, Lost, BadForm}
+use Rattle.kernel_trace.specs.declared.fault.TraceKind.TheVariants.{Backward, Unseen, ManyEvents}
+use Rattle.kernel_trace.specs.declared.fault.TraceKind.TheVariants.{NoEvents, Overwritten}
+use Rattle.kernel_trace.specs.declared.fault.TraceKind.TheVariants.{NothingSaid, OutOfMemory}
 
 -- the number of a kind; out of memory has none
 abbrev pub kind_number : TraceKind → Option ℕ

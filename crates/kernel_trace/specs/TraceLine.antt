@@ -1,7 +1,9 @@
--- What a line of a trace says. A line is of the scheduler where some field is a stamp with a colon, and the next one is the word of
--- an event; the first such place counts. The fields after the word say the event. Of the name of a thread, which may have
--- blanks and arrows in it, nothing is read. Whether `sched_waking` is the word of a wakeup is said of the whole text.
-use Rattle.std.specs.Prelude.{ℕ, ◌-◌, Bool, ◌&&◌, ◌||◌, ◌==◌, List, [], ◌∷◌, codes, length, take, drop, get_or, min, Option, None, Some, fold, if◌then◌else◌}
+-- What a line of a trace says. A line is of the scheduler where some field is a stamp with a colon,
+-- and the next one is the word of an event; the first such place counts. The fields after the word
+-- say the event. Of the name of a thread, which may have blanks and arrows in it, nothing is read.
+-- Whether `sched_waking` is the word of a wakeup is said of the whole text.
+use Rattle.std.specs.Prelude.{ℕ, ◌-◌, Bool, ◌&&◌, ◌||◌, ◌==◌, List, [], ◌∷◌, codes, length, take}
+use Rattle.std.specs.Prelude.{drop, get_or, min, Option, None, Some, fold, if◌then◌else◌}
 use Rattle.std.specs.Prelude.{nat_eq}
 use Rattle.std.specs.Str.{bytes_eq}
 use Rattle.std.specs.Option.{option_or}
@@ -35,7 +37,8 @@ unsigned text = if begins (codes "-") text then after_key (codes "-") text else 
 unfoldable pub is_priority : List ℕ → List ℕ → Bool
 is_priority key field = begins key field && is_number (unsigned (after_key key field))
 
--- the thread id that the digits after a key say; 4,194,305 is nobody's, and stands for all that are greater
+-- the thread id that the digits after a key say; 4,194,305 is nobody's, and stands for all that are
+-- greater
 unfoldable pub id_after : List ℕ → List ℕ → ℕ
 id_after key field = min (number_value (after_key key field)) 4194305
 
@@ -54,7 +57,8 @@ fields_after f field = record { fourth = f.third; third = f.second; second = f.l
 -- the four fields of the thread that leaves: its id, its priority, its state, and the arrow
 unfoldable pub is_leaving : LastFields → Bool
 is_leaving f =
-    bytes_eq f.last (codes "==>") && begins (codes "prev_state=") f.second && is_priority (codes "prev_prio=") f.third
+    bytes_eq f.last (codes "==>") && begins (codes "prev_state=") f.second
+    && is_priority (codes "prev_prio=") f.third
     && is_keyed (codes "prev_pid=") f.fourth
 
 -- a thread that leaves: its id, and its state as it stands
@@ -66,7 +70,10 @@ pub record Leaving : Type 0 where
 abbrev pub leaving_of : LastFields → Option Leaving
 leaving_of f =
     if is_leaving f
-    then Some (record { id = id_after (codes "prev_pid=") f.fourth; state = after_key (codes "prev_state=") f.second })
+    then Some (record {
+      id = id_after (codes "prev_pid=") f.fourth;
+      state = after_key (codes "prev_state=") f.second;
+    })
     else None
 
 -- the last fields, and the first thread that leaves
@@ -82,7 +89,8 @@ event_fields_after e field =
 
 -- no field yet
 abbrev pub no_fields : EventFields
-no_fields = record { ends = record { fourth = []; third = []; second = []; last = [] }; leaving = None }
+no_fields =
+    record { ends = record { fourth = []; third = []; second = []; last = [] }; leaving = None }
 
 -- what the fields of an event are
 abbrev pub event_fields : List (List ℕ) → EventFields
@@ -112,14 +120,16 @@ switch_of ends (Some left) =
 -- a wakeup of the thread of these fields
 abbrev pub wakeup_of : List ℕ → List ℕ → List ℕ → Option Change
 wakeup_of pid prio target =
-    if is_keyed (codes "target_cpu=") target && is_priority (codes "prio=") prio && is_keyed (codes "pid=") pid
+    if is_keyed (codes "target_cpu=") target && is_priority (codes "prio=") prio
+    && is_keyed (codes "pid=") pid
     then Some (Wakeup (id_after (codes "pid=") pid))
     else None
 
 -- a wakeup by its last fields, of which `success` may be missing
 abbrev pub wakeup_by : LastFields → Option Change
 wakeup_by f =
-    if is_keyed (codes "success=") f.second then wakeup_of f.fourth f.third f.last else wakeup_of f.third f.second f.last
+    if is_keyed (codes "success=") f.second then wakeup_of f.fourth f.third f.last
+    else wakeup_of f.third f.second f.last
 
 -- the change that the fields after a word say, where they have its form
 abbrev pub change_of : EventWord → List (List ℕ) → Option Change
@@ -128,7 +138,8 @@ change_of named.Switch fields =
     then (let e = event_fields fields in switch_of e.ends e.leaving)
     else None
 change_of named.Wakeup fields =
-    if begins (codes "comm=") (get_or fields 0 []) then wakeup_by (event_fields fields).ends else None
+    if begins (codes "comm=") (get_or fields 0 []) then wakeup_by (event_fields fields).ends
+    else None
 
 -- ---- the place of an event
 -- the field is the word of a wakeup; whether `sched_waking:` is one is given
@@ -169,12 +180,14 @@ pub record TraceEvent : Type 0 where
 abbrev pub event_at : List ℕ → Option EventWord → List (List ℕ) → Option TraceEvent
 event_at field None rest = None
 event_at field (Some word) rest =
-    if is_stamped field then Some (record { time = nanoseconds (before_last field); word = word; fields = rest }) else None
+    if is_stamped field then Some
+    (record { time = nanoseconds (before_last field); word = word; fields = rest }) else None
 
 -- the event at the first place of a field and those after it
 abbrev pub first_event : Bool → List ℕ → List (List ℕ) → Option TraceEvent
 first_event waking field [] = None
-first_event waking field (next ∷ rest) = option_or (event_at field (word_of waking next) rest) (first_event waking next rest)
+first_event waking field (next ∷ rest) =
+    option_or (event_at field (word_of waking next) rest) (first_event waking next rest)
 
 -- the event of the fields of a line
 abbrev pub event_in : Bool → List (List ℕ) → Option TraceEvent
@@ -182,7 +195,8 @@ event_in waking [] = None
 event_in waking (first ∷ rest) = first_event waking first rest
 
 -- ---- what a line says
--- a line says nothing of the scheduler, or that events were lost, or an event without its form, or a change at a time in nanoseconds
+-- a line says nothing of the scheduler, or that events were lost, or an event without its form, or
+-- a change at a time in nanoseconds
 pub data Said : Type 0 where
   Nothing : Said
   LostEvents : Said
@@ -192,13 +206,15 @@ pub data Said : Type 0 where
 -- the last two fields are `events` and `lost]`
 abbrev pub ends_in_lost : List (List ℕ) → Bool
 ends_in_lost fields =
-    bytes_eq (event_fields fields).ends.second (codes "events") && bytes_eq (event_fields fields).ends.last (codes "lost]")
+    bytes_eq (event_fields fields).ends.second (codes "events")
+    && bytes_eq (event_fields fields).ends.last (codes "lost]")
 
 -- the first field and those after it tell of lost events
 unfoldable pub tells_of_loss : List ℕ → List (List ℕ) → Bool
 tells_of_loss first rest =
     if begins (codes "CPU:") first
-    then bytes_eq (event_fields rest).ends.last (codes "EVENTS]") || bytes_eq (event_fields rest).ends.last (codes "DROPPED]")
+    then bytes_eq (event_fields rest).ends.last (codes "EVENTS]")
+    || bytes_eq (event_fields rest).ends.last (codes "DROPPED]")
     else (is_keyed (codes "[") first && ends_in_lost rest)
 
 -- what an event says

@@ -1,8 +1,11 @@
--- The text of a trace. First comes a head, whose lines are cut and skipped as those of input texts are: a header, the number of
--- processors, tasks with their thread ids and at most one window in any order, and `events`. All further lines are the trace, of
--- any bytes and any length. What a line comes to is said by what is known: more is known then, or the line has a fault, the first
--- of its kinds in their order. The first line with a fault decides. What is said of the whole text is known from the first line on.
-use Rattle.std.specs.Prelude.{◌≡◌, ℕ, ◌+◌, ◌*◌, true, nat_eq, nat_lt, nat_le, ◌&&◌, List, [], ◌∷◌, ◌++◌, length, codes, Option, None, Some, if◌then◌else◌}
+-- The text of a trace. First comes a head, whose lines are cut and skipped as those of input texts
+-- are: a header, the number of processors, tasks with their thread ids and at most one window in
+-- any order, and `events`. All further lines are the trace, of any bytes and any length. What a
+-- line comes to is said by what is known: more is known then, or the line has a fault, the first of
+-- its kinds in their order. The first line with a fault decides. What is said of the whole text is
+-- known from the first line on.
+use Rattle.std.specs.Prelude.{◌≡◌, ℕ, ◌+◌, ◌*◌, true, nat_eq, nat_lt, nat_le, ◌&&◌, List, [], ◌∷◌}
+use Rattle.std.specs.Prelude.{◌++◌, length, codes, Option, None, Some, if◌then◌else◌}
 use Rattle.std.specs.List.{list_any}
 use Rattle.affinity_mask.specs.ListText.{IsListText}
 use Rattle.affinity_mask.specs.ListFault.{IsListFault}
@@ -18,12 +21,18 @@ use Rattle.text_fields.specs.Laws.{IsTextOf, IsRefused}
 use Rattle.kernel_trace.specs.Stamp.{is_stamp, nanoseconds}
 use Rattle.kernel_trace.specs.Survey.{SurveyData, survey_of, is_gap}
 use Rattle.kernel_trace.specs.TraceLine.{Said, Nothing, LostEvents, Malformed, Happened, said_by}
-use Rattle.kernel_trace.specs.Course.{CourseData, WindowData, mentions, is_unseen, written, after_mentions, is_backward, is_in_window, names_task}
+use Rattle.kernel_trace.specs.Course.{CourseData, WindowData, mentions, is_unseen, written}
+use Rattle.kernel_trace.specs.Course.{after_mentions, is_backward, is_in_window, names_task}
 use Rattle.kernel_trace.specs.TraceFault.{trace_kind}
 use Rattle.kernel_trace.specs.declared.change.Change.{Change}
 use Rattle.kernel_trace.specs.declared.change.Standing.TheVariants.{Unmentioned}
 use Rattle.kernel_trace.specs.declared.fault.TraceKind.{TraceKind}
-use Rattle.kernel_trace.specs.declared.fault.TraceKind.TheVariants.{BadHeader, BadProcessors, BadTask, BadMask, TaskRefused, SamePid, BadWindow, BadHead, Lost, BadForm, Backward, Unseen, ManyEvents, NoEvents, Overwritten, NothingSaid}
+use Rattle.kernel_trace.specs.declared.fault.TraceKind.TheVariants.{BadHeader, BadProcessors}
+use Rattle.kernel_trace.specs.declared.fault.TraceKind.TheVariants.{BadTask, BadMask, TaskRefused}
+use Rattle.kernel_trace.specs.declared.fault.TraceKind.TheVariants.{SamePid, BadWindow, BadHead}
+use Rattle.kernel_trace.specs.declared.fault.TraceKind.TheVariants.{Lost, BadForm, Backward, Unseen}
+use Rattle.kernel_trace.specs.declared.fault.TraceKind.TheVariants.{ManyEvents, NoEvents}
+use Rattle.kernel_trace.specs.declared.fault.TraceKind.TheVariants.{Overwritten, NothingSaid}
 
 -- ---- the lines of the head
 -- a word, and a number between two bounds
@@ -46,8 +55,8 @@ pub record TaskLine : Type 0 where
   pub list : List ℕ
   pub id : ℕ
 
--- `task`, any field for a name, the priority that the trace prints, to 4,194,303, any field for a list, and a thread id from 1 to
--- 4,194,304
+-- `task`, any field for a name, the priority that the trace prints, to 4,194,303, any field for a
+-- list, and a thread id from 1 to 4,194,304
 pub record IsTaskForm (fields : List (List ℕ)) (line : TaskLine) : Type 0 where
   pub level : List ℕ
   pub id : List ℕ
@@ -115,7 +124,8 @@ with_listed c line mask = record c {
 -- ---- what a line of the head comes to
 -- the task can be added: it is listed, where its thread id is new
 abbrev pub id_outcome : CourseData → TaskLine → ℕ → LineOutcome
-id_outcome c line mask = if list_any (nat_eq line.id) c.ids then Fails SamePid else Leads (Listed (with_listed c line mask))
+id_outcome c line mask = if list_any (nat_eq line.id) c.ids then Fails SamePid
+    else Leads (Listed (with_listed c line mask))
 
 -- the list is a mask: the task can be added, or the task set refuses it
 abbrev pub IsAddOutcome : CourseData → TaskLine → ℕ → LineOutcome → Type 0
@@ -147,26 +157,31 @@ IsListedOutcome c fields outcome =
 
 -- a line with a word and a number leads on, or has this fault
 abbrev pub IsWordedOutcome : (ℕ → Type 0) → (ℕ → Progress) → TraceKind → LineOutcome → Type 0
-IsWordedOutcome Is next kind outcome = IsReading Is (λ n. IsOnly (Leads (next n))) (IsOnly (Fails kind)) outcome
+IsWordedOutcome Is next kind outcome =
+    IsReading Is (λ n. IsOnly (Leads (next n))) (IsOnly (Fails kind)) outcome
 
 -- what the fields of a line of the head come to, by what is known
 abbrev pub IsHeadOutcome : Progress → List (List ℕ) → LineOutcome → Type 0
 IsHeadOutcome HeaderExpected fields outcome =
-    IsWordedOutcome (λ version. IsHeader version fields) (λ version. ProcessorsExpected) BadHeader outcome
+    IsWordedOutcome (λ version. IsHeader version fields) (λ version. ProcessorsExpected)
+    BadHeader outcome
 IsHeadOutcome ProcessorsExpected fields outcome =
-    IsWordedOutcome (λ m. IsProcessorsLine m fields) (λ m. Listed (without_tasks m)) BadProcessors outcome
+    IsWordedOutcome (λ m. IsProcessorsLine m fields) (λ m. Listed (without_tasks m))
+    BadProcessors outcome
 IsHeadOutcome (Listed c) fields outcome = IsListedOutcome c fields outcome
 IsHeadOutcome (Tracing c) fields outcome = IsOnly (Leads (Tracing c)) outcome
 
 -- ---- what a line of the trace comes to
 -- the line was used: its input is not too long
 abbrev pub counted_outcome : CourseData → LineOutcome
-counted_outcome c = if nat_lt 20000 (length (written c)) then Fails ManyEvents else Leads (Tracing c)
+counted_outcome c =
+    if nat_lt 20000 (length (written c)) then Fails ManyEvents else Leads (Tracing c)
 
 -- the line is used: no wakeup is missing, and its mentions are followed
 abbrev pub used_outcome : CourseData → Change → LineOutcome
 used_outcome c change =
-    if is_unseen c.standings c.ids change then Fails Unseen else counted_outcome (after_mentions c (mentions c.ids change))
+    if is_unseen c.standings c.ids change then Fails Unseen
+    else counted_outcome (after_mentions c (mentions c.ids change))
 
 -- the line is not less than the one before: it is used where it is in the window
 abbrev pub timed_outcome : CourseData → ℕ → Change → LineOutcome
@@ -180,12 +195,14 @@ abbrev pub said_outcome : CourseData → Said → LineOutcome
 said_outcome c Nothing = Leads (Tracing c)
 said_outcome c LostEvents = Fails Lost
 said_outcome c Malformed = Fails BadForm
-said_outcome c (Happened time change) = if is_backward c.last time then Fails Backward else timed_outcome c time change
+said_outcome c (Happened time change) =
+    if is_backward c.last time then Fails Backward else timed_outcome c time change
 
 -- what the fields of a line of the trace come to
 abbrev pub fields_outcome : SurveyData → CourseData → List (List ℕ) → LineOutcome
 fields_outcome look c fields =
-    if is_gap look c.window fields then Fails Overwritten else said_outcome c (said_by look.waking fields)
+    if is_gap look c.window fields then Fails Overwritten
+    else said_outcome c (said_by look.waking fields)
 
 -- what a line of the trace comes to
 abbrev pub trace_outcome : SurveyData → CourseData → List ℕ → LineOutcome
@@ -194,9 +211,12 @@ trace_outcome look c line = fields_outcome look c (fields_of line)
 -- ---- what a text comes to, line by line
 -- what a line comes to, by what is known
 abbrev pub IsLine : SurveyData → Progress → List ℕ → LineOutcome → Type 0
-IsLine look HeaderExpected line outcome = IsLineOutcome 4096 true trace_kind IsHeadOutcome HeaderExpected line outcome
-IsLine look ProcessorsExpected line outcome = IsLineOutcome 4096 true trace_kind IsHeadOutcome ProcessorsExpected line outcome
-IsLine look (Listed c) line outcome = IsLineOutcome 4096 true trace_kind IsHeadOutcome (Listed c) line outcome
+IsLine look HeaderExpected line outcome =
+    IsLineOutcome 4096 true trace_kind IsHeadOutcome HeaderExpected line outcome
+IsLine look ProcessorsExpected line outcome =
+    IsLineOutcome 4096 true trace_kind IsHeadOutcome ProcessorsExpected line outcome
+IsLine look (Listed c) line outcome =
+    IsLineOutcome 4096 true trace_kind IsHeadOutcome (Listed c) line outcome
 IsLine look (Tracing c) line outcome = IsOnly (trace_outcome look c line) outcome
 
 -- the input of what is known
@@ -220,7 +240,8 @@ IsTextBy look bytes input = IsTextOf lines_of HeaderExpected (IsLine look) IsEnd
 
 -- or they are refused with this line and kind
 abbrev pub IsRefusedBy : SurveyData → List ℕ → ℕ → TraceKind → Type 0
-IsRefusedBy look bytes number kind = IsRefused lines_of HeaderExpected (IsLine look) IsEndOutcome bytes number kind
+IsRefusedBy look bytes number kind =
+    IsRefused lines_of HeaderExpected (IsLine look) IsEndOutcome bytes number kind
 
 -- the bytes are the text of a trace, of which this input comes
 abbrev pub IsTraceText : List ℕ → InputData → Type 0

@@ -26,7 +26,7 @@ pub enum Standing {
 
 impl Standing {
     ghost use Rattle.std.specs.Prelude.{◌≡◌};
-    ghost use Rattle.kernel_trace.specs.Course.{standing_after, is_ready, is_absent, is_mentioned};
+    ghost use Rattle.kernel_trace.specs.Course.{standing_after, says_ready, is_absent, is_mentioned};
 
     /// What a mention says.
     pub fn after(is_in: bool) -> Standing
@@ -41,7 +41,7 @@ impl Standing {
 
     /// Whether the task is ready.
     pub fn is_ready(self) -> bool
-        ensures { result ≡ is_ready self }
+        ensures { result ≡ says_ready self }
     {
         matches!(self, Standing::Ready)
     }

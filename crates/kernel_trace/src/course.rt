@@ -2,7 +2,7 @@
 ghost use Rattle.std.specs.Prelude.{◌≡◌, ◌⊎◌, ◌<◌, ◌≤◌, ◌↔◌, ◌++◌, ◌∷◌, [], min, not, length, set, replicate, option_to_list, IsTrue, OnOk, IfOk, IfErr};
 ghost use Rattle.std.specs.Option.{option_map};
 ghost use Rattle.task_set.specs.declared.event.Event.TheVariants.{Tick};
-ghost use Rattle.kernel_trace.specs.Course.{ticks, passed, written, event_of, on_first_stream, after_mention, after_mentions, mention_of, mentions, misses_wakeup, is_unseen, is_backward, is_in_window, agrees, is_ready, standing_of, standing_after, names_task};
+ghost use Rattle.kernel_trace.specs.Course.{ticks, passed, written, event_of, on_first_stream, after_mention, after_mentions, mention_of, mentions, misses_wakeup, is_unseen, is_backward, is_in_window, agrees, says_ready, standing_of, standing_after, names_task};
 ghost use Rattle.kernel_trace.specs.Passage.{task_of, task_change, first_mention, second_mention, changing, marked, at_time};
 ghost use Rattle.kernel_trace.specs.Processor.{processor_of};
 ghost use Rattle.kernel_trace.specs.Reading.{course_of, mentions_view, window_view, IsCourse, IsOutOfMemory, AreTasks};
@@ -338,7 +338,7 @@ impl<'a> Course<'a> {
     /// Marks what a mention says, and whether it changes that the task is ready, or is not.
     fn mark(&mut self, mention: Readiness) -> bool
         requires { mention.task < length (course_of self.old).standings }
-        ensures changes { result ≡ not (agrees (is_ready
+        ensures changes { result ≡ not (agrees (says_ready
             (standing_of (course_of self.old).standings mention.task)) mention.is_in) }
         ensures course { course_of self.new ≡ record (course_of self.old) {
           standings = set (course_of self.old).standings mention.task (standing_after mention.is_in);

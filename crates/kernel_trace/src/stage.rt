@@ -7,7 +7,7 @@ ghost use Rattle.text_fields.specs.Fields.{texts};
 ghost use Rattle.text_fields.specs.LineRule.{IsLineOutcome};
 ghost use Rattle.text_fields.specs.Machine.{Leads, Fails};
 ghost use Rattle.kernel_trace.specs.SurveyView.{look_of};
-ghost use Rattle.kernel_trace.specs.Reading.{course_of, progress_of, line_of, window_view, IsValid, IsCourse, IsOutOfMemory, IsRefusedBy};
+ghost use Rattle.kernel_trace.specs.Reading.{course_of, progress_of, line_of, window_view, IsSoundSoFar, IsCourse, IsOutOfMemory, IsRefusedBy};
 ghost use Rattle.kernel_trace.specs.declared.stage.Step.TheVariants as step;
 ghost use Rattle.kernel_trace.specs.TraceFault.{trace_kind};
 ghost use Rattle.kernel_trace.specs.TraceText.{IsWorded, IsTaskForm, TaskLine, BeginsWith, events_line, window_of, window_between, without_tasks, IsHeadOutcome, IsTaskOutcome, window_outcome, IsLine, IsEndOutcome, HeaderExpected, ProcessorsExpected, Listed};
@@ -91,7 +91,7 @@ impl<'a> Stage<'a> {
         line: &'a [u8],
         room: &mut Vec<&'a [u8]>,
     ) -> Result<(), TraceKind>
-        requires { IsValid (progress_of self.old) }
+        requires { IsSoundSoFar (progress_of self.old) }
         ensures read { OnOk result (IsLine (look_of look.entry) (progress_of self.old) line.now
             (Leads (progress_of self.new))) }
         ensures refused { IfErr result (IsRefusedBy (IsLine (look_of look.entry) (progress_of self.old)
@@ -110,7 +110,7 @@ impl<'a> Stage<'a> {
         line: &'a [u8],
         room: &mut Vec<&'a [u8]>,
     ) -> Result<(), TraceKind>
-        requires { IsValid (progress_of self.old) }
+        requires { IsSoundSoFar (progress_of self.old) }
         ensures read { OnOk result (IsLineOutcome 4096 true trace_kind IsHeadOutcome
             (progress_of self.old) line.now (Leads (progress_of self.new))) }
         ensures refused { IfErr result (IsRefusedBy (IsLineOutcome 4096 true trace_kind
@@ -134,7 +134,7 @@ impl<'a> Stage<'a> {
 
     /// Goes on by a line of the head that is not skipped, by its fields. A line of the trace is not read so.
     fn after_fields(&mut self, alloc: Global, fields: &[&'a [u8]]) -> Result<(), TraceKind>
-        requires { IsValid (progress_of self.old) }
+        requires { IsSoundSoFar (progress_of self.old) }
         ensures read { OnOk result (IsHeadOutcome (progress_of self.old) (texts fields.now)
             (Leads (progress_of self.new))) }
         ensures refused { IfErr result (IsRefusedBy (IsHeadOutcome (progress_of self.old)
@@ -179,7 +179,7 @@ impl<'a> Stage<'a> {
 
     /// The input, where the trace came.
     pub fn at_end(self) -> Result<Input, TraceKind>
-        requires { IsValid (progress_of self) }
+        requires { IsSoundSoFar (progress_of self) }
         ensures { MatchResult result
             (λ input. IsEndOutcome (progress_of self.entry) (Leads input))
             (λ kind. IsOutOfMemory kind ⊎ IsEndOutcome (progress_of self.entry) (Fails kind)) }

@@ -1,5 +1,6 @@
 -- Another priority is written at a task, and then the task moves to its place in the order.
-use Rattle.std.proofs.Common.{◌≡◌, ◌≢◌, ℕ, ◌<◌, List, length, get_or, set, refl, sym, ap, ◌∙◌, inl, inr, arith, length-set, get_or-set_same, get_or-set_other}
+use Rattle.std.proofs.Common.{◌≡◌, ◌≢◌, ℕ, ◌<◌, List, length, get_or, set, refl, sym, ap, ◌∙◌, inl, inr, arith, length-set, get_or-set_same}
+use Rattle.std.proofs.Common.{get_or-set_other}
 use Rattle.std.specs.List.Sorted.{IsNonDecreasingBy}
 use Rattle.std.proofs.lemmas.Bool.{cases_eq}
 use Rattle.std.proofs.lemmas.List.{get_or-map, length-map, ext_get_or}
@@ -7,13 +8,14 @@ use Rattle.std.proofs.lemmas.List.Elements.{All-get_or, All-from_get_or}
 use Rattle.std.proofs.lemmas.List.Sorted.{length_permutation}
 use Rattle.affinity_mask.specs.ProcSet.{empty}
 use Rattle.link_table.specs.declared.ranked.Ranked.{Ranked}
-use Rattle.link_table.specs.UrgencyOrder.{entry_of, IsEntry, AreEntries}
+use Rattle.link_table.specs.UrgencyOrder.{urgency_entry, IsEntry, AreEntries}
 use Rattle.link_table.specs.WaitingTasks.{IsRanking}
 use Rattle.link_table.specs.Reordering.{IsInverse, IsNonDecreasingBut, Reordered}
 use Rattle.link_table.proofs.Ranks.{rank_fits, entry_at_rank, rank_apart, by_task_of}
 use Rattle.link_table.proofs.Urgent.{sorted_entries}
 
-module _ (ps : List ℕ) (order : List Ranked) (ranks sets : List ℕ) (ok : IsRanking ps order ranks sets) (t priority : ℕ) (number : t < length ps) where
+module _ (ps : List ℕ) (order : List Ranked) (ranks sets : List ℕ) (ok : IsRanking ps order ranks sets) (t priority : ℕ)
+    (number : t < length ps) where
   -- the rank of the task, and what is written
   abbrev pub rank : ℕ → ℕ
   rank u = get_or ranks u 0
@@ -52,8 +54,10 @@ module _ (ps : List ℕ) (order : List Ranked) (ranks sets : List ℕ) (ok : IsR
     count = ok.ranks_count ∙ sym same_count;
     numbers = λ r d lt. rw (same_task r d, same_count) (entry_in r d (omega (arith, lt, same_count, ok.order_count))).0;
     placed = λ r d lt. rw (same_task r d) (ok.placed r d (omega (arith, lt, same_count, ok.order_count)));
-    within = λ u lt. (let place = rank_fits ps order ranks sets ok u (omega (arith, lt, same_count)) in omega (arith, place, same_count, ok.order_count));
-    stands = λ u d lt. same_task (rank u) d ∙ ap (λ (e : Ranked). e.task) (entry_at_rank ps order ranks sets ok u d (omega (arith, lt, same_count)));
+    within = λ u lt. (let place = rank_fits ps order ranks sets ok u (omega (arith, lt, same_count)) in
+        omega (arith, place, same_count, ok.order_count));
+    stands = λ u d lt. same_task (rank u) d ∙ ap (λ (e : Ranked). e.task)
+        (entry_at_rank ps order ranks sets ok u d (omega (arith, lt, same_count)));
   }
 
   pub IsNonDecreasingBut-written : IsNonDecreasingBut (rank t) written
@@ -76,9 +80,13 @@ module _ (ps : List ℕ) (order : List Ranked) (ranks sets : List ℕ) (ok : IsR
       rank u,
       omega (arith, rank_fits ps order ranks sets ok u known, same_count, ok.order_count),
       elim (cases_eq u t) [
-        | inl e ↦ rw (e, written_here (entry_of (set ps t priority) t), get_or-set_same ps t priority 0 number) refl
+        | inl e ↦ rw (e, written_here (urgency_entry (set ps t priority) t), get_or-set_same ps t priority 0 number) refl
         | inr other ↦
-            rw (written_there (rank u) (entry_of (set ps t priority) u) (λ e. other (rank_apart ps order ranks sets ok u t known number e)), get_or-set_other ps t u priority 0 other)
+            rw (
+              written_there (rank u) (urgency_entry (set ps t priority) u)
+                  (λ e. other (rank_apart ps order ranks sets ok u t known number e)),
+              get_or-set_other ps t u priority 0 other,
+            )
             (entry_at_rank ps order ranks sets ok u (record { priority = get_or ps u 0; task = u }) known)
       ],
     ));
@@ -96,7 +104,8 @@ module _ (ps : List ℕ) (order : List Ranked) (ranks sets : List ℕ) (ok : IsR
       placed = moved.inverse.placed;
       width = rw (length-set ps t priority, moved.row_count) ok.width;
       few = rw (length-set ps t priority) ok.few;
-      rest = λ r ge. moved.rest r (omega (arith, ge, same_count, length-set ps t priority)) ∙ ok.rest r (omega (arith, ge, length-set ps t priority));
+      rest = λ r ge. moved.rest r (omega (arith, ge, same_count, length-set ps t priority))
+          ∙ ok.rest r (omega (arith, ge, length-set ps t priority));
     }
 
     -- and each task waits for what it waited for

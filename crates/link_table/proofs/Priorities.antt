@@ -1,5 +1,6 @@
 -- What stays when the priorities of tasks change, and that they still differ.
-use Rattle.std.proofs.Common.{◌≡◌, ◌≢◌, ℕ, ◌<◌, List, length, get_or, set, sym, ap, ◌∙◌, ◌⊎◌, inl, inr, arith, length-set, get_or-set_same, get_or-set_other}
+use Rattle.std.proofs.Common.{◌≡◌, ◌≢◌, ℕ, ◌<◌, List, length, get_or, set, sym, ap, ◌∙◌, ◌⊎◌, inl, inr, arith, length-set, get_or-set_same}
+use Rattle.std.proofs.Common.{get_or-set_other}
 use Rattle.std.proofs.lemmas.Bool.{cases_eq}
 use Rattle.strong_apa.specs.State.{State, IsState, task_count, priority_of}
 use Rattle.link_table.specs.LinksView.{AreAwaited}
@@ -7,7 +8,8 @@ use Rattle.link_table.specs.Priorities.{IsFreeFor, state_with_priority, state_wi
 
 -- ---- other priorities of as many tasks
 module _ (s : State) (ps : List ℕ) (count : length ps ≡ task_count s) where
-  pub IsState-priorities : IsState s → ((x y : ℕ) → x < task_count s → y < task_count s → get_or ps x 0 ≡ get_or ps y 0 → x ≡ y) → IsState (record s { priorities = ps })
+  pub IsState-priorities : IsState s → ((x y : ℕ) → x < task_count s → y < task_count s → get_or ps x 0 ≡ get_or ps y 0 → x ≡ y)
+      → IsState (record s { priorities = ps })
   IsState-priorities ok distinct = record {
     processors = ok.processors;
     count = omega (arith, ok.count, count);
@@ -75,10 +77,12 @@ module _ (s : State) (t : ℕ) (number : t < task_count s) where
     from_u = (number, get_or-set_same first u (priority_of s t) 0 (omega (arith, number_u, length-set s.priorities t (priority_of s u))))
 
     from_t : t ≢ u → origin t u
-    from_t apart = (number_u, get_or-set_other first u t (priority_of s t) 0 apart ∙ get_or-set_same s.priorities t (priority_of s u) 0 number)
+    from_t apart =
+        (number_u, get_or-set_other first u t (priority_of s t) 0 apart ∙ get_or-set_same s.priorities t (priority_of s u) 0 number)
 
     from_other : (x : ℕ) → x < task_count s → x ≢ u → x ≢ t → origin x x
-    from_other x known not_u not_t = (known, get_or-set_other first u x (priority_of s t) 0 not_u ∙ get_or-set_other s.priorities t x (priority_of s u) 0 not_t)
+    from_other x known not_u not_t =
+        (known, get_or-set_other first u x (priority_of s t) 0 not_u ∙ get_or-set_other s.priorities t x (priority_of s u) 0 not_t)
 
     same_origin : IsState s → (x y a b : ℕ) → get_or after x 0 ≡ get_or after y 0 → origin x a → origin y b → a ≡ b
     same_origin ok x y a b e from_a from_b = ok.distinct a b from_a.0 from_b.0 (sym from_a.1 ∙ e ∙ from_b.1)
@@ -94,14 +98,21 @@ module _ (s : State) (t : ℕ) (number : t < task_count s) where
 
         go : (x ≡ u) ⊎ (x ≢ u) → (x ≡ t) ⊎ (x ≢ t) → (y ≡ u) ⊎ (y ≢ u) → (y ≡ t) ⊎ (y ≢ t) → x ≡ y
         go (inl x_u) _ (inl y_u) _ = x_u ∙ sym y_u
-        go (inl x_u) _ (inr y_not_u) (inl y_t) = let apart : t ≢ u = λ f. y_not_u (y_t ∙ f) in x_u ∙ sym (same t u (along x u t x_u from_u) (along y t u y_t (from_t apart))) ∙ sym y_t
-        go (inl x_u) _ (inr y_not_u) (inr y_not_t) = absurd (y_not_t (sym (same t y (along x u t x_u from_u) (from_other y known_y y_not_u y_not_t))))
-        go (inr x_not_u) (inl x_t) (inl y_u) _ = let apart : t ≢ u = λ f. x_not_u (x_t ∙ f) in x_t ∙ sym (same u t (along x t u x_t (from_t apart)) (along y u t y_u from_u)) ∙ sym y_u
+        go (inl x_u) _ (inr y_not_u) (inl y_t) = let apart : t ≢ u = λ f. y_not_u (y_t ∙ f) in x_u
+            ∙ sym (same t u (along x u t x_u from_u) (along y t u y_t (from_t apart))) ∙ sym y_t
+        go (inl x_u) _ (inr y_not_u) (inr y_not_t) =
+            absurd (y_not_t (sym (same t y (along x u t x_u from_u) (from_other y known_y y_not_u y_not_t))))
+        go (inr x_not_u) (inl x_t) (inl y_u) _ = let apart : t ≢ u = λ f. x_not_u (x_t ∙ f) in x_t
+            ∙ sym (same u t (along x t u x_t (from_t apart)) (along y u t y_u from_u)) ∙ sym y_u
         go (inr x_not_u) (inl x_t) (inr y_not_u) (inl y_t) = x_t ∙ sym y_t
-        go (inr x_not_u) (inl x_t) (inr y_not_u) (inr y_not_t) = let apart : t ≢ u = λ f. x_not_u (x_t ∙ f) in absurd (y_not_u (sym (same u y (along x t u x_t (from_t apart)) (from_other y known_y y_not_u y_not_t))))
-        go (inr x_not_u) (inr x_not_t) (inl y_u) _ = absurd (x_not_t (same x t (from_other x known_x x_not_u x_not_t) (along y u t y_u from_u)))
-        go (inr x_not_u) (inr x_not_t) (inr y_not_u) (inl y_t) = let apart : t ≢ u = λ f. y_not_u (y_t ∙ f) in absurd (x_not_u (same x u (from_other x known_x x_not_u x_not_t) (along y t u y_t (from_t apart))))
-        go (inr x_not_u) (inr x_not_t) (inr y_not_u) (inr y_not_t) = same x y (from_other x known_x x_not_u x_not_t) (from_other y known_y y_not_u y_not_t)
+        go (inr x_not_u) (inl x_t) (inr y_not_u) (inr y_not_t) = let apart : t ≢ u = λ f. x_not_u (x_t ∙ f) in
+            absurd (y_not_u (sym (same u y (along x t u x_t (from_t apart)) (from_other y known_y y_not_u y_not_t))))
+        go (inr x_not_u) (inr x_not_t) (inl y_u) _ =
+            absurd (x_not_t (same x t (from_other x known_x x_not_u x_not_t) (along y u t y_u from_u)))
+        go (inr x_not_u) (inr x_not_t) (inr y_not_u) (inl y_t) = let apart : t ≢ u = λ f. y_not_u (y_t ∙ f) in
+            absurd (x_not_u (same x u (from_other x known_x x_not_u x_not_t) (along y t u y_t (from_t apart))))
+        go (inr x_not_u) (inr x_not_t) (inr y_not_u) (inr y_not_t) =
+            same x y (from_other x known_x x_not_u x_not_t) (from_other y known_y y_not_u y_not_t)
 
     pub IsState-state_with_exchange : IsState s → IsState (state_with_exchange s t u)
     IsState-state_with_exchange ok = IsState-priorities s after after_count ok (distinct-exchange ok)

@@ -1,5 +1,6 @@
 -- How many processors a set lacks.
-use Rattle.std.proofs.Common.{◌≡◌, ◌≢◌, ℕ, zero, suc, ◌+◌, ◌-◌, ◌<◌, ◌≤◌, Bool, true, false, not, ◌||◌, ◌&&◌, nat_eq, IsTrue, refl, sym, ap, ◌∙◌, inl, inr, ◌⊎◌, arith, eq-eqb, ne_eqb, cond}
+use Rattle.std.proofs.Common.{◌≡◌, ◌≢◌, ℕ, zero, suc, ◌+◌, ◌-◌, ◌<◌, ◌≤◌, Bool, true, false, not, ◌||◌, ◌&&◌, nat_eq, IsTrue, refl, sym, ap}
+use Rattle.std.proofs.Common.{◌∙◌, inl, inr, ◌⊎◌, arith, eq-eqb, ne_eqb, cond}
 use Rattle.std.proofs.Math.Bool.{or-false, and-false, and-true}
 use Rattle.std.proofs.lemmas.Bool.{cases_eq, or_right}
 use Rattle.affinity_mask.specs.ProcSet.{has}
@@ -27,7 +28,8 @@ module _ (X Y p : ℕ) (added : (q : ℕ) → has Y q ≡ (has X q || nat_eq q p
   lacking-less a zero low high = absurd (omega arith)
   lacking-less a (suc n) low high = go (cases_eq a p) (lacking-less (a + 1) n)
     where
-      go : (a ≡ p) ⊎ (a ≡ p → ⊥) → (a + 1 ≤ p → p < a + 1 + n → lacking Y (a + 1) n < lacking X (a + 1) n) → lacking Y a (suc n) < lacking X a (suc n)
+      go : (a ≡ p) ⊎ (a ≡ p → ⊥) → (a + 1 ≤ p → p < a + 1 + n → lacking Y (a + 1) n < lacking X (a + 1) n)
+          → lacking Y a (suc n) < lacking X a (suc n)
       go (inl e) later =
           let there : has Y a ≡ true = ap (has Y) e ∙ added p ∙ or_right (has X p) (nat_eq p p) (eq-eqb p p refl) in
           let out : has X a ≡ false = ap (has X) e ∙ fresh in
@@ -49,7 +51,8 @@ lacking-most X a (suc n) = go (has X a) (lacking-most X (a + 1) n)
     go false later = omega arith
 
 -- a processor of a set is taken away: the set lacks one more
-pub rest_grows : (X Y p : ℕ) → ((q : ℕ) → has Y q ≡ (has X q && not (nat_eq q p))) → IsTrue (has X p) → p < 64 → 64 - rest_of Y < 64 - rest_of X
+pub rest_grows : (X Y p : ℕ) → ((q : ℕ) → has Y q ≡ (has X q && not (nat_eq q p))) → IsTrue (has X p) → p < 64
+    → 64 - rest_of Y < 64 - rest_of X
 unfolding rest_of
 rest_grows X Y p fewer here below =
     let less : rest_of X < rest_of Y = rest_falls Y X p added gone below in
@@ -58,7 +61,8 @@ rest_grows X Y p fewer here below =
   where
     again : (q : ℕ) → (q ≡ p) ⊎ (q ≡ p → ⊥) → has X q ≡ (has Y q || nat_eq q p)
     again q (inl e) = ap (has X) e ∙ here ∙ sym (ap (λ b. has Y q || b) (eq-eqb q p e) ∙ or_right (has Y q) true refl)
-    again q (inr ne) = sym (ap (λ b. has Y q || b) (ne_eqb q p ne) ∙ or-false (has Y q) ∙ fewer q ∙ ap (λ b. has X q && not b) (ne_eqb q p ne) ∙ and-true (has X q))
+    again q (inr ne) = sym (ap (λ b. has Y q || b) (ne_eqb q p ne) ∙ or-false (has Y q) ∙ fewer q
+        ∙ ap (λ b. has X q && not b) (ne_eqb q p ne) ∙ and-true (has X q))
 
     added : (q : ℕ) → has X q ≡ (has Y q || nat_eq q p)
     added q = again q (cases_eq q p)

@@ -1,12 +1,15 @@
 -- A tree of unions: which leaves stand below a place, that the set at a place has all of theirs, and what a write leaves.
-use Rattle.std.proofs.Common.{Bool, true, false, ◌≡◌, ◌≢◌, ℕ, zero, suc, ◌+◌, ◌-◌, ◌*◌, ◌/◌, ◌^◌, ◌<◌, ◌≤◌, ◌||◌, List, length, get_or, set, drop, refl, sym, ap, ◌∙◌, subst, inl, inr, ◌⊎◌, arith, length-set, get_or-set_same, get_or-set_other, replicate, le_antisymm}
+use Rattle.std.proofs.Common.{Bool, true, false, ◌≡◌, ◌≢◌, ℕ, zero, suc, ◌+◌, ◌-◌, ◌*◌, ◌/◌, ◌^◌, ◌<◌, ◌≤◌, ◌||◌, List, length, get_or, set}
+use Rattle.std.proofs.Common.{drop, refl, sym, ap, ◌∙◌, subst, inl, inr, ◌⊎◌, arith, length-set, get_or-set_same, get_or-set_other}
+use Rattle.std.proofs.Common.{replicate, le_antisymm}
 use Rattle.std.proofs.lemmas.Bool.{cases_eq, cases_lt, or_left, or_right, or_cases, true≢false}
-use Rattle.std.proofs.lemmas.List.{get_or-drop, get_or-replicate, get_or_past, set-get_or, length-drop, length-replicate, drop-set-add, drop-set-lt}
+use Rattle.std.proofs.lemmas.List.{get_or-drop, get_or-replicate, get_or_past, set-get_or, length-drop, length-replicate, drop-set-add}
+use Rattle.std.proofs.lemmas.List.{drop-set-lt}
 use Rattle.std.specs.Int.Bits.{bit_xor, xor_zero_r}
 use Rattle.std.proofs.lemmas.Nat.{xor_block}
 use Rattle.affinity_mask.specs.ProcSet.{has, empty, Within, Meets}
 use Rattle.affinity_mask.proofs.Sets.{has-zero}
-use Rattle.link_table.specs.SetTree.{first_below, IsLevel, IsWidthFor, IsUnion, IsTree, IsMetByNone, IsFirstMeeting}
+use Rattle.link_table.specs.SetTree.{first_below, IsTreeLevel, IsWidthFor, IsUnion, IsTree, IsMetByNone, IsFirstMeeting}
 
 -- ---- the places below a place
 pub first_below-least : (d k : ℕ) → k ≤ first_below d k
@@ -38,21 +41,22 @@ unfolding first_below
 first_below-none k = refl
 
 -- a level of twice as many
-pub IsLevel-twice : (width : ℕ) → IsLevel width → IsLevel (width + width)
+pub IsLevel-twice : (width : ℕ) → IsTreeLevel width → IsTreeLevel (width + width)
 unfolding first_below
 IsLevel-twice width level = (suc (level.0), rw (level.1) (sym (first_below-twice (level.0) 1)))
 
-pub IsLevel-one : IsLevel 1
+pub IsLevel-one : IsTreeLevel 1
 unfolding first_below
 IsLevel-one = (0, refl)
 
-pub IsLevel-positive : (width : ℕ) → IsLevel width → 0 < width
+pub IsLevel-positive : (width : ℕ) → IsTreeLevel width → 0 < width
 IsLevel-positive width level = let above = first_below-least (level.0) 1 in let e = level.1 in omega arith
 
 -- of two levels the one with more leaves has twice as many or more
 level_above : (a b : ℕ) → first_below a 1 < first_below b 1 → first_below a 1 + first_below a 1 ≤ first_below b 1
 level_above zero zero less = absurd (omega arith)
-level_above zero (suc b) less = let none = first_below-none 1 in let down = first_below-down b 1 in let twice = first_below-twice b 1 in let low = first_below-least b 1 in omega arith
+level_above zero (suc b) less = let none = first_below-none 1 in let down = first_below-down b 1 in let twice = first_below-twice b 1 in
+    let low = first_below-least b 1 in omega arith
 level_above (suc a) zero less = absurd (let none = first_below-none 1 in let low = first_below-least (suc a) 1 in omega arith)
 level_above (suc a) (suc b) less =
     let down_a = first_below-down a 1 in
@@ -62,8 +66,9 @@ level_above (suc a) (suc b) less =
     let above = level_above a b (omega arith) in
     omega arith
 
-pub level_past : (width other : ℕ) → IsLevel width → IsLevel other → width < other → width + width ≤ other
-level_past width other level other_level less = let a = level.1 in let b = other_level.1 in let above = level_above (level.0) (other_level.0) (omega arith) in omega arith
+pub level_past : (width other : ℕ) → IsTreeLevel width → IsTreeLevel other → width < other → width + width ≤ other
+level_past width other level other_level less =
+    let a = level.1 in let b = other_level.1 in let above = level_above (level.0) (other_level.0) (omega arith) in omega arith
 
 -- so many leaves have one width alone
 pub IsWidthFor-unique : (count a b : ℕ) → IsWidthFor count a → IsWidthFor count b → a ≡ b
@@ -77,7 +82,8 @@ module _ (width : ℕ) (nodes : List ℕ) (unions : (k : ℕ) → 0 < k → k < 
   right_within : (k : ℕ) → 0 < k → k < width → Within (get_or nodes (k + k + 1) empty) (get_or nodes k empty)
   right_within k low high p h = unions k low high p ∙ or_right (has (get_or nodes (k + k) empty) p) _ h
 
-  pub leaf_within : (d k j : ℕ) → 0 < k → first_below d k ≤ j → j < first_below d (k + 1) → first_below d (k + 1) ≤ width + width → Within (get_or nodes j empty) (get_or nodes k empty)
+  pub leaf_within : (d k j : ℕ) → 0 < k → first_below d k ≤ j → j < first_below d (k + 1) → first_below d (k + 1) ≤ width + width
+      → Within (get_or nodes j empty) (get_or nodes k empty)
   leaf_within zero k j low from to most =
       let a = first_below-none k in let b = first_below-none (k + 1) in
       let same : j ≡ k = omega arith in
@@ -125,7 +131,8 @@ module _ (width : ℕ) (nodes : List ℕ) (tree : IsTree width nodes) (X : ℕ) 
   pub way_left : (k : ℕ) → k < width → Meets X (get_or nodes (k + k) empty) → IsOnTheWay width nodes X k → IsOnTheWay width nodes X (k + k)
   way_left k high meets way = go way.levels way.from way.to way.before
     where
-      go : (d : ℕ) → width ≤ first_below d k → first_below d (k + 1) ≤ width + width → ((j : ℕ) → width ≤ j → j < first_below d k → Meets X (get_or nodes j empty) → ⊥) → IsOnTheWay width nodes X (k + k)
+      go : (d : ℕ) → width ≤ first_below d k → first_below d (k + 1) ≤ width + width
+          → ((j : ℕ) → width ≤ j → j < first_below d k → Meets X (get_or nodes j empty) → ⊥) → IsOnTheWay width nodes X (k + k)
       go zero from to before = absurd (let none = first_below-none k in omega arith)
       go (suc d) from to before = record {
         levels = d;
@@ -136,18 +143,21 @@ module _ (width : ℕ) (nodes : List ℕ) (tree : IsTree width nodes) (X : ℕ) 
         before = λ j low lt m. before j low (let down = first_below-down d k in omega arith) m;
       }
 
-  pub way_right : (k : ℕ) → k < width → (Meets X (get_or nodes (k + k) empty) → ⊥) → IsOnTheWay width nodes X k → IsOnTheWay width nodes X (k + k + 1)
+  pub way_right : (k : ℕ) → k < width → (Meets X (get_or nodes (k + k) empty) → ⊥) → IsOnTheWay width nodes X k
+      → IsOnTheWay width nodes X (k + k + 1)
   way_right k high not way = go way.levels way.from way.to way.before
     where
       there : Meets X (get_or nodes (k + k + 1) empty)
       there =
           let p = way.meets.0 in
-          elim (or_cases (has (get_or nodes (k + k) empty) p) (has (get_or nodes (k + k + 1) empty) p) (sym (tree.unions k way.positive high p) ∙ way.meets.2)) [
+          elim (or_cases (has (get_or nodes (k + k) empty) p) (has (get_or nodes (k + k + 1) empty) p)
+          (sym (tree.unions k way.positive high p) ∙ way.meets.2)) [
             | inl left ↦ absurd (not (p, way.meets.1, left))
             | inr right ↦ (p, way.meets.1, right)
           ]
 
-      go : (d : ℕ) → width ≤ first_below d k → first_below d (k + 1) ≤ width + width → ((j : ℕ) → width ≤ j → j < first_below d k → Meets X (get_or nodes j empty) → ⊥) → IsOnTheWay width nodes X (k + k + 1)
+      go : (d : ℕ) → width ≤ first_below d k → first_below d (k + 1) ≤ width + width
+          → ((j : ℕ) → width ≤ j → j < first_below d k → Meets X (get_or nodes j empty) → ⊥) → IsOnTheWay width nodes X (k + k + 1)
       go zero from to before = absurd (let none = first_below-none k in omega arith)
       go (suc d) from to before = record {
         levels = d;
@@ -161,7 +171,8 @@ module _ (width : ℕ) (nodes : List ℕ) (tree : IsTree width nodes) (X : ℕ) 
             m.0,
             m.1,
             leaf_within width nodes tree.unions d (k + k) j (let low = way.positive in omega arith) ge lt
-                (let next = first_below-next d k in let rises = first_below-rises d (k + k + 1) (k + k + 1 + 1) (omega arith) in omega arith) m.0 m.2,
+                (let next = first_below-next d k in let rises = first_below-rises d (k + k + 1) (k + k + 1 + 1) (omega arith) in
+                omega arith) m.0 m.2,
           )
         ];
       }
@@ -170,7 +181,9 @@ module _ (width : ℕ) (nodes : List ℕ) (tree : IsTree width nodes) (X : ℕ) 
   pub way_ends : (k : ℕ) → width ≤ k → IsOnTheWay width nodes X k → IsFirstMeeting (drop width nodes) X (k - width)
   way_ends k low way = go way.levels way.to way.before
     where
-      go : (d : ℕ) → first_below d (k + 1) ≤ width + width → ((j : ℕ) → width ≤ j → j < first_below d k → Meets X (get_or nodes j empty) → ⊥) → IsFirstMeeting (drop width nodes) X (k - width)
+      go : (d : ℕ) → first_below d (k + 1) ≤ width + width
+          → ((j : ℕ) → width ≤ j → j < first_below d k → Meets X (get_or nodes j empty) → ⊥)
+          → IsFirstMeeting (drop width nodes) X (k - width)
       go zero to before =
           let none = first_below-none k in
           let next = first_below-none (k + 1) in
@@ -179,7 +192,8 @@ module _ (width : ℕ) (nodes : List ℕ) (tree : IsTree width nodes) (X : ℕ) 
           let here : width + (k - width) ≡ k = omega arith in
           record {
             there = omega arith;
-            meets = subst (λ n. Meets X n) (sym (get_or-drop width nodes (k - width) empty ∙ ap (λ n. get_or nodes n empty) here)) way.meets;
+            meets =
+                subst (λ n. Meets X n) (sym (get_or-drop width nodes (k - width) empty ∙ ap (λ n. get_or nodes n empty) here)) way.meets;
             first = λ r lt m. before (width + r) (omega arith) (omega arith) (subst (λ n. Meets X n) (get_or-drop width nodes r empty) m);
           }
       go (suc d) to before = absurd (let next = first_below-next d k in let deep = first_below-least d (k + k + 1 + 1) in omega arith)
@@ -199,7 +213,7 @@ module _ (width : ℕ) (nodes : List ℕ) (tree : IsTree width nodes) (X : ℕ) 
 -- ---- a write, and the unions above it made anew from the leaf up
 -- the set at place k is still to become this one, and all other unions stand
 pub record IsHalfWritten (width : ℕ) (nodes row : List ℕ) (k sum : ℕ) : Type 0 where
-  pub level : IsLevel width
+  pub level : IsTreeLevel width
   pub count : length nodes ≡ width + width
   pub leaves : drop width (set nodes k sum) ≡ row
   pub high : k < width + width
@@ -209,9 +223,15 @@ pub record IsHalfWritten (width : ℕ) (nodes row : List ℕ) (k sum : ℕ) : Ty
 -- another set at a place that is none of these three
 union_elsewhere : (nodes : List ℕ) (j k item : ℕ) → j ≢ k → j + j ≢ k → j + j + 1 ≢ k → IsUnion nodes j → IsUnion (set nodes k item) j
 union_elsewhere nodes j k item here left right union = λ p.
-    rw (get_or-set_other nodes k j item empty here, get_or-set_other nodes k (j + j) item empty left, get_or-set_other nodes k (j + j + 1) item empty right) (union p)
+    rw (
+      get_or-set_other nodes k j item empty here,
+      get_or-set_other nodes k (j + j) item empty left,
+      get_or-set_other nodes k (j + j + 1)
+          item empty right,
+    ) (union p)
 
-pub written_begins : (width : ℕ) (nodes : List ℕ) → IsTree width nodes → (r item : ℕ) → r < length (drop width nodes) → IsHalfWritten width nodes (set (drop width nodes) r item) (width + r) item
+pub written_begins : (width : ℕ) (nodes : List ℕ) → IsTree width nodes → (r item : ℕ) → r < length (drop width nodes)
+    → IsHalfWritten width nodes (set (drop width nodes) r item) (width + r) item
 written_begins width nodes tree r item fits =
     let count = tree.count in
     let rest = length-drop width nodes in
@@ -281,7 +301,8 @@ module _ (width : ℕ) (nodes row : List ℕ) (k sum : ℕ) (half : IsHalfWritte
         | inr none ↦ sym (drop-set-lt width nodes k sum (omega arith)) ∙ half.leaves
       ]
 
-  module _ (low : 0 < k) (above : ℕ) (is_sum : (p : ℕ) → has above p ≡ (has sum p || has (get_or (set nodes k sum) (bit_xor k 1) empty) p)) where
+  module _ (low : 0 < k) (above : ℕ) (is_sum : (p : ℕ)
+      → has above p ≡ (has sum p || has (get_or (set nodes k sum) (bit_xor k 1) empty) p)) where
     abbrev after : List ℕ
     after = set nodes k sum
 
@@ -311,19 +332,28 @@ module _ (width : ℕ) (nodes row : List ℕ) (k sum : ℕ) (half : IsHalfWritte
           others = λ j from to ne. elim (cases_eq j k) [
             | inl e ↦ rw e (λ p.
                 ap (λ n. has n p) here ∙ half.union low (omega arith) p
-                ∙ rw (get_or-set_other nodes k (k + k) sum empty (λ f. omega arith), get_or-set_other nodes k (k + k + 1) sum empty (λ f. omega arith)) refl)
+                ∙ rw (
+                  get_or-set_other nodes k (k + k) sum empty (λ f. omega arith),
+                  get_or-set_other nodes k (k + k + 1) sum empty
+                      (λ f. omega arith),
+                ) refl)
             | inr apart ↦ union_elsewhere nodes j k sum apart (λ f. ne (omega arith)) (λ f. ne (omega arith)) (half.others j from to apart)
           ];
           union = λ from to p. sum_of_both p;
         }
 
 -- ---- a row of empty sets
-pub IsTree-empty : (width n : ℕ) (nodes : List ℕ) → IsLevel width → n ≡ width + width → nodes ≡ replicate n empty → IsTree width nodes
+pub IsTree-empty : (width n : ℕ) (nodes : List ℕ) → IsTreeLevel width → n ≡ width + width → nodes ≡ replicate n empty → IsTree width nodes
 IsTree-empty width n nodes level all is = rw is record {
   level = level;
   count = length-replicate n empty ∙ all;
   unions = λ k from to p.
-      rw (get_or-replicate n k empty empty (omega arith), get_or-replicate n (k + k) empty empty (omega arith), get_or-replicate n (k + k + 1) empty empty (omega arith), has-zero p) refl;
+      rw (
+        get_or-replicate n k empty empty (omega arith),
+        get_or-replicate n (k + k) empty empty (omega arith),
+        get_or-replicate n (k + k + 1) empty empty (omega arith),
+        has-zero p,
+      ) refl;
 }
 
 pub empty_row : (width n r : ℕ) → get_or (drop width (replicate n empty)) r empty ≡ empty

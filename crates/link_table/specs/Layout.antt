@@ -1,6 +1,7 @@
--- A layout: the masks of the tasks, the processors on line, and the occupant of each processor. It is that part of a
--- state on which it depends who can be shifted where.
-use Rattle.std.specs.Prelude.{◌≡◌, ℕ, Bool, false, List, set, get_or, Option, Some, None, if◌then◌else◌}
+-- A layout: the masks of the tasks, the processors on line, and the occupant of each processor. It
+-- is that part of a state on which it depends who can be shifted where.
+use Rattle.std.specs.Prelude.{◌≡◌, ℕ, Bool, false, List, set, get_or, Option, Some, None}
+use Rattle.std.specs.Prelude.{if◌then◌else◌}
 use Rattle.affinity_mask.specs.ProcSet.{has, empty, intersection, with_member, without_member}
 use Rattle.strong_apa.specs.State.{State}
 
@@ -42,7 +43,8 @@ with_mask a t mask = record a { masks = set a.masks t mask }
 
 -- p is on line, or off line
 abbrev pub with_online : Layout → ℕ → Bool → Layout
-with_online a p on = record a { online = if on then with_member a.online p else without_member a.online p }
+with_online a p on =
+    record a { online = if on then with_member a.online p else without_member a.online p }
 
 -- another occupant, or none, on p
 abbrev pub with_occupant : Layout → ℕ → Option ℕ → Layout

@@ -1,5 +1,5 @@
--- What contracts see of a table of links. Its fields are the columns of a state, and beside them the processors that each
--- task waits for, on line or not.
+-- What contracts see of a table of links. Its fields are the columns of a state, and beside them
+-- the processors that each task waits for, on line or not.
 use Rattle.std.specs.Prelude.{◌≡◌, ℕ, ◌<◌, ◌&&◌, not, List, length, get_or, if◌then◌else◌}
 use Rattle.affinity_mask.specs.ProcSet.{empty}
 use Rattle.strong_apa.specs.State.{State, IsState, task_count, is_ready, is_linked, mask_of}

@@ -12,4 +12,5 @@ state_with_priority s t priority = record s { priorities = set s.priorities t pr
 
 -- t and u have each other's priority, and all else stays
 abbrev pub state_with_exchange : State → ℕ → ℕ → State
-state_with_exchange s t u = state_with_priority (state_with_priority s t (priority_of s u)) u (priority_of s t)
+state_with_exchange s t u =
+    state_with_priority (state_with_priority s t (priority_of s u)) u (priority_of s t)

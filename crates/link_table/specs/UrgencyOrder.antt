@@ -4,17 +4,18 @@ use Rattle.std.specs.List.Sorted.{IsNonDecreasingBy}
 use Rattle.link_table.specs.declared.ranked.Ranked.{Ranked}
 
 -- the entry of a task
-abbrev pub entry_of : List ℕ → ℕ → Ranked
-entry_of priorities t = record { priority = get_or priorities t 0; task = t }
+abbrev pub urgency_entry : List ℕ → ℕ → Ranked
+urgency_entry priorities t = record { priority = get_or priorities t 0; task = t }
 
 -- an entry of one of the tasks with these priorities
 abbrev pub IsEntry : List ℕ → Ranked → Type 0
-IsEntry priorities entry = (entry.task < length priorities) × (entry.priority ≡ get_or priorities entry.task 0)
+IsEntry priorities entry =
+    (entry.task < length priorities) × (entry.priority ≡ get_or priorities entry.task 0)
 
 -- the entries of all tasks with these priorities, in any order
 pub record AreEntries (priorities : List ℕ) (entries : List Ranked) : Type 0 where
   pub all : All (IsEntry priorities) entries
-  pub each : (t : ℕ) → t < length priorities → Contains entries (entry_of priorities t)
+  pub each : (t : ℕ) → t < length priorities → Contains entries (urgency_entry priorities t)
 
 -- the entries of all tasks, from the most urgent one on
 pub record IsUrgencyOrder (priorities : List ℕ) (order : List Ranked) : Type 0 where
@@ -27,4 +28,5 @@ AreNumbered entries = (t : ℕ) (d : Ranked) → t < length entries → (get_or 
 
 -- no task stands twice
 abbrev pub AreApart : List Ranked → Type 0
-AreApart order = (j k : ℕ) (d : Ranked) → j < k → k < length order → (get_or order j d).task ≢ (get_or order k d).task
+AreApart order = (j k : ℕ) (d : Ranked) → j < k → k < length order
+    → (get_or order j d).task ≢ (get_or order k d).task

@@ -24,9 +24,9 @@ impl Model for SetTree {
 
     ghost Value = { List ℕ };
 
-    ghost use Rattle.link_table.specs.SetTree.{row_of, IsSummed};
+    ghost use Rattle.link_table.specs.SetTree.{leaf_row, IsSummed};
 
-    ghost view = { row_of };
+    ghost view = { leaf_row };
 
     ghost invariant = { IsSummed };
 }

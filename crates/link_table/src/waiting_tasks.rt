@@ -34,11 +34,11 @@ impl Model for WaitingTasks {
 
     ghost Value = { Waiting };
 
-    ghost use Rattle.link_table.specs.WaitingTasks.{waiting_view, IsRanked};
+    ghost use Rattle.link_table.specs.WaitingTasks.{waiting_view, AreRanked};
 
     ghost view = { waiting_view };
 
-    ghost invariant = { IsRanked };
+    ghost invariant = { AreRanked };
 }
 
 impl WaitingTasks {

@@ -1,5 +1,6 @@
 -- What stays of a state when an absent task gets another priority, and when a slot is given or becomes free.
-use Rattle.std.proofs.Common.{◌==◌, ne_eqb, ◌≡◌, ◌≢◌, ℕ, ◌<◌, Bool, true, false, List, length, set, get_or, sym, ap, ◌∙◌, subst, inl, inr, length-set, get_or-set_same, get_or-set_other}
+use Rattle.std.proofs.Common.{◌==◌, ne_eqb, ◌≡◌, ◌≢◌, ℕ, ◌<◌, Bool, true, false, List, length, set, get_or, sym, ap, ◌∙◌, subst, inl, inr}
+use Rattle.std.proofs.Common.{length-set, get_or-set_same, get_or-set_other}
 use Rattle.std.proofs.lemmas.Bool.{cases_eq, true≢false}
 use Rattle.task_set.specs.declared.event.Event.{Event}
 use Rattle.task_set.specs.declared.event.Event.TheVariants.{Arrive, Depart, Tick, Affinity, Offline, Online}
@@ -49,11 +50,14 @@ kept_by_priorities s ok certificates changed same w h =
 pub ready_is_other : (s : State) (t u : ℕ) → is_ready s t ≡ false → is_ready s u ≡ true → u ≢ t
 ready_is_other s t u absent ready same = true≢false (sym ready ∙ ap (is_ready s) same ∙ absent)
 
-pub kept_by_priority : (s : State) → IsState s → HasCertificates s → (t priority : ℕ) → is_ready s t ≡ false → HasCertificates (state_with_priority s t priority)
+pub kept_by_priority : (s : State) → IsState s → HasCertificates s → (t priority : ℕ) → is_ready s t ≡ false
+    → HasCertificates (state_with_priority s t priority)
 kept_by_priority s ok certificates t priority absent =
-    kept_by_priorities s ok certificates (set s.priorities t priority) (λ u ready. get_or-set_other s.priorities t u priority 0 (ready_is_other s t u absent ready))
+    kept_by_priorities s ok certificates (set s.priorities t priority)
+    (λ u ready. get_or-set_other s.priorities t u priority 0 (ready_is_other s t u absent ready))
 
-pub kept_by_exchange : (s : State) → IsState s → HasCertificates s → (t u : ℕ) → is_ready s t ≡ false → is_ready s u ≡ false → HasCertificates (state_with_exchange s t u)
+pub kept_by_exchange : (s : State) → IsState s → HasCertificates s → (t u : ℕ) → is_ready s t ≡ false → is_ready s u ≡ false
+    → HasCertificates (state_with_exchange s t u)
 kept_by_exchange s ok certificates t u absent free =
     let first = set s.priorities t (priority_of s u) in
     kept_by_priorities s ok certificates (set first u (priority_of s t)) (λ v ready.
@@ -68,26 +72,32 @@ certified_after_admit s between new t priority mask ok certificates absent first
     let absent_between : is_ready between t ≡ false = ap (λ (x : State). is_ready x t) first ∙ absent in
     subst HasCertificates (sym second) (kept_by_mask between ok_between certified t mask absent_between)
 
-pub count_after_admit : (s between new : State) (t priority mask : ℕ) → between ≡ state_with_priority s t priority → new ≡ state_with_mask between t mask → task_count new ≡ task_count s
-count_after_admit s between new t priority mask first second = ap task_count second ∙ ap task_count first ∙ length-set s.priorities t priority
+pub count_after_admit : (s between new : State) (t priority mask : ℕ) → between ≡ state_with_priority s t priority
+    → new ≡ state_with_mask between t mask → task_count new ≡ task_count s
+count_after_admit s between new t priority mask first second =
+    ap task_count second ∙ ap task_count first ∙ length-set s.priorities t priority
 
 -- ---- free slots are absent
 -- a slot is given
-pub free_after_admit : (s : State) (in_use : List Bool) (t : ℕ) → t < length in_use → AreFreeAbsent s in_use → AreFreeAbsent s (set in_use t true)
+pub free_after_admit : (s : State) (in_use : List Bool) (t : ℕ) → t < length in_use → AreFreeAbsent s in_use
+    → AreFreeAbsent s (set in_use t true)
 free_after_admit s in_use t number absent u free = elim (cases_eq u t) [
-  | inl same ↦ absurd (true≢false (sym (get_or-set_same in_use t true false number) ∙ ap (λ (n : ℕ). get_or (set in_use t true) n false) (sym same) ∙ free))
+  | inl same ↦ absurd (true≢false (sym (get_or-set_same in_use t true false number) ∙ ap (λ (n : ℕ). get_or (set in_use t true) n false)
+      (sym same) ∙ free))
   | inr other ↦ absent u (sym (get_or-set_other in_use t u true false other) ∙ free)
 ]
 
 -- an absent task's slot becomes free
-pub free_after_retire : (s : State) (in_use : List Bool) (t : ℕ) → is_ready s t ≡ false → AreFreeAbsent s in_use → AreFreeAbsent s (set in_use t false)
+pub free_after_retire : (s : State) (in_use : List Bool) (t : ℕ) → is_ready s t ≡ false → AreFreeAbsent s in_use
+    → AreFreeAbsent s (set in_use t false)
 free_after_retire s in_use t gone absent u free = elim (cases_eq u t) [
   | inl same ↦ ap (is_ready s) same ∙ gone
   | inr other ↦ absent u (sym (get_or-set_other in_use t u false false other) ∙ free)
 ]
 
 -- free slots are absent after each step, since no event is of one
-free_after_step : (d : LiveData) (event : Event) (reply : Reply) (new : State) (u : ℕ) → IsState d.links → IsEventInUse d event → SchedulerStep d.links event reply new
+free_after_step : (d : LiveData) (event : Event) (reply : Reply) (new : State) (u : ℕ) → IsState d.links → IsEventInUse d event
+    → SchedulerStep d.links event reply new
     → get_or d.in_use u false ≡ false → is_ready d.links u ≡ false → is_ready new u ≡ false
 free_after_step d event reply new u ok used step free absent = (step_does d.links ok event reply new step).ready u ∙ stays event used
   where
@@ -102,6 +112,7 @@ free_after_step d event reply new u ok used step free absent = (step_does d.link
     stays (Offline p) used = absent
     stays (Online p) used = absent
 
-pub free_absent_after_step : (d : LiveData) (event : Event) (reply : Reply) (new : State) → IsState d.links → IsEventInUse d event → SchedulerStep d.links event reply new
+pub free_absent_after_step : (d : LiveData) (event : Event) (reply : Reply) (new : State) → IsState d.links → IsEventInUse d event
+    → SchedulerStep d.links event reply new
     → AreFreeAbsent d.links d.in_use → AreFreeAbsent new d.in_use
 free_absent_after_step d event reply new ok used step absent u free = free_after_step d event reply new u ok used step free (absent u free)

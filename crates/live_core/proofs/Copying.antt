@@ -1,5 +1,6 @@
 -- The occupants of a table are copied into a list.
-use Rattle.std.proofs.Common.{◌≡◌, ℕ, ◌+◌, ◌<◌, ◌≤◌, List, length, set, Option, None, sym, ◌∙◌, inl, inr, arith, length-set, get_or-set_same, get_or-set_other}
+use Rattle.std.proofs.Common.{◌≡◌, ℕ, ◌+◌, ◌<◌, ◌≤◌, List, length, set, Option, None, sym, ◌∙◌, inl, inr, arith, length-set}
+use Rattle.std.proofs.Common.{get_or-set_same, get_or-set_other}
 use Rattle.std.proofs.lemmas.Bool.{cases_eq}
 use Rattle.std.proofs.lemmas.List.{ext_get_or}
 use Rattle.strong_apa.specs.State.{State, IsState, task_on}
@@ -13,7 +14,8 @@ pub record IsCopiedBelow (s : State) (p : ℕ) (list : List (Option ℕ)) : Type
 pub copied_first : (s : State) (list : List (Option ℕ)) → length list ≡ s.processors → IsCopiedBelow s 0 list
 copied_first s list count = record { count = count; same = λ q lt. absurd (omega arith) }
 
-pub copied_more : (s : State) (p : ℕ) (list : List (Option ℕ)) (occupant : Option ℕ) → p < s.processors → occupant ≡ task_on s p → IsCopiedBelow s p list → IsCopiedBelow s (p + 1) (set list p occupant)
+pub copied_more : (s : State) (p : ℕ) (list : List (Option ℕ)) (occupant : Option ℕ) → p < s.processors → occupant ≡ task_on s p
+    → IsCopiedBelow s p list → IsCopiedBelow s (p + 1) (set list p occupant)
 copied_more s p list occupant lt is below = record {
   count = length-set list p occupant ∙ below.count;
   same = λ q fits. elim (cases_eq q p) [
@@ -23,4 +25,5 @@ copied_more s p list occupant lt is below = record {
 }
 
 pub copied_whole : (s : State) → IsState s → (p : ℕ) (list : List (Option ℕ)) → s.processors ≤ p → IsCopiedBelow s p list → list ≡ s.on
-copied_whole s ok p list all below = ext_get_or None list s.on (below.count ∙ sym ok.on_count) (λ q fits. below.same q (let n = below.count in omega arith))
+copied_whole s ok p list all below =
+    ext_get_or None list s.on (below.count ∙ sym ok.on_count) (λ q fits. below.same q (let n = below.count in omega arith))

@@ -1,5 +1,7 @@
 -- Moves that are counted, of a task and in all.
-use Rattle.std.proofs.Common.{◌≡◌, ◌≢◌, ℕ, suc, ◌+◌, ◌<◌, ◌≤◌, ◌⊎◌, List, [], ◌∷◌, ◌++◌, length, get_or, set, reverse, Option, Some, None, option_map, refl, sym, ap, subst, ◌∙◌, inl, inr, arith, eq-eqb, ne_eqb, get_or-set_same, length-set, length-append}
+use Rattle.std.proofs.Common.{◌≡◌, ◌≢◌, ℕ, suc, ◌+◌, ◌<◌, ◌≤◌, ◌⊎◌, List, [], ◌∷◌, ◌++◌, length, get_or, set, reverse, Option, Some, None}
+use Rattle.std.proofs.Common.{option_map, refl, sym, ap, subst, ◌∙◌, inl, inr, arith, eq-eqb, ne_eqb, get_or-set_same, length-set}
+use Rattle.std.proofs.Common.{length-append}
 use Rattle.std.proofs.lemmas.Bool.{cases_eq}
 use Rattle.std.proofs.lemmas.List.{length-reverse}
 use Rattle.std.proofs.lemmas.Option.{same_Some}
@@ -7,15 +9,17 @@ use Rattle.std.specs.Option.{ForSome}
 use Rattle.task_set.specs.declared.event.Event.{Event}
 use Rattle.task_set.specs.declared.event.Event.TheVariants.{Arrive, Depart, Tick, Affinity, Offline, Online}
 use Rattle.strong_apa.specs.declared.reply.Reply.{Reply}
-use Rattle.strong_apa.specs.declared.reply.Reply.TheVariants.{Placed, Displaced, Waits, Freed, Left, Ticked, AlreadyReady, NotReady, Masked, Remasked, AlreadyOff, AlreadyOn, Off, On}
+use Rattle.strong_apa.specs.declared.reply.Reply.TheVariants.{Placed, Displaced, Waits, Freed, Left, Ticked, AlreadyReady, NotReady, Masked}
+use Rattle.strong_apa.specs.declared.reply.Reply.TheVariants.{Remasked, AlreadyOff, AlreadyOn, Off, On}
 use Rattle.strong_apa.specs.declared.reply.Moved.{Moved}
 use Rattle.strong_apa.specs.Reply.{came_chain, filling_chain, coming_chain, chain_of}
 use Rattle.strong_apa.specs.State.{State, task_on}
 use Rattle.strong_apa.specs.Step.{OfflineStep}
 use Rattle.strong_apa.specs.Chain.{IsSimple}
 use Rattle.strong_apa.proofs.Simple.{IsSimple-head, IsSimple-tail}
-use Rattle.live_core.specs.Moves.{Replays, CanMove, IsNowhere, occupant_at, occupants_after}
-use Rattle.live_core.specs.MoveData.{Passes, OfflinePasses, LeadsTo, entered_by, moved_of, stop_of, shift_of, start_of_guest, shifts_along, last_of, passing_moves, IsOnce, AreOfflineMoves, AreMovesFor, guest_who_stays}
+use Rattle.live_core.specs.Moves.{MovesLead, CanMove, IsNowhere, occupant_at, occupants_after}
+use Rattle.live_core.specs.MoveData.{PassesOn, OfflinePassesOn, EventLeadsTo, entered_by, moved_of, stop_of, shift_of, start_of_guest}
+use Rattle.live_core.specs.MoveData.{shifts_along, last_of, passing_moves, IsOnce, AreOfflineMoves, AreMovesFor, guest_who_stays}
 use Rattle.live_core.specs.Needed.{task_in, count_of, Stays, MovesOnce, AreNeeded}
 use Rattle.live_core.specs.declared.moves.Move.{Move}
 use Rattle.live_core.specs.declared.moves.Move.TheVariants.{Start, Shift, Stop}
@@ -66,36 +70,43 @@ stays-step on (Stop u from) t can ne = set-stays on from None t (None≢Some t) 
 
 -- a move of its own takes it elsewhere
 goes_elsewhere : (on : List (Option ℕ)) (move : Move) → CanMove on move → Stays on (occupants_after on move) (task_in move) → ⊥
-goes_elsewhere on (Start t to) can stays = nobody_there (occupant_at on to) t can.1 ((stays to).1 (get_or-set_same on to (Some t) None can.0))
+goes_elsewhere on (Start t to) can stays =
+    nobody_there (occupant_at on to) t can.1 ((stays to).1 (get_or-set_same on to (Some t) None can.0))
 goes_elsewhere on (Shift t from to) can stays =
-    nobody_there (occupant_at on to) t can.1 ((stays to).1 (get_or-set_same (set on from None) to (Some t) None (rw (length-set on from None) can.0)))
+    nobody_there (occupant_at on to) t can.1 ((stays to).1
+    (get_or-set_same (set on from None) to (Some t) None (rw (length-set on from None) can.0)))
 goes_elsewhere on (Stop t from) can stays = None≢Some t (sym (occupant-set_none on from) ∙ (stays from).0 can)
 
-unmoved : (a : List (Option ℕ)) (moves : List Move) (b : List (Option ℕ)) (t : ℕ) → Replays a moves b → count_of t moves ≡ 0 → Stays a b t
+unmoved : (a : List (Option ℕ)) (moves : List Move) (b : List (Option ℕ)) (t : ℕ) → MovesLead a moves b → count_of t moves ≡ 0 → Stays a b t
 unmoved a [] b t replays none = λ p. (λ e. rw (← replays) e, λ e. rw replays e)
 unmoved a (move ∷ rest) b t replays none = elim (cases_eq (task_in move) t) [
   | inl same ↦ absurd (let e = count-own t move rest same in omega arith)
-  | inr ne ↦ Stays-then a (occupants_after a move) b t (stays-step a move t replays.0 ne) (unmoved (occupants_after a move) rest b t replays.1 (sym (count-other t move rest ne) ∙ none))
+  | inr ne ↦ Stays-then a (occupants_after a move) b t (stays-step a move t replays.0 ne)
+      (unmoved (occupants_after a move) rest b t replays.1 (sym (count-other t move rest ne) ∙ none))
 ]
 
-moved : (a : List (Option ℕ)) (moves : List Move) (b : List (Option ℕ)) (t : ℕ) → Replays a moves b → count_of t moves ≤ 1 → Stays a b t → count_of t moves ≡ 0
+moved : (a : List (Option ℕ)) (moves : List Move) (b : List (Option ℕ)) (t : ℕ) → MovesLead a moves b → count_of t moves ≤ 1 → Stays a b t
+    → count_of t moves ≡ 0
 moved a [] b t replays most stays = refl
 moved a (move ∷ rest) b t replays most stays = elim (cases_eq (task_in move) t) [
   | inl same ↦
       let e = count-own t move rest same in
       let later = unmoved (occupants_after a move) rest b t replays.1 (omega arith) in
-      absurd (goes_elsewhere a move replays.0 (rw same (Stays-then a b (occupants_after a move) t stays (Stays-back (occupants_after a move) b t later))))
+      absurd (goes_elsewhere a move replays.0 (rw same
+      (Stays-then a b (occupants_after a move) t stays (Stays-back (occupants_after a move) b t later))))
   | inr ne ↦
       let e = count-other t move rest ne in
       e ∙ moved (occupants_after a move) rest b t replays.1 (omega arith)
       (Stays-then (occupants_after a move) a b t (Stays-back a (occupants_after a move) t (stays-step a move t replays.0 ne)) stays)
 ]
 
-moves_once : (a : List (Option ℕ)) (moves : List Move) (b : List (Option ℕ)) (t : ℕ) → Replays a moves b → count_of t moves ≤ 1 → MovesOnce a b moves t
+moves_once : (a : List (Option ℕ)) (moves : List Move) (b : List (Option ℕ)) (t : ℕ) → MovesLead a moves b → count_of t moves ≤ 1
+    → MovesOnce a b moves t
 moves_once a moves b t replays most = record { most = most; stays = (unmoved a moves b t replays, moved a moves b t replays most) }
 
 -- one that runs neither before nor after them, where it has one at most
-moved_not : (a : List (Option ℕ)) (moves : List Move) (b : List (Option ℕ)) (t : ℕ) → Replays a moves b → count_of t moves ≤ 1 → IsNowhere a t → IsNowhere b t → count_of t moves ≡ 0
+moved_not : (a : List (Option ℕ)) (moves : List Move) (b : List (Option ℕ)) (t : ℕ) → MovesLead a moves b → count_of t moves ≤ 1
+    → IsNowhere a t → IsNowhere b t → count_of t moves ≡ 0
 moved_not a moves b t replays most before after = moved a moves b t replays most (λ p. (λ e. absurd (before p e), λ e. absurd (after p e)))
 
 -- ---- the moves along a chain
@@ -127,7 +138,8 @@ is_it (Some u) t = elim (cases_eq u t) [
   | inr ne ↦ inr (other u t ne)
 ]
 
-shifts-none : (on : List (Option ℕ)) (chain : List ℕ) (t : ℕ) → ((i : ℕ) → i < length chain → occupant_at on (get_or chain i 0) ≢ Some t) → count_of t (shifts_along on chain) ≡ 0
+shifts-none : (on : List (Option ℕ)) (chain : List ℕ) (t : ℕ) → ((i : ℕ) → i < length chain → occupant_at on (get_or chain i 0) ≢ Some t)
+    → count_of t (shifts_along on chain) ≡ 0
 shifts-none on [] t none = refl
 shifts-none on (p ∷ []) t none = refl
 shifts-none on (p ∷ q ∷ rest) t none =
@@ -144,7 +156,8 @@ shifts-once on (p ∷ q ∷ rest) t once simple =
     elim (is_it (occupant_at on p) t) [
       | inl here ↦
           let one = count-shift_one t (occupant_at on p) p q here in
-          let none = shifts-none on (q ∷ rest) t (λ i fits there. IsSimple-head p (q ∷ rest) simple i fits (once (get_or (q ∷ rest) i 0) p t there here)) in
+          let none = shifts-none on (q ∷ rest) t (λ i fits there. IsSimple-head p (q ∷ rest) simple i fits
+          (once (get_or (q ∷ rest) i 0) p t there here)) in
           omega arith
       | inr ne ↦
           let none = count-shift t (occupant_at on p) p q ne in
@@ -152,7 +165,8 @@ shifts-once on (p ∷ q ∷ rest) t once simple =
           omega arith
     ]
 
-passing-once : (on : List (Option ℕ)) (guest : Option ℕ) (chain : List ℕ) (t : ℕ) → IsOnce on → IsSimple chain → (0 < length chain → ForSome guest (IsNowhere on)) → count_of t (passing_moves on guest chain) ≤ 1
+passing-once : (on : List (Option ℕ)) (guest : Option ℕ) (chain : List ℕ) (t : ℕ) → IsOnce on → IsSimple chain
+    → (0 < length chain → ForSome guest (IsNowhere on)) → count_of t (passing_moves on guest chain) ≤ 1
 passing-once on guest [] t once simple nowhere = omega arith
 passing-once on guest (p ∷ rest) t once simple nowhere = go (is_it guest t) (is_it (occupant_at on last) t)
   where
@@ -174,11 +188,13 @@ passing-once on guest (p ∷ rest) t once simple nowhere = go (is_it guest t) (i
     total : count_of t (passing_moves on guest (p ∷ rest)) ≡ count_of t stops + count_of t shifts + count_of t starts
     total = count-append t (stops ++ shifts) starts ∙ ap (λ (n : ℕ). n + count_of t starts) (count-append t stops shifts)
 
-    go : (guest ≡ Some t) ⊎ (guest ≢ Some t) → (occupant_at on last ≡ Some t) ⊎ (occupant_at on last ≢ Some t) → count_of t (passing_moves on guest (p ∷ rest)) ≤ 1
+    go : (guest ≡ Some t) ⊎ (guest ≢ Some t) → (occupant_at on last ≡ Some t) ⊎ (occupant_at on last ≢ Some t)
+        → count_of t (passing_moves on guest (p ∷ rest)) ≤ 1
     go (inl own) _ =
         let gone = nowhere (omega arith) t own in
         let a = count-stop t (occupant_at on last) last (gone last) in
-        let b = shifts-none on_then (p ∷ rest) t (λ i fits there. gone (get_or (p ∷ rest) i 0) (there_before on last (get_or (p ∷ rest) i 0) t there)) in
+        let b = shifts-none on_then (p ∷ rest) t
+        (λ i fits there. gone (get_or (p ∷ rest) i 0) (there_before on last (get_or (p ∷ rest) i 0) t there)) in
         let d = count-start_one t guest p own in
         omega (arith, total, a, b, d)
     go (inr another) (inl here) =
@@ -193,7 +209,8 @@ passing-once on guest (p ∷ rest) t once simple nowhere = go (is_it guest t) (i
         omega (arith, total, a, b, d)
 
 -- of a task that is on no processor, and is not the guest
-passing-none : (on : List (Option ℕ)) (guest : Option ℕ) (chain : List ℕ) (t : ℕ) → IsNowhere on t → guest ≢ Some t → count_of t (passing_moves on guest chain) ≡ 0
+passing-none : (on : List (Option ℕ)) (guest : Option ℕ) (chain : List ℕ) (t : ℕ) → IsNowhere on t → guest ≢ Some t
+    → count_of t (passing_moves on guest chain) ≡ 0
 passing-none on guest [] t nowhere another = refl
 passing-none on guest (p ∷ rest) t nowhere another =
     let last = last_of (p ∷ rest) in
@@ -201,16 +218,19 @@ passing-none on guest (p ∷ rest) t nowhere another =
     let shifts = shifts_along (set on last None) (p ∷ rest) in
     let starts = start_of_guest guest p in
     let a = count-stop t (occupant_at on last) last (nowhere last) in
-    let b = shifts-none (set on last None) (p ∷ rest) t (λ i fits there. nowhere (get_or (p ∷ rest) i 0) (there_before on last (get_or (p ∷ rest) i 0) t there)) in
+    let b = shifts-none (set on last None) (p ∷ rest) t
+    (λ i fits there. nowhere (get_or (p ∷ rest) i 0) (there_before on last (get_or (p ∷ rest) i 0) t there)) in
     let d = count-start t guest p another in
     let one = count-append t (stops ++ shifts) starts in
     let two = count-append t stops shifts in
     omega (arith, a, b, d, one, two)
 
 -- a task has one where its processor changes, and else none
-pub passing-moves_once : (on : List (Option ℕ)) (guest : Option ℕ) (chain : List ℕ) (after : List (Option ℕ)) (moves : List Move) → IsOnce on → Passes on guest chain after → moves ≡ passing_moves on guest chain
-    → Replays on moves after → (t : ℕ) → MovesOnce on after moves t
-passing-moves_once on guest chain after moves once passes exact replays t = moves_once on moves after t replays (rw exact (passing-once on guest chain t once passes.can.simple passes.nowhere))
+pub passing-moves_once : (on : List (Option ℕ)) (guest : Option ℕ) (chain : List ℕ) (after : List (Option ℕ)) (moves : List Move)
+    → IsOnce on → PassesOn on guest chain after → moves ≡ passing_moves on guest chain
+    → MovesLead on moves after → (t : ℕ) → MovesOnce on after moves t
+passing-moves_once on guest chain after moves once passes exact replays t =
+    moves_once on moves after t replays (rw exact (passing-once on guest chain t once passes.can.simple passes.nowhere))
 
 -- ---- how many moves
 stop-length : (o : Option ℕ) (p : ℕ) → length (stop_of o p) ≤ 1
@@ -244,8 +264,9 @@ passing-length on guest (p ∷ rest) =
     omega (arith, length-append (stops ++ shifts) (start_of_guest guest p), length-append stops shifts)
 
 -- ---- an event
-module _ (on : List (Option ℕ)) (after : List (Option ℕ)) (moves : List Move) (once : IsOnce on) (replays : Replays on moves after) where
-  needed_once : (event : Event) (reply : Reply) (guest : Option ℕ) (chain : List ℕ) → Passes on guest chain after → moves ≡ passing_moves on guest chain → length chain ≤ length (chain_of reply) → AreNeeded event reply on after moves
+module _ (on : List (Option ℕ)) (after : List (Option ℕ)) (moves : List Move) (once : IsOnce on) (replays : MovesLead on moves after) where
+  needed_once : (event : Event) (reply : Reply) (guest : Option ℕ) (chain : List ℕ) → PassesOn on guest chain after
+      → moves ≡ passing_moves on guest chain → length chain ≤ length (chain_of reply) → AreNeeded event reply on after moves
   needed_once event reply guest chain passes exact short =
       let most : (t : ℕ) → count_of t moves ≤ 1 = λ t. rw exact (passing-once on guest chain t once passes.can.simple passes.nowhere) in
       let few = passing-length on guest chain in
@@ -266,19 +287,23 @@ module _ (on : List (Option ℕ)) (after : List (Option ℕ)) (moves : List Move
         idle = λ t. moved_not on moves after t replays (most t);
       }
 
-  twice_at_most : (first : Option ℕ) (one : List ℕ) (second : Option ℕ) (two : List ℕ) (between : List (Option ℕ)) → Passes on first one between → Passes between second two after
-      → (moves ≡ passing_moves on first one ++ passing_moves between second two) × (IsOnce on → IsOnce between) → (t : ℕ) → count_of t moves ≤ count_of t (passing_moves on first one) + 1
+  twice_at_most : (first : Option ℕ) (one : List ℕ) (second : Option ℕ) (two : List ℕ) (between : List (Option ℕ))
+      → PassesOn on first one between → PassesOn between second two after
+      → (moves ≡ passing_moves on first one ++ passing_moves between second two) × (IsOnce on → IsOnce between) → (t : ℕ)
+      → count_of t moves ≤ count_of t (passing_moves on first one) + 1
   twice_at_most first one second two between passes later exact t =
       let two_once = passing-once between second two t (exact.1 once) later.can.simple later.nowhere in
       let sum = count-append t (passing_moves on first one) (passing_moves between second two) in
       let e = ap (λ (list : List Move). count_of t list) exact.0 in
       omega arith
 
-once_before : (on : List (Option ℕ)) (event : Event) (reply : Reply) (after : List (Option ℕ)) → LeadsTo on event reply after → IsOnce on
+once_before : (on : List (Option ℕ)) (event : Event) (reply : Reply) (after : List (Option ℕ)) → EventLeadsTo on event reply after
+    → IsOnce on
 once_before on event reply after leads = subst IsOnce leads.before leads.state.once
 
 -- whose processor goes off line
-offline_mover : (s : State) (p : ℕ) (reply : Reply) (new : State) → OfflineStep s p reply new → (moved : Moved) → moved_of reply ≡ Some moved → task_on s p ≡ Some moved.task
+offline_mover : (s : State) (p : ℕ) (reply : Reply) (new : State) → OfflineStep s p reply new → (moved : Moved)
+    → moved_of reply ≡ Some moved → task_on s p ≡ Some moved.task
 offline_mover s p reply new (inl again) moved e = absurd (none_moved (rw again.answer at e))
   where
     none_moved : None ≡ Some moved → ⊥
@@ -322,15 +347,20 @@ first-length on p =
     let a = stop-length (occupant_at on p) p in
     omega (arith, length-append (stops ++ []) [], length-append stops [])
 
-offline_needed : (on : List (Option ℕ)) (p : ℕ) (reply : Reply) (after : List (Option ℕ)) (moves : List Move) → LeadsTo on (Offline p) reply after → Replays on moves after
-    → (m : Option Moved) → moved_of reply ≡ m → OfflinePasses on p m after → AreOfflineMoves on p m moves → AreNeeded (Offline p) reply on after moves
-offline_needed on p reply after moves leads replays None e passes exact = needed_none on after moves (once_before on (Offline p) reply after leads) replays (Offline p) reply exact
+offline_needed : (on : List (Option ℕ)) (p : ℕ) (reply : Reply) (after : List (Option ℕ)) (moves : List Move)
+    → EventLeadsTo on (Offline p) reply after → MovesLead on moves after
+    → (m : Option Moved) → moved_of reply ≡ m → OfflinePassesOn on p m after → AreOfflineMoves on p m moves
+    → AreNeeded (Offline p) reply on after moves
+offline_needed on p reply after moves leads replays None e passes exact =
+    needed_none on after moves (once_before on (Offline p) reply after leads) replays (Offline p) reply exact
 offline_needed on p reply after moves leads replays (Some moved) e passes exact =
     let once = once_before on (Offline p) reply after leads in
     let between = passes.0 in
     let both = exact between passes.1 in
-    let most = twice_at_most on after moves once replays None (p ∷ []) (Some moved.task) (came_chain moved.came) between passes.1 passes.2 both in
-    let here : occupant_at on p ≡ Some moved.task = ap (λ (o : List (Option ℕ)). occupant_at o p) (sym leads.before) ∙ offline_mover leads.old p reply leads.new leads.step.1 moved e in
+    let most = twice_at_most on after moves once replays None (p ∷ []) (Some moved.task) (came_chain moved.came)
+    between passes.1 passes.2 both in
+    let here : occupant_at on p ≡ Some moved.task = ap (λ (o : List (Option ℕ)). occupant_at o p) (sym leads.before)
+    ∙ offline_mover leads.old p reply leads.new leads.step.1 moved e in
     let later = passing-length between (Some moved.task) (came_chain moved.came) in
     record {
       once = λ event_is t stays.
@@ -353,30 +383,40 @@ offline_needed on p reply after moves leads replays (Some moved) e passes exact 
     }
 
 -- the first chain moves nobody who runs neither before nor after both
-first_of_none : (on : List (Option ℕ)) (guest : Option ℕ) (one : List ℕ) (t : ℕ) (two : List ℕ) (between after : List (Option ℕ)) (u : ℕ) → IsOnce between → IsNowhere on u → IsNowhere after u
-    → Passes on (guest_who_stays guest one two) one between → Passes between (Some t) two after → count_of u (passing_moves on (guest_who_stays guest one two) one) ≡ 0
+first_of_none : (on : List (Option ℕ)) (guest : Option ℕ) (one : List ℕ) (t : ℕ) (two : List ℕ) (between after : List (Option ℕ)) (u : ℕ)
+    → IsOnce between → IsNowhere on u → IsNowhere after u
+    → PassesOn on (guest_who_stays guest one two) one between → PassesOn between (Some t) two after
+    → count_of u (passing_moves on (guest_who_stays guest one two) one) ≡ 0
 first_of_none on guest [] t two between after u once before then first second = refl
-first_of_none on guest (p ∷ rest) t two between after u once before then first second = elim (is_it (guest_who_stays guest (p ∷ rest) two) u) [
-  | inl own ↦ absurd (guest_is_somewhere on guest p rest t two between after u once own first second then)
-  | inr another ↦ passing-none on (guest_who_stays guest (p ∷ rest) two) (p ∷ rest) u before another
-]
+first_of_none on guest (p ∷ rest) t two between after u once before then first second =
+    elim (is_it (guest_who_stays guest (p ∷ rest) two) u) [
+      | inl own ↦ absurd (guest_is_somewhere on guest p rest t two between after u once own first second then)
+      | inr another ↦ passing-none on (guest_who_stays guest (p ∷ rest) two) (p ∷ rest) u before another
+    ]
 
 -- no move is needless
-pub needed : (on : List (Option ℕ)) (event : Event) (reply : Reply) (after : List (Option ℕ)) (moves : List Move) → LeadsTo on event reply after → AreMovesFor on event reply moves → Replays on moves after → AreNeeded event reply on after moves
+pub needed : (on : List (Option ℕ)) (event : Event) (reply : Reply) (after : List (Option ℕ)) (moves : List Move)
+    → EventLeadsTo on event reply after → AreMovesFor on event reply moves → MovesLead on moves after → AreNeeded event reply on after moves
 needed on (Arrive t) reply after moves leads exact replays =
-    needed_once on after moves (once_before on (Arrive t) reply after leads) replays (Arrive t) reply (Some t) (coming_chain reply) (arrival_leads on (Arrive t) reply after leads t refl) exact (omega (arith, length-append (filling_chain reply) (coming_chain reply)))
+    needed_once on after moves (once_before on (Arrive t) reply after leads) replays (Arrive t) reply (Some t) (coming_chain reply)
+    (arrival_leads on (Arrive t) reply after leads t refl) exact
+    (omega (arith, length-append (filling_chain reply) (coming_chain reply)))
 needed on (Depart t) reply after moves leads exact replays =
-    needed_once on after moves (once_before on (Depart t) reply after leads) replays (Depart t) reply (entered_by reply) (reverse (filling_chain reply)) (departure_leads on (Depart t) reply after leads t refl) exact
+    needed_once on after moves (once_before on (Depart t) reply after leads) replays (Depart t) reply (entered_by reply)
+    (reverse (filling_chain reply)) (departure_leads on (Depart t) reply after leads t refl) exact
     (omega (arith, length-append (filling_chain reply) (coming_chain reply), length-reverse (filling_chain reply)))
 needed on (Online p) reply after moves leads exact replays =
-    needed_once on after moves (once_before on (Online p) reply after leads) replays (Online p) reply (entered_by reply) (reverse (filling_chain reply)) (online_leads on (Online p) reply after leads p refl) exact
+    needed_once on after moves (once_before on (Online p) reply after leads) replays (Online p) reply (entered_by reply)
+    (reverse (filling_chain reply)) (online_leads on (Online p) reply after leads p refl) exact
     (omega (arith, length-append (filling_chain reply) (coming_chain reply), length-reverse (filling_chain reply)))
-needed on (Tick units) reply after moves leads exact replays = needed_none on after moves (once_before on (Tick units) reply after leads) replays (Tick units) reply exact
+needed on (Tick units) reply after moves leads exact replays =
+    needed_none on after moves (once_before on (Tick units) reply after leads) replays (Tick units) reply exact
 needed on (Affinity t mask) reply after moves leads exact replays =
     let once = once_before on (Affinity t mask) reply after leads in
     let one = reverse (filling_chain reply) in
     let guest = guest_who_stays (entered_by reply) one (coming_chain reply) in
-    let passes = stays_out on (entered_by reply) one t (coming_chain reply) after (mask_leads on (Affinity t mask) reply after leads t mask refl) in
+    let passes = stays_out on (entered_by reply) one t (coming_chain reply) after
+    (mask_leads on (Affinity t mask) reply after leads t mask refl) in
     let between = passes.0 in
     let both = exact between passes.1 in
     let most = twice_at_most on after moves once replays guest one (Some t) (coming_chain reply) between passes.1 passes.2 both in
@@ -390,10 +430,17 @@ needed on (Affinity t mask) reply after moves leads exact replays =
           omega arith;
       few =
           let count = ap (λ (list : List Move). length list) both.0 in
-          omega (arith, length-append (passing_moves on guest one) (passing_moves between (Some t) (coming_chain reply)), length-append (filling_chain reply) (coming_chain reply), length-reverse (filling_chain reply));
+          omega (
+            arith,
+            length-append (passing_moves on guest one) (passing_moves between (Some t) (coming_chain reply)),
+            length-append (filling_chain reply) (coming_chain reply),
+            length-reverse (filling_chain reply),
+          );
       idle = λ u before then.
-          let none = first_of_none on (entered_by reply) one t (coming_chain reply) between after u (both.1 once) before then passes.1 passes.2 in
+          let none = first_of_none on (entered_by reply) one t (coming_chain reply) between after u (both.1 once) before
+          then passes.1 passes.2 in
           let m = most u in
           moved_not on moves after u replays (omega arith) before then;
     }
-needed on (Offline p) reply after moves leads exact replays = offline_needed on p reply after moves leads replays (moved_of reply) refl (offline_leads on (Offline p) reply after leads p refl) exact
+needed on (Offline p) reply after moves leads exact replays =
+    offline_needed on p reply after moves leads replays (moved_of reply) refl (offline_leads on (Offline p) reply after leads p refl) exact

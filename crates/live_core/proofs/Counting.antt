@@ -10,10 +10,12 @@ use Rattle.live_core.specs.Seen.{SeenData, IsLost, EndsWithin, lost_count}
 -- no more than there are processors: each lost task is linked to one
 pub lost_few : (s table : State) → IsState s → lost_count s table ≤ s.processors
 lost_few s table ok =
-    let fits = count_below-injection (λ t. is_linked s t && not (is_linked table t)) (task_count s) (λ p. true) s.processors (λ t. place_in t s.on) record {
+    let fits = count_below-injection (λ t. is_linked s t && not (is_linked table t)) (task_count s) (λ p. true) s.processors
+    (λ t. place_in t s.on) record {
       below = λ t lt h. occupied_number s (place_in t s.on) t ok (task_on-linked s t (and_parts _ _ h).0);
       passes = λ t lt h. refl;
-      apart = λ t u lt lu h k e. same_Some t u (sym (task_on-linked s t (and_parts _ _ h).0) ∙ (rw e (task_on-linked s u (and_parts _ _ k).0)));
+      apart = λ t u lt lu h k e. same_Some t u (sym (task_on-linked s t (and_parts _ _ h).0)
+          ∙ (rw e (task_on-linked s u (and_parts _ _ k).0)));
     } in
     let bound = count_below-bound (λ p. true) s.processors in
     omega arith

@@ -7,7 +7,8 @@ use Rattle.strong_apa.specs.State.{State, IsState, IsWaiting, task_on, is_linked
 use Rattle.strong_apa.specs.Placement.{IsPlacement}
 use Rattle.strong_apa.specs.Certified.{HasCertificates}
 use Rattle.strong_apa.proofs.Linked.{place_in, task_on-linked, is_linked-from_on, occupied_number, linked_number}
-use Rattle.live_core.specs.Seen.{seen_at, Claims, RunsOn, AreAllApart, IsTable, IsFresh, IsLost, IsMostUrgentLost, IsNobodyLost, RunsJustLinked}
+use Rattle.live_core.specs.Seen.{seen_at, Claims, RunsOn, AreAllApart, IsTable, IsFresh, IsLost, IsMostUrgentLost, IsNobodyLost}
+use Rattle.live_core.specs.Seen.{RunsJustLinked}
 use Rattle.live_core.proofs.SeenTables.{filled}
 
 -- ---- the search
@@ -23,7 +24,8 @@ first_none s table = record {
 }
 
 -- nobody who is lost is linked to p
-pub first_same : (s table : State) (p : ℕ) (found : Option ℕ) → ((u : ℕ) → task_on s p ≡ Some u → IsLost s table u → ⊥) → IsFirstBelow s table p found → IsFirstBelow s table (p + 1) found
+pub first_same : (s table : State) (p : ℕ) (found : Option ℕ) → ((u : ℕ) → task_on s p ≡ Some u → IsLost s table u → ⊥)
+    → IsFirstBelow s table p found → IsFirstBelow s table (p + 1) found
 first_same s table p found nobody below = record {
   lost = below.lost;
   first = λ q u lt on lost. elim (cases_eq q p) [
@@ -34,7 +36,8 @@ first_same s table p found nobody below = record {
 
 -- the more urgent one of found and t
 pub first_more : (s table : State) (p t : ℕ) (found : Option ℕ) (new : ℕ) → task_on s p ≡ Some t → is_linked table t ≡ false
-    → (new ≡ t) ⊎ (found ≡ Some new) → priority_of s new ≤ priority_of s t → ((u : ℕ) → found ≡ Some u → priority_of s new ≤ priority_of s u)
+    → (new ≡ t) ⊎ (found ≡ Some new) → priority_of s new ≤ priority_of s t
+    → ((u : ℕ) → found ≡ Some u → priority_of s new ≤ priority_of s u)
     → IsFirstBelow s table p found → IsFirstBelow s table (p + 1) (Some new)
 first_more s table p t found new on nowhere which urgent before below = record {
   lost = λ u e. subst (IsLost s table) (same_Some new u e) (elim which [
@@ -52,7 +55,8 @@ first_more s table p t found new on nowhere which urgent before below = record {
 }
 
 -- at the end
-pub first_whole : (s table : State) → IsState s → (p : ℕ) → s.processors ≤ p → (found : Option ℕ) → IsFirstBelow s table p found → MatchOption found (IsNobodyLost s table) (IsMostUrgentLost s table)
+pub first_whole : (s table : State) → IsState s → (p : ℕ) → s.processors ≤ p → (found : Option ℕ) → IsFirstBelow s table p found
+    → MatchOption found (IsNobodyLost s table) (IsMostUrgentLost s table)
 first_whole s table ok p all None below = λ t lost.
     let on = task_on-linked s t lost.linked in
     let lt = occupied_number s (place_in t s.on) t ok on in
@@ -77,7 +81,11 @@ held_where_nobody_lost s table nobody t linked = elim (cases_Bool (is_linked tab
 
 pub apart_where_nobody_lost : (s table : State) (seen : List (Option ℕ)) → IsTable s seen table → IsNobodyLost s table → AreAllApart s seen
 apart_where_nobody_lost s table seen is_table nobody = record {
-  each = λ t linked. (place_in t table.on, is_table.holds (place_in t table.on) t (task_on-linked table t (held_where_nobody_lost s table nobody t linked)));
+  each = λ t linked. (
+    place_in t table.on,
+    is_table.holds (place_in t table.on) t
+        (task_on-linked table t (held_where_nobody_lost s table nobody t linked)),
+  );
   apart = λ t u q a b. same_Some t u (sym (on_where t q a) ∙ on_where u q b);
 }
   where
@@ -92,24 +100,30 @@ nobody_lost_where_apart s table seen is_table all t lost =
     let claims = all.each t lost.linked in
     let holder = is_table.covers claims.0 t claims.1 in
     let same = all.apart t holder.0 claims.0 claims.1 (is_table.holds claims.0 holder.0 holder.1) in
-    true≢false (sym (is_linked-from_on table claims.0 t (subst (λ (v : ℕ). task_on table claims.0 ≡ Some v) (sym same) holder.1)) ∙ lost.nowhere)
+    true≢false (sym (is_linked-from_on table claims.0 t (subst (λ (v : ℕ). task_on table claims.0 ≡ Some v) (sym same) holder.1))
+    ∙ lost.nowhere)
 
 -- ---- in a fresh table the holders are those that run where they are seen
-holds_where_runs : (s table : State) (seen : List (Option ℕ)) → IsState s → IsTable s seen table → IsFresh s seen table → (q t : ℕ) → RunsOn s seen t q → task_on table q ≡ Some t
+holds_where_runs : (s table : State) (seen : List (Option ℕ)) → IsState s → IsTable s seen table → IsFresh s seen table → (q t : ℕ)
+    → RunsOn s seen t q → task_on table q ≡ Some t
 holds_where_runs s table seen ok is_table fresh q t runs =
     let holder = is_table.covers q t runs.claims in
     let u = holder.0 in
     let le = fresh q u t holder.1 runs.claims in
     let claims = is_table.holds q u holder.1 in
     let le' = runs.most_urgent u claims in
-    let same : u ≡ t = ok.distinct u t (linked_number s (place_in u s.on) u ok (task_on-linked s u claims.linked)) (linked_number s (place_in t s.on) t ok (task_on-linked s t runs.claims.linked)) (omega arith) in
+    let same : u ≡ t = ok.distinct u t (linked_number s (place_in u s.on) u ok (task_on-linked s u claims.linked))
+    (linked_number s (place_in t s.on) t ok (task_on-linked s t runs.claims.linked)) (omega arith) in
     subst (λ (v : ℕ). task_on table q ≡ Some v) same holder.1
 
-pub held_runs : (s table : State) (seen : List (Option ℕ)) → IsTable s seen table → IsFresh s seen table → (q t : ℕ) → task_on table q ≡ Some t → RunsOn s seen t q
+pub held_runs : (s table : State) (seen : List (Option ℕ)) → IsTable s seen table → IsFresh s seen table → (q t : ℕ)
+    → task_on table q ≡ Some t → RunsOn s seen t q
 held_runs s table seen is_table fresh q t on = record { claims = is_table.holds q t on; most_urgent = λ u claims. fresh q t u on claims }
 
-pub holds_just_where_runs : (s table : State) (seen : List (Option ℕ)) → IsState s → IsTable s seen table → IsFresh s seen table → (q t : ℕ) → (task_on table q ≡ Some t) ↔ RunsOn s seen t q
-holds_just_where_runs s table seen ok is_table fresh q t = (held_runs s table seen is_table fresh q t, holds_where_runs s table seen ok is_table fresh q t)
+pub holds_just_where_runs : (s table : State) (seen : List (Option ℕ)) → IsState s → IsTable s seen table → IsFresh s seen table → (q t : ℕ)
+    → (task_on table q ≡ Some t) ↔ RunsOn s seen t q
+holds_just_where_runs s table seen ok is_table fresh q t =
+    (held_runs s table seen is_table fresh q t, holds_where_runs s table seen ok is_table fresh q t)
 
 -- ---- where they are seen apart, they are the most urgent of their processors
 abbrev where_seen : Option ℕ → ℕ
@@ -144,15 +158,21 @@ module _ (s : State) (seen : List (Option ℕ)) (ok : IsState s) (certificates :
         q (certificate.within q queued.allowed) in
         let u = found.1 in
         let held = certificate.occupied found.0 found.2 in
-        let same : held.0 ≡ u = same_Some held.0 u (sym held.1 ∙ found.3) in
-        (u, subst (λ (r : ℕ). Claims s seen u r) found.5 (claims_place u found.4), (λ other. subst (λ (v : ℕ). IsMoreUrgent s v w) same held.2))
+        let same : held.0 ≡ u = same_Some held.0 u (sym held.1 ∙ found.3) in (
+          u,
+          subst (λ (r : ℕ). Claims s seen u r) found.5 (claims_place u found.4),
+          (λ other. subst (λ (v : ℕ). IsMoreUrgent s v w) same held.2),
+        )
   ]
 
 -- what `lost` answers
-pub apart_answer : (s table : State) (seen : List (Option ℕ)) → IsTable s seen table → (found : Option ℕ) → MatchOption found (IsNobodyLost s table) (IsMostUrgentLost s table) → MatchOption found (AreAllApart s seen) (λ t. AreAllApart s seen → ⊥)
+pub apart_answer : (s table : State) (seen : List (Option ℕ)) → IsTable s seen table → (found : Option ℕ)
+    → MatchOption found (IsNobodyLost s table) (IsMostUrgentLost s table)
+    → MatchOption found (AreAllApart s seen) (λ t. AreAllApart s seen → ⊥)
 apart_answer s table seen is_table None nobody = apart_where_nobody_lost s table seen is_table nobody
 apart_answer s table seen is_table (Some t) first = λ all. nobody_lost_where_apart s table seen is_table all t first.lost
 
-pub just_linked_answer : (s : State) (seen : List (Option ℕ)) → IsState s → (found : Option ℕ) → MatchOption found (AreAllApart s seen) (λ t. AreAllApart s seen → ⊥) → HasCertificates s → IfNone found (RunsJustLinked s seen)
+pub just_linked_answer : (s : State) (seen : List (Option ℕ)) → IsState s → (found : Option ℕ)
+    → MatchOption found (AreAllApart s seen) (λ t. AreAllApart s seen → ⊥) → HasCertificates s → IfNone found (RunsJustLinked s seen)
 just_linked_answer s seen ok None all certificates = just_linked_where_apart s seen ok certificates all
 just_linked_answer s seen ok (Some t) not_all certificates = tt

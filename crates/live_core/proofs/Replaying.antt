@@ -1,12 +1,14 @@
 -- Lists of moves that are added to.
-use Rattle.std.proofs.Common.{◌≡◌, ◌≢◌, ℕ, zero, suc, ◌⊎◌, inl, inr, ◌+◌, ◌≤◌, List, [], ◌∷◌, ◌++◌, length, set, Option, Some, None, refl, sym, ap, ◌∙◌, arith, append_assoc, length-append, length-set}
+use Rattle.std.proofs.Common.{◌≡◌, ◌≢◌, ℕ, zero, suc, ◌⊎◌, inl, inr, ◌+◌, ◌≤◌, List, [], ◌∷◌, ◌++◌, length, set, Option, Some, None, refl}
+use Rattle.std.proofs.Common.{sym, ap, ◌∙◌, arith, append_assoc, length-append, length-set}
 use Rattle.std.proofs.lemmas.List.{append-nil}
 use Rattle.live_core.specs.declared.moves.Move.{Move}
 use Rattle.live_core.specs.declared.moves.Move.TheVariants.{Start, Shift, Stop}
-use Rattle.live_core.specs.Moves.{Replays, CanMove, IsNowhere, occupant_at, occupants_after}
+use Rattle.live_core.specs.Moves.{MovesLead, CanMove, IsNowhere, occupant_at, occupants_after}
 use Rattle.live_core.specs.MoveData.{MoveData, DoesMore, IsOnce}
 
-pub Replays-append : (a : List (Option ℕ)) (xs : List Move) (b : List (Option ℕ)) (ys : List Move) (c : List (Option ℕ)) → Replays a xs b → Replays b ys c → Replays a (xs ++ ys) c
+pub Replays-append : (a : List (Option ℕ)) (xs : List Move) (b : List (Option ℕ)) (ys : List Move) (c : List (Option ℕ)) → MovesLead a xs b
+    → MovesLead b ys c → MovesLead a (xs ++ ys) c
 Replays-append a [] b ys c first then = rw first then
 Replays-append a (move ∷ xs) b ys c first then = (first.0, Replays-append (occupants_after a move) xs b ys c first.1 then)
 
@@ -16,7 +18,7 @@ length-occupants_after a (Start t to) = length-set a to (Some t)
 length-occupants_after a (Shift t from to) = length-set (set a from None) to (Some t) ∙ length-set a from None
 length-occupants_after a (Stop t from) = length-set a from None
 
-pub Replays-length : (a : List (Option ℕ)) (moves : List Move) (b : List (Option ℕ)) → Replays a moves b → length b ≡ length a
+pub Replays-length : (a : List (Option ℕ)) (moves : List Move) (b : List (Option ℕ)) → MovesLead a moves b → length b ≡ length a
 Replays-length a [] b replays = ap length (sym replays)
 Replays-length a (move ∷ rest) b replays = Replays-length (occupants_after a move) rest b replays.1 ∙ length-occupants_after a move
 
@@ -34,23 +36,27 @@ DoesMore-then m n k a b c first then fits = record {
 
 -- how many moves there are then, and how many processors
 pub DoesMore-count : (n : ℕ) (a b : MoveData) → DoesMore n a b → length b.moves ≤ length a.moves + n
-DoesMore-count n a b does = let few = does.few in let e : length b.moves ≡ length (a.moves ++ does.more) = ap length does.added in omega (arith, e, length-append a.moves does.more)
+DoesMore-count n a b does = let few = does.few in let e : length b.moves ≡ length (a.moves ++ does.more) = ap length does.added in
+    omega (arith, e, length-append a.moves does.more)
 
 pub DoesMore-length : (n : ℕ) (a b : MoveData) → DoesMore n a b → length b.occupants ≡ length a.occupants
 DoesMore-length n a b does = Replays-length a.occupants does.more b.occupants does.replays
 
 pub DoesMore-fewer : (m n : ℕ) (a b : MoveData) → m ≤ n → DoesMore m a b → DoesMore n a b
-DoesMore-fewer m n a b fits does = record { more = does.more; added = does.added; few = (let few = does.few in omega arith); replays = does.replays }
+DoesMore-fewer m n a b fits does =
+    record { more = does.more; added = does.added; few = (let few = does.few in omega arith); replays = does.replays }
 
 -- where there were no moves, the moves are those that were added
-pub DoesMore-replays : (n : ℕ) (a b : MoveData) → a.moves ≡ [] → DoesMore n a b → Replays a.occupants b.moves b.occupants × (length b.moves ≤ n)
+pub DoesMore-replays : (n : ℕ) (a b : MoveData) → a.moves ≡ [] → DoesMore n a b → MovesLead a.occupants b.moves b.occupants
+    × (length b.moves ≤ n)
 DoesMore-replays n a b none does =
     let e : b.moves ≡ does.more = does.added ∙ ap (λ (moves : List Move). moves ++ does.more) none in
     rw e (does.replays, does.few)
 
 -- ---- no task is on two processors
 -- whoever is on p then was put there, or was there
-pub occupant-set : (on : List (Option ℕ)) (q p : ℕ) (o : Option ℕ) → ((occupant_at (set on q o) p ≡ o) × (p ≡ q)) ⊎ (occupant_at (set on q o) p ≡ occupant_at on p)
+pub occupant-set : (on : List (Option ℕ)) (q p : ℕ) (o : Option ℕ) → ((occupant_at (set on q o) p ≡ o) × (p ≡ q))
+    ⊎ (occupant_at (set on q o) p ≡ occupant_at on p)
 occupant-set [] q p o = inr refl
 occupant-set (x ∷ on) zero zero o = inl (refl, refl)
 occupant-set (x ∷ on) zero (suc p) o = inr refl
@@ -96,9 +102,10 @@ started_once on q t once nowhere x y u e f = go (occupant-set on q x (Some t)) (
 
 once_after : (on : List (Option ℕ)) (move : Move) → IsOnce on → CanMove on move → IsOnce (occupants_after on move)
 once_after on (Start t to) once can = started_once on to t once can.2
-once_after on (Shift t from to) once can = started_once (set on from None) to t (stopped_once on from once) (stopped_nowhere on from t once can.2)
+once_after on (Shift t from to) once can =
+    started_once (set on from None) to t (stopped_once on from once) (stopped_nowhere on from t once can.2)
 once_after on (Stop t from) once can = stopped_once on from once
 
-pub Replays-once : (a : List (Option ℕ)) (moves : List Move) (b : List (Option ℕ)) → Replays a moves b → IsOnce a → IsOnce b
+pub Replays-once : (a : List (Option ℕ)) (moves : List Move) (b : List (Option ℕ)) → MovesLead a moves b → IsOnce a → IsOnce b
 Replays-once a [] b replays once = rw (← replays) once
 Replays-once a (move ∷ rest) b replays once = Replays-once (occupants_after a move) rest b replays.1 (once_after a move once replays.0)

@@ -1,5 +1,6 @@
 -- A set of processors whose occupants may run only within it is full: in every placement of them each of its processors has one.
-use Rattle.std.proofs.Common.{◌≡◌, ℕ, ◌<◌, true, false, not, ◌&&◌, List, [], ◌∷◌, nat_eq, Option, Some, None, refl, sym, ap, ◌∙◌, subst, inl, inr, ◌⊎◌, IsTrue, arith, eq-eqb, ne_eqb}
+use Rattle.std.proofs.Common.{◌≡◌, ℕ, ◌<◌, true, false, not, ◌&&◌, List, [], ◌∷◌, nat_eq, Option, Some, None, refl, sym, ap, ◌∙◌, subst}
+use Rattle.std.proofs.Common.{inl, inr, ◌⊎◌, IsTrue, arith, eq-eqb, ne_eqb}
 use Rattle.std.proofs.Math.Bool.{and-true}
 use Rattle.std.proofs.lemmas.Bool.{cases_Bool, cases_eq, true≢false, and_from}
 use Rattle.std.proofs.lemmas.Option.{same_Some}
@@ -24,7 +25,8 @@ meets_decided X q x y = elim (cases_Bool (has X x)) [
 ]
 
 onto : (X m : ℕ) → ((p : ℕ) → IsTrue (has X p) → p < m) → (f : ℕ → ℕ) → ((p : ℕ) → IsTrue (has X p) → IsTrue (has X (f p)))
-    → ((p r : ℕ) → IsTrue (has X p) → IsTrue (has X r) → f p ≡ f r → p ≡ r) → (q : ℕ) → IsTrue (has X q) → (p : ℕ) × IsTrue (has X p) × (f p ≡ q)
+    → ((p r : ℕ) → IsTrue (has X p) → IsTrue (has X r) → f p ≡ f r → p ≡ r) → (q : ℕ) → IsTrue (has X q)
+    → (p : ℕ) × IsTrue (has X p) × (f p ≡ q)
 onto X m below f inside apart q there = elim (search_below (λ p. IsTrue (has X p) × (f p ≡ q)) m (λ p lt. meets_decided X q p (f p))) [
   | inl found ↦ (found.0, found.2.0, found.2.1)
   | inr nowhere ↦ absurd (
@@ -33,7 +35,8 @@ onto X m below f inside apart q there = elim (search_below (λ p. IsTrue (has X 
         passes = λ p lt h. and_from _ _ (inside p h) (rw (ne_eqb (f p) q (λ e. nowhere p lt (h, e))) refl);
         apart = λ p r lt lr h k e. apart p r h k e;
       } in
-      let more = count_below-one_more (λ p. has X p) (λ p. has X p && not (nat_eq p q)) q m (below q there) there (rw (there, eq-eqb q q refl) refl) (λ y lt ne. rw (ne_eqb y q ne) (sym (and-true (has X y)))) in
+      let more = count_below-one_more (λ p. has X p) (λ p. has X p && not (nat_eq p q)) q m (below q there) there
+      (rw (there, eq-eqb q q refl) refl) (λ y lt ne. rw (ne_eqb y q ne) (sym (and-true (has X y)))) in
       omega arith)
 ]
 
@@ -55,10 +58,17 @@ module _ (a : State) (ok : IsState a) (B : TaskTest) (place : ℕ → ℕ) (plac
       (λ p h. rw (who_is p h) ((occupied p h).3 (place (occupied p h).0) (placed.allowed (occupied p h).0 (occupied p h).2)))
       (λ p r h k e.
       let same : (occupied p h).0 ≡ (occupied r k).0 =
-      placed.apart (occupied p h).0 (occupied r k).0 (occupied p h).2 (occupied r k).2 (ap place (sym (who_is p h)) ∙ e ∙ ap place (who_is r k)) in
+      placed.apart (occupied p h).0 (occupied r k).0 (occupied p h).2 (occupied r k).2
+      (ap place (sym (who_is p h)) ∙ e ∙ ap place (who_is r k)) in
       ok.once p r (occupied p h).0 (occupied p h).1 ((occupied r k).1 ∙ ap (λ (n : ℕ). Some n) (sym same)))
-      q there in
-      (found.0, (occupied found.0 found.1).0, found.1, (occupied found.0 found.1).1, (occupied found.0 found.1).2, ap place (sym (who_is found.0 found.1)) ∙ found.2)
+      q there in (
+        found.0,
+        (occupied found.0 found.1).0,
+        found.1,
+        (occupied found.0 found.1).1,
+        (occupied found.0 found.1).2,
+        ap place (sym (who_is found.0 found.1)) ∙ found.2,
+      )
 
 -- ---- chains end on line
 walk_online : (a : State) (p : ℕ) (rest : List ℕ) (q : ℕ) → IsTrue (has a.online p) → IsWalk a p rest q → IsTrue (has a.online q)
@@ -70,7 +80,8 @@ chain_online a t [] q c = absurd c
 chain_online a t (p ∷ rest) q c = walk_online a p rest q (effective_mask_online a t p c.0) c.1
 
 -- ---- a task of a placeable set that is not placed has a chain to an idle processor
-module _ (a : State) (ok : IsState a) (B : TaskTest) (place : ℕ → ℕ) (placed : IsPlacement a B place) (within : (p u : ℕ) → task_on a p ≡ Some u → B u ≡ true)
+module _ (a : State) (ok : IsState a) (B : TaskTest) (place : ℕ → ℕ) (placed : IsPlacement a B place) (within : (p u : ℕ)
+    → task_on a p ≡ Some u → B u ≡ true)
     (t : ℕ) (in_B : B t ≡ true) (nowhere : is_linked a t ≡ false) where
   occupied_where_reached : (R : ℕ) → IsReach a t R → ((chain : List ℕ) → EndsIdle a t chain → ⊥) → (p : ℕ) → IsTrue (has R p)
       → (u : ℕ) × (task_on a p ≡ Some u) × (B u ≡ true) × Within (effective_mask a u) R
@@ -82,12 +93,14 @@ module _ (a : State) (ok : IsState a) (B : TaskTest) (place : ℕ → ℕ) (plac
 
   pub some_chain : (R : ℕ) → IsReach a t R → ((chain : List ℕ) → EndsIdle a t chain → ⊥) → ⊥
   some_chain R reached none =
-      let found = filled a ok B place placed R (occupied_where_reached R reached none) (place t) (IsReach-first a t R reached (place t) (placed.allowed t in_B)) in
+      let found = filled a ok B place placed R (occupied_where_reached R reached none) (place t)
+      (IsReach-first a t R reached (place t) (placed.allowed t in_B)) in
       let same : found.1 ≡ t = placed.apart found.1 t found.4 in_B found.5 in
       true≢false (sym (is_linked-from_on a found.0 t (found.3 ∙ ap (λ (n : ℕ). Some n) same)) ∙ nowhere)
 
 -- ---- the linked tasks stand in the table's masks where they are linked
-pub same_mask : (s table : State) → table ≡ record s { on = table.on } → (t q : ℕ) → has (effective_mask table t) q ≡ has (effective_mask s t) q
+pub same_mask : (s table : State) → table ≡ record s { on = table.on } → (t q : ℕ)
+    → has (effective_mask table t) q ≡ has (effective_mask s t) q
 same_mask s table same t q = ap (λ (x : State). has (effective_mask x t) q) same
 
 linked_place : (s table : State) → IsState s → table ≡ record s { on = table.on } → IsPlacement table (is_linked s) (λ t. place_in t s.on)
@@ -97,15 +110,20 @@ linked_place s table ok same = record {
 }
 
 -- a lost task has a chain
-pub lost_has_some : (s table : State) (seen : List (Option ℕ)) (t : ℕ) → IsState s → IsTable s seen table → IsLost s table t → (R : ℕ) → IsReach table t R → ((chain : List ℕ) → EndsIdle table t chain → ⊥) → ⊥
+pub lost_has_some : (s table : State) (seen : List (Option ℕ)) (t : ℕ) → IsState s → IsTable s seen table → IsLost s table t → (R : ℕ)
+    → IsReach table t R → ((chain : List ℕ) → EndsIdle table t chain → ⊥) → ⊥
 lost_has_some s table seen t ok is_table lost R reached none =
-    some_chain table is_table.state (is_linked s) (λ u. place_in u s.on) (linked_place s table ok is_table.same) (λ p u on. (is_table.holds p u on).linked) t lost.linked lost.nowhere R reached none
+    some_chain table is_table.state (is_linked s) (λ u. place_in u s.on) (linked_place s table ok is_table.same)
+    (λ p u on. (is_table.holds p u on).linked) t lost.linked lost.nowhere R reached none
 
 -- it is a task of the table, and waits there
-pub lost_number : (s table : State) (seen : List (Option ℕ)) (t : ℕ) → IsState s → IsTable s seen table → IsLost s table t → t < task_count table
-lost_number s table seen t ok is_table lost = rw (ap task_count is_table.same) (linked_number s (place_in t s.on) t ok (task_on-linked s t lost.linked))
+pub lost_number : (s table : State) (seen : List (Option ℕ)) (t : ℕ) → IsState s → IsTable s seen table → IsLost s table t
+    → t < task_count table
+lost_number s table seen t ok is_table lost =
+    rw (ap task_count is_table.same) (linked_number s (place_in t s.on) t ok (task_on-linked s t lost.linked))
 
-pub lost_waits : (s table : State) (seen : List (Option ℕ)) (t : ℕ) → IsState s → IsTable s seen table → IsLost s table t → IsWaiting table t
+pub lost_waits : (s table : State) (seen : List (Option ℕ)) (t : ℕ) → IsState s → IsTable s seen table → IsLost s table t
+    → IsWaiting table t
 lost_waits s table seen t ok is_table lost = record {
   ready = ap (λ (x : State). is_ready x t) is_table.same ∙ ok.linked_ready (place_in t s.on) t (task_on-linked s t lost.linked);
   not_linked = lost.nowhere;

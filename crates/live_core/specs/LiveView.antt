@@ -18,8 +18,9 @@ live_view a = record {
   holders = if a.seen.is_settled then Some a.seen.table.on else None;
 }
 
--- the links are a placement of ready tasks, each waiting task has a certificate, the moves led to these links, and each task
--- has a slot, which is in use where the task is ready; the table of the holders has the same tasks, and is one where it is settled
+-- the links are a placement of ready tasks, each waiting task has a certificate, the moves led to
+-- these links, and each task has a slot, which is in use where the task is ready; the table of the
+-- holders has the same tasks, and is one where it is settled
 pub record IsKept (a : Inside) : Type 0 where
   pub state : IsState a.links
   pub certificates : HasCertificates a.links

@@ -1,7 +1,9 @@
--- Moves. What an event asks for is said by a list of moves, which are done one by one. The occupants list who is on each
--- processor. A move can be done where its task is on the processor that it leaves, and on none where it starts, and
--- nobody is on the processor that it goes to: so no processor ever has two tasks, and no task two processors.
-use Rattle.std.specs.Prelude.{◌≡◌, ◌≢◌, ℕ, ◌<◌, List, [], ◌∷◌, length, get_or, set, Option, Some, None}
+-- Moves. What an event asks for is said by a list of moves, which are done one by one. The
+-- occupants list who is on each processor. A move can be done where its task is on the processor
+-- that it leaves, and on none where it starts, and nobody is on the processor that it goes to: so
+-- no processor ever has two tasks, and no task two processors.
+use Rattle.std.specs.Prelude.{◌≡◌, ◌≢◌, ℕ, ◌<◌, List, [], ◌∷◌, length, get_or, set, Option, Some}
+use Rattle.std.specs.Prelude.{None}
 use Rattle.live_core.specs.declared.moves.Move.{Move}
 use Rattle.live_core.specs.declared.moves.Move.TheVariants.{Start, Shift, Stop}
 
@@ -15,8 +17,10 @@ IsNowhere occupants t = (p : ℕ) → occupant_at occupants p ≢ Some t
 
 -- the move can be done
 abbrev pub CanMove : List (Option ℕ) → Move → Type 0
-CanMove occupants (Start t to) = (to < length occupants) × (occupant_at occupants to ≡ None) × IsNowhere occupants t
-CanMove occupants (Shift t from to) = (to < length occupants) × (occupant_at occupants to ≡ None) × (occupant_at occupants from ≡ Some t)
+CanMove occupants (Start t to) =
+    (to < length occupants) × (occupant_at occupants to ≡ None) × IsNowhere occupants t
+CanMove occupants (Shift t from to) = (to < length occupants) × (occupant_at occupants to ≡ None)
+    × (occupant_at occupants from ≡ Some t)
 CanMove occupants (Stop t from) = occupant_at occupants from ≡ Some t
 
 -- the occupants after the move
@@ -26,6 +30,6 @@ occupants_after occupants (Shift t from to) = set (set occupants from None) to (
 occupants_after occupants (Stop t from) = set occupants from None
 
 -- the moves lead from the old occupants to the new ones: each can be done after those before it
-abbrev pub Replays : List (Option ℕ) → List Move → List (Option ℕ) → Type 0
-Replays old [] new = old ≡ new
-Replays old (move ∷ rest) new = CanMove old move × Replays (occupants_after old move) rest new
+abbrev pub MovesLead : List (Option ℕ) → List Move → List (Option ℕ) → Type 0
+MovesLead old [] new = old ≡ new
+MovesLead old (move ∷ rest) new = CanMove old move × MovesLead (occupants_after old move) rest new

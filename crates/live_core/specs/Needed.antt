@@ -1,8 +1,11 @@
--- No move is needless. At all events but a change of a mask a task has one move where its processor changes, and else none; only the
--- task of a processor that goes off line may stop and start again. At no event has a task a move that runs neither before nor after it.
-use Rattle.std.specs.Prelude.{◌≡◌, ℕ, ◌+◌, ◌≤◌, ◌↔◌, List, [], ◌∷◌, length, Option, Some, None, if◌then◌else◌, ◌==◌}
+-- No move is needless. At all events but a change of a mask a task has one move where its processor
+-- changes, and else none; only the task of a processor that goes off line may stop and start again.
+-- At no event has a task a move that runs neither before nor after it.
+use Rattle.std.specs.Prelude.{◌≡◌, ℕ, ◌+◌, ◌≤◌, ◌↔◌, List, [], ◌∷◌, length, Option, Some, None}
+use Rattle.std.specs.Prelude.{if◌then◌else◌, ◌==◌}
 use Rattle.task_set.specs.declared.event.Event.{Event}
-use Rattle.task_set.specs.declared.event.Event.TheVariants.{Arrive, Depart, Tick, Affinity, Offline, Online}
+use Rattle.task_set.specs.declared.event.Event.TheVariants.{Arrive, Depart, Tick, Affinity, Offline}
+use Rattle.task_set.specs.declared.event.Event.TheVariants.{Online}
 use Rattle.strong_apa.specs.declared.reply.Reply.{Reply}
 use Rattle.strong_apa.specs.declared.reply.Moved.{Moved}
 use Rattle.strong_apa.specs.Reply.{chain_of}
@@ -46,8 +49,10 @@ HadToLeave None t = ⊥
 HadToLeave (Some moved) t = moved.task ≡ t
 
 -- the moves of an event with this reply, which lead from the old occupants to the new ones
-pub record AreNeeded (event : Event) (reply : Reply) (old new : List (Option ℕ)) (moves : List Move) : Type 0 where
-  pub once : IsNoMaskChange event → (t : ℕ) → ¬ HadToLeave (moved_of reply) t → MovesOnce old new moves t
+pub record AreNeeded (event : Event) (reply : Reply) (old new : List (Option ℕ))
+    (moves : List Move) : Type 0 where
+  pub once : IsNoMaskChange event → (t : ℕ) → ¬ HadToLeave (moved_of reply) t
+      → MovesOnce old new moves t
   pub twice : (t : ℕ) → count_of t moves ≤ 2
   pub few : length moves ≤ length (chain_of reply) + 2
   pub idle : (t : ℕ) → IsNowhere old t → IsNowhere new t → count_of t moves ≡ 0

@@ -4,8 +4,9 @@ use Rattle.strong_apa.specs.Certified.{HasCertificates}
 use Rattle.strong_apa.specs.Improving.{HasNoImprovingChain}
 use Rattle.strong_apa.specs.CertificateLaws.{LinkedIsBest, LinkedIsLargest, LinkedIsAsUrgent}
 
--- the links are a placement of ready tasks, each waiting task has a certificate, no chain improves the links, and the linked
--- tasks are the best placeable set of the ready ones; no such set is larger, and none is more urgent at any rank
+-- the links are a placement of ready tasks, each waiting task has a certificate, no chain improves
+-- the links, and the linked tasks are the best placeable set of the ready ones; no such set is
+-- larger, and none is more urgent at any rank
 pub record IsOptimal (s : State) : Type 0 where
   pub valid : IsState s
   pub certified : HasCertificates s

@@ -1,8 +1,10 @@
--- Slots. The number of a task is that of its slot. A slot is in use from the admission of a task until the task retires, and is
--- free otherwise. A free slot has no task, so no event is of it. It keeps a mask and a priority, which count for nothing.
+-- Slots. The number of a task is that of its slot. A slot is in use from the admission of a task
+-- until the task retires, and is free otherwise. A free slot has no task, so no event is of it. It
+-- keeps a mask and a priority, which count for nothing.
 use Rattle.std.specs.Prelude.{◌≡◌, ◌≢◌, ℕ, ◌<◌, Bool, true, false, List, None, length, set, get_or}
 use Rattle.task_set.specs.declared.event.Event.{Event}
-use Rattle.task_set.specs.declared.event.Event.TheVariants.{Arrive, Depart, Tick, Affinity, Offline, Online}
+use Rattle.task_set.specs.declared.event.Event.TheVariants.{Arrive, Depart, Tick, Affinity, Offline}
+use Rattle.task_set.specs.declared.event.Event.TheVariants.{Online}
 use Rattle.strong_apa.specs.State.{State, task_count, priority_of, is_ready, state_with_mask}
 use Rattle.link_table.specs.Priorities.{IsFreeFor, state_with_priority}
 use Rattle.live_core.specs.Live.{LiveData}
@@ -45,11 +47,17 @@ pub record IsSlotFor (d : LiveData) (priority t : ℕ) : Type 0 where
   pub slot : IsFreeSlot d.in_use t
   pub is_new : IsFreeFor d.links t priority
 
--- t was free; it is in use with this priority and this mask, and seen nowhere, and all else stays: the links among it, and every
--- other task
+-- t was free; it is in use with this priority and this mask, and seen nowhere, and all else stays:
+-- the links among it, and every other task
 pub record Admits (old : LiveData) (priority mask t : ℕ) (new : LiveData) : Type 0 where
   pub slot : IsFreeSlot old.in_use t
-  pub admitted : new ≡ record old { links = state_with_mask (state_with_priority old.links t priority) t mask; in_use = set old.in_use t true; seen = set old.seen t None; holders = None }
+  pub admitted : new ≡ record old {
+    links = state_with_mask
+        (state_with_priority old.links t priority) t mask;
+    in_use = set old.in_use t true;
+    seen = set old.seen t None;
+    holders = None;
+  }
 
 -- why no task of this priority is admitted: no slot is free, or a task in use has the priority
 abbrev pub IsAdmitFault : LiveData → ℕ → SlotFault → Type 0
@@ -60,12 +68,17 @@ IsAdmitFault d priority (SamePriority u) = IsInUseWith d priority u
 abbrev pub data_with_free : LiveData → ℕ → LiveData
 data_with_free d t = record d { in_use = set d.in_use t false }
 
--- t has the priority, and all else of the tasks in use stays; only a free slot may have another priority too
+-- t has the priority, and all else of the tasks in use stays; only a free slot may have another
+-- priority too
 pub record GetsPriority (old : LiveData) (t priority : ℕ) (new : LiveData) : Type 0 where
   pub count : task_count new.links ≡ task_count old.links
   pub has_it : priority_of new.links t ≡ priority
-  pub others : (u : ℕ) → is_in_use old u ≡ true → u ≢ t → priority_of new.links u ≡ priority_of old.links u
-  pub rest : new ≡ record old { links = record old.links { priorities = new.links.priorities }; holders = None }
+  pub others : (u : ℕ) → is_in_use old u ≡ true → u ≢ t
+      → priority_of new.links u ≡ priority_of old.links u
+  pub rest : new ≡ record old {
+    links = record old.links { priorities = new.links.priorities };
+    holders = None;
+  }
 
 -- why t does not get the priority: another task in use has it
 abbrev pub IsPriorityFault : LiveData → ℕ → ℕ → SlotFault → Type 0

@@ -8,7 +8,7 @@ ghost use Rattle.strong_apa.specs.Certified.{HasCertificates};
 ghost use Rattle.strong_apa.specs.Improving.{HasNoImprovingChain};
 ghost use Rattle.strong_apa.specs.CertificateLaws.{LinkedIsBest, LinkedIsLargest, LinkedIsAsUrgent};
 ghost use Rattle.live_core.specs.Lost.{FindsLost, HelpsLost, HelpsTask, HelpsNobody, AreHolders, state_held, data_with_seen};
-ghost use Rattle.live_core.specs.Moves.{Replays};
+ghost use Rattle.live_core.specs.Moves.{MovesLead};
 ghost use Rattle.live_core.specs.Needed.{AreNeeded};
 ghost use Rattle.live_core.specs.Optimal.{IsOptimal};
 ghost use Rattle.live_core.specs.Seen.{IsLost};
@@ -81,7 +81,7 @@ impl LiveCore {
         requires event { IsEventFor self.old.links event }
         requires in_use { IsEventInUse self.old event }
         ensures step { SchedulerStep self.old.links event self.new.last self.new.links }
-        ensures moves { Replays self.old.links.on self.new.moves self.new.links.on }
+        ensures moves { MovesLead self.old.links.on self.new.moves self.new.links.on }
         ensures few { length self.new.moves ≤ 130 }
         ensures needed { AreNeeded event self.new.last self.old.links.on self.new.links.on self.new.moves }
         ensures certified { HasCertificates self.new.links }

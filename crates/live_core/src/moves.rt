@@ -50,8 +50,8 @@ impl Model for MoveList {
 }
 
 impl MoveList {
-    ghost use Rattle.live_core.specs.Moves.{Replays, occupant_at, IsNowhere};
-    ghost use Rattle.live_core.specs.MoveData.{DoesMore, CanPassOn, Passes, PassesTwice, OfflinePasses, LeadsTo, guest_who_stays, occupant_passed, AreMovesFor, AreMovesTwice, AreOfflineMoves, passing_moves, shifts_along, shift_of, stop_of};
+    ghost use Rattle.live_core.specs.Moves.{MovesLead, occupant_at, IsNowhere};
+    ghost use Rattle.live_core.specs.MoveData.{DoesMore, CanPassOn, PassesOn, PassesOnTwice, OfflinePassesOn, EventLeadsTo, guest_who_stays, occupant_passed, AreMovesFor, AreMovesTwice, AreOfflineMoves, passing_moves, shifts_along, shift_of, stop_of};
     ghost use Rattle.live_core.specs.declared.moves.Move.TheVariants.{Start};
 
     /// Nobody is on any of so many processors.
@@ -78,11 +78,11 @@ impl MoveList {
 
     /// The moves of an event with its reply take the place of those before.
     pub(crate) fn follow(&mut self, event: &Event, reply: &Reply)
-        requires { (after : List (Option ℕ)) × LeadsTo self.old.occupants event.now reply.now after }
-        ensures moves { Replays self.old.occupants self.new.moves self.new.occupants }
+        requires { (after : List (Option ℕ)) × EventLeadsTo self.old.occupants event.now reply.now after }
+        ensures moves { MovesLead self.old.occupants self.new.moves self.new.occupants }
         ensures few { length self.new.moves ≤ 130 }
         ensures occupants { (after : List (Option ℕ))
-            → LeadsTo self.old.occupants event.now reply.now after → self.new.occupants ≡ after }
+            → EventLeadsTo self.old.occupants event.now reply.now after → self.new.occupants ≡ after }
         ensures exact { AreMovesFor self.old.occupants event.now reply.now self.new.moves }
     {
         self.clear();
@@ -100,12 +100,12 @@ impl MoveList {
 
     /// A task starts on the first processor of a chain, on whose last nobody is, and each occupant goes on the next one.
     pub(crate) fn let_in(&mut self, task: u32, chain: &[u8])
-        requires can { (after : List (Option ℕ)) × Passes self.old.occupants (Some task) chain.now after }
+        requires can { (after : List (Option ℕ)) × PassesOn self.old.occupants (Some task) chain.now after }
         requires none { self.old.moves ≡ [] }
-        ensures moves { Replays self.old.occupants self.new.moves self.new.occupants }
+        ensures moves { MovesLead self.old.occupants self.new.moves self.new.occupants }
         ensures few { length self.new.moves ≤ 130 }
         ensures occupants { (after : List (Option ℕ))
-            → Passes self.old.occupants (Some task) chain.now after → self.new.occupants ≡ after }
+            → PassesOn self.old.occupants (Some task) chain.now after → self.new.occupants ≡ after }
         ensures exact { self.new.moves ≡ passing_moves self.old.occupants (Some task) chain.now }
     {
         self.pass_on(Some(task), chain);
@@ -128,11 +128,11 @@ impl MoveList {
 
     /// Adds the moves of an event with its reply.
     fn add(&mut self, event: &Event, reply: &Reply)
-        requires can { (after : List (Option ℕ)) × LeadsTo self.old.occupants event.now reply.now after }
+        requires can { (after : List (Option ℕ)) × EventLeadsTo self.old.occupants event.now reply.now after }
         requires none { self.old.moves ≡ [] }
         ensures more { DoesMore 130 self.old self.new }
         ensures occupants { (after : List (Option ℕ))
-            → LeadsTo self.old.occupants event.now reply.now after → self.new.occupants ≡ after }
+            → EventLeadsTo self.old.occupants event.now reply.now after → self.new.occupants ≡ after }
         ensures exact { AreMovesFor self.old.occupants event.now reply.now self.new.moves }
     {
         match event {
@@ -148,11 +148,11 @@ impl MoveList {
     /// A ready task whose mask has changed leaves its processor, if it has one, which is filled, and it comes back. Whoever
     /// would fill the processor and be displaced by the return does not start.
     fn remask(&mut self, task: u32, reply: &Reply)
-        requires can { (after : List (Option ℕ)) × PassesTwice self.old.occupants (entered_by reply.now)
+        requires can { (after : List (Option ℕ)) × PassesOnTwice self.old.occupants (entered_by reply.now)
             (reverse (filling_chain reply.now)) (Some task) (coming_chain reply.now) after }
         requires none { self.old.moves ≡ [] }
         ensures more { DoesMore 130 self.old self.new }
-        ensures occupants { (after : List (Option ℕ)) → PassesTwice self.old.occupants (entered_by reply.now)
+        ensures occupants { (after : List (Option ℕ)) → PassesOnTwice self.old.occupants (entered_by reply.now)
             (reverse (filling_chain reply.now)) (Some task) (coming_chain reply.now) after
             → self.new.occupants ≡ after }
         ensures exact { AreMovesTwice self.old.occupants
@@ -169,11 +169,11 @@ impl MoveList {
 
     /// The task of a processor that goes off line, if it has one, leaves it and comes back.
     fn go_offline(&mut self, p: u8, reply: &Reply)
-        requires can { (after : List (Option ℕ)) × OfflinePasses self.old.occupants p (moved_of reply.now) after }
+        requires can { (after : List (Option ℕ)) × OfflinePassesOn self.old.occupants p (moved_of reply.now) after }
         requires none { self.old.moves ≡ [] }
         ensures more { DoesMore 130 self.old self.new }
         ensures occupants { (after : List (Option ℕ))
-            → OfflinePasses self.old.occupants p (moved_of reply.now) after → self.new.occupants ≡ after }
+            → OfflinePassesOn self.old.occupants p (moved_of reply.now) after → self.new.occupants ≡ after }
         ensures exact { AreOfflineMoves self.old.occupants p (moved_of reply.now) self.new.moves }
     {
         if let Some(moved) = moved_by(reply) {
@@ -185,11 +185,11 @@ impl MoveList {
     /// A processor that has been left is filled as the reply says: whoever is on it stops, and the task that enters, if
     /// one does, goes against the direction of the back chain.
     fn fill(&mut self, reply: &Reply)
-        requires can { (after : List (Option ℕ)) × Passes self.old.occupants (entered_by reply.now)
+        requires can { (after : List (Option ℕ)) × PassesOn self.old.occupants (entered_by reply.now)
             (reverse (filling_chain reply.now)) after }
         requires room { length self.old.moves ≤ 65 }
         ensures more { DoesMore 65 self.old self.new }
-        ensures occupants { (after : List (Option ℕ)) → Passes self.old.occupants (entered_by reply.now)
+        ensures occupants { (after : List (Option ℕ)) → PassesOn self.old.occupants (entered_by reply.now)
             (reverse (filling_chain reply.now)) after → self.new.occupants ≡ after }
         ensures added { self.new.moves ≡ self.old.moves
             ++ passing_moves self.old.occupants (entered_by reply.now) (reverse (filling_chain reply.now)) }
@@ -208,11 +208,11 @@ impl MoveList {
     /// Occupants are passed on along one chain, and then along another.
     fn pass_on_twice(&mut self, first: Option<u32>, one: &[u8], second: u32, two: &[u8])
         requires can { (after : List (Option ℕ))
-            × PassesTwice self.old.occupants first one.now (Some second) two.now after }
+            × PassesOnTwice self.old.occupants first one.now (Some second) two.now after }
         requires none { self.old.moves ≡ [] }
         ensures more { DoesMore 130 self.old self.new }
         ensures occupants { (after : List (Option ℕ))
-            → PassesTwice self.old.occupants first one.now (Some second) two.now after
+            → PassesOnTwice self.old.occupants first one.now (Some second) two.now after
             → self.new.occupants ≡ after }
         ensures exact { AreMovesTwice self.old.occupants first one.now (Some second) two.now self.new.moves }
     {
@@ -223,11 +223,11 @@ impl MoveList {
     /// The occupant of the last processor of a chain stops, each other one goes on the next processor, and the guest, if
     /// there is one, starts on the first.
     fn pass_on(&mut self, guest: Option<u32>, chain: &[u8])
-        requires can { (after : List (Option ℕ)) × Passes self.old.occupants guest chain.now after }
+        requires can { (after : List (Option ℕ)) × PassesOn self.old.occupants guest chain.now after }
         requires room { length self.old.moves ≤ 65 }
         ensures more { DoesMore 65 self.old self.new }
         ensures occupants { (after : List (Option ℕ))
-            → Passes self.old.occupants guest chain.now after → self.new.occupants ≡ after }
+            → PassesOn self.old.occupants guest chain.now after → self.new.occupants ≡ after }
         ensures added { self.new.moves ≡ self.old.moves ++ passing_moves self.old.occupants guest chain.now }
     {
         if chain.is_empty() {

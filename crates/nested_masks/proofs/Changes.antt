@@ -1,5 +1,6 @@
 -- What stays when tasks become ready or absent, are linked or are linked no longer.
-use Rattle.std.proofs.Common.{◌≡◌, ◌≢◌, ℕ, ◌<◌, Bool, true, false, List, length, set, get_or, Some, None, refl, sym, ap, ◌∙◌, inl, inr, arith, length-set, get_or-set_same, get_or-set_other}
+use Rattle.std.proofs.Common.{◌≡◌, ◌≢◌, ℕ, ◌<◌, Bool, true, false, List, length, set, get_or, Some, None, refl, sym, ap, ◌∙◌, inl, inr}
+use Rattle.std.proofs.Common.{arith, length-set, get_or-set_same, get_or-set_other}
 use Rattle.std.proofs.lemmas.Bool.{cases_Bool, cases_eq, cases_lt, true≢false}
 use Rattle.std.proofs.lemmas.List.{get_or_past}
 use Rattle.affinity_mask.specs.ProcSet.{members}
@@ -24,14 +25,16 @@ flag_number flags t h = elim (cases_lt t (length flags)) [
 ]
 
 -- a flag that is written once
-pub joins_set : (flags : List Bool) (t : ℕ) → t < length flags → get_or flags t false ≡ false → Joins (λ u. get_or flags u false) t (λ u. get_or (set flags t true) u false)
+pub joins_set : (flags : List Bool) (t : ℕ) → t < length flags → get_or flags t false ≡ false
+    → Joins (λ u. get_or flags u false) t (λ u. get_or (set flags t true) u false)
 joins_set flags t lt before = record {
   before = before;
   after = get_or-set_same flags t true false lt;
   others = λ u ne. get_or-set_other flags t u true false ne;
 }
 
-pub joins_unset : (flags : List Bool) (t : ℕ) → get_or flags t false ≡ true → Joins (λ u. get_or (set flags t false) u false) t (λ u. get_or flags u false)
+pub joins_unset : (flags : List Bool) (t : ℕ) → get_or flags t false ≡ true
+    → Joins (λ u. get_or (set flags t false) u false) t (λ u. get_or flags u false)
 joins_unset flags t before = record {
   before = get_or-set_same flags t false false (flag_number flags t before);
   after = before;
@@ -124,7 +127,8 @@ module _ (n : NestedData) (ok : IsCounted n) where
       state = state_kept (set n.ready t false) (set n.linked t false) (length-set n.ready t false);
       count = length-set n.linked t false ∙ ok.count;
       laminar = ok.laminar;
-      linked_ready = λ u h. let rest = unset_smaller n.linked t u h in get_or-set_other n.ready t u false false rest.0 ∙ ok.linked_ready u rest.1;
+      linked_ready = λ u h. let rest = unset_smaller n.linked t u h in get_or-set_other n.ready t u false false rest.0
+          ∙ ok.linked_ready u rest.1;
       fits = fits_smaller n.masks (linked_of n) (linked_of (without_task n t)) (λ u h. (unset_smaller n.linked t u h).1) ok.fits;
     }
 

@@ -32,9 +32,11 @@ module _ (n : NestedData) (ok : IsCounted n) where
         within_from _ _ parts.1 (place u) (placed.allowed u parts.0)
 
     -- each processor of a tight node has one of the tasks that the node holds
-    pub tight_filled : (X : ℕ) → IsTight n.masks (linked_of n) X → (p : ℕ) → IsTrue (has X p) → IsMissed (is_held_in X) (length n.masks) place p → ⊥
+    pub tight_filled : (X : ℕ) → IsTight n.masks (linked_of n) X → (p : ℕ) → IsTrue (has X p)
+        → IsMissed (is_held_in X) (length n.masks) place p → ⊥
     tight_filled X tight p member missed =
-        let one_more = count_below-one_more (has X) (λ q. has X q && not (nat_eq q p)) p 64 (node_small X tight.node p member) member (no_p p) (λ q lt ne. rw (ne_eqb q p ne) (sym (and-true (has X q)))) in
+        let one_more = count_below-one_more (has X) (λ q. has X q && not (nat_eq q p)) p 64 (node_small X tight.node p member) member
+        (no_p p) (λ q lt ne. rw (ne_eqb q p ne) (sym (and-true (has X q)))) in
         let le = count_below-injection (is_held_in X) (length n.masks) (λ q. has X q && not (nat_eq q p)) 64 place record {
           below = λ u lt h. node_small X tight.node (place u) (held_place X u h);
           passes = λ u lt h. and_from _ _ (held_place X u h) (rw (ne_eqb (place u) p (λ e. missed u lt h e)) refl);
@@ -63,7 +65,8 @@ module _ (n : NestedData) (ok : IsCounted n) where
             let T = covered left.0 left.1 in
             tight_filled T.0 T.1 left.0 T.2 (λ u lt h e.
             let parts = and_parts (linked_of n u) (is_within (mask_in n u) T.0) h in
-            left.2 u lt (and_from _ _ parts.0 (is_within-from _ _ (within_trans (mask_in n u) T.0 X (within_from _ _ parts.1) (tight_within left.0 left.1 T.0 T.1 T.2)))) e)
+            left.2 u lt (and_from _ _ parts.0 (is_within-from _ _
+            (within_trans (mask_in n u) T.0 X (within_from _ _ parts.1) (tight_within left.0 left.1 T.0 T.1 T.2)))) e)
         | inr full ↦ let bound = ok.fits X node in free X record { node = node; full = omega arith } (within_same X)
       ]
 

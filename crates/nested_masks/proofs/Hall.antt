@@ -1,7 +1,8 @@
 -- Where masks nest, a set of tasks that fits the nodes can be placed: the tasks are placed from the smallest mask to the
 -- greatest. Of those placed before, only the tasks whose masks lie within that of the next one can be on its processors;
 -- since the node of its mask fits, one of these processors is left. The converse holds of all masks.
-use Rattle.std.proofs.Common.{◌≡◌, ◌≢◌, ℕ, zero, suc, ◌<◌, ◌≤◌, Bool, true, false, not, ◌&&◌, nat_eq, List, length, refl, sym, ap, ◌∙◌, inl, inr, ◌⊎◌, IsTrue, arith, eq-eqb, ne_eqb, cond}
+use Rattle.std.proofs.Common.{◌≡◌, ◌≢◌, ℕ, zero, suc, ◌<◌, ◌≤◌, Bool, true, false, not, ◌&&◌, nat_eq, List, length, refl, sym, ap, ◌∙◌, inl}
+use Rattle.std.proofs.Common.{inr, ◌⊎◌, IsTrue, arith, eq-eqb, ne_eqb, cond}
 use Rattle.std.proofs.lemmas.Bool.{cases_Bool, cases_eq, cases_lt, and_parts, and_from, true≢false, cond-true, cond-false}
 use Rattle.affinity_mask.specs.ProcSet.{has, members}
 use Rattle.strong_apa.proofs.Counts.{count_below, count_below-one_more, count_below-injection, search_below}
@@ -17,7 +18,8 @@ record IsGreatest (masks : List ℕ) (tasks : TaskTest) (m t : ℕ) : Type 0 whe
   member : tasks t ≡ true
   greatest : (u : ℕ) → u < m → tasks u ≡ true → mask_at masks u ≤ mask_at masks t
 
-greatest_below : (masks : List ℕ) (tasks : TaskTest) (m : ℕ) → ((t : ℕ) × IsGreatest masks tasks m t) ⊎ ((u : ℕ) → u < m → tasks u ≡ true → ⊥)
+greatest_below : (masks : List ℕ) (tasks : TaskTest) (m : ℕ) → ((t : ℕ) × IsGreatest masks tasks m t)
+    ⊎ ((u : ℕ) → u < m → tasks u ≡ true → ⊥)
 greatest_below masks tasks zero = inr (λ u lt. absurd (omega arith))
 greatest_below masks tasks (suc m) = go (greatest_below masks tasks m) (cases_Bool (tasks m))
   where
@@ -75,7 +77,8 @@ greatest_below masks tasks (suc m) = go (greatest_below masks tasks m) (cases_Bo
     ])
 
 -- a number that passes is sent to p, or none is
-pub hit_decided : (P : ℕ → Bool) (m : ℕ) (f : ℕ → ℕ) (p : ℕ) → ((u : ℕ) × (u < m) × ((P u ≡ true) × (f u ≡ p))) ⊎ ((u : ℕ) → u < m → (P u ≡ true) × (f u ≡ p) → ⊥)
+pub hit_decided : (P : ℕ → Bool) (m : ℕ) (f : ℕ → ℕ) (p : ℕ) → ((u : ℕ) × (u < m) × ((P u ≡ true) × (f u ≡ p)))
+    ⊎ ((u : ℕ) → u < m → (P u ≡ true) × (f u ≡ p) → ⊥)
 hit_decided P m f p = search_below (λ u. (P u ≡ true) × (f u ≡ p)) m (λ u lt. elim (cases_Bool (P u)) [
   | inl h ↦ elim (cases_eq (f u) p) [
     | inl e ↦ inl (h, e)
@@ -111,7 +114,8 @@ module _ (P : ℕ → Bool) (m : ℕ) (f : ℕ → ℕ) where
       hits : (p : ℕ) → p < 64 → has X p ≡ true → (source p < m) × (P (source p) ≡ true) × (f (source p) ≡ p)
       hits p lt member = go (hit_decided P m f p)
         where
-          go : (d : ((u : ℕ) × (u < m) × ((P u ≡ true) × (f u ≡ p))) ⊎ ((u : ℕ) → u < m → (P u ≡ true) × (f u ≡ p) → ⊥)) → (source_at p d < m) × (P (source_at p d) ≡ true) × (f (source_at p d) ≡ p)
+          go : (d : ((u : ℕ) × (u < m) × ((P u ≡ true) × (f u ≡ p))) ⊎ ((u : ℕ) → u < m → (P u ≡ true) × (f u ≡ p) → ⊥))
+              → (source_at p d < m) × (P (source_at p d) ≡ true) × (f (source_at p d) ≡ p)
           go (inl hit) = (hit.1, hit.2.0, hit.2.1)
           go (inr missed) = absurd (none p lt (member, λ u below h e. missed u below (h, e)))
 
@@ -130,8 +134,10 @@ module _ (P : ℕ → Bool) (m : ℕ) (f : ℕ → ℕ) where
     ]
 
 module _ (masks : List ℕ) (laminar : IsLaminar masks) where
-  module _ (tasks : TaskTest) (numbers : (t : ℕ) → tasks t ≡ true → t < length masks) (t : ℕ) (first : IsGreatest masks tasks (length masks) t) (before : ℕ → ℕ) (placed : IsPlaced masks (without tasks t) before) (p : ℕ)
-      (member : IsTrue (has (mask_at masks t) p)) (free : (u : ℕ) → u < length masks → (without tasks t u && is_within (mask_at masks u) (mask_at masks t)) ≡ true → before u ≡ p → ⊥) where
+  module _ (tasks : TaskTest) (numbers : (t : ℕ) → tasks t ≡ true → t < length masks) (t : ℕ)
+      (first : IsGreatest masks tasks (length masks) t) (before : ℕ → ℕ) (placed : IsPlaced masks (without tasks t) before) (p : ℕ)
+      (member : IsTrue (has (mask_at masks t) p)) (free : (u : ℕ) → u < length masks
+      → (without tasks t u && is_within (mask_at masks u) (mask_at masks t)) ≡ true → before u ≡ p → ⊥) where
     -- the task with the greatest mask is placed last
     abbrev place_last : ℕ → ℕ
     place_last u = cond (nat_eq u t) p (before u)
@@ -163,26 +169,34 @@ module _ (masks : List ℕ) (laminar : IsLaminar masks) where
       apart = λ u v hu hv same. elim (cases_eq u t) [
         | inl eu ↦ elim (cases_eq v t) [
           | inl ev ↦ eu ∙ sym ev
-          | inr nv ↦ absurd (nobody_there v (in_rest_of v hv nv) (sym (cond-false _ _ _ (ne_eqb v t nv)) ∙ sym same ∙ cond-true _ _ _ (eq-eqb u t eu)))
+          | inr nv ↦ absurd (nobody_there v (in_rest_of v hv nv) (sym (cond-false _ _ _ (ne_eqb v t nv)) ∙ sym same
+              ∙ cond-true _ _ _ (eq-eqb u t eu)))
         ]
         | inr nu ↦ elim (cases_eq v t) [
-          | inl ev ↦ absurd (nobody_there u (in_rest_of u hu nu) (sym (cond-false _ _ _ (ne_eqb u t nu)) ∙ same ∙ cond-true _ _ _ (eq-eqb v t ev)))
-          | inr nv ↦ placed.apart u v (in_rest_of u hu nu) (in_rest_of v hv nv) (sym (cond-false _ _ _ (ne_eqb u t nu)) ∙ same ∙ cond-false _ _ _ (ne_eqb v t nv))
+          | inl ev ↦ absurd (nobody_there u (in_rest_of u hu nu)
+              (sym (cond-false _ _ _ (ne_eqb u t nu)) ∙ same ∙ cond-true _ _ _ (eq-eqb v t ev)))
+          | inr nv ↦ placed.apart u v (in_rest_of u hu nu) (in_rest_of v hv nv)
+              (sym (cond-false _ _ _ (ne_eqb u t nu)) ∙ same ∙ cond-false _ _ _ (ne_eqb v t nv))
         ]
       ];
     }
 
   -- a set can be placed where it is so without one task, whichever that is
-  place_one : (tasks : TaskTest) → ((t : ℕ) → tasks t ≡ true → t < length masks) → FitsNodes masks tasks → ((t : ℕ) → tasks t ≡ true → (place : ℕ → ℕ) × IsPlaced masks (without tasks t) place) → (place : ℕ → ℕ) × IsPlaced masks tasks place
+  place_one : (tasks : TaskTest) → ((t : ℕ) → tasks t ≡ true → t < length masks) → FitsNodes masks tasks
+      → ((t : ℕ) → tasks t ≡ true → (place : ℕ → ℕ) × IsPlaced masks (without tasks t) place) → (place : ℕ → ℕ) × IsPlaced masks tasks place
   place_one tasks numbers fits rest = elim (greatest_below masks tasks (length masks)) [
     | inl found ↦
         let t = found.0 in
         let number = found.1.number in
         let before = rest t found.1.member in
-        let more = held-more masks (without tasks t) t tasks (joins_without tasks t found.1.member) (mask_at masks t) number (within_same (mask_at masks t)) in
+        let more = held-more masks (without tasks t) t tasks (joins_without tasks t found.1.member) (mask_at masks t) number
+        (within_same (mask_at masks t)) in
         let bound = fits (mask_at masks t) (t, number, refl) in
-        let left = free_member (λ u. without tasks t u && is_within (mask_at masks u) (mask_at masks t)) (length masks) before.0 (mask_at masks t) (omega arith) in
-        (place_last tasks numbers t found.1 before.0 before.1 left.0 left.1 left.2, placed_last tasks numbers t found.1 before.0 before.1 left.0 left.1 left.2)
+        let left = free_member (λ u. without tasks t u && is_within (mask_at masks u) (mask_at masks t)) (length masks) before.0
+        (mask_at masks t) (omega arith) in (
+          place_last tasks numbers t found.1 before.0 before.1 left.0 left.1 left.2,
+          placed_last tasks numbers t found.1 before.0 before.1 left.0 left.1 left.2,
+        )
     | inr none ↦ (
       λ u. 0,
       record {
@@ -192,7 +206,8 @@ module _ (masks : List ℕ) (laminar : IsLaminar masks) where
     )
   ]
 
-  removed : (tasks : TaskTest) (t : ℕ) → t < length masks → tasks t ≡ true → count_below tasks (length masks) ≡ suc (count_below (without tasks t) (length masks))
+  removed : (tasks : TaskTest) (t : ℕ) → t < length masks → tasks t ≡ true → count_below tasks (length masks)
+      ≡ suc (count_below (without tasks t) (length masks))
   removed tasks t number member =
       let joins = joins_without tasks t member in
       count_below-one_more tasks (without tasks t) t (length masks) number member joins.before (λ u lt ne. joins.others u ne)
@@ -201,18 +216,23 @@ module _ (masks : List ℕ) (laminar : IsLaminar masks) where
   without_subset tasks t u h = (and_parts (tasks u) (not (nat_eq u t)) h).0
 
   -- so many tasks that fit the nodes can be placed
-  place_all : (n : ℕ) (tasks : TaskTest) → ((t : ℕ) → tasks t ≡ true → t < length masks) → count_below tasks (length masks) ≡ n → FitsNodes masks tasks → (place : ℕ → ℕ) × IsPlaced masks tasks place
-  place_all zero tasks numbers count fits = place_one tasks numbers fits (λ t member. absurd (let more = removed tasks t (numbers t member) member in omega arith))
+  place_all : (n : ℕ) (tasks : TaskTest) → ((t : ℕ) → tasks t ≡ true → t < length masks) → count_below tasks (length masks) ≡ n
+      → FitsNodes masks tasks → (place : ℕ → ℕ) × IsPlaced masks tasks place
+  place_all zero tasks numbers count fits =
+      place_one tasks numbers fits (λ t member. absurd (let more = removed tasks t (numbers t member) member in omega arith))
   place_all (suc n) tasks numbers count fits = place_one tasks numbers fits (λ t member.
-      place_all n (without tasks t) (λ u h. numbers u (without_subset tasks t u h)) (let more = removed tasks t (numbers t member) member in omega arith)
+      place_all n (without tasks t) (λ u h. numbers u (without_subset tasks t u h))
+      (let more = removed tasks t (numbers t member) member in omega arith)
       (fits_smaller masks tasks (without tasks t) (without_subset tasks t) fits))
 
   -- a set of tasks that fits the nodes can be placed
-  pub placed_by_counts : (tasks : TaskTest) → ((t : ℕ) → tasks t ≡ true → t < length masks) → FitsNodes masks tasks → (place : ℕ → ℕ) × IsPlaced masks tasks place
+  pub placed_by_counts : (tasks : TaskTest) → ((t : ℕ) → tasks t ≡ true → t < length masks) → FitsNodes masks tasks
+      → (place : ℕ → ℕ) × IsPlaced masks tasks place
   placed_by_counts tasks numbers fits = place_all (count_below tasks (length masks)) tasks numbers refl fits
 
 -- a set that is placed fits every set of processors
-pub fits_placed : (masks : List ℕ) (tasks : TaskTest) (place : ℕ → ℕ) (X : ℕ) → ((p : ℕ) → IsTrue (has X p) → p < 64) → IsPlaced masks tasks place → held masks tasks X ≤ length (members X)
+pub fits_placed : (masks : List ℕ) (tasks : TaskTest) (place : ℕ → ℕ) (X : ℕ) → ((p : ℕ) → IsTrue (has X p) → p < 64)
+    → IsPlaced masks tasks place → held masks tasks X ≤ length (members X)
 fits_placed masks tasks place X small placed = count_below-injection _ (length masks) (has X) 64 place record {
   below = λ t lt h. small (place t) (inside t h);
   passes = λ t lt h. inside t h;
@@ -220,4 +240,5 @@ fits_placed masks tasks place X small placed = count_below-injection _ (length m
 }
   where
     inside : (t : ℕ) → (tasks t && is_within (mask_at masks t) X) ≡ true → has X (place t) ≡ true
-    inside t h = let parts = and_parts (tasks t) (is_within (mask_at masks t) X) h in within_from _ _ parts.1 (place t) (placed.allowed t parts.0)
+    inside t h =
+        let parts = and_parts (tasks t) (is_within (mask_at masks t) X) h in within_from _ _ parts.1 (place t) (placed.allowed t parts.0)

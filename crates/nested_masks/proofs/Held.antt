@@ -1,5 +1,6 @@
 -- How many tasks of a set a node holds, and how that changes with one task.
-use Rattle.std.proofs.Common.{◌≡◌, ℕ, suc, ◌<◌, ◌≤◌, Bool, true, false, not, ◌&&◌, nat_eq, List, length, refl, sym, ap, ◌∙◌, inl, inr, arith, eq-eqb, ne_eqb}
+use Rattle.std.proofs.Common.{◌≡◌, ℕ, suc, ◌<◌, ◌≤◌, Bool, true, false, not, ◌&&◌, nat_eq, List, length, refl, sym, ap, ◌∙◌, inl, inr}
+use Rattle.std.proofs.Common.{arith, eq-eqb, ne_eqb}
 use Rattle.std.proofs.lemmas.Bool.{cases_eq, and_parts, and_from, and_left, and_right}
 use Rattle.std.proofs.Math.Bool.{and-true}
 use Rattle.affinity_mask.specs.ProcSet.{Within}
@@ -23,10 +24,13 @@ count_below-implies P Q m implies = count_below-injection P m Q m (λ x. x) reco
 
 module _ (masks : List ℕ) where
   pub held-same : (tasks other : TaskTest) → ((u : ℕ) → tasks u ≡ other u) → (X : ℕ) → held masks tasks X ≡ held masks other X
-  held-same tasks other same X = count_below-agree _ _ (length masks) (λ u lt. ap (λ (b : Bool). b && is_within (mask_at masks u) X) (same u))
+  held-same tasks other same X =
+      count_below-agree _ _ (length masks) (λ u lt. ap (λ (b : Bool). b && is_within (mask_at masks u) X) (same u))
 
   -- of the tasks that lie within X, each of one set is in the other
-  pub held-implies : (tasks other : TaskTest) (X : ℕ) → ((u : ℕ) → u < length masks → tasks u ≡ true → is_within (mask_at masks u) X ≡ true → other u ≡ true) → held masks tasks X ≤ held masks other X
+  pub held-implies : (tasks other : TaskTest) (X : ℕ)
+      → ((u : ℕ) → u < length masks → tasks u ≡ true → is_within (mask_at masks u) X ≡ true → other u ≡ true)
+      → held masks tasks X ≤ held masks other X
   held-implies tasks other X implies = count_below-implies _ _ (length masks) (λ u lt h.
       let parts = and_parts (tasks u) (is_within (mask_at masks u) X) h in
       and_from _ _ (implies u lt parts.0 parts.1) parts.1)

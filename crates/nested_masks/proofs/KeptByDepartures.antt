@@ -1,5 +1,6 @@
 -- Each waiting task is kept out by a node after a departure.
-use Rattle.std.proofs.Common.{◌≡◌, ◌≢◌, ℕ, ◌<◌, true, false, length, set, get_or, sym, ap, ◌∙◌, inl, inr, arith, get_or-set_same, get_or-set_other}
+use Rattle.std.proofs.Common.{◌≡◌, ◌≢◌, ℕ, ◌<◌, true, false, length, set, get_or, sym, ap, ◌∙◌, inl, inr, arith, get_or-set_same}
+use Rattle.std.proofs.Common.{get_or-set_other}
 use Rattle.std.proofs.lemmas.Bool.{cases_eq, true≢false}
 use Rattle.affinity_mask.specs.ProcSet.{Within}
 use Rattle.nested_masks.specs.Laminar.{IsTight}
@@ -26,12 +27,17 @@ module _ (n : NestedData) (ok : IsCounted n) (t : ℕ) (number : t < length n.pr
   pub kept-leaving : linked_of n t ≡ false → AllKeptOut n → AllKeptOut left
   kept-leaving not_linked kept w waits =
       let rest = waited w waits.ready in
-      let before = kept w record { ready = rest.1; not_linked = sym (get_or-set_other n.linked t w false false rest.0) ∙ waits.not_linked } in
+      let before = kept w record {
+        ready = rest.1;
+        not_linked = sym (get_or-set_other n.linked t w false false rest.0)
+            ∙ waits.not_linked;
+      } in
       (before.0, keeps_same n (set n.ready t false) (set n.linked t false) before.0 w before.1 same)
     where
       same : (u : ℕ) → get_or (set n.linked t false) u false ≡ get_or n.linked u false
       same u = elim (cases_eq u t) [
-        | inl e ↦ ap (λ (x : ℕ). get_or (set n.linked t false) x false) e ∙ get_or-set_same n.linked t false false (in_linked n ok t number) ∙ sym (ap (linked_of n) e ∙ not_linked)
+        | inl e ↦ ap (λ (x : ℕ). get_or (set n.linked t false) x false) e ∙ get_or-set_same n.linked t false false (in_linked n ok t number)
+            ∙ sym (ap (linked_of n) e ∙ not_linked)
         | inr ne ↦ get_or-set_other n.linked t u false false ne
       ]
 
@@ -55,7 +61,8 @@ module _ (n : NestedData) (ok : IsCounted n) (t : ℕ) (number : t < length n.pr
         kept w record { ready = rest.1; not_linked = sym (get_or-set_other n.linked t w false false rest.0) ∙ waits.not_linked }
 
     -- a waiting task whose mask lies in a tight node is kept out by a tight node
-    still_kept : (w : ℕ) → Waits left w → (Y : ℕ) → IsTight n.masks (linked_of left) Y → Within (mask_in n w) Y → (X : ℕ) × KeepsOut left X w
+    still_kept : (w : ℕ) → Waits left w → (Y : ℕ) → IsTight n.masks (linked_of left) Y → Within (mask_in n w) Y
+        → (X : ℕ) × KeepsOut left X w
     still_kept w waits Y tight contains = choose (before w waits).0 (before w waits).1
       where
         w_number : w < length n.priorities
@@ -100,15 +107,20 @@ module _ (n : NestedData) (ok : IsCounted n) (t : ℕ) (number : t < length n.pr
       held_t : (X : ℕ) → KeepsOut n X w → Within (mask_in n t) X
       held_t X keeps = elim (within_decided (mask_in n t) X) [
         | inl within ↦ within
-        | inr outside ↦ absurd (first.free.free X record { node = keeps.tight.node; full = sym (held-else n.masks _ t _ joins_left X outside) ∙ keeps.tight.full } keeps.contains)
+        | inr outside ↦ absurd (first.free.free X record {
+          node = keeps.tight.node;
+          full = sym (held-else n.masks _ t _ joins_left X outside) ∙ keeps.tight.full;
+        } keeps.contains)
       ]
 
       -- a node that held t, and holds w in its place
-      w_keeps : (v X : ℕ) → KeepsOut n X v → Within (mask_in n t) X → Within (mask_in n w) X → priority_in n w < priority_in n v → KeepsOut filled X v
+      w_keeps : (v X : ℕ) → KeepsOut n X v → Within (mask_in n t) X → Within (mask_in n w) X → priority_in n w < priority_in n v
+          → KeepsOut filled X v
       w_keeps v X keeps t_in w_in urgent = record {
         tight = record {
           node = keeps.tight.node;
-          full = held-more n.masks _ w _ joins_w X (in_masks n ok w w_number) w_in ∙ sym (held-more n.masks _ t _ joins_left X (in_masks n ok t number) t_in) ∙ keeps.tight.full;
+          full = held-more n.masks _ w _ joins_w X (in_masks n ok w w_number) w_in
+              ∙ sym (held-more n.masks _ t _ joins_left X (in_masks n ok t number) t_in) ∙ keeps.tight.full;
         };
         contains = keeps.contains;
         more_urgent = λ u h u_in. elim (cases_eq u w) [
@@ -120,8 +132,11 @@ module _ (n : NestedData) (ok : IsCounted n) (t : ℕ) (number : t < length n.pr
       pub kept-filled : AllKeptOut filled
       kept-filled v waits = elim (in_tight_decided left left_counted (mask_in n v)) [
         | inl found ↦
-            let still = still_kept v waited_v found.0 found.1 found.2 in
-            (still.0, keeps_joined left left.ready (set left.linked w true) w still.0 v joins_w (λ within. first.free.free still.0 still.1.tight within) still.1)
+            let still = still_kept v waited_v found.0 found.1 found.2 in (
+              still.0,
+              keeps_joined left left.ready (set left.linked w true) w still.0 v joins_w
+                  (λ within. first.free.free still.0 still.1.tight within) still.1,
+            )
         | inr free ↦ choose (before v waited_v) (before w first.free.waits) (more_urgent free) free
       ]
         where
@@ -140,7 +155,8 @@ module _ (n : NestedData) (ok : IsCounted n) (t : ℕ) (number : t < length n.pr
             | inr differ ↦ let le = first.most_urgent v record { waits = waited_v; free = free } in omega arith
           ]
 
-          choose : (X : ℕ) × KeepsOut n X v → (Y : ℕ) × KeepsOut n Y w → priority_in n w < priority_in n v → IsInNoTight left (mask_in n v) → (Z : ℕ) × KeepsOut filled Z v
+          choose : (X : ℕ) × KeepsOut n X v → (Y : ℕ) × KeepsOut n Y w → priority_in n w < priority_in n v → IsInNoTight left (mask_in n v)
+              → (Z : ℕ) × KeepsOut filled Z v
           choose one other urgent free =
               let X = one.0 in
               let Y = other.0 in
@@ -157,5 +173,8 @@ module _ (n : NestedData) (ok : IsCounted n) (t : ℕ) (number : t < length n.pr
                   )
                   | inr around ↦ (X, w_keeps v X one.1 t_in (within_trans (mask_in n w) Y X other.1.contains around) urgent)
                 ]
-                | inr t_outside ↦ absurd (free X record { node = one.1.tight.node; full = sym (held-else n.masks _ t _ joins_left X t_outside) ∙ one.1.tight.full } one.1.contains)
+                | inr t_outside ↦ absurd (free X record {
+                  node = one.1.tight.node;
+                  full = sym (held-else n.masks _ t _ joins_left X t_outside) ∙ one.1.tight.full;
+                } one.1.contains)
               ]

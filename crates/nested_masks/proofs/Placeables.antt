@@ -45,9 +45,11 @@ module _ (s : State) (ok : IsState s) (all : s.online ≡ all_below s.processors
 
   -- a placeable set fits the nodes, and where the masks nest a set that fits the nodes is placeable
   pub fits_placeable : (tasks : TaskTest) → IsPlaceable s tasks → FitsNodes s.masks tasks
-  fits_placeable tasks placeable X node = fits_placed s.masks tasks placeable.0 X (λ p h. mask_small node.0 node.1 p (rw node.2 h)) (placed_from tasks placeable.0 placeable.1)
+  fits_placeable tasks placeable X node =
+      fits_placed s.masks tasks placeable.0 X (λ p h. mask_small node.0 node.1 p (rw node.2 h)) (placed_from tasks placeable.0 placeable.1)
 
-  pub placeable_fits : IsLaminar s.masks → (tasks : TaskTest) → ((t : ℕ) → tasks t ≡ true → t < length s.masks) → FitsNodes s.masks tasks → IsPlaceable s tasks
+  pub placeable_fits : IsLaminar s.masks → (tasks : TaskTest) → ((t : ℕ) → tasks t ≡ true → t < length s.masks) → FitsNodes s.masks tasks
+      → IsPlaceable s tasks
   placeable_fits laminar tasks numbers fits =
       let placed = placed_by_counts s.masks laminar tasks numbers fits in
       (placed.0, placement_from tasks placed.0 placed.1)

@@ -1,5 +1,6 @@
 -- One more task of a scan, and what a scan of all tasks has found.
-use Rattle.std.proofs.Common.{◌≡◌, ℕ, ◌+◌, ◌<◌, Bool, true, false, ◌&&◌, List, length, IsTrue, refl, sym, ap, ◌∙◌, inl, inr, ◌↔◌, not, arith, add-one, below_more}
+use Rattle.std.proofs.Common.{◌≡◌, ℕ, ◌+◌, ◌<◌, Bool, true, false, ◌&&◌, List, length, IsTrue, refl, sym, ap, ◌∙◌, inl, inr, ◌↔◌, not}
+use Rattle.std.proofs.Common.{arith, add-one, below_more}
 use Rattle.std.proofs.lemmas.Bool.{cases_Bool, cases_order, and_from, and_parts, true≢false}
 use Rattle.affinity_mask.specs.ProcSet.{empty, Within}
 use Rattle.affinity_mask.proofs.Meetings.{no_member}
@@ -14,14 +15,19 @@ use Rattle.nested_masks.proofs.Covered.{free_outside, outside_free}
 use Rattle.nested_masks.proofs.Kept.{nodes_nest}
 
 -- a test that is given by a fact counts one more where it holds, and no more where it does not
-pub held_one_more : (tasks : ℕ → Bool) (mask X t count : ℕ) (masks : ℕ → ℕ) → masks t ≡ mask → count ≡ count_below (λ u. tasks u && is_within (masks u) X) t → (tasks t ≡ true) × Within mask X → count + 1 ≡ count_below (λ u. tasks u && is_within (masks u) X) (t + 1)
+pub held_one_more : (tasks : ℕ → Bool) (mask X t count : ℕ) (masks : ℕ → ℕ) → masks t ≡ mask
+    → count ≡ count_below (λ u. tasks u && is_within (masks u) X) t → (tasks t ≡ true) × Within mask X
+    → count + 1 ≡ count_below (λ u. tasks u && is_within (masks u) X) (t + 1)
 held_one_more tasks mask X t count masks is_mask so_far here =
     let passes : (tasks t && is_within (masks t) X) ≡ true = and_from _ _ here.0 (rw is_mask (is_within-from _ _ here.1)) in
     rw (add-one, add-one, count_below-more (λ u. tasks u && is_within (masks u) X) t passes, so_far) refl
 
-pub held_no_more : (tasks : ℕ → Bool) (mask X t count : ℕ) (masks : ℕ → ℕ) → masks t ≡ mask → count ≡ count_below (λ u. tasks u && is_within (masks u) X) t → ((tasks t ≡ true) × Within mask X → ⊥) → count ≡ count_below (λ u. tasks u && is_within (masks u) X) (t + 1)
+pub held_no_more : (tasks : ℕ → Bool) (mask X t count : ℕ) (masks : ℕ → ℕ) → masks t ≡ mask
+    → count ≡ count_below (λ u. tasks u && is_within (masks u) X) t → ((tasks t ≡ true) × Within mask X → ⊥)
+    → count ≡ count_below (λ u. tasks u && is_within (masks u) X) (t + 1)
 held_no_more tasks mask X t count masks is_mask so_far not_here = elim (cases_Bool (tasks t && is_within (masks t) X)) [
-  | inl h ↦ let parts = and_parts (tasks t) (is_within (masks t) X) h in absurd (not_here (parts.0, rw (← is_mask) (within_from _ _ parts.1)))
+  | inl h ↦ let parts =
+      and_parts (tasks t) (is_within (masks t) X) h in absurd (not_here (parts.0, rw (← is_mask) (within_from _ _ parts.1)))
   | inr h ↦ rw (add-one, count_below-same (λ u. tasks u && is_within (masks u) X) t h, so_far) refl
 ]
 
@@ -42,7 +48,8 @@ laminar_from masks none t u lt lu cross = elim (cases_order t u) [
 ]
 
 -- of the first task whose mask crosses one after it, the first such one
-pub first_pair : (masks : List ℕ) (one other : ℕ) → ((t : ℕ) → t < one → CrossesNone masks t) → IsFirstCrossed masks one other → IsFirstCrossing masks one other
+pub first_pair : (masks : List ℕ) (one other : ℕ) → ((t : ℕ) → t < one → CrossesNone masks t) → IsFirstCrossed masks one other
+    → IsFirstCrossing masks one other
 first_pair masks one other before found = record {
   ordered = found.ordered;
   number = found.number;
@@ -82,7 +89,8 @@ union_none n X none = record {
 module _ (n : NestedData) (ok : IsCounted n) where
   -- a waiting task may enter where its mask has a processor of no tight node
   pub enters_where : (w tight : ℕ) → w < length n.priorities → IsTightUnion n (length n.priorities) tight
-      → ready_of n w ≡ true → linked_of n w ≡ false → (inside : Bool) → IsTrue inside ↔ Within (mask_in n w) tight → IsTrue (not inside) ↔ MayEnter n w
+      → ready_of n w ≡ true → linked_of n w ≡ false → (inside : Bool) → IsTrue inside ↔ Within (mask_in n w) tight
+      → IsTrue (not inside) ↔ MayEnter n w
   enters_where w tight number union ready not_linked true is = (
     λ h. absurd (true≢false (sym h)),
     λ enter. absurd (free_outside n ok w tight number union enter.free (is.0 refl)),

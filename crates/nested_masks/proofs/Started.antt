@@ -48,13 +48,15 @@ first_crossing_once column a b c d p q = elim (p.first c d q.ordered q.number q.
 ]
 
 pub laminar_crosses_none : (column : List ℕ) (a b : ℕ) → IsLaminar column → IsFirstCrossing column a b → ⊥
-laminar_crosses_none column a b laminar found = laminar a b (let lt = found.ordered in let number = found.number in omega arith) found.number found.cross
+laminar_crosses_none column a b laminar found =
+    laminar a b (let lt = found.ordered in let number = found.number in omega arith) found.number found.cross
 
 pub few_masks : (set : SetData) → IsTaskSet set → length (masks set) ≤ 1024
 few_masks set ok = rw (length-map set.tasks (λ t. t.mask)) ok.count
 
 -- the answers for a set whose masks cross, and for one whose masks nest
-pub refuses_crossing : {T : Type 0} (set : SetData) (one other : ℕ) (fault : NestedFault) (r : Result T NestedFault) → r ≡ Err fault → IsFirstCrossing (masks set) one other → (fault ≡ OutOfMemory) ⊎ IsCrossingFault set fault
+pub refuses_crossing : {T : Type 0} (set : SetData) (one other : ℕ) (fault : NestedFault) (r : Result T NestedFault) → r ≡ Err fault
+    → IsFirstCrossing (masks set) one other → (fault ≡ OutOfMemory) ⊎ IsCrossingFault set fault
     → (r ≡ Err (Crossing one other)) ⊎ (r ≡ Err OutOfMemory)
 refuses_crossing set one other (Crossing a b) r is found (inl memory) = inr (is ∙ ap (λ (f : NestedFault). Err f) memory)
 refuses_crossing set one other (Crossing a b) r is found (inr crossing) =
@@ -62,7 +64,8 @@ refuses_crossing set one other (Crossing a b) r is found (inr crossing) =
     inl (is ∙ rw (same.0, same.1) refl)
 refuses_crossing set one other OutOfMemory r is found why = inr is
 
-pub accepts_laminar : (set : SetData) (fault : NestedFault) → IsLaminar (masks set) → (fault ≡ OutOfMemory) ⊎ IsCrossingFault set fault → fault ≡ OutOfMemory
+pub accepts_laminar : (set : SetData) (fault : NestedFault) → IsLaminar (masks set) → (fault ≡ OutOfMemory) ⊎ IsCrossingFault set fault
+    → fault ≡ OutOfMemory
 accepts_laminar set (Crossing a b) laminar (inl memory) = memory
 accepts_laminar set (Crossing a b) laminar (inr crossing) = absurd (laminar_crosses_none (masks set) a b laminar crossing)
 accepts_laminar set OutOfMemory laminar why = refl

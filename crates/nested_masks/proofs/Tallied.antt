@@ -1,5 +1,6 @@
 -- How many linked tasks the mask of each task holds is kept up to date while tasks are linked and are linked no longer.
-use Rattle.std.proofs.Common.{◌≡◌, ℕ, ◌<◌, ◌≤◌, Bool, true, false, ◌&&◌, List, length, set, get_or, replicate, nat_lt, refl, sym, ap, ◌∙◌, inl, inr, arith}
+use Rattle.std.proofs.Common.{◌≡◌, ℕ, ◌<◌, ◌≤◌, Bool, true, false, ◌&&◌, List, length, set, get_or, replicate, nat_lt, refl, sym, ap, ◌∙◌}
+use Rattle.std.proofs.Common.{inl, inr, arith}
 use Rattle.std.proofs.lemmas.Bool.{and_parts, lt-ltb}
 use Rattle.std.proofs.lemmas.List.{length-map, length-replicate, get_or-replicate}
 use Rattle.std.proofs.Math.Bool.{and-true}
@@ -15,7 +16,8 @@ use Rattle.nested_masks.specs.LaminarStep.{with_waiting, with_linked, with_unlin
 use Rattle.nested_masks.specs.Views.{IsTallied}
 use Rattle.nested_masks.proofs.Withins.{within_decided, is_within-from}
 use Rattle.nested_masks.proofs.Held.{held-more, held-else}
-use Rattle.nested_masks.proofs.Changes.{joins_set, joins_unset, in_linked, in_masks, counted-linked, counted-unlinked, counted-waiting, counted-absent}
+use Rattle.nested_masks.proofs.Changes.{joins_set, joins_unset, in_linked, in_masks, counted-linked, counted-unlinked, counted-waiting}
+use Rattle.nested_masks.proofs.Changes.{counted-absent}
 use Rattle.nested_masks.proofs.Started.{nobody_linked, counted-start}
 
 -- ---- a task joins a set
@@ -91,7 +93,8 @@ module _ (n : NestedData) (held : List ℕ) (ok : IsTallied n held) where
         → HoldMoreAround n.masks (mask_in n t) (length n.masks) held after → IsTallied (with_linked n t) after
     tallied-linked ready not_linked free after more = record {
       counted = counted-linked n ok.counted t number ready not_linked free;
-      each_mask = held_joined n.masks (linked_of n) t (linked_of (with_linked n t)) (joins_set n.linked t (in_linked n ok.counted t number) not_linked)
+      each_mask = held_joined n.masks (linked_of n) t (linked_of (with_linked n t))
+          (joins_set n.linked t (in_linked n ok.counted t number) not_linked)
           (in_masks n ok.counted t number) held after ok.each_mask more;
     }
 

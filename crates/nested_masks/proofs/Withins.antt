@@ -49,7 +49,8 @@ pub within_both : (X Y : ℕ) → Within X Y → Within Y X → X ≡ Y
 within_both X Y a b = let le = within_least X Y a in let ge = within_least Y X b in omega arith
 
 -- of two masks that meet one lies within the other
-pub nests : (masks : List ℕ) → IsLaminar masks → (t u : ℕ) → t < length masks → u < length masks → Meets (mask_at masks t) (mask_at masks u) → Within (mask_at masks t) (mask_at masks u) ⊎ Within (mask_at masks u) (mask_at masks t)
+pub nests : (masks : List ℕ) → IsLaminar masks → (t u : ℕ) → t < length masks → u < length masks → Meets (mask_at masks t) (mask_at masks u)
+    → Within (mask_at masks t) (mask_at masks u) ⊎ Within (mask_at masks u) (mask_at masks t)
 nests masks laminar t u lt lu meet = elim (within_decided (mask_at masks t) (mask_at masks u)) [
   | inl within ↦ inl within
   | inr not_within ↦ elim (within_decided (mask_at masks u) (mask_at masks t)) [

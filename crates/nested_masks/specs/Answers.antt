@@ -22,8 +22,10 @@ abbrev pub IsCrossingFault : SetData → NestedFault → Type 0
 IsCrossingFault set (Crossing one other) = IsFirstCrossing (masks set) one other
 IsCrossingFault set OutOfMemory = ⊥
 
--- the node of a reply certifies the task that waits, in every placement of the linked tasks: the one that arrived, or the one
--- that was displaced
+-- the node of a reply certifies the task that waits, in every placement of the linked tasks: the
+-- one that arrived, or the one that was displaced
 pub record NodeCertifies (new : NestedData) (event : Event) (reply : NestedReply) : Type 0 where
-  pub waits : (t node : ℕ) → event ≡ Arrive t → reply ≡ answer.Waits node → CertifiesEverywhere new node t
-  pub displaced : (out node : ℕ) → reply ≡ answer.Displaced out node → CertifiesEverywhere new node out
+  pub waits : (t node : ℕ) → event ≡ Arrive t → reply ≡ answer.Waits node
+      → CertifiesEverywhere new node t
+  pub displaced : (out node : ℕ) → reply ≡ answer.Displaced out node
+      → CertifiesEverywhere new node out

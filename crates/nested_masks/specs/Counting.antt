@@ -1,4 +1,5 @@
--- Sets of tasks that differ in one task, how many tasks each mask holds, and placements by masks alone.
+-- Sets of tasks that differ in one task, how many tasks each mask holds, and placements by masks
+-- alone.
 use Rattle.std.specs.Prelude.{◌≡◌, ◌≢◌, ℕ, ◌+◌, ◌<◌, ◌≤◌, true, false, List, IsTrue, length, get_or}
 use Rattle.affinity_mask.specs.ProcSet.{has, Within}
 use Rattle.strong_apa.specs.Placement.{TaskTest}
@@ -18,7 +19,8 @@ pub record IsPlaced (masks : List ℕ) (tasks : TaskTest) (place : ℕ → ℕ) 
 -- by task: how many tasks of the set have masks within its own
 pub record IsHeldBy (masks : List ℕ) (tasks : TaskTest) (held : List ℕ) : Type 0 where
   pub count : length held ≡ length masks
-  pub each : (u : ℕ) → u < length masks → get_or held u 0 ≡ length (tasks_in masks tasks (mask_at masks u))
+  pub each : (u : ℕ) → u < length masks
+      → get_or held u 0 ≡ length (tasks_in masks tasks (mask_at masks u))
 
 -- of the first m tasks those whose masks contain X have one more, and nothing else changes
 pub record HoldMoreAround (masks : List ℕ) (X m : ℕ) (old new : List ℕ) : Type 0 where

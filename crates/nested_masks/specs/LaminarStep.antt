@@ -1,13 +1,15 @@
--- What a scheduler by counts does at an event. An arriving task joins the linked ones where no tight node contains its
--- mask. Else the smallest tight node that contains it decides: the least urgent linked task that it holds is displaced
--- where it is less urgent, and otherwise the arriving task waits. When a linked task departs, the most urgent waiting task
--- joins whose mask lies in no tight node then.
+-- What a scheduler by counts does at an event. An arriving task joins the linked ones where no
+-- tight node contains its mask. Else the smallest tight node that contains it decides: the least
+-- urgent linked task that it holds is displaced where it is less urgent, and otherwise the arriving
+-- task waits. When a linked task departs, the most urgent waiting task joins whose mask lies in no
+-- tight node then.
 use Rattle.std.specs.Prelude.{◌≡◌, ℕ, ◌<◌, ◌≤◌, true, false, length, set, Option, Some, None}
 use Rattle.affinity_mask.specs.ProcSet.{Within}
 use Rattle.task_set.specs.declared.event.Event.{Event}
 use Rattle.task_set.specs.declared.event.Event.TheVariants.{Arrive, Depart, Tick}
 use Rattle.nested_masks.specs.Laminar.{IsTight}
-use Rattle.nested_masks.specs.NestedData.{NestedData, ready_of, linked_of, priority_in, mask_in, IsUrgenter, Waits}
+use Rattle.nested_masks.specs.NestedData.{NestedData, ready_of, linked_of, priority_in, mask_in}
+use Rattle.nested_masks.specs.NestedData.{IsUrgenter, Waits}
 use Rattle.nested_masks.specs.declared.reply.NestedReply.{NestedReply}
 use Rattle.nested_masks.specs.declared.reply.NestedReply.TheVariants as answer
 
@@ -25,11 +27,13 @@ pub record IsLeastTight (n : NestedData) (X node : ℕ) : Type 0 where
 pub record IsLeastUrgentIn (n : NestedData) (node d : ℕ) : Type 0 where
   pub linked : linked_of n d ≡ true
   pub within : Within (mask_in n d) node
-  pub least_urgent : (u : ℕ) → linked_of n u ≡ true → Within (mask_in n u) node → priority_in n u ≤ priority_in n d
+  pub least_urgent : (u : ℕ) → linked_of n u ≡ true → Within (mask_in n u) node
+      → priority_in n u ≤ priority_in n d
 
 -- all linked tasks that the node holds are more urgent than t
 abbrev pub AllUrgenterIn : NestedData → ℕ → ℕ → Type 0
-AllUrgenterIn n node t = (u : ℕ) → linked_of n u ≡ true → Within (mask_in n u) node → IsUrgenter n u t
+AllUrgenterIn n node t =
+    (u : ℕ) → linked_of n u ≡ true → Within (mask_in n u) node → IsUrgenter n u t
 
 -- t becomes ready, and waits
 abbrev pub with_waiting : NestedData → ℕ → NestedData
@@ -66,12 +70,13 @@ pub record StaysOut (n : NestedData) (t node : ℕ) (new : NestedData) : Type 0 
   pub after : new ≡ with_waiting n t
 
 -- t arrives, with this reply
-abbrev pub ArriveStep : NestedData → ℕ → NestedReply → NestedData → Type 0
-ArriveStep n t answer.AlreadyReady new = (ready_of n t ≡ true) × (new ≡ n)
-ArriveStep n t answer.Entered new = (ready_of n t ≡ false) × Enters n t new
-ArriveStep n t (answer.Displaced out node) new = (ready_of n t ≡ false) × Displaces n t out node new
-ArriveStep n t (answer.Waits node) new = (ready_of n t ≡ false) × StaysOut n t node new
-ArriveStep n t _ new = ⊥
+abbrev pub ArrivesByCounts : NestedData → ℕ → NestedReply → NestedData → Type 0
+ArrivesByCounts n t answer.AlreadyReady new = (ready_of n t ≡ true) × (new ≡ n)
+ArrivesByCounts n t answer.Entered new = (ready_of n t ≡ false) × Enters n t new
+ArrivesByCounts n t (answer.Displaced out node) new =
+    (ready_of n t ≡ false) × Displaces n t out node new
+ArrivesByCounts n t (answer.Waits node) new = (ready_of n t ≡ false) × StaysOut n t node new
+ArrivesByCounts n t _ new = ⊥
 
 -- w waits, and no tight node contains its mask
 pub record MayEnter (n : NestedData) (w : ℕ) : Type 0 where
@@ -93,15 +98,16 @@ FillStep n None new = IsNobodyFree n × (new ≡ n)
 FillStep n (Some w) new = IsMostUrgentFree n w × (new ≡ with_linked n w)
 
 -- t departs, with this reply
-abbrev pub DepartStep : NestedData → ℕ → NestedReply → NestedData → Type 0
-DepartStep n t answer.NotReady new = (ready_of n t ≡ false) × (new ≡ n)
-DepartStep n t answer.Left new = Waits n t × (new ≡ without_task n t)
-DepartStep n t (answer.Freed entered) new = (linked_of n t ≡ true) × FillStep (without_task n t) entered new
-DepartStep n t _ new = ⊥
+abbrev pub DepartsByCounts : NestedData → ℕ → NestedReply → NestedData → Type 0
+DepartsByCounts n t answer.NotReady new = (ready_of n t ≡ false) × (new ≡ n)
+DepartsByCounts n t answer.Left new = Waits n t × (new ≡ without_task n t)
+DepartsByCounts n t (answer.Freed entered) new =
+    (linked_of n t ≡ true) × FillStep (without_task n t) entered new
+DepartsByCounts n t _ new = ⊥
 
 -- the step of the scheduler by counts; masks do not change, and processors stay on line
 abbrev pub LaminarStep : NestedData → Event → NestedReply → NestedData → Type 0
-LaminarStep n (Arrive t) reply new = (t < length n.priorities) × ArriveStep n t reply new
-LaminarStep n (Depart t) reply new = (t < length n.priorities) × DepartStep n t reply new
+LaminarStep n (Arrive t) reply new = (t < length n.priorities) × ArrivesByCounts n t reply new
+LaminarStep n (Depart t) reply new = (t < length n.priorities) × DepartsByCounts n t reply new
 LaminarStep n (Tick units) reply new = (reply ≡ answer.Ticked) × (new ≡ n)
 LaminarStep n event reply new = ⊥

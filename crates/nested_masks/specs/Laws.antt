@@ -7,13 +7,16 @@ use Rattle.trace_reader.specs.declared.posted.Posted.{Posted}
 use Rattle.nested_masks.specs.Laminar.{IsLaminar, FitsNodes}
 use Rattle.nested_masks.specs.NestedText.{IsNestedText}
 
--- where masks nest, a set of tasks is placeable exactly where no node holds more of its tasks than it has processors
+-- where masks nest, a set of tasks is placeable exactly where no node holds more of its tasks than
+-- it has processors
 abbrev pub PlaceableByCounts : Type 0
-PlaceableByCounts = (set : SetData) → IsTaskSet set → IsLaminar (masks set) → (tasks : TaskTest) → ((t : ℕ) → tasks t ≡ true → t < length set.tasks)
+PlaceableByCounts = (set : SetData) → IsTaskSet set → IsLaminar (masks set) → (tasks : TaskTest)
+    → ((t : ℕ) → tasks t ≡ true → t < length set.tasks)
     → IsPlaceable (start_of set) tasks ↔ FitsNodes (masks set) tasks
 
 -- the run by counts of the events of a set has one text: the scheduler by counts has no choice
 abbrev pub NestedTextIsUnique : Type 0
 NestedTextIsUnique =
     (set : SetData) (events : List Posted) (text other : List ℕ)
-    → IsTaskSet set → IsLaminar (masks set) → IsNestedText set events text → IsNestedText set events other → text ≡ other
+    → IsTaskSet set → IsLaminar (masks set) → IsNestedText set events text
+    → IsNestedText set events other → text ≡ other

@@ -1,5 +1,6 @@
--- What is known of tasks whose masks nest: their priorities and masks, which of them are ready, and which are linked. No
--- task has a processor here: a placement of the linked tasks exists, and a scheduler may choose any.
+-- What is known of tasks whose masks nest: their priorities and masks, which of them are ready, and
+-- which are linked. No task has a processor here: a placement of the linked tasks exists, and a
+-- scheduler may choose any.
 use Rattle.std.specs.Prelude.{◌≡◌, ℕ, ◌<◌, Bool, true, false, List, length, get_or, replicate, None}
 use Rattle.affinity_mask.specs.ProcSet.{all_below, Within}
 use Rattle.task_set.specs.TaskSet.{SetData, priorities, masks}
@@ -51,7 +52,8 @@ nested_start set = record {
   linked = replicate (length set.tasks) false;
 }
 
--- the state of a scheduler with these tasks, of whom nobody has a processor yet; all processors are on line
+-- the state of a scheduler with these tasks, of whom nobody has a processor yet; all processors are
+-- on line
 abbrev pub state_of : NestedData → State
 state_of n = record {
   processors = n.processors;
@@ -70,7 +72,8 @@ pub record IsCounted (n : NestedData) : Type 0 where
   pub linked_ready : (t : ℕ) → linked_of n t ≡ true → ready_of n t ≡ true
   pub fits : FitsNodes n.masks (linked_of n)
 
--- the node keeps w out: the mask of w lies within it, and it is tight with linked tasks that are all more urgent
+-- the node keeps w out: the mask of w lies within it, and it is tight with linked tasks that are
+-- all more urgent
 pub record KeepsOut (n : NestedData) (node w : ℕ) : Type 0 where
   pub tight : IsTight n.masks (linked_of n) node
   pub contains : Within (mask_in n w) node
@@ -99,4 +102,5 @@ CertifiesEverywhere n node w = (s : State) → IsPlacedIn n s → IsCertificate 
 -- any scheduler with the best set of the same ready tasks has the same linked tasks
 abbrev pub IsTheOnlyBest : NestedData → Type 0
 IsTheOnlyBest n = (s : State) → HasSameTasks (state_of n) s → HasSameMasks (state_of n) s
-    → ((t : ℕ) → is_ready s t ≡ ready_of n t) → IsBest s (is_ready s) (is_linked s) → (t : ℕ) → is_linked s t ≡ linked_of n t
+    → ((t : ℕ) → is_ready s t ≡ ready_of n t) → IsBest s (is_ready s) (is_linked s) → (t : ℕ)
+    → is_linked s t ≡ linked_of n t

@@ -1,5 +1,5 @@
--- How far a scan has come: the words of the contracts of private functions. The public ones say what is found in the
--- end.
+-- How far a scan has come: the words of the contracts of private functions. The public ones say
+-- what is found in the end.
 use Rattle.std.specs.Prelude.{◌≡◌, ℕ, ◌<◌, ◌≤◌, true, List, length, IsTrue, Option, MatchOption}
 use Rattle.affinity_mask.specs.ProcSet.{has, Within}
 use Rattle.nested_masks.specs.Laminar.{IsTight, Cross}
@@ -24,7 +24,8 @@ pub record IsLeader (Passes : ℕ → Type 0) (Leads : ℕ → ℕ → Type 0) (
 
 -- of the first m tasks none passes, or this one is the leader of those that pass
 abbrev pub IsScan : (ℕ → Type 0) → (ℕ → ℕ → Type 0) → ℕ → Option ℕ → Type 0
-IsScan Passes Leads m found = MatchOption found ((v : ℕ) → v < m → Passes v → ⊥) (IsLeader Passes Leads m)
+IsScan Passes Leads m found =
+    MatchOption found ((v : ℕ) → v < m → Passes v → ⊥) (IsLeader Passes Leads m)
 
 -- the mask of u is a tight node, and contains X
 abbrev pub IsTightAround : NestedData → ℕ → ℕ → Type 0
@@ -47,5 +48,7 @@ IsNoLessUrgent n w v = priority_in n w ≤ priority_in n v
 -- X has the processors of those of the first m masks that are tight nodes, and no others
 pub record IsTightUnion (n : NestedData) (m X : ℕ) : Type 0 where
   pub inside : (p : ℕ) → IsTrue (has X p)
-      → (u : ℕ) × (u < m) × IsTight n.masks (linked_of n) (mask_in n u) × IsTrue (has (mask_in n u) p)
-  pub around : (u : ℕ) → u < m → IsTight n.masks (linked_of n) (mask_in n u) → Within (mask_in n u) X
+      → (u : ℕ) × (u < m) × IsTight n.masks (linked_of n) (mask_in n u)
+      × IsTrue (has (mask_in n u) p)
+  pub around : (u : ℕ) → u < m → IsTight n.masks (linked_of n) (mask_in n u)
+      → Within (mask_in n u) X

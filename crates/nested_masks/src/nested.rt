@@ -2,7 +2,7 @@
 ghost use Rattle.std.specs.Prelude.{◌≡◌, ◌⊎◌, ℕ, ◌<◌, ◌≤◌, IfOk, IfErr, IsOkUnless, Err, true, false, length};
 ghost use Rattle.task_set.specs.TaskSet.{masks};
 ghost use Rattle.nested_masks.specs.Laminar.{IsLaminar, IsFirstCrossing, tasks_in};
-ghost use Rattle.nested_masks.specs.LaminarStep.{LaminarStep, ArriveStep, DepartStep};
+ghost use Rattle.nested_masks.specs.LaminarStep.{LaminarStep, ArrivesByCounts, DepartsByCounts};
 ghost use Rattle.nested_masks.specs.Answers.{IsEventByCounts, IsCrossingFault, NodeCertifies};
 ghost use Rattle.nested_masks.specs.declared.fault.NestedFault.{NestedFault};
 
@@ -115,7 +115,7 @@ impl Nested {
     /// The step at an arrival.
     fn arrive(&mut self, t: u32) -> NestedReply
         requires { t < length self.old.priorities }
-        ensures { ArriveStep self.old t result self.new }
+        ensures { ArrivesByCounts self.old t result self.new }
     {
         if self.counts.is_ready(t) {
             return NestedReply::AlreadyReady;
@@ -138,7 +138,7 @@ impl Nested {
     /// The step at a departure.
     fn depart(&mut self, t: u32) -> NestedReply
         requires { t < length self.old.priorities }
-        ensures { DepartStep self.old t result self.new }
+        ensures { DepartsByCounts self.old t result self.new }
     {
         if !self.counts.is_ready(t) {
             return NestedReply::NotReady;

@@ -15,13 +15,13 @@ abbrev pub left_in : Rest → List Order
 left_in rest = from_place rest.first (from_place rest.second (from_place rest.third []))
 
 -- the orders of a batch
-abbrev pub orders_of : Batch → List Order
-orders_of batch = batch.first ∷ left_in batch.rest
+abbrev pub batch_orders : Batch → List Order
+batch_orders batch = batch.first ∷ left_in batch.rest
 
 -- the orders of batches, one batch after the other
 abbrev pub orders_in : List Batch → List Order
 orders_in [] = []
-orders_in (batch ∷ batches) = orders_of batch ++ orders_in batches
+orders_in (batch ∷ batches) = batch_orders batch ++ orders_in batches
 
 -- orders that may be sent for so many tasks: obeyable, and each names a task below that number
 abbrev pub Sendable : ℕ → List Order → Type 0

@@ -1,5 +1,7 @@
--- The rule of a count: one seat writes the word and knows its number; what any other knows is at most that.
-use Rattle.std.specs.Prelude.{◌≡◌, ℕ, ◌≤◌, max, cond, Bool, true, false, List, [], ◌∷◌, ◌++◌, length, slice_index}
+-- The rule of a count: one seat writes the word and knows its number; what any other knows is at
+-- most that.
+use Rattle.std.specs.Prelude.{◌≡◌, ℕ, ◌≤◌, max, cond, Bool, true, false, List, [], ◌∷◌, ◌++◌}
+use Rattle.std.specs.Prelude.{length, slice_index}
 use mathlib.Core.Option.{some}
 use lib.ListN.{get_elem?}
 use Rattle.atomic_table.specs.Table.{State, Me, Step}
@@ -12,7 +14,8 @@ writers v = cond v.writes 1 0
 
 -- a view by its four fields
 abbrev pub view : Bool → ℕ → ℕ → List ℕ → CountView
-view writes number known looks = record { writes = writes; number = number; known = known; looks = looks }
+view writes number known looks =
+    record { writes = writes; number = number; known = known; looks = looks }
 
 -- the writer, when the word is n
 abbrev pub writer_view : ℕ → CountView
@@ -42,7 +45,8 @@ Knows word v = (v.writes ≡ true → v.number ≡ word) × (v.known ≤ word) �
 pub record CountRule (s : State (Unit {0}) CountView) : Type 0 where
   pub one_word : length s.words ≡ 1
   pub one_writer : total writers s.views ≡ 1
-  pub knows : (j : ℕ) (v : CountView) → get_elem? s.views j ≡ some v → Knows (slice_index s.words 0) v
+  pub knows : (j : ℕ) (v : CountView) → get_elem? s.views j ≡ some v
+      → Knows (slice_index s.words 0) v
 
 -- a seat's view, and the slots that it holds
 abbrev pub Seated : Type 0

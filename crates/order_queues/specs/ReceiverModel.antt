@@ -12,4 +12,5 @@ receiver_data a = receiver_of a.parts
 
 -- its pass holds no slot of the lane between two calls, and what came out of the lane may be sent
 abbrev pub IsReceiver : Inside → Type 0
-IsReceiver a = (a.parts.pass.me.1 ≡ []) × Sendable (view a.parts.pass).tasks (view a.parts.pass).received
+IsReceiver a =
+    (a.parts.pass.me.1 ≡ []) × Sendable (view a.parts.pass).tasks (view a.parts.pass).received

@@ -29,7 +29,8 @@ sender_of s = record {
   sent = (view s.pass).sent;
 }
 
--- the orders that a receiver gave out: what came out of its queue, without what is left of the last batch
+-- the orders that a receiver gave out: what came out of its queue, without what is left of the last
+-- batch
 abbrev pub given : ReceiverParts → List Order
 given r = take r.received (view r.pass).received
 

@@ -1,6 +1,6 @@
 //! Orders that go through the queue at once. A step of the queue costs as much for four orders as for one.
 ghost use Rattle.std.specs.Prelude.{◌≡◌, ◌<◌, ◌∷◌, length, take, MatchOption, []};
-ghost use Rattle.order_queues.specs.Batches.{orders_of, left_in};
+ghost use Rattle.order_queues.specs.Batches.{batch_orders, left_in};
 
 use task_set::Order;
 
@@ -76,7 +76,7 @@ impl Batch {
     /// The first of these orders, four where there are as many.
     pub fn of(orders: &[Order]) -> Batch
         requires { 0 < length orders.now }
-        ensures { orders_of result ≡ take (length (orders_of result)) orders.now }
+        ensures { batch_orders result ≡ take (length (batch_orders result)) orders.now }
     {
         Batch {
             first: orders[0],
@@ -86,14 +86,14 @@ impl Batch {
 
     /// How many orders it has.
     pub fn count(&self) -> usize
-        ensures { result ≡ length (orders_of self.now) }
+        ensures { result ≡ length (batch_orders self.now) }
     {
         1 + self.rest.count()
     }
 
     /// The first order, and the others.
     pub fn split(self) -> (Order, Rest)
-        ensures { orders_of self ≡ result.0 ∷ left_in result.1 }
+        ensures { batch_orders self ≡ result.0 ∷ left_in result.1 }
     {
         (self.first, self.rest)
     }

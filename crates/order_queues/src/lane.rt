@@ -1,7 +1,7 @@
 //! The queue in which orders lie, under the rule of specs/Queue.antt, and its steps.
 ghost use Rattle.std.specs.Prelude.{◌≡◌, ℕ, ◌++◌, [], true, false};
 ghost use Rattle.task_set.specs.Orders.{IsObeyable};
-ghost use Rattle.order_queues.specs.Batches.{Sendable, orders_of, orders_in};
+ghost use Rattle.order_queues.specs.Batches.{Sendable, batch_orders, orders_in};
 ghost use Rattle.order_queues.specs.Queue.{end_view, QueueRule};
 
 use crate::batch::Batch;
@@ -68,14 +68,14 @@ impl Join<EndView> for OneEnd {
 pub struct Sent;
 
 impl Outcome<Batch, EndView> for Sent {
-    ghost then = { λ v x w. w ≡ end_view v.pushes v.pops (v.sent ++ orders_of x) v.received v.tasks };
+    ghost then = { λ v x w. w ≡ end_view v.pushes v.pops (v.sent ++ batch_orders x) v.received v.tasks };
 }
 
 /// What a pop tells its caller.
 pub struct Received;
 
 impl Outcome<Batch, EndView> for Received {
-    ghost then = { λ v x w. (w ≡ end_view v.pushes v.pops v.sent (v.received ++ orders_of x) v.tasks)
+    ghost then = { λ v x w. (w ≡ end_view v.pushes v.pops v.sent (v.received ++ batch_orders x) v.tasks)
         × Sendable v.tasks w.received };
 }
 

@@ -2,7 +2,7 @@
 ghost use Rattle.std.specs.Prelude.{◌≡◌, ℕ, ◌+◌, ◌^◌, ◌<◌, ◌≤◌, ◌++◌, ◌∷◌, [], true, false, IfOk, IfNone, MatchResult, MatchOption, length, List, All};
 ghost use Rattle.crossbeam_queue.specs.Passes.{view, IsPassOf, ruled_capacity};
 ghost use Rattle.task_set.specs.Orders.{IsObeyable, NamesTaskBelow, has_stop};
-ghost use Rattle.order_queues.specs.Batches.{Sendable, orders_of, left_in};
+ghost use Rattle.order_queues.specs.Batches.{Sendable, batch_orders, left_in};
 ghost use Rattle.order_queues.specs.Ends.{new_sender, new_receiver, new_eye, Sends, SendsAll, Receives, KnowsMore, ReceiverKnowsMore};
 ghost use Rattle.order_queues.specs.Views.{given, queue_of, sender_of, receiver_of, eye_of};
 ghost use Rattle.order_queues.specs.Queue.{end_view};
@@ -155,7 +155,7 @@ fn pop_batch<R: Wait>(rt: &R, lane: &Lane, pass: &mut Pass<Batch, EndView>) -> B
     ensures pass { IsPassOf lane.now pass.new }
     ensures received { view pass.new
         ≡ end_view (view pass.old).pushes (view pass.old).pops (view pass.old).sent
-        ((view pass.old).received ++ orders_of result) (view pass.old).tasks }
+        ((view pass.old).received ++ batch_orders result) (view pass.old).tasks }
     ensures sendable { Sendable (view pass.old).tasks (view pass.new).received }
 {
     for _ in rt.forever() {
@@ -267,12 +267,12 @@ fn push_orders<R: Wait>(rt: &R, lane: &Lane, pass: &mut Pass<Batch, EndView>, or
 fn push_batch<R: Wait>(rt: &R, lane: &Lane, pass: &mut Pass<Batch, EndView>, batch: Batch)
     requires pass { IsPassOf lane.now pass.old }
     requires role { (view pass.old).pushes ≡ true }
-    requires obeyable { IsObeyable ((view pass.old).sent ++ orders_of batch) }
-    requires below { All (NamesTaskBelow (view pass.old).tasks) (orders_of batch) }
+    requires obeyable { IsObeyable ((view pass.old).sent ++ batch_orders batch) }
+    requires below { All (NamesTaskBelow (view pass.old).tasks) (batch_orders batch) }
     ensures pass { IsPassOf lane.now pass.new }
     ensures sent { view pass.new
         ≡ end_view (view pass.old).pushes (view pass.old).pops
-        ((view pass.old).sent ++ orders_of batch) (view pass.old).received (view pass.old).tasks }
+        ((view pass.old).sent ++ batch_orders batch) (view pass.old).received (view pass.old).tasks }
 {
     for _ in rt.forever() {
         if lane.try_push_as::<Sent>(pass, batch).is_ok() {

@@ -7,22 +7,28 @@ use Rattle.path_search.specs.declared.direction.Direction.TheVariants.{Onward, B
 use Rattle.path_search.specs.Paths.{Steps, IsPathFrom, LeadsInto, IsLeastIfAny, EndsIn}
 
 -- two properties of the same lists have the same answer
-pub IsLeastIfAny-same : (A B : List ℕ → Type 0) → ((xs : List ℕ) → A xs → B xs) → ((xs : List ℕ) → B xs → A xs) → (answer : Option (List ℕ)) → IsLeastIfAny A answer → IsLeastIfAny B answer
+pub IsLeastIfAny-same : (A B : List ℕ → Type 0) → ((xs : List ℕ) → A xs → B xs) → ((xs : List ℕ) → B xs → A xs) → (answer : Option (List ℕ))
+    → IsLeastIfAny A answer → IsLeastIfAny B answer
 IsLeastIfAny-same A B to from None none = λ path h. none path (from path h)
-IsLeastIfAny-same A B to from (Some path) least = record { itself = to path least.itself; least = λ other h. least.least other (from other h) }
+IsLeastIfAny-same A B to from (Some path) least =
+    record { itself = to path least.itself; least = λ other h. least.least other (from other h) }
 
 -- ---- chains
-path_from_chain : (s : State) (t : ℕ) (chain : List ℕ) (q : ℕ) → IsChainOf s t chain q → IsPathFrom (Steps s Onward) (effective_mask s t) chain q
+path_from_chain : (s : State) (t : ℕ) (chain : List ℕ) (q : ℕ) → IsChainOf s t chain q
+    → IsPathFrom (Steps s Onward) (effective_mask s t) chain q
 path_from_chain s t [] q c = c
 path_from_chain s t (p ∷ rest) q c = c
 
-chain_from_path : (s : State) (t : ℕ) (chain : List ℕ) (q : ℕ) → IsPathFrom (Steps s Onward) (effective_mask s t) chain q → IsChainOf s t chain q
+chain_from_path : (s : State) (t : ℕ) (chain : List ℕ) (q : ℕ) → IsPathFrom (Steps s Onward) (effective_mask s t) chain q
+    → IsChainOf s t chain q
 chain_from_path s t [] q c = c
 chain_from_path s t (p ∷ rest) q c = c
 
 -- the least path of shifts from the mask of t into a set is the least chain of t that ends there
-pub chain_answer : (s : State) (t ends : ℕ) (answer : Option (List ℕ)) → IsLeastIfAny (LeadsInto (Steps s Onward) (effective_mask s t) ends) answer → IsLeastIfAny (EndsIn s t ends) answer
-chain_answer s t ends answer found = IsLeastIfAny-same (LeadsInto (Steps s Onward) (effective_mask s t) ends) (EndsIn s t ends) to from answer found
+pub chain_answer : (s : State) (t ends : ℕ) (answer : Option (List ℕ))
+    → IsLeastIfAny (LeadsInto (Steps s Onward) (effective_mask s t) ends) answer → IsLeastIfAny (EndsIn s t ends) answer
+chain_answer s t ends answer found =
+    IsLeastIfAny-same (LeadsInto (Steps s Onward) (effective_mask s t) ends) (EndsIn s t ends) to from answer found
   where
     to : (path : List ℕ) → LeadsInto (Steps s Onward) (effective_mask s t) ends path → EndsIn s t ends path
     to path h = (h.0, chain_from_path s t path h.0 h.1, h.2)
@@ -57,11 +63,13 @@ module _ (s : State) (t idle : ℕ) (is_idle : (q : ℕ) → IsTrue (has idle q)
 module _ (s : State) (p start : ℕ) (is_start : (q : ℕ) → has start q ≡ nat_eq q p) where
   pub path_from_back_chain : (chain : List ℕ) (q : ℕ) → IsBackChain s p chain q → IsPathFrom (Steps s Back) start chain q
   path_from_back_chain [] q c = c
-  path_from_back_chain (first ∷ rest) q c = (is_start first ∙ eq-eqb first p c.0, subst (λ (x : ℕ). IsPath (Steps s Back) x rest q) (sym c.0) c.1)
+  path_from_back_chain (first ∷ rest) q c =
+      (is_start first ∙ eq-eqb first p c.0, subst (λ (x : ℕ). IsPath (Steps s Back) x rest q) (sym c.0) c.1)
 
   pub back_chain_from_path : (chain : List ℕ) (q : ℕ) → IsPathFrom (Steps s Back) start chain q → IsBackChain s p chain q
   back_chain_from_path [] q c = c
-  back_chain_from_path (first ∷ rest) q c = let e = eqb-true first p (sym (is_start first) ∙ c.0) in (e, subst (λ (x : ℕ). IsPath (Steps s Back) x rest q) e c.1)
+  back_chain_from_path (first ∷ rest) q c =
+      let e = eqb-true first p (sym (is_start first) ∙ c.0) in (e, subst (λ (x : ℕ). IsPath (Steps s Back) x rest q) e c.1)
 
   -- its one processor is one of the processors
   pub start_below : p < s.processors → (q : ℕ) → IsTrue (has start q) → q < s.processors
@@ -75,5 +83,6 @@ module _ (s : State) (p start : ℕ) (is_start : (q : ℕ) → has start q ≡ n
     from path h = (h.0, path_from_back_chain path h.0 h.1, subst (λ (X : ℕ). IsTrue (has X h.0)) (sym is_entries) h.2)
 
     -- the least path back from p into the mask of w is the least back chain to p by which w can enter
-    pub back_chain_answer : (answer : Option (List ℕ)) → IsLeastIfAny (LeadsInto (Steps s Back) start entries) answer → IsLeastIfAny (EntersBy s p w) answer
+    pub back_chain_answer : (answer : Option (List ℕ)) → IsLeastIfAny (LeadsInto (Steps s Back) start entries) answer
+        → IsLeastIfAny (EntersBy s p w) answer
     back_chain_answer answer found = IsLeastIfAny-same (LeadsInto (Steps s Back) start entries) (EntersBy s p w) to from answer found

@@ -27,7 +27,8 @@ IsSearch-start Step start done none = record {
 }
 
 -- `todo` has what is found and not done
-module _ (Step : ℕ → ℕ → Type 0) (start found done todo : ℕ) (so_far : IsSearch Step start found done) (is_todo : (q : ℕ) → has todo q ≡ (has found q && not (has done q))) where
+module _ (Step : ℕ → ℕ → Type 0) (start found done todo : ℕ) (so_far : IsSearch Step start found done) (is_todo : (q : ℕ)
+    → has todo q ≡ (has found q && not (has done q))) where
   module _ (p : ℕ) (next : IsTrue (has todo p)) where
     pub next_found : IsTrue (has found p)
     next_found = (and_parts (has found p) (not (has done p)) (sym (is_todo p) ∙ next)).0
@@ -36,11 +37,14 @@ module _ (Step : ℕ → ℕ → Type 0) (start found done todo : ℕ) (so_far :
     next_fresh = not-true (has done p) ((and_parts (has found p) (not (has done p)) (sym (is_todo p) ∙ next)).1)
 
     -- the next processor is done once what follows it is found
-    pub IsSearch-more : (after done' found' : ℕ) → ((q : ℕ) → has done' q ≡ (has done q || nat_eq q p)) → ((q : ℕ) → IsTrue (has after q) ↔ Step p q) → ((q : ℕ) → has found' q ≡ (has found q || has after q)) → IsSearch Step start found' done'
+    pub IsSearch-more : (after done' found' : ℕ) → ((q : ℕ) → has done' q ≡ (has done q || nat_eq q p))
+        → ((q : ℕ) → IsTrue (has after q) ↔ Step p q) → ((q : ℕ) → has found' q ≡ (has found q || has after q))
+        → IsSearch Step start found' done'
     IsSearch-more after done' found' added is_after grown = record {
       sound = λ q h. elim (or_cases (has found q) (has after q) (sym (grown q) ∙ h)) [
         | inl before ↦ so_far.sound q before
-        | inr new ↦ (let path = so_far.sound p next_found in (path.0 ++ q ∷ [], IsPathFrom-push Step start path.0 p q path.1 ((is_after q).0 new)))
+        | inr new ↦ (let path = so_far.sound p next_found in
+            (path.0 ++ q ∷ [], IsPathFrom-push Step start path.0 p q path.1 ((is_after q).0 new)))
       ];
       begun = λ q h. keeps q (so_far.begun q h);
       within = λ q h. elim (added_cases done done' p added q h) [
@@ -63,7 +67,8 @@ module _ (Step : ℕ → ℕ → Type 0) (start found done todo : ℕ) (so_far :
       all_done : (p : ℕ) → IsTrue (has found p) → IsTrue (has done p)
       all_done p h = elim (cases_Bool (has done p)) [
         | inl over ↦ over
-        | inr open_yet ↦ absurd (no_member todo p none (is_todo p ∙ and_from (has found p) (not (has done p)) h (not_from_false (has done p) open_yet)))
+        | inr open_yet ↦ absurd (no_member todo p none
+            (is_todo p ∙ and_from (has found p) (not (has done p)) h (not_from_false (has done p) open_yet)))
       ]
 
       follows : (p : ℕ) (rest : List ℕ) → IsTrue (has found p) → IsPath Step p rest q → IsTrue (has found q)
@@ -75,7 +80,8 @@ module _ (Step : ℕ → ℕ → Type 0) (start found done todo : ℕ) (so_far :
       arrives (p ∷ rest) path = follows p rest (so_far.begun p path.0) path.1
 
 -- ---- all processors on line are found, and no step leads to another one
-pub IsSearch-all : (s : State) → IsState s → (direction : Direction) (start found done : ℕ) → IsSearch (Steps s direction) start found done → Within s.online found → (q : ℕ) → IsTrue (has found q) ↔ LeadsTo (Steps s direction) start q
+pub IsSearch-all : (s : State) → IsState s → (direction : Direction) (start found done : ℕ) → IsSearch (Steps s direction) start found done
+    → Within s.online found → (q : ℕ) → IsTrue (has found q) ↔ LeadsTo (Steps s direction) start q
 IsSearch-all s ok direction start found done so_far all q = (so_far.sound q, λ path. arrives path.0 path.1)
   where
     follows : (p : ℕ) (rest : List ℕ) → IsTrue (has found p) → IsPath (Steps s direction) p rest q → IsTrue (has found q)

@@ -1,6 +1,8 @@
 -- The levels of a search, one after the other, and the first one that meets a target.
-use Rattle.std.proofs.Common.{◌≡◌, ℕ, ◌+◌, ◌<◌, ◌≤◌, false, not, ◌&&◌, ◌||◌, List, [], ◌∷◌, ◌++◌, length, refl, sym, ap, ◌∙◌, subst, inl, inr, ◌⊎◌, ◌↔◌, IsTrue, arith}
-use Rattle.std.proofs.lemmas.Bool.{cases_Bool, cases_lt, or_cases, or_left, or_right, and_parts, and_from, not-true, not_from_false, true≢false}
+use Rattle.std.proofs.Common.{◌≡◌, ℕ, ◌+◌, ◌<◌, ◌≤◌, false, not, ◌&&◌, ◌||◌, List, [], ◌∷◌, ◌++◌, length, refl, sym, ap, ◌∙◌, subst, inl}
+use Rattle.std.proofs.Common.{inr, ◌⊎◌, ◌↔◌, IsTrue, arith}
+use Rattle.std.proofs.lemmas.Bool.{cases_Bool, cases_lt, or_cases, or_left, or_right, and_parts, and_from, not-true, not_from_false}
+use Rattle.std.proofs.lemmas.Bool.{true≢false}
 use Rattle.affinity_mask.specs.ProcSet.{has, empty, Meets}
 use Rattle.affinity_mask.proofs.Meetings.{no_member}
 use Rattle.strong_apa.specs.State.{State, IsState}
@@ -30,21 +32,25 @@ module _ (Step : ℕ → ℕ → Type 0) (start : ℕ) where
     λ h. record { path = q ∷ []; leads = (h, refl); as_long = refl; shortest = λ other leads. not_none other q leads },
     λ away. elim (last_step Step start away.path q away.leads) [
       | inl one ↦ one.1
-      | inr more ↦ (let n = not_none more.0 more.1 more.3 in let l = ap length more.2 ∙ length-behind more.0 q in let e = away.as_long in absurd (omega arith))
+      | inr more ↦ (let n = not_none more.0 more.1 more.3 in let l = ap length more.2 ∙ length-behind more.0 q in let e = away.as_long in
+          absurd (omega arith))
     ],
   )
 
   pub IsWithin-none : (done : ℕ) → done ≡ empty → IsWithin Step start 0 done
-  IsWithin-none done none q = (λ h. absurd (no_member done q none h), λ path. let n = not_none path.0 q path.1 in let l = path.2 in absurd (omega arith))
+  IsWithin-none done none q =
+      (λ h. absurd (no_member done q none h), λ path. let n = not_none path.0 q path.1 in let l = path.2 in absurd (omega arith))
 
   pub IsPast-none : (target : ℕ) → IsPast Step start target 0
   IsPast-none target = λ path h. not_none path h.0 h.1
 
   -- a path one longer than those of a set: its end is in the set, or as far away as the path is long
-  away_or_done : (n done q : ℕ) → IsWithin Step start n done → (path : List ℕ) → IsPathFrom Step start path q → length path ≤ n + 1 → IsTrue (has done q) ⊎ IsAway Step start (n + 1) q
+  away_or_done : (n done q : ℕ) → IsWithin Step start n done → (path : List ℕ) → IsPathFrom Step start path q → length path ≤ n + 1
+      → IsTrue (has done q) ⊎ IsAway Step start (n + 1) q
   away_or_done n done q within path leads short = elim (cases_Bool (has done q)) [
     | inl here ↦ inl here
-    | inr fresh ↦ (let longer : (other : List ℕ) → IsPathFrom Step start other q → n + 1 ≤ length other = λ other leads'. longer_by fresh other leads' in
+    | inr fresh ↦ (let longer : (other : List ℕ) → IsPathFrom Step start other q
+        → n + 1 ≤ length other = λ other leads'. longer_by fresh other leads' in
         inr record { path = path; leads = leads; as_long = (let l = longer path leads in omega arith); shortest = longer })
   ]
     where
@@ -103,7 +109,8 @@ module _ (Step : ℕ → ℕ → Type 0) (start : ℕ) where
       follows p [] q h path = subst (λ (x : ℕ). IsTrue (has done x)) path h
       follows p (r ∷ rest) q h path =
           let before = (within p).0 h in
-          follows r rest q (closed (before.0 ++ r ∷ []) r (IsPathFrom-push Step start before.0 p r before.1 path.0) (let l = length-behind before.0 r in let short = before.2 in omega arith)) path.1
+          follows r rest q (closed (before.0 ++ r ∷ []) r (IsPathFrom-push Step start before.0 p r before.1 path.0)
+          (let l = length-behind before.0 r in let short = before.2 in omega arith)) path.1
 
       all_done : (path : List ℕ) (q : ℕ) → IsPathFrom Step start path q → IsTrue (has done q)
       all_done [] q path = absurd path
@@ -116,7 +123,9 @@ module _ (Step : ℕ → ℕ → Type 0) (start : ℕ) where
           let l = short.2 in absurd (omega arith)
 
   -- the next level: where steps lead from a level, without what is within it
-  pub IsLevel-next : (n level done after next : ℕ) → 0 < n → IsLevel Step start n level → IsWithin Step start n done → ((q : ℕ) → IsTrue (has after q) ↔ ((p : ℕ) × IsTrue (has level p) × Step p q)) → ((q : ℕ) → has next q ≡ (has after q && not (has done q))) → IsLevel Step start (n + 1) next
+  pub IsLevel-next : (n level done after next : ℕ) → 0 < n → IsLevel Step start n level → IsWithin Step start n done
+      → ((q : ℕ) → IsTrue (has after q) ↔ ((p : ℕ) × IsTrue (has level p) × Step p q))
+      → ((q : ℕ) → has next q ≡ (has after q && not (has done q))) → IsLevel Step start (n + 1) next
   IsLevel-next n level done after next some is_level within is_after is_next q = (to, from)
     where
       to : IsTrue (has next q) → IsAway Step start (n + 1) q
@@ -124,7 +133,8 @@ module _ (Step : ℕ → ℕ → Type 0) (start : ℕ) where
           let parts = and_parts (has after q) (not (has done q)) (sym (is_next q) ∙ h) in
           let step = (is_after q).0 parts.0 in
           let away = (is_level step.0).0 step.1 in
-          elim (away_or_done n done q within (away.path ++ q ∷ []) (IsPathFrom-push Step start away.path step.0 q away.leads step.2) (let l = length-behind away.path q in let e = away.as_long in omega arith)) [
+          elim (away_or_done n done q within (away.path ++ q ∷ []) (IsPathFrom-push Step start away.path step.0 q away.leads step.2)
+          (let l = length-behind away.path q in let e = away.as_long in omega arith)) [
             | inl before ↦ absurd (true≢false (sym before ∙ not-true (has done q) parts.1))
             | inr far ↦ far
           ]
@@ -145,7 +155,8 @@ module _ (Step : ℕ → ℕ → Type 0) (start : ℕ) where
                 path = more.0;
                 leads = more.3;
                 as_long = omega arith;
-                shortest = λ other leads. (let s = away.shortest (other ++ q ∷ []) (IsPathFrom-push Step start other more.1 q leads more.4) in let m = length-behind other q in omega arith);
+                shortest = λ other leads. (let s = away.shortest (other ++ q ∷ [])
+                    (IsPathFrom-push Step start other more.1 q leads more.4) in let m = length-behind other q in omega arith);
               },
               more.4,
             ))
@@ -156,16 +167,20 @@ module _ (Step : ℕ → ℕ → Type 0) (start : ℕ) where
 
 -- how far a processor is away: a shortest path repeats none of the processors, so it has no more than there are
 module _ (s : State) (ok : IsState s) (direction : Direction) (start : ℕ) (below : (p : ℕ) → IsTrue (has start p) → p < s.processors) where
-  shortest_fits : (path : List ℕ) (q : ℕ) → IsPathFrom (Steps s direction) start path q → ((other : List ℕ) → IsPathFrom (Steps s direction) start other q → length path ≤ length other) → length path ≤ s.processors
+  shortest_fits : (path : List ℕ) (q : ℕ) → IsPathFrom (Steps s direction) start path q
+      → ((other : List ℕ) → IsPathFrom (Steps s direction) start other q → length path ≤ length other) → length path ≤ s.processors
   shortest_fits [] q leads shortest = absurd leads
   shortest_fits (p ∷ rest) q leads shortest =
       length-simple s.processors (p ∷ rest)
-      (shortest_is_simple (Steps s direction) (λ e. e ≡ q) p rest q refl leads.1 (λ other e ends path. let l = shortest (p ∷ other) (leads.0, subst (λ (x : ℕ). IsPath (Steps s direction) p other x) ends path) in omega arith))
+      (shortest_is_simple (Steps s direction) (λ e. e ≡ q) p rest q refl leads.1
+      (λ other e ends path. let l = shortest (p ∷ other) (leads.0, subst (λ (x : ℕ). IsPath (Steps s direction) p other x) ends path) in
+      omega arith))
       (IsPathFrom-all_below s ok direction start (p ∷ rest) q below leads)
 
   pub IsAway-fits : (n q : ℕ) → IsAway (Steps s direction) start n q → n ≤ s.processors
   IsAway-fits n q away =
-      let l = shortest_fits away.path q away.leads (λ other leads. let short = away.shortest other leads in let e = away.as_long in omega arith) in
+      let l = shortest_fits away.path q away.leads (λ other leads. let short = away.shortest other leads in let e = away.as_long in
+      omega arith) in
       let e = away.as_long in omega arith
 
   pub IsAway-below : (n q : ℕ) → IsAway (Steps s direction) start n q → q < s.processors

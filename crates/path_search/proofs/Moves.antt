@@ -40,7 +40,9 @@ IsUnionSoFar-start Step set found none = record {
 
 module _ (Step : ℕ → ℕ → Type 0) (set found rest : ℕ) (so_far : IsUnionSoFar Step set found rest) where
   -- one processor of the rest is done
-  pub IsUnionSoFar-more : (p after found' rest' : ℕ) → IsTrue (has rest p) → ((q : ℕ) → IsTrue (has after q) ↔ Step p q) → ((q : ℕ) → has found' q ≡ (has found q || has after q)) → ((q : ℕ) → has rest' q ≡ (has rest q && not (nat_eq q p))) → IsUnionSoFar Step set found' rest'
+  pub IsUnionSoFar-more : (p after found' rest' : ℕ) → IsTrue (has rest p) → ((q : ℕ) → IsTrue (has after q) ↔ Step p q)
+      → ((q : ℕ) → has found' q ≡ (has found q || has after q)) → ((q : ℕ) → has rest' q ≡ (has rest q && not (nat_eq q p)))
+      → IsUnionSoFar Step set found' rest'
   IsUnionSoFar-more p after found' rest' here is_after grown fewer = record {
     within = λ q h. so_far.within q (and_parts (has rest q) (not (nat_eq q p)) (sym (fewer q) ∙ h)).0;
     sound = λ q h. elim (or_cases (has found q) (has after q) (sym (grown q) ∙ h)) [

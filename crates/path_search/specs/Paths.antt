@@ -1,7 +1,8 @@
--- Paths, and what a search for them answers. A path from a set of processors is a list that is not empty; its first
--- processor is in the set, and a step leads from each processor to the next one. Onward a step is a shift of an
--- occupant, and back it is such a shift read the other way round. A search for a least list answers the least of all
--- lists with the property, or nothing where there is none.
+-- Paths, and what a search for them answers. A path from a set of processors is a list that is not
+-- empty; its first processor is in the set, and a step leads from each processor to the next one.
+-- Onward a step is a shift of an occupant, and back it is such a shift read the other way round. A
+-- search for a least list answers the least of all lists with the property, or nothing where there
+-- is none.
 use Rattle.std.specs.Prelude.{ℕ, List, [], ◌∷◌, Option, Some, None, IsTrue}
 use Rattle.affinity_mask.specs.ProcSet.{has}
 use Rattle.strong_apa.specs.State.{State}

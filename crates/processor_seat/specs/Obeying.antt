@@ -1,5 +1,6 @@
--- What a processor obeyed, and what an order does to its hand. What it obeyed is read off the hand: each stint that ended
--- gives its orders, in turn, and then the stint that is held gives its Take and its Runs so far.
+-- What a processor obeyed, and what an order does to its hand. What it obeyed is read off the hand:
+-- each stint that ended gives its orders, in turn, and then the stint that is held gives its Take
+-- and its Runs so far.
 use Rattle.std.specs.Prelude.{◌≡◌, ◌≢◌, ℕ, ◌*◌, Option, None, Some, List, [], ◌∷◌, ◌++◌, map}
 use Rattle.std.specs.List.{flat_map}
 use Rattle.task_set.specs.declared.context.Context.{Context}
@@ -26,9 +27,11 @@ abbrev pub held_task : Option OpenStint → Option ℕ
 held_task None = None
 held_task (Some stint) = Some stint.task
 
--- the hand obeys an order: it takes the context that is at home after all earlier stints, or runs what it took, or releases it
+-- the hand obeys an order: it takes the context that is at home after all earlier stints, or runs
+-- what it took, or releases it
 abbrev pub Obeys : Order → HandData → HandData → Type 0
-Obeys (Take task number) old new = (base : Context) × IsHomeAfter base task number × (new ≡ after_take old task number base)
+Obeys (Take task number) old new =
+    (base : Context) × IsHomeAfter base task number × (new ≡ after_take old task number base)
 Obeys (Run units) old new = new ≡ after_run old units
 Obeys (Release task) old new = new ≡ after_release old
 Obeys Stop old new = ⊥
@@ -36,7 +39,8 @@ Obeys Stop old new = ⊥
 -- the order is a Take, and its exchange found another word than that of its turn
 abbrev pub IsMissed : Order → ℕ → ℕ → HandData → HandData → Type 0
 IsMissed order task found old new =
-    (number : ℕ) × (order ≡ Take task number) × (found ≢ 2 * number) × (new ≡ after_look old task found)
+    (number : ℕ) × (order ≡ Take task number) × (found ≢ 2 * number)
+    × (new ≡ after_look old task found)
 
 -- the order is obeyed, or is a Take that is not at its turn
 abbrev pub ObeyAnswer : Order → HandData → Obeyed → HandData → Type 0

@@ -1,6 +1,7 @@
--- What contracts see of a processor, when it is in step, and what a step does. A step obeys the order that is pending, and
--- else the next one that was sent.
-use Rattle.std.specs.Prelude.{◌≡◌, ◌≢◌, ℕ, ◌<◌, ◌⊎◌, Bool, true, false, Option, None, Some, option_to_list, List, [], ◌∷◌, ◌++◌}
+-- What contracts see of a processor, when it is in step, and what a step does. A step obeys the
+-- order that is pending, and else the next one that was sent.
+use Rattle.std.specs.Prelude.{◌≡◌, ◌≢◌, ℕ, ◌<◌, ◌⊎◌, Bool, true, false, Option, None, Some}
+use Rattle.std.specs.Prelude.{option_to_list, List, [], ◌∷◌, ◌++◌}
 use Rattle.task_set.specs.declared.order.Order.{Order}
 use Rattle.task_set.specs.declared.order.Order.TheVariants.{Stop}
 use Rattle.task_set.specs.Orders.{has_stop}
@@ -21,7 +22,8 @@ abbrev pub stop_if : Bool → List Order
 stop_if true = Stop ∷ []
 stop_if false = []
 
--- what was received is what was obeyed, then the pending order, then Stop; and nothing is pending once Stop was received
+-- what was received is what was obeyed, then the pending order, then Stop; and nothing is pending
+-- once Stop was received
 pub record IsInStep (p : ProcessorData) : Type 0 where
   pub received : p.receiver.received
       ≡ orders_obeyed p.hand ++ (option_to_list p.pending ++ stop_if (has_stop p.receiver.received))
@@ -77,9 +79,11 @@ StepAnswer old Stopped new = HasStopped old new
 
 -- a try to obey the order that came last
 abbrev pub TryAnswer : ProcessorData → Order → Step → ProcessorData → Type 0
-TryAnswer old order (Did done) new = (done ≡ order) × Obeys order old.hand new.hand × (new.pending ≡ None)
+TryAnswer old order (Did done) new =
+    (done ≡ order) × Obeys order old.hand new.hand × (new.pending ≡ None)
 TryAnswer old order Empty new = ⊥
-TryAnswer old order (NotTurn task found) new = IsMissed order task found old.hand new.hand × (new.pending ≡ Some order)
+TryAnswer old order (NotTurn task found) new =
+    IsMissed order task found old.hand new.hand × (new.pending ≡ Some order)
 TryAnswer old order Stopped new = ⊥
 
 -- the task that has another turn is below this number

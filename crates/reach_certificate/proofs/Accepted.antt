@@ -28,10 +28,12 @@ runs_keep_task c (run ∷ runs) = runs_keep_task (context_after_run c run.0 run.
 
 entry_keeps_task : (old new : State) (event : Event) (t : ℕ) (c : Context) → (context_after_entry old new event t c).task ≡ c.task
 entry_keeps_task old new event t c =
-    runs_keep_task (context_after_takes c (taken_between old new t)) (tick_runs event (places_of old t)) ∙ takes_keep_task c (taken_between old new t)
+    runs_keep_task (context_after_takes c (taken_between old new t)) (tick_runs event (places_of old t))
+    ∙ takes_keep_task c (taken_between old new t)
 
 -- ---- an entry that passes
-module _ (old : CheckerData) (checker : IsChecker old) (entry : Entry) (passes : Passes old.links entry.event entry.reply) (links : State) (effect : links ≡ effect_of old.links entry) where
+module _ (old : CheckerData) (checker : IsChecker old) (entry : Entry) (passes : Passes old.links entry.event entry.reply) (links : State)
+    (effect : links ≡ effect_of old.links entry) where
   pub same_as_before : HasSameTasks old.links links
   same_as_before = rw effect (same_tasks-effect old.links entry)
 
@@ -46,7 +48,8 @@ module _ (old : CheckerData) (checker : IsChecker old) (entry : Entry) (passes :
   tasks_same = ap task_count effect ∙ same_count old.links (effect_of old.links entry) (same_tasks-effect old.links entry)
 
   certificates_kept : HasCertificates links
-  certificates_kept = subst HasCertificates (sym effect) (passing_keeps_certificates old.links entry.event entry.reply checker.state checker.certificates passes)
+  certificates_kept = subst HasCertificates (sym effect)
+      (passing_keeps_certificates old.links entry.event entry.reply checker.state checker.certificates passes)
 
   state_kept : IsState links
   state_kept = subst IsState (sym effect) (passing_keeps_state old.links entry.event entry.reply checker.state passes)
@@ -54,7 +57,8 @@ module _ (old : CheckerData) (checker : IsChecker old) (entry : Entry) (passes :
   pub best_kept : LinkedIsBest links
   best_kept = linked_is_best links state_kept certificates_kept
 
-  pub checker_kept : (contexts : List Context) → EachBecomes (context_after_entry old.links links entry.event) old.contexts contexts → IsChecker (record { links = links; contexts = contexts })
+  pub checker_kept : (contexts : List Context) → EachBecomes (context_after_entry old.links links entry.event) old.contexts contexts
+      → IsChecker (record { links = links; contexts = contexts })
   checker_kept contexts becomes = record {
     state = state_kept;
     certificates = certificates_kept;

@@ -1,12 +1,14 @@
 -- A task is admitted: it waits then, with a certificate, or a shift along a chain to an idle processor links it, which
 -- puts nobody out and leaves each waiting task a certificate.
-use Rattle.std.proofs.Common.{◌≡◌, ℕ, ◌<◌, true, false, ◌||◌, List, nat_eq, Some, refl, sym, ap, ◌∙◌, inl, inr, ◌⊎◌, ne_eqb, eq-eqb, eqb-true, get_or-set_other}
+use Rattle.std.proofs.Common.{◌≡◌, ℕ, ◌<◌, true, false, ◌||◌, List, nat_eq, Some, refl, sym, ap, ◌∙◌, inl, inr, ◌⊎◌, ne_eqb, eq-eqb}
+use Rattle.std.proofs.Common.{eqb-true, get_or-set_other}
 use Rattle.std.proofs.Math.Bool.{or-false}
 use Rattle.std.proofs.lemmas.Bool.{cases_eq, true≢false, or_cases, or_left, or_right}
 use Rattle.std.proofs.lemmas.Option.{same_Some}
 use Rattle.affinity_mask.specs.ProcSet.{empty}
 use Rattle.affinity_mask.proofs.Sets.{has-zero}
-use Rattle.strong_apa.specs.State.{State, IsState, HasSameTasks, HasSameMasks, IsWaiting, task_count, is_ready, is_linked, task_on, state_with_ready, IsMoreUrgent}
+use Rattle.strong_apa.specs.State.{State, IsState, HasSameTasks, HasSameMasks, IsWaiting, task_count, is_ready, is_linked, task_on}
+use Rattle.strong_apa.specs.State.{state_with_ready, IsMoreUrgent}
 use Rattle.strong_apa.specs.Chain.{state_after_shift}
 use Rattle.strong_apa.specs.Certificate.{IsCertificate}
 use Rattle.strong_apa.proofs.Linked.{place_in, task_on-linked, is_linked-from_on, not_on}
@@ -19,7 +21,8 @@ use Rattle.strong_apa.proofs.KeptByArrivals.{others_have}
 use Rattle.strong_apa.proofs.KeptByShifts.{linked_or_out, kept_by_placing}
 use Rattle.affinity_mask.proofs.Unions.{same_answer}
 
-module _ (old : State) (t : ℕ) (number : t < task_count old) (absent : is_ready old t ≡ false) (ok : IsState (state_with_ready old t)) (waits : IsWaiting (state_with_ready old t) t)
+module _ (old : State) (t : ℕ) (number : t < task_count old) (absent : is_ready old t ≡ false) (ok : IsState (state_with_ready old t))
+    (waits : IsWaiting (state_with_ready old t) t)
     (least_urgent : (u : ℕ) → is_ready old u ≡ true → IsMoreUrgent old u t) (certificates : HasCertificates old) where
   abbrev s : State
   s = state_with_ready old t
@@ -38,7 +41,8 @@ module _ (old : State) (t : ℕ) (number : t < task_count old) (absent : is_read
 
   -- a linked task is more urgent than t
   linked_first : (p u : ℕ) → task_on s p ≡ Some u → IsMoreUrgent s u t
-  linked_first p u on = least_urgent u (sym (get_or-set_other old.ready t u true false (λ e. not_on s p t waits.not_linked (on ∙ ap (λ (n : ℕ). Some n) e))) ∙ ok.linked_ready p u on)
+  linked_first p u on = least_urgent u (sym (get_or-set_other old.ready t u true false
+      (λ e. not_on s p t waits.not_linked (on ∙ ap (λ (n : ℕ). Some n) e))) ∙ ok.linked_ready p u on)
 
   -- no shift leads out of a full set: it certifies t
   pub Admitted-full : (X : ℕ) → IsFull s t empty X → Admitted old t false s
@@ -78,7 +82,8 @@ module _ (old : State) (t : ℕ) (number : t < task_count old) (absent : is_read
 
     linked_either : (u : ℕ) → is_linked new u ≡ (is_linked old u || nat_eq u t)
     linked_either u = same_answer _ _
-        (λ linked. elim (occupant_from s (λ y. ⊥) (Some t) chain (place_in u new.on) u (Avoids-none chain way.simple) (λ v. v) (task_on-state_after_shift s t chain (place_in u new.on) u (task_on-linked new u linked))) [
+        (λ linked. elim (occupant_from s (λ y. ⊥) (Some t) chain (place_in u new.on) u (Avoids-none chain way.simple) (λ v. v)
+        (task_on-state_after_shift s t chain (place_in u new.on) u (task_on-linked new u linked))) [
           | inl it ↦ or_right (is_linked old u) _ (eq-eqb u t (sym (same_Some t u it)))
           | inr there ↦ or_left (is_linked old u) _ (is_linked-from_on old there.0 u there.2)
         ])

@@ -1,5 +1,6 @@
 -- Tests that at most one number passes.
-use Rattle.std.proofs.Common.{◌≡◌, ◌≢◌, ℕ, zero, suc, ◌<◌, Bool, true, false, cond, List, [], ◌∷◌, length, get_or, filter, refl, sym, ap, ◌∙◌, subst, inl, inr, arith}
+use Rattle.std.proofs.Common.{◌≡◌, ◌≢◌, ℕ, zero, suc, ◌<◌, Bool, true, false, cond, List, [], ◌∷◌, length, get_or, filter, refl, sym, ap}
+use Rattle.std.proofs.Common.{◌∙◌, subst, inl, inr, arith}
 use Rattle.std.specs.Prelude.{Contains}
 use Rattle.std.specs.List.{range_with_len}
 use Rattle.std.proofs.lemmas.Bool.{cases_eq, cases_Bool, true≢false, false_from_ne_true}
@@ -37,12 +38,14 @@ filter_absent : (test : ℕ → Bool) (xs : List ℕ) → ((q : ℕ) → Contain
 filter_absent test [] fails = refl
 filter_absent test (x ∷ xs) fails = rw (fails x (0, omega arith, refl)) (filter_absent test xs (λ q c. fails q (contains_later x xs q c)))
 
-filter_one : (test : ℕ → Bool) (xs : List ℕ) (x : ℕ) → IsSimple xs → Contains xs x → test x ≡ true → ((q : ℕ) → test q ≡ true → q ≡ x) → filter test xs ≡ x ∷ []
+filter_one : (test : ℕ → Bool) (xs : List ℕ) (x : ℕ) → IsSimple xs → Contains xs x → test x ≡ true → ((q : ℕ) → test q ≡ true → q ≡ x)
+    → filter test xs ≡ x ∷ []
 filter_one test [] x simple c here alone = absurd (contains_none x c)
 filter_one test (y ∷ xs) x simple c here alone = elim (cases_eq y x) [
   | inl same ↦
       let passes : test y ≡ true = ap test same ∙ here in
-      let rest : filter test xs ≡ [] = filter_absent test xs (λ q k. false_from_ne_true (test q) (λ h. first_alone y xs simple (subst (Contains xs) (alone q h ∙ sym same) k))) in
+      let rest : filter test xs ≡ [] = filter_absent test xs
+      (λ q k. false_from_ne_true (test q) (λ h. first_alone y xs simple (subst (Contains xs) (alone q h ∙ sym same) k))) in
       rw (passes, rest, same) refl
   | inr other ↦
       let fails : test y ≡ false = false_from_ne_true (test y) (λ h. other (alone y h)) in
@@ -57,15 +60,19 @@ simple_range n = λ i j d lt fits e.
     omega arith
 
 contains_range : (n p : ℕ) → p < n → Contains (range_with_len 0 n) p
-contains_range n p lt = (p, (let count = length-range_with_len 0 n in omega arith), (let at = get_or-range_with_len 0 n p p lt in omega arith))
+contains_range n p lt =
+    (p, (let count = length-range_with_len 0 n in omega arith), (let at = get_or-range_with_len 0 n p p lt in omega arith))
 
 -- of the numbers below n none passes
 pub passes_nowhere : (test : ℕ → Bool) (n : ℕ) → ((q : ℕ) → test q ≡ false) → filter test (range_with_len 0 n) ≡ []
 passes_nowhere test n fails = filter_none test (range_with_len 0 n) fails
 
 -- of the numbers below n none but p passes
-pub passes_alone : (test : ℕ → Bool) (n p : ℕ) → p < n → ((q : ℕ) → test q ≡ true → q ≡ p) → filter test (range_with_len 0 n) ≡ cond (test p) (p ∷ []) []
+pub passes_alone : (test : ℕ → Bool) (n p : ℕ) → p < n → ((q : ℕ) → test q ≡ true → q ≡ p) → filter test (range_with_len 0 n)
+    ≡ cond (test p) (p ∷ []) []
 passes_alone test n p lt alone = elim (cases_Bool (test p)) [
-  | inl here ↦ filter_one test (range_with_len 0 n) p (simple_range n) (contains_range n p lt) here alone ∙ sym (ap (λ b. cond b (p ∷ []) []) here)
-  | inr out ↦ filter_none test (range_with_len 0 n) (λ q. false_from_ne_true (test q) (λ h. true≢false (sym h ∙ ap test (alone q h) ∙ out))) ∙ sym (ap (λ b. cond b (p ∷ []) []) out)
+  | inl here ↦ filter_one test (range_with_len 0 n) p (simple_range n) (contains_range n p lt) here alone
+      ∙ sym (ap (λ b. cond b (p ∷ []) []) here)
+  | inr out ↦ filter_none test (range_with_len 0 n) (λ q. false_from_ne_true (test q) (λ h. true≢false (sym h ∙ ap test (alone q h) ∙ out)))
+      ∙ sym (ap (λ b. cond b (p ∷ []) []) out)
 ]

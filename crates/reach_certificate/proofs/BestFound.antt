@@ -1,6 +1,7 @@
 -- Every set of tasks has a best subset. The tasks are admitted by urgency, each where it can be placed together with
 -- those that were admitted before it.
-use Rattle.std.proofs.Common.{◌≡◌, ◌≢◌, ℕ, zero, suc, ◌<◌, Bool, true, false, ◌||◌, nat_eq, if◌then◌else◌, refl, sym, ap, ◌∙◌, subst, inl, inr, IsTrue, arith, eq-eqb, ne_eqb, eqb-true}
+use Rattle.std.proofs.Common.{◌≡◌, ◌≢◌, ℕ, zero, suc, ◌<◌, Bool, true, false, ◌||◌, nat_eq, if◌then◌else◌, refl, sym, ap, ◌∙◌, subst, inl}
+use Rattle.std.proofs.Common.{inr, IsTrue, arith, eq-eqb, ne_eqb, eqb-true}
 use Rattle.std.proofs.lemmas.Bool.{cases_Bool, cases_eq, true≢false, or_cases, or_parts, or_left}
 use Rattle.affinity_mask.specs.ProcSet.{has}
 use Rattle.strong_apa.specs.State.{State, IsState, IsMoreUrgent, task_count, priority_of, effective_mask}
@@ -78,7 +79,11 @@ module _ (s : State) (A : TaskTest) (n : ℕ) (taken : ℕ → Bool) where
         h.0,
         record {
           allowed = λ t lt. h.1.allowed t (omega arith);
-          free = λ t lt member'. rw (h.1.free t (omega arith) member', ne_eqb (h.0 t) (h.0 n) (λ e. absurd (let same = h.1.apart t n (omega arith) (omega arith) member' member e in omega arith))) refl;
+          free = λ t lt member'. rw (
+            h.1.free t (omega arith) member',
+            ne_eqb (h.0 t) (h.0 n) (λ e. absurd (let same = h.1.apart t n (omega arith) (omega arith) member' member e in omega arith)),
+          )
+              refl;
           apart = λ t u lt lu. h.1.apart t u (omega arith) (omega arith);
         },
       ),
@@ -132,18 +137,28 @@ module _ (s : State) (A : TaskTest) (n : ℕ) (taken : ℕ → Bool) where
       ]
 
 module _ (s : State) (ok : IsState s) (A : TaskTest) where
-  with_decided : (n : ℕ) (taken : ℕ → Bool) (p : ℕ) → Decided (CanBePlaced s A n (taken_with taken p)) → Decided (CanBePlacedWith s A n taken p)
+  with_decided : (n : ℕ) (taken : ℕ → Bool) (p : ℕ) → Decided (CanBePlaced s A n (taken_with taken p))
+      → Decided (CanBePlacedWith s A n taken p)
   with_decided n taken p rest =
-      both_decided (IsTrue (has (effective_mask s n) p)) ((taken p ≡ false) × CanBePlaced s A n (taken_with taken p)) (has_decided (effective_mask s n) p)
+      both_decided (IsTrue (has (effective_mask s n) p)) ((taken p ≡ false) × CanBePlaced s A n (taken_with taken p))
+      (has_decided (effective_mask s n) p)
       (both_decided (taken p ≡ false) (CanBePlaced s A n (taken_with taken p)) (same_decided (taken p) false) rest)
 
   placed_decided : (n : ℕ) (taken : ℕ → Bool) → Decided (CanBePlaced s A n taken)
-  placed_decided zero taken = inl ((λ t. 0), record { allowed = λ t lt. absurd (omega arith); free = λ t lt. absurd (omega arith); apart = λ t u lt. absurd (omega arith) })
+  placed_decided zero taken = inl (
+    (λ t. 0),
+    record { allowed = λ t lt. absurd (omega arith); free = λ t lt. absurd (omega arith); apart = λ t u lt. absurd (omega arith) },
+  )
   placed_decided (suc n) taken = elim (cases_Bool (A n)) [
-    | inl member ↦ elim (exists_below (CanBePlacedWith s A n taken) (λ p. with_decided n taken p (placed_decided n (taken_with taken p))) s.processors) [
-      | inl found ↦ inl (placed_with s A n taken found.0 found.2)
-      | inr none ↦ inr (λ h. none (h.0 n, effective_mask_below s ok n (h.0 n) (h.1.allowed n (omega arith) member), placed_apart s A n taken member h))
-    ]
+    | inl member ↦ elim (exists_below (CanBePlacedWith s A n taken) (λ p. with_decided n taken p (placed_decided n (taken_with taken p)))
+        s.processors) [
+          | inl found ↦ inl (placed_with s A n taken found.0 found.2)
+          | inr none ↦ inr (λ h. none (
+            h.0 n,
+            effective_mask_below s ok n (h.0 n) (h.1.allowed n (omega arith) member),
+            placed_apart s A n taken member h,
+          ))
+        ]
     | inr out ↦ elim (placed_decided n taken) [
       | inl h ↦ inl (placed_without s A n taken out h)
       | inr fails ↦ inr (λ h. fails (placed_less s A n taken h))
@@ -238,7 +253,8 @@ module _ (s : State) (ok : IsState s) (R : TaskTest) (number : (t : ℕ) → R t
         refused = λ u inside' lt out B placed has_u keeps.
             let parts = or_parts (A u) _ out in
             let ne : u ≢ t = λ e. true≢false (sym (eq-eqb u t e) ∙ parts.1) in
-            admitted.refused u inside' (before_bound u inside' lt ne) parts.0 B placed has_u (λ v member more. keeps v (or_left (A v) _ member) more);
+            admitted.refused u inside' (before_bound u inside' lt ne) parts.0 B placed has_u
+            (λ v member more. keeps v (or_left (A v) _ member) more);
       }
 
       left_out : (IsPlaceable s with_t → ⊥) → AreAdmitted (suc bound) A
@@ -263,29 +279,41 @@ module _ (s : State) (ok : IsState s) (R : TaskTest) (number : (t : ℕ) → R t
     (λ t. false),
     record {
       subset = λ t member. absurd (true≢false (sym member));
-      placeable = ((λ t. 0), record { allowed = λ t member. absurd (true≢false (sym member)); apart = λ t u member. absurd (true≢false (sym member)) });
+      placeable = (
+        (λ t. 0),
+        record {
+          allowed = λ t member. absurd (true≢false (sym member));
+          apart = λ t u member. absurd (true≢false (sym member));
+        },
+      );
       urgent = λ t member. absurd (true≢false (sym member));
       refused = λ t inside lt. absurd (omega arith);
     },
   )
-  admit_all (suc bound) = go (admit_all bound) (exists_below (HasPriority bound) (λ t. both_decided (R t ≡ true) (priority_of s t ≡ bound) (same_decided (R t) true) (equal_decided (priority_of s t) bound)) (task_count s))
+  admit_all (suc bound) = go (admit_all bound)
+      (exists_below (HasPriority bound) (λ t. both_decided (R t ≡ true) (priority_of s t ≡ bound) (same_decided (R t) true)
+      (equal_decided (priority_of s t) bound)) (task_count s))
     where
-      go : (A : TaskTest) × AreAdmitted bound A → Decided ((t : ℕ) × (t < task_count s) × HasPriority bound t) → (A : TaskTest) × AreAdmitted (suc bound) A
+      go : (A : TaskTest) × AreAdmitted bound A → Decided ((t : ℕ) × (t < task_count s) × HasPriority bound t)
+          → (A : TaskTest) × AreAdmitted (suc bound) A
       go (A, admitted) (inr none) = (A, none_more bound A admitted none)
-      go (A, admitted) (inl (t, lt, (inside, at))) = elim (placeable_decided s ok (with_t bound A admitted t inside at) (λ u member. number u (with_subset bound A admitted t inside at u member))) [
-        | inl placeable ↦ (with_t bound A admitted t inside at, one_more bound A admitted t inside at placeable)
-        | inr fails ↦ (A, left_out bound A admitted t inside at fails)
-      ]
+      go (A, admitted) (inl (t, lt, (inside, at))) = elim (placeable_decided s ok (with_t bound A admitted t inside at)
+          (λ u member. number u (with_subset bound A admitted t inside at u member))) [
+            | inl placeable ↦ (with_t bound A admitted t inside at, one_more bound A admitted t inside at placeable)
+            | inr fails ↦ (A, left_out bound A admitted t inside at fails)
+          ]
 
   -- once all were, nobody better is left
-  IsBest-admitted : (bound : ℕ) → ((t : ℕ) → t < task_count s → priority_of s t < bound) → (A : TaskTest) → AreAdmitted bound A → IsBest s R A
+  IsBest-admitted : (bound : ℕ) → ((t : ℕ) → t < task_count s → priority_of s t < bound) → (A : TaskTest) → AreAdmitted bound A
+      → IsBest s R A
   IsBest-admitted bound late A admitted = record {
     subset = admitted.subset;
     placeable = admitted.placeable;
     none_better = λ B within placed better.
         let t = better.task in
         let inside = within t better.in_first in
-        admitted.refused t inside (late t (number t inside)) better.not_in_second B placed better.in_first (λ u member more. elim (cases_Bool (B u)) [
+        admitted.refused t inside (late t (number t inside)) better.not_in_second B placed better.in_first
+        (λ u member more. elim (cases_Bool (B u)) [
           | inl there ↦ there
           | inr out ↦ absurd (let le = better.most_urgent u (λ e. true≢false (sym member ∙ sym e ∙ out)) in omega arith)
         ]);

@@ -1,5 +1,7 @@
 -- Contexts that catch up with the links, processor by processor.
-use Rattle.std.proofs.Common.{◌≡◌, ◌≢◌, ℕ, ◌<◌, Bool, true, false, not, cond, ◌&&◌, ◌⊎◌, List, [], ◌∷◌, ◌++◌, length, get_or, set, Option, Some, None, refl, sym, ap, ◌∙◌, inl, inr, arith, if◌then◌else◌, length-set, get_or-set_same, get_or-set_other, nat_eq, eq-eqb, eqb-true}
+use Rattle.std.proofs.Common.{◌≡◌, ◌≢◌, ℕ, ◌<◌, Bool, true, false, not, cond, ◌&&◌, ◌⊎◌, List, [], ◌∷◌, ◌++◌, length, get_or, set, Option}
+use Rattle.std.proofs.Common.{Some, None, refl, sym, ap, ◌∙◌, inl, inr, arith, if◌then◌else◌, length-set, get_or-set_same, get_or-set_other}
+use Rattle.std.proofs.Common.{nat_eq, eq-eqb, eqb-true}
 use Rattle.std.specs.Option.{option_eq}
 use Rattle.std.proofs.lemmas.Bool.{cases_Bool, cases_eq, and_parts, false_from_ne_true, false≢true, not-true, true≢false}
 use Rattle.std.proofs.lemmas.List.Elements.{Contains-append_cases}
@@ -14,13 +16,15 @@ use Rattle.reach_certificate.specs.Contexts.{ContextsData, context_after_takes, 
 use Rattle.reach_certificate.proofs.Alone.{contains_one, passes_nowhere, passes_alone}
 
 -- ---- what becomes of each context
-pub EachBecomes-then : (first second whole : ℕ → Context → Context) → ((t : ℕ) (c : Context) → second t (first t c) ≡ whole t c) → (old mid new : List Context) → EachBecomes first old mid → EachBecomes second mid new → EachBecomes whole old new
+pub EachBecomes-then : (first second whole : ℕ → Context → Context) → ((t : ℕ) (c : Context) → second t (first t c) ≡ whole t c)
+    → (old mid new : List Context) → EachBecomes first old mid → EachBecomes second mid new → EachBecomes whole old new
 EachBecomes-then first second whole same old mid new one other = record {
   count = other.count ∙ one.count;
   each = λ t d fits. other.each t d (rw one.count fits) ∙ ap (second t) (one.each t d fits) ∙ same t (get_or old t d);
 }
 
-pub EachBecomes-same : (first second : ℕ → Context → Context) → ((t : ℕ) (c : Context) → first t c ≡ second t c) → (old new : List Context) → EachBecomes first old new → EachBecomes second old new
+pub EachBecomes-same : (first second : ℕ → Context → Context) → ((t : ℕ) (c : Context) → first t c ≡ second t c) → (old new : List Context)
+    → EachBecomes first old new → EachBecomes second old new
 EachBecomes-same first second same old new becomes = record {
   count = becomes.count;
   each = λ t d fits. becomes.each t d fits ∙ same t (get_or old t d);
@@ -66,7 +70,8 @@ module _ (s : State) (ok : IsState s) where
       ]
 
   -- whoever is linked where it is held stays held
-  stays_held : (first second : List (Option ℕ)) → Either first second → (t p : ℕ) → task_on s p ≡ Some t → is_task t (get_or first p None) ≡ true → is_task t (get_or second p None) ≡ true
+  stays_held : (first second : List (Option ℕ)) → Either first second → (t p : ℕ) → task_on s p ≡ Some t → is_task t (get_or first p None)
+      ≡ true → is_task t (get_or second p None) ≡ true
   stays_held first second either t p on held = elim (either p) [
     | inl stays ↦ ap (is_task t) stays ∙ held
     | inr now ↦ ap (is_task t) (now ∙ on) ∙ is_task-same t
@@ -81,15 +86,20 @@ module _ (s : State) (ok : IsState s) where
     ]
   ]
 
-  taken_alone : (first second : List (Option ℕ)) → Either first second → length first ≡ s.processors → (t p : ℕ) → task_on s p ≡ Some t → taken_among first second t ≡ cond (is_new first second t p) (p ∷ []) []
+  taken_alone : (first second : List (Option ℕ)) → Either first second → length first ≡ s.processors → (t p : ℕ) → task_on s p ≡ Some t
+      → taken_among first second t ≡ cond (is_new first second t p) (p ∷ []) []
   taken_alone first second either count t p on =
-      passes_alone (is_new first second t) (length first) p (let below = occupied_number s p t ok on in omega arith) (λ q h. ok.once q p t (new_linked first second either t q h) on)
+      passes_alone (is_new first second t) (length first) p (let below = occupied_number s p t ok on in omega arith)
+      (λ q h. ok.once q p t (new_linked first second either t q h) on)
 
-  taken_unlinked : (first second : List (Option ℕ)) → Either first second → (t : ℕ) → is_linked s t ≡ false → taken_among first second t ≡ []
+  taken_unlinked : (first second : List (Option ℕ)) → Either first second → (t : ℕ) → is_linked s t ≡ false
+      → taken_among first second t ≡ []
   taken_unlinked first second either t free =
-      passes_nowhere (is_new first second t) (length first) (λ q. false_from_ne_true (is_new first second t q) (λ h. not_on s q t free (new_linked first second either t q h)))
+      passes_nowhere (is_new first second t) (length first)
+      (λ q. false_from_ne_true (is_new first second t q) (λ h. not_on s q t free (new_linked first second either t q h)))
 
-  once_in_all : (a b c : Bool) (x : ℕ) → (a ≡ true → b ≡ true) → (b ≡ true → c ≡ true) → cond (b && not a) (x ∷ []) [] ++ cond (c && not b) (x ∷ []) [] ≡ cond (c && not a) (x ∷ []) []
+  once_in_all : (a b c : Bool) (x : ℕ) → (a ≡ true → b ≡ true) → (b ≡ true → c ≡ true)
+      → cond (b && not a) (x ∷ []) [] ++ cond (c && not b) (x ∷ []) [] ≡ cond (c && not a) (x ∷ []) []
   once_in_all true true true x ab bc = refl
   once_in_all true true false x ab bc = absurd (false≢true (bc refl))
   once_in_all true false c x ab bc = absurd (false≢true (ab refl))
@@ -98,19 +108,29 @@ module _ (s : State) (ok : IsState s) where
   once_in_all false false true x ab bc = refl
   once_in_all false false false x ab bc = refl
 
-  taken_then : (first second third : List (Option ℕ)) → Either first second → Either second third → length first ≡ s.processors → length second ≡ s.processors → (t : ℕ) → taken_among first second t ++ taken_among second third t ≡ taken_among first third t
+  taken_then : (first second third : List (Option ℕ)) → Either first second → Either second third → length first ≡ s.processors
+      → length second ≡ s.processors → (t : ℕ) → taken_among first second t ++ taken_among second third t ≡ taken_among first third t
   taken_then first second third one other count same t = elim (cases_Bool (is_linked s t)) [
-    | inr free ↦ rw (taken_unlinked first second one t free, taken_unlinked second third other t free, taken_unlinked first third (either_then first second third one other) t free) refl
+    | inr free ↦ rw (
+      taken_unlinked first second one t free,
+      taken_unlinked second third other t free,
+      taken_unlinked first third (either_then first second third one other) t free,
+    ) refl
     | inl linked ↦
         let p = place_in t s.on in
         let on = task_on-linked s t linked in
-        rw (taken_alone first second one count t p on, taken_alone second third other same t p on, taken_alone first third (either_then first second third one other) count t p on)
+        rw (
+          taken_alone first second one count t p on,
+          taken_alone second third other same t p on,
+          taken_alone first third (either_then first second third one other) count t p on,
+        )
         (once_in_all (is_task t (get_or first p None)) (is_task t (get_or second p None)) (is_task t (get_or third p None)) p
         (stays_held first second one t p on) (stays_held second third other t p on))
   ]
 
   -- ---- some processors, and then others
-  pub caught_up-then : (xs ys : List ℕ) (a b c : ContextsData) → length a.held ≡ s.processors → HaveCaughtUp s xs a b → HaveCaughtUp s ys b c → HaveCaughtUp s (xs ++ ys) a c
+  pub caught_up-then : (xs ys : List ℕ) (a b c : ContextsData) → length a.held ≡ s.processors → HaveCaughtUp s xs a b
+      → HaveCaughtUp s ys b c → HaveCaughtUp s (xs ++ ys) a c
   caught_up-then xs ys a b c count one other = record {
     count = other.count ∙ one.count;
     there = λ p contains. elim (Contains-append_cases xs ys p contains) [
@@ -123,7 +143,8 @@ module _ (s : State) (ok : IsState s) where
     either = either_then a.held b.held c.held one.either other.either;
     each = EachBecomes-then _ _ _ (λ t x.
         sym (fold-append context_after_take x (taken_among a.held b.held t) (taken_among b.held c.held t))
-        ∙ ap (context_after_takes x) (taken_then a.held b.held c.held one.either other.either count (one.count ∙ count) t)) a.each b.each c.each one.each other.each;
+        ∙ ap (context_after_takes x) (taken_then a.held b.held c.held one.either other.either count (one.count ∙ count) t))
+        a.each b.each c.each one.each other.each;
   }
 
 -- ---- no processor, and one
@@ -145,7 +166,8 @@ caught_up-still s p a still = record {
 }
 
 -- another one is linked
-module _ (s : State) (p : ℕ) (linked : Option ℕ) (a b : ContextsData) (below : p < length a.held) (on : linked ≡ task_on s p) (differs : linked ≢ get_or a.held p None) (writes : b.held ≡ set a.held p linked) where
+module _ (s : State) (p : ℕ) (linked : Option ℕ) (a b : ContextsData) (below : p < length a.held) (on : linked ≡ task_on s p)
+    (differs : linked ≢ get_or a.held p None) (writes : b.held ≡ set a.held p linked) where
   here : get_or b.held p None ≡ linked
   here = ap (λ (xs : List (Option ℕ)). get_or xs p None) writes ∙ get_or-set_same a.held p linked None below
 
@@ -158,7 +180,8 @@ module _ (s : State) (p : ℕ) (linked : Option ℕ) (a b : ContextsData) (below
   came_alone : (t q : ℕ) → came t q ≡ true → q ≡ p
   came_alone t q h = elim (cases_eq q p) [
     | inl same ↦ same
-    | inr other ↦ absurd (true≢false (sym h ∙ ap (λ (o : Option ℕ). is_task t o && not (is_task t (get_or a.held q None))) (elsewhere q other) ∙ itself_not_new (is_task t (get_or a.held q None))))
+    | inr other ↦ absurd (true≢false (sym h ∙ ap (λ (o : Option ℕ). is_task t o && not (is_task t (get_or a.held q None)))
+        (elsewhere q other) ∙ itself_not_new (is_task t (get_or a.held q None))))
   ]
 
   came_here : (t : ℕ) → came t p ≡ is_task t linked
@@ -166,19 +189,22 @@ module _ (s : State) (p : ℕ) (linked : Option ℕ) (a b : ContextsData) (below
     where
       anew : (b : Bool) → is_task t linked ≡ b → (b && not (is_task t (get_or a.held p None))) ≡ b
       anew false is = refl
-      anew true is = ap not (false_from_ne_true (is_task t (get_or a.held p None)) (λ h. differs (is_task-true t linked is ∙ sym (is_task-true t (get_or a.held p None) h))))
+      anew true is = ap not (false_from_ne_true (is_task t (get_or a.held p None))
+          (λ h. differs (is_task-true t linked is ∙ sym (is_task-true t (get_or a.held p None) h))))
 
   taken_here : (t : ℕ) → taken_among a.held b.held t ≡ cond (is_task t linked) (p ∷ []) []
   taken_here t = passes_alone (came t) (length a.held) p below (came_alone t) ∙ ap (λ v. cond v (p ∷ []) []) (came_here t)
 
-  takes_here : (t : ℕ) (c : Context) → (if is_task t linked then context_after_take c p else c) ≡ context_after_takes c (taken_among a.held b.held t)
+  takes_here : (t : ℕ) (c : Context) → (if is_task t linked then context_after_take c p else c)
+      ≡ context_after_takes c (taken_among a.held b.held t)
   takes_here t c = whether (is_task t linked) ∙ sym (ap (context_after_takes c) (taken_here t))
     where
       whether : (v : Bool) → (if v then context_after_take c p else c) ≡ context_after_takes c (cond v (p ∷ []) [])
       whether true = refl
       whether false = refl
 
-  pub caught_up-one : EachBecomes (λ t c. if is_task t linked then context_after_take c p else c) a.each b.each → HaveCaughtUp s (p ∷ []) a b
+  pub caught_up-one : EachBecomes (λ t c. if is_task t linked then context_after_take c p else c) a.each b.each
+      → HaveCaughtUp s (p ∷ []) a b
   caught_up-one takes = record {
     count = ap length writes ∙ length-set a.held p linked;
     there = λ q contains. rw (contains_one p q contains) (here ∙ on);

@@ -23,11 +23,13 @@ misfit_unique Fits count i j one other = elim (cases_eq i j) [
 ]
 
 -- ---- paths, step by step
-pub path_of : (Step : ℕ → ℕ → Type 0) (x : ℕ) (rest : List ℕ) → ((k : ℕ) → k < length rest → Step (get_or (x ∷ rest) k 0) (get_or rest k 0)) → IsPath Step x rest (get_or (x ∷ rest) (length rest) 0)
+pub path_of : (Step : ℕ → ℕ → Type 0) (x : ℕ) (rest : List ℕ) → ((k : ℕ) → k < length rest → Step (get_or (x ∷ rest) k 0) (get_or rest k 0))
+    → IsPath Step x rest (get_or (x ∷ rest) (length rest) 0)
 path_of Step x [] steps = refl
 path_of Step x (r ∷ rest) steps = (steps 0 (omega arith), path_of Step r rest (λ k lt. steps (suc k) (omega arith)))
 
-pub step_of : (Step : ℕ → ℕ → Type 0) (x : ℕ) (rest : List ℕ) (q : ℕ) → IsPath Step x rest q → (k : ℕ) → k < length rest → Step (get_or (x ∷ rest) k 0) (get_or rest k 0)
+pub step_of : (Step : ℕ → ℕ → Type 0) (x : ℕ) (rest : List ℕ) (q : ℕ) → IsPath Step x rest q → (k : ℕ) → k < length rest
+    → Step (get_or (x ∷ rest) k 0) (get_or rest k 0)
 step_of Step x [] q path k lt = absurd (omega arith)
 step_of Step x (r ∷ rest) q path zero lt = path.0
 step_of Step x (r ∷ rest) q path (suc k) lt = step_of Step r rest q path.1 k (omega arith)
@@ -36,7 +38,8 @@ path_end : (Step : ℕ → ℕ → Type 0) (x : ℕ) (rest : List ℕ) (q : ℕ)
 path_end Step x [] q path = path
 path_end Step x (r ∷ rest) q path = path_end Step r rest q path.1
 
-pub path_map : (Step Other : ℕ → ℕ → Type 0) → ((a b : ℕ) → Step a b → Other a b) → (x : ℕ) (rest : List ℕ) (q : ℕ) → IsPath Step x rest q → IsPath Other x rest q
+pub path_map : (Step Other : ℕ → ℕ → Type 0) → ((a b : ℕ) → Step a b → Other a b) → (x : ℕ) (rest : List ℕ) (q : ℕ) → IsPath Step x rest q
+    → IsPath Other x rest q
 path_map Step Other each x [] q path = path
 path_map Step Other each x (r ∷ rest) q path = (each x r path.0, path_map Step Other each r rest q path.1)
 
@@ -62,7 +65,8 @@ module _ (s : State) (Begins : ℕ → Type 0) (Follows : ℕ → ℕ → Type 0
     fit_begins = (all 0 (inl refl)).first refl
 
     pub fit_path : IsPath Follows x rest (last_processor (x ∷ rest))
-    fit_path = subst (λ (q : ℕ). IsPath Follows x rest q) (sym (last_at x rest)) (path_of Follows x rest (λ k lt. (all (suc k) (inr (omega arith))).next k (omega arith)))
+    fit_path = subst (λ (q : ℕ). IsPath Follows x rest q) (sym (last_at x rest))
+        (path_of Follows x rest (λ k lt. (all (suc k) (inr (omega arith))).next k (omega arith)))
 
     pub fit_ends : Ends (last_processor (x ∷ rest))
     fit_ends = subst Ends (sym (last_at x rest)) ((all (length rest) (inr (omega arith))).last (omega arith))
@@ -71,15 +75,18 @@ module _ (s : State) (Begins : ℕ → Type 0) (Follows : ℕ → ℕ → Type 0
     fit_last_below = subst (λ (q : ℕ). q < s.processors) (sym (last_at x rest)) (all (length rest) (inr (omega arith))).below
 
   -- a path of processors in which none stands twice
-  module _ (x : ℕ) (rest : List ℕ) (q : ℕ) (begins : Begins x) (path : IsPath Follows x rest q) (ends : Ends q) (simple : IsSimple (x ∷ rest)) (below : (i : ℕ) → i < length (x ∷ rest) → get_or (x ∷ rest) i 0 < s.processors) where
+  module _ (x : ℕ) (rest : List ℕ) (q : ℕ) (begins : Begins x) (path : IsPath Follows x rest q) (ends : Ends q)
+      (simple : IsSimple (x ∷ rest)) (below : (i : ℕ) → i < length (x ∷ rest) → get_or (x ∷ rest) i 0 < s.processors) where
     at_place : (i : ℕ) → i < length (x ∷ rest) → FitsAt s Begins Follows Ends (x ∷ rest) i
     at_place i there = record {
       there = there;
       below = below i there;
       once = λ k lt. simple k i 0 lt there;
       first = λ e. subst (λ (n : ℕ). Begins (get_or (x ∷ rest) n 0)) (sym e) begins;
-      next = λ k e. let e' : i ≡ suc k = omega arith in subst (λ (n : ℕ). Follows (get_or (x ∷ rest) k 0) (get_or (x ∷ rest) n 0)) (sym e') (step_of Follows x rest q path k (omega arith));
-      last = λ e. let e' : i ≡ length rest = omega arith in subst Ends (sym (ap (λ (n : ℕ). get_or (x ∷ rest) n 0) e' ∙ path_end Follows x rest q path)) ends;
+      next = λ k e. let e' : i ≡ suc k = omega arith in subst (λ (n : ℕ). Follows (get_or (x ∷ rest) k 0) (get_or (x ∷ rest) n 0)) (sym e')
+          (step_of Follows x rest q path k (omega arith));
+      last = λ e. let e' : i ≡ length rest = omega arith in
+          subst Ends (sym (ap (λ (n : ℕ). get_or (x ∷ rest) n 0) e' ∙ path_end Follows x rest q path)) ends;
     }
 
     pub all_places_fit : AllFit (FitsAt s Begins Follows Ends (x ∷ rest)) (length (x ∷ rest))

@@ -14,7 +14,8 @@ use Rattle.strong_apa.specs.declared.reply.Moved.{Moved}
 use Rattle.strong_apa.specs.declared.reply.Reply.{Reply}
 use Rattle.strong_apa.specs.declared.reply.Reply.TheVariants.{Masked, Remasked, AlreadyOff, AlreadyOn, Off, On}
 use Rattle.strong_apa.specs.Reply.{reply_of_came, came_sets, sets_of}
-use Rattle.strong_apa.specs.State.{State, IsState, is_ready, is_linked, task_count, task_on, state_with_mask, state_with_online, state_with_offline, state_after_leaving}
+use Rattle.strong_apa.specs.State.{State, IsState, is_ready, is_linked, task_count, task_on, state_with_mask, state_with_online}
+use Rattle.strong_apa.specs.State.{state_with_offline, state_after_leaving}
 use Rattle.strong_apa.specs.History.{state_after_left}
 use Rattle.strong_apa.proofs.Changes.{IsState-state_with_online}
 use Rattle.strong_apa.proofs.Leaving.{IsState-state_after_leaving}
@@ -24,7 +25,8 @@ use Rattle.strong_apa.proofs.Masks.{effective_mask_online}
 use Rattle.strong_apa.proofs.Steps.{IsState-moved, IsState-remasked}
 use Rattle.strong_apa.specs.Passing.{CamePasses, LeavingPasses, AffinityPasses, OfflinePasses, OnlinePasses}
 use Rattle.strong_apa.proofs.KeptStates.{left_by_passing}
-use Rattle.reach_certificate.specs.Defect.{processor_count, IsVacatedDefect, IsLeavingDefect, IsReturnDefect, IsOfProcessors, IsAllowedToAffinity, IsAllowedToOffline, IsReplyDefect}
+use Rattle.reach_certificate.specs.Defect.{processor_count, IsVacatedDefect, IsLeavingDefect, IsReturnDefect, HasSetsOfProcessors}
+use Rattle.reach_certificate.specs.Defect.{IsAllowedToAffinity, IsAllowedToOffline, IsReplyDefect}
 use Rattle.reach_certificate.specs.Returning.{IsLeaving}
 use Rattle.reach_certificate.specs.declared.defect.Defect.{Defect}
 use Rattle.reach_certificate.specs.declared.defect.Defect.TheVariants.{WrongReply}
@@ -40,17 +42,17 @@ same_sets : (c : Came) → came_sets c ≡ sets_of (reply_of_came c)
 same_sets (came.Placed chain) = refl
 same_sets _ = refl
 
-came_small : (c : Came) → All IsSmall (came_sets c) → IsOfProcessors (reply_of_came c)
+came_small : (c : Came) → All IsSmall (came_sets c) → HasSetsOfProcessors (reply_of_came c)
 came_small c small = subst (All IsSmall) (same_sets c) small
 
-moved_small : (moved : Moved) → IsOfProcessors (Off (Some moved)) → IsOfProcessors (reply_of_came moved.came)
+moved_small : (moved : Moved) → HasSetsOfProcessors (Off (Some moved)) → HasSetsOfProcessors (reply_of_came moved.came)
 moved_small moved small = came_small moved.came small
 
-returned_small : (gone : Option Gone) (c : Came) → IsOfProcessors (Remasked gone c) → IsOfProcessors (reply_of_came c)
+returned_small : (gone : Option Gone) (c : Came) → HasSetsOfProcessors (Remasked gone c) → HasSetsOfProcessors (reply_of_came c)
 returned_small None c small = came_small c small
 returned_small (Some gone) c small = came_small c (All-tail IsSmall gone.back (came_sets c) small)
 
-left_small : (gone : Gone) (c : Came) → IsOfProcessors (Remasked (Some gone) c) → IsSmall gone.back
+left_small : (gone : Gone) (c : Came) → HasSetsOfProcessors (Remasked (Some gone) c) → IsSmall gone.back
 left_small gone c small = All-head IsSmall gone.back (came_sets c) small
 
 -- ---- what a reply says
@@ -66,7 +68,8 @@ already_on_decided : (reply : Reply) → Decided (reply ≡ AlreadyOn)
 already_on_decided AlreadyOn = inl refl
 already_on_decided _ = inr (λ e. cc)
 
-remasked_decided : (reply : Reply) → ((gone : Option Gone) × (c : Came) × (reply ≡ Remasked gone c)) ⊎ ((gone : Option Gone) (c : Came) → reply ≡ Remasked gone c → ⊥)
+remasked_decided : (reply : Reply) → ((gone : Option Gone) × (c : Came) × (reply ≡ Remasked gone c))
+    ⊎ ((gone : Option Gone) (c : Came) → reply ≡ Remasked gone c → ⊥)
 remasked_decided (Remasked gone c) = inl (gone, c, refl)
 remasked_decided _ = inr (λ gone c e. cc)
 
@@ -94,7 +97,8 @@ same_task_decided (Some t) (Some u) = elim (cases_eq t u) [
 
 -- ---- a task leaves
 module _ (s : State) (ok : IsState s) (t : ℕ) where
-  pub vacated_judged : is_linked s t ≡ true → (gone : Gone) → IsSmall gone.back → LeavingPasses s t (Some gone) ⊎ ((defect : Defect) × IsVacatedDefect s t gone defect)
+  pub vacated_judged : is_linked s t ≡ true → (gone : Gone) → IsSmall gone.back
+      → LeavingPasses s t (Some gone) ⊎ ((defect : Defect) × IsVacatedDefect s t gone defect)
   vacated_judged linked gone small =
       let p = place_in t s.on in
       let on = task_on-linked s t linked in
@@ -105,22 +109,26 @@ module _ (s : State) (ok : IsState s) (t : ℕ) where
         | inr bad ↦ inr (bad.0, (p, on, bad.1))
       ]
 
-  leaving_judged : (gone : Option Gone) (c : Came) → IsLeaving s t gone → IsOfProcessors (Remasked gone c) → LeavingPasses s t gone ⊎ ((defect : Defect) × IsLeavingDefect s t gone defect)
+  leaving_judged : (gone : Option Gone) (c : Came) → IsLeaving s t gone → HasSetsOfProcessors (Remasked gone c)
+      → LeavingPasses s t gone ⊎ ((defect : Defect) × IsLeavingDefect s t gone defect)
   leaving_judged None c waits small = inl waits
   leaving_judged (Some gone) c linked small = vacated_judged linked gone (left_small gone c small)
 
 -- ---- a mask changes
 -- of a task that is absent nothing but that may be said
-pub masked_alone : (s : State) → IsState s → (t : ℕ) (reply : Reply) → is_ready s t ≡ false → (reply ≡ Masked → ⊥) → IsAllowedToAffinity s t reply → ⊥
+pub masked_alone : (s : State) → IsState s → (t : ℕ) (reply : Reply) → is_ready s t ≡ false → (reply ≡ Masked → ⊥)
+    → IsAllowedToAffinity s t reply → ⊥
 masked_alone s ok t reply absent other (inl masked) = other masked.1
 masked_alone s ok t reply absent other (inr (inl waits)) = true≢false (sym waits.0.ready ∙ absent)
-masked_alone s ok t reply absent other (inr (inr linked)) = true≢false (sym (ok.linked_ready (place_in t s.on) t (task_on-linked s t linked.0)) ∙ absent)
+masked_alone s ok t reply absent other (inr (inr linked)) =
+    true≢false (sym (ok.linked_ready (place_in t s.on) t (task_on-linked s t linked.0)) ∙ absent)
 
 module _ (s : State) (ok : IsState s) (t mask : ℕ) (number : t < task_count s) (lawful : IsMask s.processors mask) where
   abbrev back : Option Gone → State
   back gone = state_with_mask (state_after_left s t gone) t mask
 
-  returned_judged : (gone : Option Gone) (c : Came) → IsLeaving s t gone → IsOfProcessors (Remasked gone c) → (LeavingPasses s t gone × CamePasses (back gone) t c) ⊎ ((defect : Defect) × IsReturnDefect s t mask gone c defect)
+  returned_judged : (gone : Option Gone) (c : Came) → IsLeaving s t gone → HasSetsOfProcessors (Remasked gone c)
+      → (LeavingPasses s t gone × CamePasses (back gone) t c) ⊎ ((defect : Defect) × IsReturnDefect s t mask gone c defect)
   returned_judged gone c leaves small = elim (leaving_judged s ok t gone c leaves small) [
     | inr bad ↦ inr (bad.0, inl bad.1)
     | inl passes ↦
@@ -131,7 +139,7 @@ module _ (s : State) (ok : IsState s) (t mask : ℕ) (number : t < task_count s)
         ]
   ]
 
-  module _ (reply : Reply) (small : IsOfProcessors reply) where
+  module _ (reply : Reply) (small : HasSetsOfProcessors reply) where
     abbrev Judged : Type 0
     Judged = AffinityPasses s t mask reply ⊎ ((defect : Defect) × IsReplyDefect s (Affinity t mask) reply defect)
 
@@ -140,7 +148,7 @@ module _ (s : State) (ok : IsState s) (t mask : ℕ) (number : t < task_count s)
     masked_absent absent (inr other) = inr (WrongReply, inl (refl, masked_alone s ok t reply absent other))
 
     said_leaving : (gone : Option Gone) (c : Came) → reply ≡ Remasked gone c → IsLeaving s t gone → Judged
-    said_leaving gone c said leaves = elim (returned_judged gone c leaves (subst IsOfProcessors said small)) [
+    said_leaving gone c said leaves = elim (returned_judged gone c leaves (subst HasSetsOfProcessors said small)) [
       | inl passes ↦ inl (inr record { gone = gone; came = c; answer = said; leaves = passes.0; passes = passes.1 })
       | inr bad ↦ inr (bad.0, inr (gone, c, said, bad.1))
     ]
@@ -178,7 +186,8 @@ module _ (s : State) (ok : IsState s) (t mask : ℕ) (number : t < task_count s)
         | inr other ↦ remasked_wrong ready (λ gone c said leaves. other gone c said)
         | inl said ↦ elim (leaving_decided ready said.0) [
           | inl leaves ↦ said_leaving said.0 said.1 said.2 leaves
-          | inr not_so ↦ remasked_wrong ready (λ gone c e leaves. not_so (subst (IsLeaving s t) (same_gone gone said.0 c said.1 (sym e ∙ said.2)) leaves))
+          | inr not_so ↦ remasked_wrong ready (λ gone c e leaves. not_so
+              (subst (IsLeaving s t) (same_gone gone said.0 c said.1 (sym e ∙ said.2)) leaves))
         ]
       ]
     ]
@@ -188,12 +197,14 @@ module _ (s : State) (ok : IsState s) (t mask : ℕ) (number : t < task_count s)
 
 -- ---- a processor goes off line
 -- of one that is off line nothing but that may be said
-pub off_alone : (s : State) → IsState s → (p : ℕ) (reply : Reply) → has s.online p ≡ false → (reply ≡ AlreadyOff → ⊥) → IsAllowedToOffline s p reply → ⊥
+pub off_alone : (s : State) → IsState s → (p : ℕ) (reply : Reply) → has s.online p ≡ false → (reply ≡ AlreadyOff → ⊥)
+    → IsAllowedToOffline s p reply → ⊥
 off_alone s ok p reply off other (inl again) = other again.1
 off_alone s ok p reply off other (inr (inl idle)) = true≢false (sym idle.0.0 ∙ off)
-off_alone s ok p reply off other (inr (inr moved)) = true≢false (sym (effective_mask_online s moved.0.task p (ok.allowed p moved.0.task moved.2)) ∙ off)
+off_alone s ok p reply off other (inr (inr moved)) =
+    true≢false (sym (effective_mask_online s moved.0.task p (ok.allowed p moved.0.task moved.2)) ∙ off)
 
-module _ (s : State) (ok : IsState s) (p : ℕ) (reply : Reply) (small : IsOfProcessors reply) where
+module _ (s : State) (ok : IsState s) (p : ℕ) (reply : Reply) (small : HasSetsOfProcessors reply) where
   abbrev Off_judged : Type 0
   Off_judged = OfflinePasses s p reply ⊎ ((defect : Defect) × IsReplyDefect s (Offline p) reply defect)
 
@@ -223,7 +234,12 @@ module _ (s : State) (ok : IsState s) (p : ℕ) (reply : Reply) (small : IsOfPro
       let away = state_with_offline (state_after_leaving s moved.task) p in
       let away_ok = IsState-moved s ok p moved.task occupied in
       elim (came_judged away away_ok moved.task moved.came) [
-        | inl right ↦ inl (inr (inr record { moved = moved; occupied = occupied; answer = said; passes = came_passes away away_ok moved.task moved.came (moved_small moved (subst IsOfProcessors said small)) right }))
+        | inl right ↦ inl (inr (inr record {
+          moved = moved;
+          occupied = occupied;
+          answer = said;
+          passes = came_passes away away_ok moved.task moved.came (moved_small moved (subst HasSetsOfProcessors said small)) right;
+        }))
         | inr bad ↦ inr (bad.0, inr (moved, said, (occupied, bad.1)))
       ]
 
@@ -243,7 +259,7 @@ module _ (s : State) (ok : IsState s) (p : ℕ) (reply : Reply) (small : IsOfPro
       same_off m n e = cc
 
 -- ---- a processor comes on line
-module _ (s : State) (ok : IsState s) (p : ℕ) (number : p < s.processors) (reply : Reply) (small : IsOfProcessors reply) where
+module _ (s : State) (ok : IsState s) (p : ℕ) (number : p < s.processors) (reply : Reply) (small : HasSetsOfProcessors reply) where
   abbrev On_judged : Type 0
   On_judged = OnlinePasses s p reply ⊎ ((defect : Defect) × IsReplyDefect s (Online p) reply defect)
 
@@ -276,7 +292,13 @@ module _ (s : State) (ok : IsState s) (p : ℕ) (number : p < s.processors) (rep
         let back = state_with_online s p in
         let back_ok = IsState-state_with_online s p ok number in
         elim (gone_judged back back_ok p said.0) [
-          | inl right ↦ inl (inr record { off = off; parts = said.0; answer = said.1; passes = gone_passes back back_ok p number said.0 (only_set said.0.back (subst IsOfProcessors said.1 small)) right })
+          | inl right ↦ inl (inr record {
+            off = off;
+            parts = said.0;
+            answer = said.1;
+            passes = gone_passes back back_ok p number said.0
+                (only_set said.0.back (subst HasSetsOfProcessors said.1 small)) right;
+          })
           | inr bad ↦ inr (bad.0, inr (said.0, said.1, off, bad.1))
         ]
   ]

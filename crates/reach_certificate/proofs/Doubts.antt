@@ -24,7 +24,8 @@ module _ (X Y p : ℕ) (taken : (q : ℕ) → has Y q ≡ (has X q && not (nat_e
   others q ne = taken q ∙ ap (λ b. has X q && not b) (ne_eqb q p ne) ∙ and-true (has X q)
 
   pub left_falls : p < 64 → has X p ≡ true → left_in Y < left_in X
-  left_falls below there = let fewer = count_below-one_more (has X) (has Y) p 64 below there out (λ q lt ne. sym (others q ne)) in omega arith
+  left_falls below there =
+      let fewer = count_below-one_more (has X) (has Y) p 64 below there out (λ q lt ne. sym (others q ne)) in omega arith
 
 -- where none is left, all fit
 pub none_left : (Fits : ℕ → Type 0) (X : ℕ) → OthersFit Fits X → X ≡ empty → AllFit Fits processor_count

@@ -1,5 +1,6 @@
 -- What an arrival came to passes just where its chain, its set and its tasks are right, and so does who came in.
-use Rattle.std.proofs.Common.{◌≡◌, ℕ, zero, suc, ◌<◌, List, [], ◌∷◌, length, get_or, Option, Some, None, refl, sym, ap, ◌∙◌, subst, inl, inr, IsTrue, arith}
+use Rattle.std.proofs.Common.{◌≡◌, ℕ, zero, suc, ◌<◌, List, [], ◌∷◌, length, get_or, Option, Some, None, refl, sym, ap, ◌∙◌, subst, inl}
+use Rattle.std.proofs.Common.{inr, IsTrue, arith}
 use Rattle.std.specs.Prelude.{All}
 use Rattle.std.proofs.lemmas.Bool.{cases_Bool, true≢false, ltb-true}
 use Rattle.std.proofs.lemmas.List.Elements.{All-head}
@@ -19,7 +20,9 @@ use Rattle.strong_apa.proofs.Paths.{Reaches-online}
 use Rattle.strong_apa.proofs.Shifts.{chain_below}
 use Rattle.strong_apa.proofs.Simple.{IsSimple-cons}
 use Rattle.strong_apa.specs.Passing.{PlacedPasses, DisplacedPasses, CamePasses, IsBackClosed, EnteringPasses, GonePasses}
-use Rattle.reach_certificate.specs.Defect.{AllFit, FitsAt, BeginsFor, PlacedFits, MovesBack, FreedFits, ReachFits, BackFits, AgainstFits, IsNoLessUrgent, last_processor, processor_count, EntersRightly, DisplacedIsRight, CameIsRight, GoneIsRight, IsOfProcessors}
+use Rattle.reach_certificate.specs.Defect.{AllFit, FitsAt, BeginsFor, PlacedFits, MovesBack, FreedFits, ReachFits, BackFits, AgainstFits}
+use Rattle.reach_certificate.specs.Defect.{IsNoLessUrgent, last_processor, processor_count, EntersRightly, DisplacedIsRight, CameIsRight}
+use Rattle.reach_certificate.specs.Defect.{GoneIsRight, HasSetsOfProcessors}
 use Rattle.reach_certificate.proofs.ChainPlaces.{path_map, path_last, fit_is_simple, fit_begins, fit_path, fit_ends, all_places_fit}
 
 -- a number of a set of processors is below their count
@@ -36,16 +39,19 @@ module _ (s : State) (ok : IsState s) (t : ℕ) where
   processor_fits q lt = let m = ok.processors in omega arith
 
   -- a chain that fits is a chain of t to the last processor
-  fit_is_chain : (Ends : ℕ → Type 0) (chain : List ℕ) → AllFit (FitsAt s (BeginsFor s t) (CanShift s) Ends chain) (length chain) → IsChainOf s t chain (last_processor chain) × Ends (last_processor chain)
+  fit_is_chain : (Ends : ℕ → Type 0) (chain : List ℕ) → AllFit (FitsAt s (BeginsFor s t) (CanShift s) Ends chain) (length chain)
+      → IsChainOf s t chain (last_processor chain) × Ends (last_processor chain)
   fit_is_chain Ends [] all = let there = (all 0 (inl refl)).there in absurd (omega arith)
   fit_is_chain Ends (x ∷ rest) all = (
     (fit_begins s (BeginsFor s t) (CanShift s) Ends x rest all, fit_path s (BeginsFor s t) (CanShift s) Ends x rest all),
     fit_ends s (BeginsFor s t) (CanShift s) Ends x rest all,
   )
 
-  chain_fits : (Ends : ℕ → Type 0) (chain : List ℕ) (q : ℕ) → IsChainOf s t chain q → Ends q → IsSimple chain → AllFit (FitsAt s (BeginsFor s t) (CanShift s) Ends chain) (length chain)
+  chain_fits : (Ends : ℕ → Type 0) (chain : List ℕ) (q : ℕ) → IsChainOf s t chain q → Ends q → IsSimple chain
+      → AllFit (FitsAt s (BeginsFor s t) (CanShift s) Ends chain) (length chain)
   chain_fits Ends [] q c ends simple = absurd c
-  chain_fits Ends (x ∷ rest) q c ends simple = all_places_fit s (BeginsFor s t) (CanShift s) Ends x rest q c.0 c.1 ends simple (chain_below s ok t (x ∷ rest) q c)
+  chain_fits Ends (x ∷ rest) q c ends simple =
+      all_places_fit s (BeginsFor s t) (CanShift s) Ends x rest q c.0 c.1 ends simple (chain_below s ok t (x ∷ rest) q c)
 
   chain_last : (chain : List ℕ) (q : ℕ) → IsChainOf s t chain q → last_processor chain ≡ q
   chain_last [] q c = absurd c
@@ -77,12 +83,14 @@ module _ (s : State) (ok : IsState s) (t : ℕ) where
     tasks = (displaced_last chain out reach passes, passes.out_less_urgent);
   }
 
-  pub displaced_passes : (chain : List ℕ) (out reach : ℕ) → DisplacedIsRight s t chain out reach → Within reach (all_below processor_count) → DisplacedPasses s t chain out reach
+  pub displaced_passes : (chain : List ℕ) (out reach : ℕ) → DisplacedIsRight s t chain out reach → Within reach (all_below processor_count)
+      → DisplacedPasses s t chain out reach
   displaced_passes chain out reach right small =
       let c = fit_is_chain Occupied chain right.places in
       let d = right.set.0 in
       let same : d ≡ out = same_Some d out (sym right.set.1 ∙ right.tasks.0) in
-      let fits : AllFit (ReachFits s t reach (λ u. IsNoLessUrgent s u out)) processor_count = subst (λ (n : ℕ). AllFit (ReachFits s t reach (λ u. IsNoLessUrgent s u n)) processor_count) same right.set.2 in
+      let fits : AllFit (ReachFits s t reach (λ u. IsNoLessUrgent s u out)) processor_count = subst
+      (λ (n : ℕ). AllFit (ReachFits s t reach (λ u. IsNoLessUrgent s u n)) processor_count) same right.set.2 in
       record {
         ends = (last_processor chain, c.0, right.tasks.0);
         simple = fit_is_simple s (BeginsFor s t) (CanShift s) Occupied chain right.places;
@@ -98,7 +106,8 @@ module _ (s : State) (ok : IsState s) (t : ℕ) where
     held = λ h. let u = certificate.occupied q h in (u.0, u.1, u.3, u.2);
   }
 
-  pub waits_passes : (reach : ℕ) → AllFit (AgainstFits s t reach) processor_count → Within reach (all_below processor_count) → IsCertificate s t reach
+  pub waits_passes : (reach : ℕ) → AllFit (AgainstFits s t reach) processor_count → Within reach (all_below processor_count)
+      → IsCertificate s t reach
   waits_passes reach fits small = record {
     within = λ q h. (fits q (inr (processor_fits q (effective_mask_below s ok t q h)))).mask h;
     occupied = λ q h. let u = (fits q (inr (below_count reach q small h))).held h in (u.0, u.1, u.3, u.2);
@@ -110,7 +119,7 @@ module _ (s : State) (ok : IsState s) (t : ℕ) where
   came_right (Displaced chain out reach) passes = displaced_right chain out reach passes
   came_right (Waits reach) passes = waits_fits reach passes
 
-  pub came_passes : (came : Came) → IsOfProcessors (reply_of_came came) → CameIsRight s t came → CamePasses s t came
+  pub came_passes : (came : Came) → HasSetsOfProcessors (reply_of_came came) → CameIsRight s t came → CamePasses s t came
   came_passes (Placed chain) small right = placed_passes chain right
   came_passes (Displaced chain out reach) small right = displaced_passes chain out reach right (only_set reach small)
   came_passes (Waits reach) small right = waits_passes reach right (only_set reach small)
@@ -120,13 +129,15 @@ module _ (s : State) (ok : IsState s) (p : ℕ) (below_p : p < s.processors) whe
   abbrev StepsBack : ℕ → ℕ → Type 0
   StepsBack a b = CanShift s b a
 
-  back_below : (x : ℕ) (rest : List ℕ) (q : ℕ) → IsPath StepsBack x rest q → x < s.processors → (i : ℕ) → i < length (x ∷ rest) → get_or (x ∷ rest) i 0 < s.processors
+  back_below : (x : ℕ) (rest : List ℕ) (q : ℕ) → IsPath StepsBack x rest q → x < s.processors → (i : ℕ) → i < length (x ∷ rest)
+      → get_or (x ∷ rest) i 0 < s.processors
   back_below x rest q path first zero lt = first
   back_below x [] q path first (suc i) lt = absurd (omega arith)
   back_below x (r ∷ rest) q path first (suc i) lt = back_below r rest q path.1 (occupied_number s r path.0.0 ok path.0.1) i (omega arith)
 
   -- the places of a chain along which w enters
-  entry_fits : (w : ℕ) (chain : List ℕ) (q : ℕ) → IsBackChain s p chain q → IsSimple chain → AllFit (FreedFits s p (Some w) chain) (length chain)
+  entry_fits : (w : ℕ) (chain : List ℕ) (q : ℕ) → IsBackChain s p chain q → IsSimple chain
+      → AllFit (FreedFits s p (Some w) chain) (length chain)
   entry_fits w [] q c simple = absurd c
   entry_fits w (x ∷ rest) q c simple =
       let path : IsPath StepsBack x rest q = subst (λ (y : ℕ). IsPath StepsBack y rest q) (sym c.0) c.1 in
@@ -140,7 +151,8 @@ module _ (s : State) (ok : IsState s) (p : ℕ) (below_p : p < s.processors) whe
       (IsSimple-cons p [] (λ i lt. absurd (omega arith)) (λ i j d lt fits. absurd (omega arith)))
       (λ i lt. subst (λ (n : ℕ). get_or (p ∷ []) n 0 < s.processors) (let e : 0 ≡ i = omega arith in e) below_p))
 
-  pub enters_fits : (entered : Option ℕ) (chain : List ℕ) (back : ℕ) → EnteringPasses s p entered chain back → AllFit (FreedFits s p entered chain) (length chain)
+  pub enters_fits : (entered : Option ℕ) (chain : List ℕ) (back : ℕ) → EnteringPasses s p entered chain back
+      → AllFit (FreedFits s p entered chain) (length chain)
   enters_fits None chain back passes = nobody_fits chain passes.1
   enters_fits (Some w) chain back passes = let end = passes.1 in entry_fits w chain end.0 end.1 passes.2
 
@@ -148,9 +160,11 @@ module _ (s : State) (ok : IsState s) (p : ℕ) (below_p : p < s.processors) whe
   back_last [] q c = absurd c
   back_last (x ∷ rest) q c = path_last StepsBack x rest q (subst (λ (y : ℕ). IsPath StepsBack y rest q) (sym c.0) c.1)
 
-  pub enters_rightly : (entered : Option ℕ) (chain : List ℕ) (back : ℕ) → EnteringPasses s p entered chain back → EntersRightly s entered chain back
+  pub enters_rightly : (entered : Option ℕ) (chain : List ℕ) (back : ℕ) → EnteringPasses s p entered chain back
+      → EntersRightly s entered chain back
   enters_rightly None chain back passes = passes.0
-  enters_rightly (Some w) chain back passes = let end = passes.1 in (passes.0, subst (CanEnterAt s w) (sym (back_last chain end.0 end.1)) end.2)
+  enters_rightly (Some w) chain back passes =
+      let end = passes.1 in (passes.0, subst (CanEnterAt s w) (sym (back_last chain end.0 end.1)) end.2)
 
   -- a chain that fits, where nobody enters, is p alone
   fit_is_alone : (chain : List ℕ) → AllFit (FreedFits s p None chain) (length chain) → chain ≡ p ∷ []
@@ -158,16 +172,19 @@ module _ (s : State) (ok : IsState s) (p : ℕ) (below_p : p < s.processors) whe
   fit_is_alone (x ∷ []) all = ap (λ (y : ℕ). y ∷ []) (fit_begins s (λ y. y ≡ p) (MovesBack s None) (λ y. Unit {0}) x [] all)
   fit_is_alone (x ∷ r ∷ rest) all = let moves = (all 1 (inr (omega arith))).next 0 (omega arith) in absurd (true≢false (sym moves.0))
 
-  fit_is_back_chain : (w : ℕ) (chain : List ℕ) → AllFit (FreedFits s p (Some w) chain) (length chain) → IsBackChain s p chain (last_processor chain)
+  fit_is_back_chain : (w : ℕ) (chain : List ℕ) → AllFit (FreedFits s p (Some w) chain) (length chain)
+      → IsBackChain s p chain (last_processor chain)
   fit_is_back_chain w [] all = let there = (all 0 (inl refl)).there in absurd (omega arith)
   fit_is_back_chain w (x ∷ rest) all =
       let first = fit_begins s (λ y. y ≡ p) (MovesBack s (Some w)) (λ y. Unit {0}) x rest all in (
         first,
         subst (λ (y : ℕ). IsPath StepsBack y rest (last_processor (x ∷ rest))) first
-            (path_map (MovesBack s (Some w)) StepsBack (λ a b step. step.1) x rest (last_processor (x ∷ rest)) (fit_path s (λ y. y ≡ p) (MovesBack s (Some w)) (λ y. Unit {0}) x rest all)),
+            (path_map (MovesBack s (Some w)) StepsBack (λ a b step. step.1) x rest (last_processor (x ∷ rest))
+            (fit_path s (λ y. y ≡ p) (MovesBack s (Some w)) (λ y. Unit {0}) x rest all)),
       )
 
-  pub entry_passes : (entered : Option ℕ) (chain : List ℕ) (back : ℕ) → AllFit (FreedFits s p entered chain) (length chain) → EntersRightly s entered chain back → EnteringPasses s p entered chain back
+  pub entry_passes : (entered : Option ℕ) (chain : List ℕ) (back : ℕ) → AllFit (FreedFits s p entered chain) (length chain)
+      → EntersRightly s entered chain back → EnteringPasses s p entered chain back
   entry_passes None chain back all rightly = (rightly, fit_is_alone chain all)
   entry_passes (Some w) chain back all rightly = (
     rightly.0,
@@ -175,7 +192,8 @@ module _ (s : State) (ok : IsState s) (p : ℕ) (below_p : p < s.processors) whe
     fit_is_simple s (λ y. y ≡ p) (MovesBack s (Some w)) (λ y. Unit {0}) chain all,
   )
 
-  pub back_fits : (back : ℕ) → IsTrue (has back p) → ((q : ℕ) → IsTrue (has back q) → q < s.processors) → IsBackClosed s back → AllFit (BackFits s p back) processor_count
+  pub back_fits : (back : ℕ) → IsTrue (has back p) → ((q : ℕ) → IsTrue (has back q) → q < s.processors) → IsBackClosed s back
+      → AllFit (BackFits s p back) processor_count
   back_fits back has_p below closed q looked_at = record {
     place = λ e. subst (λ (n : ℕ). IsTrue (has back n)) (sym e) has_p;
     below = below q;

@@ -1,5 +1,6 @@
 -- The tasks of a list are admitted by urgency: the linked ones are the best set of those admitted so far.
-use Rattle.std.proofs.Common.{◌≡◌, ◌≢◌, ℕ, zero, suc, ◌<◌, Bool, true, false, not, ◌||◌, List, [], ◌∷◌, ◌++◌, length, get_or, replicate, nat_eq, None, refl, sym, ap, ◌∙◌, inl, inr, arith, eq-eqb, ne_eqb, eqb-true}
+use Rattle.std.proofs.Common.{◌≡◌, ◌≢◌, ℕ, zero, suc, ◌<◌, Bool, true, false, not, ◌||◌, List, [], ◌∷◌, ◌++◌, length, get_or, replicate}
+use Rattle.std.proofs.Common.{nat_eq, None, refl, sym, ap, ◌∙◌, inl, inr, arith, eq-eqb, ne_eqb, eqb-true}
 use Rattle.std.specs.Prelude.{All, AllPairs}
 use Rattle.std.specs.List.{list_any}
 use Rattle.std.proofs.Math.Bool.{or-false}
@@ -8,7 +9,8 @@ use Rattle.std.proofs.lemmas.List.{length-map}
 use Rattle.std.proofs.lemmas.List.Folds.{list_any-append, list_any_at}
 use Rattle.std.proofs.lemmas.List.Quantifiers.{all_pairs_push}
 use Rattle.task_set.specs.TaskSet.{TaskData, SetData}
-use Rattle.strong_apa.specs.State.{State, IsState, HasSameTasks, HasSameMasks, task_count, priority_of, is_ready, is_linked, is_task, start_of, IsMoreUrgent}
+use Rattle.strong_apa.specs.State.{State, IsState, HasSameTasks, HasSameMasks, task_count, priority_of, is_ready, is_linked, is_task}
+use Rattle.strong_apa.specs.State.{start_of, IsMoreUrgent}
 use Rattle.strong_apa.specs.Placement.{IsSubset, IsBest}
 use Rattle.strong_apa.proofs.Linked.{place_in, task_on-linked}
 use Rattle.strong_apa.proofs.SameTasks.{same_count}
@@ -48,7 +50,8 @@ IsGreedy-start set listed = record {
   certificates = HasCertificates-start set;
 }
 
-module _ (set : SetData) (listed : List ℕ) (s : State) (ok : IsState s) (best : List ℕ) (greedy : IsGreedy set listed s best) (numbers : All (λ t. t < length set.tasks) listed) where
+module _ (set : SetData) (listed : List ℕ) (s : State) (ok : IsState s) (best : List ℕ) (greedy : IsGreedy set listed s best)
+    (numbers : All (λ t. t < length set.tasks) listed) where
   listed_number : (t : ℕ) → is_among listed t ≡ true → t < task_count s
   listed_number t among =
       let place = among_place listed t among in
@@ -58,11 +61,15 @@ module _ (set : SetData) (listed : List ℕ) (s : State) (ok : IsState s) (best 
   -- all listed tasks were admitted
   pub IsBest-greedy : IsSubset (is_among listed) (is_ready s) → IsBest (start_of set) (is_among listed) (is_among best)
   IsBest-greedy all =
-      IsBest-same (start_of set) s greedy.tasks greedy.masks (is_ready s) (is_among listed) (is_linked s) (is_among best) (λ t. same_answer _ _ (greedy.within t) (all t)) (λ t. sym (greedy.linked t))
+      IsBest-same (start_of set) s greedy.tasks greedy.masks (is_ready s) (is_among listed) (is_linked s) (is_among best)
+      (λ t. same_answer _ _ (greedy.within t) (all t)) (λ t. sym (greedy.linked t))
       (linked_is_best s ok greedy.certificates)
 
   pub order_at_start : AllPairs (IsMoreUrgent (start_of set)) best
-  order_at_start = λ i j d lt fits. rw (← priority_of-same (start_of set) s greedy.tasks (get_or best i d), ← priority_of-same (start_of set) s greedy.tasks (get_or best j d)) (greedy.order i j d lt fits)
+  order_at_start = λ i j d lt fits. rw (
+    ← priority_of-same (start_of set) s greedy.tasks (get_or best i d),
+    ← priority_of-same (start_of set) s greedy.tasks (get_or best j d),
+  ) (greedy.order i j d lt fits)
 
   module _ (t : ℕ) (next : IsMostUrgentAbsent s listed t) where
     -- what `admit` asks
@@ -111,7 +118,8 @@ module _ (set : SetData) (listed : List ℕ) (s : State) (ok : IsState s) (best 
             | inl was ↦ greedy.ahead u v was among before.1
             | inr it ↦ rw (eqb-true u t it) (
                 let le = next.most_urgent v among before.1 in
-                let differ : priority_of s t ≢ priority_of s v = λ e. before.0 (sym (ok.distinct t v next_number (listed_number v among) e)) in
+                let differ : priority_of s t ≢ priority_of s v = λ e. before.0
+                (sym (ok.distinct t v next_number (listed_number v among) e)) in
                 omega arith)
           ])
 
@@ -128,7 +136,8 @@ module _ (set : SetData) (listed : List ℕ) (s : State) (ok : IsState s) (best 
       -- fewer tasks are absent then
       pub absent_falls : count_below (λ u. not (is_ready new u)) (task_count new) < count_below (λ u. not (is_ready s u)) (task_count s)
       absent_falls =
-          let fewer = count_below-one_more (λ u. not (is_ready s u)) (λ u. not (is_ready new u)) t (task_count s) next_number (rw next.absent refl) (rw (admitted.ready t, or_right (is_ready s t) (nat_eq t t) (eq-eqb t t refl)) refl)
+          let fewer = count_below-one_more (λ u. not (is_ready s u)) (λ u. not (is_ready new u)) t (task_count s) next_number
+          (rw next.absent refl) (rw (admitted.ready t, or_right (is_ready s t) (nat_eq t t) (eq-eqb t t refl)) refl)
           (λ u lt ne. rw (admitted.ready u, ne_eqb u t ne) (ap not (sym (or-false (is_ready s u))))) in
           rw (same_count s new admitted.tasks) (omega arith)
 
@@ -151,7 +160,8 @@ module _ (set : SetData) (listed : List ℕ) (s : State) (ok : IsState s) (best 
       masks = masks_then true new admitted;
       within = within_then true new admitted;
       ahead = ahead_then true new admitted;
-      linked = λ u. list_any-append (λ x. nat_eq x u) best (t ∷ []) ∙ sym (admitted.linked u ∙ rw (← greedy.linked u) (ap (λ (b : Bool). is_among best u || b) (flipped u)));
+      linked = λ u. list_any-append (λ x. nat_eq x u) best (t ∷ [])
+          ∙ sym (admitted.linked u ∙ rw (← greedy.linked u) (ap (λ (b : Bool). is_among best u || b) (flipped u)));
       order = all_pairs_push (IsMoreUrgent new) best t (order_then true new admitted) (best_before true new admitted);
       certificates = admitted.certificates;
     }

@@ -12,7 +12,7 @@ use Rattle.strong_apa.proofs.Least.{Decided}
 use Rattle.strong_apa.proofs.Linked.{task_on-linked, place_in}
 use Rattle.strong_apa.proofs.Replies.{came_said, came_says, gone_said, gone_says}
 use Rattle.strong_apa.specs.Passing.{ArrivalPasses, DeparturePasses}
-use Rattle.reach_certificate.specs.Defect.{IsOfProcessors, IsReplyDefect}
+use Rattle.reach_certificate.specs.Defect.{HasSetsOfProcessors, IsReplyDefect}
 use Rattle.reach_certificate.specs.DefectLaws.{PassesOrHasDefect}
 use Rattle.reach_certificate.specs.declared.defect.Defect.{Defect}
 use Rattle.reach_certificate.specs.declared.defect.Defect.TheVariants.{WrongReply}
@@ -60,7 +60,7 @@ module _ (s : State) (ok : IsState s) (t : ℕ) (reply : Reply) where
   )
 
   -- t was absent
-  arrived_new : is_ready s t ≡ false → IsOfProcessors reply → (came : Option Came) → came_of reply ≡ came → Arrived
+  arrived_new : is_ready s t ≡ false → HasSetsOfProcessors reply → (came : Option Came) → came_of reply ≡ came → Arrived
   arrived_new absent small None said = inr (
     WrongReply,
     inl (
@@ -74,11 +74,16 @@ module _ (s : State) (ok : IsState s) (t : ℕ) (reply : Reply) where
   arrived_new absent small (Some came) said =
       let answer = came_says reply came said in
       elim (came_judged s ok t came) [
-        | inl right ↦ inl (inr record { absent = absent; came = came; answer = answer; passes = came_passes s ok t came (subst IsOfProcessors answer small) right })
+        | inl right ↦ inl (inr record {
+          absent = absent;
+          came = came;
+          answer = answer;
+          passes = came_passes s ok t came (subst HasSetsOfProcessors answer small) right;
+        })
         | inr bad ↦ inr (bad.0, inr (came, answer, absent, bad.1))
       ]
 
-  pub arrival_judged : IsOfProcessors reply → Arrived
+  pub arrival_judged : HasSetsOfProcessors reply → Arrived
   arrival_judged small = elim (cases_Bool (is_ready s t)) [
     | inl ready ↦ arrived_again ready (already_decided reply)
     | inr absent ↦ arrived_new absent small (came_of reply) refl
@@ -116,7 +121,7 @@ module _ (s : State) (ok : IsState s) (t : ℕ) (reply : Reply) where
     ),
   )
 
-  departed_linked : is_linked s t ≡ true → IsOfProcessors reply → (gone : Option Gone) → gone_of reply ≡ gone → Departed
+  departed_linked : is_linked s t ≡ true → HasSetsOfProcessors reply → (gone : Option Gone) → gone_of reply ≡ gone → Departed
   departed_linked linked small None said = inr (
     WrongReply,
     inl (
@@ -132,12 +137,12 @@ module _ (s : State) (ok : IsState s) (t : ℕ) (reply : Reply) where
   )
   departed_linked linked small (Some gone) said =
       let answer = gone_says reply gone said in
-      elim (vacated_judged s ok t linked gone (only_set gone.back (subst IsOfProcessors answer small))) [
+      elim (vacated_judged s ok t linked gone (only_set gone.back (subst HasSetsOfProcessors answer small))) [
         | inl passes ↦ inl (inr (inr record { place = passes.0; linked = passes.1; gone = gone; answer = answer; passes = passes.2 }))
         | inr bad ↦ inr (bad.0, inr (gone, answer, bad.1))
       ]
 
-  pub departure_judged : IsOfProcessors reply → Departed
+  pub departure_judged : HasSetsOfProcessors reply → Departed
   departure_judged small = elim (cases_Bool (is_ready s t)) [
     | inr absent ↦ departed_again absent (not_ready_decided reply)
     | inl ready ↦ elim (cases_Bool (is_linked s t)) [

@@ -1,5 +1,6 @@
 -- One turn of the search for an idle processor.
-use Rattle.std.proofs.Common.{◌≡◌, ℕ, suc, ◌+◌, ◌-◌, ◌<◌, ◌≤◌, true, false, ◌||◌, List, [], ◌∷◌, length, get_or, reverse, nat_eq, Some, None, refl, sym, ◌∙◌, inl, inr, ◌⊎◌, IsTrue, arith, eq-eqb, ne_eqb}
+use Rattle.std.proofs.Common.{◌≡◌, ℕ, suc, ◌+◌, ◌-◌, ◌<◌, ◌≤◌, true, false, ◌||◌, List, [], ◌∷◌, length, get_or, reverse, nat_eq, Some}
+use Rattle.std.proofs.Common.{None, refl, sym, ◌∙◌, inl, inr, ◌⊎◌, IsTrue, arith, eq-eqb, ne_eqb}
 use Rattle.std.proofs.Math.Bool.{or-false}
 use Rattle.std.proofs.lemmas.Bool.{cases_Bool, cases_eq, true≢false, or_right}
 use Rattle.std.proofs.lemmas.List.{length-reverse}
@@ -28,12 +29,14 @@ size-within X Y within = count_below-injection (has X) 64 (has Y) 64 (λ p. p) r
 
 module _ (X Y p : ℕ) (added : (q : ℕ) → has Y q ≡ (has X q || nat_eq q p)) where
   pub size-added : p < 64 → has X p ≡ false → size_of Y ≡ suc (size_of X)
-  size-added below fresh = count_below-one_more (has Y) (has X) p 64 below (added_here X Y p added) fresh (λ q lt ne. added q ∙ rw (ne_eqb q p ne) (or-false (has X q)))
+  size-added below fresh = count_below-one_more (has Y) (has X) p 64 below (added_here X Y p added) fresh
+      (λ q lt ne. added q ∙ rw (ne_eqb q p ne) (or-false (has X q)))
 
 -- a set that lacks a processor has room for it
 pub size_room : (X p : ℕ) → p < 64 → has X p ≡ false → size_of X < 64
 size_room X p below fresh =
-    let more = count_below-one_more (λ q. has X q || nat_eq q p) (has X) p 64 below (or_right (has X p) _ (eq-eqb p p refl)) fresh (λ q lt ne. rw (ne_eqb q p ne) (or-false (has X q))) in
+    let more = count_below-one_more (λ q. has X q || nat_eq q p) (has X) p 64 below (or_right (has X p) _ (eq-eqb p p refl)) fresh
+    (λ q lt ne. rw (ne_eqb q p ne) (or-false (has X q))) in
     let most = count_below-bound (λ q. has X q || nat_eq q p) 64 in
     omega arith
 
@@ -48,7 +51,8 @@ not_within X Y p within out = elim (cases_Bool (has X p)) [
 pub record IsSeen (s : State) (t visited seen p : ℕ) : Type 0 where
   pub kept : Within visited seen
   pub mask : (q : ℕ) → q < p → IsTrue (has (effective_mask s t) q) → IsTrue (has seen q)
-  pub occupied : (q : ℕ) → IsTrue (has seen q) → IsTrue (has visited q) ⊎ ((u : ℕ) × (task_on s q ≡ Some u) × Within (effective_mask s u) seen)
+  pub occupied : (q : ℕ) → IsTrue (has seen q)
+      → IsTrue (has visited q) ⊎ ((u : ℕ) × (task_on s q ≡ Some u) × Within (effective_mask s u) seen)
 
 module _ (s : State) (ok : IsState s) (t visited seen p : ℕ) (so_far : IsSeen s t visited seen p) where
   -- a processor that is passed by
@@ -89,16 +93,21 @@ module _ (s : State) (ok : IsState s) (t visited seen p : ℕ) (so_far : IsSeen 
     module _ (u : ℕ) (on : task_on s p ≡ Some u) (added : ℕ) (is_added : (q : ℕ) → has added q ≡ (has seen q || nat_eq q p)) where
       -- the way of the occupant leaves room for one processor more
       pub way_room : (back : List ℕ) → IsWay s u added (reverse back) → length back < 64
-      way_room back way = let fits = way.fits in let more = size-added seen added p is_added below_64 fresh in let n = length-reverse back in omega arith
+      way_room back way =
+          let fits = way.fits in let more = size-added seen added p is_added below_64 fresh in let n = length-reverse back in omega arith
 
       -- the occupant has a way on: so has t
       pub IsWay-more : (chain : List ℕ) → IsWay s u added chain → IsWay s t visited (p ∷ chain)
       IsWay-more [] way = absurd way.ends_idle.1
       IsWay-more (r ∷ rest) way = record {
         ends_idle = (way.ends_idle.0, (in_mask, ((u, on, way.ends_idle.1.0), way.ends_idle.1.1)), way.ends_idle.2);
-        simple = IsSimple-cons p (r ∷ rest) (λ i fits e. true≢false (sym (added_here seen added p is_added) ∙ (rw e at (way.fresh i 0 fits)))) way.simple;
-        fresh = All-cons (λ q. has visited q ≡ false) p (r ∷ rest) not_visited (λ k d fits. not_within visited added (get_or (r ∷ rest) k d) (λ q h. added_keeps seen added p is_added q (so_far.kept q h)) (way.fresh k d fits));
-        fits = (let fits = way.fits in let more = size-added seen added p is_added below_64 fresh in let le = size-within visited seen so_far.kept in omega arith);
+        simple = IsSimple-cons p (r ∷ rest) (λ i fits e. true≢false
+            (sym (added_here seen added p is_added) ∙ (rw e at (way.fresh i 0 fits)))) way.simple;
+        fresh = All-cons (λ q. has visited q ≡ false) p (r ∷ rest) not_visited
+            (λ k d fits. not_within visited added (get_or (r ∷ rest) k d) (λ q h. added_keeps seen added p is_added q (so_far.kept q h))
+            (way.fresh k d fits));
+        fits = (let fits = way.fits in let more = size-added seen added p is_added below_64 fresh in
+            let le = size-within visited seen so_far.kept in omega arith);
       }
 
       -- it has none: so t has none through p
@@ -123,4 +132,5 @@ module _ (s : State) (ok : IsState s) (t visited seen p : ℕ) (so_far : IsSeen 
 
       -- one processor more was seen
       pub added_falls : 64 - size_of added < 64 - size_of visited
-      added_falls = let more = size-added seen added p is_added below_64 fresh in let le = size-within visited seen so_far.kept in let most = size_bound added in omega arith
+      added_falls = let more = size-added seen added p is_added below_64 fresh in let le = size-within visited seen so_far.kept in
+          let most = size_bound added in omega arith

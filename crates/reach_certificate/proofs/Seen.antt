@@ -15,7 +15,8 @@ seen_none chain X none q = (
 )
 
 -- and one more at each place
-pub seen_more : (chain : List ℕ) (i x X Y : ℕ) → slice_get chain i ≡ Some x → ((q : ℕ) → has Y q ≡ (has X q || nat_eq q x)) → ((q : ℕ) → IsTrue (has X q) ↔ ComesBefore chain i q) → (q : ℕ) → IsTrue (has Y q) ↔ ComesBefore chain (i + 1) q
+pub seen_more : (chain : List ℕ) (i x X Y : ℕ) → slice_get chain i ≡ Some x → ((q : ℕ) → has Y q ≡ (has X q || nat_eq q x))
+    → ((q : ℕ) → IsTrue (has X q) ↔ ComesBefore chain i q) → (q : ℕ) → IsTrue (has Y q) ↔ ComesBefore chain (i + 1) q
 seen_more chain i x X Y at added seen q = (to, from)
   where
     here : get_or chain i 0 ≡ x

@@ -1,9 +1,11 @@
--- Tasks that are admitted one by one. A list of tasks stands for the set of the tasks in it; of the tasks of a list
--- that are absent, the most urgent one has no other before it; a task is admitted where it becomes ready, no linked
--- task is displaced, it is linked itself or not, and each waiting task has a certificate.
+-- Tasks that are admitted one by one. A list of tasks stands for the set of the tasks in it; of the
+-- tasks of a list that are absent, the most urgent one has no other before it; a task is admitted
+-- where it becomes ready, no linked task is displaced, it is linked itself or not, and each waiting
+-- task has a certificate.
 use Rattle.std.specs.Prelude.{◌≡◌, ℕ, ◌≤◌, Bool, true, false, List, ◌==◌, ◌&&◌, ◌||◌}
 use Rattle.std.specs.List.{list_any}
-use Rattle.strong_apa.specs.State.{State, HasSameTasks, HasSameMasks, priority_of, is_ready, is_linked}
+use Rattle.strong_apa.specs.State.{State, HasSameTasks, HasSameMasks, priority_of, is_ready}
+use Rattle.strong_apa.specs.State.{is_linked}
 use Rattle.strong_apa.specs.Placement.{TaskTest}
 use Rattle.strong_apa.specs.Certified.{HasCertificates}
 
@@ -15,9 +17,11 @@ is_among tasks t = list_any (λ u. u == t) tasks
 pub record IsMostUrgentAbsent (s : State) (tasks : List ℕ) (t : ℕ) : Type 0 where
   pub among : is_among tasks t ≡ true
   pub absent : is_ready s t ≡ false
-  pub most_urgent : (u : ℕ) → is_among tasks u ≡ true → is_ready s u ≡ false → priority_of s t ≤ priority_of s u
+  pub most_urgent : (u : ℕ) → is_among tasks u ≡ true → is_ready s u ≡ false
+      → priority_of s t ≤ priority_of s u
 
--- t became ready, and is linked then or not; whoever was linked still is, and each waiting task has a certificate
+-- t became ready, and is linked then or not; whoever was linked still is, and each waiting task has
+-- a certificate
 pub record Admitted (old : State) (t : ℕ) (placed : Bool) (new : State) : Type 0 where
   pub tasks : HasSameTasks old new
   pub masks : HasSameMasks old new

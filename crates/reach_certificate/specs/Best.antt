@@ -5,4 +5,5 @@ use Rattle.strong_apa.specs.Placement.{TaskTest, IsBest}
 
 -- a set of tasks of a state has a best subset
 abbrev pub BestExists : Type 0
-BestExists = (s : State) (R : TaskTest) → IsState s → ((t : ℕ) → R t ≡ true → t < task_count s) → (best : TaskTest) × IsBest s R best
+BestExists = (s : State) (R : TaskTest) → IsState s → ((t : ℕ) → R t ≡ true → t < task_count s)
+    → (best : TaskTest) × IsBest s R best

@@ -1,18 +1,23 @@
--- How a chain and a set are judged. Private: contracts of this crate's own functions. Each word is a case of the
--- definitions of defects.
-use Rattle.std.specs.Prelude.{◌≡◌, ℕ, ◌+◌, ◌<◌, List, slice_index, IsTrue, Option, Some, None, MatchOption}
+-- How a chain and a set are judged. Private: contracts of this crate's own functions. Each word is
+-- a case of the definitions of defects.
+use Rattle.std.specs.Prelude.{◌≡◌, ℕ, ◌+◌, ◌<◌, List, slice_index, IsTrue, Option, Some, None}
+use Rattle.std.specs.Prelude.{MatchOption}
 use Rattle.affinity_mask.specs.ProcSet.{has, Within}
 use Rattle.strong_apa.specs.State.{State, effective_mask, task_on, IsMoreUrgent}
 use Rattle.strong_apa.specs.Chain.{CanShift}
-use Rattle.reach_certificate.specs.Defect.{AllFit, IsFirstMisfit, FitsAt, BeginsFor, MovesBack, ReachFits, BackFits, IsNoLessUrgent, processor_count}
+use Rattle.reach_certificate.specs.Defect.{AllFit, IsFirstMisfit, FitsAt, BeginsFor, MovesBack}
+use Rattle.reach_certificate.specs.Defect.{ReachFits, BackFits, IsNoLessUrgent, processor_count}
 use Rattle.reach_certificate.specs.declared.chain_rule.ChainRule.{ChainRule}
-use Rattle.reach_certificate.specs.declared.chain_rule.ChainRule.TheVariants.{ToIdle, ToOccupied, Back}
+use Rattle.reach_certificate.specs.declared.chain_rule.ChainRule.TheVariants.{ToIdle, ToOccupied}
+use Rattle.reach_certificate.specs.declared.chain_rule.ChainRule.TheVariants.{Back}
 use Rattle.reach_certificate.specs.declared.set_rule.SetRule.{SetRule}
-use Rattle.reach_certificate.specs.declared.set_rule.SetRule.TheVariants.{HeldAgainst, HeldOver, LeadsBack}
+use Rattle.reach_certificate.specs.declared.set_rule.SetRule.TheVariants.{HeldAgainst, HeldOver}
+use Rattle.reach_certificate.specs.declared.set_rule.SetRule.TheVariants.{LeadsBack}
 
 -- the answer is the first place that does not fit, or nothing, and then all fit
 abbrev pub IsFirstMisfitIfAny : (ℕ → Type 0) → ℕ → Option ℕ → Type 0
-IsFirstMisfitIfAny Fits count found = MatchOption found (AllFit Fits count) (IsFirstMisfit Fits count)
+IsFirstMisfitIfAny Fits count found =
+    MatchOption found (AllFit Fits count) (IsFirstMisfit Fits count)
 
 -- ---- chains
 -- the task of the rule, if it has one, is one of so many
@@ -22,10 +27,10 @@ IsChainRuleOf count (ToOccupied t) = t < count
 IsChainRuleOf count (Back place entered) = Unit {0}
 
 -- a chain by the rule may begin with q
-abbrev pub Begins : State → ChainRule → ℕ → Type 0
-Begins s (ToIdle t) = BeginsFor s t
-Begins s (ToOccupied t) = BeginsFor s t
-Begins s (Back place entered) = λ q. q ≡ place
+abbrev pub ChainMayBegin : State → ChainRule → ℕ → Type 0
+ChainMayBegin s (ToIdle t) = BeginsFor s t
+ChainMayBegin s (ToOccupied t) = BeginsFor s t
+ChainMayBegin s (Back place entered) = λ q. q ≡ place
 
 -- after a processor of a chain by the rule q may follow
 abbrev pub Follows : State → ChainRule → ℕ → ℕ → Type 0
@@ -34,19 +39,20 @@ Follows s (ToOccupied t) = CanShift s
 Follows s (Back place entered) = MovesBack s entered
 
 -- a chain by the rule may end on q
-abbrev pub Ends : State → ChainRule → ℕ → Type 0
-Ends s (ToIdle t) = λ q. task_on s q ≡ None
-Ends s (ToOccupied t) = λ q. (u : ℕ) × (task_on s q ≡ Some u)
-Ends s (Back place entered) = λ q. Unit {0}
+abbrev pub ChainMayEnd : State → ChainRule → ℕ → Type 0
+ChainMayEnd s (ToIdle t) = λ q. task_on s q ≡ None
+ChainMayEnd s (ToOccupied t) = λ q. (u : ℕ) × (task_on s q ≡ Some u)
+ChainMayEnd s (Back place entered) = λ q. Unit {0}
 
 -- the processor at place i begins the chain, or follows the one before it
 pub record IsNextInChain (s : State) (rule : ChainRule) (chain : List ℕ) (i : ℕ) : Type 0 where
-  pub first : i ≡ 0 → Begins s rule (slice_index chain i)
+  pub first : i ≡ 0 → ChainMayBegin s rule (slice_index chain i)
   pub next : (k : ℕ) → i ≡ k + 1 → Follows s rule (slice_index chain k) (slice_index chain i)
 
 -- place i of a chain fits the rule
 abbrev pub FitsChainRule : State → ChainRule → List ℕ → ℕ → Type 0
-FitsChainRule s rule chain i = FitsAt s (Begins s rule) (Follows s rule) (Ends s rule) chain i
+FitsChainRule s rule chain i =
+    FitsAt s (ChainMayBegin s rule) (Follows s rule) (ChainMayEnd s rule) chain i
 
 -- the chain visits q at a place before place i
 abbrev pub ComesBefore : List ℕ → ℕ → ℕ → Type 0
@@ -67,7 +73,8 @@ HoldsItsPlace s (LeadsBack place) u = Unit {0}
 
 -- the occupant of q may run only within the set, and holds its place there
 abbrev pub IsHeld : State → SetRule → ℕ → ℕ → Type 0
-IsHeld s rule set q = (u : ℕ) × (task_on s q ≡ Some u) × Within (effective_mask s u) set × HoldsItsPlace s rule u
+IsHeld s rule set q =
+    (u : ℕ) × (task_on s q ≡ Some u) × Within (effective_mask s u) set × HoldsItsPlace s rule u
 
 -- the occupant of q may run on a processor of the set
 abbrev pub ShiftsInto : State → ℕ → ℕ → Type 0

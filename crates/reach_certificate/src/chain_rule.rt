@@ -2,7 +2,7 @@
 ghost use Rattle.std.specs.Prelude.{◌≡◌, ℕ, ◌<◌, ◌↔◌, length, IsTrue};
 ghost use Rattle.affinity_mask.specs.ProcSet.{has};
 ghost use Rattle.strong_apa.specs.State.{task_count};
-ghost use Rattle.reach_certificate.specs.Judging.{IsFirstMisfitIfAny, IsChainRuleOf, Begins, Follows, Ends, IsNextInChain, FitsChainRule, ComesBefore};
+ghost use Rattle.reach_certificate.specs.Judging.{IsFirstMisfitIfAny, IsChainRuleOf, ChainMayBegin, Follows, ChainMayEnd, IsNextInChain, FitsChainRule, ComesBefore};
 
 use crate::occupants::{can_shift, occupant};
 use affinity_mask::ProcSet;
@@ -72,7 +72,7 @@ impl ChainRule {
     fn begins(self, links: &Links, q: u8) -> bool
         requires task { IsChainRuleOf (task_count links.now) self }
         requires processor { q < 64 }
-        ensures { IsTrue result ↔ Begins links.now self q }
+        ensures { IsTrue result ↔ ChainMayBegin links.now self q }
     {
         match self {
             ChainRule::ToIdle(t) | ChainRule::ToOccupied(t) => links.effective(t).has(q),
@@ -94,7 +94,7 @@ impl ChainRule {
 
     /// Whether a chain may end on q.
     fn ends(self, links: &Links, q: u8) -> bool
-        ensures { IsTrue result ↔ Ends links.now self q }
+        ensures { IsTrue result ↔ ChainMayEnd links.now self q }
     {
         match self {
             ChainRule::ToIdle(_) => occupant(links, q).is_none(),

@@ -15,7 +15,8 @@ module _ {H X : Type 0} where
   nobody_left P Q n (y ∷ left) x h = h
 
   -- where the last worker has no thread, a processor is left
-  pub crew_some_left : (P : ℕ → H → Type 0) (Q : ℕ → X → Type 0) (n : ℕ) (workers : List (Option H)) → IsCrew P Q n (workers ++ None ∷ []) [] → ⊥
+  pub crew_some_left : (P : ℕ → H → Type 0) (Q : ℕ → X → Type 0) (n : ℕ) (workers : List (Option H))
+      → IsCrew P Q n (workers ++ None ∷ []) [] → ⊥
   crew_some_left P Q n [] h = h
   crew_some_left P Q n (Some y ∷ workers) h = crew_some_left P Q (n + 1) workers h.1
   crew_some_left P Q n (None ∷ workers) h = h
@@ -43,13 +44,19 @@ module _ {H X : Type 0} where
       let rest = crew_last_left P Q (n + 1) workers left x h.1 in ((h.0, rest.0), subst (λ (k : ℕ). Q k x) (omega arith) rest.1)
 
   -- the same, of a list that ends with this worker
-  pub crew_ends_with_thread : (P : ℕ → H → Type 0) (Q : ℕ → X → Type 0) (n : ℕ) (old workers : List (Option H)) (worker : Option H) (thread : H) (left : List X)
-      → old ≡ workers ++ worker ∷ [] → worker ≡ Some thread → IsCrew P Q n old left → IsCrew P Q n workers left × P (n + length workers) thread
+  pub crew_ends_with_thread : (P : ℕ → H → Type 0) (Q : ℕ → X → Type 0) (n : ℕ) (old workers : List (Option H)) (worker : Option H)
+      (thread : H) (left : List X)
+      → old ≡ workers ++ worker ∷ [] → worker ≡ Some thread → IsCrew P Q n old left
+      → IsCrew P Q n workers left × P (n + length workers) thread
   crew_ends_with_thread P Q n old workers worker thread left ends is crew =
-      crew_last_thread P Q n workers thread left (subst (λ (w : Option H). IsCrew P Q n (workers ++ w ∷ []) left) is (subst (λ (ws : List (Option H)). IsCrew P Q n ws left) ends crew))
+      crew_last_thread P Q n workers thread left
+      (subst (λ (w : Option H). IsCrew P Q n (workers ++ w ∷ []) left) is
+      (subst (λ (ws : List (Option H)). IsCrew P Q n ws left) ends crew))
 
-  pub crew_ends_with_left : (P : ℕ → H → Type 0) (Q : ℕ → X → Type 0) (n : ℕ) (old workers : List (Option H)) (worker : Option H) (all left : List X) (x : X)
-      → old ≡ workers ++ worker ∷ [] → worker ≡ None → all ≡ left ++ x ∷ [] → IsCrew P Q n old all → IsCrew P Q n workers left × Q (n + length workers) x
+  pub crew_ends_with_left : (P : ℕ → H → Type 0) (Q : ℕ → X → Type 0) (n : ℕ) (old workers : List (Option H)) (worker : Option H)
+      (all left : List X) (x : X)
+      → old ≡ workers ++ worker ∷ [] → worker ≡ None → all ≡ left ++ x ∷ [] → IsCrew P Q n old all
+      → IsCrew P Q n workers left × Q (n + length workers) x
   crew_ends_with_left P Q n old workers worker all left x ends is last crew =
       crew_last_left P Q n workers left x (subst (IsCrew P Q n (workers ++ None ∷ [])) last
       (subst (λ (w : Option H). IsCrew P Q n (workers ++ w ∷ []) all) is (subst (λ (ws : List (Option H)). IsCrew P Q n ws all) ends crew)))
@@ -57,21 +64,26 @@ module _ {H X : Type 0} where
   pub crew_not_alone : (P : ℕ → H → Type 0) (Q : ℕ → X → Type 0) (n : ℕ) (old workers : List (Option H)) (worker : Option H) (left : List X)
       → old ≡ workers ++ worker ∷ [] → worker ≡ None → length left ≡ 0 → IsCrew P Q n old left → ⊥
   crew_not_alone P Q n old workers worker [] ends is none crew =
-      crew_some_left P Q n workers (subst (λ (w : Option H). IsCrew P Q n (workers ++ w ∷ []) []) is (subst (λ (ws : List (Option H)). IsCrew P Q n ws []) ends crew))
+      crew_some_left P Q n workers (subst (λ (w : Option H). IsCrew P Q n (workers ++ w ∷ []) []) is
+      (subst (λ (ws : List (Option H)). IsCrew P Q n ws []) ends crew))
   crew_not_alone P Q n old workers worker (x ∷ left) ends is none crew = absurd (omega (arith, none))
 
   -- a worker that was put before the others, with a thread or without
-  pub crew_thread_first : (P : ℕ → H → Type 0) (Q : ℕ → X → Type 0) (n m : ℕ) (thread : H) (workers new : List (Option H)) (left left' : List X)
+  pub crew_thread_first : (P : ℕ → H → Type 0) (Q : ℕ → X → Type 0) (n m : ℕ) (thread : H) (workers new : List (Option H))
+      (left left' : List X)
       → new ≡ Some thread ∷ workers → left' ≡ left → m ≡ n + 1 → P n thread → IsCrew P Q m workers left → IsCrew P Q n new left'
   crew_thread_first P Q n m thread workers new left left' is same next first crew =
-      subst (λ (ws : List (Option H)). IsCrew P Q n ws left') (sym is) (first, subst (λ (k : ℕ). IsCrew P Q k workers left') next (subst (IsCrew P Q m workers) (sym same) crew))
+      subst (λ (ws : List (Option H)). IsCrew P Q n ws left') (sym is)
+      (first, subst (λ (k : ℕ). IsCrew P Q k workers left') next (subst (IsCrew P Q m workers) (sym same) crew))
 
   pub crew_left_first : (P : ℕ → H → Type 0) (Q : ℕ → X → Type 0) (n m : ℕ) (x : X) (workers new : List (Option H)) (left left' : List X)
       → new ≡ None ∷ workers → left' ≡ x ∷ left → m ≡ n + 1 → Q n x → IsCrew P Q m workers left → IsCrew P Q n new left'
   crew_left_first P Q n m x workers new left left' is same next first crew =
-      subst (λ (ws : List (Option H)). IsCrew P Q n ws left') (sym is) (subst (IsCrew P Q n (None ∷ workers)) (sym same) (first, subst (λ (k : ℕ). IsCrew P Q k workers left) next crew))
+      subst (λ (ws : List (Option H)). IsCrew P Q n ws left') (sym is)
+      (subst (IsCrew P Q n (None ∷ workers)) (sym same) (first, subst (λ (k : ℕ). IsCrew P Q k workers left) next crew))
 
-  pub crew_number : (P : ℕ → H → Type 0) (Q : ℕ → X → Type 0) (n m : ℕ) (workers : List (Option H)) (left : List X) → n ≡ m → IsCrew P Q n workers left → IsCrew P Q m workers left
+  pub crew_number : (P : ℕ → H → Type 0) (Q : ℕ → X → Type 0) (n m : ℕ) (workers : List (Option H)) (left : List X) → n ≡ m
+      → IsCrew P Q n workers left → IsCrew P Q m workers left
   crew_number P Q n m workers left same crew = subst (λ (k : ℕ). IsCrew P Q k workers left) same crew
 
 module _ {H : Type 0} (queues : List QueueData) (slots : SlotsData) where
@@ -82,11 +94,13 @@ module _ {H : Type 0} (queues : List QueueData) (slots : SlotsData) where
   crew_seated P n [] (p ∷ left) h = absurd h
   crew_seated P n (Some y ∷ workers) left h = crew_seated P (n + 1) workers left h.1
   crew_seated P n (None ∷ workers) [] h = absurd h
-  crew_seated P n (None ∷ workers) (p ∷ left) h = All-cons (IsSeated queues slots) p left h.0.seated (crew_seated P (n + 1) workers left h.1)
+  crew_seated P n (None ∷ workers) (p ∷ left) h =
+      All-cons (IsSeated queues slots) p left h.0.seated (crew_seated P (n + 1) workers left h.1)
 
   -- once they are done, each has stopped at its number
   pub crew_done : (P : ℕ → H → Type 0) (n : ℕ) (workers : List (Option H)) (old new : List ProcessorData)
-      → IsCrew P (IsSeatedAt queues slots) n workers old → map seat_of new ≡ map seat_of old → All (IsDone queues slots) new → IsCrew P (HasStoppedAt queues slots) n workers new
+      → IsCrew P (IsSeatedAt queues slots) n workers old → map seat_of new ≡ map seat_of old → All (IsDone queues slots) new
+      → IsCrew P (HasStoppedAt queues slots) n workers new
   crew_done P n [] [] [] h same done = tt
   crew_done P n [] [] (q ∷ new) h same done = absurd (cc same)
   crew_done P n [] (p ∷ old) new h same done = absurd h
@@ -97,6 +111,9 @@ module _ {H : Type 0} (queues : List QueueData) (slots : SlotsData) where
       let first : seat_of q ≡ seat_of p = cc same in
       let rest : map seat_of new ≡ map seat_of old = cc same in
       let one = All-head (IsDone queues slots) q new done in (
-        record { seated = record { seated = one.seated; number = ap (λ (s : SeatData). s.number) first ∙ h.0.number }; stopped = one.stopped },
+        record {
+          seated = record { seated = one.seated; number = ap (λ (s : SeatData). s.number) first ∙ h.0.number };
+          stopped = one.stopped;
+        },
         crew_done P (n + 1) workers old new h.1 rest (All-tail (IsDone queues slots) q new done),
       )

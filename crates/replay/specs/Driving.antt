@@ -1,4 +1,5 @@
--- What a drive of processors leaves: the same processors in the same order, each of which is in step and has stopped.
+-- What a drive of processors leaves: the same processors in the same order, each of which is in
+-- step and has stopped.
 use Rattle.std.specs.Prelude.{◌≡◌, ℕ, true, List}
 use Rattle.atomic_table.specs.Seated.{TableId}
 use Rattle.task_set.specs.Orders.{has_stop}

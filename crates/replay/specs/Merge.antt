@@ -1,5 +1,5 @@
--- Merges: a history is a merge of events on streams where it holds each of them, each once, each stream's in its order,
--- and no other.
+-- Merges: a history is a merge of events on streams where it holds each of them, each once, each
+-- stream's in its order, and no other.
 use Rattle.std.specs.Prelude.{◌≡◌, ℕ, ◌==◌, List, map, filter, All, Contains}
 use Rattle.task_set.specs.declared.event.Event.{Event}
 use Rattle.strong_apa.specs.declared.reply.Entry.{Entry}
@@ -12,7 +12,8 @@ posted_of entry = record { stream = entry.caller; event = entry.event }
 
 -- the events of a stream, in their order
 abbrev pub events_of_stream : ℕ → List Posted → List Event
-events_of_stream stream events = map (λ (posted : Posted). posted.event) (filter (λ (posted : Posted). posted.stream == stream) events)
+events_of_stream stream events = map (λ (posted : Posted). posted.event)
+    (filter (λ (posted : Posted). posted.stream == stream) events)
 
 -- the streams that have an event
 abbrev pub streams_of : List Posted → List ℕ

@@ -1,4 +1,5 @@
--- The passes of a board while one caller uses them all, and publishes what the pass of caller 0 has seen.
+-- The passes of a board while one caller uses them all, and publishes what the pass of caller 0 has
+-- seen.
 use Rattle.std.specs.Prelude.{◌≡◌, true, List, [], ◌∷◌}
 use mathlib.Core.List.{IsPrefix}
 use Rattle.strong_apa.specs.declared.reply.Entry.{Entry}

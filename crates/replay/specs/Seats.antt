@@ -13,18 +13,21 @@ pub record IsSeated (queues : List QueueData) (slots : SlotsData) (p : Processor
   pub in_step : IsInStep p
 
 -- it is so seated, and its number is n
-pub record IsSeatedAt (queues : List QueueData) (slots : SlotsData) (n : ℕ) (p : ProcessorData) : Type 0 where
+pub record IsSeatedAt (queues : List QueueData) (slots : SlotsData) (n : ℕ)
+    (p : ProcessorData) : Type 0 where
   pub seated : IsSeated queues slots p
   pub number : p.hand.number ≡ n
 
 -- it is seated there, and has received Stop
-pub record HasStoppedAt (queues : List QueueData) (slots : SlotsData) (n : ℕ) (p : ProcessorData) : Type 0 where
+pub record HasStoppedAt (queues : List QueueData) (slots : SlotsData) (n : ℕ)
+    (p : ProcessorData) : Type 0 where
   pub seated : IsSeatedAt queues slots n p
   pub stopped : has_stop p.receiver.received ≡ true
 
--- it is the processor of number n, of these slots and of the queue at n, and has done nothing: its hand holds nothing and
--- has ended no stint, nothing was received, and no order is pending
-pub record IsIdleAt (queues : List QueueData) (slots : SlotsData) (n : ℕ) (p : ProcessorData) : Type 0 where
+-- it is the processor of number n, of these slots and of the queue at n, and has done nothing: its
+-- hand holds nothing and has ended no stint, nothing was received, and no order is pending
+pub record IsIdleAt (queues : List QueueData) (slots : SlotsData) (n : ℕ)
+    (p : ProcessorData) : Type 0 where
   pub number : p.hand.number ≡ n
   pub of_slots : p.hand.slots ≡ slots.id
   pub of_queue : slice_get queues n ≡ Some p.receiver.queue
@@ -34,6 +37,7 @@ pub record IsIdleAt (queues : List QueueData) (slots : SlotsData) (n : ℕ) (p :
   pub pending : p.pending ≡ None
 
 -- one idle processor for each queue, in order
-pub record AreIdle (queues : List QueueData) (slots : SlotsData) (processors : List ProcessorData) : Type 0 where
+pub record AreIdle (queues : List QueueData) (slots : SlotsData)
+    (processors : List ProcessorData) : Type 0 where
   pub one_each : length processors ≡ length queues
   pub each : AllFrom (IsIdleAt queues slots) 0 processors

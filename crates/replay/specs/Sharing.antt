@@ -4,8 +4,8 @@ use Rattle.event_history.specs.Boards.{AreFor}
 use Rattle.replay.specs.Streams.{IsForBoard}
 use Rattle.replay.specs.declared.shared.Shared.{Shared}
 
--- the queues are those of the board, with a flag for each of them, and were made for the tasks of the set of the slots; the
--- events are for the board
+-- the queues are those of the board, with a flag for each of them, and were made for the tasks of
+-- the set of the slots; the events are for the board
 pub record IsShared {R G : Type 0} (shared : Shared R G) : Type 0 where
   pub own : shared.queues.now ≡ shared.board.now.queues
   pub tasks : AreFor shared.slots.now.set shared.queues.now

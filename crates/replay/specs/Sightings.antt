@@ -5,7 +5,8 @@ use Rattle.strong_apa.specs.declared.reply.Entry.{Entry}
 use Rattle.schedule_board.specs.Pictures.{IsPictureOf}
 use Rattle.replay.specs.declared.sighting.Sighting.{Sighting}
 
--- an observer of a history saw the links after some of its entries, then after no fewer, and in the end after all of them
+-- an observer of a history saw the links after some of its entries, then after no fewer, and in the
+-- end after all of them
 pub record IsSightingOf (set : SetData) (history : List Entry) (s : Sighting) : Type 0 where
   pub first : IsPictureOf set.processors (take s.first.count history) s.first
   pub last : IsPictureOf set.processors (take s.last.count history) s.last

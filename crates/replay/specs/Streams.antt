@@ -19,7 +19,8 @@ pub record IsPassAt (board : BoardData) (n : ℕ) (pass : PassData) : Type 0 whe
   pub eyes : AreEyesOf board.queues pass.eyes
 
 -- it posted all events of stream n, where it says so
-pub record IsStreamedAt (board : BoardData) (events : List Posted) (whole : Bool) (n : ℕ) (pass : PassData) : Type 0 where
+pub record IsStreamedAt (board : BoardData) (events : List Posted) (whole : Bool) (n : ℕ)
+    (pass : PassData) : Type 0 where
   pub own : IsPassAt board n pass
   pub posted : whole ≡ true → AreEventsAt pass.seen pass.mine (events_of_stream n events)
 
@@ -30,7 +31,8 @@ pub record IsUnused (pass : PassData) : Type 0 where
 
 -- the pass posted these events after those that it had posted
 abbrev pub Adds : PassData → List Event → PassData → Type 0
-Adds old events new = (done : List Event) → AreEventsAt old.seen old.mine done → AreEventsAt new.seen new.mine (done ++ events)
+Adds old events new = (done : List Event) → AreEventsAt old.seen old.mine done
+    → AreEventsAt new.seen new.mine (done ++ events)
 
 -- one of the passes saw the close
 abbrev pub SomeSawClose : List PassData → Type 0

@@ -1,4 +1,5 @@
--- What an observer saw, by the entries that were published: on its thread, once it was joined, and once it was told of all.
+-- What an observer saw, by the entries that were published: on its thread, once it was joined, and
+-- once it was told of all.
 use Rattle.std.specs.Prelude.{◌≡◌, ℕ, List, Result, IfSome, MatchResult}
 use Rattle.core.specs.declared.thread.PromisedHandle.{PromisedHandle}
 use mathlib.Core.List.{IsPrefix}
@@ -12,7 +13,8 @@ use Rattle.replay.specs.declared.observing.WatchOf.{WatchOf}
 use Rattle.replay.specs.declared.observing.Observed.{Observed}
 use Rattle.replay.specs.declared.sighting.Sighting.{Sighting}
 
--- the first picture is of some prefix of these entries, and the last one of a prefix that is no shorter
+-- the first picture is of some prefix of these entries, and the last one of a prefix that is no
+-- shorter
 pub record ArePicturesOf (m : ℕ) (entries : List Entry) (first last : Picture) : Type 0 where
   pub at_first : List Entry
   pub at_last : List Entry
@@ -36,9 +38,11 @@ pub record IsObservedOf (of : PictureBoardData) (observed : Observed) : Type 0 w
 
 -- a thread that gives an observer of this board back; or one that came back at once
 abbrev pub IsWatcherOf : PictureBoardData → Result (PromisedHandle Watch WatchOf) Watch → Type 0
-IsWatcherOf of watcher = MatchResult watcher (λ h. board_at h.promise.observer.value ≡ of) (IsWatchOf of)
+IsWatcherOf of watcher =
+    MatchResult watcher (λ h. board_at h.promise.observer.value ≡ of) (IsWatchOf of)
 
--- what was seen in the end begins with these entries, and the two reads before are of prefixes of it
+-- what was seen in the end begins with these entries, and the two reads before are of prefixes of
+-- it
 pub record IsToldOf (m : ℕ) (entries : List Entry) (s : Sighting) : Type 0 where
   pub all : List Entry
   pub begins : IsPrefix entries all

@@ -1,9 +1,9 @@
 //! What a replay on threads begins with.
 ghost use Rattle.std.specs.Prelude.{◌≡◌, ◌≤◌, ◌<◌, ℕ, All, IfOk, length, map};
 ghost use Rattle.task_set.specs.TaskSet.{IsTaskSet};
-ghost use Rattle.context_slots.specs.Hands.{AreNew};
+ghost use Rattle.context_slots.specs.Hands.{AreNewHands};
 ghost use Rattle.order_queues.specs.Ends.{new_receiver, new_sender};
-ghost use Rattle.event_history.specs.Boards.{AreAll, AreFor};
+ghost use Rattle.event_history.specs.Boards.{AreAllPasses, AreFor};
 ghost use Rattle.replay.specs.Seats.{AreIdle};
 ghost use Rattle.replay.specs.Streams.{IsForBoard, IsUnused};
 ghost use Rattle.trace_reader.specs.Input.{IsPostedOf};
@@ -37,7 +37,7 @@ pub fn beginning_of(
 ) -> Result<Beginning, OutOfMemory>
     requires events { All (IsPostedOf set.now) events.now }
     ensures sets { IfOk result (λ made. (made.board.set ≡ set.now) × (made.slots.set ≡ set.now)) }
-    ensures passes { IfOk result (λ made. AreAll made.board made.passes.items) }
+    ensures passes { IfOk result (λ made. AreAllPasses made.board made.passes.items) }
     ensures unused { IfOk result (λ made. All IsUnused made.passes.items) }
     ensures queues { IfOk result (λ made. made.queues.items ≡ made.board.queues) }
     ensures idle { IfOk result (λ made. AreIdle made.queues.items made.slots made.processors.items) }
@@ -136,7 +136,7 @@ pub fn processors_of(
     mut hands: Vec<Hand>,
     mut receivers: Vec<Receiver>,
 ) -> Result<Vec<Processor>, OutOfMemory>
-    requires hands { AreNew slots.now hands.items }
+    requires hands { AreNewHands slots.now hands.items }
     requires receivers { receivers.items ≡ map new_receiver queues.now }
     requires one_each { length queues.now ≡ slots.now.set.processors }
     ensures { IfOk result (λ processors. AreIdle queues.now slots.now processors.items) }

@@ -1,6 +1,6 @@
 //! The replay of events on threads: a worker for each processor, and a thread for each stream that has events.
 ghost use Rattle.std.specs.Prelude.{◌≡◌, ◌≤◌, [], All, Bool, true, length, map, vec_capacity, IfOk};
-ghost use Rattle.event_history.specs.Boards.{AreAll, AreEyesOf, Grown};
+ghost use Rattle.event_history.specs.Boards.{AreAllPasses, AreEyesOf, Grown};
 ghost use Rattle.event_history.specs.Closing.{AllTell, AreSendersOf, IsCoreOf};
 ghost use Rattle.replay.specs.Driving.{IsDone, seat_of};
 ghost use Rattle.replay.specs.Places.{AllFrom};
@@ -182,7 +182,7 @@ fn in_threads<R: Threads + Wait + Sync, G: Gate + Sync>(
 
 /// The core and the senders of a board, once all its passes are back. Out of memory where not all events were posted.
 fn closed(board: Board, passes: Vec<Pass>, whole: bool) -> Result<(Core, Vec<Sender>), OutOfMemory>
-    requires { AreAll board passes.items }
+    requires { AreAllPasses board passes.items }
     ensures closed { IfOk result (λ back. IsCoreOf board passes.items back.0) }
     ensures senders { IfOk result (λ back. AreSendersOf board back.0 back.1.items) }
     ensures whole { IfOk result (λ _. whole ≡ true) }
@@ -246,7 +246,7 @@ pub fn replay<R: Threads + Wait + Sync, G: Gate + Sync>(
     events: &[Posted],
     gate: &G,
 ) -> Result<Replayed, OutOfMemory>
-    requires passes { AreAll board passes.items }
+    requires passes { AreAllPasses board passes.items }
     requires unused { All IsUnused passes.items }
     requires queues { queues.items ≡ board.queues }
     requires idle { AreIdle queues.items slots.now processors.items }
@@ -281,7 +281,7 @@ fn replay_parts<'a, R: Threads + Wait + Sync, G: Gate + Sync>(
     events: &'a [Posted],
     gate: &'a G,
 ) -> Result<Replayed, OutOfMemory>
-    requires passes { AreAll parts.board parts.passes.items }
+    requires passes { AreAllPasses parts.board parts.passes.items }
     requires unused { All IsUnused parts.passes.items }
     requires queues { parts.queues.items ≡ parts.board.queues }
     requires idle { AreIdle parts.queues.items slots.now parts.processors.items }

@@ -4,7 +4,7 @@
 //! of its entries. Where no thread can be started, the caller posts the stream itself.
 ghost use Rattle.std.specs.Prelude.{◌≡◌, ◌≤◌, ◌<◌, ◌&&◌, ◌∷◌, [], All, Bool, true, length, vec_capacity, IfOk, IfSome, MatchResult};
 ghost use Rattle.task_set.specs.Event.{IsOfSystem};
-ghost use Rattle.event_history.specs.Boards.{AreAll, AreEyesOf, Grown};
+ghost use Rattle.event_history.specs.Boards.{AreAllPasses, AreEyesOf, Grown};
 ghost use Rattle.replay.specs.Merge.{events_of_stream};
 ghost use Rattle.replay.specs.Places.{AllFrom};
 ghost use Rattle.replay.specs.Sharing.{IsShared};
@@ -201,7 +201,7 @@ pub fn start_all<'s, 'a: 's, 'b: 's, E, R: Threads + Wait + Sync, G: Gate + Sync
     mut streams: Vec<Stream<'a>>,
 ) -> Vec<Stream<'a>>
     requires shared { IsShared shared.now }
-    requires passes { AreAll shared.now.board.now passes.items }
+    requires passes { AreAllPasses shared.now.board.now passes.items }
     requires unused { All IsUnused passes.items }
     requires room { (streams.items ≡ []) × (shared.now.board.now.callers ≤ vec_capacity streams) }
     ensures count { length result.items ≡ shared.entry.now.board.now.callers }

@@ -1,7 +1,7 @@
 //! From a set and its events to one history, the contexts that the workers carried, and what the observers saw.
 ghost use Rattle.std.specs.Prelude.{◌≡◌, ◌≤◌, [], All, length, IfOk};
 ghost use Rattle.strong_apa.specs.Dispatch.{contexts_of};
-ghost use Rattle.event_history.specs.Boards.{AreAll};
+ghost use Rattle.event_history.specs.Boards.{AreAllPasses};
 ghost use Rattle.schedule_board.specs.Boards.{board_of};
 ghost use Rattle.trace_reader.specs.Input.{IsPostedOf};
 ghost use Rattle.replay.specs.Joining.{CanWatch};
@@ -57,7 +57,7 @@ fn watched_replay<'a, R: Threads + Wait + Sync, K: Wait + Drop, G: Gate + Sync>(
     events: &'a [Posted],
     watching: Watching<'_, K>,
 ) -> Result<WatchedRun, OutOfMemory>
-    requires passes { AreAll begun.board begun.passes.items }
+    requires passes { AreAllPasses begun.board begun.passes.items }
     requires unused { All IsUnused begun.passes.items }
     requires queues { begun.queues.items ≡ begun.board.queues }
     requires idle { AreIdle begun.queues.items begun.slots begun.processors.items }

@@ -1,5 +1,6 @@
 -- What is kept by a core, before any entry and one entry later.
-use Rattle.std.proofs.Common.{◌≡◌, ℕ, ◌+◌, ◌*◌, ◌<◌, ◌≤◌, false, not, ◌&&◌, List, [], ◌∷◌, ◌++◌, length, get_or, filter, Option, Some, None, replicate, refl, sym, ap, ap₂, ◌∙◌, arith, append_assoc}
+use Rattle.std.proofs.Common.{◌≡◌, ℕ, ◌+◌, ◌*◌, ◌<◌, ◌≤◌, false, not, ◌&&◌, List, [], ◌∷◌, ◌++◌, length, get_or, filter, Option, Some, None}
+use Rattle.std.proofs.Common.{replicate, refl, sym, ap, ap₂, ◌∙◌, arith, append_assoc}
 use Rattle.std.specs.List.{range_with_len}
 use Rattle.std.proofs.lemmas.List.{length-append, get_or_push}
 use Rattle.affinity_mask.specs.ProcSet.{all_below}
@@ -26,10 +27,18 @@ pub core_orders-open : (core : CoreData) (p : ℕ) → core.closed ≡ false →
 core_orders-open core p still = rw still refl
 
 -- a step leaves the state before any event
-pub before_step : (links : State) (event : Event) (reply : Reply) (new : State) (masks : List ℕ) → SchedulerStep links event reply new → state_before new masks ≡ state_before links masks
+pub before_step : (links : State) (event : Event) (reply : Reply) (new : State) (masks : List ℕ) → SchedulerStep links event reply new
+    → state_before new masks ≡ state_before links masks
 before_step links event reply new masks step =
     let same = same_tasks-step links event reply new step in
-    ap₂ (λ (m : ℕ) (priorities : List ℕ). record { processors = m; priorities = priorities; masks = masks; online = all_below m; ready = replicate (length priorities) false; on = replicate m None }) same.processors same.priorities
+    ap₂ (λ (m : ℕ) (priorities : List ℕ). record {
+      processors = m;
+      priorities = priorities;
+      masks = masks;
+      online = all_below m;
+      ready = replicate (length priorities) false;
+      on = replicate m None;
+    }) same.processors same.priorities
 
 -- a task is taken at most as often as there are processors at an entry
 pub takes_bound : (s : State) (history : List Entry) (t : ℕ) → s.processors ≤ 64 → length (processors_of s history t) ≤ 64 * length history
@@ -43,16 +52,30 @@ takes_bound s (entry ∷ rest) t few =
     omega (arith, later, here, both, few)
 
 -- what is read at the place of the last entry is that entry
-pub read_last : (before now : List Entry) (entry read : Entry) (place : ℕ) → now ≡ before ++ entry ∷ [] → length before ≡ place → read ≡ get_or now place read → read ≡ entry
-read_last before now entry read place pushed at is = is ∙ ap (λ (h : List Entry). get_or h place read) pushed ∙ get_or_push before entry read place at
+pub read_last : (before now : List Entry) (entry read : Entry) (place : ℕ) → now ≡ before ++ entry ∷ [] → length before ≡ place
+    → read ≡ get_or now place read → read ≡ entry
+read_last before now entry read place pushed at is =
+    is ∙ ap (λ (h : List Entry). get_or h place read) pushed ∙ get_or_push before entry read place at
 
 -- what holds of every core holds before any entry
-pub core_started : (s : State) (history : List Entry) → IsState s → NobodyIsReady s → HasCertificates s → history ≡ [] → IsCore (record { start = s; history = history; links = s; closed = false; spare = 0 })
+pub core_started : (s : State) (history : List Entry) → IsState s → NobodyIsReady s → HasCertificates s → history ≡ []
+    → IsCore (record { start = s; history = history; links = s; closed = false; spare = 0 })
 core_started s history ok nobody certificates none =
-    rw none record { start = ok; nobody = nobody; state = ok; legal = tt; links = refl; certificates = certificates; processors = refl; tasks = refl; fits = omega arith }
+    rw none record {
+      start = ok;
+      nobody = nobody;
+      state = ok;
+      legal = tt;
+      links = refl;
+      certificates = certificates;
+      processors = refl;
+      tasks = refl;
+      fits = omega arith;
+    }
 
 -- what holds of every core holds after one more entry
-pub core_entered : (old : CoreData) (entry : Entry) (new : State) (spare : ℕ) → IsCore old → SchedulerStep old.links entry.event entry.reply new → length old.history < max_entries
+pub core_entered : (old : CoreData) (entry : Entry) (new : State) (spare : ℕ) → IsCore old
+    → SchedulerStep old.links entry.event entry.reply new → length old.history < max_entries
     → IsCore (record { start = old.start; history = old.history ++ entry ∷ []; links = new; closed = old.closed; spare = spare })
 core_entered old entry new spare kept step room =
     let now : new ≡ effect_of old.links entry = reply_gives_new_state old.links entry.event entry.reply new step in
@@ -71,24 +94,30 @@ core_entered old entry new spare kept step room =
     }
 
 -- the orders of p, one entry later
-pub orders_entered : (start : State) (history : List Entry) (entry : Entry) (links new : State) (p : ℕ) (takes : ℕ → ℕ) (row after : RowData) → links ≡ state_after start history → new ≡ effect_of links entry
+pub orders_entered : (start : State) (history : List Entry) (entry : Entry) (links new : State) (p : ℕ) (takes : ℕ → ℕ)
+    (row after : RowData) → links ≡ state_after start history → new ≡ effect_of links entry
     → ((t : ℕ) → task_on new p ≡ Some t → takes t ≡ length (processors_of start history t))
-    → row.orders ≡ orders_of start history p → row.held ≡ task_on links p → RowFollows row takes (task_on new p) entry.event after → after.orders ≡ orders_of start (history ++ entry ∷ []) p
+    → row.orders ≡ orders_of start history p → row.held ≡ task_on links p → RowFollows row takes (task_on new p) entry.event after
+    → after.orders ≡ orders_of start (history ++ entry ∷ []) p
 orders_entered start history entry links new p takes row after at_links at_new counted orders held follows =
     let counts : ℕ → ℕ = λ t. length (processors_of start history t) in
     let same = change_orders-same_number takes counts row.held (task_on new p) counted in
     let next : new ≡ effect_of (state_after start history) entry = at_new ∙ ap (λ (s : State). effect_of s entry) at_links in
-    follows.orders ∙ rw (same, orders, held, at_links, next) (append_assoc (orders_of start history p) _ _ ∙ sym (orders_of-push start history entry p))
+    follows.orders ∙ rw (same, orders, held, at_links, next)
+    (append_assoc (orders_of start history p) _ _ ∙ sym (orders_of-push start history entry p))
 
 -- how often t was taken, one entry later
-pub takes_entered : (start : State) (history : List Entry) (entry : Entry) (links new : State) (t : ℕ) (rows : List RowData) (takes after : List ℕ) → links ≡ state_after start history → new ≡ effect_of links entry → t < length takes
+pub takes_entered : (start : State) (history : List Entry) (entry : Entry) (links new : State) (t : ℕ) (rows : List RowData)
+    (takes after : List ℕ) → links ≡ state_after start history → new ≡ effect_of links entry → t < length takes
     → get_or takes t 0 ≡ length (processors_of start history t)
     → ((p : ℕ) → p < new.processors → (row_at rows p).held ≡ task_on links p) → new.processors ≡ links.processors
-    → NumbersBecome (λ t n. n + length (came_below rows new new.processors t)) takes after → get_or after t 0 ≡ length (processors_of start (history ++ entry ∷ []) t)
+    → NumbersBecome (λ t n. n + length (came_below rows new new.processors t)) takes after
+    → get_or after t 0 ≡ length (processors_of start (history ++ entry ∷ []) t)
 takes_entered start history entry links new t rows takes after at_links at_new fits counted held processors becomes =
     let next : new ≡ effect_of (state_after start history) entry = at_new ∙ ap (λ (s : State). effect_of s entry) at_links in
     let came_here : length (came_below rows new new.processors t) ≡ length (taken_between links new t) =
-    filtered_count-same (λ p. came t (row_at rows p).held (task_on new p)) (λ p. came t (task_on links p) (task_on new p)) new.processors (λ p below. ap (λ (held : Option ℕ). came t held (task_on new p)) (held p below))
+    filtered_count-same (λ p. came t (row_at rows p).held (task_on new p)) (λ p. came t (task_on links p) (task_on new p)) new.processors
+    (λ p below. ap (λ (held : Option ℕ). came t held (task_on new p)) (held p below))
     ∙ ap (λ (n : ℕ). length (filter (λ p. came t (task_on links p) (task_on new p)) (range_with_len 0 n))) processors in
     let pushed = ap length (processors_of-push start history entry t) ∙ length-append (processors_of start history t) _ in
     becomes.each t 0 fits ∙ rw (counted, came_here, pushed, ← next, ← at_links) refl

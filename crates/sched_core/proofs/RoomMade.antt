@@ -1,5 +1,6 @@
 -- What a core keeps where room was made in it, and what its answers then say.
-use Rattle.std.proofs.Common.{◌≡◌, ◌≢◌, ℕ, ◌+◌, ◌*◌, ◌<◌, ◌≤◌, false, true, List, [], ◌∷◌, ◌++◌, length, Vec, Global, Ok, Err, if◌then◌else◌, refl, sym, ap, ◌∙◌, subst, arith}
+use Rattle.std.proofs.Common.{◌≡◌, ◌≢◌, ℕ, ◌+◌, ◌*◌, ◌<◌, ◌≤◌, false, true, List, [], ◌∷◌, ◌++◌, length, Vec, Global, Ok, Err}
+use Rattle.std.proofs.Common.{if◌then◌else◌, refl, sym, ap, ◌∙◌, subst, arith}
 use Rattle.std.specs.Vec.{vec_len, vec_capacity}
 use Rattle.task_set.specs.declared.event.Event.{Event}
 use Rattle.strong_apa.specs.declared.reply.Entry.{Entry}
@@ -15,8 +16,10 @@ use Rattle.sched_core.specs.declared.fault.CoreFault.TheVariants.{Closed, Full, 
 use Rattle.sched_core.specs.declared.scheduler.Core.TheInside.{Inside}
 
 -- rows that only grew keep what they kept
-pub kept_grown : (old : Inside) (rows : Vec RowData Global) (history : Vec Entry Global) (spare : ℕ) → IsKept old → RowsOnlyGrew old.rows.items rows.items → history.items ≡ old.history.items
-    → (old.closed ≡ false → (p : ℕ) → p < length old.rows.items → 2 * spare + 2 ≤ (row_at rows.items p).room) → vec_len history + spare ≤ vec_capacity history
+pub kept_grown : (old : Inside) (rows : Vec RowData Global) (history : Vec Entry Global) (spare : ℕ) → IsKept old
+    → RowsOnlyGrew old.rows.items rows.items → history.items ≡ old.history.items
+    → (old.closed ≡ false → (p : ℕ) → p < length old.rows.items → 2 * spare + 2 ≤ (row_at rows.items p).room)
+    → vec_len history + spare ≤ vec_capacity history
     → IsKept (record old { rows = rows; history = history; spare = spare })
 kept_grown old rows history spare kept grew same room fits =
     let start = state_before old.links old.first_masks.items in
@@ -35,14 +38,19 @@ kept_grown old rows history spare kept grew same room fits =
       };
       rows_count = grew.count ∙ kept.rows_count;
       takes_count = kept.takes_count;
-      orders = λ p low. (grew.each p (inside p low)).orders ∙ kept.orders p low ∙ ap (λ (h : List Entry). if old.closed then closed_orders_of start h p else orders_of start h p) (sym same);
+      orders = λ p low. (grew.each p (inside p low)).orders ∙ kept.orders p low
+          ∙ ap (λ (h : List Entry). if old.closed then closed_orders_of start h p else orders_of start h p) (sym same);
       takes = λ t low. kept.takes t low ∙ ap (λ (h : List Entry). length (processors_of start h t)) (sym same);
-      rows_open = λ still p low. record { held = (grew.each p (inside p low)).held ∙ (kept.rows_open still p low).held; room = room still p (inside p low) };
+      rows_open = λ still p low. record {
+        held = (grew.each p (inside p low)).held ∙ (kept.rows_open still p low).held;
+        room = room still p (inside p low);
+      };
       room = fits;
     }
 
 -- the room that was there is there
-pub room_stays : (old : Inside) (rows : List RowData) → IsKept old → RowsOnlyGrew old.rows.items rows → old.closed ≡ false → (p : ℕ) → p < length old.rows.items → 2 * old.spare + 2 ≤ (row_at rows p).room
+pub room_stays : (old : Inside) (rows : List RowData) → IsKept old → RowsOnlyGrew old.rows.items rows → old.closed ≡ false → (p : ℕ)
+    → p < length old.rows.items → 2 * old.spare + 2 ≤ (row_at rows p).room
 room_stays old rows kept grew still p low =
     let before = (kept.rows_open still p (omega (arith, kept.rows_count, low))).room in
     let more = (grew.each p low).room in
@@ -70,7 +78,8 @@ module _ (old : CoreData) (caller : ℕ) (event : Event) where
     refused = stays old;
   }
 
-  pub answers_memory : (new : CoreData) → old.closed ≡ false → length old.history ≢ max_entries → OnlyMadeRoom old new → (1 ≤ old.spare → ⊥) → AppliedOrRefused old caller event (Err OutOfMemory) new
+  pub answers_memory : (new : CoreData) → old.closed ≡ false → length old.history ≢ max_entries → OnlyMadeRoom old new → (1 ≤ old.spare → ⊥)
+      → AppliedOrRefused old caller event (Err OutOfMemory) new
   answers_memory new still few made none = record {
     applied = tt;
     closed = (λ e. absurd (cc e), λ is. absurd (cc (is, still)));
@@ -79,7 +88,8 @@ module _ (old : CoreData) (caller : ℕ) (event : Event) where
     refused = made;
   }
 
-  pub answers_applied : (made new : CoreData) (place : ℕ) → old.closed ≡ false → length old.history ≢ max_entries → place ≡ length old.history → OnlyMadeRoom old made → Applied made caller event (length made.history) new
+  pub answers_applied : (made new : CoreData) (place : ℕ) → old.closed ≡ false → length old.history ≢ max_entries
+      → place ≡ length old.history → OnlyMadeRoom old made → Applied made caller event (length made.history) new
       → AppliedOrRefused old caller event (Ok place) new
   answers_applied made new place still few at room applied = record {
     applied = record {

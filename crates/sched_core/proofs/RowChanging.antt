@@ -1,5 +1,6 @@
 -- A row that releases whom it holds, and takes another.
-use Rattle.std.proofs.Common.{◌≡◌, ◌≢◌, ℕ, ◌+◌, ◌<◌, ◌≤◌, Bool, true, false, ◌&&◌, not, eqb, eq-eqb, ne_eqb, List, [], ◌++◌, length, get_or, set, Option, Some, None, if◌then◌else◌, inl, inr, refl, sym, ap, ◌∙◌, append_assoc, arith}
+use Rattle.std.proofs.Common.{◌≡◌, ◌≢◌, ℕ, ◌+◌, ◌<◌, ◌≤◌, Bool, true, false, ◌&&◌, not, eqb, eq-eqb, ne_eqb, List, [], ◌++◌, length, get_or}
+use Rattle.std.proofs.Common.{set, Option, Some, None, if◌then◌else◌, inl, inr, refl, sym, ap, ◌∙◌, append_assoc, arith}
 use Rattle.std.proofs.lemmas.Bool.{cases_eq}
 use Rattle.std.proofs.lemmas.List.{length-set, get_or-set_same, get_or-set_other, get_or_default}
 use Rattle.std.specs.Option.{option_eq}
@@ -25,12 +26,14 @@ different (Some a) (Some b) other = ne_eqb a b (λ e. other (ap Some e))
 
 -- whom it holds is released, and another occupant taken
 pub row_changes : (old freed new : RowData) (takes : ℕ → ℕ) (occupant : Option ℕ) → old.held ≢ occupant → RowReleases old freed
-    → new.orders ≡ freed.orders ++ take_of takes occupant → new.held ≡ occupant → freed.room ≤ new.room + 1 → RowChanges old takes occupant new
+    → new.orders ≡ freed.orders ++ take_of takes occupant → new.held ≡ occupant → freed.room ≤ new.room + 1
+    → RowChanges old takes occupant new
 row_changes old freed new takes occupant other released orders held room = record {
   orders = orders
       ∙ ap (λ (l : List Order). l ++ take_of takes occupant) released.orders
       ∙ append_assoc old.orders (release_of old.held) (take_of takes occupant)
-      ∙ ap (λ (b : Bool). old.orders ++ (if b then [] else release_of old.held ++ take_of takes occupant)) (sym (different old.held occupant other));
+      ∙ ap (λ (b : Bool). old.orders ++ (if b then [] else release_of old.held ++ take_of takes occupant))
+      (sym (different old.held occupant other));
   held = held;
   room = omega (arith, released.room, room);
   kept = λ same. absurd (other same);
@@ -44,7 +47,8 @@ came_other : (held : Option ℕ) (t u : ℕ) → t ≢ u → came t held (Some u
 came_other held t u other = ap (λ (b : Bool). b && not (is_task t held)) (ne_eqb u t (λ e. other (sym e)))
 
 -- the number of takes of the occupant counts on
-pub numbers_count : (held occupant : Option ℕ) (takes : List ℕ) (task number : ℕ) → held ≢ occupant → occupant ≡ Some task → task < length takes → number ≡ get_or takes task 0
+pub numbers_count : (held occupant : Option ℕ) (takes : List ℕ) (task number : ℕ) → held ≢ occupant → occupant ≡ Some task
+    → task < length takes → number ≡ get_or takes task 0
     → NumbersBecome (λ t n. if came t held occupant then n + 1 else n) takes (set takes task (number + 1))
 numbers_count held occupant takes task number other is low at = record {
   count = length-set takes task (number + 1);
@@ -65,5 +69,9 @@ numbers_count held occupant takes task number other is low at = record {
 }
 
 -- nobody is taken
-pub numbers_stay : (held occupant : Option ℕ) (takes : List ℕ) → occupant ≡ None → NumbersBecome (λ t n. if came t held occupant then n + 1 else n) takes takes
-numbers_stay held occupant takes is = record { count = refl; each = λ t d inside. ap (λ (o : Option ℕ). if came t held o then get_or takes t d + 1 else get_or takes t d) (sym is) }
+pub numbers_stay : (held occupant : Option ℕ) (takes : List ℕ) → occupant ≡ None
+    → NumbersBecome (λ t n. if came t held occupant then n + 1 else n) takes takes
+numbers_stay held occupant takes is = record {
+  count = refl;
+  each = λ t d inside. ap (λ (o : Option ℕ). if came t held o then get_or takes t d + 1 else get_or takes t d) (sym is);
+}

@@ -1,5 +1,6 @@
 -- The rows of orders, as a loop goes over them one by one.
-use Rattle.std.proofs.Common.{◌≡◌, ◌≢◌, ℕ, zero, suc, ◌+◌, ◌<◌, ◌≤◌, Bool, true, false, cond, List, [], ◌∷◌, length, filter, set, ◌⊎◌, Option, Some, None, refl, sym, ap, ◌∙◌, subst, inl, inr, arith, zero-add}
+use Rattle.std.proofs.Common.{◌≡◌, ◌≢◌, ℕ, zero, suc, ◌+◌, ◌<◌, ◌≤◌, Bool, true, false, cond, List, [], ◌∷◌, length, filter, set, ◌⊎◌}
+use Rattle.std.proofs.Common.{Option, Some, None, refl, sym, ap, ◌∙◌, subst, inl, inr, arith, zero-add}
 use Rattle.std.specs.List.{range_with_len}
 use Rattle.std.proofs.lemmas.Bool.{cases_lt, cases_eq}
 use Rattle.std.proofs.lemmas.List.{length-append, length-set, get_or-set_same, get_or-set_other}
@@ -21,7 +22,8 @@ rows_done-none Becomes old = record {
 }
 
 -- one row more
-pub rows_done-more : (Becomes : ℕ → RowData → RowData → Type 0) (old : List RowData) (n : ℕ) (now : List RowData) (row : RowData) → n < length old → RowsDone Becomes old n now → Becomes n (row_at now n) row → RowsDone Becomes old (n + 1) (set now n row)
+pub rows_done-more : (Becomes : ℕ → RowData → RowData → Type 0) (old : List RowData) (n : ℕ) (now : List RowData) (row : RowData)
+    → n < length old → RowsDone Becomes old n now → Becomes n (row_at now n) row → RowsDone Becomes old (n + 1) (set now n row)
 rows_done-more Becomes old n now row fits so_far here = record {
   count = length-set now n row ∙ so_far.count;
   done = λ p below inside. elim (cases_eq p n) [
@@ -63,17 +65,22 @@ module _ (room : ℕ) (old : List RowData) (n : ℕ) (now : List RowData) (so_fa
   rows_have_room whole p fits = let inside : p < length old = rw so_far.count at fits in (so_far.done p (omega arith) inside).1
 
 -- ---- the numbers below n that pass a test
-pub filtered_count-more : (test : ℕ → Bool) (n : ℕ) → length (filter test (range_with_len 0 (n + 1))) ≡ length (filter test (range_with_len 0 n)) + cond (test n) 1 0
-filtered_count-more test n = ap length (filter_more test n) ∙ length-append (filter test (range_with_len 0 n)) (cond (test n) (n ∷ []) []) ∙ last (test n)
+pub filtered_count-more : (test : ℕ → Bool) (n : ℕ) → length (filter test (range_with_len 0 (n + 1)))
+    ≡ length (filter test (range_with_len 0 n)) + cond (test n) 1 0
+filtered_count-more test n =
+    ap length (filter_more test n) ∙ length-append (filter test (range_with_len 0 n)) (cond (test n) (n ∷ []) []) ∙ last (test n)
   where
-    last : (b : Bool) → length (filter test (range_with_len 0 n)) + length (cond b (n ∷ []) []) ≡ length (filter test (range_with_len 0 n)) + cond b 1 0
+    last : (b : Bool) → length (filter test (range_with_len 0 n)) + length (cond b (n ∷ []) []) ≡ length (filter test (range_with_len 0 n))
+        + cond b 1 0
     last true = refl
     last false = refl
 
-filtered_count-suc : (test : ℕ → Bool) (n : ℕ) → length (filter test (range_with_len 0 (suc n))) ≡ length (filter test (range_with_len 0 n)) + cond (test n) 1 0
+filtered_count-suc : (test : ℕ → Bool) (n : ℕ) → length (filter test (range_with_len 0 (suc n))) ≡ length (filter test (range_with_len 0 n))
+    + cond (test n) 1 0
 filtered_count-suc test n =
     let e : n + 1 ≡ suc n = omega arith in
-    subst (λ k. length (filter test (range_with_len 0 k)) ≡ length (filter test (range_with_len 0 n)) + cond (test n) 1 0) e (filtered_count-more test n)
+    subst (λ k. length (filter test (range_with_len 0 k)) ≡ length (filter test (range_with_len 0 n)) + cond (test n) 1 0) e
+    (filtered_count-more test n)
 
 -- at most n of the first n numbers pass
 pub filtered_count-bound : (test : ℕ → Bool) (n : ℕ) → length (filter test (range_with_len 0 n)) ≤ n
@@ -81,12 +88,14 @@ filtered_count-bound test zero = let e : length (filter test (range_with_len 0 0
 filtered_count-bound test (suc n) =
     bound (test n) (filtered_count-suc test n) (filtered_count-bound test n)
   where
-    bound : (b : Bool) → length (filter test (range_with_len 0 (suc n))) ≡ length (filter test (range_with_len 0 n)) + cond b 1 0 → length (filter test (range_with_len 0 n)) ≤ n → length (filter test (range_with_len 0 (suc n))) ≤ suc n
+    bound : (b : Bool) → length (filter test (range_with_len 0 (suc n))) ≡ length (filter test (range_with_len 0 n)) + cond b 1 0
+        → length (filter test (range_with_len 0 n)) ≤ n → length (filter test (range_with_len 0 (suc n))) ≤ suc n
     bound true e before = omega (arith, e, before)
     bound false e before = omega (arith, e, before)
 
 -- tests that agree below n count the same numbers
-pub filtered_count-same : (test other : ℕ → Bool) (n : ℕ) → ((p : ℕ) → p < n → test p ≡ other p) → length (filter test (range_with_len 0 n)) ≡ length (filter other (range_with_len 0 n))
+pub filtered_count-same : (test other : ℕ → Bool) (n : ℕ) → ((p : ℕ) → p < n → test p ≡ other p) → length (filter test (range_with_len 0 n))
+    ≡ length (filter other (range_with_len 0 n))
 filtered_count-same test other zero same = refl
 filtered_count-same test other (suc n) same =
     let before = filtered_count-same test other n (λ p below. same p (omega arith)) in
@@ -103,18 +112,21 @@ filtered_count-none test (suc n) none =
     omega (arith, more, before, here)
 
 -- tests that agree but at x, where the first one fails
-pub filtered_count-at : (test other : ℕ → Bool) (x n : ℕ) → x < n → test x ≡ false → ((p : ℕ) → p ≢ x → other p ≡ test p) → length (filter other (range_with_len 0 n)) ≡ length (filter test (range_with_len 0 n)) + cond (other x) 1 0
+pub filtered_count-at : (test other : ℕ → Bool) (x n : ℕ) → x < n → test x ≡ false → ((p : ℕ) → p ≢ x → other p ≡ test p)
+    → length (filter other (range_with_len 0 n)) ≡ length (filter test (range_with_len 0 n)) + cond (other x) 1 0
 filtered_count-at test other x zero fits fails same = absurd (let no : ⊥ = omega (arith, fits) in no)
 filtered_count-at test other x (suc n) fits fails same = elim (cases_eq x n) [
   | inl last ↦
       let before = filtered_count-same other test n (λ p below. same p (λ e. absurd (let no : ⊥ = omega (arith, below, last, e) in no))) in
       let here : cond (test n) 1 0 ≡ cond false 1 0 = ap (λ (b : Bool). cond b 1 0) (ap test (sym last) ∙ fails) in
       let there : cond (other n) 1 0 ≡ cond (other x) 1 0 = ap (λ (p : ℕ). cond (other p) 1 0) (sym last) in
-      last_one (length (filter other (range_with_len 0 n))) (length (filter test (range_with_len 0 n))) _ _ (cond (other n) 1 0) (cond (test n) 1 0) (cond (other x) 1 0) (filtered_count-suc other n) (filtered_count-suc test n) before here there
+      last_one (length (filter other (range_with_len 0 n))) (length (filter test (range_with_len 0 n))) _ _ (cond (other n) 1 0)
+      (cond (test n) 1 0) (cond (other x) 1 0) (filtered_count-suc other n) (filtered_count-suc test n) before here there
   | inr earlier ↦
       let before = filtered_count-at test other x n (omega (arith, fits, earlier)) fails same in
       let here : cond (other n) 1 0 ≡ cond (test n) 1 0 = ap (λ (b : Bool). cond b 1 0) (same n (λ e. earlier (sym e))) in
-      earlier_one (length (filter other (range_with_len 0 n))) (length (filter test (range_with_len 0 n))) _ _ (cond (other n) 1 0) (cond (test n) 1 0) (cond (other x) 1 0) (filtered_count-suc other n) (filtered_count-suc test n) before here
+      earlier_one (length (filter other (range_with_len 0 n))) (length (filter test (range_with_len 0 n))) _ _ (cond (other n) 1 0)
+      (cond (test n) 1 0) (cond (other x) 1 0) (filtered_count-suc other n) (filtered_count-suc test n) before here
 ]
   where
     last_one : (a b a' b' here there extra : ℕ) → a' ≡ a + here → b' ≡ b + there → a ≡ b → there ≡ 0 → here ≡ extra → a' ≡ b' + extra
@@ -124,12 +136,15 @@ filtered_count-at test other x (suc n) fits fails same = elim (cases_eq x n) [
     earlier_one a b a' b' here there extra e f g h = omega arith
 
 -- where each number is judged by one of two tests, and fails the other, both together count what the test counts
-pub filtered_count-split : (test first later : ℕ → Bool) (n : ℕ) → ((p : ℕ) → p < n → ((later p ≡ false) × (test p ≡ first p)) ⊎ ((first p ≡ false) × (test p ≡ later p)))
+pub filtered_count-split : (test first later : ℕ → Bool) (n : ℕ)
+    → ((p : ℕ) → p < n → ((later p ≡ false) × (test p ≡ first p)) ⊎ ((first p ≡ false) × (test p ≡ later p)))
     → length (filter test (range_with_len 0 n)) ≡ length (filter first (range_with_len 0 n)) + length (filter later (range_with_len 0 n))
 filtered_count-split test first later zero split = refl
 filtered_count-split test first later (suc n) split =
-    both (length (filter test (range_with_len 0 n))) (length (filter first (range_with_len 0 n))) (length (filter later (range_with_len 0 n))) _ _ _ (cond (test n) 1 0) (cond (first n) 1 0) (cond (later n) 1 0)
-    (filtered_count-suc test n) (filtered_count-suc first n) (filtered_count-suc later n) (filtered_count-split test first later n (λ p below. split p (omega arith))) (here (split n (omega arith)))
+    both (length (filter test (range_with_len 0 n))) (length (filter first (range_with_len 0 n)))
+    (length (filter later (range_with_len 0 n))) _ _ _ (cond (test n) 1 0) (cond (first n) 1 0) (cond (later n) 1 0)
+    (filtered_count-suc test n) (filtered_count-suc first n) (filtered_count-suc later n)
+    (filtered_count-split test first later n (λ p below. split p (omega arith))) (here (split n (omega arith)))
   where
     both : (a b c a' b' c' x y z : ℕ) → a' ≡ a + x → b' ≡ b + y → c' ≡ c + z → a ≡ b + c → x ≡ y + z → a' ≡ b' + c'
     both a b c a' b' c' x y z e f g h i = omega arith
@@ -138,11 +153,13 @@ filtered_count-split test first later (suc n) split =
     alone true = refl
     alone false = refl
 
-    here : ((later n ≡ false) × (test n ≡ first n)) ⊎ ((first n ≡ false) × (test n ≡ later n)) → cond (test n) 1 0 ≡ cond (first n) 1 0 + cond (later n) 1 0
+    here : ((later n ≡ false) × (test n ≡ first n)) ⊎ ((first n ≡ false) × (test n ≡ later n)) → cond (test n) 1 0 ≡ cond (first n) 1 0
+        + cond (later n) 1 0
     here (inl (fails, same)) = rw (fails, same) (alone (first n))
     here (inr (fails, same)) = rw (fails, same) (sym (zero-add (cond (later n) 1 0)))
 
 -- the orders at a change name the take of the occupant alone
-pub change_orders-same_number : (takes others : ℕ → ℕ) (held occupant : Option ℕ) → ((t : ℕ) → occupant ≡ Some t → takes t ≡ others t) → change_orders takes held occupant ≡ change_orders others held occupant
+pub change_orders-same_number : (takes others : ℕ → ℕ) (held occupant : Option ℕ) → ((t : ℕ) → occupant ≡ Some t → takes t ≡ others t)
+    → change_orders takes held occupant ≡ change_orders others held occupant
 change_orders-same_number takes others held None same = refl
 change_orders-same_number takes others held (Some t) same = rw (same t refl) refl

@@ -1,15 +1,18 @@
 -- The rows of a chain change to their occupants, one by one. A processor may stand in the chain twice: its row holds the
 -- occupant then, and stays.
-use Rattle.std.proofs.Common.{◌≡◌, ◌≢◌, ℕ, ◌+◌, ◌<◌, Bool, true, false, not, ◌&&◌, cond, if◌then◌else◌, List, [], ◌∷◌, ◌++◌, length, get_or, filter, set, Option, Some, refl, sym, ap, ◌∙◌, subst, inl, inr, arith}
+use Rattle.std.proofs.Common.{◌≡◌, ◌≢◌, ℕ, ◌+◌, ◌<◌, Bool, true, false, not, ◌&&◌, cond, if◌then◌else◌, List, [], ◌∷◌, ◌++◌, length, get_or}
+use Rattle.std.proofs.Common.{filter, set, Option, Some, refl, sym, ap, ◌∙◌, subst, inl, inr, arith}
 use Rattle.std.specs.Prelude.{All, Contains}
 use Rattle.std.specs.List.{range_with_len}
 use Rattle.std.proofs.lemmas.Bool.{cases_Bool, cases_eq}
 use Rattle.std.proofs.lemmas.List.{length-set, get_or-set_same, get_or-set_other}
-use Rattle.std.proofs.lemmas.List.Elements.{All-nil, All-cons, All-head, All-tail, Contains-push, Contains-push_cases, Contains-append_left, Contains-append_right, Contains-append_cases}
+use Rattle.std.proofs.lemmas.List.Elements.{All-nil, All-cons, All-head, All-tail, Contains-push, Contains-push_cases, Contains-append_left}
+use Rattle.std.proofs.lemmas.List.Elements.{Contains-append_right, Contains-append_cases}
 use Rattle.task_set.specs.declared.order.Order.{Order}
 use Rattle.strong_apa.specs.State.{State, task_on, is_task}
 use Rattle.strong_apa.proofs.Linked.{is_task-true, linked_number}
-use Rattle.sched_core.specs.CoreRows.{RowData, row_at, empty_row, RowChanges, RowChangesIn, RowsChange, CanFollow, NumbersBecome, came, came_between}
+use Rattle.sched_core.specs.CoreRows.{RowData, row_at, empty_row, RowChanges, RowChangesIn, RowsChange, CanFollow, NumbersBecome, came}
+use Rattle.sched_core.specs.CoreRows.{came_between}
 use Rattle.sched_core.proofs.RowLoops.{filtered_count-at, filtered_count-none, filtered_count-split, change_orders-same_number}
 
 -- nobody comes where the same task is held
@@ -30,12 +33,15 @@ rows_change-none links rows takes = record {
   each = λ p. inr (nothing_in p, refl);
   takes_more = record {
     count = refl;
-    each = λ t d fits. let none = filtered_count-none (λ p. came t (row_at rows p).held (row_at rows p).held) (length rows) (λ p below. came-same t (row_at rows p).held) in omega (arith, none);
+    each = λ t d fits. let none = filtered_count-none (λ p. came t (row_at rows p).held (row_at rows p).held) (length rows)
+        (λ p below. came-same t (row_at rows p).held) in omega (arith, none);
   };
 }
 
 -- ---- along one processor
-module _ (links : State) (x : ℕ) (now : List RowData) (counted : List ℕ) (row : RowData) (after : List ℕ) (fits : x < length now) (changes : RowChanges (row_at now x) (λ t. get_or counted t 0) (task_on links x) row) (numbers : NumbersBecome (λ t n. if came t (row_at now x).held (task_on links x) then n + 1 else n) counted after) where
+module _ (links : State) (x : ℕ) (now : List RowData) (counted : List ℕ) (row : RowData) (after : List ℕ) (fits : x < length now)
+    (changes : RowChanges (row_at now x) (λ t. get_or counted t 0) (task_on links x) row)
+    (numbers : NumbersBecome (λ t n. if came t (row_at now x).held (task_on links x) then n + 1 else n) counted after) where
   at_x : row_at (set now x row) x ≡ row
   at_x = get_or-set_same now x row empty_row fits
 
@@ -57,11 +63,14 @@ module _ (links : State) (x : ℕ) (now : List RowData) (counted : List ℕ) (ro
   -- t is counted where it came to x
   counted_here : (t : ℕ) → length (came_between now (set now x row) t) ≡ cond (came t (row_at now x).held (task_on links x)) 1 0
   counted_here t =
-      let before = filtered_count-none (λ p. came t (row_at now p).held (row_at now p).held) (length now) (λ p below. came-same t (row_at now p).held) in
-      let more = filtered_count-at (λ p. came t (row_at now p).held (row_at now p).held) (λ p. came t (row_at now p).held (row_at (set now x row) p).held) x (length now) fits
+      let before = filtered_count-none (λ p. came t (row_at now p).held (row_at now p).held) (length now)
+      (λ p below. came-same t (row_at now p).held) in
+      let more = filtered_count-at (λ p. came t (row_at now p).held (row_at now p).held)
+      (λ p. came t (row_at now p).held (row_at (set now x row) p).held) x (length now) fits
       (came-same t (row_at now x).held)
       (λ p other. ap (λ (r : RowData). came t (row_at now p).held r.held) (elsewhere p other)) in
-      let there : cond (came t (row_at now x).held (row_at (set now x row) x).held) 1 0 ≡ cond (came t (row_at now x).held (task_on links x)) 1 0 =
+      let there : cond (came t (row_at now x).held (row_at (set now x row) x).held) 1 0
+      ≡ cond (came t (row_at now x).held (task_on links x)) 1 0 =
       ap (λ (held : Option ℕ). cond (came t (row_at now x).held held) 1 0) (ap (λ (r : RowData). r.held) at_x ∙ changes.held) in
       alone _ _ _ _ more before there
     where
@@ -74,7 +83,8 @@ module _ (links : State) (x : ℕ) (now : List RowData) (counted : List ℕ) (ro
     each = each_row;
     takes_more = record {
       count = numbers.count;
-      each = λ t d known. numbers.each t d known ∙ by (came t (row_at now x).held (task_on links x)) (get_or counted t d) (length (came_between now (set now x row) t)) (counted_here t);
+      each = λ t d known. numbers.each t d known ∙ by (came t (row_at now x).held (task_on links x)) (get_or counted t d)
+          (length (came_between now (set now x row) t)) (counted_here t);
     };
   }
     where
@@ -91,7 +101,8 @@ all_later : (P : ℕ → Type 0) (xs ys : List ℕ) → All P (xs ++ ys) → All
 all_later P [] ys all = all
 all_later P (x ∷ xs) ys all = all_later P xs ys (All-tail P x (xs ++ ys) all)
 
-pub can_follow-first : (links : State) (first later : List ℕ) (rows : List RowData) (takes : List ℕ) → CanFollow (first ++ later) links rows takes → CanFollow first links rows takes
+pub can_follow-first : (links : State) (first later : List ℕ) (rows : List RowData) (takes : List ℕ)
+    → CanFollow (first ++ later) links rows takes → CanFollow first links rows takes
 can_follow-first links first later rows takes can = record {
   state = can.state;
   below = all_first (λ p. p < links.processors) first later can.below;
@@ -101,16 +112,19 @@ can_follow-first links first later rows takes can = record {
 }
 
 -- ---- along one chain, and then another
-module _ (links : State) (chain first : List ℕ) (old now : List RowData) (takes counted : List ℕ) (can : CanFollow chain links old takes) (so_far : RowsChange first links old takes now counted) where
+module _ (links : State) (chain first : List ℕ) (old now : List RowData) (takes counted : List ℕ) (can : CanFollow chain links old takes)
+    (so_far : RowsChange first links old takes now counted) where
   -- the occupant of a processor outside the first chain came nowhere
   not_yet : (x : ℕ) → (Contains first x → ⊥) → (t : ℕ) → task_on links x ≡ Some t → length (came_between old now t) ≡ 0
-  not_yet x fresh t on = filtered_count-none (λ p. came t (row_at old p).held (row_at now p).held) (length old) (λ p below. elim (so_far.each p) [
-    | inl there ↦ elim (cases_Bool (is_task t (task_on links p))) [
-      | inl here ↦ absurd (fresh (subst (λ (q : ℕ). Contains first q) (can.state.once p x t (is_task-true t (task_on links p) here) on) there.0))
-      | inr other ↦ rw (there.1.held, other) refl
-    ]
-    | inr same ↦ rw same.1 (came-same t (row_at old p).held)
-  ])
+  not_yet x fresh t on =
+      filtered_count-none (λ p. came t (row_at old p).held (row_at now p).held) (length old) (λ p below. elim (so_far.each p) [
+        | inl there ↦ elim (cases_Bool (is_task t (task_on links p))) [
+          | inl here ↦ absurd (fresh (subst (λ (q : ℕ). Contains first q) (can.state.once p x t (is_task-true t (task_on links p) here) on)
+              there.0))
+          | inr other ↦ rw (there.1.held, other) refl
+        ]
+        | inr same ↦ rw same.1 (came-same t (row_at old p).held)
+      ])
 
   -- so the number of its takes is the one before the event
   number_before : (x : ℕ) → (Contains first x → ⊥) → (t : ℕ) → task_on links x ≡ Some t → get_or counted t 0 ≡ get_or takes t 0
@@ -150,11 +164,16 @@ module _ (links : State) (chain first : List ℕ) (old now : List RowData) (take
       | inr same ↦ same.1
     ]
 
-    changed : (p : ℕ) → (Contains first p → ⊥) → row_at now p ≡ row_at old p → RowChanges (row_at now p) (λ t. get_or counted t 0) (task_on links p) (row_at new p) → RowChanges (row_at old p) (λ t. get_or takes t 0) (task_on links p) (row_at new p)
+    changed : (p : ℕ) → (Contains first p → ⊥) → row_at now p ≡ row_at old p
+        → RowChanges (row_at now p) (λ t. get_or counted t 0) (task_on links p) (row_at new p)
+        → RowChanges (row_at old p) (λ t. get_or takes t 0) (task_on links p) (row_at new p)
     changed p fresh same changes =
-        let moved : RowChanges (row_at old p) (λ t. get_or counted t 0) (task_on links p) (row_at new p) = subst (λ (r : RowData). RowChanges r (λ t. get_or counted t 0) (task_on links p) (row_at new p)) same changes in
+        let moved : RowChanges (row_at old p) (λ t. get_or counted t 0) (task_on links p) (row_at new p) = subst
+        (λ (r : RowData). RowChanges r (λ t. get_or counted t 0) (task_on links p) (row_at new p)) same changes in
         record {
-          orders = moved.orders ∙ ap (λ (xs : List Order). (row_at old p).orders ++ xs) (change_orders-same_number (λ t. get_or counted t 0) (λ t. get_or takes t 0) (row_at old p).held (task_on links p) (λ t on. number_before p fresh t on));
+          orders = moved.orders ∙ ap (λ (xs : List Order). (row_at old p).orders ++ xs)
+              (change_orders-same_number (λ t. get_or counted t 0) (λ t. get_or takes t 0) (row_at old p).held (task_on links p)
+              (λ t on. number_before p fresh t on));
           held = moved.held;
           room = moved.room;
           kept = moved.kept;
@@ -177,12 +196,14 @@ module _ (links : State) (chain first : List ℕ) (old now : List RowData) (take
 
     counted_twice : (t : ℕ) → length (came_between old new t) ≡ length (came_between old now t) + length (came_between now new t)
     counted_twice t =
-        filtered_count-split (λ p. came t (row_at old p).held (row_at new p).held) (λ p. came t (row_at old p).held (row_at now p).held) (λ p. came t (row_at now p).held (row_at new p).held) (length old)
+        filtered_count-split (λ p. came t (row_at old p).held (row_at new p).held) (λ p. came t (row_at old p).held (row_at now p).held)
+        (λ p. came t (row_at now p).held (row_at new p).held) (length old)
         (λ p below. elim (so_far.each p) [
           | inl there ↦ let still = stays_held p there.1.held in inl (rw still (came-same t (row_at now p).held), rw still refl)
           | inr same ↦ inr (rw same.1 (came-same t (row_at old p).held), rw same.1 refl)
         ])
-        ∙ ap (λ (n : ℕ). length (came_between old now t) + length (filter (λ p. came t (row_at now p).held (row_at new p).held) (range_with_len 0 n))) (sym so_far.count)
+        ∙ ap (λ (n : ℕ). length (came_between old now t)
+        + length (filter (λ p. came t (row_at now p).held (row_at new p).held) (range_with_len 0 n))) (sym so_far.count)
 
     pub rows_change-then : RowsChange (first ++ later) links old takes new after
     rows_change-then = record {
@@ -190,7 +211,8 @@ module _ (links : State) (chain first : List ℕ) (old now : List RowData) (take
       each = each_of_both;
       takes_more = record {
         count = next.takes_more.count ∙ so_far.takes_more.count;
-        each = λ t d known. sum _ _ _ _ _ _ (next.takes_more.each t d (rw so_far.takes_more.count known)) (so_far.takes_more.each t d known) (counted_twice t);
+        each = λ t d known. sum _ _ _ _ _ _ (next.takes_more.each t d (rw so_far.takes_more.count known)) (so_far.takes_more.each t d known)
+            (counted_twice t);
       };
     }
       where

@@ -28,11 +28,16 @@ module _ (n : ℕ) (made rows : List RowData) (is_made : made ≡ replicate n em
   at_made : (p : ℕ) → row_at made p ≡ empty_row
   at_made p = ap (λ (xs : List RowData). row_at xs p) is_made ∙ row_made n p
 
-  pub rows_say_nothing : (s : State) (history : List Entry) → history ≡ [] → (p : ℕ) → p < n → (row_at rows p).orders ≡ orders_of s history p
-  rows_say_nothing s history none p lt = (grew.each p (rw made_count lt)).orders ∙ ap (λ (row : RowData). row.orders) (at_made p) ∙ sym (ap (λ (h : List Entry). orders_of s h p) none)
+  pub rows_say_nothing : (s : State) (history : List Entry) → history ≡ [] → (p : ℕ) → p < n
+      → (row_at rows p).orders ≡ orders_of s history p
+  rows_say_nothing s history none p lt = (grew.each p (rw made_count lt)).orders ∙ ap (λ (row : RowData). row.orders) (at_made p)
+      ∙ sym (ap (λ (h : List Entry). orders_of s h p) none)
 
   pub nobody_is_held : (set : SetData) (links : State) → links ≡ start_of set → (p : ℕ) → p < n → (row_at rows p).held ≡ task_on links p
-  nobody_is_held set links is_start p lt = (grew.each p (rw made_count lt)).held ∙ ap (λ (row : RowData). row.held) (at_made p) ∙ sym (ap (λ (s : State). task_on s p) is_start ∙ none_on set.processors p)
+  nobody_is_held set links is_start p lt = (grew.each p (rw made_count lt)).held ∙ ap (λ (row : RowData). row.held) (at_made p)
+      ∙ sym (ap (λ (s : State). task_on s p) is_start ∙ none_on set.processors p)
 
-pub never_taken : (s : State) (history : List Entry) (takes : List ℕ) (n t : ℕ) → history ≡ [] → takes ≡ replicate n 0 → get_or takes t 0 ≡ length (processors_of s history t)
-never_taken s history takes n t none are = ap (λ (xs : List ℕ). get_or xs t 0) are ∙ no_take n t ∙ sym (ap (λ (h : List Entry). length (processors_of s h t)) none)
+pub never_taken : (s : State) (history : List Entry) (takes : List ℕ) (n t : ℕ) → history ≡ [] → takes ≡ replicate n 0
+    → get_or takes t 0 ≡ length (processors_of s history t)
+never_taken s history takes n t none are =
+    ap (λ (xs : List ℕ). get_or xs t 0) are ∙ no_take n t ∙ sym (ap (λ (h : List Entry). length (processors_of s h t)) none)

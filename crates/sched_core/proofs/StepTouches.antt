@@ -11,10 +11,12 @@ use Rattle.strong_apa.specs.Touched.{StaysOutside, touched}
 use Rattle.strong_apa.proofs.StepsPass.{step_passes}
 use Rattle.strong_apa.proofs.Touched.{passing_stays_outside}
 
-pub step_stays_outside : (s : State) (event : Event) (reply : Reply) (new : State) → IsState s → SchedulerStep s event reply new → StaysOutside s new (touched event reply)
+pub step_stays_outside : (s : State) (event : Event) (reply : Reply) (new : State) → IsState s → SchedulerStep s event reply new
+    → StaysOutside s new (touched event reply)
 step_stays_outside s event reply new ok step =
     rw (reply_gives_new_state s event reply new step) (passing_stays_outside s event reply ok (step_passes s event reply new ok step))
 
 -- a tick has no chain
-pub tick_has_no_chain : (s : State) (event : Event) (reply : Reply) (new : State) → SchedulerStep s event reply new → (units : ℕ) → event ≡ Tick units → chain_of reply ≡ []
+pub tick_has_no_chain : (s : State) (event : Event) (reply : Reply) (new : State) → SchedulerStep s event reply new → (units : ℕ)
+    → event ≡ Tick units → chain_of reply ≡ []
 tick_has_no_chain s event reply new step units e = ap chain_of (subst (λ (x : Event). SchedulerStep s x reply new) e step).0

@@ -1,7 +1,8 @@
--- The scheduler on one thread. A core has a history from the state in which it began, and the links after it; each
--- event that is applied adds one entry, which is the scheduler's step; the orders of each processor are those of the
--- history, and of the close once the core is closed.
-use Rattle.std.specs.Prelude.{◌≡◌, ◌≢◌, ℕ, ◌+◌, ◌≤◌, ◌↔◌, IsTrue, Bool, false, List, [], ◌∷◌, ◌++◌, length, Result, Err, IfOk, if◌then◌else◌}
+-- The scheduler on one thread. A core has a history from the state in which it began, and the links
+-- after it; each event that is applied adds one entry, which is the scheduler's step; the orders of
+-- each processor are those of the history, and of the close once the core is closed.
+use Rattle.std.specs.Prelude.{◌≡◌, ◌≢◌, ℕ, ◌+◌, ◌≤◌, ◌↔◌, IsTrue, Bool, false, List, [], ◌∷◌, ◌++◌}
+use Rattle.std.specs.Prelude.{length, Result, Err, IfOk, if◌then◌else◌}
 use Rattle.std.specs.Result.{OnErr}
 use Rattle.task_set.specs.declared.event.Event.{Event}
 use Rattle.task_set.specs.declared.order.Order.{Order}
@@ -17,8 +18,8 @@ use Rattle.history_laws.specs.Start.{NobodyIsReady}
 use Rattle.sched_core.specs.declared.fault.CoreFault.{CoreFault}
 use Rattle.sched_core.specs.declared.fault.CoreFault.TheVariants.{Closed, Full, OutOfMemory}
 
--- the state in which a core began, its history, the links now, whether it is closed, and for how many more entries
--- there is room
+-- the state in which a core began, its history, the links now, whether it is closed, and for how
+-- many more entries there is room
 pub record CoreData : Type 0 where
   pub start : State
   pub history : List Entry
@@ -30,8 +31,8 @@ pub record CoreData : Type 0 where
 abbrev pub max_entries : ℕ
 max_entries = 20000
 
--- what holds of every core: nobody was ready in the state in which it began, the history is legal from there, the links
--- are those after it, and each waiting task has a certificate
+-- what holds of every core: nobody was ready in the state in which it began, the history is legal
+-- from there, the links are those after it, and each waiting task has a certificate
 pub record IsCore (core : CoreData) : Type 0 where
   pub start : IsState core.start
   pub nobody : NobodyIsReady core.start
@@ -45,16 +46,18 @@ pub record IsCore (core : CoreData) : Type 0 where
 
 -- the orders of p: those of the history, and of the close once the core is closed
 abbrev pub core_orders : CoreData → ℕ → List Order
-core_orders core p = if core.closed then closed_orders_of core.start core.history p else orders_of core.start core.history p
+core_orders core p = if core.closed then closed_orders_of core.start core.history p
+    else orders_of core.start core.history p
 
 -- an entry of a caller and an event, with the reply to it
 abbrev pub entry_of : ℕ → Event → Reply → Entry
 entry_of caller event reply = record { caller = caller; event = event; reply = reply }
 
--- the event of this caller was applied: the history has one more entry, at this place, which is the scheduler's step
--- from the links before it to the links after it; its reply is justified by the links before it
--- and after it, and it takes the room of one entry at most
-pub record Applied (old : CoreData) (caller : ℕ) (event : Event) (place : ℕ) (new : CoreData) : Type 0 where
+-- the event of this caller was applied: the history has one more entry, at this place, which is the
+-- scheduler's step from the links before it to the links after it; its reply is justified by the
+-- links before it and after it, and it takes the room of one entry at most
+pub record Applied (old : CoreData) (caller : ℕ) (event : Event) (place : ℕ)
+    (new : CoreData) : Type 0 where
   pub reply : Reply
   pub at_place : place ≡ length old.history
   pub history : new.history ≡ old.history ++ entry_of caller event reply ∷ []
@@ -72,9 +75,10 @@ pub record OnlyMadeRoom (old new : CoreData) : Type 0 where
   pub closed : new.closed ≡ old.closed
   pub spare : old.spare ≤ new.spare
 
--- the answer to an event of a caller: it was applied, at this place; or it was refused, since the core was closed, or
--- full, or memory ran out, which cannot be where room for an entry was made
-pub record AppliedOrRefused (old : CoreData) (caller : ℕ) (event : Event) (result : Result ℕ CoreFault) (new : CoreData) : Type 0 where
+-- the answer to an event of a caller: it was applied, at this place; or it was refused, since the
+-- core was closed, or full, or memory ran out, which cannot be where room for an entry was made
+pub record AppliedOrRefused (old : CoreData) (caller : ℕ) (event : Event)
+    (result : Result ℕ CoreFault) (new : CoreData) : Type 0 where
   pub applied : IfOk result (λ place. Applied old caller event place new)
   pub closed : (result ≡ Err Closed) ↔ IsTrue old.closed
   pub full : (result ≡ Err Full) ↔ (old.closed ≡ false) × (length old.history ≡ max_entries)

@@ -6,4 +6,8 @@ use Rattle.sched_core.specs.declared.order_row.OrderRow.TheInside.{Inside}
 
 -- the orders that are stored, who is held, and the capacity that is left
 abbrev pub row_view : Inside → RowData
-row_view a = record { orders = a.orders.items; held = a.held; room = vec_capacity a.orders - vec_len a.orders }
+row_view a = record {
+  orders = a.orders.items;
+  held = a.held;
+  room = vec_capacity a.orders - vec_len a.orders;
+}

@@ -1,7 +1,8 @@
--- What contracts see of a core, and what its stored parts keep. Of the state in which it began a core keeps the masks: all
--- else of it the links tell. Its rows have the orders of the history, and there is room in them for the orders of the
--- entries for which room was made, and of the close.
-use Rattle.std.specs.Prelude.{◌≡◌, ℕ, ◌+◌, ◌*◌, ◌<◌, ◌≤◌, false, List, length, get_or, replicate, None}
+-- What contracts see of a core, and what its stored parts keep. Of the state in which it began a
+-- core keeps the masks: all else of it the links tell. Its rows have the orders of the history, and
+-- there is room in them for the orders of the entries for which room was made, and of the close.
+use Rattle.std.specs.Prelude.{◌≡◌, ℕ, ◌+◌, ◌*◌, ◌<◌, ◌≤◌, false, List, length, get_or, replicate}
+use Rattle.std.specs.Prelude.{None}
 use Rattle.std.specs.Vec.{vec_len, vec_capacity}
 use Rattle.affinity_mask.specs.ProcSet.{all_below}
 use Rattle.strong_apa.specs.State.{State, task_count, task_on}
@@ -42,8 +43,10 @@ pub record IsKeptFrom (start : State) (a : Inside) : Type 0 where
   pub core : IsCore (core_from start a)
   pub rows_count : length a.rows.items ≡ a.links.processors
   pub takes_count : length a.takes.items ≡ task_count a.links
-  pub orders : (p : ℕ) → p < a.links.processors → (row_at a.rows.items p).orders ≡ core_orders (core_from start a) p
-  pub takes : (t : ℕ) → t < task_count a.links → get_or a.takes.items t 0 ≡ length (processors_of start a.history.items t)
+  pub orders : (p : ℕ) → p < a.links.processors
+      → (row_at a.rows.items p).orders ≡ core_orders (core_from start a) p
+  pub takes : (t : ℕ) → t < task_count a.links
+      → get_or a.takes.items t 0 ≡ length (processors_of start a.history.items t)
   pub rows_open : a.closed ≡ false → (p : ℕ) → p < a.links.processors → RowIsOpen a p
   pub room : vec_len a.history + a.spare ≤ vec_capacity a.history
 

@@ -1,5 +1,6 @@
 -- The exchange that adds entries keeps the chronicle's rule.
-use Rattle.std.proofs.Common.{◌≡◌, ℕ, ◌+◌, ◌<◌, ◌==◌, Bool, true, false, List, [], ◌∷◌, ◌++◌, length, refl, ap, sym, subst, arith, inl, length-append, append-nil, None}
+use Rattle.std.proofs.Common.{◌≡◌, ℕ, ◌+◌, ◌<◌, ◌==◌, Bool, true, false, List, [], ◌∷◌, ◌++◌, length, refl, ap, sym, subst, arith, inl}
+use Rattle.std.proofs.Common.{length-append, append-nil, None}
 use Rattle.std.proofs.lemmas.Bool.Decides.{nat_tests}
 use mathlib.Core.List.{IsPrefix}
 use prog.Atomic.{either}
@@ -18,11 +19,13 @@ abbrev pub bare : List Entry → View Entry ℕ
 bare v = (v, (no_nib, None))
 
 pub adds_goes : (log v more : List Entry) (e : Entry) (old : ℕ) → length v ≡ old → IsPrefix v log → (b : Bool) → (length log == old) ≡ b
-    → Goes IsKept shown moved 0 (bare v) (λ n. either (n == old) (old + length more) n) (AddsEntries more (step 0 old (old + length more) e) (bare v)) ((length log, true) ∷ (0, true) ∷ []) log
+    → Goes IsKept shown moved 0 (bare v) (λ n. either (n == old) (old + length more) n)
+    (AddsEntries more (step 0 old (old + length more) e) (bare v)) ((length log, true) ∷ (0, true) ∷ []) log
 adds_goes log v more e old len pre true is =
     let here : length log ≡ old = grind (arith, nat_tests) in
     let same : v ≡ log = prefix_whole v log pre (omega arith) in
-    let n : either (length log == old) (old + length more) (length log) ≡ length (log ++ more) = rw is (omega (arith, length-append log more)) in (
+    let n : either (length log == old) (old + length more) (length log)
+    ≡ length (log ++ more) = rw is (omega (arith, length-append log more)) in (
       keeps,
       more,
       None,
@@ -45,7 +48,10 @@ adds_goes log v more e old len pre false is =
 
 -- whatever the book is, the exchange adds these after all that had been seen, or finds that there were more
 pub adds_moves : (v more : List Entry) (e : Entry) (old : ℕ) → length v ≡ old
-    → Moves IsKept shown moved 0 (bare v) (λ n. either (n == old) (old + length more) n) (AddsEntries more (step 0 old (old + length more) e) (bare v))
+    → Moves IsKept shown moved 0 (bare v) (λ n. either (n == old) (old + length more) n)
+    (AddsEntries more (step 0 old (old + length more) e) (bare v))
 adds_moves v more e old len cs log kept pre away =
-    let P : List Cell → Type 0 = λ c. (0 < length c) × ((cell c 0).1 ≡ true) × Goes IsKept shown moved 0 (bare v) (λ n. either (n == old) (old + length more) n) (AddsEntries more (step 0 old (old + length more) e) (bare v)) c log in
+    let P : List Cell → Type 0 = λ c. (0 < length c) × ((cell c 0).1 ≡ true)
+    × Goes IsKept shown moved 0 (bare v) (λ n. either (n == old) (old + length more) n)
+    (AddsEntries more (step 0 old (old + length more) e) (bare v)) c log in
     subst P (sym kept.words) (omega arith, refl, adds_goes log v more e old len pre (length log == old) refl)

@@ -1,5 +1,6 @@
 -- What a shift and a leave do to the occupants that a picture shows.
-use Rattle.std.proofs.Common.{◌≡◌, ℕ, ◌<◌, ◌≤◌, List, length, get_or, map, drop, Option, Some, None, refl, sym, ap, ◌∙◌, arith, drop-cons, eq-eqb}
+use Rattle.std.proofs.Common.{◌≡◌, ℕ, ◌<◌, ◌≤◌, List, length, get_or, map, drop, Option, Some, None, refl, sym, ap, ◌∙◌, arith, drop-cons}
+use Rattle.std.proofs.Common.{eq-eqb}
 use Rattle.std.specs.List.{range_with_len}
 use Rattle.std.proofs.lemmas.List.{get_or_past, drop_all}
 use Rattle.std.proofs.lemmas.List.FromFn.{get_or-map-range_with_len, length-map-range_with_len}
@@ -17,12 +18,14 @@ use Rattle.schedule_board.specs.declared.occupants.Occupants.{Occupants}
 use Rattle.schedule_board.specs.Links.{ShowsLinks}
 
 -- a processor that there is
-pub shifted_in : (s : State) (t : ℕ) (chain : List ℕ) (p : ℕ) → p < s.processors → task_on (state_after_shift s t chain) p ≡ occupant_after_shift s (Some t) chain p
+pub shifted_in : (s : State) (t : ℕ) (chain : List ℕ) (p : ℕ) → p < s.processors → task_on (state_after_shift s t chain) p
+    ≡ occupant_after_shift s (Some t) chain p
 shifted_in s t chain p h = get_or-map-range_with_len (occupant_after_shift s (Some t) chain) 0 s.processors p p None h (omega arith)
 
 -- a processor that there is not
 pub shifted_out : (s : State) (t : ℕ) (chain : List ℕ) (p : ℕ) → s.processors ≤ p → task_on (state_after_shift s t chain) p ≡ None
-shifted_out s t chain p h = get_or_past (map (occupant_after_shift s (Some t) chain) (range_with_len 0 s.processors)) p None (omega (arith, length-map-range_with_len (occupant_after_shift s (Some t) chain) 0 s.processors))
+shifted_out s t chain p h = get_or_past (map (occupant_after_shift s (Some t) chain) (range_with_len 0 s.processors)) p None
+    (omega (arith, length-map-range_with_len (occupant_after_shift s (Some t) chain) 0 s.processors))
 
 -- who becomes ready stays where it is, and so do all others where a mask changes or a processor goes off line or comes on line
 pub shows_with_ready : (s : State) (t : ℕ) (shown : Occupants) → ShowsLinks s shown → ShowsLinks (state_with_ready s t) shown
@@ -35,7 +38,8 @@ pub shows_with_offline : (s : State) (p : ℕ) (shown : Occupants) → ShowsLink
 shows_with_offline s p shown h = record { processors = h.processors; places = h.places; each = h.each }
 
 -- what an arrival came to is its reply
-pub arrived : (s : State) (t : ℕ) (c : Came) (reply : Reply) → came_of reply ≡ Some c → state_after_reply s (Arrive t) reply ≡ state_after_came s t c
+pub arrived : (s : State) (t : ℕ) (c : Came) (reply : Reply) → came_of reply ≡ Some c → state_after_reply s (Arrive t) reply
+    ≡ state_after_came s t c
 arrived s t c reply e = ap (state_after_reply s (Arrive t)) (came_says reply c e) ∙ same c
   where
     same : (d : Came) → state_after_reply s (Arrive t) (reply_of_came d) ≡ state_after_came s t d
@@ -44,13 +48,17 @@ arrived s t c reply e = ap (state_after_reply s (Arrive t)) (came_says reply c e
     same (came.Waits reach) = refl
 
 -- and who came in after a departure is its reply
-pub departed : (s : State) (t : ℕ) (gone : Gone) (reply : Reply) → gone_of reply ≡ Some gone → state_after_reply s (Depart t) reply ≡ state_after_gone (state_after_leaving s t) gone
+pub departed : (s : State) (t : ℕ) (gone : Gone) (reply : Reply) → gone_of reply ≡ Some gone → state_after_reply s (Depart t) reply
+    ≡ state_after_gone (state_after_leaving s t) gone
 departed s t gone reply e = ap (state_after_reply s (Depart t)) (gone_says reply gone e)
 
 -- on the processor at place i of the chain the guest of that place goes
-pub found : (s : State) (guest : Option ℕ) (chain : List ℕ) (i p : ℕ) → i < length chain → get_or chain i 0 ≡ p → occupant_after_shift s guest (drop i chain) p ≡ guest
-found s guest chain i p h e = ap (λ (l : List ℕ). occupant_after_shift s guest l p) (drop-cons chain i 0 h) ∙ rw (eq-eqb p (get_or chain i 0) (sym e)) refl
+pub found : (s : State) (guest : Option ℕ) (chain : List ℕ) (i p : ℕ) → i < length chain → get_or chain i 0 ≡ p
+    → occupant_after_shift s guest (drop i chain) p ≡ guest
+found s guest chain i p h e =
+    ap (λ (l : List ℕ). occupant_after_shift s guest l p) (drop-cons chain i 0 h) ∙ rw (eq-eqb p (get_or chain i 0) (sym e)) refl
 
 -- after the chain's end the occupant stays
-pub chain_over : (s : State) (guest : Option ℕ) (chain : List ℕ) (i p : ℕ) → length chain ≤ i → occupant_after_shift s guest (drop i chain) p ≡ task_on s p
+pub chain_over : (s : State) (guest : Option ℕ) (chain : List ℕ) (i p : ℕ) → length chain ≤ i
+    → occupant_after_shift s guest (drop i chain) p ≡ task_on s p
 chain_over s guest chain i p h = ap (λ (l : List ℕ). occupant_after_shift s guest l p) (drop_all i chain h)

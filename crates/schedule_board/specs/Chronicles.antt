@@ -1,4 +1,5 @@
--- The rule of the chronicle, and what its one step says. A chronicle is a book of two words with a log of entries.
+-- The rule of the chronicle, and what its one step says. A chronicle is a book of two words with a
+-- log of entries.
 use Rattle.std.specs.Prelude.{ℕ, ◌≡◌, ◌==◌, true, List, [], ◌∷◌, ◌++◌, length, MatchBool}
 use Rattle.logbook.specs.Pages.{Cell, Step, View, Book, Named}
 use Rattle.strong_apa.specs.declared.reply.Entry.{Entry}

@@ -14,10 +14,11 @@ task_at picture p = get_or picture.occupants.on p None
 abbrev pub picture_of : SetData → List Entry → ℕ → Option ℕ
 picture_of set entries p = task_on (state_after (start_of set) entries) p
 
--- it is the picture of these entries, on so many of its 64 processors. Which tasks there are makes no difference: the links
--- follow from the replies
+-- it is the picture of these entries, on so many of its 64 processors. Which tasks there are makes
+-- no difference: the links follow from the replies
 pub record IsPictureOf (m : ℕ) (entries : List Entry) (picture : Picture) : Type 0 where
   pub processors : picture.occupants.processors ≡ m
   pub places : length picture.occupants.on ≡ 64
   pub count : picture.count ≡ length entries
-  pub links : (set : SetData) → set.processors ≡ m → (p : ℕ) → p < 64 → task_at picture p ≡ picture_of set entries p
+  pub links : (set : SetData) → set.processors ≡ m → (p : ℕ) → p < 64
+      → task_at picture p ≡ picture_of set entries p

@@ -1,6 +1,6 @@
 //! The rule of a board: what each observer has seen is a prefix of what is published.
 ghost use Rattle.std.specs.Prelude.{◌≡◌};
-ghost use Rattle.schedule_board.specs.Views.{KeepsBoard, Sees, newcomer, informed};
+ghost use Rattle.schedule_board.specs.Views.{KeepsBoard, Sees, new_observer, told_of};
 
 use crate::shown::Shown;
 use crate::view::ObserverView;
@@ -15,7 +15,7 @@ pub struct BoardRule;
 impl Protocol<Shown, ObserverView> for BoardRule {
     ghost holds = { KeepsBoard };
 
-    ghost first = { newcomer };
+    ghost first = { new_observer };
 }
 
 /// A step that sees what is published then: an observer enters, or the publisher publishes.
@@ -35,9 +35,9 @@ impl Split<ObserverView> for Tells {
 }
 
 impl Join<ObserverView> for Tells {
-    ghost both = { informed };
+    ghost both = { told_of };
 
-    ghost spent = { newcomer };
+    ghost spent = { new_observer };
 }
 
 /// The place of an observer at the two copies.

@@ -1,6 +1,7 @@
 -- A track that sees what is seen after each entry, in order, has all spans that have ended; with the last one closed it has
 -- all that there are.
-use Rattle.std.proofs.Common.{◌≡◌, ◌≢◌, ℕ, ◌+◌, ◌-◌, ◌<◌, ◌≤◌, List, [], ◌∷◌, ◌++◌, length, get_or, Option, Some, None, sym, ap, ◌∙◌, subst, refl, inl, inr, arith}
+use Rattle.std.proofs.Common.{◌≡◌, ◌≢◌, ℕ, ◌+◌, ◌-◌, ◌<◌, ◌≤◌, List, [], ◌∷◌, ◌++◌, length, get_or, Option, Some, None, sym, ap, ◌∙◌, subst}
+use Rattle.std.proofs.Common.{refl, inl, inr, arith}
 use Rattle.std.specs.Prelude.{All, AllPairs, Contains}
 use Rattle.std.proofs.lemmas.Bool.{cases_lt}
 use Rattle.std.proofs.lemmas.List.Elements.{All-nil, All-push, All-weaker, All-get_or, Contains-push, Contains-append_left}
@@ -46,7 +47,8 @@ follows_none seen none = record {
 }
 
 -- the parts of a span are what it is
-same_span : (span : Span) (what : Seen) (from until : ℕ) → span.what ≡ what → span.from ≡ from → span.until ≡ until → span_of what from until ≡ span
+same_span : (span : Span) (what : Seen) (from until : ℕ) → span.what ≡ what → span.from ≡ from → span.until ≡ until
+    → span_of what from until ≡ span
 same_span span what from until is_what is_from is_until = rw (← is_what, ← is_from, ← is_until) refl
 
 module _ (seen : ℕ → Option Seen) (n : ℕ) (track : TrackData) (follows : Follows seen n track) where
@@ -67,7 +69,8 @@ module _ (seen : ℕ → Option Seen) (n : ℕ) (track : TrackData) (follows : F
       elim (cases_lt span.from track.since) [
         | inl lt ↦ absurd (begun.1 (stretch.throughout (track.since - 1) (omega arith) (omega arith)))
         | inr ge ↦ elim (cases_lt track.since span.from) [
-          | inl lt ↦ absurd (stretch.not_before (follows.unchanged (span.from - 1) (omega arith) (omega arith) ∙ stretch_current span stretch end))
+          | inl lt ↦ absurd (stretch.not_before (follows.unchanged (span.from - 1) (omega arith) (omega arith)
+              ∙ stretch_current span stretch end))
           | inr le ↦ omega arith
         ]
       ]
@@ -136,14 +139,20 @@ module _ (seen : ℕ → Option Seen) (n : ℕ) (track : TrackData) (follows : F
     }
 
     changed_none : track.current ≡ None → Follows seen (n + 1) (record { current = seen (n + 1); since = n + 1; spans = track.spans })
-    changed_none none = changed_from track.spans (All-weaker (IsEnded seen track.since) (IsEnded seen (n + 1)) weaken track.spans follows.each) follows.in_order
+    changed_none none = changed_from track.spans
+        (All-weaker (IsEnded seen track.since) (IsEnded seen (n + 1)) weaken track.spans follows.each) follows.in_order
         (λ span stretch within ends. elim (cases_lt n span.until) [
           | inl gt ↦ let end : span.until ≡ n + 1 = omega arith in let is = stretch_current span stretch end in cc
           | inr le ↦ follows.all span stretch le ends
         ])
 
     changed_some : (what : Seen) → track.current ≡ Some what
-        → Follows seen (n + 1) (record { current = seen (n + 1); since = n + 1; spans = track.spans ++ span_of what track.since (n + 1) ∷ [] })
+        → Follows seen (n + 1) (record {
+          current = seen (n + 1);
+          since = n + 1;
+          spans = track.spans ++ span_of what track.since (n + 1)
+              ∷ [];
+        })
     changed_some what is = changed_from (track.spans ++ span_of what track.since (n + 1) ∷ [])
         (All-push (IsEnded seen (n + 1)) track.spans (span_of what track.since (n + 1))
         (All-weaker (IsEnded seen track.since) (IsEnded seen (n + 1)) weaken track.spans follows.each)
@@ -161,9 +170,15 @@ module _ (seen : ℕ → Option Seen) (n : ℕ) (track : TrackData) (follows : F
         ])
 
     changed_by : (current : Option Seen) → track.current ≡ current
-        → Follows seen (n + 1) (record { current = seen (n + 1); since = n + 1; spans = track.spans ++ open_span current track.since (n + 1) })
+        → Follows seen (n + 1) (record {
+          current = seen (n + 1);
+          since = n + 1;
+          spans = track.spans
+              ++ open_span current track.since (n + 1);
+        })
     changed_by None is =
-        subst (λ (spans : List Span). Follows seen (n + 1) (record { current = seen (n + 1); since = n + 1; spans = spans })) (sym (append-nil track.spans)) (changed_none is)
+        subst (λ (spans : List Span). Follows seen (n + 1) (record { current = seen (n + 1); since = n + 1; spans = spans }))
+        (sym (append-nil track.spans)) (changed_none is)
     changed_by (Some what) is = changed_some what is
 
     pub follows_changed : Follows seen (n + 1) (record { current = seen (n + 1); since = n + 1; spans = spans_until track (n + 1) })

@@ -1,5 +1,6 @@
 -- Tasks that are found by their numbers, and then sorted by urgency.
-use Rattle.std.proofs.Common.{◌≡◌, ◌≢◌, ℕ, ◌+◌, ◌<◌, Bool, true, false, List, [], ◌∷◌, ◌++◌, length, get_or, eqb, sym, ap, ◌∙◌, subst, inl, inr, arith, eq-eqb, ne_eqb}
+use Rattle.std.proofs.Common.{◌≡◌, ◌≢◌, ℕ, ◌+◌, ◌<◌, Bool, true, false, List, [], ◌∷◌, ◌++◌, length, get_or, eqb, sym, ap, ◌∙◌, subst, inl}
+use Rattle.std.proofs.Common.{inr, arith, eq-eqb, ne_eqb}
 use Rattle.std.specs.Prelude.{All, Contains, IsTrue, slice_index}
 use Rattle.std.specs.List.{IsDistinct}
 use Rattle.std.specs.List.Sorted.{IsPermutation, IsNonDecreasingBy}
@@ -26,16 +27,19 @@ module _ (passes : ℕ → Bool) where
 
   -- what passes below a number passes below the next one
   weaker : (b : ℕ) (tasks : List ℕ) → All (λ t. (t < b) × IsTrue (passes t)) tasks → All (λ t. (t < b + 1) × IsTrue (passes t)) tasks
-  weaker b tasks each = All-weaker (λ t. (t < b) × IsTrue (passes t)) (λ t. (t < b + 1) × IsTrue (passes t)) (λ t h. (omega (arith, h.0), h.1)) tasks each
+  weaker b tasks each =
+      All-weaker (λ t. (t < b) × IsTrue (passes t)) (λ t. (t < b + 1) × IsTrue (passes t)) (λ t h. (omega (arith, h.0), h.1)) tasks each
 
-  pub found_more : (b : ℕ) (tasks next : List ℕ) → AreFoundBelow passes b tasks → passes b ≡ true → next ≡ tasks ++ b ∷ [] → AreFoundBelow passes (b + 1) next
+  pub found_more : (b : ℕ) (tasks next : List ℕ) → AreFoundBelow passes b tasks → passes b ≡ true → next ≡ tasks ++ b ∷ []
+      → AreFoundBelow passes (b + 1) next
   found_more b tasks next found passed pushed = subst (AreFoundBelow passes (b + 1)) (sym pushed) (record {
     each = All-push (λ t. (t < b + 1) × IsTrue (passes t)) tasks b (weaker b tasks found.each) (omega arith, passed);
     all = λ t lt pass. elim (cases_eq t b) [
       | inl same ↦ subst (λ (u : ℕ). Contains (tasks ++ b ∷ []) u) (sym same) (Contains-push tasks b)
       | inr other ↦ Contains-append_left tasks (b ∷ []) t (found.all t (omega arith) pass)
     ];
-    rising = all_pairs_push (λ t u. t < u) tasks b found.rising (λ k d lt. (All-get_or (λ t. (t < b) × IsTrue (passes t)) tasks k d lt found.each).0);
+    rising = all_pairs_push (λ t u. t < u) tasks b found.rising
+        (λ k d lt. (All-get_or (λ t. (t < b) × IsTrue (passes t)) tasks k d lt found.each).0);
   })
 
   pub found_same : (b : ℕ) (tasks : List ℕ) → AreFoundBelow passes b tasks → passes b ≡ false → AreFoundBelow passes (b + 1) tasks
@@ -50,7 +54,8 @@ module _ (passes : ℕ → Bool) where
 
 -- ---- by urgency
 -- of two tasks that stand at two places the priorities differ
-module _ (set : SetData) (ok : IsTaskSet set) (passes : ℕ → Bool) (found sorted : List ℕ) (below : AreFoundBelow passes (length set.tasks) found) (moved : IsPermutation found sorted) where
+module _ (set : SetData) (ok : IsTaskSet set) (passes : ℕ → Bool) (found sorted : List ℕ)
+    (below : AreFoundBelow passes (length set.tasks) found) (moved : IsPermutation found sorted) where
   eqb_flips : (x y : ℕ) → eqb x y ≡ eqb y x
   eqb_flips x y = elim (cases_eq x y) [
     | inl same ↦ eq-eqb x y same ∙ sym (eq-eqb y x (sym same))
@@ -59,7 +64,8 @@ module _ (set : SetData) (ok : IsTaskSet set) (passes : ℕ → Bool) (found sor
 
   once : (i j d : ℕ) → i < j → j < length sorted → get_or sorted i d ≢ get_or sorted j d
   once i j d less lt same =
-      let first : IsDistinct eqb found = IsDistinct-from_apart eqb found (λ i j e less fits. let rises = below.rising i j e less fits in ne_eqb _ _ (λ same. absurd (omega arith))) in
+      let first : IsDistinct eqb found = IsDistinct-from_apart eqb found
+      (λ i j e less fits. let rises = below.rising i j e less fits in ne_eqb _ _ (λ same. absurd (omega arith))) in
       let later : IsDistinct eqb sorted = IsDistinct-IsPermutation eqb eqb_flips found sorted moved first in
       true≢false (sym (eq-eqb _ _ same) ∙ apart_from_distinct eqb sorted i j d later less lt)
 
@@ -76,19 +82,23 @@ module _ (set : SetData) (ok : IsTaskSet set) (passes : ℕ → Bool) (found sor
         let at_j = (All-get_or (λ t. (t < length set.tasks) × IsTrue (passes t)) sorted j d lt each_sorted).0 in
         let le = up i j d (omega arith) lt in
         elim (cases_eq (slice_index (priorities set) (get_or sorted i d)) (slice_index (priorities set) (get_or sorted j d))) [
-          | inl same ↦ absurd (once i j d less lt ((IsState-start set ok).distinct (get_or sorted i d) (get_or sorted j d) (omega arith) (omega arith) same))
+          | inl same ↦ absurd (once i j d less lt ((IsState-start set ok).distinct (get_or sorted i d) (get_or sorted j d) (omega arith)
+              (omega arith) same))
           | inr other ↦ omega arith
         ];
   }
 
 -- ---- the listing has tasks alone
 number_of : (set : SetData) (passes : ℕ → Bool) (tasks : List ℕ) → AreByUrgency set passes tasks → All (λ t. t < length set.tasks) tasks
-number_of set passes tasks sorted = All-weaker (λ t. (t < length set.tasks) × IsTrue (passes t)) (λ t. t < length set.tasks) (λ t h. h.0) tasks sorted.each
+number_of set passes tasks sorted =
+    All-weaker (λ t. (t < length set.tasks) × IsTrue (passes t)) (λ t. t < length set.tasks) (λ t h. h.0) tasks sorted.each
 
-pub listing_tasks : (places : List ℕ) (window : Window) (set : SetData) (rows : ℕ → List Span) (listed : List ℕ) → IsListing places window set rows listed → All (λ t. t < length set.tasks) listed
+pub listing_tasks : (places : List ℕ) (window : Window) (set : SetData) (rows : ℕ → List Span) (listed : List ℕ)
+    → IsListing places window set rows listed → All (λ t. t < length set.tasks) listed
 listing_tasks places window set rows listed listing = elim listing [
   | inl ready ↦ number_of set (λ t. is_ready_in places window (rows t)) listed ready.ready
   | inr waiting ↦
       subst (All (λ t. t < length set.tasks)) (sym waiting.first)
-      (All-take (λ t. t < length set.tasks) 64 waiting.waiting (number_of set (λ t. waits_in places window (rows t)) waiting.waiting waiting.all_waiting))
+      (All-take (λ t. t < length set.tasks) 64 waiting.waiting
+      (number_of set (λ t. waits_in places window (rows t)) waiting.waiting waiting.all_waiting))
 ]

@@ -24,7 +24,8 @@ below_none Becomes old = record {
   rest = λ x d le. refl;
 }
 
-below_more : (Becomes : ℕ → TrackData → TrackData → Type 0) (b : ℕ) (old mid new : List TrackData) → BecomesBelow Becomes b old mid → BecomesAt Becomes b mid new → BecomesBelow Becomes (b + 1) old new
+below_more : (Becomes : ℕ → TrackData → TrackData → Type 0) (b : ℕ) (old mid new : List TrackData) → BecomesBelow Becomes b old mid
+    → BecomesAt Becomes b mid new → BecomesBelow Becomes (b + 1) old new
 below_more Becomes b old mid new below one = record {
   count = one.count ∙ below.count;
   done = λ x d lt in_list. elim (cases_eq x b) [
@@ -41,7 +42,8 @@ below_more Becomes b old mid new below one = record {
 pub Becoming : ℕ → (ℕ → Option Seen) → ℕ → TrackData → TrackData → Type 0
 Becoming n sight x old new = Sees n (sight x) old new
 
-pub seen_more : (n : ℕ) (sight : ℕ → Option Seen) (b : ℕ) (seen : Option Seen) (old mid new : List TrackData) → seen ≡ sight b → BecomesBelow (Becoming n sight) b old mid → OneSees n b seen mid new → BecomesBelow (Becoming n sight) (b + 1) old new
+pub seen_more : (n : ℕ) (sight : ℕ → Option Seen) (b : ℕ) (seen : Option Seen) (old mid new : List TrackData) → seen ≡ sight b
+    → BecomesBelow (Becoming n sight) b old mid → OneSees n b seen mid new → BecomesBelow (Becoming n sight) (b + 1) old new
 unfolding Becoming
 seen_more n sight b seen old mid new is below one = below_more (Becoming n sight) b old mid new below (record {
   count = one.count;
@@ -49,7 +51,8 @@ seen_more n sight b seen old mid new is below one = below_more (Becoming n sight
   others = one.others;
 })
 
-pub seen_all : (n : ℕ) (sight : ℕ → Option Seen) (b : ℕ) (old new : List TrackData) → b ≡ length old → BecomesBelow (Becoming n sight) b old new → EachSees n sight old new
+pub seen_all : (n : ℕ) (sight : ℕ → Option Seen) (b : ℕ) (old new : List TrackData) → b ≡ length old
+    → BecomesBelow (Becoming n sight) b old new → EachSees n sight old new
 unfolding Becoming
 seen_all n sight b old new all below = record {
   count = below.count;
@@ -60,7 +63,8 @@ seen_all n sight b old new all below = record {
 pub Ending : ℕ → ℕ → TrackData → TrackData → Type 0
 Ending until x old new = new.spans ≡ spans_until old until
 
-pub ended_more : (until b : ℕ) (old mid new : List TrackData) → BecomesBelow (Ending until) b old mid → OneEnds until b mid new → BecomesBelow (Ending until) (b + 1) old new
+pub ended_more : (until b : ℕ) (old mid new : List TrackData) → BecomesBelow (Ending until) b old mid → OneEnds until b mid new
+    → BecomesBelow (Ending until) (b + 1) old new
 unfolding Ending
 ended_more until b old mid new below one = below_more (Ending until) b old mid new below (record {
   count = one.count;

@@ -19,13 +19,16 @@ units_few (Offline p) has = omega arith
 units_few (Online p) has = omega arith
 
 -- one more moment
-pub moments_more : (start : ℕ) (entries : List Entry) (n now : ℕ) (places next : List ℕ) → now ≡ start + moment entries n → places ≡ map (λ n. start + moment entries n) (range_with_len 0 n) → next ≡ places ++ now ∷ []
+pub moments_more : (start : ℕ) (entries : List Entry) (n now : ℕ) (places next : List ℕ) → now ≡ start + moment entries n
+    → places ≡ map (λ n. start + moment entries n) (range_with_len 0 n) → next ≡ places ++ now ∷ []
     → next ≡ map (λ n. start + moment entries n) (range_with_len 0 (n + 1))
 moments_more start entries n now places next is before after =
-    after ∙ ap (λ (ps : List ℕ). ps ++ now ∷ []) before ∙ ap (λ (m : ℕ). map (λ n. start + moment entries n) (range_with_len 0 n) ++ m ∷ []) is
+    after ∙ ap (λ (ps : List ℕ). ps ++ now ∷ []) before ∙ ap (λ (m : ℕ). map (λ n. start + moment entries n) (range_with_len 0 n) ++ m ∷ [])
+    is
     ∙ sym (map-range_with_len_more (λ n. start + moment entries n) 0 n n (omega arith))
 
-pub moment_more : (start : ℕ) (entries : List Entry) (n now : ℕ) (entry : Entry) → n < length entries → entry ≡ get_or entries n entry → now ≡ start + moment entries n → now + units_of entry.event ≡ start + moment entries (n + 1)
+pub moment_more : (start : ℕ) (entries : List Entry) (n now : ℕ) (entry : Entry) → n < length entries → entry ≡ get_or entries n entry
+    → now ≡ start + moment entries n → now + units_of entry.event ≡ start + moment entries (n + 1)
 moment_more start entries n now entry lt read is =
     let more : moment entries (n + 1) ≡ moment entries n + units_of entry.event =
     sum_by_more (λ (e : Entry). units_of e.event) entries n entry lt ∙ ap (λ (e : Entry). moment entries n + units_of e.event) (sym read) in
@@ -34,8 +37,10 @@ moment_more start entries n now entry lt read is =
 -- after the last entry no time passes
 pub moment_end : (entries : List Entry) (n : ℕ) → length entries ≤ n → moment entries n ≡ moment entries (n + 1)
 moment_end entries n whole =
-    ap (λ (es : List Entry). sum_by (λ (e : Entry). units_of e.event) es) (take_all n entries whole ∙ sym (take_all (n + 1) entries (omega arith)))
+    ap (λ (es : List Entry). sum_by (λ (e : Entry). units_of e.event) es)
+    (take_all n entries whole ∙ sym (take_all (n + 1) entries (omega arith)))
 
-pub columns_more : (n : ℕ) (places next : List ℕ) → places ≡ map (λ n. n - 1) (range_with_len 0 n) → next ≡ places ++ (n - 1) ∷ [] → next ≡ map (λ n. n - 1) (range_with_len 0 (n + 1))
+pub columns_more : (n : ℕ) (places next : List ℕ) → places ≡ map (λ n. n - 1) (range_with_len 0 n) → next ≡ places ++ (n - 1) ∷ []
+    → next ≡ map (λ n. n - 1) (range_with_len 0 (n + 1))
 columns_more n places next before after =
     after ∙ ap (λ (ps : List ℕ). ps ++ (n - 1) ∷ []) before ∙ sym (map-range_with_len_more (λ (n : ℕ). n - 1) 0 n n (omega arith))

@@ -1,7 +1,9 @@
--- Texts of elements, as XML has them: one element, in which each one that is opened is closed before those around it, each
--- value of an attribute stands in quotes, and each other byte between the tags and in the quotes stands for itself. A reader
--- goes over the text byte by byte. That the attributes of an element have different names is left open.
-use Rattle.std.specs.Prelude.{◌≡◌, ℕ, ◌==◌, Bool, true, false, ◌&&◌, ◌||◌, not, nat_le, cond, List, [], ◌∷◌, ◌++◌, codes}
+-- Texts of elements, as XML has them: one element, in which each one that is opened is closed
+-- before those around it, each value of an attribute stands in quotes, and each other byte between
+-- the tags and in the quotes stands for itself. A reader goes over the text byte by byte. That the
+-- attributes of an element have different names is left open.
+use Rattle.std.specs.Prelude.{◌≡◌, ℕ, ◌==◌, Bool, true, false, ◌&&◌, ◌||◌, not, nat_le, cond, List}
+use Rattle.std.specs.Prelude.{[], ◌∷◌, ◌++◌, codes}
 use Rattle.std.specs.List.{list_all}
 
 -- a letter or '-', of which the names of elements and of attributes are made
@@ -10,7 +12,8 @@ is_letter b = (nat_le 97 b && nat_le b 122) || (nat_le 65 b && nat_le b 90) || (
 
 -- a byte that stands for itself: a printable one, but '"', '&', '<' and '>'
 abbrev pub is_plain : ℕ → Bool
-is_plain b = nat_le 32 b && nat_le b 126 && not (b == 34) && not (b == 38) && not (b == 60) && not (b == 62)
+is_plain b =
+    nat_le 32 b && nat_le b 126 && not (b == 34) && not (b == 38) && not (b == 60) && not (b == 62)
 
 abbrev pub are_plain : List ℕ → Bool
 are_plain bytes = list_all is_plain bytes
@@ -52,24 +55,31 @@ closed (name ∷ outer) = Inside name outer
 
 -- an element was opened: where `untitled`, no `rect`, which could have a title then
 abbrev pub opened : Bool → List ℕ → List (List ℕ) → Reader
-opened untitled name outer = cond (same_bytes name (codes "rect") && untitled) Broken (Inside name outer)
+opened untitled name outer =
+    cond (same_bytes name (codes "rect") && untitled) Broken (Inside name outer)
 
 -- in an opening tag comes a ' ' and an attribute, a '/', or a '>'
 abbrev pub in_tag : Bool → List ℕ → List (List ℕ) → ℕ → Reader
-in_tag untitled name outer b = cond (b == 32) (Attribute name outer) (cond (b == 47) (Single outer) (cond (b == 62) (opened untitled name outer) Broken))
+in_tag untitled name outer b = cond (b == 32) (Attribute name outer)
+    (cond (b == 47) (Single outer) (cond (b == 62) (opened untitled name outer) Broken))
 
 -- one byte more
 abbrev pub next : Bool → Reader → ℕ → Reader
 next untitled Start b = cond (b == 60) (Names [] []) Broken
 next untitled Ended b = cond (b == 10) Ended Broken
-next untitled (Inside name outer) b = cond (is_plain b) (Inside name outer) (cond (b == 10) (Inside name outer) (cond (b == 60) (Opens (name ∷ outer)) Broken))
+next untitled (Inside name outer) b = cond (is_plain b) (Inside name outer)
+    (cond (b == 10) (Inside name outer) (cond (b == 60) (Opens (name ∷ outer)) Broken))
 next untitled (Opens []) b = Broken
-next untitled (Opens (name ∷ outer)) b = cond (b == 47) (Closes name outer) (cond (is_letter b) (Names (b ∷ []) (name ∷ outer)) Broken)
-next untitled (Names name outer) b = cond (is_letter b) (Names (name ++ b ∷ []) outer) (in_tag untitled name outer b)
+next untitled (Opens (name ∷ outer)) b =
+    cond (b == 47) (Closes name outer) (cond (is_letter b) (Names (b ∷ []) (name ∷ outer)) Broken)
+next untitled (Names name outer) b =
+    cond (is_letter b) (Names (name ++ b ∷ []) outer) (in_tag untitled name outer b)
 next untitled (Tag name outer) b = in_tag untitled name outer b
-next untitled (Attribute name outer) b = cond (is_letter b) (Attribute name outer) (cond (b == 61) (Equals name outer) Broken)
+next untitled (Attribute name outer) b =
+    cond (is_letter b) (Attribute name outer) (cond (b == 61) (Equals name outer) Broken)
 next untitled (Equals name outer) b = cond (b == 34) (Value name outer) Broken
-next untitled (Value name outer) b = cond (is_plain b) (Value name outer) (cond (b == 34) (Tag name outer) Broken)
+next untitled (Value name outer) b =
+    cond (is_plain b) (Value name outer) (cond (b == 34) (Tag name outer) Broken)
 next untitled (Single outer) b = cond (b == 62) (closed outer) Broken
 next untitled (Closes [] outer) b = cond (b == 62) (closed outer) Broken
 next untitled (Closes (c ∷ name) outer) b = cond (b == c) (Closes name outer) Broken
@@ -81,24 +91,27 @@ reads untitled reader [] = reader
 reads untitled reader (b ∷ bytes) = reads untitled (next untitled reader b) bytes
 
 -- the text is one element
-abbrev pub IsWellFormed : List ℕ → Type 0
-IsWellFormed text = reads false Start text ≡ Ended
+abbrev pub IsWellFormedElement : List ℕ → Type 0
+IsWellFormedElement text = reads false Start text ≡ Ended
 
 -- ---- Private: contracts of this crate's own functions
 -- the text goes on, with or without titles, from one place of a reader to another
 pub record Moves (from to : Reader) (old new : List ℕ) : Type 0 where
-  pub is : (untitled : Bool) (begin : Reader) → reads untitled begin old ≡ from → reads untitled begin new ≡ to
+  pub is : (untitled : Bool) (begin : Reader) → reads untitled begin old ≡ from
+      → reads untitled begin new ≡ to
 
 -- the text goes on with whole elements and plain bytes
 pub record Keeps (old new : List ℕ) : Type 0 where
-  pub is : (untitled : Bool) (begin : Reader) (name : List ℕ) (outer : List (List ℕ)) → reads untitled begin old ≡ Inside name outer → reads untitled begin new ≡ Inside name outer
+  pub is : (untitled : Bool) (begin : Reader) (name : List ℕ) (outer : List (List ℕ))
+      → reads untitled begin old ≡ Inside name outer → reads untitled begin new ≡ Inside name outer
 
 -- a beginning of the text, in the outermost element; a part of it; and an end
-abbrev pub Begins : List ℕ → Type 0
-Begins text = (untitled : Bool) → reads untitled Start text ≡ Inside (codes "svg") []
+abbrev pub BeginsText : List ℕ → Type 0
+BeginsText text = (untitled : Bool) → reads untitled Start text ≡ Inside (codes "svg") []
 
 abbrev pub GoesOn : List ℕ → Type 0
-GoesOn text = (untitled : Bool) → reads untitled (Inside (codes "svg") []) text ≡ Inside (codes "svg") []
+GoesOn text =
+    (untitled : Bool) → reads untitled (Inside (codes "svg") []) text ≡ Inside (codes "svg") []
 
 abbrev pub Ends : List ℕ → Type 0
 Ends text = (untitled : Bool) → reads untitled (Inside (codes "svg") []) text ≡ Ended

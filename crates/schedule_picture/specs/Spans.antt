@@ -1,7 +1,9 @@
--- Spans. What is seen of a processor or of a task depends on how many entries of a history have been. A span is a longest
--- stretch of such numbers at which one thing is seen: of a processor that one task is linked to it, which is a stay, or
--- that it is off line, an absence; of a task that it is linked to one processor, the same stay, or that it waits.
-use Rattle.std.specs.Prelude.{◌≡◌, ◌≢◌, ℕ, ◌+◌, ◌-◌, ◌<◌, ◌≤◌, ◌⊎◌, List, Option, Some, None, All, AllPairs, Contains, position, option_map, if◌then◌else◌}
+-- Spans. What is seen of a processor or of a task depends on how many entries of a history have
+-- been. A span is a longest stretch of such numbers at which one thing is seen: of a processor that
+-- one task is linked to it, which is a stay, or that it is off line, an absence; of a task that it
+-- is linked to one processor, the same stay, or that it waits.
+use Rattle.std.specs.Prelude.{◌≡◌, ◌≢◌, ℕ, ◌+◌, ◌-◌, ◌<◌, ◌≤◌, ◌⊎◌, List, Option, Some, None, All}
+use Rattle.std.specs.Prelude.{AllPairs, Contains, position, option_map, if◌then◌else◌}
 use Rattle.affinity_mask.specs.ProcSet.{has}
 use Rattle.task_set.specs.TaskSet.{SetData}
 use Rattle.strong_apa.specs.declared.reply.Entry.{Entry}
@@ -39,14 +41,16 @@ abbrev pub row_at : SetData → List Entry → ℕ → ℕ → Option Seen
 row_at set entries t n = row_of (state_at set entries n) t
 
 -- ---- spans
--- from entry `from` on and up to the entry before `until` this is seen, and not before the first one of them
+-- from entry `from` on and up to the entry before `until` this is seen, and not before the first
+-- one of them
 pub record IsStretch (seen : ℕ → Option Seen) (span : Span) : Type 0 where
   pub begins : 1 ≤ span.from
   pub some : span.from < span.until
   pub throughout : (i : ℕ) → span.from ≤ i → i < span.until → seen i ≡ Some span.what
   pub not_before : seen (span.from - 1) ≢ Some span.what
 
--- a span of so many entries: it ends with the last entry, or where the next one changes what is seen
+-- a span of so many entries: it ends with the last entry, or where the next one changes what is
+-- seen
 pub record IsSpan (seen : ℕ → Option Seen) (count : ℕ) (span : Span) : Type 0 where
   pub stretch : IsStretch seen span
   pub within : span.until ≤ count + 1

@@ -1,5 +1,5 @@
--- A track, which follows a history entry by entry. Private: contracts of this crate's own functions. It has the spans that
--- have ended, and what is seen now and since which entry.
+-- A track, which follows a history entry by entry. Private: contracts of this crate's own
+-- functions. It has the spans that have ended, and what is seen now and since which entry.
 use Rattle.std.specs.Prelude.{◌≡◌, ◌≢◌, ℕ, ◌⊎◌, List, ◌++◌, ◌∷◌, [], Option, Some, None}
 use Rattle.schedule_picture.specs.declared.span.Seen.{Seen}
 use Rattle.schedule_picture.specs.declared.span.Seen.TheVariants.{Task, OffLine, Processor, Waiting}
@@ -27,7 +27,8 @@ spans_until track until = track.spans ++ open_span track.current track.since unt
 abbrev pub Sees : ℕ → Option Seen → TrackData → TrackData → Type 0
 Sees n seen old new =
     ((seen ≡ old.current) × (new ≡ old))
-    ⊎ ((seen ≢ old.current) × (new ≡ record { current = seen; since = n; spans = spans_until old n }))
+    ⊎ ((seen ≢ old.current) × (new
+    ≡ record { current = seen; since = n; spans = spans_until old n }))
 
 -- the task that is seen on a processor, if there is one
 abbrev pub seen_task : Option Seen → Option ℕ

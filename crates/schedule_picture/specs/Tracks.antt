@@ -1,7 +1,9 @@
 -- The tracks of all processors and tasks. Private: contracts of this crate's own functions.
-use Rattle.std.specs.Prelude.{◌≡◌, ◌≢◌, ℕ, ◌<◌, ◌≤◌, ◌⊎◌, List, length, get_or, replicate, Option, Some, None}
+use Rattle.std.specs.Prelude.{◌≡◌, ◌≢◌, ℕ, ◌<◌, ◌≤◌, ◌⊎◌, List, length, get_or, replicate, Option}
+use Rattle.std.specs.Prelude.{Some, None}
 use Rattle.task_set.specs.declared.event.Event.{Event}
-use Rattle.task_set.specs.declared.event.Event.TheVariants.{Arrive, Depart, Tick, Affinity, Offline, Online}
+use Rattle.task_set.specs.declared.event.Event.TheVariants.{Arrive, Depart, Tick, Affinity, Offline}
+use Rattle.task_set.specs.declared.event.Event.TheVariants.{Online}
 use Rattle.strong_apa.specs.declared.reply.Reply.{Reply}
 use Rattle.strong_apa.specs.declared.reply.Reply.TheVariants.{Off}
 use Rattle.strong_apa.specs.State.{State, task_on, is_ready}
@@ -13,7 +15,8 @@ use Rattle.schedule_picture.specs.Track.{TrackData, fresh_track, spans_until, se
 -- each track of a list, once this is seen of it after entry n
 pub record EachSees (n : ℕ) (sight : ℕ → Option Seen) (old new : List TrackData) : Type 0 where
   pub count : length new ≡ length old
-  pub each : (x : ℕ) (d : TrackData) → x < length old → Sees n (sight x) (get_or old x d) (get_or new x d)
+  pub each : (x : ℕ) (d : TrackData) → x < length old
+      → Sees n (sight x) (get_or old x d) (get_or new x d)
 
 -- one track of a list, once this is seen of it after entry n; the others stay
 pub record OneSees (n : ℕ) (x : ℕ) (seen : Option Seen) (old new : List TrackData) : Type 0 where
@@ -48,7 +51,8 @@ pub record OneEnds (until : ℕ) (x : ℕ) (old new : List TrackData) : Type 0 w
 -- each track of a list ends its last span before this entry
 pub record EachEnds (until : ℕ) (old new : List TrackData) : Type 0 where
   pub count : length new ≡ length old
-  pub each : (x : ℕ) (d : TrackData) → x < length old → (get_or new x d).spans ≡ spans_until (get_or old x d) until
+  pub each : (x : ℕ) (d : TrackData) → x < length old
+      → (get_or new x d).spans ≡ spans_until (get_or old x d) until
 
 -- all tracks do
 pub record AllEnd (until : ℕ) (old new : Tracks) : Type 0 where
@@ -62,7 +66,8 @@ abbrev pub moved_task : Reply → Option ℕ
 moved_task (Off (Some moved)) = Some moved.task
 moved_task reply = None
 
--- the task that comes or goes by an entry, if there is one: that of the event, or the one that has to leave its processor
+-- the task that comes or goes by an entry, if there is one: that of the event, or the one that has
+-- to leave its processor
 abbrev pub mover_of : Event → Reply → Option ℕ
 mover_of (Arrive t) reply = Some t
 mover_of (Depart t) reply = Some t
@@ -83,7 +88,11 @@ pub record ShowBefore (mover : Option ℕ) (s : State) (lanes rows : List TrackD
   pub no_more : (p : ℕ) → s.processors ≤ p → task_on before p ≡ None
   pub ready : (t : ℕ) → mover ≢ Some t → is_ready s t ≡ is_ready before t
 
--- each track of a task, once it is seen after entry n, or nothing has changed of the task and the track stays
-pub record EachSeesOrStays (n : ℕ) (s : State) (Unchanged : ℕ → Type 0) (old new : List TrackData) : Type 0 where
+-- each track of a task, once it is seen after entry n, or nothing has changed of the task and the
+-- track stays
+pub record EachSeesOrStays (n : ℕ) (s : State) (Unchanged : ℕ → Type 0)
+    (old new : List TrackData) : Type 0 where
   pub count : length new ≡ length old
-  pub each : (t : ℕ) (d : TrackData) → t < length old → (Unchanged t × (get_or new t d ≡ get_or old t d)) ⊎ Sees n (row_of s t) (get_or old t d) (get_or new t d)
+  pub each : (t : ℕ) (d : TrackData) → t < length old
+      → (Unchanged t × (get_or new t d ≡ get_or old t d))
+      ⊎ Sees n (row_of s t) (get_or old t d) (get_or new t d)

@@ -4,7 +4,7 @@ ghost use Rattle.std.specs.Prelude.{◌≡◌, ◌++◌, ◌<◌, ◌≤◌, tru
 ghost use Rattle.schedule_text.specs.ScheduleText.{IsEntryOf};
 ghost use Rattle.text_fields.specs.EventText.{IsAboutSet};
 ghost use Rattle.schedule_picture.specs.Labels.{label_step};
-ghost use Rattle.schedule_picture.specs.Elements.{Begins, Ends, GoesOn, Keeps, are_plain, opens_picture};
+ghost use Rattle.schedule_picture.specs.Elements.{BeginsText, Ends, GoesOn, Keeps, are_plain, opens_picture};
 
 use crate::axis::{Axis, Facts};
 use crate::colours::colour_of;
@@ -921,7 +921,7 @@ pub(crate) fn text_before(
     entries: &[Entry],
 ) -> Result<Vec<u8>, OutOfMemory>
     requires { All (IsEntryOf sheet.now.set.now) entries.now }
-    ensures { IfOk result (λ text. Begins text.items) }
+    ensures { IfOk result (λ text. BeginsText text.items) }
 {
     let mut text = Vec::new(sheet.alloc);
     write_opening(&mut text, sheet, page)?;

@@ -1,6 +1,6 @@
 //! The two groups of a picture, and what stands around them, one after the other.
 ghost use Rattle.std.specs.Prelude.{◌≡◌, ◌≤◌, ◌++◌, OnOk, IfOk, length};
-ghost use Rattle.schedule_picture.specs.Elements.{Begins, Ends, GoesOn, IsWellFormed};
+ghost use Rattle.schedule_picture.specs.Elements.{BeginsText, Ends, GoesOn, IsWellFormedElement};
 ghost use Rattle.schedule_picture.specs.Group.{group_head, span_of};
 ghost use Rattle.schedule_picture.specs.Picture.{HasGroupsOf};
 
@@ -28,12 +28,12 @@ pub(crate) fn assembled(
 ) -> Result<Vec<u8>, OutOfMemory>
     requires few { length listed.now ≤ 64 }
     requires wide { 1 ≤ page.wide }
-    requires begins { Begins around.now.before.items }
+    requires begins { BeginsText around.now.before.items }
     requires goes_on { GoesOn around.now.between.items }
     requires ends { Ends around.now.after.items }
     ensures groups { IfOk result (λ text.
         HasGroupsOf sheet.now.places.now sheet.now.set.now sheet.now.window tracks.now listed.now text.items) }
-    ensures well_formed { IfOk result (λ text. IsWellFormed text.items) }
+    ensures well_formed { IfOk result (λ text. IsWellFormedElement text.items) }
 {
     let lanes = sheet.set.processors();
     let rows = listed.len() as u64;

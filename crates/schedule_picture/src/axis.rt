@@ -1,7 +1,7 @@
 //! The axis of a picture: the place of the state after each number of entries.
 ghost use Rattle.std.specs.Prelude.{◌≡◌, ◌≤◌, All, length, IfOk};
 ghost use Rattle.task_set.specs.Event.{HasUnits};
-ghost use Rattle.schedule_picture.specs.Picture.{units_of, places_of, clock_of, columns_of};
+ghost use Rattle.schedule_picture.specs.Picture.{units_of, clock_moments, clock_of, columns_of};
 
 use affinity_mask::OutOfMemory;
 use schedule_text::Schedule;
@@ -35,7 +35,7 @@ pub(crate) fn places_of(
     axis: Axis,
     schedule: &Schedule,
 ) -> Result<Vec<u64>, OutOfMemory>
-    ensures { IfOk result (λ places. places.items ≡ places_of axis schedule.now.entries) }
+    ensures { IfOk result (λ places. places.items ≡ clock_moments axis schedule.now.entries) }
 {
     let entries = schedule.entries();
     match axis {

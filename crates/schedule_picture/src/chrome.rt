@@ -3,7 +3,7 @@ ghost use Rattle.std.specs.Prelude.{◌≡◌, ◌≤◌, ◌++◌, ◌<◌, OnO
 ghost use Rattle.std.specs.List.{flat_map, range_with_len};
 ghost use Rattle.strong_apa.specs.Passing.{IsPassing};
 ghost use Rattle.text_fields.specs.EventText.{name_of};
-ghost use Rattle.schedule_picture.specs.Chrome.{IsChrome, chrome_of, thread_of, event_of_span, event_text, lane_events, thread_text};
+ghost use Rattle.schedule_picture.specs.Chrome.{IsChrome, chrome_of, thread_of, event_of_span, stay_event_text, lane_events, thread_text};
 ghost use Rattle.schedule_picture.specs.Picture.{spans_in};
 
 use crate::axis::moments;
@@ -157,7 +157,7 @@ fn write_stay_event(
 ) -> Result<(), OutOfMemory>
     requires { extent.0 < extent.1 }
     ensures { OnOk result (text.new.items ≡ text.old.items
-        ++ event_text (name_of sheet.now.set.now t) p extent.0 extent.1) }
+        ++ stay_event_text (name_of sheet.now.set.now t) p extent.0 extent.1) }
 {
     write_word(text, b",\n{\"name\":\"")?;
     write_word(text, sheet.name(t).as_bytes())?;

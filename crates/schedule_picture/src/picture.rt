@@ -2,9 +2,9 @@
 ghost use Rattle.std.specs.Prelude.{◌≡◌, ◌≤◌, ◌+◌, All, length, slice_index, IfOk};
 ghost use Rattle.strong_apa.specs.Passing.{IsPassing};
 ghost use Rattle.schedule_text.specs.ScheduleText.{IsEntryOf};
-ghost use Rattle.schedule_picture.specs.Elements.{IsWellFormed};
+ghost use Rattle.schedule_picture.specs.Elements.{IsWellFormedElement};
 ghost use Rattle.schedule_picture.specs.History.{HaveSpans};
-ghost use Rattle.schedule_picture.specs.Picture.{IsPicture, HasGroupsOf, cut_window, places_of, end_of};
+ghost use Rattle.schedule_picture.specs.Picture.{IsPicture, HasGroupsOf, cut_window, clock_moments, end_of};
 
 use crate::around::{longest_label, text_after, text_before, text_between};
 use crate::assembly::{Around, assembled};
@@ -49,7 +49,7 @@ fn drawn(
     window: Window,
 ) -> Result<Vec<u8>, OutOfMemory>
     requires spans { HaveSpans schedule.now.set schedule.now.entries tracks.now }
-    requires places { places.now.items ≡ places_of axis schedule.now.entries }
+    requires places { places.now.items ≡ clock_moments axis schedule.now.entries }
     ensures { IfOk result (λ text.
         IsPicture axis schedule.now.set schedule.now.entries window text.items) }
 {
@@ -97,7 +97,7 @@ fn page_text(
     requires few { length listed.now ≤ 64 }
     ensures groups { IfOk result (λ text.
         HasGroupsOf sheet.now.places.now sheet.now.set.now sheet.now.window tracks.now listed.now text.items) }
-    ensures well_formed { IfOk result (λ text. IsWellFormed text.items) }
+    ensures well_formed { IfOk result (λ text. IsWellFormedElement text.items) }
 {
     let page = page_for(sheet, entries, axis, listed.len())?;
     let facts = facts_of(sheet, entries);

@@ -1,5 +1,6 @@
 -- The result of an arrival, and who came in at a processor: what their fields say, and their faults.
-use Rattle.std.proofs.Common.{◌≡◌, ◌≢◌, ℕ, ◌<◌, ◌⊎◌, inl, inr, List, [], ◌∷◌, length, Option, Some, None, Result, Ok, Err, IfOk, IfErr, refl, sym, ap, ◌∙◌, subst, arith}
+use Rattle.std.proofs.Common.{◌≡◌, ◌≢◌, ℕ, ◌<◌, ◌⊎◌, inl, inr, List, [], ◌∷◌, length, Option, Some, None, Result, Ok, Err, IfOk, IfErr}
+use Rattle.std.proofs.Common.{refl, sym, ap, ◌∙◌, subst, arith}
 use Rattle.std.specs.Prelude.{codes}
 use Rattle.task_set.specs.TaskSet.{SetData}
 use Rattle.task_set.specs.Refusal.{IsNameOf}
@@ -12,10 +13,12 @@ use Rattle.schedule_text.specs.Schedule.{AreOfProcessors}
 use Rattle.schedule_text.specs.declared.fault.TextKind.{TextKind}
 use Rattle.schedule_text.specs.declared.fault.TextKind.TheVariants.{BadLine}
 use Rattle.schedule_text.specs.Fields.{IsSetField, IsChainField, IsSomebodyField}
-use Rattle.schedule_text.specs.LineFields.{IsSaid, IsNameFault, IsCameFields, IsCameFault, IsGoneFields, IsGoneFault, displaced_fields, gone_words}
+use Rattle.schedule_text.specs.LineFields.{IsSaid, IsNameFault, IsCameFields, IsCameFault, IsGoneFields, IsGoneFault, displaced_fields}
+use Rattle.schedule_text.specs.LineFields.{gone_words}
 use Rattle.text_fields.proofs.Words.{head_same, tail_same, other_word}
 use Rattle.text_fields.proofs.NamedTasks.{named_task}
-use Rattle.schedule_text.proofs.ReplyParts.{no_task_named, task_named, the_task, somebody_named, the_somebody, chain_alone, set_alone, chain_and_set, the_chain, the_set}
+use Rattle.schedule_text.proofs.ReplyParts.{no_task_named, task_named, the_task, somebody_named, the_somebody, chain_alone, set_alone}
+use Rattle.schedule_text.proofs.ReplyParts.{chain_and_set, the_chain, the_set}
 use Rattle.schedule_text.proofs.Names.{IsNamed, name_fault, alone, alone_named, alone_has}
 
 -- ---- a word and a value

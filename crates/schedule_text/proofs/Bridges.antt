@@ -1,5 +1,6 @@
 -- The text of a line and its fields: each gives the other.
-use Rattle.std.proofs.Common.{◌≡◌, ℕ, ◌<◌, ◌≤◌, ◌^◌, true, List, [], ◌∷◌, ◌++◌, length, All, Contains, refl, sym, ap, ◌∙◌, arith, append_assoc}
+use Rattle.std.proofs.Common.{◌≡◌, ℕ, ◌<◌, ◌≤◌, ◌^◌, true, List, [], ◌∷◌, ◌++◌, length, All, Contains, refl, sym, ap, ◌∙◌, arith}
+use Rattle.std.proofs.Common.{append_assoc}
 use Rattle.std.specs.Prelude.{codes}
 use Rattle.std.proofs.lemmas.List.Elements.{All-weaker}
 use Rattle.affinity_mask.specs.Number.{canonical_number}
@@ -19,7 +20,8 @@ use Rattle.schedule_text.specs.LineFields.{entry_fields, IsTaskFields, IsContext
 use Rattle.schedule_text.proofs.FieldLists.{spaced_apart}
 use Rattle.schedule_text.proofs.Fields.{split_joined, joined_split}
 use Rattle.schedule_text.proofs.Names.{set_fields}
-use Rattle.schedule_text.proofs.Spaces.{EachByte, IsNoSpace, high_no_space, is_high, none_from_no_space, field_no_space, fields_no_space, reply_some, task_bytes, entry_bytes, context_bytes, word_number_bytes}
+use Rattle.schedule_text.proofs.Spaces.{EachByte, IsNoSpace, high_no_space, is_high, none_from_no_space, field_no_space, fields_no_space}
+use Rattle.schedule_text.proofs.Spaces.{reply_some, task_bytes, entry_bytes, context_bytes, word_number_bytes}
 
 pub fields_back : (text first : List ℕ) (more : List (List ℕ)) → text ≡ spaced (first ∷ more)
     → EachByte IsNoSpace (first ∷ more) → spaced_fields_of text ≡ first ∷ more

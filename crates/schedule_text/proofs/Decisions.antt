@@ -1,5 +1,6 @@
 -- Fields of which it is known that they say something or nothing.
-use Rattle.std.proofs.Common.{◌≡◌, ◌≢◌, ℕ, zero, suc, ◌-◌, ◌<◌, ◌≤◌, ◌^◌, ◌⊎◌, inl, inr, true, nat_lt, List, [], ◌∷◌, length, map, All, Contains, Option, Some, None, refl, sym, ap, ◌∙◌, subst, arith, lit<}
+use Rattle.std.proofs.Common.{◌≡◌, ◌≢◌, ℕ, zero, suc, ◌-◌, ◌<◌, ◌≤◌, ◌^◌, ◌⊎◌, inl, inr, true, nat_lt, List, [], ◌∷◌, length, map, All}
+use Rattle.std.proofs.Common.{Contains, Option, Some, None, refl, sym, ap, ◌∙◌, subst, arith, lit<}
 use Rattle.std.specs.Prelude.{codes}
 use Rattle.std.proofs.lemmas.Bool.{cases_eq, cases_lt}
 use Rattle.std.proofs.lemmas.List.{length-map}
@@ -13,9 +14,11 @@ use Rattle.text_fields.proofs.Addable.{mask_decided}
 use Rattle.text_fields.proofs.Decisions.{bytes_decided, number_within_decided}
 use Rattle.schedule_text.specs.Schedule.{IsOfProcessors}
 use Rattle.schedule_text.specs.LineForms.{IsField}
-use Rattle.schedule_text.specs.Fields.{links_of, IsNumberField, IsProcessorField, IsListField, IsMaskField, IsSetField, IsChainField, AreProcessorFields, IsLastField}
+use Rattle.schedule_text.specs.Fields.{links_of, IsNumberField, IsProcessorField, IsListField, IsMaskField, IsSetField, IsChainField}
+use Rattle.schedule_text.specs.Fields.{AreProcessorFields, IsLastField}
 use Rattle.text_fields.proofs.Words.{head_same, tail_same}
-use Rattle.schedule_text.proofs.Fields.{processor_read, processor_none, mask_none, mask_differs, number_none, number_differs, list_refused, list_differs, list_read, set_empty, set_read, set_none}
+use Rattle.schedule_text.proofs.Fields.{processor_read, processor_none, mask_none, mask_differs, number_none, number_differs, list_refused}
+use Rattle.schedule_text.proofs.Fields.{list_differs, list_read, set_empty, set_read, set_none}
 use Rattle.schedule_text.proofs.Chains.{chain_empty, chain_read, chain_none}
 use Rattle.schedule_text.proofs.Contexts.{last_none}
 

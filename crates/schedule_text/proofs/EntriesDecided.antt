@@ -1,5 +1,6 @@
 -- Names, events, replies and entries, of whose fields it is known that they say something or have a fault.
-use Rattle.std.proofs.Common.{◌≡◌, ◌≢◌, ℕ, ◌<◌, ◌≤◌, ◌⊎◌, inl, inr, List, [], ◌∷◌, length, Option, Some, None, refl, sym, ap, ◌∙◌, subst, arith, length-append, lit<}
+use Rattle.std.proofs.Common.{◌≡◌, ◌≢◌, ℕ, ◌<◌, ◌≤◌, ◌⊎◌, inl, inr, List, [], ◌∷◌, length, Option, Some, None, refl, sym, ap, ◌∙◌, subst}
+use Rattle.std.proofs.Common.{arith, length-append, lit<}
 use Rattle.std.specs.Prelude.{codes}
 use Rattle.std.proofs.lemmas.Bool.{cases_eq}
 use Rattle.task_set.specs.TaskSet.{SetData, IsTaskSet}
@@ -15,17 +16,26 @@ use Rattle.schedule_text.specs.declared.fault.TextKind.{TextKind}
 use Rattle.schedule_text.specs.declared.fault.TextKind.TheVariants.{BadLine, UnknownTask}
 use Rattle.schedule_text.specs.LineForms.{IsField, HasFields}
 use Rattle.schedule_text.specs.Fields.{IsSomebodyField}
-use Rattle.schedule_text.specs.LineFields.{IsNoFirstWord, IsPartFault, IsSaid, IsNameFault, IsCameFields, IsGoneFields, IsGoneThen, IsReplyFields, IsEventFields, IsEventThen, IsEntryFields, IsEntryFault, displaced_fields, gone_words}
+use Rattle.schedule_text.specs.LineFields.{IsNoFirstWord, IsPartFault, IsSaid, IsNameFault, IsCameFields, IsGoneFields, IsGoneThen}
+use Rattle.schedule_text.specs.LineFields.{IsReplyFields, IsEventFields, IsEventThen, IsEntryFields, IsEntryFault, displaced_fields}
+use Rattle.schedule_text.specs.LineFields.{gone_words}
 use Rattle.text_fields.proofs.Words.{head_same, tail_same}
 use Rattle.text_fields.proofs.Addable.{name_decided}
 use Rattle.text_fields.proofs.Decisions.{bytes_decided}
 use Rattle.text_fields.proofs.NamedTasks.{named_task}
-use Rattle.schedule_text.proofs.Decisions.{both_decided, field_decided, number_field_decided, processor_field_decided, mask_field_decided, set_field_decided, chain_field_decided}
+use Rattle.schedule_text.proofs.Decisions.{both_decided, field_decided, number_field_decided, processor_field_decided, mask_field_decided}
+use Rattle.schedule_text.proofs.Decisions.{set_field_decided, chain_field_decided}
 use Rattle.schedule_text.proofs.Names.{IsNamed, set_fields, named_fault}
 use Rattle.schedule_text.proofs.Parts.{IsDecided, parts_decided, same_decided, none_said}
-use Rattle.schedule_text.proofs.Shapes.{tick_none, first_none, no_processor, no_event, tick_read, offline_read, online_read, three_none, mask_of_some, affinity_read, event_length, arrival_read, departure_read, arrival_fault, departure_fault, affinity_fault}
-use Rattle.schedule_text.proofs.Arrivals.{placed_read, waits_read, placed_none, waits_none, two_none, displaced_read, displaced_parts, displaced_fault, six_words, six_none, came_length, gone_read, gone_parts, gone_fault, five_words, five_none, gone_length}
-use Rattle.schedule_text.proofs.Replies.{came_to, came_from, freed_to, freed_from, on_to, on_from, on_none, unmoved_read, off_none, off_other, moved_parts, moved_written, waiting_to, waiting_from, waiting_other, linked_parts, linked_to, linked_other, remasked_none, remasked_other, moved_reply}
+use Rattle.schedule_text.proofs.Shapes.{tick_none, first_none, no_processor, no_event, tick_read, offline_read, online_read, three_none}
+use Rattle.schedule_text.proofs.Shapes.{mask_of_some, affinity_read, event_length, arrival_read, departure_read, arrival_fault}
+use Rattle.schedule_text.proofs.Shapes.{departure_fault, affinity_fault}
+use Rattle.schedule_text.proofs.Arrivals.{placed_read, waits_read, placed_none, waits_none, two_none, displaced_read, displaced_parts}
+use Rattle.schedule_text.proofs.Arrivals.{displaced_fault, six_words, six_none, came_length, gone_read, gone_parts, gone_fault, five_words}
+use Rattle.schedule_text.proofs.Arrivals.{five_none, gone_length}
+use Rattle.schedule_text.proofs.Replies.{came_to, came_from, freed_to, freed_from, on_to, on_from, on_none, unmoved_read, off_none}
+use Rattle.schedule_text.proofs.Replies.{off_other, moved_parts, moved_written, waiting_to, waiting_from, waiting_other, linked_parts}
+use Rattle.schedule_text.proofs.Replies.{linked_to, linked_other, remasked_none, remasked_other, moved_reply}
 use Rattle.schedule_text.proofs.ReplyFields.{no_fields}
 use Rattle.schedule_text.proofs.FieldLists.{short_gone}
 use Rattle.schedule_text.proofs.FirstWords.{word_replies, reply_named, none_some, some_same, version_decided, word_read, word_told}

@@ -1,5 +1,7 @@
 -- A line is cut at one space after the other.
-use Rattle.std.proofs.Common.{◌≡◌, ◌≢◌, ℕ, suc, ◌+◌, ◌-◌, ◌<◌, ◌≤◌, ◌^◌, ◌%◌, ◌/◌, Bool, false, cond, ◌⊎◌, inl, inr, List, [], ◌∷◌, ◌++◌, length, take, drop, get_or, map, Bor, sym, ap, subst, ◌∙◌, refl, arith, append_assoc, length-take-le, length-drop, drop-cons, ne_eqb, w64, shr-shr}
+use Rattle.std.proofs.Common.{◌≡◌, ◌≢◌, ℕ, suc, ◌+◌, ◌-◌, ◌<◌, ◌≤◌, ◌^◌, ◌%◌, ◌/◌, Bool, false, cond, ◌⊎◌, inl, inr, List, [], ◌∷◌, ◌++◌}
+use Rattle.std.proofs.Common.{length, take, drop, get_or, map, Bor, sym, ap, subst, ◌∙◌, refl, arith, append_assoc, length-take-le}
+use Rattle.std.proofs.Common.{length-drop, drop-cons, ne_eqb, w64, shr-shr}
 use Rattle.std.specs.Prelude.{◌==◌, All}
 use Rattle.std.specs.Int.{bit_at}
 use Rattle.std.proofs.lemmas.Bool.{cases_eq, cases_lt}
@@ -34,7 +36,8 @@ no_space_in text from n within none =
     at : (k : ℕ) → k < length (take n (drop from text)) → (get_or (take n (drop from text)) k 0 == 32) ≡ false
     at k short =
         let size : length (take n (drop from text)) ≡ n = length-take-le n (drop from text) (omega (arith, length-drop from text)) in
-        let here : get_or (take n (drop from text)) k 0 ≡ get_or text (from + k) 0 = get_or-take n (drop from text) k 0 (omega arith) ∙ get_or-drop from text k 0 in
+        let here : get_or (take n (drop from text)) k 0 ≡ get_or text (from + k) 0 = get_or-take n (drop from text) k 0 (omega arith)
+        ∙ get_or-drop from text k 0 in
         ne_eqb _ 32 (λ is. none (from + k) (omega arith) (omega arith) (sym here ∙ is))
 
 -- the field that goes on ends at a space
@@ -59,7 +62,8 @@ cut_more text room field from space ordered within here none is cut =
     ∙ ap (λ (first : List ℕ). first ∷ spaced_fields_of (drop (space + 1) text)) (sym is) in
     cut ∙ ap (λ (after : List (List ℕ)). texts room ++ after) one
     ∙ sym (append_assoc (texts room) (field.now ∷ []) (spaced_fields_of (drop (space + 1) text)))
-    ∙ ap (λ (before : List (List ℕ)). before ++ spaced_fields_of (drop (space + 1) text)) (sym (map-append (λ (f : Bor (List ℕ)). f.now) room (field ∷ [])))
+    ∙ ap (λ (before : List (List ℕ)). before ++ spaced_fields_of (drop (space + 1) text))
+    (sym (map-append (λ (f : Bor (List ℕ)). f.now) room (field ∷ [])))
 
 -- the room has one more field, and the next one begins after the space
 pub cut_at_space : (text : List ℕ) (room next : List (Bor (List ℕ))) (field : Bor (List ℕ)) (from at space : ℕ)
@@ -102,7 +106,8 @@ pub cut_whole : (text : List ℕ) (room : List (Bor (List ℕ))) (field : Bor (L
     → texts (room ++ field ∷ []) ≡ spaced_fields_of text
 cut_whole text room field from at so_far end is =
     let size : from + (length text - from) ≡ length text = let within = so_far.within in omega arith in
-    let all : take (length text - from) (drop from text) ≡ drop from text = take_all _ (drop from text) (omega (arith, length-drop from text)) in
+    let all : take (length text - from) (drop from text)
+    ≡ drop from text = take_all _ (drop from text) (omega (arith, length-drop from text)) in
     let last : spaced_fields_of (drop from text) ≡ field.now ∷ [] =
     slice_split_none (λ byte. byte == 32) (drop from text)
     (subst (All (λ (byte : ℕ). (byte == 32) ≡ false)) all
@@ -163,7 +168,8 @@ block_spaces text start within = record {
   all = λ k short space. told k ∙ ap (λ (x : ℕ). cond {A = ℕ} (x == 32) 1 0) (get_or-chunk start 16 text k 0 (omega arith) ∙ space);
 }
   where
-    told : (k : ℕ) → bit_at (mask_l (map (λ (x : ℕ). x == 32) (chunk start 16 text))) k ≡ cond {A = ℕ} (get_or (chunk start 16 text) k 0 == 32) 1 0
+    told : (k : ℕ) → bit_at (mask_l (map (λ (x : ℕ). x == 32) (chunk start 16 text))) k
+        ≡ cond {A = ℕ} (get_or (chunk start 16 text) k 0 == 32) 1 0
     told k = bit_mask_l (map (λ (x : ℕ). x == 32) (chunk start 16 text)) k
         ∙ ap (λ (b : Bool). cond {A = ℕ} b 1 0) (get_or-map (λ (x : ℕ). x == 32) (chunk start 16 text) k 0)
 
@@ -174,4 +180,5 @@ block_spaces text start within = record {
     ]
 
     no_bit : (k : ℕ) → 16 ≤ k → bit_at (mask_l (map (λ (x : ℕ). x == 32) (chunk start 16 text))) k ≡ 0
-    no_bit k past = told k ∙ ap (λ (x : ℕ). cond {A = ℕ} (x == 32) 1 0) (get_or_past (chunk start 16 text) k 0 (omega (arith, length-chunk start 16 text within)))
+    no_bit k past = told k ∙ ap (λ (x : ℕ). cond {A = ℕ} (x == 32) 1 0)
+        (get_or_past (chunk start 16 text) k 0 (omega (arith, length-chunk start 16 text within)))

@@ -1,5 +1,6 @@
 -- The fields of a line, taken one by one, and cut in two.
-use Rattle.std.proofs.Common.{◌≡◌, ℕ, zero, suc, ◌-◌, ◌<◌, ◌≤◌, List, [], ◌∷◌, length, take, drop, get_or, Bor, refl, sym, ap, ◌∙◌, ◌++◌, arith, append_assoc, length-append, ◌≢◌, Bool, true, false, nat_eq, eqb-true}
+use Rattle.std.proofs.Common.{◌≡◌, ℕ, zero, suc, ◌-◌, ◌<◌, ◌≤◌, List, [], ◌∷◌, length, take, drop, get_or, Bor, refl, sym, ap, ◌∙◌, ◌++◌}
+use Rattle.std.proofs.Common.{arith, append_assoc, length-append, ◌≢◌, Bool, true, false, nat_eq, eqb-true}
 use Rattle.std.specs.Prelude.{codes}
 use Rattle.std.proofs.lemmas.Bool.{true≢false}
 use Rattle.text_fields.specs.Fields.{texts}

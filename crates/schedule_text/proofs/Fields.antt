@@ -1,5 +1,7 @@
 -- What a field says: numbers, lists, sets and chains of processors.
-use Rattle.std.proofs.Common.{◌≡◌, ◌≢◌, ℕ, zero, suc, ◌+◌, ◌-◌, ◌<◌, ◌≤◌, ◌^◌, false, true, nat_lt, ◌==◌, nat_eq, ◌⊎◌, inl, inr, IsTrue, List, [], ◌∷◌, length, map, get_or, All, Contains, Option, Some, None, MatchOption, refl, sym, ap, ◌∙◌, subst, arith, ne_eqb, eq-eqb, length-append}
+use Rattle.std.proofs.Common.{◌≡◌, ◌≢◌, ℕ, zero, suc, ◌+◌, ◌-◌, ◌<◌, ◌≤◌, ◌^◌, false, true, nat_lt, ◌==◌, nat_eq, ◌⊎◌, inl, inr, IsTrue}
+use Rattle.std.proofs.Common.{List, [], ◌∷◌, length, map, get_or, All, Contains, Option, Some, None, MatchOption, refl, sym, ap, ◌∙◌, subst}
+use Rattle.std.proofs.Common.{arith, ne_eqb, eq-eqb, length-append}
 use Rattle.std.specs.Prelude.{codes}
 use Rattle.std.specs.List.{slice_split, join_with_byte}
 use Rattle.std.specs.Str.Parse.{AllDigits, digits_value}

@@ -1,5 +1,6 @@
 -- What a reply says, by its first word. Here is the one walk over the replies: the lemmas about their texts follow from it.
-use Rattle.std.proofs.Common.{◌≡◌, ◌≢◌, ℕ, ◌<◌, Bool, true, false, nat_eq, if◌then◌else◌, List, [], ◌∷◌, ◌++◌, ◌⊎◌, length, Option, Some, None, inl, inr, refl, sym, ap, ◌∙◌, subst, arith, eqb-true}
+use Rattle.std.proofs.Common.{◌≡◌, ◌≢◌, ℕ, ◌<◌, Bool, true, false, nat_eq, if◌then◌else◌, List, [], ◌∷◌, ◌++◌, ◌⊎◌, length, Option, Some}
+use Rattle.std.proofs.Common.{None, inl, inr, refl, sym, ap, ◌∙◌, subst, arith, eqb-true}
 use Rattle.std.specs.Prelude.{codes}
 use Rattle.std.proofs.lemmas.Bool.{cases_Bool, cases_eq, true≢false}
 use Rattle.task_set.specs.TaskSet.{SetData}
@@ -8,14 +9,16 @@ use Rattle.strong_apa.specs.declared.reply.Came.TheVariants as came
 use Rattle.strong_apa.specs.declared.reply.Gone.{Gone}
 use Rattle.strong_apa.specs.declared.reply.Moved.{Moved}
 use Rattle.strong_apa.specs.declared.reply.Reply.{Reply}
-use Rattle.strong_apa.specs.declared.reply.Reply.TheVariants.{Placed, Displaced, Waits, Freed, Left, Ticked, AlreadyReady, NotReady, Masked, Remasked, AlreadyOff, AlreadyOn, Off, On}
+use Rattle.strong_apa.specs.declared.reply.Reply.TheVariants.{Placed, Displaced, Waits, Freed, Left, Ticked, AlreadyReady, NotReady, Masked}
+use Rattle.strong_apa.specs.declared.reply.Reply.TheVariants.{Remasked, AlreadyOff, AlreadyOn, Off, On}
 use Rattle.strong_apa.specs.Reply.{reply_of_came, reply_of_gone, came_tasks, came_chains, came_sets, IsReplyOfVersion}
 use Rattle.text_fields.specs.EventText.{name_of}
 use Rattle.text_fields.proofs.Words.{are_same, and_left, and_right}
 use Rattle.schedule_text.specs.ScheduleText.{came_fields, gone_fields, left_fields, moved_fields, reply_fields, IsReplyOf}
 use Rattle.schedule_text.specs.Schedule.{HasProcessors}
 use Rattle.schedule_text.specs.LineFields.{IsCameFields, IsGoneFields, IsReplyFields}
-use Rattle.schedule_text.proofs.ReplyParts.{no_task_named, no_processors, first_task, other_tasks, first_somebody, after_somebody, first_processors, other_processors}
+use Rattle.schedule_text.proofs.ReplyParts.{no_task_named, no_processors, first_task, other_tasks, first_somebody, after_somebody}
+use Rattle.schedule_text.proofs.ReplyParts.{first_processors, other_processors}
 
 -- ---- words that are tested
 

@@ -15,7 +15,8 @@ use Rattle.text_fields.proofs.Choices.{only, choice, reading, judging, allowing}
 use Rattle.text_fields.proofs.Decisions.{bytes_decided}
 use Rattle.text_fields.proofs.Words.{head_same, tail_same}
 use Rattle.schedule_text.specs.Schedule.{IsContextOf}
-use Rattle.schedule_text.specs.Prefix.{Progress, HeaderExpected, ProcessorsExpected, TasksExpected, EntriesExpected, ContextsExpected, Ended, IsPrefix}
+use Rattle.schedule_text.specs.Prefix.{Progress, HeaderExpected, ProcessorsExpected, TasksExpected, EntriesExpected, ContextsExpected}
+use Rattle.schedule_text.specs.Prefix.{Ended, IsPrefix}
 use Rattle.schedule_text.specs.LineForms.{IsField}
 use Rattle.schedule_text.specs.Fields.{spaced_fields_of, IsNumberAfter}
 use Rattle.schedule_text.specs.LineFields.{IsTaskFields, IsContextFields}

@@ -1,5 +1,6 @@
 -- The fields of a line say one thing, and what they say has no fault.
-use Rattle.std.proofs.Common.{◌≡◌, ℕ, ◌<◌, ◌≤◌, ◌^◌, inl, inr, List, [], ◌∷◌, length, Option, Some, None, IfSome, refl, sym, ap, ◌∙◌, subst, arith}
+use Rattle.std.proofs.Common.{◌≡◌, ℕ, ◌<◌, ◌≤◌, ◌^◌, inl, inr, List, [], ◌∷◌, length, Option, Some, None, IfSome, refl, sym, ap, ◌∙◌, subst}
+use Rattle.std.proofs.Common.{arith}
 use Rattle.std.specs.Prelude.{codes}
 use Rattle.std.proofs.lemmas.Fmt.{decimal_injective}
 use Rattle.affinity_mask.specs.Number.{canonical_number}
@@ -21,14 +22,16 @@ use Rattle.schedule_text.specs.Schedule.{IsProcessorList, IsOfProcessors}
 use Rattle.task_set.specs.Event.{HasUnits}
 use Rattle.schedule_text.specs.declared.fault.TextKind.{TextKind}
 use Rattle.schedule_text.specs.Fields.{IsNumberAfter}
-use Rattle.schedule_text.specs.LineFields.{IsTaskFields, IsCameFields, IsGoneFields, IsReplyFields, IsEntryFields, IsSomeEntry, IsEntryFault}
+use Rattle.schedule_text.specs.LineFields.{IsTaskFields, IsCameFields, IsGoneFields, IsReplyFields, IsEntryFields, IsSomeEntry}
+use Rattle.schedule_text.specs.LineFields.{IsEntryFault}
 use Rattle.text_fields.proofs.Words.{head_same, tail_same, clash}
 use Rattle.schedule_text.proofs.Names.{name_of_no_dash, set_fields}
 use Rattle.text_fields.proofs.NamedTasks.{same_task, same_parts}
 use Rattle.schedule_text.proofs.Fields.{list_once, set_once, mask_processors}
 use Rattle.schedule_text.proofs.Chains.{chain_once}
 use Rattle.schedule_text.proofs.ReplyParts.{the_task, the_somebody, the_chain, the_set}
-use Rattle.schedule_text.proofs.FirstWords.{opening, Opening, freed_first, on_first, off_first, remasked_first, other_first, IsMovedFields, IsReturnFields, IsTold, IsToldBy, said, some_same}
+use Rattle.schedule_text.proofs.FirstWords.{opening, Opening, freed_first, on_first, off_first, remasked_first, other_first, IsMovedFields}
+use Rattle.schedule_text.proofs.FirstWords.{IsReturnFields, IsTold, IsToldBy, said, some_same}
 use Rattle.schedule_text.proofs.Entries.{event_size, events_apart}
 use Rattle.schedule_text.proofs.Replies.{parts_apart}
 

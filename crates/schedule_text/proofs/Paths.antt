@@ -1,5 +1,6 @@
 -- The text of each prefix of a schedule is read without fault.
-use Rattle.std.proofs.Common.{◌≡◌, ℕ, ◌+◌, ◌<◌, ◌≤◌, ◌^◌, true, inl, inr, List, [], ◌∷◌, ◌++◌, length, All, Contains, refl, sym, subst, arith, append_assoc, append-nil, length-append}
+use Rattle.std.proofs.Common.{◌≡◌, ℕ, ◌+◌, ◌<◌, ◌≤◌, ◌^◌, true, inl, inr, List, [], ◌∷◌, ◌++◌, length, All, Contains, refl, sym, subst}
+use Rattle.std.proofs.Common.{arith, append_assoc, append-nil, length-append}
 use Rattle.std.specs.Prelude.{codes}
 use Rattle.std.proofs.lemmas.List.{get_or_at}
 use Rattle.std.proofs.lemmas.List.Elements.{All-weaker}
@@ -13,7 +14,8 @@ use Rattle.text_fields.proofs.Addable.{can_add_next}
 use Rattle.text_fields.proofs.Words.{clash}
 use Rattle.schedule_text.specs.ScheduleText.{header, context_fields, spaced}
 use Rattle.schedule_text.specs.Schedule.{ScheduleData, IsScheduled, IsContextOf, AreInOrder, IsScheduleSet, IsSchedule}
-use Rattle.schedule_text.specs.Prefix.{Progress, whole, HeaderExpected, ProcessorsExpected, TasksExpected, EntriesExpected, ContextsExpected, text_so_far, IsPrefix}
+use Rattle.schedule_text.specs.Prefix.{Progress, whole, HeaderExpected, ProcessorsExpected, TasksExpected, EntriesExpected}
+use Rattle.schedule_text.specs.Prefix.{ContextsExpected, text_so_far, IsPrefix}
 use Rattle.schedule_text.specs.Fields.{spaced_fields_of}
 use Rattle.schedule_text.specs.LineFields.{entry_fields, IsTaskFields}
 use Rattle.schedule_text.specs.LineOutcome.{IsTaskOutcome}
@@ -22,7 +24,8 @@ use Rattle.schedule_text.proofs.Bridges.{task_back, entry_back, context_back, nu
 use Rattle.schedule_text.proofs.Fields.{mask_processors}
 use Rattle.schedule_text.proofs.Names.{name_field}
 use Rattle.schedule_text.proofs.SoFar.{IsReadTo, read_start, read_more}
-use Rattle.schedule_text.proofs.Spaces.{EachByte, IsNoFeed, is_high, high_no_feed, none_from_no_feed, names_no_feed, name_high, word_bytes, joined_bytes, word_number_bytes, task_bytes, entry_bytes, context_bytes}
+use Rattle.schedule_text.proofs.Spaces.{EachByte, IsNoFeed, is_high, high_no_feed, none_from_no_feed, names_no_feed, name_high, word_bytes}
+use Rattle.schedule_text.proofs.Spaces.{joined_bytes, word_number_bytes, task_bytes, entry_bytes, context_bytes}
 use Rattle.schedule_text.proofs.Stages.{at_fields}
 
 -- its text is read without fault, whatever follows

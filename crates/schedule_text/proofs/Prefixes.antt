@@ -1,5 +1,6 @@
 -- A line leads from a prefix of a schedule to the next prefix, whose text has the line more.
-use Rattle.std.proofs.Common.{◌≡◌, ℕ, ◌<◌, ◌≤◌, ◌^◌, inl, inr, List, [], ◌∷◌, ◌++◌, length, refl, sym, ap, ◌∙◌, subst, arith, append-nil, length-append}
+use Rattle.std.proofs.Common.{◌≡◌, ℕ, ◌<◌, ◌≤◌, ◌^◌, inl, inr, List, [], ◌∷◌, ◌++◌, length, refl, sym, ap, ◌∙◌, subst, arith, append-nil}
+use Rattle.std.proofs.Common.{length-append}
 use Rattle.std.specs.Prelude.{codes}
 use Rattle.std.specs.List.{flat_map}
 use Rattle.std.proofs.lemmas.Bool.{cases_lt}
@@ -14,7 +15,8 @@ use Rattle.text_fields.specs.LineText.{line, processors_line, task_line}
 use Rattle.text_fields.specs.Machine.{Leads, Fails}
 use Rattle.schedule_text.specs.ScheduleText.{entry_line, context_line, header, schedule_text}
 use Rattle.schedule_text.specs.Schedule.{IsScheduled, IsContextOf, AreInOrder, IsScheduleSet}
-use Rattle.schedule_text.specs.Prefix.{Progress, HeaderExpected, ProcessorsExpected, TasksExpected, EntriesExpected, ContextsExpected, Ended, tasks_text, history_text, contexts_text, text_so_far, IsPrefix}
+use Rattle.schedule_text.specs.Prefix.{Progress, HeaderExpected, ProcessorsExpected, TasksExpected, EntriesExpected, ContextsExpected}
+use Rattle.schedule_text.specs.Prefix.{Ended, tasks_text, history_text, contexts_text, text_so_far, IsPrefix}
 use Rattle.schedule_text.specs.LineOutcome.{LineOutcome}
 use Rattle.schedule_text.specs.Reading.{Says}
 use Rattle.schedule_text.specs.declared.fault.TextKind.{TextKind}

@@ -18,7 +18,8 @@ use Rattle.text_fields.proofs.Words.{head_same, tail_same, clash}
 use Rattle.text_fields.proofs.NamedTasks.{named_task}
 use Rattle.schedule_text.proofs.ReplyParts.{no_task_named, no_processors, task_and, somebody_and, processors_and}
 use Rattle.schedule_text.proofs.Names.{IsNamed, alone, alone_fields, alone_named, alone_has, name_of_field}
-use Rattle.schedule_text.proofs.FirstWords.{IsOtherWord, other_opening, Opening, other_first, IsMovedFields, IsReturnFields, IsTold, IsToldBy, said}
+use Rattle.schedule_text.proofs.FirstWords.{IsOtherWord, other_opening, Opening, other_first, IsMovedFields, IsReturnFields, IsTold}
+use Rattle.schedule_text.proofs.FirstWords.{IsToldBy, said}
 use Rattle.schedule_text.proofs.Joined.{joined, joined_fields, first_name, first_within, first_gone, second_came, later_came}
 use Rattle.schedule_text.proofs.Parts.{IsOfParts}
 

@@ -1,5 +1,6 @@
 -- Replies by the fields as the code cuts them.
-use Rattle.std.proofs.Common.{◌≡◌, ◌≢◌, ℕ, ◌-◌, ◌≤◌, List, ◌∷◌, length, take, drop, get_or, None, Bor, Result, Ok, Err, IfOk, IfErr, refl, sym, ap, ◌∙◌, subst, arith, [], ◌<◌, inl, MatchResult}
+use Rattle.std.proofs.Common.{◌≡◌, ◌≢◌, ℕ, ◌-◌, ◌≤◌, List, ◌∷◌, length, take, drop, get_or, None, Bor, Result, Ok, Err, IfOk, IfErr, refl}
+use Rattle.std.proofs.Common.{sym, ap, ◌∙◌, subst, arith, [], ◌<◌, inl, MatchResult}
 use Rattle.std.specs.Prelude.{codes}
 use Rattle.task_set.specs.TaskSet.{SetData}
 use Rattle.strong_apa.specs.declared.reply.Came.{Came}
@@ -60,7 +61,8 @@ pub waiting_refused : (set : SetData) (fields : List (Bor (List ℕ))) (d : Bor 
     → IsCameFault (rest_of fields) set kind
     → IsReplyFault 2 (codes "remasked" ∷ codes "left" ∷ texts fields) set kind
 waiting_refused set fields d kind some is refused =
-    subst (λ (rest : List (List ℕ)). IsReplyFault 2 (codes "remasked" ∷ codes "left" ∷ rest) set kind) (headed fields d (codes "then") some is)
+    subst (λ (rest : List (List ℕ)). IsReplyFault 2 (codes "remasked" ∷ codes "left" ∷ rest) set kind)
+    (headed fields d (codes "then") some is)
     (same_fault (IsCameFields (rest_of fields))
     (IsReplyFields 2 (codes "remasked" ∷ codes "left" ∷ codes "then" ∷ rest_of fields)) set kind
     (λ tasks arrival f. (Remasked None arrival, waiting_to 2 refl (rest_of fields) tasks arrival f))

@@ -1,11 +1,14 @@
 -- What holds of each byte from ',' on holds of each byte of the fields of a line, where it holds of the names: so the
 -- fields have no space and no line feed.
-use Rattle.std.proofs.Common.{◌≡◌, ◌≢◌, ℕ, ◌<◌, ◌≤◌, ◌^◌, Bool, true, false, ◌&&◌, nat_eq, nat_le, IsTrue, leb-true, inl, inr, List, [], ◌∷◌, ◌++◌, length, map, All, Contains, Option, Some, None, IfSome, refl, sym, ◌∙◌, subst, arith, ne_eqb, eq-eqb}
+use Rattle.std.proofs.Common.{◌≡◌, ◌≢◌, ℕ, ◌<◌, ◌≤◌, ◌^◌, Bool, true, false, ◌&&◌, nat_eq, nat_le, IsTrue, leb-true, inl, inr, List, []}
+use Rattle.std.proofs.Common.{◌∷◌, ◌++◌, length, map, All, Contains, Option, Some, None, IfSome, refl, sym, ◌∙◌, subst, arith, ne_eqb}
+use Rattle.std.proofs.Common.{eq-eqb}
 use Rattle.std.specs.Prelude.{codes}
 use Rattle.std.specs.List.{join_with_byte}
 use Rattle.std.specs.Str.Parse.{AllDigits}
 use Rattle.std.proofs.lemmas.Bool.{cases_eq, true≢false}
-use Rattle.std.proofs.lemmas.List.Elements.{All-nil, All-cons, All-head, All-tail, All-append, All-weaker, All-map, All-contains, All-from_get_or}
+use Rattle.std.proofs.lemmas.List.Elements.{All-nil, All-cons, All-head, All-tail, All-append, All-weaker, All-map, All-contains}
+use Rattle.std.proofs.lemmas.List.Elements.{All-from_get_or}
 use Rattle.std.proofs.lemmas.Bool.Decides.{nat_tests}
 use Rattle.std.proofs.lemmas.Str.Parse.{digit_at}
 use Rattle.std.proofs.lemmas.Fmt.{decimal_is_IsNumeral}
@@ -39,7 +42,8 @@ use Rattle.text_fields.proofs.Words.{and_left, and_right}
 use Rattle.text_fields.proofs.NamedTasks.{name_at, no_task}
 use Rattle.schedule_text.proofs.Fields.{set_list, mask_processors}
 use Rattle.schedule_text.proofs.ReplyParts.{the_task, the_somebody, the_chain, the_set}
-use Rattle.schedule_text.proofs.FirstWords.{opening, Opening, freed_first, on_first, off_first, remasked_first, other_first, IsMovedFields, IsReturnFields, IsTold, IsToldBy, told}
+use Rattle.schedule_text.proofs.FirstWords.{opening, Opening, freed_first, on_first, off_first, remasked_first, other_first, IsMovedFields}
+use Rattle.schedule_text.proofs.FirstWords.{IsReturnFields, IsTold, IsToldBy, told}
 
 -- the digits are such bytes
 digits_from : (text : List ℕ) → AllDigits 10 text → All (λ (b : ℕ). 44 ≤ b) text

@@ -1,5 +1,6 @@
 -- What the writer appended, piece by piece.
-use Rattle.std.proofs.Common.{◌≡◌, ℕ, zero, suc, ◌+◌, ◌<◌, ◌≤◌, List, [], ◌∷◌, ◌++◌, length, map, take, Option, Some, None, Result, Ok, Err, OnOk, refl, sym, ap, ◌∙◌, append_assoc, arith}
+use Rattle.std.proofs.Common.{◌≡◌, ℕ, zero, suc, ◌+◌, ◌<◌, ◌≤◌, List, [], ◌∷◌, ◌++◌, length, map, take, Option, Some, None, Result, Ok, Err}
+use Rattle.std.proofs.Common.{OnOk, refl, sym, ap, ◌∙◌, append_assoc, arith}
 use Rattle.std.specs.Prelude.{codes, slice_get}
 use Rattle.std.specs.List.{flat_map, join_with_byte}
 use Rattle.std.proofs.lemmas.List.{map-append, take_more}
@@ -15,7 +16,8 @@ use Rattle.strong_apa.specs.declared.reply.Moved.{Moved}
 use Rattle.strong_apa.specs.declared.reply.Entry.{Entry}
 use Rattle.text_fields.specs.LineText.{line, processors_line, task_line}
 use Rattle.text_fields.specs.EventText.{name_of, event_text}
-use Rattle.schedule_text.specs.ScheduleText.{chain_text, set_text, somebody_text, number_text, came_fields, gone_fields, spaced, came_text, gone_text, reply_text, entry_line, context_line, header, schedule_text}
+use Rattle.schedule_text.specs.ScheduleText.{chain_text, set_text, somebody_text, number_text, came_fields, gone_fields, spaced, came_text}
+use Rattle.schedule_text.specs.ScheduleText.{gone_text, reply_text, entry_line, context_line, header, schedule_text}
 use Rattle.schedule_text.proofs.FieldLists.{spaced_apart}
 
 -- pieces that are appended one after another

@@ -1,5 +1,7 @@
--- Private: what the fields of a line say, and their faults, for the contracts of this crate's own functions.
-use Rattle.std.specs.Prelude.{◌≡◌, ◌≢◌, ℕ, ◌<◌, ◌^◌, ◌⊎◌, List, [], ◌∷◌, ◌++◌, length, codes, Result, Ok, Err}
+-- Private: what the fields of a line say, and their faults, for the contracts of this crate's own
+-- functions.
+use Rattle.std.specs.Prelude.{◌≡◌, ◌≢◌, ℕ, ◌<◌, ◌^◌, ◌⊎◌, List, [], ◌∷◌, ◌++◌, length, codes}
+use Rattle.std.specs.Prelude.{Result, Ok, Err}
 use Rattle.std.specs.List.{cons_option}
 use Rattle.affinity_mask.specs.ProcSet.{empty}
 use Rattle.affinity_mask.specs.Number.{canonical_number}
@@ -15,12 +17,15 @@ use Rattle.strong_apa.specs.declared.reply.Entry.{Entry}
 use Rattle.strong_apa.specs.Reply.{came_chains, came_sets, came_tasks, IsReplyOfVersion}
 use Rattle.text_fields.specs.LineText.{task_fields}
 use Rattle.text_fields.specs.EventText.{event_fields, IsAboutSet}
-use Rattle.schedule_text.specs.ScheduleText.{came_fields, gone_fields, reply_fields, context_fields, AreTasksOf, IsReplyOf}
-use Rattle.schedule_text.specs.Schedule.{IsOfProcessors, AreOfProcessors, HasProcessors, IsScheduled, IsContextOf}
+use Rattle.schedule_text.specs.ScheduleText.{came_fields, gone_fields, reply_fields, context_fields}
+use Rattle.schedule_text.specs.ScheduleText.{AreTasksOf, IsReplyOf}
+use Rattle.schedule_text.specs.Schedule.{IsOfProcessors, AreOfProcessors, HasProcessors}
+use Rattle.schedule_text.specs.Schedule.{IsScheduled, IsContextOf}
 use Rattle.task_set.specs.Event.{HasUnits, IsOfVersion}
 use Rattle.schedule_text.specs.LineForms.{IsField, HasFields}
 use Rattle.schedule_text.specs.declared.fault.TextKind.{TextKind}
-use Rattle.schedule_text.specs.declared.fault.TextKind.TheVariants.{BadLine, TaskRefused, UnknownTask}
+use Rattle.schedule_text.specs.declared.fault.TextKind.TheVariants.{BadLine, TaskRefused}
+use Rattle.schedule_text.specs.declared.fault.TextKind.TheVariants.{UnknownTask}
 
 -- the fields of an entry
 abbrev pub entry_fields : SetData → Entry → List (List ℕ)
@@ -36,7 +41,8 @@ AreContextWords units stints moves last trail =
     × (last ≡ codes "last") × (trail ≡ codes "trail")
 
 -- the fields are those of the context of the task with this number
-pub record IsContextFields (set : SetData) (t : ℕ) (fields : List (List ℕ)) (context : Context) : Type 0
+pub record IsContextFields (set : SetData) (t : ℕ) (fields : List (List ℕ))
+    (context : Context) : Type 0
   where
     pub of_task : IsContextOf t context
     pub each_field : fields ≡ context_fields set context
@@ -90,7 +96,8 @@ first_reported UnknownTask other = other
 first_reported kind other = kind
 
 -- two parts that were read, or the fault that is reported
-abbrev pub both_of : {A B : Type 0} → Result A TextKind → Result B TextKind → Result (A × B) TextKind
+abbrev pub both_of : {A B : Type 0} → Result A TextKind → Result B TextKind
+    → Result (A × B) TextKind
 both_of (Ok a) (Ok b) = Ok (a, b)
 both_of (Ok a) (Err kind) = Err kind
 both_of (Err kind) (Ok b) = Err kind
@@ -119,7 +126,8 @@ gone_words chain name processors =
     chain ∷ codes "enters" ∷ name ∷ codes "back" ∷ processors ∷ []
 
 -- the fields are those of a reply of a version and of the set
-pub record IsReplyFields (version : ℕ) (fields : List (List ℕ)) (set : SetData) (reply : Reply) : Type 0
+pub record IsReplyFields (version : ℕ) (fields : List (List ℕ)) (set : SetData)
+    (reply : Reply) : Type 0
   where
     pub about : IsReplyOf set reply
     pub of_version : IsReplyOfVersion version reply
@@ -127,7 +135,8 @@ pub record IsReplyFields (version : ℕ) (fields : List (List ℕ)) (set : SetDa
     pub each_field : fields ≡ reply_fields set reply
 
 -- the fields are those of an event of a version and of the set, which has m processors
-pub record IsEventFields (version m : ℕ) (fields : List (List ℕ)) (set : SetData) (event : Event) : Type 0
+pub record IsEventFields (version m : ℕ) (fields : List (List ℕ)) (set : SetData)
+    (event : Event) : Type 0
   where
     pub processors : set.processors ≡ m
     pub about : IsAboutSet set event
@@ -146,7 +155,8 @@ abbrev pub IsReplyFault : ℕ → List (List ℕ) → SetData → TextKind → T
 IsReplyFault version fields set kind = IsSaidFault (IsReplyFields version fields) set kind
 
 abbrev pub IsEventFault : ℕ → List (List ℕ) → SetData → TextKind → Type 0
-IsEventFault version fields set kind = IsSaidFault (IsEventFields version set.processors fields) set kind
+IsEventFault version fields set kind =
+    IsSaidFault (IsEventFields version set.processors fields) set kind
 
 -- the word of no event of the first version
 abbrev pub IsNoFirstWord : List ℕ → Type 0
@@ -161,7 +171,8 @@ pub record IsGoneThen (fields gone arrival : List (List ℕ)) : Type 0 where
 abbrev pub IsEventSize : List (List ℕ) → Type 0
 IsEventSize [] = ⊥
 IsEventSize (word ∷ more) =
-    ((word ≡ codes "affinity") × (length more ≡ 2)) ⊎ ((word ≢ codes "affinity") × (length more ≡ 1))
+    ((word ≡ codes "affinity") × (length more ≡ 2))
+    ⊎ ((word ≢ codes "affinity") × (length more ≡ 1))
 
 -- the fields of an event and those after it
 pub record IsEventThen (fields event reply : List (List ℕ)) : Type 0 where
@@ -171,12 +182,14 @@ pub record IsEventThen (fields event reply : List (List ℕ)) : Type 0 where
 -- ---- entries
 
 -- they are those of an entry of a version and of the set
-pub record IsEntryFields (version : ℕ) (fields : List (List ℕ)) (set : SetData) (entry : Entry) : Type 0
+pub record IsEntryFields (version : ℕ) (fields : List (List ℕ)) (set : SetData)
+    (entry : Entry) : Type 0
   where
     pub scheduled : IsScheduled version set entry
     pub each_field : fields ≡ entry_fields set entry
 
--- they are those of a stream, of an event of some tasks on m processors, and of a reply of some tasks
+-- they are those of a stream, of an event of some tasks on m processors, and of a reply of some
+-- tasks
 pub record IsSomeEntry (version m : ℕ) (fields : List (List ℕ)) : Type 0 where
   pub stream : ℕ
   pub event : List (List ℕ)

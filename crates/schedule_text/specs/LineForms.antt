@@ -1,5 +1,5 @@
--- What can stand for a name, and the line with the number of contexts. In a task line and in an entry any field stands for a
--- name.
+-- What can stand for a name, and the line with the number of contexts. In a task line and in an
+-- entry any field stands for a name.
 use Rattle.std.specs.Prelude.{◌≡◌, ◌≢◌, ℕ, List, [], ◌++◌, length, codes, All, Contains}
 use Rattle.affinity_mask.specs.Number.{canonical_number}
 use Rattle.task_set.specs.TaskSet.{TaskData, SetData}

@@ -1,5 +1,6 @@
--- What a line comes to, by its fields and by what is expected: something else is expected then, or the line has a fault.
--- A text is cut into lines that a line feed ends; bytes after the last one, and an early end, are a fault.
+-- What a line comes to, by its fields and by what is expected: something else is expected then, or
+-- the line has a fault. A text is cut into lines that a line feed ends; bytes after the last one,
+-- and an early end, are a fault.
 use Rattle.std.specs.Prelude.{◌≡◌, ℕ, ◌<◌, ◌==◌, List, [], ◌∷◌, ◌++◌, length, codes, if◌then◌else◌}
 use Rattle.task_set.specs.TaskSet.{TaskData, SetData, with_task}
 use Rattle.task_set.specs.Refusal.{CanAdd, IsRefusal}
@@ -9,12 +10,15 @@ use Rattle.text_fields.specs.Choice.{IsOnly, IsChoice, IsReading, IsJudging, IsA
 use Rattle.text_fields.specs.Machine.{Outcome, Leads, Fails}
 use Rattle.text_fields.specs.LineText.{line}
 use Rattle.schedule_text.specs.Schedule.{ScheduleData}
-use Rattle.schedule_text.specs.Prefix.{Progress, HeaderExpected, ProcessorsExpected, TasksExpected, EntriesExpected, ContextsExpected, Ended}
+use Rattle.schedule_text.specs.Prefix.{Progress, HeaderExpected, ProcessorsExpected, TasksExpected}
+use Rattle.schedule_text.specs.Prefix.{EntriesExpected, ContextsExpected, Ended}
 use Rattle.schedule_text.specs.Fields.{spaced_fields_of, IsNumberAfter}
 use Rattle.schedule_text.specs.LineForms.{IsCountForm}
-use Rattle.schedule_text.specs.LineFields.{IsTaskFields, IsEntryFields, IsEntryFault, IsContextFields}
+use Rattle.schedule_text.specs.LineFields.{IsTaskFields, IsEntryFields, IsEntryFault}
+use Rattle.schedule_text.specs.LineFields.{IsContextFields}
 use Rattle.schedule_text.specs.declared.fault.TextKind.{TextKind}
-use Rattle.schedule_text.specs.declared.fault.TextKind.TheVariants.{BadLine, TaskRefused, Short, AfterEnd}
+use Rattle.schedule_text.specs.declared.fault.TextKind.TheVariants.{BadLine, TaskRefused, Short}
+use Rattle.schedule_text.specs.declared.fault.TextKind.TheVariants.{AfterEnd}
 
 abbrev pub LineOutcome : Type 0
 LineOutcome = Outcome Progress TextKind

@@ -8,10 +8,12 @@ use Rattle.strong_apa.specs.declared.reply.Entry.{Entry}
 use Rattle.text_fields.specs.LineText.{line, processors_line, task_line}
 use Rattle.text_fields.specs.Version.{IsVersion}
 use Rattle.schedule_text.specs.ScheduleText.{entry_line, context_line, header, schedule_text}
-use Rattle.schedule_text.specs.Schedule.{ScheduleData, IsScheduled, AreInOrder, IsScheduleSet, IsSchedule}
+use Rattle.schedule_text.specs.Schedule.{ScheduleData, IsScheduled, AreInOrder, IsScheduleSet}
+use Rattle.schedule_text.specs.Schedule.{IsSchedule}
 
--- what is expected after a prefix of a schedule: the header, which says the version, and in a version the processors,
--- tasks or the history, entries or the number of contexts, contexts or the end, or nothing
+-- what is expected after a prefix of a schedule: the header, which says the version, and in a
+-- version the processors, tasks or the history, entries or the number of contexts, contexts or the
+-- end, or nothing
 pub data Progress : Type 0 where
   HeaderExpected : Progress
   ProcessorsExpected : ℕ → Progress

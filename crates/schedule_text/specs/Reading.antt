@@ -1,12 +1,13 @@
--- One step of the reader. Private: the contracts of this crate's own functions. The public one says by
--- the definitions of the text and of its faults what was read.
+-- One step of the reader. Private: the contracts of this crate's own functions. The public one says
+-- by the definitions of the text and of its faults what was read.
 use Rattle.std.specs.Prelude.{◌≡◌, ℕ, ◌⊎◌, List, [], Option, Some, None, Result, IfOk, IfErr}
 use Rattle.task_set.specs.TaskSet.{SetData}
 use Rattle.task_set.specs.declared.context.Context.{Context}
 use Rattle.strong_apa.specs.declared.reply.Entry.{Entry}
 use Rattle.schedule_text.specs.Schedule.{ScheduleData}
 use Rattle.schedule_text.specs.ScheduleFault.{IsScheduleRefused}
-use Rattle.schedule_text.specs.Prefix.{Progress, HeaderExpected, ProcessorsExpected, TasksExpected, EntriesExpected, ContextsExpected, Ended}
+use Rattle.schedule_text.specs.Prefix.{Progress, HeaderExpected, ProcessorsExpected, TasksExpected}
+use Rattle.schedule_text.specs.Prefix.{EntriesExpected, ContextsExpected, Ended}
 use Rattle.schedule_text.specs.LineOutcome.{IsOutcome, pieces_of, IsPieceOutcome, IsEndOutcome}
 use Rattle.text_fields.specs.Machine.{Leads, Fails}
 use Rattle.text_fields.specs.Laws.{IsTextOf}
@@ -52,7 +53,8 @@ progress_after_lists reached.Expected lists = progress_of_lists lists
 progress_after_lists reached.End lists =
     Ended lists.version lists.set lists.entries.items lists.contexts.items
 
--- what is expected after a line that more follow, and after the last one; the end comes after lists alone
+-- what is expected after a line that more follow, and after the last one; the end comes after lists
+-- alone
 abbrev pub progress_after : Reached → Stage → Progress
 progress_after reached.Expected next = progress_of next
 progress_after reached.End (stage.Listed lists) = progress_after_lists reached.End lists
@@ -71,7 +73,8 @@ Says expected text next = IsOutcome expected text (Leads next)
 abbrev pub IsFaultOf : Progress → List ℕ → TextKind → Type 0
 IsFaultOf expected text kind = IsOutOfMemory kind ⊎ IsOutcome expected text (Fails kind)
 
--- a reader answers a schedule of which the bytes are the text, or the first fault, unless it is out of memory
+-- a reader answers a schedule of which the bytes are the text, or the first fault, unless it is out
+-- of memory
 abbrev pub IsAnswerTo : List ℕ → Result ScheduleData TextFault → Type 0
 IsAnswerTo bytes result =
     IfOk result (IsTextOf pieces_of HeaderExpected IsPieceOutcome IsEndOutcome bytes)

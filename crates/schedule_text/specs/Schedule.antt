@@ -1,7 +1,7 @@
--- Schedules. A schedule has a version of the format, a valid set of tasks, at most 20,000 entries and one context for
--- each task, in the order of the tasks; each entry is on a stream below 16, its event and its reply are of the version,
--- a tick has from 1 to 1,000,000 units, what it is about is of the set, and its chains and its sets are of processors
--- below 64.
+-- Schedules. A schedule has a version of the format, a valid set of tasks, at most 20,000 entries
+-- and one context for each task, in the order of the tasks; each entry is on a stream below 16, its
+-- event and its reply are of the version, a tick has from 1 to 1,000,000 units, what it is about is
+-- of the set, and its chains and its sets are of processors below 64.
 use Rattle.std.specs.Prelude.{◌≡◌, ℕ, ◌<◌, ◌≤◌, ◌^◌, List, length, All, IfSome, slice_index_or}
 use Rattle.affinity_mask.specs.ProcSet.{all_below, Within}
 use Rattle.text_fields.specs.LineText.{PrioritiesFit}
@@ -78,7 +78,12 @@ pub record IsSchedule (schedule : ScheduleData) : Type 0 where
 -- the stored parts
 abbrev pub schedule_view : Inside → ScheduleData
 schedule_view a =
-    record { version = a.version; set = a.set; entries = a.entries.items; contexts = a.contexts.items }
+    record {
+      version = a.version;
+      set = a.set;
+      entries = a.entries.items;
+      contexts = a.contexts.items;
+    }
 
 -- the invariant of the fields
 abbrev pub IsStored : Inside → Type 0

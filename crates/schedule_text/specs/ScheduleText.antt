@@ -1,7 +1,8 @@
--- The schedule text. There is one text for a version of the format, a task set, a history and the contexts of its
--- tasks: a header, the tasks, a line for each entry with its reply, and a line for each context. It can be written
--- where what each entry is about is of the set.
-use Rattle.std.specs.Prelude.{ℕ, ◌<◌, List, [], ◌∷◌, ◌++◌, codes, length, map, All, Option, None, Some, if◌then◌else◌, ◌==◌}
+-- The schedule text. There is one text for a version of the format, a task set, a history and the
+-- contexts of its tasks: a header, the tasks, a line for each entry with its reply, and a line for
+-- each context. It can be written where what each entry is about is of the set.
+use Rattle.std.specs.Prelude.{ℕ, ◌<◌, List, [], ◌∷◌, ◌++◌, codes, length, map, All, Option, None}
+use Rattle.std.specs.Prelude.{Some, if◌then◌else◌, ◌==◌}
 use Rattle.std.specs.List.{flat_map, join_with_byte}
 use Rattle.affinity_mask.specs.ProcSet.{empty}
 use Rattle.affinity_mask.specs.Number.{canonical_number}
@@ -14,7 +15,10 @@ use Rattle.strong_apa.specs.declared.reply.Came.TheVariants as came
 use Rattle.strong_apa.specs.declared.reply.Gone.{Gone}
 use Rattle.strong_apa.specs.declared.reply.Moved.{Moved}
 use Rattle.strong_apa.specs.declared.reply.Reply.{Reply}
-use Rattle.strong_apa.specs.declared.reply.Reply.TheVariants.{Placed, Displaced, Waits, Freed, Left, Ticked, AlreadyReady, NotReady, Masked, Remasked, AlreadyOff, AlreadyOn, Off, On}
+use Rattle.strong_apa.specs.declared.reply.Reply.TheVariants.{Placed, Displaced, Waits, Freed, Left}
+use Rattle.strong_apa.specs.declared.reply.Reply.TheVariants.{Ticked, AlreadyReady, NotReady}
+use Rattle.strong_apa.specs.declared.reply.Reply.TheVariants.{Masked, Remasked, AlreadyOff}
+use Rattle.strong_apa.specs.declared.reply.Reply.TheVariants.{AlreadyOn, Off, On}
 use Rattle.strong_apa.specs.declared.reply.Entry.{Entry}
 use Rattle.strong_apa.specs.Reply.{tasks_named, IsReplyOfVersion}
 use Rattle.text_fields.specs.LineText.{line, processors_line, task_line}
@@ -85,7 +89,8 @@ reply_fields set AlreadyOn = codes "already_on" ∷ []
 reply_fields set (Off moved) = codes "off" ∷ moved_fields set moved
 reply_fields set (On parts) = codes "on" ∷ gone_fields set parts
 
--- what a task has run: its units of time, stints, moves between processors, last processor and trail
+-- what a task has run: its units of time, stints, moves between processors, last processor and
+-- trail
 abbrev pub context_fields : SetData → Context → List (List ℕ)
 context_fields set context =
     name_of set context.task ∷ codes "units" ∷ canonical_number context.units ∷ codes "stints"

@@ -1,6 +1,7 @@
 -- The definitions on one example, worked by hand. Two processors; a may run on both, b on 1 alone, and c, the least urgent, on both.
 -- They arrive as c, a, b. So c takes processor 0 and a processor 1, and then a moves aside for b, and c waits.
-use Rattle.std.proofs.Common.{◌≡◌, ℕ, zero, suc, ◌<◌, ◌≤◌, Bool, true, false, List, [], ◌∷◌, map, Some, None, refl, sym, ap, ◌∙◌, IsTrue, arith, eqb-true, ◌&&◌, ◌==◌}
+use Rattle.std.proofs.Common.{◌≡◌, ℕ, zero, suc, ◌<◌, ◌≤◌, Bool, true, false, List, [], ◌∷◌, map, Some, None, refl, sym, ap, ◌∙◌, IsTrue}
+use Rattle.std.proofs.Common.{arith, eqb-true, ◌&&◌, ◌==◌}
 use Rattle.std.specs.Prelude.{All, length, nat_lt}
 use Rattle.std.proofs.lemmas.Bool.{ltb-true, lt-ltb, false≢true, and_parts}
 use Rattle.std.proofs.lemmas.List.Elements.{All-nil, All-cons}
@@ -90,7 +91,8 @@ c_behind_a = record {
 }
 
 abbrev mask_changes : Entry
-mask_changes = entry (Affinity 1 3) (Remasked (Some record { entered = Some 2; chain = 0 ∷ 1 ∷ []; back = 3 }) (came.Displaced (1 ∷ []) 2 3))
+mask_changes =
+    entry (Affinity 1 3) (Remasked (Some record { entered = Some 2; chain = 0 ∷ 1 ∷ []; back = 3 }) (came.Displaced (1 ∷ []) 2 3))
 
 abbrev b_stays : ℕ → ℕ
 b_stays zero = 1
@@ -154,8 +156,8 @@ is_choice n below = (
 -- are confined to processors 0 and 1, so that they crowd them; to processor 1 b alone is
 waits : (map (can_interfere (start_of three_tasks) 2) (0 ∷ 1 ∷ 2 ∷ []) ≡ true ∷ true ∷ false ∷ [])
     × (width_of (start_of three_tasks) 2 ≡ 2)
-    × (waiting_of (moments.state_at (start_of three_tasks) moved_aside) 2 5 ≡ 5)
-    × (interference_of (start_of three_tasks) (moments.state_at (start_of three_tasks) moved_aside) 2 0 5 ≡ 10)
+    × (waiting_of (moments.state_of_moment (start_of three_tasks) moved_aside) 2 5 ≡ 5)
+    × (interference_of (start_of three_tasks) (moments.state_of_moment (start_of three_tasks) moved_aside) 2 0 5 ≡ 10)
     × (confined_count (start_of three_tasks) (λ t. nat_lt t 3) 2 ≡ 1)
 unfolding passing_below has intersection all_below
 waits = (refl, refl, refl, refl, refl)
@@ -215,7 +217,8 @@ abbrev orders : ℕ → List Order
 orders p = closed_orders_of (start_of three_tasks) moved_aside p
 
 orders_are : map orders (0 ∷ 1 ∷ [])
-    ≡ (Take 2 0 ∷ Release 2 ∷ Take 0 1 ∷ Run 5 ∷ Release 0 ∷ Stop ∷ []) ∷ (Take 0 0 ∷ Release 0 ∷ Take 1 0 ∷ Run 5 ∷ Release 1 ∷ Stop ∷ []) ∷ []
+    ≡ (Take 2 0 ∷ Release 2 ∷ Take 0 1 ∷ Run 5 ∷ Release 0 ∷ Stop ∷ []) ∷ (Take 0 0 ∷ Release 0 ∷ Take 1 0 ∷ Run 5 ∷ Release 1 ∷ Stop ∷ [])
+    ∷ []
 orders_are = refl
 
 -- the latest step first
@@ -235,7 +238,8 @@ counted : (times_taken 2 orders one_taken 0 ≡ 1) × (times_released 2 orders o
 counted = (refl, refl)
 
 too_early : CanBeObeyed (times_taken 2 orders one_taken) (times_released 2 orders one_taken) (Take 0 1) → ⊥
-too_early can = let released : times_released 2 orders one_taken 0 ≡ 1 = can.1 in absurd (let e : 0 ≡ 1 = sym counted.1 ∙ released in omega arith)
+too_early can =
+    let released : times_released 2 orders one_taken 0 ≡ 1 = can.1 in absurd (let e : 0 ≡ 1 = sym counted.1 ∙ released in omega arith)
 
 in_time : CanBeObeyed (times_taken 2 orders (1 ∷ one_taken)) (times_released 2 orders (1 ∷ one_taken)) (Take 0 1)
 in_time = (refl, refl)
@@ -363,7 +367,8 @@ without_b same = absurd (false≢true (sym (same.linked 1)))
 -- ---- an input of a alone. Of two processors the one input has the first alone, and of the mask 0-1 of a it has 0; or it has both, and
 -- the mask of a has 0 alone
 abbrev of_a : ℕ → ℕ → JobInputData
-of_a processors mask = record { version = 2; set = record { processors = processors; tasks = task 1 mask ∷ [] }; horizon = 30; jobs = two_jobs 3 ∷ [] }
+of_a processors mask =
+    record { version = 2; set = record { processors = processors; tasks = task 1 mask ∷ [] }; horizon = 30; jobs = two_jobs 3 ∷ [] }
 
 more_room : HasMoreRoomUpTo 2 (of_a 1 1) (of_a 2 3)
 unfolding intersection all_below

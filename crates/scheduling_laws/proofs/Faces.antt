@@ -25,7 +25,8 @@ use Rattle.scheduling_laws.specs.Faces.{IsCertifiedByReach, BestIsCertified, Cer
 
 -- ---- a simple improving chain makes a better set
 module _ (s : State) (ok : IsState s) (best : LinkedIsBest s) (t : ℕ) (waits : IsWaiting s t) where
-  shift_is_better : (chain : List ℕ) (q : ℕ) → IsChainOf s t chain q → IsSimple chain → ((d : ℕ) → task_on s q ≡ Some d → IsMoreUrgent s t d) → ⊥
+  shift_is_better : (chain : List ℕ) (q : ℕ) → IsChainOf s t chain q → IsSimple chain
+      → ((d : ℕ) → task_on s q ≡ Some d → IsMoreUrgent s t d) → ⊥
   shift_is_better chain q is_chain simple late =
       best.none_better (is_linked new) (λ u h. ok'.linked_ready (place_in u new.on) u (task_on-linked new u h))
       ((λ u. place_in u new.on), record { allowed = (linked_placement new ok').allowed; apart = (linked_placement new ok').apart })
@@ -77,7 +78,8 @@ best_has_no_chain s ok best t chain improving = elim improving.better [
       let short = least_chain_to_idle s t ok in
       let least = short.exists chain idle in
       let ends = least.1.itself in
-      shift_is_better s ok best t improving.waits least.0 ends.0 ends.1 (short.simple least.0 least.1) (λ d on. let nobody = ends.2.1 in cc))
+      shift_is_better s ok best t improving.waits least.0 ends.0 ends.1 (short.simple least.0 least.1)
+      (λ d on. let nobody = ends.2.1 in cc))
   | inr task ↦ (
       let short = least_chain_to_task s t task.0 ok in
       let least = short.exists chain task.1 in

@@ -1,7 +1,9 @@
 -- Some processor can go on. Take the first entry whose orders some processor has not obeyed whole. Where its next order is a
 -- take, the task was taken by all earlier entries that take it, and by no later one, since the takes were obeyed in the order
 -- of their numbers; and where it was not released as often, the processor that it was linked to before the entry can release it.
-use Rattle.std.proofs.Common.{◌≡◌, ◌≢◌, ℕ, zero, suc, ◌+◌, ◌-◌, ◌<◌, ◌≤◌, Bool, not, ◌&&◌, ◌==◌, List, [], ◌∷◌, ◌++◌, length, length-append, append_assoc, append-nil, take, Option, Some, None, refl, sym, ap, ◌∙◌, subst, inl, inr, ◌⊎◌, arith, eq-eqb, ne_eqb}
+use Rattle.std.proofs.Common.{◌≡◌, ◌≢◌, ℕ, zero, suc, ◌+◌, ◌-◌, ◌<◌, ◌≤◌, Bool, not, ◌&&◌, ◌==◌, List, [], ◌∷◌, ◌++◌, length, length-append}
+use Rattle.std.proofs.Common.{append_assoc, append-nil, take, Option, Some, None, refl, sym, ap, ◌∙◌, subst, inl, inr, ◌⊎◌, arith, eq-eqb}
+use Rattle.std.proofs.Common.{ne_eqb}
 use Rattle.std.specs.Prelude.{slice_get, count_by}
 use Rattle.std.specs.List.{range_with_len}
 use Rattle.std.proofs.lemmas.Bool.{cases_Bool, cases_eq, cases_lt}
@@ -24,9 +26,14 @@ use Rattle.strong_apa.proofs.FirstFound.{both_decided, exists_below}
 use Rattle.history_laws.proofs.CarriedAlong.{is_task-other}
 use Rattle.history_laws.proofs.OrderLists.{close_orders, closed_orders_of-split}
 use Rattle.history_laws.proofs.Starts.{nobody_ready}
-use Rattle.scheduling_laws.specs.Going.{takes_task, releases_task, steps_of, obeyed, obeyed_count, times_taken, times_released, CanBeObeyed, IsRun, NeverStops, CanBeEnded, OrdersCanGoOnFrom, OrdersCanGoOn, OrdersCanBeEndedFrom, OrdersCanBeEnded, HasOrders, CanGoOn}
-use Rattle.scheduling_laws.proofs.GoingEntries.{IsFree, IsEnding, no_orders, none_ends, close_ends, event_takes, event_releases, IsTakeOf, take_in_event, release_in_event, all_orders, all_orders_are, all_obeyable, take_number_least, releases_bounded}
-use Rattle.scheduling_laws.proofs.GoingSums.{one_if, sum_below, range_sum, sum-add, sum-le, sum-zero, sum-at, sum-more, slice_get-left, slice_get-right, slice_get-is, count-cons, count_take-append, count_take-more}
+use Rattle.scheduling_laws.specs.Going.{takes_task, releases_task, steps_of, obeyed, obeyed_count, times_taken, times_released, CanBeObeyed}
+use Rattle.scheduling_laws.specs.Going.{IsRun, NeverStops, CanBeEnded, OrdersCanGoOnFrom, OrdersCanGoOn, OrdersCanBeEndedFrom}
+use Rattle.scheduling_laws.specs.Going.{OrdersCanBeEnded, HasOrders, CanGoOn}
+use Rattle.scheduling_laws.proofs.GoingEntries.{IsFree, IsEnding, no_orders, none_ends, close_ends, event_takes, event_releases, IsTakeOf}
+use Rattle.scheduling_laws.proofs.GoingEntries.{take_in_event, release_in_event, all_orders, all_orders_are, all_obeyable}
+use Rattle.scheduling_laws.proofs.GoingEntries.{take_number_least, releases_bounded}
+use Rattle.scheduling_laws.proofs.GoingSums.{one_if, sum_below, range_sum, sum-add, sum-le, sum-zero, sum-at, sum-more, slice_get-left}
+use Rattle.scheduling_laws.proofs.GoingSums.{slice_get-right, slice_get-is, count-cons, count_take-append, count_take-more}
 
 -- how many of the first orders of each processor pass the test, in all
 abbrev total : (Order → Bool) → ℕ → (ℕ → List Order) → (ℕ → ℕ) → ℕ
@@ -71,7 +78,8 @@ occupant_decided (Some u) t = elim (cases_eq u t) [
 ]
 
 -- ---- what the takes of an entry are in all
-taken_sum : (s new : State) (t : ℕ) → length (taken_between s new t) ≡ sum_below (λ q. one_if (is_task t (task_on new q) && not (is_task t (task_on s q)))) s.processors
+taken_sum : (s new : State) (t : ℕ) → length (taken_between s new t)
+    ≡ sum_below (λ q. one_if (is_task t (task_on new q) && not (is_task t (task_on s q)))) s.processors
 taken_sum s new t =
     length-filter (λ (q : ℕ). is_task t (task_on new q) && not (is_task t (task_on s q))) (range_with_len 0 s.processors)
     ∙ range_sum (λ (q : ℕ). one_if (is_task t (task_on new q) && not (is_task t (task_on s q)))) s.processors
@@ -81,13 +89,15 @@ taken_at : (s new : State) (t q : ℕ) → q < s.processors → task_on new q �
 taken_at s new t q inside comes was =
     let all = taken_sum s new t in
     let one = sum-at (λ p. one_if (is_task t (task_on new p) && not (is_task t (task_on s p)))) s.processors q inside in
-    let here : one_if (is_task t (task_on new q) && not (is_task t (task_on s q))) ≡ 1 = rw (comes, is_task-same t, is_task-other t (task_on s q) was) refl in
+    let here : one_if (is_task t (task_on new q) && not (is_task t (task_on s q)))
+    ≡ 1 = rw (comes, is_task-same t, is_task-other t (task_on s q) was) refl in
     omega arith
 
 module _ (ending : Option ℕ → List Order) (ends : IsEnding ending) (m : ℕ) (taken released : ℕ → ℕ) where
   -- the takes were obeyed in the order of their numbers, from `first` on
   abbrev InTurn : (ℕ → ℕ) → (ℕ → List Order) → (ℕ → ℕ) → Type 0
-  InTurn first orders n = (t k : ℕ) → first t ≤ k → k < taken t → (q i : ℕ) × (q < m) × (i < n q) × (slice_get (orders q) i ≡ Some (Take t k))
+  InTurn first orders n =
+      (t k : ℕ) → first t ≤ k → k < taken t → (q i : ℕ) × (q < m) × (i < n q) × (slice_get (orders q) i ≡ Some (Take t k))
 
   -- what the processors obeyed of the orders of a history and its close, before which each task was taken so many times
   record Obeyed (s : State) (takes : ℕ → ℕ) (history : List Entry) (n : ℕ → ℕ) : Type 0 where
@@ -95,7 +105,8 @@ module _ (ending : Option ℕ → List Order) (ends : IsEnding ending) (m : ℕ)
     times_released : (t : ℕ) → released t + places s m t ≡ takes t + total (releases_task t) m (all_orders ending s takes history) n
     in_turn : InTurn takes (all_orders ending s takes history) n
 
-  module _ (s : State) (takes : ℕ → ℕ) (first : Entry) (rest : List Entry) (all : s.processors ≡ m) (ok : IsState s) (legal : IsLegalFrom s (first ∷ rest)) (n : ℕ → ℕ) (obeyed_so : Obeyed s takes (first ∷ rest) n) where
+  module _ (s : State) (takes : ℕ → ℕ) (first : Entry) (rest : List Entry) (all : s.processors ≡ m) (ok : IsState s)
+      (legal : IsLegalFrom s (first ∷ rest)) (n : ℕ → ℕ) (obeyed_so : Obeyed s takes (first ∷ rest) n) where
     abbrev next : State
     next = effect_of s first
 
@@ -129,7 +140,8 @@ module _ (ending : Option ℕ → List Order) (ends : IsEnding ending) (m : ℕ)
             let i = found.1 in
             elim (cases_lt i (length (here p))) [
               | inl early ↦ (
-                  let that = take_in_event takes first.event (task_on s p) (task_on next p) i b (takes b) (sym (slice_get-left (here p) (later p) i early) ∙ found.4) in
+                  let that = take_in_event takes first.event (task_on s p) (task_on next p) i b (takes b)
+                  (sym (slice_get-left (here p) (later p) i early) ∙ found.4) in
                   let same : p ≡ q = ok'.once p q b that.comes it.comes in
                   let place = that.position in
                   let place' = it.position in
@@ -138,7 +150,8 @@ module _ (ending : Option ℕ → List Order) (ends : IsEnding ending) (m : ℕ)
                   let e' = ap n same in
                   omega arith)
               | inr late ↦ (
-                  let le = take_number_least ending ends next takes' rest p _ b (takes b) (sym (slice_get-right (here p) (later p) i late) ∙ found.4) in
+                  let le = take_number_least ending ends next takes' rest p _ b (takes b)
+                  (sym (slice_get-right (here p) (later p) i late) ∙ found.4) in
                   let one = taken_at s next b q (let e = all in omega arith) it.comes it.was in
                   omega arith)
             ])
@@ -146,39 +159,43 @@ module _ (ending : Option ℕ → List Order) (ends : IsEnding ending) (m : ℕ)
 
       -- b is linked to a processor that has obeyed no order of the entry, or was released as often as it was taken
       at_take : GoesOn m taken released whole n
-      at_take = elim (exists_below (λ p. (task_on s p ≡ Some b) × (n p ≡ 0)) (λ p. both_decided (task_on s p ≡ Some b) (n p ≡ 0) (occupant_decided (task_on s p) b) (cases_eq (n p) 0)) m) [
-        | inl found ↦ (
-            let p = found.0 in
-            let there = found.2.0 in
-            let leaves : task_on next p ≢ Some b = λ stays. it.was (ap (task_on s) (sym (ok'.once p q b stays it.comes)) ∙ there) in
-            let release = release_in_event takes first.event (task_on s p) (task_on next p) b there leaves in
-            record {
-              processor = p;
-              inside = found.1;
-              next = Release b;
-              is_next = ap (slice_get (whole p)) found.2.1 ∙ first_of (here p) (later p) (Release b) release;
-              can = tt;
-            })
-        | inr none ↦ record {
-          processor = q;
-          inside = inside;
-          next = Take b k;
-          is_next = slice_get-left (here q) (later q) (n q) short ∙ is_next;
-          can = (
-            none_taken ∙ sym it.number,
-            (
-                let fewer = sum-le (λ p. one_if (is_task b (task_on s p))) (λ p. count_by (releases_task b) (take (n p) (whole p))) m (λ p lt. released_there none p lt) in
-                let count = obeyed_so.times_taken b in
-                let count' = obeyed_so.times_released b in
-                let is = none_taken in
-                let number = it.number in
-                let both = sum-add (λ p. count_by (takes_task b) (take (n p) (whole p)) + one_if (is_task b (task_on s p))) (λ p. count_by (takes_task b) (take (n p) (whole p))) (λ p. one_if (is_task b (task_on s p))) m (λ p lt. refl) in
-                let more = sum-le (λ p. count_by (releases_task b) (take (n p) (whole p))) (λ p. count_by (takes_task b) (take (n p) (whole p)) + one_if (is_task b (task_on s p))) m
-                (λ p lt. releases_bounded b (task_on s p) (whole p) (n p) (all_obeyable ending ends s takes (first ∷ rest) p legal)) in
-                omega arith),
-          );
-        }
-      ]
+      at_take = elim (exists_below (λ p. (task_on s p ≡ Some b) × (n p ≡ 0))
+          (λ p. both_decided (task_on s p ≡ Some b) (n p ≡ 0) (occupant_decided (task_on s p) b) (cases_eq (n p) 0)) m) [
+            | inl found ↦ (
+                let p = found.0 in
+                let there = found.2.0 in
+                let leaves : task_on next p ≢ Some b = λ stays. it.was (ap (task_on s) (sym (ok'.once p q b stays it.comes)) ∙ there) in
+                let release = release_in_event takes first.event (task_on s p) (task_on next p) b there leaves in
+                record {
+                  processor = p;
+                  inside = found.1;
+                  next = Release b;
+                  is_next = ap (slice_get (whole p)) found.2.1 ∙ first_of (here p) (later p) (Release b) release;
+                  can = tt;
+                })
+            | inr none ↦ record {
+              processor = q;
+              inside = inside;
+              next = Take b k;
+              is_next = slice_get-left (here q) (later q) (n q) short ∙ is_next;
+              can = (
+                none_taken ∙ sym it.number,
+                (
+                    let fewer = sum-le (λ p. one_if (is_task b (task_on s p))) (λ p. count_by (releases_task b) (take (n p) (whole p))) m
+                    (λ p lt. released_there none p lt) in
+                    let count = obeyed_so.times_taken b in
+                    let count' = obeyed_so.times_released b in
+                    let is = none_taken in
+                    let number = it.number in
+                    let both = sum-add (λ p. count_by (takes_task b) (take (n p) (whole p)) + one_if (is_task b (task_on s p)))
+                    (λ p. count_by (takes_task b) (take (n p) (whole p))) (λ p. one_if (is_task b (task_on s p))) m (λ p lt. refl) in
+                    let more = sum-le (λ p. count_by (releases_task b) (take (n p) (whole p)))
+                    (λ p. count_by (takes_task b) (take (n p) (whole p)) + one_if (is_task b (task_on s p))) m
+                    (λ p lt. releases_bounded b (task_on s p) (whole p) (n p) (all_obeyable ending ends s takes (first ∷ rest) p legal)) in
+                    omega arith),
+              );
+            }
+          ]
         where
           first_of : (xs ys : List Order) (x : Order) → slice_get xs 0 ≡ Some x → slice_get (xs ++ ys) 0 ≡ Some x
           first_of [] ys x e = absurd (cc)
@@ -194,7 +211,8 @@ module _ (ending : Option ℕ → List Order) (ends : IsEnding ending) (m : ℕ)
               omega arith
 
           -- where b is linked, it was released
-          released_there : ((p : ℕ) × (p < m) × ((task_on s p ≡ Some b) × (n p ≡ 0)) → ⊥) → (p : ℕ) → p < m → one_if (is_task b (task_on s p)) ≤ count_by (releases_task b) (take (n p) (whole p))
+          released_there : ((p : ℕ) × (p < m) × ((task_on s p ≡ Some b) × (n p ≡ 0)) → ⊥) → (p : ℕ) → p < m
+              → one_if (is_task b (task_on s p)) ≤ count_by (releases_task b) (take (n p) (whole p))
           released_there none p lt = elim (cases_Bool (is_task b (task_on s p))) [
             | inr elsewhere ↦ rw elsewhere (omega arith)
             | inl linked ↦ (
@@ -226,35 +244,42 @@ module _ (ending : Option ℕ → List Order) (ends : IsEnding ending) (m : ℕ)
       left q = n q - length (here q)
 
       split : (test : Order → Bool) → total test m whole n ≡ sum_below (λ q. count_by test (here q)) m + total test m later left
-      split test = sum-add (λ q. count_by test (take (n q) (whole q))) (λ q. count_by test (here q)) (λ q. count_by test (take (left q) (later q))) m (λ q lt. count_take-append test (here q) (later q) (n q) (past q lt))
+      split test = sum-add (λ q. count_by test (take (n q) (whole q))) (λ q. count_by test (here q))
+          (λ q. count_by test (take (left q) (later q))) m (λ q lt. count_take-append test (here q) (later q) (n q) (past q lt))
 
       entry_takes : (t : ℕ) → sum_below (λ q. count_by (takes_task t) (here q)) m ≡ length (taken_between s next t)
       entry_takes t =
-          let each = sum-add (λ q. count_by (takes_task t) (here q)) (λ q. one_if (is_task t (task_on next q) && not (is_task t (task_on s q)))) (λ q. 0) m
+          let each = sum-add (λ q. count_by (takes_task t) (here q))
+          (λ q. one_if (is_task t (task_on next q) && not (is_task t (task_on s q)))) (λ q. 0) m
           (λ q lt. let e = event_takes takes first.event (task_on s q) (task_on next q) t in omega arith) in
           let none = sum-zero (λ q. 0) m (λ q lt. refl) in
           let here_all = taken_sum s next t in
           let same = ap (sum_below (λ q. one_if (is_task t (task_on next q) && not (is_task t (task_on s q))))) all in
           omega arith
 
-      entry_releases : (t : ℕ) → places next m t + sum_below (λ q. count_by (releases_task t) (here q)) m ≡ places s m t + sum_below (λ q. count_by (takes_task t) (here q)) m
+      entry_releases : (t : ℕ) → places next m t + sum_below (λ q. count_by (releases_task t) (here q)) m ≡ places s m t
+          + sum_below (λ q. count_by (takes_task t) (here q)) m
       entry_releases t =
-          let one = sum-add (λ q. one_if (is_task t (task_on next q)) + count_by (releases_task t) (here q)) (λ q. one_if (is_task t (task_on next q))) (λ q. count_by (releases_task t) (here q)) m (λ q lt. refl) in
-          let other = sum-add (λ q. one_if (is_task t (task_on next q)) + count_by (releases_task t) (here q)) (λ q. one_if (is_task t (task_on s q))) (λ q. count_by (takes_task t) (here q)) m
+          let one = sum-add (λ q. one_if (is_task t (task_on next q)) + count_by (releases_task t) (here q))
+          (λ q. one_if (is_task t (task_on next q))) (λ q. count_by (releases_task t) (here q)) m (λ q lt. refl) in
+          let other = sum-add (λ q. one_if (is_task t (task_on next q)) + count_by (releases_task t) (here q))
+          (λ q. one_if (is_task t (task_on s q))) (λ q. count_by (takes_task t) (here q)) m
           (λ q lt. event_releases takes first.event (task_on s q) (task_on next q) t) in
           omega arith
 
       obeyed_later : Obeyed next takes' rest left
       obeyed_later = record {
         times_taken = λ t. (let e = obeyed_so.times_taken t in let parts = split (takes_task t) in let mine = entry_takes t in omega arith);
-        times_released = λ t. (let e = obeyed_so.times_released t in let parts = split (releases_task t) in let mine = entry_takes t in let moved = entry_releases t in omega arith);
+        times_released = λ t. (let e = obeyed_so.times_released t in let parts = split (releases_task t) in let mine = entry_takes t in
+            let moved = entry_releases t in omega arith);
         in_turn = λ t k le lt.
             let found = obeyed_so.in_turn t k (omega arith) lt in
             let p = found.0 in
             let i = found.1 in
             elim (cases_lt i (length (here p))) [
               | inl early ↦ absurd (
-                  let that = take_in_event takes first.event (task_on s p) (task_on next p) i t k (sym (slice_get-left (here p) (later p) i early) ∙ found.4) in
+                  let that = take_in_event takes first.event (task_on s p) (task_on next p) i t k
+                  (sym (slice_get-left (here p) (later p) i early) ∙ found.4) in
                   let one = taken_at s next t p (let e = all in let below = found.2 in omega arith) that.comes that.was in
                   let number = that.number in
                   omega arith)
@@ -277,11 +302,19 @@ module _ (ending : Option ℕ → List Order) (ends : IsEnding ending) (m : ℕ)
         can = on.can;
       }
 
-  goes_on : (s : State) (takes : ℕ → ℕ) (history : List Entry) → s.processors ≡ m → IsState s → IsLegalFrom s history → (n : ℕ → ℕ) → Obeyed s takes history n
+  goes_on : (s : State) (takes : ℕ → ℕ) (history : List Entry) → s.processors ≡ m → IsState s → IsLegalFrom s history → (n : ℕ → ℕ)
+      → Obeyed s takes history n
       → (p : ℕ) → p < m → n p < length (all_orders ending s takes history p) → GoesOn m taken released (all_orders ending s takes history) n
   goes_on s takes [] all ok legal n so p inside short =
       let last = slice_get-is (ending (task_on s p)) (n p) short in
-      record { processor = p; inside = inside; next = last.0; is_next = last.1; can = free_can taken released last.0 (ends.free (task_on s p) (n p) last.0 last.1) }
+      record {
+        processor = p;
+        inside = inside;
+        next = last.0;
+        is_next = last.1;
+        can = free_can taken released last.0
+            (ends.free (task_on s p) (n p) last.0 last.1);
+      }
   goes_on s takes (first ∷ rest) all ok legal n so p inside short =
       let ok_next = step_keeps_state s first.event first.reply (effect_of s first) ok legal.0 in
       let all_next = (same_tasks-effect s first).processors ∙ all in
@@ -291,8 +324,11 @@ module _ (ending : Option ℕ → List Order) (ends : IsEnding ending) (m : ℕ)
         | inr none ↦ (
             let past : (q : ℕ) → q < m → length (here q) ≤ n q = λ q lt. not_below (n q) (length (here q)) (λ less. none (q, lt, less)) in
             goes_later s takes first rest all ok legal n so past
-            (goes_on (effect_of s first) (λ t. takes t + length (taken_between s (effect_of s first) t)) rest all_next ok_next legal.1 (λ q. n q - length (here q))
-            (obeyed_later s takes first rest all ok legal n so past) p inside (let len = length-append (here p) (all_orders ending (effect_of s first) (λ t. takes t + length (taken_between s (effect_of s first) t)) rest p) in let le = past p inside in omega arith)))
+            (goes_on (effect_of s first) (λ t. takes t + length (taken_between s (effect_of s first) t)) rest all_next ok_next legal.1
+            (λ q. n q - length (here q))
+            (obeyed_later s takes first rest all ok legal n so past) p inside
+            (let len = length-append (here p) (all_orders ending (effect_of s first)
+            (λ t. takes t + length (taken_between s (effect_of s first) t)) rest p) in let le = past p inside in omega arith)))
       ]
 
 -- ---- runs
@@ -302,12 +338,14 @@ module _ (m : ℕ) (orders : ℕ → List Order) (run : List ℕ) (p : ℕ) wher
   steps_here = count-cons (λ q. q == p) p run ∙ (let one : one_if (p == p) ≡ 1 = rw (eq-eqb p p refl) refl in omega arith)
 
   steps_there : (q : ℕ) → q ≢ p → steps_of (p ∷ run) q ≡ steps_of run q
-  steps_there q ne = count-cons (λ x. x == q) p run ∙ (let none : one_if (p == q) ≡ 0 = rw (ne_eqb p q (λ e. ne (sym e))) refl in omega arith)
+  steps_there q ne =
+      count-cons (λ x. x == q) p run ∙ (let none : one_if (p == q) ≡ 0 = rw (ne_eqb p q (λ e. ne (sym e))) refl in omega arith)
 
   steps_no_fewer : (q : ℕ) → steps_of run q ≤ steps_of (p ∷ run) q
   steps_no_fewer q = (let e = count-cons (λ x. x == q) p run in omega arith)
 
-  count_step : (test : Order → Bool) (next : Order) → p < m → slice_get (orders p) (steps_of run p) ≡ Some next → obeyed_count test m orders (p ∷ run) ≡ obeyed_count test m orders run + one_if (test next)
+  count_step : (test : Order → Bool) (next : Order) → p < m → slice_get (orders p) (steps_of run p) ≡ Some next
+      → obeyed_count test m orders (p ∷ run) ≡ obeyed_count test m orders run + one_if (test next)
   count_step test next inside is_next =
       range_sum (λ q. count_by test (obeyed orders (p ∷ run) q)) m
       ∙ sum-more (λ q. count_by test (obeyed orders run q)) (λ q. count_by test (obeyed orders (p ∷ run) q)) (one_if (test next)) m p inside
@@ -317,7 +355,8 @@ module _ (m : ℕ) (orders : ℕ → List Order) (run : List ℕ) (p : ℕ) wher
 
 -- before the first step nothing was obeyed
 nothing_obeyed : (test : Order → Bool) (m : ℕ) (orders : ℕ → List Order) → obeyed_count test m orders [] ≡ 0
-nothing_obeyed test m orders = range_sum (λ q. count_by test (obeyed orders [] q)) m ∙ sum-zero (λ q. count_by test (obeyed orders [] q)) m (λ q lt. refl)
+nothing_obeyed test m orders =
+    range_sum (λ q. count_by test (obeyed orders [] q)) m ∙ sum-zero (λ q. count_by test (obeyed orders [] q)) m (λ q lt. refl)
 
 -- in a run the takes are obeyed in the order of their numbers
 run_in_turn : (m : ℕ) (orders : ℕ → List Order) (run : List ℕ) → IsRun m orders run → (t k : ℕ) → k < times_taken m orders run t
@@ -334,13 +373,20 @@ run_in_turn m orders (p ∷ run) is t k lt =
       | inr late ↦ elim (take_or_free on.next) [
         | inl is_take ↦ elim (cases_eq is_take.0 t) [
           | inl same ↦ (
-              let can : CanBeObeyed (times_taken m orders run) (times_released m orders run) (Take is_take.0 is_take.1) = subst (CanBeObeyed (times_taken m orders run) (times_released m orders run)) is_take.2 on.can in
+              let can : CanBeObeyed (times_taken m orders run) (times_released m orders run) (Take is_take.0 is_take.1) = subst
+              (CanBeObeyed (times_taken m orders run) (times_released m orders run)) is_take.2 on.can in
               let one : one_if (takes_task t on.next) ≡ 1 = rw (is_take.2, eq-eqb is_take.0 t same) refl in
               let turn = can.0 in
               let at : times_taken m orders run is_take.0 ≡ times_taken m orders run t = ap (times_taken m orders run) same in
               let number : is_take.1 ≡ k = omega arith in
-              let step = steps_here m orders run p in
-              (p, steps_of run p, on.processor, omega arith, on.is_next ∙ ap (λ (o : Order). Some o) (is_take.2 ∙ ap (λ (x : ℕ). Take x is_take.1) same ∙ ap (Take t) number)))
+              let step = steps_here m orders run p in (
+                p,
+                steps_of run p,
+                on.processor,
+                omega arith,
+                on.is_next
+                    ∙ ap (λ (o : Order). Some o) (is_take.2 ∙ ap (λ (x : ℕ). Take x is_take.1) same ∙ ap (Take t) number),
+              ))
           | inr other ↦ absurd (let none : one_if (takes_task t on.next) ≡ 0 = rw (is_take.2, ne_eqb is_take.0 t other) refl in omega arith)
         ]
         | inr free ↦ absurd (let none = no_take on.next free in omega arith)
@@ -354,11 +400,14 @@ run_in_turn m orders (p ∷ run) is t k lt =
     no_take Stop free = refl
 
 -- ---- the orders of a history
-all_go_on : (ending : Option ℕ → List Order) → IsEnding ending → (start : State) (history : List Entry) → IsState start → ((q : ℕ) → task_on start q ≡ None) → IsLegalFrom start history → NeverStops start.processors (all_orders ending start (λ t. 0) history)
+all_go_on : (ending : Option ℕ → List Order) → IsEnding ending → (start : State) (history : List Entry) → IsState start
+    → ((q : ℕ) → task_on start q ≡ None) → IsLegalFrom start history
+    → NeverStops start.processors (all_orders ending start (λ t. 0) history)
 all_go_on ending ends start history ok idle legal run p is inside short =
     let m = start.processors in
     let orders = all_orders ending start (λ t. 0) history in
-    let on = goes_on ending ends m (times_taken m orders run) (times_released m orders run) start (λ t. 0) history refl ok legal (steps_of run) record {
+    let on = goes_on ending ends m (times_taken m orders run) (times_released m orders run) start (λ t. 0) history refl ok legal
+    (steps_of run) record {
       times_taken = λ t. range_sum (λ q. count_by (takes_task t) (obeyed orders run q)) m ∙ omega arith;
       times_released = λ t. (
           let e = range_sum (λ q. count_by (releases_task t) (obeyed orders run q)) m in
@@ -396,7 +445,8 @@ module _ (m : ℕ) (orders : ℕ → List Order) (never : NeverStops m orders) w
   Ends run = (more : List ℕ) × IsRun m orders (more ++ run) × ((p : ℕ) → p < m → obeyed orders (more ++ run) p ≡ orders p)
 
   has_orders_decided : (run : List ℕ) → Decided ((p : ℕ) × (p < m) × HasOrders orders run p)
-  has_orders_decided run = exists_below (λ p. steps_of run p < length (orders p)) (λ p. below_decided (steps_of run p) (length (orders p))) m
+  has_orders_decided run =
+      exists_below (λ p. steps_of run p < length (orders p)) (λ p. below_decided (steps_of run p) (length (orders p))) m
 
   -- nobody has orders left
   ended : (run : List ℕ) → IsRun m orders run → ((p : ℕ) × (p < m) × HasOrders orders run p → ⊥) → Ends run
@@ -415,7 +465,8 @@ module _ (m : ℕ) (orders : ℕ → List Order) (never : NeverStops m orders) w
   one_fewer run q on =
       let fits = slice_get_within (orders q) (steps_of run q) on.next on.is_next in
       let more = steps_here m orders run q in
-      sum-more (left_of (q ∷ run)) (left_of run) 1 m q on.processor (omega arith) (λ p lt ne. (let same = steps_there m orders run q p ne in omega arith))
+      sum-more (left_of (q ∷ run)) (left_of run) 1 m q on.processor (omega arith)
+      (λ p lt ne. (let same = steps_there m orders run q p ne in omega arith))
 
   joined : (run : List ℕ) (q : ℕ) → Ends (q ∷ run) → Ends run
   joined run q rest =
@@ -453,8 +504,11 @@ orders_can_go_on set history valid = orders_can_go_on-from (start_of set) histor
 
 pub orders_can_be_ended-from : OrdersCanBeEndedFrom
 orders_can_be_ended-from start history ok nobody legal =
-    let never = orders_can_go_on-from start history ok nobody legal in
-    (can_be_ended start.processors (orders_of start history) never.0, can_be_ended start.processors (closed_orders_of start history) never.1)
+    let never = orders_can_go_on-from start history ok nobody legal in (
+      can_be_ended start.processors (orders_of start history) never.0,
+      can_be_ended start.processors (closed_orders_of start history)
+          never.1,
+    )
 
 pub orders_can_be_ended : OrdersCanBeEnded
 orders_can_be_ended set history valid = orders_can_be_ended-from (start_of set) history (IsState-start set valid) (nobody_ready set)

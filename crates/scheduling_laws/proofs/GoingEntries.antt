@@ -1,5 +1,6 @@
 -- The orders of one entry, of a whole history and of its close: how they take and release a task.
-use Rattle.std.proofs.Common.{◌≡◌, ◌≢◌, ℕ, zero, suc, ◌+◌, ◌≤◌, Bool, true, false, not, ◌&&◌, ◌==◌, List, [], ◌∷◌, ◌++◌, length, take, Option, Some, None, refl, sym, ap, ◌∙◌, subst, inl, inr, arith, append_assoc, eq-eqb, ne_eqb, eqb-true}
+use Rattle.std.proofs.Common.{◌≡◌, ◌≢◌, ℕ, zero, suc, ◌+◌, ◌≤◌, Bool, true, false, not, ◌&&◌, ◌==◌, List, [], ◌∷◌, ◌++◌, length, take}
+use Rattle.std.proofs.Common.{Option, Some, None, refl, sym, ap, ◌∙◌, subst, inl, inr, arith, append_assoc, eq-eqb, ne_eqb, eqb-true}
 use Rattle.std.specs.Prelude.{slice_get, count_by}
 use Rattle.std.proofs.lemmas.Bool.{cases_Bool, cases_eq, cases_lt}
 use Rattle.task_set.specs.Orders.{IsObeyableFrom}
@@ -17,7 +18,8 @@ use Rattle.scheduling_laws.specs.Going.{takes_task, releases_task}
 use Rattle.scheduling_laws.proofs.GoingSums.{one_if, slice_get-left, slice_get-right, count-cons, count-append}
 
 -- ---- counts
-tick_count : (test : Order → Bool) → ((units : ℕ) → test (Run units) ≡ false) → (event : Event) (o : Option ℕ) → count_by test (tick_orders event o) ≡ 0
+tick_count : (test : Order → Bool) → ((units : ℕ) → test (Run units) ≡ false) → (event : Event) (o : Option ℕ)
+    → count_by test (tick_orders event o) ≡ 0
 tick_count test none (Tick units) None = refl
 tick_count test none (Tick units) (Some a) = count-cons test (Run units) [] ∙ rw (none units) refl
 tick_count test none event o = refl
@@ -30,13 +32,15 @@ and_not_false : (b : Bool) → one_if (b && not false) ≡ one_if b
 and_not_false true = refl
 and_not_false false = refl
 
-change_takes : (takes : ℕ → ℕ) (old new : Option ℕ) (t : ℕ) → count_by (takes_task t) (change_orders takes old new) ≡ one_if (is_task t new && not (is_task t old))
+change_takes : (takes : ℕ → ℕ) (old new : Option ℕ) (t : ℕ) → count_by (takes_task t) (change_orders takes old new)
+    ≡ one_if (is_task t new && not (is_task t old))
 change_takes takes None None t = refl
 change_takes takes None (Some b) t = count-cons (takes_task t) (Take b (takes b)) [] ∙ (let e = and_not_false (b == t) in omega arith)
 change_takes takes (Some a) None t = refl
 change_takes takes (Some a) (Some b) t = elim (cases_eq a b) [
   | inl same ↦ rw (eq-eqb a b same) (rw same (sym (and_not_same (b == t))))
-  | inr other ↦ rw (ne_eqb a b other) (count-cons (takes_task t) (Release a) (Take b (takes b) ∷ []) ∙ (let one = count-cons (takes_task t) (Take b (takes b)) [] in let e = apart other in omega arith))
+  | inr other ↦ rw (ne_eqb a b other) (count-cons (takes_task t) (Release a) (Take b (takes b) ∷ [])
+      ∙ (let one = count-cons (takes_task t) (Take b (takes b)) [] in let e = apart other in omega arith))
 ]
   where
     apart : a ≢ b → one_if ((b == t) && not (a == t)) ≡ one_if (b == t)
@@ -46,7 +50,8 @@ change_takes takes (Some a) (Some b) t = elim (cases_eq a b) [
     ]
 
 change_releases : (takes : ℕ → ℕ) (old new : Option ℕ) (t : ℕ)
-    → one_if (is_task t new) + count_by (releases_task t) (change_orders takes old new) ≡ one_if (is_task t old) + count_by (takes_task t) (change_orders takes old new)
+    → one_if (is_task t new) + count_by (releases_task t) (change_orders takes old new) ≡ one_if (is_task t old)
+    + count_by (takes_task t) (change_orders takes old new)
 change_releases takes None None t = refl
 change_releases takes None (Some b) t =
     let r = count-cons (releases_task t) (Take b (takes b)) [] in
@@ -64,7 +69,8 @@ change_releases takes (Some a) (Some b) t = elim (cases_eq a b) [
 ]
 
 -- by an event a task is taken where it comes
-pub event_takes : (takes : ℕ → ℕ) (event : Event) (old new : Option ℕ) (t : ℕ) → count_by (takes_task t) (event_orders takes event old new) ≡ one_if (is_task t new && not (is_task t old))
+pub event_takes : (takes : ℕ → ℕ) (event : Event) (old new : Option ℕ) (t : ℕ) → count_by (takes_task t) (event_orders takes event old new)
+    ≡ one_if (is_task t new && not (is_task t old))
 event_takes takes event old new t =
     let both = count-append (takes_task t) (change_orders takes old new) (tick_orders event old) in
     let ticks = tick_count (takes_task t) (λ units. refl) event old in
@@ -72,7 +78,8 @@ event_takes takes event old new t =
 
 -- and released where it leaves
 pub event_releases : (takes : ℕ → ℕ) (event : Event) (old new : Option ℕ) (t : ℕ)
-    → one_if (is_task t new) + count_by (releases_task t) (event_orders takes event old new) ≡ one_if (is_task t old) + count_by (takes_task t) (event_orders takes event old new)
+    → one_if (is_task t new) + count_by (releases_task t) (event_orders takes event old new) ≡ one_if (is_task t old)
+    + count_by (takes_task t) (event_orders takes event old new)
 event_releases takes event old new t =
     let r = count-append (releases_task t) (change_orders takes old new) (tick_orders event old) in
     let k = count-append (takes_task t) (change_orders takes old new) (tick_orders event old) in
@@ -94,7 +101,8 @@ pub record IsTakeOf (takes : ℕ → ℕ) (old new : Option ℕ) (i b k : ℕ) :
   pub was : old ≢ Some b
   pub number : k ≡ takes b
 
-pub take_in_event : (takes : ℕ → ℕ) (event : Event) (old new : Option ℕ) (i b k : ℕ) → slice_get (event_orders takes event old new) i ≡ Some (Take b k) → IsTakeOf takes old new i b k
+pub take_in_event : (takes : ℕ → ℕ) (event : Event) (old new : Option ℕ) (i b k : ℕ) → slice_get (event_orders takes event old new) i
+    ≡ Some (Take b k) → IsTakeOf takes old new i b k
 take_in_event takes event None None i b k e = absurd (in_tick event None i b k e)
 take_in_event takes event None (Some c) zero b k e =
     let same : c ≡ b = cc in
@@ -108,16 +116,24 @@ take_in_event takes event (Some a) (Some c) i b k e = elim (cases_eq a c) [
   | inr other ↦ at other i (rw (ne_eqb a c other) at e)
 ]
   where
-    at : a ≢ c → (i : ℕ) → slice_get (Release a ∷ Take c (takes c) ∷ tick_orders event (Some a)) i ≡ Some (Take b k) → IsTakeOf takes (Some a) (Some c) i b k
+    at : a ≢ c → (i : ℕ) → slice_get (Release a ∷ Take c (takes c) ∷ tick_orders event (Some a)) i ≡ Some (Take b k)
+        → IsTakeOf takes (Some a) (Some c) i b k
     at other zero e = absurd (cc)
     at other (suc zero) e =
         let same : c ≡ b = cc in
         let it : takes c ≡ k = cc in
-        record { position = refl; comes = ap Some same; was = λ h. (let there : a ≡ b = cc in other (there ∙ sym same)); number = sym it ∙ ap takes same }
+        record {
+          position = refl;
+          comes = ap Some same;
+          was = λ h. (let there : a ≡ b = cc in other (there ∙ sym same));
+          number = sym it
+              ∙ ap takes same;
+        }
     at other (suc (suc i)) e = absurd (in_tick event (Some a) i b k e)
 
 -- where b leaves, its release is the first order
-pub release_in_event : (takes : ℕ → ℕ) (event : Event) (old new : Option ℕ) (b : ℕ) → old ≡ Some b → new ≢ Some b → slice_get (event_orders takes event old new) 0 ≡ Some (Release b)
+pub release_in_event : (takes : ℕ → ℕ) (event : Event) (old new : Option ℕ) (b : ℕ) → old ≡ Some b → new ≢ Some b
+    → slice_get (event_orders takes event old new) 0 ≡ Some (Release b)
 release_in_event takes event None new b was leaves = absurd (cc)
 release_in_event takes event (Some a) None b was leaves = (let same : a ≡ b = cc in ap (λ (x : ℕ). Some (Release x)) same)
 release_in_event takes event (Some a) (Some c) b was leaves =
@@ -163,9 +179,11 @@ close_ends = record { obeyable = close_obeyable; free = close_free }
 module _ (ending : Option ℕ → List Order) where
   abbrev pub all_orders : State → (ℕ → ℕ) → List Entry → ℕ → List Order
   all_orders s takes [] p = ending (task_on s p)
-  all_orders s takes (first ∷ rest) p = entry_orders s takes first p ++ all_orders (effect_of s first) (λ t. takes t + length (taken_between s (effect_of s first) t)) rest p
+  all_orders s takes (first ∷ rest) p =
+      entry_orders s takes first p ++ all_orders (effect_of s first) (λ t. takes t + length (taken_between s (effect_of s first) t)) rest p
 
-  pub all_orders_are : (s : State) (takes : ℕ → ℕ) (history : List Entry) (p : ℕ) → all_orders s takes history p ≡ orders_from s takes history p ++ ending (task_on (state_after s history) p)
+  pub all_orders_are : (s : State) (takes : ℕ → ℕ) (history : List Entry) (p : ℕ)
+      → all_orders s takes history p ≡ orders_from s takes history p ++ ending (task_on (state_after s history) p)
   all_orders_are s takes [] p = refl
   all_orders_are s takes (first ∷ rest) p =
       let next = effect_of s first in
@@ -174,20 +192,25 @@ module _ (ending : Option ℕ → List Order) where
       ∙ sym (append_assoc (entry_orders s takes first p) (orders_from next takes' rest p) (ending (task_on (state_after next rest) p)))
 
   module _ (ends : IsEnding ending) where
-    pub all_obeyable : (s : State) (takes : ℕ → ℕ) (history : List Entry) (p : ℕ) → IsLegalFrom s history → IsObeyableFrom (task_on s p) (all_orders s takes history p)
+    pub all_obeyable : (s : State) (takes : ℕ → ℕ) (history : List Entry) (p : ℕ) → IsLegalFrom s history
+        → IsObeyableFrom (task_on s p) (all_orders s takes history p)
     all_obeyable s takes history p legal =
-        subst (IsObeyableFrom (task_on s p)) (sym (all_orders_are s takes history p)) (orders_then s takes history p _ legal (ends.obeyable (task_on (state_after s history) p)))
+        subst (IsObeyableFrom (task_on s p)) (sym (all_orders_are s takes history p))
+        (orders_then s takes history p _ legal (ends.obeyable (task_on (state_after s history) p)))
 
     -- the numbers of the takes of b begin with that of its takes so far
-    pub take_number_least : (s : State) (takes : ℕ → ℕ) (history : List Entry) (p i b k : ℕ) → slice_get (all_orders s takes history p) i ≡ Some (Take b k) → takes b ≤ k
+    pub take_number_least : (s : State) (takes : ℕ → ℕ) (history : List Entry) (p i b k : ℕ) → slice_get (all_orders s takes history p) i
+        ≡ Some (Take b k) → takes b ≤ k
     take_number_least s takes [] p i b k e = absurd (ends.free (task_on s p) i (Take b k) e)
     take_number_least s takes (first ∷ rest) p i b k e =
         let next = effect_of s first in
         let takes' : ℕ → ℕ = λ t. takes t + length (taken_between s next t) in
         let here = entry_orders s takes first p in
         elim (cases_lt i (length here)) [
-          | inl early ↦ (let it = take_in_event takes first.event (task_on s p) (task_on next p) i b k (sym (slice_get-left here (all_orders next takes' rest p) i early) ∙ e) in let number = it.number in omega arith)
-          | inr late ↦ (let le = take_number_least next takes' rest p _ b k (sym (slice_get-right here (all_orders next takes' rest p) i late) ∙ e) in omega arith)
+          | inl early ↦ (let it = take_in_event takes first.event (task_on s p) (task_on next p) i b k
+              (sym (slice_get-left here (all_orders next takes' rest p) i early) ∙ e) in let number = it.number in omega arith)
+          | inr late ↦ (let le = take_number_least next takes' rest p _ b k
+              (sym (slice_get-right here (all_orders next takes' rest p) i late) ∙ e) in omega arith)
         ]
 
 -- ---- of the orders that were obeyed, no more release a task than take it, but for the one that was held

@@ -1,6 +1,7 @@
 -- Where a task is left out of the best subset of a set, its certificate is crowded: each of its processors has a task that is confined to
 -- it, and so is the one that is left out.
-use Rattle.std.proofs.Common.{◌≡◌, ◌≢◌, ℕ, ◌<◌, ◌≤◌, true, false, not, ◌&&◌, ◌⊎◌, length, nat_eq, Some, refl, sym, ap, ◌∙◌, subst, inl, inr, IsTrue, arith, eq-eqb, eqb-true, ne_eqb}
+use Rattle.std.proofs.Common.{◌≡◌, ◌≢◌, ℕ, ◌<◌, ◌≤◌, true, false, not, ◌&&◌, ◌⊎◌, length, nat_eq, Some, refl, sym, ap, ◌∙◌, subst, inl, inr}
+use Rattle.std.proofs.Common.{IsTrue, arith, eq-eqb, eqb-true, ne_eqb}
 use Rattle.std.proofs.Math.Bool.{and-true}
 use Rattle.std.proofs.lemmas.Bool.{cases_Bool, true≢false, and_from, and_left, and_right, and_parts}
 use Rattle.affinity_mask.specs.ProcSet.{has, intersection, members, Within}
@@ -21,22 +22,26 @@ confined_within s X t h p inside =
     ∙ inside)).1
 
 within_confined : (s : State) (X t : ℕ) → Within (effective_mask s t) X → is_confined s X t ≡ true
-within_confined s X t within = eq-eqb (intersection (effective_mask s t) X) (effective_mask s t) (same_set (intersection (effective_mask s t) X) (effective_mask s t) (λ q. elim (cases_Bool (has (effective_mask s t) q)) [
-  | inl inside ↦ has-intersection (effective_mask s t) X q ∙ and_from _ _ inside (within q inside) ∙ sym inside
-  | inr outside ↦ has-intersection (effective_mask s t) X q ∙ and_left (has (effective_mask s t) q) (has X q) outside ∙ sym outside
-]))
+within_confined s X t within = eq-eqb (intersection (effective_mask s t) X) (effective_mask s t)
+    (same_set (intersection (effective_mask s t) X) (effective_mask s t) (λ q. elim (cases_Bool (has (effective_mask s t) q)) [
+      | inl inside ↦ has-intersection (effective_mask s t) X q ∙ and_from _ _ inside (within q inside) ∙ sym inside
+      | inr outside ↦ has-intersection (effective_mask s t) X q ∙ and_left (has (effective_mask s t) q) (has X q) outside ∙ sym outside
+    ]))
 
 -- ---- who is placed on a set of processors is not more than it has
 module _ (s : State) (ok : IsState s) (tasks : TaskTest) where
   uncrowded : IsPlaceable s tasks → (X : ℕ) → confined_count s tasks X ≤ length (members X)
   uncrowded placeable X = count_below-injection (λ t. tasks t && is_confined s X t) (task_count s) (has X) 64 placeable.0 record {
-    below = λ t lt h. let few = ok.processors in let below = effective_mask_below s ok t (placeable.0 t) (placeable.1.allowed t (and_parts (tasks t) _ h).0) in omega arith;
-    passes = λ t lt h. confined_within s X t (and_parts (tasks t) _ h).1 (placeable.0 t) (placeable.1.allowed t (and_parts (tasks t) _ h).0);
+    below = λ t lt h. let few = ok.processors in let below = effective_mask_below s ok t (placeable.0 t)
+        (placeable.1.allowed t (and_parts (tasks t) _ h).0) in omega arith;
+    passes = λ t lt h. confined_within s X t (and_parts (tasks t) _ h).1 (placeable.0 t)
+        (placeable.1.allowed t (and_parts (tasks t) _ h).0);
     apart = λ t u lt lu h k e. placeable.1.apart t u (and_parts (tasks t) _ h).0 (and_parts (tasks u) _ k).0 e;
   }
 
 -- ---- a task that is left out of the best subset
-module _ (s : State) (ok : IsState s) (R : TaskTest) (number : (t : ℕ) → R t ≡ true → t < task_count s) (best : TaskTest) (is_best : IsBest s R best) where
+module _ (s : State) (ok : IsState s) (R : TaskTest) (number : (t : ℕ) → R t ≡ true → t < task_count s) (best : TaskTest)
+    (is_best : IsBest s R best) where
   abbrev placed : State
   placed = placed_state s ok R number best is_best
 
@@ -92,7 +97,8 @@ module _ (s : State) (ok : IsState s) (R : TaskTest) (number : (t : ℕ) → R t
     crowded : IsCrowded s R X
     crowded =
         let itself : confined t ≡ true = and_from _ _ member (within_confined s X t certificate.within) in
-        let more = count_below-one_more confined others t (task_count s) (number t member) itself (and_right (confined t) _ (ap not (eq-eqb t t refl))) (λ u lt ne. rw (ne_eqb u t ne) (sym (and-true (confined u)))) in
+        let more = count_below-one_more confined others t (task_count s) (number t member) itself
+        (and_right (confined t) _ (ap not (eq-eqb t t refl))) (λ u lt ne. rw (ne_eqb u t ne) (sym (and-true (confined u)))) in
         let many = as_many in
         omega arith
 
@@ -100,7 +106,10 @@ pub placeable_or_crowded : PlaceableOrCrowded
 placeable_or_crowded s tasks ok number =
     let found = best_exists s tasks ok number in
     elim (search_below (λ t. (tasks t ≡ true) × (found.0 t ≡ false)) (task_count s) (λ t lt. decided found.0 t)) [
-      | inl left_out ↦ inr (X s ok tasks number found.0 found.1 left_out.0 left_out.2.0 left_out.2.1, crowded s ok tasks number found.0 found.1 left_out.0 left_out.2.0 left_out.2.1)
+      | inl left_out ↦ inr (
+        X s ok tasks number found.0 found.1 left_out.0 left_out.2.0 left_out.2.1,
+        crowded s ok tasks number found.0 found.1 left_out.0 left_out.2.0 left_out.2.1,
+      )
       | inr none ↦ (
           let chosen : (t : ℕ) → tasks t ≡ true → found.0 t ≡ true = λ t h. elim (cases_Bool (found.0 t)) [
             | inl in_best ↦ in_best

@@ -8,11 +8,13 @@ use Rattle.strong_apa.proofs.Unique.{ready_number}
 use Rattle.strong_apa.specs.Certified.{HasCertificates}
 use Rattle.strong_apa.proofs.Improved.{no_improving_chain}
 use Rattle.strong_apa.proofs.Kept.{legal_is_certified, passing_is_certified}
-use Rattle.scheduling_laws.specs.InReach.{IsWorkConserving, HasNoInversion, LegalConservesWork, PassingConservesWork, LegalHasNoInversion, PassingHasNoInversion}
+use Rattle.scheduling_laws.specs.InReach.{IsWorkConserving, HasNoInversion, LegalConservesWork, PassingConservesWork, LegalHasNoInversion}
+use Rattle.scheduling_laws.specs.InReach.{PassingHasNoInversion}
 
 module _ (s : State) (ok : IsState s) (certified : HasCertificates s) where
   work_conserving : IsWorkConserving s
-  work_conserving w p waits reaches idle = no_improving_chain s certified w reaches.0 record { waits = waits; better = inl (p, reaches.1, idle) }
+  work_conserving w p waits reaches idle =
+      no_improving_chain s certified w reaches.0 record { waits = waits; better = inl (p, reaches.1, idle) }
 
   no_inversion : HasNoInversion s
   no_inversion w p u waits reaches on = elim (cases_lt (priority_of s u) (priority_of s w)) [
@@ -21,7 +23,8 @@ module _ (s : State) (ok : IsState s) (certified : HasCertificates s) where
       | inl same ↦ (
           let it = ok.distinct u w (linked_number s p u ok on) (ready_number s ok w waits.ready) same in
           absurd (not_on s p w waits.not_linked (on ∙ ap (λ (n : ℕ). Some n) it)))
-      | inr other ↦ absurd (no_improving_chain s certified w reaches.0 record { waits = waits; better = inr (u, (p, reaches.1, on), omega arith) })
+      | inr other ↦ absurd (no_improving_chain s certified w reaches.0
+          record { waits = waits; better = inr (u, (p, reaches.1, on), omega arith) })
     ]
   ]
 

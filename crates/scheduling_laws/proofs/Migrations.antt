@@ -1,5 +1,6 @@
 -- A task that arrives was not linked before, one that departs is not linked then, and a tick changes nothing.
-use Rattle.std.proofs.Common.{◌≡◌, ℕ, ◌≤◌, Bool, true, false, not, ◌&&◌, ◌==◌, List, [], ◌∷◌, refl, sym, ap, ◌∙◌, inl, inr, arith, eq-eqb, eqb-true}
+use Rattle.std.proofs.Common.{◌≡◌, ℕ, ◌≤◌, Bool, true, false, not, ◌&&◌, ◌==◌, List, [], ◌∷◌, refl, sym, ap, ◌∙◌, inl, inr, arith, eq-eqb}
+use Rattle.std.proofs.Common.{eqb-true}
 use Rattle.std.proofs.lemmas.Bool.{cases_Bool, true≢false, and_from, and_right, and_parts}
 use Rattle.task_set.specs.declared.event.Event.{Event}
 use Rattle.task_set.specs.declared.event.Event.TheVariants.{Arrive, Depart, Tick, Affinity, Offline, Online}
@@ -12,7 +13,8 @@ use Rattle.strong_apa.proofs.Linked.{place_in, task_on-linked}
 use Rattle.strong_apa.proofs.Start.{IsState-start}
 use Rattle.strong_apa.proofs.Steps.{step_keeps_state}
 use Rattle.job_release.proofs.Readied.{ready_departed}
-use Rattle.scheduling_laws.specs.Migrations.{processor_of, migrates, one_where, migrations_of, is_of_others, events_of_others, MigrationsAreFew}
+use Rattle.scheduling_laws.specs.Migrations.{processor_of, migrates, one_where, migrations_of, is_of_others, events_of_others}
+use Rattle.scheduling_laws.specs.Migrations.{MigrationsAreFew}
 
 linked_is_ready : (s : State) → IsState s → (t : ℕ) → is_linked s t ≡ true → is_ready s t ≡ true
 linked_is_ready s ok t linked = ok.linked_ready (place_in t s.on) t (task_on-linked s t linked)
@@ -60,7 +62,8 @@ few_from s (entry ∷ rest) t ok legal =
     let new_ok = step_keeps_state s entry.event entry.reply (effect_of s entry) ok legal.0 in
     let later = few_from (effect_of s entry) rest t new_ok legal.1 in
     let here = no_more (migrates s (effect_of s entry) t) (is_ready s t && is_of_others t entry.event)
-    (λ does. and_from _ _ (linked_is_ready s ok t (before s (effect_of s entry) t ok new_ok does)) (by_others s (effect_of s entry) t ok new_ok does entry.event entry.reply legal.0)) in
+    (λ does. and_from _ _ (linked_is_ready s ok t (before s (effect_of s entry) t ok new_ok does))
+    (by_others s (effect_of s entry) t ok new_ok does entry.event entry.reply legal.0)) in
     omega arith
 
 pub migrations_are_few : MigrationsAreFew

@@ -1,6 +1,7 @@
 -- Who is ready, with which mask, and which processors are on line, follow event by event from the events of the task, or of the
 -- processor. The linked tasks are the best set of the ready ones, so they follow as well.
-use Rattle.std.proofs.Common.{◌≡◌, ℕ, Bool, true, false, ◌&&◌, ◌==◌, List, [], ◌∷◌, length, set, map, filter, fold, if◌then◌else◌, refl, sym, ap, ◌∙◌, subst, inl, inr, arith, eq-eqb}
+use Rattle.std.proofs.Common.{◌≡◌, ℕ, Bool, true, false, ◌&&◌, ◌==◌, List, [], ◌∷◌, length, set, map, filter, fold, if◌then◌else◌, refl}
+use Rattle.std.proofs.Common.{sym, ap, ◌∙◌, subst, inl, inr, arith, eq-eqb}
 use Rattle.std.proofs.Math.Seq.{take-length}
 use Rattle.std.proofs.lemmas.Bool.{cases_Bool}
 use Rattle.std.proofs.lemmas.List.Elements.{All-head, All-tail}
@@ -23,12 +24,14 @@ use Rattle.strong_apa.specs.CertificateLaws.{LinkedIsBest}
 use Rattle.strong_apa.proofs.SameBest.{priority_of-same}
 use Rattle.history_laws.proofs.LegalHistories.{legal_is_best-from}
 use Rattle.history_laws.proofs.Starts.{nobody_ready}
-use Rattle.scheduling_laws.specs.OneEnd.{is_of_task, is_of_processor, events_that, events_by, HaveSameEvents, AreBy, SameEventsHaveOneEnd, CallersGiveSameEvents}
+use Rattle.scheduling_laws.specs.OneEnd.{is_of_task, is_of_processor, events_that, events_by, HaveSameEvents, AreBy, SameEventsHaveOneEnd}
+use Rattle.scheduling_laws.specs.OneEnd.{CallersGiveSameEvents}
 use Rattle.scheduling_laws.proofs.BestElsewhere.{IsBest-on}
 
 -- ---- what a history makes of them, by their own events alone
 -- an event that does not pass changes nothing
-fold_filter : {B : Type 0} (f : B → Event → B) (test : Event → Bool) → ((b : B) (event : Event) → test event ≡ false → f b event ≡ b) → (b : B) (events : List Event) → fold f b events ≡ fold f b (filter test events)
+fold_filter : {B : Type 0} (f : B → Event → B) (test : Event → Bool) → ((b : B) (event : Event) → test event ≡ false → f b event ≡ b)
+    → (b : B) (events : List Event) → fold f b events ≡ fold f b (filter test events)
 fold_filter f test keeps b [] = refl
 fold_filter f test keeps b (event ∷ events) = elim (cases_Bool (test event)) [
   | inl passes ↦ rw passes (fold_filter f test keeps (f b event) events)
@@ -80,7 +83,8 @@ history_did s (entry ∷ rest) ok legal =
     }
 
 -- ---- the end
-module _ (start : State) (one other : List Entry) (ok : IsState start) (legal : IsLegalFrom start one) (also : IsLegalFrom start other) (same : HaveSameEvents one other) where
+module _ (start : State) (one other : List Entry) (ok : IsState start) (legal : IsLegalFrom start one) (also : IsLegalFrom start other)
+    (same : HaveSameEvents one other) where
   abbrev end : State
   end = state_after start one
 
@@ -89,26 +93,32 @@ module _ (start : State) (one other : List Entry) (ok : IsState start) (legal : 
 
   same_ready : (t : ℕ) → is_ready end t ≡ is_ready end' t
   same_ready t =
-      (history_did start one ok legal).ready t ∙ fold_filter (ready_then t) (is_of_task t) (ready_keeps t) (is_ready start t) (events_of one)
+      (history_did start one ok legal).ready t ∙ fold_filter (ready_then t) (is_of_task t) (ready_keeps t) (is_ready start t)
+      (events_of one)
       ∙ ap (λ (events : List Event). fold (ready_then t) (is_ready start t) events) (same.of_task t)
-      ∙ sym ((history_did start other ok also).ready t ∙ fold_filter (ready_then t) (is_of_task t) (ready_keeps t) (is_ready start t) (events_of other))
+      ∙ sym ((history_did start other ok also).ready t ∙ fold_filter (ready_then t) (is_of_task t) (ready_keeps t) (is_ready start t)
+      (events_of other))
 
   same_mask : (t : ℕ) → mask_of end t ≡ mask_of end' t
   same_mask t =
       (history_did start one ok legal).mask t ∙ fold_filter (mask_then t) (is_of_task t) (mask_keeps t) (mask_of start t) (events_of one)
       ∙ ap (λ (events : List Event). fold (mask_then t) (mask_of start t) events) (same.of_task t)
-      ∙ sym ((history_did start other ok also).mask t ∙ fold_filter (mask_then t) (is_of_task t) (mask_keeps t) (mask_of start t) (events_of other))
+      ∙ sym ((history_did start other ok also).mask t ∙ fold_filter (mask_then t) (is_of_task t) (mask_keeps t) (mask_of start t)
+      (events_of other))
 
   same_online : (p : ℕ) → has end.online p ≡ has end'.online p
   same_online p =
-      (history_did start one ok legal).online p ∙ fold_filter (online_then p) (is_of_processor p) (online_keeps p) (has start.online p) (events_of one)
+      (history_did start one ok legal).online p ∙ fold_filter (online_then p) (is_of_processor p) (online_keeps p) (has start.online p)
+      (events_of one)
       ∙ ap (λ (events : List Event). fold (online_then p) (has start.online p) events) (same.of_processor p)
-      ∙ sym ((history_did start other ok also).online p ∙ fold_filter (online_then p) (is_of_processor p) (online_keeps p) (has start.online p) (events_of other))
+      ∙ sym ((history_did start other ok also).online p ∙ fold_filter (online_then p) (is_of_processor p) (online_keeps p)
+      (has start.online p) (events_of other))
 
   same_effective : (t p : ℕ) → has (effective_mask end' t) p ≡ has (effective_mask end t) p
   same_effective t p =
       has-intersection (mask_of end' t) end'.online p
-      ∙ ap (λ (X : ℕ). has X p && has end'.online p) (sym (same_mask t)) ∙ ap (λ (b : Bool). has (mask_of end t) p && b) (sym (same_online p))
+      ∙ ap (λ (X : ℕ). has X p && has end'.online p) (sym (same_mask t))
+      ∙ ap (λ (b : Bool). has (mask_of end t) p && b) (sym (same_online p))
       ∙ sym (has-intersection (mask_of end t) end.online p)
 
   same_linked : LinkedIsBest end → LinkedIsBest end' → (t : ℕ) → is_linked end t ≡ is_linked end' t
@@ -122,9 +132,11 @@ module _ (start : State) (one other : List Entry) (ok : IsState start) (legal : 
       }) same_ready best) best'
 
 -- after a legal history the linked tasks are the best set
-best_at_end : (set : SetData) (history : List Entry) → IsState (start_of set) → IsLegalFrom (start_of set) history → LinkedIsBest (state_after (start_of set) history)
+best_at_end : (set : SetData) (history : List Entry) → IsState (start_of set) → IsLegalFrom (start_of set) history
+    → LinkedIsBest (state_after (start_of set) history)
 best_at_end set history ok legal =
-    subst (λ (h : List Entry). LinkedIsBest (state_after (start_of set) h)) (take-length history) (legal_is_best-from (start_of set) history ok (nobody_ready set) legal (length history) (omega arith))
+    subst (λ (h : List Entry). LinkedIsBest (state_after (start_of set) h)) (take-length history)
+    (legal_is_best-from (start_of set) history ok (nobody_ready set) legal (length history) (omega arith))
 
 pub same_events_have_one_end : SameEventsHaveOneEnd
 same_events_have_one_end set one other valid legal also same t =
@@ -134,21 +146,33 @@ same_events_have_one_end set one other valid legal also same t =
     )
 
 -- ---- events by their callers
-events_by_caller : (test : Event → Bool) (caller : ℕ) (history : List Entry) → AreBy test caller history → events_that test history ≡ filter test (events_by caller history)
+events_by_caller : (test : Event → Bool) (caller : ℕ) (history : List Entry) → AreBy test caller history
+    → events_that test history ≡ filter test (events_by caller history)
 events_by_caller test caller [] are = refl
 events_by_caller test caller (entry ∷ rest) are =
     let later = events_by_caller test caller rest (All-tail (λ (e : Entry). test e.event ≡ true → e.caller ≡ caller) entry rest are) in
     elim (cases_Bool (test entry.event)) [
-      | inl passes ↦ rw (passes, eq-eqb entry.caller caller (All-head (λ (e : Entry). test e.event ≡ true → e.caller ≡ caller) entry rest are passes), passes) (ap (λ (l : List Event). entry.event ∷ l) later)
+      | inl passes ↦ rw (
+        passes,
+        eq-eqb entry.caller caller
+            (All-head (λ (e : Entry). test e.event ≡ true → e.caller ≡ caller) entry rest are passes),
+        passes,
+      )
+          (ap (λ (l : List Event). entry.event ∷ l) later)
       | inr fails ↦ rw fails (later ∙ skipped (entry.caller == caller) fails)
     ]
   where
-    skipped : (b : Bool) → test entry.event ≡ false → filter test (events_by caller rest) ≡ filter test (map (λ (e : Entry). e.event) (if b then entry ∷ filter (λ (e : Entry). e.caller == caller) rest else filter (λ (e : Entry). e.caller == caller) rest))
+    skipped : (b : Bool) → test entry.event ≡ false → filter test (events_by caller rest)
+        ≡ filter test (map (λ (e : Entry). e.event) (if b then entry ∷ filter (λ (e : Entry). e.caller == caller) rest
+        else filter (λ (e : Entry). e.caller == caller) rest))
     skipped true fails = rw fails refl
     skipped false fails = refl
 
 pub callers_give_same_events : CallersGiveSameEvents
 callers_give_same_events of_task of_processor one other callers callers' same = record {
-  of_task = λ t. events_by_caller (is_of_task t) (of_task t) one (callers.tasks t) ∙ ap (filter (is_of_task t)) (same (of_task t)) ∙ sym (events_by_caller (is_of_task t) (of_task t) other (callers'.tasks t));
-  of_processor = λ p. events_by_caller (is_of_processor p) (of_processor p) one (callers.processors p) ∙ ap (filter (is_of_processor p)) (same (of_processor p)) ∙ sym (events_by_caller (is_of_processor p) (of_processor p) other (callers'.processors p));
+  of_task = λ t. events_by_caller (is_of_task t) (of_task t) one (callers.tasks t) ∙ ap (filter (is_of_task t)) (same (of_task t))
+      ∙ sym (events_by_caller (is_of_task t) (of_task t) other (callers'.tasks t));
+  of_processor = λ p. events_by_caller (is_of_processor p) (of_processor p) one (callers.processors p)
+      ∙ ap (filter (is_of_processor p)) (same (of_processor p))
+      ∙ sym (events_by_caller (is_of_processor p) (of_processor p) other (callers'.processors p));
 }

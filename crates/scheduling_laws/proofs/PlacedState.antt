@@ -1,6 +1,7 @@
 -- The state in which some tasks are ready and some of them stand where a placement puts them. Where those are the best set of
 -- the ready ones, each waiting task has a certificate.
-use Rattle.std.proofs.Common.{◌≡◌, ℕ, zero, suc, ◌<◌, Bool, true, false, ◌&&◌, ◌==◌, map, Option, Some, None, if◌then◌else◌, refl, sym, ap, ◌∙◌, subst, inl, inr, IsTrue, arith, eq-eqb, eqb-true}
+use Rattle.std.proofs.Common.{◌≡◌, ℕ, zero, suc, ◌<◌, Bool, true, false, ◌&&◌, ◌==◌, map, Option, Some, None, if◌then◌else◌, refl, sym, ap}
+use Rattle.std.proofs.Common.{◌∙◌, subst, inl, inr, IsTrue, arith, eq-eqb, eqb-true}
 use Rattle.std.specs.List.{range_with_len}
 use Rattle.std.proofs.lemmas.Bool.{cases_Bool, cases_eq, cases_lt, true≢false, and_from, and_parts}
 use Rattle.std.proofs.lemmas.List.{get_or_past}
@@ -29,7 +30,8 @@ last_below-is : (test : ℕ → Bool) (n x : ℕ) → last_below test n ≡ Some
 last_below-is test zero x e = absurd (cc)
 last_below-is test (suc n) x e = by (test n) refl (last_below-is test n x) e
   where
-    by : (b : Bool) → test n ≡ b → (last_below test n ≡ Some x → (x < n) × (test x ≡ true)) → (if b then Some n else last_below test n) ≡ Some x → (x < suc n) × (test x ≡ true)
+    by : (b : Bool) → test n ≡ b → (last_below test n ≡ Some x → (x < n) × (test x ≡ true)) → (if b then Some n else last_below test n)
+        ≡ Some x → (x < suc n) × (test x ≡ true)
     by true here before e = (let same : n ≡ x = cc in (omega arith, ap test (sym same) ∙ here))
     by false here before e = (let found = before e in ((let lt = found.0 in omega arith), found.1))
 
@@ -43,7 +45,8 @@ last_below-only test (suc n) x lt here only = elim (cases_Bool (test n)) [
   ]) here only)
 ]
 
-module _ (s : State) (ok : IsState s) (R : TaskTest) (number : (t : ℕ) → R t ≡ true → t < task_count s) (best : TaskTest) (is_best : IsBest s R best) where
+module _ (s : State) (ok : IsState s) (R : TaskTest) (number : (t : ℕ) → R t ≡ true → t < task_count s) (best : TaskTest)
+    (is_best : IsBest s R best) where
   abbrev pub place : ℕ → ℕ
   place t = is_best.placeable.0 t
 
@@ -70,19 +73,22 @@ module _ (s : State) (ok : IsState s) (R : TaskTest) (number : (t : ℕ) → R t
   pub ready_is : (t : ℕ) → is_ready placed_state t ≡ R t
   ready_is t = elim (cases_lt t (task_count s)) [
     | inl lt ↦ get_or-map-range_with_len R 0 (task_count s) t t false lt (omega arith)
-    | inr ge ↦ get_or_past (map R (range_with_len 0 (task_count s))) t false (rw (length-map-range_with_len R 0 (task_count s)) ge) ∙ sym (elim (cases_Bool (R t)) [
-      | inl member ↦ absurd (let lt = number t member in omega arith)
-      | inr out ↦ out
-    ])
+    | inr ge ↦ get_or_past (map R (range_with_len 0 (task_count s))) t false (rw (length-map-range_with_len R 0 (task_count s)) ge)
+        ∙ sym (elim (cases_Bool (R t)) [
+          | inl member ↦ absurd (let lt = number t member in omega arith)
+          | inr out ↦ out
+        ])
   ]
 
   pub on_is : (p t : ℕ) → task_on placed_state p ≡ Some t → (best t ≡ true) × (place t ≡ p)
   on_is p t e = elim (cases_lt p s.processors) [
     | inl lt ↦ (
-        let found = last_below-is (stands p) (task_count s) t (sym (get_or-map-range_with_len occupant 0 s.processors p p None lt (omega arith)) ∙ e) in
+        let found = last_below-is (stands p) (task_count s) t
+        (sym (get_or-map-range_with_len occupant 0 s.processors p p None lt (omega arith)) ∙ e) in
         let parts = and_parts (best t) _ found.1 in
         (parts.0, eqb-true (place t) p parts.1))
-    | inr ge ↦ absurd (let past = get_or_past (map occupant (range_with_len 0 s.processors)) p None (rw (length-map-range_with_len occupant 0 s.processors) ge) in cc)
+    | inr ge ↦ absurd (let past = get_or_past (map occupant (range_with_len 0 s.processors)) p None
+        (rw (length-map-range_with_len occupant 0 s.processors) ge) in cc)
   ]
 
   pub on_place : (t : ℕ) → best t ≡ true → task_on placed_state (place t) ≡ Some t
@@ -114,7 +120,8 @@ module _ (s : State) (ok : IsState s) (R : TaskTest) (number : (t : ℕ) → R t
 
   -- ---- its linked tasks are the best set, and so it has certificates
   pub placed_is_best : LinkedIsBest placed_state
-  placed_is_best = IsBest-same placed_state s (record { processors = refl; priorities = refl }) (record { masks = refl; online = refl }) R (is_ready placed_state) best (is_linked placed_state) (λ t. sym (ready_is t)) (λ t. sym (linked_is t)) is_best
+  placed_is_best = IsBest-same placed_state s (record { processors = refl; priorities = refl }) (record { masks = refl; online = refl }) R
+      (is_ready placed_state) best (is_linked placed_state) (λ t. sym (ready_is t)) (λ t. sym (linked_is t)) is_best
 
   pub placed_certificates : HasCertificates placed_state
   placed_certificates = (best_is_certified placed_state placed_ok).0 placed_is_best

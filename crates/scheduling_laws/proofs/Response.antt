@@ -1,5 +1,6 @@
 -- At each moment at which a task waits, the occupants of its mask are as many tasks that can interfere, each of which gets a unit.
-use Rattle.std.proofs.Common.{◌≡◌, ℕ, zero, suc, ◌+◌, ◌-◌, ◌*◌, ◌<◌, ◌≤◌, Bool, true, false, not, ◌&&◌, ◌==◌, nat_lt, List, [], ◌∷◌, length, set, take}
+use Rattle.std.proofs.Common.{◌≡◌, ℕ, zero, suc, ◌+◌, ◌-◌, ◌*◌, ◌<◌, ◌≤◌, Bool, true, false, not, ◌&&◌, ◌==◌, nat_lt, List, [], ◌∷◌, length}
+use Rattle.std.proofs.Common.{set, take}
 use Rattle.std.proofs.Common.{Some, All, refl, sym, ap, ◌∙◌, subst, inl, inr, IsTrue, arith, eqb-true, mul-suc, mul-zero, mul-le-mul_left}
 use Rattle.std.proofs.lemmas.Bool.{cases_Bool, cases_lt, and_from, and_right, and_parts, lt-ltb}
 use Rattle.std.proofs.lemmas.List.{length-map}
@@ -31,14 +32,16 @@ use Rattle.job_release.specs.Jobs.{job_at, demand, goal_of}
 use Rattle.job_release.specs.JobInput.{JobInputData, IsJobInput, jobs_at}
 use Rattle.job_release.specs.declared.input.Job.{Job}
 use Rattle.job_release.specs.Driven.{IsJobEvent, ServesJobs, RunsJobs}
-use Rattle.job_release.specs.Moments.{Timeline, changes_by, state_at, service_of, units_of}
+use Rattle.job_release.specs.Moments.{Timeline, changes_by, state_of_moment, service_of, units_of}
 use Rattle.job_release.specs.WeakRuns.{state_then}
 use Rattle.job_release.specs.WeakServes.{weak_timeline}
 use Rattle.job_release.proofs.Demands.{asked_upto, demand_is, job_valid}
 use Rattle.job_release.proofs.Moments.{state_by_entries}
 use Rattle.scheduling_laws.specs.Response.{can_interfere, width_of, waiting_of, interference_of, interfering_demand, WaitsForInterference}
-use Rattle.scheduling_laws.specs.Response.{LittleInterferenceSuffices, SmallDemandSuffices, WaitingIsInterference, WeakWaitingIsInterference}
-use Rattle.scheduling_laws.specs.Response.{LittleInterferenceIsInTime, SmallDemandIsInTime, WeakLittleInterferenceIsInTime, WeakSmallDemandIsInTime}
+use Rattle.scheduling_laws.specs.Response.{LittleInterferenceSuffices, SmallDemandSuffices, WaitingIsInterference}
+use Rattle.scheduling_laws.specs.Response.{WeakWaitingIsInterference}
+use Rattle.scheduling_laws.specs.Response.{LittleInterferenceIsInTime, SmallDemandIsInTime, WeakLittleInterferenceIsInTime}
+use Rattle.scheduling_laws.specs.Response.{WeakSmallDemandIsInTime}
 use Rattle.scheduling_laws.proofs.Sustained.{released_among, service_more, service_same}
 use Rattle.scheduling_laws.proofs.Weights.{sum_step, sum_no_more}
 use Rattle.scheduling_laws.proofs.PlacedState.{who}
@@ -90,7 +93,8 @@ module _ (s : State) (t : ℕ) where
 abbrev waits : Timeline → ℕ → ℕ → Bool
 waits states t y = is_ready (states y) t && not (is_linked (states y) t)
 
-module _ (s : State) (states : Timeline) (t from end : ℕ) (off : (y : ℕ) → y < end → waits states t y ≡ true → IsHeldOff s t (states y)) where
+module _ (s : State) (states : Timeline) (t from end : ℕ) (off : (y : ℕ) → y < end → waits states t y ≡ true
+    → IsHeldOff s t (states y)) where
   abbrev gets : ℕ → ℕ → ℕ
   gets x u = service_of states u x - service_of states u from
 
@@ -141,7 +145,8 @@ not_true false e = refl
 
 -- each processor of the mask of a waiting task runs a more urgent task
 abbrev pub IsKeptOutIn : State → ℕ → Type 0
-IsKeptOutIn now t = IsWaiting now t → (p : ℕ) → IsTrue (has (effective_mask now t) p) → (u : ℕ) × (task_on now p ≡ Some u) × IsMoreUrgent now u t
+IsKeptOutIn now t =
+    IsWaiting now t → (p : ℕ) → IsTrue (has (effective_mask now t) p) → (u : ℕ) × (task_on now p ≡ Some u) × IsMoreUrgent now u t
 
 module _ (set : SetData) (valid : IsTaskSet set) (t : ℕ) (now : State) (like : IsLike (start_of set) now) (kept : IsKeptOutIn now t) where
   abbrev start : State
@@ -157,7 +162,8 @@ module _ (set : SetData) (valid : IsTaskSet set) (t : ℕ) (now : State) (like :
     | inl none ↦ absurd (
         let on_mask = sym (has-intersection (mask_of start u) start.online p) ∙ ap (λ (X : ℕ). has X p) (sym (same_mask u)) ∙ there in
         let in_u = (and_parts (has (mask_of start u) p) (has start.online p) on_mask).0 in
-        no_member (intersection (mask_of start u) (mask_of start t)) p (eqb-true (intersection (mask_of start u) (mask_of start t)) empty none)
+        no_member (intersection (mask_of start u) (mask_of start t)) p
+        (eqb-true (intersection (mask_of start u) (mask_of start t)) empty none)
         (has-intersection (mask_of start u) (mask_of start t) p ∙ and_from _ _ in_u inside))
   ]
 
@@ -165,7 +171,8 @@ module _ (set : SetData) (valid : IsTaskSet set) (t : ℕ) (now : State) (like :
   held_off h = record { held = held; once = like.ok.once }
     where
       waiting : IsWaiting now t
-      waiting = record { ready = (and_parts (is_ready now t) _ h).0; not_linked = not_true (is_linked now t) (and_parts (is_ready now t) _ h).1 }
+      waiting =
+          record { ready = (and_parts (is_ready now t) _ h).0; not_linked = not_true (is_linked now t) (and_parts (is_ready now t) _ h).1 }
 
       number : t < task_count start
       number = (let lt = ready_number now like.ok t waiting.ready in let count = same_count start now like.tasks in omega arith)
@@ -206,12 +213,13 @@ same_masks s (first ∷ rest) events =
 module _ (set : SetData) (history : List Entry) (valid : IsTaskSet set) (legal : IsLegal set history)
     (events : All (λ (entry : Entry). IsJobEvent entry.event) history) where
   abbrev pub at : ℕ → State
-  at x = state_at (start_of set) history x
+  at x = state_of_moment (start_of set) history x
 
   pub certified_at : (x : ℕ) → IsState (at x) × HasCertificates (at x)
   certified_at x =
       let prefix = state_by_entries (start_of set) history x 0 in
-      subst (λ (now : State). IsState now × HasCertificates now) (sym prefix.2) (legal_is_certified set valid history legal prefix.0 prefix.1)
+      subst (λ (now : State). IsState now × HasCertificates now) (sym prefix.2)
+      (legal_is_certified set valid history legal prefix.0 prefix.1)
 
   pub like_at : (x : ℕ) → IsLike (start_of set) (at x)
   like_at x =
@@ -231,8 +239,9 @@ module _ (set : SetData) (history : List Entry) (valid : IsTaskSet set) (legal :
 
 pub waiting_is_interference : WaitingIsInterference
 waiting_is_interference set history t from span valid legal events =
-    is_paid (start_of set) (state_at (start_of set) history) t from (from + span)
-    (λ y below. held_off set valid t (state_at (start_of set) history y) (like_at set history valid legal events y) (kept_out_at set history valid legal events t y))
+    is_paid (start_of set) (state_of_moment (start_of set) history) t from (from + span)
+    (λ y below. held_off set valid t (state_of_moment (start_of set) history y) (like_at set history valid legal events y)
+    (kept_out_at set history valid legal events t y))
     span (omega arith)
 
 -- ---- a run of the weak scheduler
@@ -257,10 +266,15 @@ weak_step_like s event new ok is step = like event is (weak_step_follows s event
 pub like_then : (s : State) (events : List Event) (states : List State) (x : ℕ) → IsState s → All IsJobEvent events
     → IsWeakRun s events states
     → IsLike s (state_then s events states x)
-like_then s [] states x ok each run = record { ok = ok; tasks = record { processors = refl; priorities = refl }; masks = record { masks = refl; online = refl } }
+like_then s [] states x ok each run =
+    record { ok = ok; tasks = record { processors = refl; priorities = refl }; masks = record { masks = refl; online = refl } }
 like_then s (event ∷ events) [] x ok each run = absurd run
 like_then s (event ∷ events) (after ∷ states) x ok each run = elim (cases_Bool (nat_lt x (units_of event))) [
-  | inl here ↦ rw here record { ok = ok; tasks = record { processors = refl; priorities = refl }; masks = record { masks = refl; online = refl } }
+  | inl here ↦ rw here record {
+    ok = ok;
+    tasks = record { processors = refl; priorities = refl };
+    masks = record { masks = refl; online = refl };
+  }
   | inr later ↦ (
       let one = weak_step_like s event after ok (All-head IsJobEvent event events each) run.0 in
       let rest = like_then after events states (x - units_of event) one.ok (All-tail IsJobEvent event events each) run.1 in
@@ -371,7 +385,8 @@ module _ (input : JobInputData) (valid : IsJobInput input) (states : Timeline) (
       sum_no_more (can_interfere (start_of input.set) t) (λ u. service_of states u (suc y) - service_of states u from)
       (λ u. demand (jobs u) y) (task_count (start_of input.set))
       (λ u lt.
-      let all : task_count (start_of input.set) ≡ length input.set.tasks = length-map input.set.tasks (λ (task : TaskData). task.priority) in
+      let all : task_count (start_of input.set) ≡ length input.set.tasks = length-map input.set.tasks
+      (λ (task : TaskData). task.priority) in
       let each = valid.one_each in
       let most = asked_for u y (omega arith) below in
       omega arith)
@@ -386,7 +401,8 @@ module _ (input : JobInputData) (valid : IsJobInput input) (states : Timeline) (
   small_suffices t k from (suc d) window alone small =
       let last : suc (from + suc d - 1) ≡ from + suc d = omega arith in
       let within = window.within in
-      let most = subst (λ (x : ℕ). interference_of (start_of input.set) states t from x ≤ interfering_demand input t (from + suc d - 1)) last
+      let most = subst (λ (x : ℕ). interference_of (start_of input.set) states t from x ≤ interfering_demand input t (from + suc d - 1))
+      last
       (small_demand t from (from + suc d - 1) (omega arith)) in
       let fewer : suc d + 1 - (job_at (jobs t) k).cost ≤ suc d + 1 - (goal_of (jobs t) k - service_of states t from) = omega arith in
       little_suffices t k from (suc d) window (so_less _ _ _ _ most small (mul-le-mul_left (width t) fewer))
@@ -394,17 +410,17 @@ module _ (input : JobInputData) (valid : IsJobInput input) (states : Timeline) (
 -- ---- the laws
 strong_paid : (input : JobInputData) (history : List Entry) → IsJobInput input → RunsJobs input history
     → (t from span : ℕ) → from + span ≤ input.horizon
-    → WaitsForInterference (start_of input.set) (state_at (start_of input.set) history) t from (from + span)
+    → WaitsForInterference (start_of input.set) (state_of_moment (start_of input.set) history) t from (from + span)
 strong_paid input history valid runs t from span within =
     waiting_is_interference input.set history t from span valid.valid runs.legal runs.events
 
 pub little_interference_is_in_time : LittleInterferenceIsInTime
 little_interference_is_in_time input history valid runs =
-    little_suffices input valid (state_at (start_of input.set) history) runs.served (strong_paid input history valid runs)
+    little_suffices input valid (state_of_moment (start_of input.set) history) runs.served (strong_paid input history valid runs)
 
 pub small_demand_is_in_time : SmallDemandIsInTime
 small_demand_is_in_time input history valid runs =
-    small_suffices input valid (state_at (start_of input.set) history) runs.served (strong_paid input history valid runs)
+    small_suffices input valid (state_of_moment (start_of input.set) history) runs.served (strong_paid input history valid runs)
 
 pub weak_little_interference_is_in_time : WeakLittleInterferenceIsInTime
 weak_little_interference_is_in_time input events states valid serves =

@@ -1,8 +1,10 @@
 -- Say that t is in the best set of R, and not in that of a smaller set to which it belongs. A set X of processors certifies
 -- that t is left out there. Of the best set of R, let those whom its placement puts on X make way for the occupants of X: no
 -- fewer tasks are placed then, all more urgent than t. But the best set keeps up with every placeable one.
-use Rattle.std.proofs.Common.{◌≡◌, ℕ, suc, ◌-◌, ◌<◌, ◌≤◌, Bool, true, false, not, ◌&&◌, ◌||◌, ◌⊎◌, Some, if◌then◌else◌, nat_le, nat_lt, refl, sym, ap, ◌∙◌, subst, inl, inr, IsTrue, arith}
-use Rattle.std.proofs.lemmas.Bool.{cases_Bool, cases_eq, cases_lt, true≢false, and_from, and_right, and_parts, or_left, or_right, or_cases, le-leb, lt-leb, leb-true, lt-ltb}
+use Rattle.std.proofs.Common.{◌≡◌, ℕ, suc, ◌-◌, ◌<◌, ◌≤◌, Bool, true, false, not, ◌&&◌, ◌||◌, ◌⊎◌, Some, if◌then◌else◌, nat_le, nat_lt}
+use Rattle.std.proofs.Common.{refl, sym, ap, ◌∙◌, subst, inl, inr, IsTrue, arith}
+use Rattle.std.proofs.lemmas.Bool.{cases_Bool, cases_eq, cases_lt, true≢false, and_from, and_right, and_parts, or_left, or_right, or_cases}
+use Rattle.std.proofs.lemmas.Bool.{le-leb, lt-leb, leb-true, lt-ltb}
 use Rattle.affinity_mask.specs.ProcSet.{has, Within}
 use Rattle.strong_apa.specs.State.{State, IsState, IsWaiting, task_count, task_on, is_linked, priority_of, effective_mask}
 use Rattle.strong_apa.specs.Placement.{TaskTest, IsSubset, IsPlacement, IsBest}
@@ -22,7 +24,9 @@ pub record IsNarrower (s s' : State) (tasks : TaskTest) : Type 0 where
   pub all : (t u : ℕ) → tasks t ≡ true → tasks u ≡ true → priority_of s t < priority_of s u → (p : ℕ)
       → (has (effective_mask s' t) p && nat_lt p s.processors) ≡ true → has (effective_mask s t) p ≡ true
 
-module _ (s s' : State) (ok : IsState s) (ok' : IsState s') (R fewer best best' : TaskTest) (number : (t : ℕ) → R t ≡ true → t < task_count s) (number' : (t : ℕ) → fewer t ≡ true → t < task_count s') (subset : IsSubset fewer R) (is_best : IsBest s R best) (is_best' : IsBest s' fewer best') (narrower : IsNarrower s s' fewer) where
+module _ (s s' : State) (ok : IsState s) (ok' : IsState s') (R fewer best best' : TaskTest) (number : (t : ℕ) → R t ≡ true
+    → t < task_count s) (number' : (t : ℕ) → fewer t ≡ true → t < task_count s') (subset : IsSubset fewer R) (is_best : IsBest s R best)
+    (is_best' : IsBest s' fewer best') (narrower : IsNarrower s s' fewer) where
   abbrev here : ℕ → ℕ
   here u = is_best.placeable.0 u
 
@@ -130,7 +134,8 @@ module _ (s s' : State) (ok : IsState s) (ok' : IsState s') (R fewer best best' 
     D-placement = record {
       allowed = λ u h. elim (cases_Bool (comes u)) [
         | inl c ↦ subst (λ (q : ℕ). IsTrue (has (effective_mask s u) q)) (sym (place-comes u c)) (moves_in u c)
-        | inr k ↦ subst (λ (q : ℕ). IsTrue (has (effective_mask s u) q)) (sym (place-stays u k)) (is_best.placeable.1.allowed u (and_parts (best u) _ (stays-from u h k)).0)
+        | inr k ↦ subst (λ (q : ℕ). IsTrue (has (effective_mask s u) q)) (sym (place-stays u k))
+            (is_best.placeable.1.allowed u (and_parts (best u) _ (stays-from u h k)).0)
       ];
       apart = λ u v hu hv e. elim (cases_Bool (comes u)) [
         | inl c ↦ elim (cases_Bool (comes v)) [
@@ -142,7 +147,8 @@ module _ (s s' : State) (ok : IsState s) (ok' : IsState s') (R fewer best best' 
         | inr c ↦ elim (cases_Bool (comes v)) [
           | inl d ↦ absurd (true≢false (sym (and_parts (best' v) _ d).1 ∙ ap in_X (sym (place-comes v d) ∙ sym e ∙ place-stays u c)
               ∙ off_X u (stays-from u hu c)))
-          | inr d ↦ is_best.placeable.1.apart u v (and_parts (best u) _ (stays-from u hu c)).0 (and_parts (best v) _ (stays-from v hv d)).0 (sym (place-stays u c) ∙ e ∙ place-stays v d)
+          | inr d ↦ is_best.placeable.1.apart u v (and_parts (best u) _ (stays-from u hu c)).0 (and_parts (best v) _ (stays-from v hv d)).0
+              (sym (place-stays u c) ∙ e ∙ place-stays v d)
         ]
       ];
     }
@@ -185,7 +191,11 @@ module _ (s s' : State) (ok : IsState s) (ok' : IsState s') (R fewer best best' 
       | inr off ↦ (
           let k : stays u ≡ true = and_from _ _ in_best (ap not off) in
           let it : partner u ≡ u = rw off refl in
-          subst (IsPartner u) (sym it) record { in_D = or_right (comes u) (stays u) k; early = more_urgent u k le; which = inr (off, refl) })
+          subst (IsPartner u) (sym it) record {
+            in_D = or_right (comes u) (stays u) k;
+            early = more_urgent u k le;
+            which = inr (off, refl);
+          })
     ]
 
     -- the placement puts such an occupant on X as well
@@ -215,7 +225,8 @@ module _ (s s' : State) (ok : IsState s) (ok' : IsState s') (R fewer best best' 
     partners = record {
       below = λ u lt h. number (partner u) (D-subset (partner u) (of u h).in_D);
       passes = λ u lt h. and_from _ _ (of u h).in_D (le-leb _ _ (of u h).early);
-      apart = λ u v lu lv hu hv e. partners_differ u v (partner u) (and_parts (best u) _ hu).0 (and_parts (best v) _ hv).0 (of u hu) (subst (IsPartner v) (sym e) (of v hv));
+      apart = λ u v lu lv hu hv e. partners_differ u v (partner u) (and_parts (best u) _ hu).0 (and_parts (best v) _ hv).0 (of u hu)
+          (subst (IsPartner v) (sym e) (of v hv));
     }
       where
         of : (u : ℕ) → upto best u ≡ true → IsPartner u (partner u)
@@ -224,7 +235,8 @@ module _ (s s' : State) (ok : IsState s) (ok' : IsState s') (R fewer best best' 
     -- ---- but t is one more
     one_more : count_below (upto best) (task_count s) ≡ suc (count_below (before best) (task_count s))
     one_more =
-        count_below-one_more (upto best) (before best) t (task_count s) (number t (is_best.subset t member)) (and_from _ _ member (le-leb _ _ (omega arith)))
+        count_below-one_more (upto best) (before best) t (task_count s) (number t (is_best.subset t member))
+        (and_from _ _ member (le-leb _ _ (omega arith)))
         (and_right (best t) _ (lt-leb _ _ (let some = later in omega arith)))
         (λ y lt ne. ap (λ (b : Bool). best y && b) (elim (cases_lt (priority_of s t) (priority_of s y)) [
           | inl late ↦ lt-leb _ _ late ∙ sym (lt-leb _ _ (omega arith))
@@ -240,20 +252,23 @@ module _ (s s' : State) (ok : IsState s) (ok' : IsState s') (R fewer best best' 
         let kept = linked_keeps_up larger (placed_ok s ok R number best is_best) (placed_certificates s ok R number best is_best) D
         (λ u h. ready_is s ok R number best is_best u
         ∙ D-subset u h) (place_of, record { allowed = D-placement.allowed; apart = D-placement.apart }) bound in
-        let same = count_below-agree (λ u. is_linked larger u && nat_le (priority_of s u) bound) (before best) (task_count s) (λ u lt. ap (λ (b : Bool). b && nat_le (priority_of s u) bound) (linked_is s ok R number best is_best u)) in
+        let same = count_below-agree (λ u. is_linked larger u && nat_le (priority_of s u) bound) (before best) (task_count s)
+        (λ u lt. ap (λ (b : Bool). b && nat_le (priority_of s u) bound) (linked_is s ok R number best is_best u)) in
         omega arith
 
     left_out : ⊥
-    left_out = let more = one_more in let most = keeps_up in let few = count_below-injection (upto best) (task_count s) (before D) (task_count s) partner partners in omega arith
+    left_out = let more = one_more in let most = keeps_up in let few = count_below-injection (upto best) (task_count s) (before D)
+        (task_count s) partner partners in omega arith
 
 pub stays_with_more : (s s' : State) → IsState s → IsState s' → (R fewer best best' : TaskTest) → ((t : ℕ) → R t ≡ true
     → t < task_count s) → ((t : ℕ) → fewer t ≡ true → t < task_count s')
     → IsSubset fewer R → IsBest s R best → IsBest s' fewer best' → IsNarrower s s' fewer → (t : ℕ) → best t ≡ true → fewer t ≡ true
     → best' t ≡ true
-stays_with_more s s' ok ok' R fewer best best' number number' subset is_best is_best' narrower t member inside = elim (cases_Bool (best' t)) [
-  | inl chosen ↦ chosen
-  | inr out ↦ absurd (left_out s s' ok ok' R fewer best best' number number' subset is_best is_best' narrower t member inside out)
-]
+stays_with_more s s' ok ok' R fewer best best' number number' subset is_best is_best' narrower t member inside =
+    elim (cases_Bool (best' t)) [
+      | inl chosen ↦ chosen
+      | inr out ↦ absurd (left_out s s' ok ok' R fewer best best' number number' subset is_best is_best' narrower t member inside out)
+    ]
 
 pub best_stays : BestStays
 best_stays s R fewer best best' ok number subset is_best is_best' =

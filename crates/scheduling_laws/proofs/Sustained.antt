@@ -1,6 +1,7 @@
 -- Where the urgent jobs ask for less, each task has as many of its jobs done: whoever is ready is ready in the longer run too, and
 -- so a task that is linked there is linked here, or has nothing left to do.
-use Rattle.std.proofs.Common.{◌≡◌, ◌≢◌, ℕ, zero, suc, ◌+◌, ◌-◌, ◌<◌, ◌≤◌, ◌⊎◌, ◌&&◌, Bool, true, false, nat_lt, List, [], ◌∷◌, length, refl, sym, ap, ◌∙◌, subst, inl, inr, arith}
+use Rattle.std.proofs.Common.{◌≡◌, ◌≢◌, ℕ, zero, suc, ◌+◌, ◌-◌, ◌<◌, ◌≤◌, ◌⊎◌, ◌&&◌, Bool, true, false, nat_lt, List, [], ◌∷◌, length, refl}
+use Rattle.std.proofs.Common.{sym, ap, ◌∙◌, subst, inl, inr, arith}
 use Rattle.std.proofs.lemmas.Bool.{cases_Bool, cases_eq, cases_lt, true≢false, and_from, and_parts, le-leb, lt-ltb, ltb-true}
 use Rattle.std.proofs.lemmas.List.{length-map}
 use Rattle.affinity_mask.specs.ProcSet.{has, all_below, intersection, Within}
@@ -18,7 +19,7 @@ use Rattle.job_release.specs.JobInput.{JobInputData, IsJobInput, AreJobs, jobs_a
 use Rattle.job_release.specs.declared.input.Job.{Job}
 use Rattle.job_release.specs.Driven.{RunsJobs}
 use Rattle.job_release.specs.Driving.{asked_by}
-use Rattle.job_release.specs.Moments.{Timeline, state_at, service_of, IsFinish}
+use Rattle.job_release.specs.Moments.{Timeline, state_of_moment, service_of, IsFinish}
 use Rattle.job_release.proofs.Demands.{asked_more, asked_past, asked_upto, released_later, demand_is}
 use Rattle.job_release.proofs.Moments.{no_service}
 use Rattle.scheduling_laws.specs.Isolation.{IsUrgent}
@@ -82,11 +83,19 @@ pub record AreReleased (jobs : List Job) (x r : ℕ) : Type 0 where
 pub released_among : (horizon : ℕ) (jobs : List Job) → AreJobs horizon jobs → (x n : ℕ) → n ≤ length jobs → ((k : ℕ) → n ≤ k
     → k < length jobs → x < (job_at jobs k).release)
     → (r : ℕ) × AreReleased jobs x r
-released_among horizon jobs valid x zero within after = (0, record { few = omega arith; before = λ k below. absurd (omega arith); after = after })
+released_among horizon jobs valid x zero within after =
+    (0, record { few = omega arith; before = λ k below. absurd (omega arith); after = after })
 released_among horizon jobs valid x (suc n) within after = elim (cases_lt x (job_at jobs n).release) [
   | inl later ↦ released_among horizon jobs valid x n (omega arith)
       (λ k from inside. let order = released_later horizon jobs valid n k from inside in omega arith)
-  | inr released ↦ (suc n, record { few = within; before = λ k below. (let order = released_later horizon jobs valid k n (omega arith) within in omega arith); after = after })
+  | inr released ↦ (
+    suc n,
+    record {
+      few = within;
+      before = λ k below. (let order = released_later horizon jobs valid k n (omega arith) within in omega arith);
+      after = after;
+    },
+  )
 ]
 
 -- as many are released in both lists, and the demand is what these ask for
@@ -112,7 +121,8 @@ same_released horizon jobs jobs' valid shorter x =
 
 -- ---- j jobs done, and i units of the next one, give j jobs of the shorter ones and what is left of i
 abbrev KeepsUp : List Job → List Job → ℕ → ℕ → Type 0
-KeepsUp jobs jobs' got got' = (j i : ℕ) → i ≤ cost_at jobs j → asked_by jobs j + i ≤ got → asked_by jobs' j + (i - (cost_at jobs j - cost_at jobs' j)) ≤ got'
+KeepsUp jobs jobs' got got' =
+    (j i : ℕ) → i ≤ cost_at jobs j → asked_by jobs j + i ≤ got → asked_by jobs' j + (i - (cost_at jobs j - cost_at jobs' j)) ≤ got'
 
 module _ (jobs jobs' : List Job) (shorter : AreNoLonger jobs jobs') where
   -- at first
@@ -177,12 +187,13 @@ record HasRoomUpTo (bound : ℕ) (one other : JobInputData) : Type 0 where
   narrower : (tasks : TaskTest) → ((t : ℕ) → tasks t ≡ true → IsUrgent other bound t)
       → IsNarrower (start_of one.set) (start_of other.set) tasks
 
-module _ (bound : ℕ) (one other : JobInputData) (agree : HasRoomUpTo bound one other) (valid : IsJobInput one) (also_valid : IsJobInput other) (history also : List Entry) (runs : RunsJobs one history) (also_runs : RunsJobs other also) where
+module _ (bound : ℕ) (one other : JobInputData) (agree : HasRoomUpTo bound one other) (valid : IsJobInput one)
+    (also_valid : IsJobInput other) (history also : List Entry) (runs : RunsJobs one history) (also_runs : RunsJobs other also) where
   abbrev states : Timeline
-  states = state_at (start_of one.set) history
+  states = state_of_moment (start_of one.set) history
 
   abbrev states' : Timeline
-  states' = state_at (start_of other.set) also
+  states' = state_of_moment (start_of other.set) also
 
   abbrev got : ℕ → ℕ → ℕ
   got t x = service_of states t x
@@ -219,7 +230,8 @@ module _ (bound : ℕ) (one other : JobInputData) (agree : HasRoomUpTo bound one
       let less : got' t x < demand (jobs' t) x = (also_runs.served.ready t x there.0 (far x below)).0 is in
       elim (cases_lt (got t x) (demand (jobs t) x)) [
         | inl lt ↦ and_from _ _ ((runs.served.ready t x urgent.0 below).1 lt) (le-leb _ _ urgent.1)
-        | inr ge ↦ absurd (let demands = same.one in let demands' = same.other in let h = keeps t there same.number 0 (omega arith) (omega arith) in omega arith)
+        | inr ge ↦ absurd (let demands = same.one in let demands' = same.other in let h = keeps t there same.number 0 (omega arith)
+            (omega arith) in omega arith)
       ]
 
   numbers : (x t : ℕ) → urgent_ready one history bound x t ≡ true → t < task_count (start_of one.set)
@@ -232,30 +244,37 @@ module _ (bound : ℕ) (one other : JobInputData) (agree : HasRoomUpTo bound one
   also_numbers : (x t : ℕ) → urgent_ready other also bound x t ≡ true → t < task_count (start_of other.set)
   also_numbers x t h =
       let number = (ready_is_urgent other also_valid also also_runs bound x t h).0 in
-      let all : task_count (start_of other.set) ≡ length other.set.tasks = length-map other.set.tasks (λ (task : TaskData). task.priority) in
+      let all : task_count (start_of other.set) ≡ length other.set.tasks = length-map other.set.tasks
+      (λ (task : TaskData). task.priority) in
       let each = also_valid.one_each in
       omega arith
 
   -- whoever is linked in the one run, and ready in the other, is linked there too
   linked_too : (x : ℕ) → x < one.horizon → AllKeepUp x → (t : ℕ) → IsUrgent other bound t
-      → is_linked (state_at (start_of one.set) history x) t ≡ true → is_ready (state_at (start_of other.set) also x) t ≡ true
-      → is_linked (state_at (start_of other.set) also x) t ≡ true
+      → is_linked (state_of_moment (start_of one.set) history x) t ≡ true → is_ready (state_of_moment (start_of other.set) also x) t ≡ true
+      → is_linked (state_of_moment (start_of other.set) also x) t ≡ true
   linked_too x below keeps t there linked ready =
       let urgent = agree.urgent t there in
-      let is_urgent : (u : ℕ) → urgent_ready other also bound x u ≡ true → IsUrgent other bound u = λ u h. (ready_is_urgent other also_valid also also_runs bound x u h) in
-      let chosen = stays_with_more (start_of one.set) (start_of other.set) (IsState-start one.set valid.valid) (IsState-start other.set also_valid.valid)
-      (urgent_ready one history bound x) (urgent_ready other also bound x) (urgent_linked one history bound x) (urgent_linked other also bound x)
-      (numbers x) (also_numbers x) (fewer_ready x below keeps) (urgent_best one valid history runs bound x below) (urgent_best other also_valid also also_runs bound x (far x below))
+      let is_urgent : (u : ℕ) → urgent_ready other also bound x u ≡ true
+      → IsUrgent other bound u = λ u h. (ready_is_urgent other also_valid also also_runs bound x u h) in
+      let chosen = stays_with_more (start_of one.set) (start_of other.set) (IsState-start one.set valid.valid)
+      (IsState-start other.set also_valid.valid)
+      (urgent_ready one history bound x) (urgent_ready other also bound x) (urgent_linked one history bound x)
+      (urgent_linked other also bound x)
+      (numbers x) (also_numbers x) (fewer_ready x below keeps) (urgent_best one valid history runs bound x below)
+      (urgent_best other also_valid also also_runs bound x (far x below))
       (agree.narrower (urgent_ready other also bound x) is_urgent) t
       (and_from _ _ linked (le-leb _ _ urgent.1)) (and_from _ _ ready (le-leb _ _ there.1)) in
-      (and_parts (is_linked (state_at (start_of other.set) also x) t) _ chosen).0
+      (and_parts (is_linked (state_of_moment (start_of other.set) also x) t) _ chosen).0
 
   -- one moment more
   keep_up-more : (x : ℕ) → x < one.horizon → AllKeepUp x → AllKeepUp (suc x)
   keep_up-more x below keeps t urgent = elim (cases_Bool (is_linked (states x) t)) [
-    | inr waits ↦ rw (service_same states t x waits) (keeps-other (jobs t) (jobs' t) (shorter t urgent) (got t x) (got' t x) (got' t (suc x)) grows (keeps t urgent))
+    | inr waits ↦ rw (service_same states t x waits)
+        (keeps-other (jobs t) (jobs' t) (shorter t urgent) (got t x) (got' t x) (got' t (suc x)) grows (keeps t urgent))
     | inl linked ↦ rw (service_more states t x linked)
-        (keeps-more (jobs t) (jobs' t) (shorter t urgent) (released t x urgent).number (got t x) (got' t x) (got' t (suc x)) (keeps t urgent) grows (left linked) (also_served linked))
+        (keeps-more (jobs t) (jobs' t) (shorter t urgent) (released t x urgent).number (got t x) (got' t x) (got' t (suc x))
+        (keeps t urgent) grows (left linked) (also_served linked))
   ]
     where
       grows : got' t x ≤ got' t (suc x)
@@ -313,20 +332,24 @@ finished_by states t goal horizon x within done =
     ]
 
 -- ---- where there is room
-module _ (bound : ℕ) (one other : JobInputData) (agree : HasRoomUpTo bound one other) (valid : IsJobInput one) (also_valid : IsJobInput other)
-    (history also : List Entry) (runs : RunsJobs one history) (also_runs : RunsJobs other also) (t : ℕ) (urgent : IsUrgent other bound t) (k x : ℕ) where
-  done_too : x ≤ one.horizon → goal_of (jobs_at one.jobs t) k ≤ service_of (state_at (start_of one.set) history) t x
-      → goal_of (jobs_at other.jobs t) k ≤ service_of (state_at (start_of other.set) also) t x
+module _ (bound : ℕ) (one other : JobInputData) (agree : HasRoomUpTo bound one other) (valid : IsJobInput one)
+    (also_valid : IsJobInput other)
+    (history also : List Entry) (runs : RunsJobs one history) (also_runs : RunsJobs other also) (t : ℕ) (urgent : IsUrgent other bound t)
+    (k x : ℕ) where
+  done_too : x ≤ one.horizon → goal_of (jobs_at one.jobs t) k ≤ service_of (state_of_moment (start_of one.set) history) t x
+      → goal_of (jobs_at other.jobs t) k ≤ service_of (state_of_moment (start_of other.set) also) t x
   done_too within done =
-      let h = keep_up bound one other agree valid also_valid history also runs also_runs x within t urgent (k + 1) 0 (omega arith) (omega arith) in
+      let h = keep_up bound one other agree valid also_valid history also runs also_runs x within t urgent (k + 1) 0 (omega arith)
+      (omega arith) in
       omega arith
 
-  finished_too : IsFinish (state_at (start_of one.set) history) t (goal_of (jobs_at one.jobs t) k) one.horizon x
-      → (y : ℕ) × (y ≤ x) × IsFinish (state_at (start_of other.set) also) t (goal_of (jobs_at other.jobs t) k) other.horizon y
+  finished_too : IsFinish (state_of_moment (start_of one.set) history) t (goal_of (jobs_at one.jobs t) k) one.horizon x
+      → (y : ℕ) × (y ≤ x) × IsFinish (state_of_moment (start_of other.set) also) t (goal_of (jobs_at other.jobs t) k) other.horizon y
   finished_too finish =
       let within = finish.within in
       let e = agree.horizon in
-      finished_by (state_at (start_of other.set) also) t (goal_of (jobs_at other.jobs t) k) other.horizon x (omega arith) (done_too within finish.got)
+      finished_by (state_of_moment (start_of other.set) also) t (goal_of (jobs_at other.jobs t) k) other.horizon x (omega arith)
+      (done_too within finish.got)
 
 -- ---- more processors
 module _ (bound : ℕ) (one other : JobInputData) (agree : HasMoreRoomUpTo bound one other) where
@@ -336,11 +359,15 @@ module _ (bound : ℕ) (one other : JobInputData) (agree : HasMoreRoomUpTo bound
   narrower u p urgent =
       ap (λ (X : ℕ). has (intersection X (all_below one.set.processors)) p) (agree.each u urgent).mask
       ∙ has-intersection (intersection (mask_of (start_of other.set) u) (all_below one.set.processors)) (all_below one.set.processors) p
-      ∙ ap (λ (b : Bool). b && has (all_below one.set.processors) p) (has-intersection (mask_of (start_of other.set) u) (all_below one.set.processors) p)
+      ∙ ap (λ (b : Bool). b && has (all_below one.set.processors) p)
+      (has-intersection (mask_of (start_of other.set) u) (all_below one.set.processors) p)
       ∙ ap (λ (b : Bool). (has (mask_of (start_of other.set) u) p && b) && b) (has-all_below one.set.processors p)
-      ∙ twice (has (mask_of (start_of other.set) u) p) (nat_lt p one.set.processors) (nat_lt p other.set.processors) (λ h. lt-ltb _ _ (let lt = ltb-true p one.set.processors h in let more = agree.processors in omega arith))
-      ∙ ap (λ (b : Bool). (has (mask_of (start_of other.set) u) p && b) && nat_lt p one.set.processors) (sym (has-all_below other.set.processors p))
-      ∙ ap (λ (b : Bool). b && nat_lt p one.set.processors) (sym (has-intersection (mask_of (start_of other.set) u) (all_below other.set.processors) p))
+      ∙ twice (has (mask_of (start_of other.set) u) p) (nat_lt p one.set.processors) (nat_lt p other.set.processors)
+      (λ h. lt-ltb _ _ (let lt = ltb-true p one.set.processors h in let more = agree.processors in omega arith))
+      ∙ ap (λ (b : Bool). (has (mask_of (start_of other.set) u) p && b) && nat_lt p one.set.processors)
+      (sym (has-all_below other.set.processors p))
+      ∙ ap (λ (b : Bool). b && nat_lt p one.set.processors)
+      (sym (has-intersection (mask_of (start_of other.set) u) (all_below other.set.processors) p))
 
   more_room : HasRoomUpTo bound one other
   more_room = record {
@@ -363,7 +390,8 @@ more_processors_finish_no_later bound one other history also t valid also_valid 
     finished_too bound one other (more_room bound one other agree) valid also_valid history also runs also_runs t urgent k x finish
 
 -- ---- a wider mask
-module _ (t : ℕ) (one other : JobInputData) (valid : IsJobInput one) (also_valid : IsJobInput other) (agree : HasWiderMask t one other) where
+module _ (t : ℕ) (one other : JobInputData) (valid : IsJobInput one) (also_valid : IsJobInput other)
+    (agree : HasWiderMask t one other) where
   abbrev up_to : ℕ
   up_to = priority_of (start_of one.set) t
 
@@ -374,7 +402,8 @@ module _ (t : ℕ) (one other : JobInputData) (valid : IsJobInput one) (also_val
   ]
 
   no_longer : (jobs jobs' : List Job) → jobs ≡ jobs' → AreNoLonger jobs jobs'
-  no_longer jobs jobs' same = subst (AreNoLonger jobs) same record { count = refl; each = λ k below. record { release = refl; cost = omega arith } }
+  no_longer jobs jobs' same =
+      subst (AreNoLonger jobs) same record { count = refl; each = λ k below. record { release = refl; cost = omega arith } }
 
   same_priority : (u : ℕ) → IsUrgent one up_to u → priority_of (start_of one.set) u ≡ priority_of (start_of other.set) u
   same_priority u urgent = elim (cases_eq u t) [
@@ -399,7 +428,8 @@ module _ (t : ℕ) (one other : JobInputData) (valid : IsJobInput one) (also_val
     narrower = λ tasks are. record {
       priority = λ u h. sym (same_priority u ((agree.urgent u).1 (are u h)));
       within = λ u h p there.
-          let parts = and_parts (has (mask_of (start_of one.set) u) p) (has (all_below one.set.processors) p) (sym (has-intersection (mask_of (start_of one.set) u) (all_below one.set.processors) p) ∙ there) in
+          let parts = and_parts (has (mask_of (start_of one.set) u) p) (has (all_below one.set.processors) p)
+          (sym (has-intersection (mask_of (start_of one.set) u) (all_below one.set.processors) p) ∙ there) in
           let in_mask = masks_within u ((agree.urgent u).1 (are u h)) p parts.0 in
           let on_line = ap (λ (X : ℕ). has X p) (sym same_online) ∙ parts.1 in
           and_from _ _ (has-intersection (mask_of (start_of other.set) u) (all_below other.set.processors) p ∙ and_from _ _ in_mask on_line)
@@ -416,11 +446,13 @@ module _ (t : ℕ) (one other : JobInputData) (valid : IsJobInput one) (also_val
 
 pub wider_mask_keeps_up : WiderMaskKeepsUp
 wider_mask_keeps_up t one other history also u valid also_valid agree runs also_runs urgent k x within done =
-    done_too (priority_of (start_of one.set) t) one other (wider_room t one other valid also_valid agree) valid also_valid history also runs also_runs u ((agree.urgent u).0 urgent) k x within done
+    done_too (priority_of (start_of one.set) t) one other (wider_room t one other valid also_valid agree)
+    valid also_valid history also runs also_runs u ((agree.urgent u).0 urgent) k x within done
 
 pub wider_mask_finishes_no_later : WiderMaskFinishesNoLater
 wider_mask_finishes_no_later t one other history also u valid also_valid agree runs also_runs urgent k x finish =
-    finished_too (priority_of (start_of one.set) t) one other (wider_room t one other valid also_valid agree) valid also_valid history also runs also_runs u ((agree.urgent u).0 urgent) k x finish
+    finished_too (priority_of (start_of one.set) t) one other (wider_room t one other valid also_valid agree)
+    valid also_valid history also runs also_runs u ((agree.urgent u).0 urgent) k x finish
 
 -- with the same processors
 same_room : (bound : ℕ) (one other : JobInputData) → IsJobInput other → AsksNoMoreUpTo bound one other → HasMoreRoomUpTo bound one other
@@ -438,7 +470,8 @@ same_room bound one other also_valid agree = record {
   where
     within : (t : ℕ) → IsUrgent other bound t → Within (mask_of (start_of other.set) t) (all_below one.set.processors)
     within t urgent p there =
-        let all : task_count (start_of other.set) ≡ length other.set.tasks = length-map other.set.tasks (λ (task : TaskData). task.priority) in
+        let all : task_count (start_of other.set) ≡ length other.set.tasks = length-map other.set.tasks
+        (λ (task : TaskData). task.priority) in
         let one_each = also_valid.one_each in
         let number = urgent.0 in
         let below = ((IsState-start other.set also_valid.valid).masks t (omega arith)).below p there in
@@ -446,7 +479,9 @@ same_room bound one other also_valid agree = record {
         has-all_below one.set.processors p ∙ lt-ltb _ _ (omega arith)
 
 pub shorter_jobs_keep_up : ShorterJobsKeepUp
-shorter_jobs_keep_up bound one other history also t valid also_valid agree = more_processors_keep_up bound one other history also t valid also_valid (same_room bound one other also_valid agree)
+shorter_jobs_keep_up bound one other history also t valid also_valid agree =
+    more_processors_keep_up bound one other history also t valid also_valid (same_room bound one other also_valid agree)
 
 pub shorter_jobs_finish_no_later : ShorterJobsFinishNoLater
-shorter_jobs_finish_no_later bound one other history also t valid also_valid agree = more_processors_finish_no_later bound one other history also t valid also_valid (same_room bound one other also_valid agree)
+shorter_jobs_finish_no_later bound one other history also t valid also_valid agree =
+    more_processors_finish_no_later bound one other history also t valid also_valid (same_room bound one other also_valid agree)

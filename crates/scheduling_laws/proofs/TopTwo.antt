@@ -1,6 +1,7 @@
 -- The most urgent task runs whenever it is ready, under both schedulers. So where the weak one runs the second task, the first runs beside
 -- it, or is absent under both: the two can be placed, and the strong one runs the second task as well, if it is ready.
-use Rattle.std.proofs.Common.{◌≡◌, ◌≢◌, ℕ, zero, suc, ◌<◌, ◌≤◌, Bool, true, ◌&&◌, nat_le, nat_lt, List, length, Some, refl, sym, ap, ◌∙◌, subst, inl, inr, IsTrue, arith}
+use Rattle.std.proofs.Common.{◌≡◌, ◌≢◌, ℕ, zero, suc, ◌<◌, ◌≤◌, Bool, true, ◌&&◌, nat_le, nat_lt, List, length, Some, refl, sym, ap, ◌∙◌}
+use Rattle.std.proofs.Common.{subst, inl, inr, IsTrue, arith}
 use Rattle.std.proofs.lemmas.Bool.{cases_Bool, cases_eq, cases_lt, true≢false, and_from, and_left, and_parts, le-leb, leb-true, lt-ltb}
 use Rattle.std.proofs.lemmas.List.{length-map}
 use Rattle.std.proofs.lemmas.Option.{same_Some}
@@ -9,7 +10,8 @@ use Rattle.affinity_mask.proofs.Sets.{empty_from_none, has-intersection, has-all
 use Rattle.task_set.specs.TaskSet.{SetData, TaskData, IsTaskSet}
 use Rattle.task_set.specs.declared.event.Event.{Event}
 use Rattle.strong_apa.specs.declared.reply.Entry.{Entry}
-use Rattle.strong_apa.specs.State.{State, IsState, IsMoreUrgent, start_of, task_count, task_on, is_ready, is_linked, priority_of, mask_of, effective_mask}
+use Rattle.strong_apa.specs.State.{State, IsState, IsMoreUrgent, start_of, task_count, task_on, is_ready, is_linked, priority_of, mask_of}
+use Rattle.strong_apa.specs.State.{effective_mask}
 use Rattle.strong_apa.specs.Placement.{IsPlacement}
 use Rattle.strong_apa.proofs.Counts.{count_below-one_more}
 use Rattle.strong_apa.proofs.Fullness.{linked_keeps_up}
@@ -21,7 +23,7 @@ use Rattle.strong_apa.proofs.Unique.{ready_number}
 use Rattle.job_release.specs.Jobs.{goal_of}
 use Rattle.job_release.specs.JobInput.{JobInputData, IsJobInput, jobs_at}
 use Rattle.job_release.specs.Driven.{RunsJobs}
-use Rattle.job_release.specs.Moments.{Timeline, state_at, service_of}
+use Rattle.job_release.specs.Moments.{Timeline, state_of_moment, service_of}
 use Rattle.job_release.specs.WeakServes.{WeakServes, weak_timeline}
 use Rattle.job_release.proofs.Moments.{no_service}
 use Rattle.scheduling_laws.specs.TopTwo.{IsOfTopTwo, TopTwoGetNoLess, TopTwoFinishNoLater}
@@ -68,7 +70,7 @@ module _ (input : JobInputData) (events : List Event) (states : List State) (his
   weak = weak_timeline input events states
 
   abbrev strong : Timeline
-  strong = state_at (start_of input.set) history
+  strong = state_of_moment (start_of input.set) history
 
   abbrev start : State
   start = start_of input.set
@@ -94,11 +96,13 @@ module _ (input : JobInputData) (events : List Event) (states : List State) (his
   -- equal service makes a task ready under both, or under neither
   ready_too : (t x : ℕ) → t < length input.jobs → x < input.horizon → service_of weak t x ≡ service_of strong t x
       → is_ready (weak x) t ≡ true → is_ready (strong x) t ≡ true
-  ready_too t x number below same ready = (runs.served.ready t x number below).1 (let less = (serves.served.ready t x number below).0 ready in omega arith)
+  ready_too t x number below same ready =
+      (runs.served.ready t x number below).1 (let less = (serves.served.ready t x number below).0 ready in omega arith)
 
   ready_back : (t x : ℕ) → t < length input.jobs → x < input.horizon → service_of weak t x ≡ service_of strong t x
       → is_ready (strong x) t ≡ true → is_ready (weak x) t ≡ true
-  ready_back t x number below same ready = (serves.served.ready t x number below).1 (let less = (runs.served.ready t x number below).0 ready in omega arith)
+  ready_back t x number below same ready =
+      (serves.served.ready t x number below).1 (let less = (runs.served.ready t x number below).0 ready in omega arith)
 
   -- the most urgent task
   module _ (a : ℕ) (number : a < length input.jobs) (first : (u : ℕ) → u < task_count start → IsMoreUrgent start u a → ⊥) where
@@ -106,7 +110,8 @@ module _ (input : JobInputData) (events : List Event) (states : List State) (his
     weak_runs x below = top_runs input.set valid.valid a (weak x) (weak_like x) (λ waiting. serves.stable x below a waiting) first
 
     strong_runs : (x : ℕ) → is_ready (strong x) a ≡ true → is_linked (strong x) a ≡ true
-    strong_runs x = top_runs input.set valid.valid a (strong x) (strong_like x) (kept_out_at input.set history valid.valid runs.legal runs.events a x) first
+    strong_runs x = top_runs input.set valid.valid a (strong x) (strong_like x)
+        (kept_out_at input.set history valid.valid runs.legal runs.events a x) first
 
     same_service : (x : ℕ) → x ≤ input.horizon → service_of weak a x ≡ service_of strong a x
     same_service zero within = no_service weak a ∙ sym (no_service strong a)
@@ -120,7 +125,8 @@ module _ (input : JobInputData) (events : List Event) (states : List State) (his
               let other = service_more strong a x (strong_runs x ready) in
               omega arith)
           | inr out ↦ elim (cases_Bool (is_linked (strong x) a)) [
-            | inl linked ↦ absurd (true≢false (sym (weak_runs x below (ready_back a x number below before (runs.served.only_ready a x number below linked))) ∙ out))
+            | inl linked ↦ absurd (true≢false (sym (weak_runs x below
+                (ready_back a x number below before (runs.served.only_ready a x number below linked))) ∙ out))
             | inr out' ↦ (let one = service_same weak a x out in let other = service_same strong a x out' in omega arith)
           ]
         ]
@@ -132,7 +138,8 @@ module _ (input : JobInputData) (events : List Event) (states : List State) (his
     is_first a lt urgent u lu more = let same = top u a lu lt (omega arith) urgent in let e = ap (priority_of start) same in omega arith
 
     -- where both gave it as much so far, and the weak scheduler runs t, the strong one does
-    module _ (x : ℕ) (below : x < input.horizon) (same : service_of weak t x ≡ service_of strong t x) (linked : is_linked (weak x) t ≡ true) where
+    module _ (x : ℕ) (below : x < input.horizon) (same : service_of weak t x ≡ service_of strong t x)
+        (linked : is_linked (weak x) t ≡ true) where
       ok : IsState (strong x)
       ok = (certified_at input.set history valid.valid runs.legal runs.events x).0
 
@@ -166,14 +173,16 @@ module _ (input : JobInputData) (events : List Event) (states : List State) (his
       strong_too u lt other le on =
           let first = is_first u lt (is_urgent u lt other le) in
           let its_number = number_of u lt in
-          strong_runs u its_number first x (ready_too u x its_number below (same_service u its_number first x (omega arith)) (serves.served.only_ready u x its_number below on))
+          strong_runs u its_number first x (ready_too u x its_number below (same_service u its_number first x (omega arith))
+          (serves.served.only_ready u x its_number below on))
 
       weak_too : (u : ℕ) → u < task_count start → u ≢ t → nat_le (priority_of (strong x) u) (priority_of (strong x) t) ≡ true
           → is_linked (strong x) u ≡ true → is_linked (weak x) u ≡ true
       weak_too u lt other le on =
           let first = is_first u lt (is_urgent u lt other le) in
           let its_number = number_of u lt in
-          weak_runs u its_number first x below (ready_back u x its_number below (same_service u its_number first x (omega arith)) (runs.served.only_ready u x its_number below on))
+          weak_runs u its_number first x below (ready_back u x its_number below (same_service u its_number first x (omega arith))
+          (runs.served.only_ready u x its_number below on))
 
       is_number : (u : ℕ) → is_linked (weak x) u ≡ true → u < task_count start
       is_number u on =
@@ -186,7 +195,8 @@ module _ (input : JobInputData) (events : List Event) (states : List State) (his
           let parts = and_parts (is_linked (weak x) u) _ h in
           let lt = is_number u parts.0 in
           elim (cases_eq u t) [
-            | inl it ↦ subst (λ (v : ℕ). is_ready (strong x) v ≡ true) (sym it) (ready_too t x number below same (serves.served.only_ready t x number below linked))
+            | inl it ↦ subst (λ (v : ℕ). is_ready (strong x) v ≡ true) (sym it)
+                (ready_too t x number below same (serves.served.only_ready t x number below linked))
             | inr other ↦ runs.served.only_ready u x (number_of u lt) below (strong_too u lt other parts.1 parts.0)
           ]
 
@@ -204,14 +214,19 @@ module _ (input : JobInputData) (events : List Event) (states : List State) (his
         | inl on ↦ on
         | inr out ↦ absurd (
             let certificates = (certified_at input.set history valid.valid runs.legal runs.events x).1 in
-            let most = linked_keeps_up (strong x) ok certificates among subset ((λ u. place_in u (weak x).on), placement) (priority_of (strong x) t) in
+            let most = linked_keeps_up (strong x) ok certificates among subset ((λ u. place_in u (weak x).on), placement)
+            (priority_of (strong x) t) in
             let le : nat_le (priority_of (strong x) t) (priority_of (strong x) t) ≡ true = le-leb _ _ (omega arith) in
             let lt = number_in t number in
-            let more = count_below-one_more (λ u. among u && nat_le (priority_of (strong x) u) (priority_of (strong x) t)) (λ u. is_linked (strong x) u && nat_le (priority_of (strong x) u) (priority_of (strong x) t)) t (task_count (strong x))
+            let more = count_below-one_more (λ u. among u && nat_le (priority_of (strong x) u) (priority_of (strong x) t))
+            (λ u. is_linked (strong x) u && nat_le (priority_of (strong x) u) (priority_of (strong x) t)) t (task_count (strong x))
             (let count = same_number in omega arith) (and_from _ _ (and_from _ _ linked le) le) (and_left (is_linked (strong x) t) _ out)
             (λ u below_count other. same_answer _ _
-            (λ h. let parts = and_parts (among u) _ h in and_from _ _ (strong_too u (let count = same_number in omega arith) other parts.1 (and_parts (is_linked (weak x) u) _ parts.0).0) parts.1)
-            (λ h. let parts = and_parts (is_linked (strong x) u) _ h in and_from _ _ (and_from _ _ (weak_too u (let count = same_number in omega arith) other parts.1 parts.0) parts.1) parts.1)) in
+            (λ h. let parts = and_parts (among u) _ h in
+            and_from _ _ (strong_too u (let count = same_number in omega arith) other parts.1
+            (and_parts (is_linked (weak x) u) _ parts.0).0) parts.1)
+            (λ h. let parts = and_parts (is_linked (strong x) u) _ h in
+            and_from _ _ (and_from _ _ (weak_too u (let count = same_number in omega arith) other parts.1 parts.0) parts.1) parts.1)) in
             omega arith)
       ]
 
@@ -224,7 +239,8 @@ module _ (input : JobInputData) (events : List Event) (states : List State) (his
           | inr out ↦ (let one = service_same weak t x out in let grows = grows_by x in omega arith)
           | inl linked ↦ elim (cases_eq (service_of weak t x) (service_of strong t x)) [
             | inr differs ↦ (let one = service_more weak t x linked in let grows = grows_by x in omega arith)
-            | inl same ↦ (let one = service_more weak t x linked in let other = service_more strong t x (runs_too x below same linked) in omega arith)
+            | inl same ↦ (let one = service_more weak t x linked in let other = service_more strong t x (runs_too x below same linked) in
+                omega arith)
           ]
         ]
       where
@@ -243,4 +259,5 @@ pub top_two_finish_no_later : TopTwoFinishNoLater
 top_two_finish_no_later input events states history t valid serves runs number top k x finish =
     let more = no_less input events states history valid serves runs t number top x finish.within in
     let got = finish.got in
-    finished_by (state_at (start_of input.set) history) t (goal_of (jobs_at input.jobs t) k) input.horizon x finish.within (omega arith)
+    finished_by (state_of_moment (start_of input.set) history) t (goal_of (jobs_at input.jobs t) k) input.horizon x finish.within
+    (omega arith)

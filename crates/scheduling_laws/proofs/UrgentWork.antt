@@ -12,14 +12,16 @@ use Rattle.strong_apa.proofs.Kept.{legal_is_certified}
 use Rattle.job_release.specs.Moments.{units_of}
 use Rattle.scheduling_laws.specs.UrgentWork.{IsChoice, urgent_work, LinkedDoesMostWork}
 
-linked_does_most : (bound : ℕ) (s : State) (history : List Entry) (chosen : ℕ → TaskTest) → HoldsThroughout (λ s. IsState s × HasCertificates s) s history → IsChoice s history chosen
+linked_does_most : (bound : ℕ) (s : State) (history : List Entry) (chosen : ℕ → TaskTest)
+    → HoldsThroughout (λ s. IsState s × HasCertificates s) s history → IsChoice s history chosen
     → urgent_work s history chosen bound ≤ urgent_work s history (λ n. is_linked (state_after s (take n history))) bound
 linked_does_most bound s [] chosen holds choice = omega arith
 linked_does_most bound s (entry ∷ rest) chosen holds choice =
     let here = holds 0 (omega arith) in
     let first = choice 0 (omega arith) in
     let more = mul-le-mul_left (units_of entry.event) (linked_keeps_up s here.0 here.1 (chosen 0) first.0 first.1 bound) in
-    let later = linked_does_most bound (effect_of s entry) rest (λ n. chosen (suc n)) (λ n within. holds (suc n) (omega arith)) (λ n below. choice (suc n) (omega arith)) in
+    let later = linked_does_most bound (effect_of s entry) rest (λ n. chosen (suc n)) (λ n within. holds (suc n) (omega arith))
+    (λ n below. choice (suc n) (omega arith)) in
     omega arith
 
 pub linked_does_most_work : LinkedDoesMostWork

@@ -1,6 +1,8 @@
 -- Weights are taken off in layers of one: those that weigh something are the tasks up to a bound, and there the linked tasks keep up.
-use Rattle.std.proofs.Common.{◌≡◌, ℕ, zero, suc, ◌+◌, ◌-◌, ◌<◌, ◌≤◌, Bool, true, false, ◌&&◌, ◌⊎◌, [], sum_by, nat_le, nat_lt, refl, sym, ap, ◌∙◌, inl, inr, arith}
-use Rattle.std.proofs.lemmas.Bool.{cases_Bool, cases_lt, cases_eq, true≢false, and_from, and_left, and_right, le-leb, lt-leb, lt-ltb, le-ltb}
+use Rattle.std.proofs.Common.{◌≡◌, ℕ, zero, suc, ◌+◌, ◌-◌, ◌<◌, ◌≤◌, Bool, true, false, ◌&&◌, ◌⊎◌, [], sum_by, nat_le, nat_lt, refl, sym}
+use Rattle.std.proofs.Common.{ap, ◌∙◌, inl, inr, arith}
+use Rattle.std.proofs.lemmas.Bool.{cases_Bool, cases_lt, cases_eq, true≢false, and_from, and_left, and_right, le-leb, lt-leb, lt-ltb}
+use Rattle.std.proofs.lemmas.Bool.{le-ltb}
 use Rattle.std.proofs.lemmas.List.Sums.{sum_by_push}
 use Rattle.std.proofs.lemmas.Option.{same_Some}
 use Rattle.affinity_mask.specs.ProcSet.{passing_below}
@@ -93,19 +95,25 @@ module _ (s : State) (ok : IsState s) (A B : TaskTest) (keeps : KeepsUp s A B) w
   -- of the tasks that weigh something no fewer are in A
   layer : (weight : ℕ → ℕ) → FallsWithUrgency s weight
       → count_below (λ t. B t && weighs weight t) (task_count s) ≤ count_below (λ t. A t && weighs weight t) (task_count s)
-  layer weight falls = elim (first_below (λ t. 0 < weight t) (decided weight) (λ x y. priority_of s y ≤ priority_of s x) either (λ x y z a b. omega arith) (task_count s)) [
-    | inl found ↦ (
-        let same : (t : ℕ) → t < task_count s → weighs weight t ≡ nat_le (priority_of s t) (priority_of s found.0) = upto found.0 found.1 found.2 found.3 in
-        let a = count_below-agree (λ t. A t && weighs weight t) (λ t. A t && nat_le (priority_of s t) (priority_of s found.0)) (task_count s) (λ t lt. ap (λ (b : Bool). A t && b) (same t lt)) in
-        let b = count_below-agree (λ t. B t && weighs weight t) (λ t. B t && nat_le (priority_of s t) (priority_of s found.0)) (task_count s) (λ t lt. ap (λ (b : Bool). B t && b) (same t lt)) in
-        let up = keeps (priority_of s found.0) in
-        omega arith)
-    | inr none ↦ (
-        let off : (T : TaskTest) (t : ℕ) → t < task_count s → (T t && weighs weight t) ≡ false = λ T t lt. and_right (T t) (weighs weight t) (le-ltb _ _ (elim (cases_lt 0 (weight t)) [ inl some ↦ absurd (none t lt some) | inr le ↦ le ])) in
-        let e = count_below-agree (λ t. B t && weighs weight t) (λ t. A t && weighs weight t) (task_count s) (λ t lt. off B t lt
-        ∙ sym (off A t lt)) in
-        omega arith)
-  ]
+  layer weight falls = elim (first_below (λ t. 0 < weight t) (decided weight) (λ x y. priority_of s y ≤ priority_of s x) either
+      (λ x y z a b. omega arith) (task_count s)) [
+        | inl found ↦ (
+            let same : (t : ℕ) → t < task_count s → weighs weight t
+            ≡ nat_le (priority_of s t) (priority_of s found.0) = upto found.0 found.1 found.2 found.3 in
+            let a = count_below-agree (λ t. A t && weighs weight t) (λ t. A t && nat_le (priority_of s t) (priority_of s found.0))
+            (task_count s) (λ t lt. ap (λ (b : Bool). A t && b) (same t lt)) in
+            let b = count_below-agree (λ t. B t && weighs weight t) (λ t. B t && nat_le (priority_of s t) (priority_of s found.0))
+            (task_count s) (λ t lt. ap (λ (b : Bool). B t && b) (same t lt)) in
+            let up = keeps (priority_of s found.0) in
+            omega arith)
+        | inr none ↦ (
+            let off : (T : TaskTest) (t : ℕ) → t < task_count s
+            → (T t && weighs weight t) ≡ false = λ T t lt. and_right (T t) (weighs weight t)
+            (le-ltb _ _ (elim (cases_lt 0 (weight t)) [ inl some ↦ absurd (none t lt some) | inr le ↦ le ])) in
+            let e = count_below-agree (λ t. B t && weighs weight t) (λ t. A t && weighs weight t) (task_count s) (λ t lt. off B t lt
+            ∙ sym (off A t lt)) in
+            omega arith)
+      ]
     where
       upto : (last : ℕ) → last < task_count s → 0 < weight last → ((y : ℕ) → y < task_count s → 0 < weight y
           → priority_of s y ≤ priority_of s last)
@@ -128,9 +136,14 @@ module _ (s : State) (ok : IsState s) (A B : TaskTest) (keeps : KeepsUp s A B) w
       let b = sum_none B weight (task_count s) (λ t lt. let le = light t lt in omega arith) in
       omega arith
   weighs_most (suc n) weight falls light =
-      let rest = weighs_most n (λ t. weight t - 1) (λ t u lt lu urgent. let le = falls t u lt lu urgent in omega arith) (λ t lt. let le = light t lt in omega arith) in
-      let a = sum_step A (weighs weight) (λ t. weight t - 1) weight (task_count s) (λ t lt member does. let some = ltb-pos (weight t) does in omega arith) (λ t lt member does_not. let none = ltb-none (weight t) does_not in omega arith) in
-      let b = sum_step B (weighs weight) (λ t. weight t - 1) weight (task_count s) (λ t lt member does. let some = ltb-pos (weight t) does in omega arith) (λ t lt member does_not. let none = ltb-none (weight t) does_not in omega arith) in
+      let rest = weighs_most n (λ t. weight t - 1) (λ t u lt lu urgent. let le = falls t u lt lu urgent in omega arith)
+      (λ t lt. let le = light t lt in omega arith) in
+      let a = sum_step A (weighs weight) (λ t. weight t - 1) weight (task_count s)
+      (λ t lt member does. let some = ltb-pos (weight t) does in omega arith)
+      (λ t lt member does_not. let none = ltb-none (weight t) does_not in omega arith) in
+      let b = sum_step B (weighs weight) (λ t. weight t - 1) weight (task_count s)
+      (λ t lt member does. let some = ltb-pos (weight t) does in omega arith)
+      (λ t lt member does_not. let none = ltb-none (weight t) does_not in omega arith) in
       let top = layer weight falls in
       omega arith
     where
@@ -157,8 +170,10 @@ linked_weighs_most s ok certificates weight other falls subset placeable =
     let most = heaviest weight (task_count s) in
     weighs_most s ok (is_linked s) other (linked_keeps_up s ok certificates other subset placeable) most.0 weight falls most.1
 
--- ---- and where they weigh most, they are the best: a better set would weigh more, were the weights 1 up to the task that decides, and 0 after it
-module _ (s : State) (ok : IsState s) (most : LinkedWeighsMost s) (B : TaskTest) (better : IsBetter s B (is_linked s)) (number : better.task < task_count s) where
+-- ---- and where they weigh most, they are the best: a better set would weigh more, were the weights 1 up to the task that decides, and 0
+-- after it
+module _ (s : State) (ok : IsState s) (most : LinkedWeighsMost s) (B : TaskTest) (better : IsBetter s B (is_linked s))
+    (number : better.task < task_count s) where
   abbrev as_urgent : ℕ → Bool
   as_urgent t = nat_le (priority_of s t) (priority_of s better.task)
 
@@ -168,13 +183,15 @@ module _ (s : State) (ok : IsState s) (most : LinkedWeighsMost s) (B : TaskTest)
   weight_falls : FallsWithUrgency s weight
   weight_falls t u lt lu urgent = elim (cases_lt (priority_of s better.task) (priority_of s u)) [
     | inl later ↦ rw (lt-leb _ _ later) (omega arith)
-    | inr le ↦ (let here : nat_le (priority_of s t) (priority_of s better.task) ≡ true = le-leb _ _ (omega arith) in rw (le-leb _ _ le, here) (omega arith))
+    | inr le ↦ (let here : nat_le (priority_of s t) (priority_of s better.task) ≡ true = le-leb _ _ (omega arith) in
+        rw (le-leb _ _ le, here) (omega arith))
   ]
 
   weighs_count : (A : TaskTest)
       → weight_of s weight A ≡ count_below (λ t. A t && nat_le (priority_of s t) (priority_of s better.task)) (task_count s)
   weighs_count A =
-      let step = sum_step A as_urgent (λ t. 0) weight (task_count s) (λ t lt member here. ap one_if here) (λ t lt member here. ap one_if here) in
+      let step = sum_step A as_urgent (λ t. 0) weight (task_count s) (λ t lt member here. ap one_if here)
+      (λ t lt member here. ap one_if here) in
       let none = sum_none A (λ t. 0) (task_count s) (λ t lt. refl) in
       omega arith
 
@@ -198,7 +215,8 @@ best_weighs_most s ok = (
         apart = λ t u ht hu e. same_Some t u (sym (task_on-linked s t ht) ∙ (rw e (task_on-linked s u hu)));
       },
     );
-    none_better = λ B subset placeable better. weighs_more s ok most B better (ready_number s ok better.task (subset better.task better.in_first)) subset placeable;
+    none_better = λ B subset placeable better. weighs_more s ok most B better
+        (ready_number s ok better.task (subset better.task better.in_first)) subset placeable;
   },
 )
 

@@ -1,10 +1,12 @@
 -- How few running tasks an event moves. A task is moved where it runs before the event and after
 -- it, and not on the same processor; a task that comes or goes is not. The linked tasks after the
 -- event are the best set: this counts how many of them a placement moves.
-use Rattle.std.specs.Prelude.{◌≡◌, ℕ, ◌+◌, ◌≤◌, Bool, true, ◌&&◌, not, List, length, Some, slice_get}
+use Rattle.std.specs.Prelude.{◌≡◌, ℕ, ◌+◌, ◌≤◌, Bool, true, ◌&&◌, not, List, length, Some}
+use Rattle.std.specs.Prelude.{slice_get}
 use Rattle.task_set.specs.TaskSet.{SetData, IsTaskSet}
 use Rattle.task_set.specs.declared.event.Event.{Event}
-use Rattle.task_set.specs.declared.event.Event.TheVariants.{Arrive, Depart, Tick, Affinity, Offline, Online}
+use Rattle.task_set.specs.declared.event.Event.TheVariants.{Arrive, Depart, Tick, Affinity, Offline}
+use Rattle.task_set.specs.declared.event.Event.TheVariants.{Online}
 use Rattle.strong_apa.specs.declared.reply.Reply.{Reply}
 use Rattle.strong_apa.specs.declared.reply.Entry.{Entry}
 use Rattle.strong_apa.specs.State.{State, IsState, task_on, is_task, is_linked}

@@ -1,7 +1,9 @@
--- Obeying orders. Each processor obeys its orders one after the other. A take of a task with number k can be obeyed once the
--- task was taken and released k times, on whatever processors; every other order can be obeyed at any time. A run is what the
--- processors did so far, as the list of the processors that made a step, the latest first.
-use Rattle.std.specs.Prelude.{◌≡◌, ℕ, ◌<◌, Bool, false, ◌==◌, List, [], ◌∷◌, ◌++◌, length, take, slice_get, sum_by, count_by, Some}
+-- Obeying orders. Each processor obeys its orders one after the other. A take of a task with number
+-- k can be obeyed once the task was taken and released k times, on whatever processors; every other
+-- order can be obeyed at any time. A run is what the processors did so far, as the list of the
+-- processors that made a step, the latest first.
+use Rattle.std.specs.Prelude.{◌≡◌, ℕ, ◌<◌, Bool, false, ◌==◌, List, [], ◌∷◌, ◌++◌, length, take}
+use Rattle.std.specs.Prelude.{slice_get, sum_by, count_by, Some}
 use Rattle.std.specs.List.{range_with_len}
 use Rattle.task_set.specs.TaskSet.{SetData, IsTaskSet}
 use Rattle.task_set.specs.declared.order.Order.{Order}
@@ -36,7 +38,8 @@ obeyed orders run p = take (steps_of run p) (orders p)
 
 -- how many orders that pass the test the processors below m obeyed in a run
 abbrev pub obeyed_count : (Order → Bool) → ℕ → (ℕ → List Order) → List ℕ → ℕ
-obeyed_count test m orders run = sum_by (λ p. count_by test (obeyed orders run p)) (range_with_len 0 m)
+obeyed_count test m orders run =
+    sum_by (λ p. count_by test (obeyed orders run p)) (range_with_len 0 m)
 
 -- how often t was taken in a run
 abbrev pub times_taken : ℕ → (ℕ → List Order) → List ℕ → ℕ → ℕ
@@ -69,23 +72,30 @@ IsRun m orders (p ∷ earlier) = CanGoOn m orders earlier p × IsRun m orders ea
 abbrev pub HasOrders : (ℕ → List Order) → List ℕ → ℕ → Type 0
 HasOrders orders run p = steps_of run p < length (orders p)
 
--- processors never wait in a circle: in each run of the orders of m processors, as long as one of them has orders, one can go on
+-- processors never wait in a circle: in each run of the orders of m processors, as long as one of
+-- them has orders, one can go on
 abbrev pub NeverStops : ℕ → (ℕ → List Order) → Type 0
-NeverStops m orders = (run : List ℕ) (p : ℕ) → IsRun m orders run → p < m → HasOrders orders run p → (q : ℕ) × CanGoOn m orders run q
+NeverStops m orders = (run : List ℕ) (p : ℕ) → IsRun m orders run → p < m → HasOrders orders run p
+    → (q : ℕ) × CanGoOn m orders run q
 
 -- each run can be continued to one in which every processor has obeyed all its orders
 abbrev pub CanBeEnded : ℕ → (ℕ → List Order) → Type 0
-CanBeEnded m orders = (run : List ℕ) → IsRun m orders run → (more : List ℕ) × IsRun m orders (more ++ run) × ((p : ℕ) → p < m → obeyed orders (more ++ run) p ≡ orders p)
+CanBeEnded m orders = (run : List ℕ) → IsRun m orders run
+    → (more : List ℕ) × IsRun m orders (more ++ run)
+    × ((p : ℕ) → p < m → obeyed orders (more ++ run) p ≡ orders p)
 
 -- what holds of the orders of each legal history, before the close and with it
 abbrev pub HoldsOfOrdersFrom : (ℕ → (ℕ → List Order) → Type 0) → Type 0
-HoldsOfOrdersFrom Law = (start : State) (history : List Entry) → IsState start → NobodyIsReady start → IsLegalFrom start history
-    → Law start.processors (orders_of start history) × Law start.processors (closed_orders_of start history)
+HoldsOfOrdersFrom Law = (start : State) (history : List Entry) → IsState start → NobodyIsReady start
+    → IsLegalFrom start history
+    → Law start.processors (orders_of start history)
+    × Law start.processors (closed_orders_of start history)
 
 -- and of those of a set
 abbrev pub HoldsOfOrders : (ℕ → (ℕ → List Order) → Type 0) → Type 0
 HoldsOfOrders Law = (set : SetData) (history : List Entry) → IsTaskSet set → IsLegal set history
-    → Law set.processors (orders_of (start_of set) history) × Law set.processors (closed_orders_of (start_of set) history)
+    → Law set.processors (orders_of (start_of set) history)
+    × Law set.processors (closed_orders_of (start_of set) history)
 
 -- no processors wait for one another in a circle, from any state in which nobody is ready
 abbrev pub OrdersCanGoOnFrom : Type 0
@@ -95,7 +105,8 @@ OrdersCanGoOnFrom = HoldsOfOrdersFrom NeverStops
 abbrev pub OrdersCanGoOn : Type 0
 OrdersCanGoOn = HoldsOfOrders NeverStops
 
--- whatever they have obeyed so far, all orders can be obeyed, from any state in which nobody is ready
+-- whatever they have obeyed so far, all orders can be obeyed, from any state in which nobody is
+-- ready
 abbrev pub OrdersCanBeEndedFrom : Type 0
 OrdersCanBeEndedFrom = HoldsOfOrdersFrom CanBeEnded
 

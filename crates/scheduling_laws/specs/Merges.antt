@@ -1,4 +1,5 @@
--- Merges of events on streams, where all events of a task are on one stream, and all of a processor.
+-- Merges of events on streams, where all events of a task are on one stream, and all of a
+-- processor.
 use Rattle.std.specs.Prelude.{◌≡◌, ℕ, true, List, All}
 use Rattle.task_set.specs.TaskSet.{SetData, IsTaskSet}
 use Rattle.strong_apa.specs.declared.reply.Entry.{Entry}
@@ -10,8 +11,10 @@ use Rattle.scheduling_laws.specs.OneEnd.{is_of_task, is_of_processor}
 
 -- all events of each task are on its stream, and all of each processor
 pub record HaveStreams (of_task of_processor : ℕ → ℕ) (events : List Posted) : Type 0 where
-  pub tasks : (t : ℕ) → All (λ (posted : Posted). is_of_task t posted.event ≡ true → posted.stream ≡ of_task t) events
-  pub processors : (p : ℕ) → All (λ (posted : Posted). is_of_processor p posted.event ≡ true → posted.stream ≡ of_processor p) events
+  pub tasks : (t : ℕ) → All (λ (posted : Posted). is_of_task t posted.event ≡ true
+      → posted.stream ≡ of_task t) events
+  pub processors : (p : ℕ) → All (λ (posted : Posted). is_of_processor p posted.event ≡ true
+      → posted.stream ≡ of_processor p) events
 
 -- two states have the same tasks ready, and the same tasks linked
 pub record HaveSameTasksLinked (one other : State) : Type 0 where

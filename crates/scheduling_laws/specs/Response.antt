@@ -1,7 +1,8 @@
 -- How long a job can be kept waiting. A task that is ready and not linked waits; a more urgent task
 -- that shares a processor with it can interfere. While a task waits, each processor of its mask
 -- runs a task that can: so it is under the strong scheduler and under the weak one.
-use Rattle.std.specs.Prelude.{ℕ, ◌+◌, ◌-◌, ◌*◌, ◌<◌, ◌≤◌, Bool, ◌==◌, ◌&&◌, not, List, length, nat_lt, sum_by, All}
+use Rattle.std.specs.Prelude.{ℕ, ◌+◌, ◌-◌, ◌*◌, ◌<◌, ◌≤◌, Bool, ◌==◌, ◌&&◌, not, List, length}
+use Rattle.std.specs.Prelude.{nat_lt, sum_by, All}
 use Rattle.affinity_mask.specs.ProcSet.{empty, intersection, members, passing_below}
 use Rattle.task_set.specs.TaskSet.{SetData, IsTaskSet}
 use Rattle.task_set.specs.declared.event.Event.{Event}
@@ -13,7 +14,7 @@ use Rattle.job_release.specs.Jobs.{job_at, demand, goal_of}
 use Rattle.job_release.specs.JobInput.{JobInputData, IsJobInput, jobs_at}
 use Rattle.job_release.specs.declared.input.Job.{Job}
 use Rattle.job_release.specs.Driven.{IsJobEvent, RunsJobs}
-use Rattle.job_release.specs.Moments.{Timeline, state_at, service_of}
+use Rattle.job_release.specs.Moments.{Timeline, state_of_moment, service_of}
 use Rattle.job_release.specs.WeakServes.{WeakServes, weak_timeline}
 
 -- u is more urgent than t, and some processor is in both masks
@@ -91,7 +92,7 @@ SmallDemandSuffices input states = (t k from span : ℕ) → IsWindowFor input t
 abbrev pub HoldsOfStrongRuns : (JobInputData → Timeline → Type 0) → Type 0
 HoldsOfStrongRuns Law = (input : JobInputData) (history : List Entry)
     → IsJobInput input → RunsJobs input history
-    → Law input (state_at (start_of input.set) history)
+    → Law input (state_of_moment (start_of input.set) history)
 
 -- and where the weak scheduler does
 abbrev pub HoldsOfWeakRuns : (JobInputData → Timeline → Type 0) → Type 0
@@ -103,7 +104,8 @@ HoldsOfWeakRuns Law = (input : JobInputData) (events : List Event) (states : Lis
 abbrev pub WaitingIsInterference : Type 0
 WaitingIsInterference = (set : SetData) (history : List Entry) (t from span : ℕ)
     → IsTaskSet set → IsLegal set history → All (λ (entry : Entry). IsJobEvent entry.event) history
-    → WaitsForInterference (start_of set) (state_at (start_of set) history) t from (from + span)
+    → WaitsForInterference (start_of set) (state_of_moment (start_of set) history) t from
+    (from + span)
 
 -- so it does under the weak scheduler, up to the horizon
 abbrev pub WeakWaitingIsInterference : Type 0

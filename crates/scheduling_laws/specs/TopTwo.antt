@@ -6,7 +6,7 @@ use Rattle.strong_apa.specs.State.{State, start_of, task_count, IsMoreUrgent}
 use Rattle.job_release.specs.Jobs.{goal_of}
 use Rattle.job_release.specs.JobInput.{JobInputData, IsJobInput, jobs_at}
 use Rattle.job_release.specs.Driven.{RunsJobs}
-use Rattle.job_release.specs.Moments.{Timeline, state_at, service_of, IsFinish}
+use Rattle.job_release.specs.Moments.{Timeline, state_of_moment, service_of, IsFinish}
 use Rattle.job_release.specs.WeakServes.{WeakServes, weak_timeline}
 
 -- t is the most urgent task, or the second one: at most one is more urgent
@@ -18,10 +18,11 @@ IsOfTopTwo s t = (u v : ℕ) → u < task_count s → v < task_count s
 -- one runs them
 abbrev pub HoldsOfTopTwo : ((input : JobInputData) (weak strong : Timeline) → ℕ → Type 0) → Type 0
 HoldsOfTopTwo Law =
-    (input : JobInputData) (events : List Event) (states : List State) (history : List Entry) (t : ℕ)
+    (input : JobInputData) (events : List Event) (states : List State) (history : List Entry)
+    (t : ℕ)
     → IsJobInput input → WeakServes input events states → RunsJobs input history
     → t < length input.jobs → IsOfTopTwo (start_of input.set) t
-    → Law input (weak_timeline input events states) (state_at (start_of input.set) history) t
+    → Law input (weak_timeline input events states) (state_of_moment (start_of input.set) history) t
 
 -- before each moment each of the two got no less under the strong scheduler
 abbrev pub TopTwoGetNoLess : Type 0

@@ -14,4 +14,5 @@ plan_after_call plan = record plan { call = count_after plan.call }
 
 -- the plan after a call that failed: the next number is up, and there is one fault more
 abbrev pub plan_after_fault : FaultPlanView → FaultPlanView
-plan_after_fault plan = record plan { call = count_after plan.call; faults = count_after plan.faults }
+plan_after_fault plan =
+    record plan { call = count_after plan.call; faults = count_after plan.faults }

@@ -2,8 +2,8 @@
 use Rattle.std.specs.Prelude.{◌≡◌, ℕ, ◌+◌, ◌-◌, List, ◌++◌, Result, Ok, Err, length, min, take}
 use Rattle.shift_io.specs.Causes.{count_after}
 
--- the bytes that it has, the room left, the most that one call takes, the calls that are to fail, the
--- next call's number, how many failed, and how many there were, with those of an empty piece
+-- the bytes that it has, the room left, the most that one call takes, the calls that are to fail,
+-- the next call's number, how many failed, and how many there were, with those of an empty piece
 pub record MemSinkView : Type 0 where
   pub bytes : List ℕ
   pub room : ℕ
@@ -21,17 +21,27 @@ count_accepted sink piece = min piece (min sink.most sink.room)
 abbrev pub sink_after_call : MemSinkView → MemSinkView
 sink_after_call sink = record sink { calls = sink.calls + 1 }
 
--- the sink after these bytes were put: they stand after the others, the next number is up, and there
--- was one call more
+-- the sink after these bytes were put: they stand after the others, the next number is up, and
+-- there was one call more
 abbrev pub sink_after_put : MemSinkView → List ℕ → MemSinkView
-sink_after_put sink put = record sink { bytes = sink.bytes ++ put; room = sink.room - length put; call = count_after sink.call; calls = sink.calls + 1 }
+sink_after_put sink put = record sink {
+  bytes = sink.bytes ++ put;
+  room = sink.room - length put;
+  call = count_after sink.call;
+  calls = sink.calls + 1;
+}
 
--- the sink after a put that failed: there is one fault more, the next number is up, and there was one
--- call more
+-- the sink after a put that failed: there is one fault more, the next number is up, and there was
+-- one call more
 abbrev pub sink_after_fault : MemSinkView → MemSinkView
-sink_after_fault sink = record sink { call = count_after sink.call; faults = count_after sink.faults; calls = sink.calls + 1 }
+sink_after_fault sink = record sink {
+  call = count_after sink.call;
+  faults = count_after sink.faults;
+  calls = sink.calls + 1;
+}
 
 -- one put of a piece that is not empty: it took the bytes that it is to take, or counted a fault
 abbrev pub PutsInto : {E : Type 0} → MemSinkView → MemSinkView → Result ℕ E → List ℕ → Type 0
-PutsInto before after (Ok n) piece = (n ≡ count_accepted before (length piece)) × (after ≡ sink_after_put before (take n piece))
+PutsInto before after (Ok n) piece =
+    (n ≡ count_accepted before (length piece)) × (after ≡ sink_after_put before (take n piece))
 PutsInto before after (Err _) piece = after ≡ sink_after_fault before

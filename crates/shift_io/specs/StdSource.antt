@@ -1,4 +1,5 @@
--- A source over a reader reports the bytes that the reader reports, and counts its faults and its calls.
+-- A source over a reader reports the bytes that the reader reports, and counts its faults and its
+-- calls.
 use Rattle.std.specs.Prelude.{ℕ, List, Option}
 use Rattle.shift_io.specs.declared.std_source.StdSource.{StdSource}
 

@@ -21,7 +21,8 @@ linked_placement s ok = record {
 
 -- a better set has one task more up to the priority of the task that decides
 pub better_has_more : (s : State) → IsState s → (A B : TaskTest) → (better : IsBetter s A B) → better.task < task_count s
-    → count_below (λ t. A t && nat_le (priority_of s t) (priority_of s better.task)) (task_count s) ≡ suc (count_below (λ t. B t && nat_le (priority_of s t) (priority_of s better.task)) (task_count s))
+    → count_below (λ t. A t && nat_le (priority_of s t) (priority_of s better.task)) (task_count s)
+    ≡ suc (count_below (λ t. B t && nat_le (priority_of s t) (priority_of s better.task)) (task_count s))
 better_has_more s ok A B better number =
     count_below-one_more _ _ better.task (task_count s) number
     (and_from _ _ better.in_first (le-leb _ _ (omega arith)))
@@ -54,7 +55,8 @@ linked_is_best s ok certificates = record {
 }
 
 pub linked_is_only_best : HoldsWhereCertified LinkedIsOnlyBest
-linked_is_only_best s ok certificates best is_best = best_is_unique s (is_ready s) best (is_linked s) (ready_number s ok) is_best (linked_is_best s ok certificates)
+linked_is_only_best s ok certificates best is_best =
+    best_is_unique s (is_ready s) best (is_linked s) (ready_number s ok) is_best (linked_is_best s ok certificates)
 
 -- some bound is as late as every priority of the tasks below n
 pub latest : (s : State) (n : ℕ) → (bound : ℕ) × ((t : ℕ) → t < n → priority_of s t ≤ bound)
@@ -80,7 +82,8 @@ latest s (suc n) = go (latest s n)
     ]
 
 -- up to that bound a set has all its tasks
-pub count_within-latest : (s : State) (A : TaskTest) (bound : ℕ) → ((t : ℕ) → t < task_count s → priority_of s t ≤ bound) → count_below (λ t. A t && nat_le (priority_of s t) bound) (task_count s) ≡ count_below A (task_count s)
+pub count_within-latest : (s : State) (A : TaskTest) (bound : ℕ) → ((t : ℕ) → t < task_count s → priority_of s t ≤ bound)
+    → count_below (λ t. A t && nat_le (priority_of s t) bound) (task_count s) ≡ count_below A (task_count s)
 count_within-latest s A bound late = count_below-agree _ _ (task_count s) (λ t lt. rw (le-leb _ _ (late t lt)) (and-true (A t)))
 
 pub linked_is_largest : HoldsWhereCertified LinkedIsLargest

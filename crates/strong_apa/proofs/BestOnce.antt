@@ -14,12 +14,15 @@ same_answer false false = inl refl
 
 module _ (s : State) (A B : TaskTest) where
   -- the most urgent of the tasks below n on which the sets differ, or they agree there
-  first_difference : (n : ℕ) → ((d : ℕ) × (A d ≢ B d) × ((u : ℕ) → u < n → A u ≢ B u → priority_of s d ≤ priority_of s u)) ⊎ ((u : ℕ) → u < n → A u ≡ B u)
+  first_difference : (n : ℕ) → ((d : ℕ) × (A d ≢ B d) × ((u : ℕ) → u < n → A u ≢ B u → priority_of s d ≤ priority_of s u))
+      ⊎ ((u : ℕ) → u < n → A u ≡ B u)
   first_difference zero = inr (λ u lt. absurd (omega arith))
   first_difference (suc n) = go (first_difference n) (same_answer (A n) (B n))
     where
-      go : ((d : ℕ) × (A d ≢ B d) × ((u : ℕ) → u < n → A u ≢ B u → priority_of s d ≤ priority_of s u)) ⊎ ((u : ℕ) → u < n → A u ≡ B u) → (A n ≡ B n) ⊎ (A n ≡ B n → ⊥)
-          → ((d : ℕ) × (A d ≢ B d) × ((u : ℕ) → u < suc n → A u ≢ B u → priority_of s d ≤ priority_of s u)) ⊎ ((u : ℕ) → u < suc n → A u ≡ B u)
+      go : ((d : ℕ) × (A d ≢ B d) × ((u : ℕ) → u < n → A u ≢ B u → priority_of s d ≤ priority_of s u)) ⊎ ((u : ℕ) → u < n → A u ≡ B u)
+          → (A n ≡ B n) ⊎ (A n ≡ B n → ⊥)
+          → ((d : ℕ) × (A d ≢ B d) × ((u : ℕ) → u < suc n → A u ≢ B u → priority_of s d ≤ priority_of s u))
+          ⊎ ((u : ℕ) → u < suc n → A u ≡ B u)
       go (inl found) (inl same) = inl (
         found.0,
         found.1,
@@ -63,8 +66,11 @@ pub best_is_unique : BestIsUnique
 best_is_unique s R A B bounded best_A best_B t =
     elim (first_difference s A B (task_count s)) [
       | inl found ↦ absurd (elim (cases_Bool (A found.0)) [
-        | inl in_A ↦ best_B.none_better A best_A.subset best_A.placeable (better A B best_A.subset best_B.subset found.0 in_A (not_in found.0 found.1 in_A) found.2)
-        | inr not_in_A ↦ best_A.none_better B best_B.subset best_B.placeable (better B A best_B.subset best_A.subset found.0 (in_other found.0 found.1 not_in_A) not_in_A (λ u lt differ. found.2 u lt (λ e. differ (sym e))))
+        | inl in_A ↦ best_B.none_better A best_A.subset best_A.placeable
+            (better A B best_A.subset best_B.subset found.0 in_A (not_in found.0 found.1 in_A) found.2)
+        | inr not_in_A ↦ best_A.none_better B best_B.subset best_B.placeable
+            (better B A best_B.subset best_A.subset found.0 (in_other found.0 found.1 not_in_A) not_in_A
+            (λ u lt differ. found.2 u lt (λ e. differ (sym e))))
       ])
       | inr agree ↦ elim (cases_lt t (task_count s)) [
         | inl number ↦ agree t number
@@ -91,7 +97,8 @@ best_is_unique s R A B bounded best_A best_B t =
       | inr not_in_B ↦ absurd (differ (not_in_A ∙ sym not_in_B))
     ]
 
-    better : (C D : TaskTest) → IsSubset C R → IsSubset D R → (d : ℕ) → C d ≡ true → D d ≡ false → ((u : ℕ) → u < task_count s → C u ≢ D u → priority_of s d ≤ priority_of s u) → IsBetter s C D
+    better : (C D : TaskTest) → IsSubset C R → IsSubset D R → (d : ℕ) → C d ≡ true → D d ≡ false
+        → ((u : ℕ) → u < task_count s → C u ≢ D u → priority_of s d ≤ priority_of s u) → IsBetter s C D
     better C D sub_C sub_D d in_C not_in_D first = record {
       task = d;
       in_first = in_C;

@@ -1,10 +1,12 @@
 -- What stays when the mask of an absent task changes, and when a processor goes off line or comes on line.
-use Rattle.std.proofs.Common.{◌≡◌, ◌≢◌, ℕ, ◌<◌, Bool, true, false, not, ◌&&◌, ◌||◌, ◌==◌, IsTrue, Some, None, refl, sym, ap, ◌∙◌, subst, inl, inr, length-set, get_or-set_same, get_or-set_other, arith, ne_eqb}
+use Rattle.std.proofs.Common.{◌≡◌, ◌≢◌, ℕ, ◌<◌, Bool, true, false, not, ◌&&◌, ◌||◌, ◌==◌, IsTrue, Some, None, refl, sym, ap, ◌∙◌, subst}
+use Rattle.std.proofs.Common.{inl, inr, length-set, get_or-set_same, get_or-set_other, arith, ne_eqb}
 use Rattle.std.proofs.lemmas.Bool.{cases_eq, true≢false, and_parts, lt-ltb}
 use Rattle.affinity_mask.specs.ProcSet.{has, empty, all_below, intersection, with_member, without_member}
 use Rattle.affinity_mask.proofs.Sets.{has-intersection, has-with_member, has-without_member, has-all_below}
 use Rattle.task_set.specs.TaskSet.{IsMask}
-use Rattle.strong_apa.specs.State.{State, IsState, task_count, task_on, is_ready, mask_of, effective_mask, state_with_mask, state_with_online, state_with_offline}
+use Rattle.strong_apa.specs.State.{State, IsState, task_count, task_on, is_ready, mask_of, effective_mask, state_with_mask}
+use Rattle.strong_apa.specs.State.{state_with_online, state_with_offline}
 
 -- ---- the mask of a task changes
 module _ (s : State) (t mask : ℕ) where
@@ -43,12 +45,17 @@ module _ (s : State) (t mask : ℕ) where
 -- ---- a processor goes off line or comes on line
 module _ (s : State) (p : ℕ) where
   pub effective_mask-offline : (u q : ℕ) → has (effective_mask (state_with_offline s p) u) q ≡ (has (effective_mask s u) q && not (q == p))
-  effective_mask-offline u q = rw (has-intersection (mask_of s u) (without_member s.online p) q, has-without_member s.online p q, has-intersection (mask_of s u) s.online q) (moved (has (mask_of s u) q) (has s.online q) (not (q == p)))
+  effective_mask-offline u q = rw (
+    has-intersection (mask_of s u) (without_member s.online p) q,
+    has-without_member s.online p q,
+    has-intersection (mask_of s u) s.online q,
+  ) (moved (has (mask_of s u) q) (has s.online q) (not (q == p)))
     where
       moved : (a b c : Bool) → (a && (b && c)) ≡ ((a && b) && c)
       moved a b c = grind arith
 
-  pub effective_mask-online : (u q : ℕ) → has (effective_mask (state_with_online s p) u) q ≡ (has (mask_of s u) q && (has s.online q || (q == p)))
+  pub effective_mask-online : (u q : ℕ) → has (effective_mask (state_with_online s p) u) q
+      ≡ (has (mask_of s u) q && (has s.online q || (q == p)))
   effective_mask-online u q = rw (has-intersection (mask_of s u) (with_member s.online p) q, has-with_member s.online p q) refl
 
   -- whoever may run on a processor that is on line may still do so
@@ -58,7 +65,8 @@ module _ (s : State) (p : ℕ) where
       rw (effective_mask-online u q, parts.0, parts.1) refl
 
   -- and, but on p, when p goes off line
-  pub effective_mask-left : (u q : ℕ) → IsTrue (has (effective_mask s u) q) → q ≢ p → IsTrue (has (effective_mask (state_with_offline s p) u) q)
+  pub effective_mask-left : (u q : ℕ) → IsTrue (has (effective_mask s u) q) → q ≢ p
+      → IsTrue (has (effective_mask (state_with_offline s p) u) q)
   effective_mask-left u q h other = rw (effective_mask-offline u q, h, ne_eqb q p other) refl
 
   module _ (ok : IsState s) where
@@ -72,7 +80,8 @@ module _ (s : State) (p : ℕ) where
       online = λ q h. ok.online q (and_parts (has s.online q) (not (q == p)) (sym (has-without_member s.online p q) ∙ h)).0;
       masks = ok.masks;
       distinct = ok.distinct;
-      allowed = λ q u on. effective_mask-left u q (ok.allowed q u on) (λ same. (let on' = subst (λ (r : ℕ). task_on s r ≡ Some u) same on in cc));
+      allowed = λ q u on. effective_mask-left u q (ok.allowed q u on)
+          (λ same. (let on' = subst (λ (r : ℕ). task_on s r ≡ Some u) same on in cc));
       once = ok.once;
       linked_ready = ok.linked_ready;
     }

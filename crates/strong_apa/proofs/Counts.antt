@@ -1,5 +1,6 @@
 -- How many numbers below n pass a test, and how a map that sends no two numbers to one compares two such counts.
-use Rattle.std.proofs.Common.{◌≡◌, ◌≢◌, ℕ, zero, suc, ◌<◌, ◌≤◌, Bool, true, false, not, ◌&&◌, [], ◌∷◌, length, length-append, nat_eq, refl, sym, ap, ◌∙◌, inl, inr, ◌⊎◌, arith, eq-eqb, ne_eqb, List, ◌++◌, ◌+◌, cond, filter}
+use Rattle.std.proofs.Common.{◌≡◌, ◌≢◌, ℕ, zero, suc, ◌<◌, ◌≤◌, Bool, true, false, not, ◌&&◌, [], ◌∷◌, length, length-append, nat_eq, refl}
+use Rattle.std.proofs.Common.{sym, ap, ◌∙◌, inl, inr, ◌⊎◌, arith, eq-eqb, ne_eqb, List, ◌++◌, ◌+◌, cond, filter}
 use Rattle.std.proofs.Math.Bool.{and-true}
 use Rattle.std.proofs.lemmas.Bool.{cases_Bool, cases_eq, and_from}
 use Rattle.affinity_mask.specs.ProcSet.{passing_below}
@@ -41,14 +42,19 @@ count_below-agree test other (suc n) agree =
     ]
 
 -- a test that passes one number more
-pub count_below-one_more : (test other : ℕ → Bool) (x n : ℕ) → x < n → test x ≡ true → other x ≡ false → ((y : ℕ) → y < n → y ≢ x → test y ≡ other y) → count_below test n ≡ suc (count_below other n)
+pub count_below-one_more : (test other : ℕ → Bool) (x n : ℕ) → x < n → test x ≡ true → other x ≡ false
+    → ((y : ℕ) → y < n → y ≢ x → test y ≡ other y) → count_below test n ≡ suc (count_below other n)
 count_below-one_more test other x zero lt h f agree = absurd (omega arith)
 count_below-one_more test other x (suc n) lt h f agree = elim (cases_eq n x) [
-  | inl e ↦ count_below-more test n (rw e h) ∙ ap (λ (k : ℕ). suc k) (count_below-agree test other n (λ y below. agree y (omega arith) (omega arith)) ∙ sym (count_below-same other n (rw e f)))
+  | inl e ↦ count_below-more test n (rw e h)
+      ∙ ap (λ (k : ℕ). suc k) (count_below-agree test other n (λ y below. agree y (omega arith) (omega arith))
+      ∙ sym (count_below-same other n (rw e f)))
   | inr ne ↦ let rest = count_below-one_more test other x n (omega arith) h f (λ y below. agree y (omega arith)) in
       elim (cases_Bool (test n)) [
-        | inl k ↦ count_below-more test n k ∙ ap (λ (k : ℕ). suc k) (rest ∙ sym (count_below-more other n (sym (agree n (omega arith) ne) ∙ k)))
-        | inr k ↦ count_below-same test n k ∙ rest ∙ ap (λ (k : ℕ). suc k) (sym (count_below-same other n (sym (agree n (omega arith) ne) ∙ k)))
+        | inl k ↦ count_below-more test n k ∙ ap (λ (k : ℕ). suc k)
+            (rest ∙ sym (count_below-more other n (sym (agree n (omega arith) ne) ∙ k)))
+        | inr k ↦ count_below-same test n k ∙ rest
+            ∙ ap (λ (k : ℕ). suc k) (sym (count_below-same other n (sym (agree n (omega arith) ne) ∙ k)))
       ]
 ]
 
@@ -59,16 +65,20 @@ pub record IsInjection (P : ℕ → Bool) (m : ℕ) (Q : ℕ → Bool) (n : ℕ)
   pub apart : (x y : ℕ) → x < m → y < m → P x ≡ true → P y ≡ true → map x ≡ map y → x ≡ y
 
 -- so there are at least as many of the latter
-pub count_below-injection : (P : ℕ → Bool) (m : ℕ) (Q : ℕ → Bool) (n : ℕ) (map : ℕ → ℕ) → IsInjection P m Q n map → count_below P m ≤ count_below Q n
+pub count_below-injection : (P : ℕ → Bool) (m : ℕ) (Q : ℕ → Bool) (n : ℕ) (map : ℕ → ℕ) → IsInjection P m Q n map
+    → count_below P m ≤ count_below Q n
 count_below-injection P zero Q n map i = rw count_below-zero (omega arith)
 count_below-injection P (suc m) Q n map i = elim (cases_Bool (P m)) [
   | inl h ↦ rw (count_below-more P m h)
       (let rest = count_below-injection P m (λ y. Q y && not (nat_eq y (map m))) n map record {
         below = λ x lt p. i.below x (omega arith) p;
-        passes = λ x lt p. and_from _ _ (i.passes x (omega arith) p) (rw (ne_eqb (map x) (map m) (λ e. let same = i.apart x m (omega arith) (omega arith) p h e in absurd (omega arith))) refl);
+        passes = λ x lt p. and_from _ _ (i.passes x (omega arith) p)
+            (rw (ne_eqb (map x) (map m) (λ e. let same = i.apart x m (omega arith) (omega arith) p h e in absurd (omega arith))) refl);
         apart = λ x y lx ly px py e. i.apart x y (omega arith) (omega arith) px py e;
       } in
-      let one_more = count_below-one_more Q (λ y. Q y && not (nat_eq y (map m))) (map m) n (i.below m (omega arith) h) (i.passes m (omega arith) h) (rw (i.passes m (omega arith) h, eq-eqb (map m) (map m) refl) refl) (λ y lt ne. rw (ne_eqb y (map m) ne) (sym (and-true (Q y)))) in
+      let one_more = count_below-one_more Q (λ y. Q y && not (nat_eq y (map m))) (map m) n (i.below m (omega arith) h)
+      (i.passes m (omega arith) h) (rw (i.passes m (omega arith) h, eq-eqb (map m) (map m) refl) refl)
+      (λ y lt ne. rw (ne_eqb y (map m) ne) (sym (and-true (Q y)))) in
       omega arith)
   | inr h ↦ rw (count_below-same P m h) (count_below-injection P m Q n map record {
     below = λ x lt p. i.below x (omega arith) p;
@@ -92,7 +102,8 @@ search_below P (suc n) decided = elim (decided n (omega arith)) [
 ]
 
 -- the numbers below n that pass a test
-pub filter_more : (test : ℕ → Bool) (n : ℕ) → filter test (range_with_len 0 (n + 1)) ≡ filter test (range_with_len 0 n) ++ cond (test n) (n ∷ []) []
+pub filter_more : (test : ℕ → Bool) (n : ℕ) → filter test (range_with_len 0 (n + 1)) ≡ filter test (range_with_len 0 n)
+    ++ cond (test n) (n ∷ []) []
 filter_more test n =
     ap (filter test) (sym (map-id (range_with_len 0 (n + 1))))
     ∙ filter_of_map_range_with_len_more test (λ k. k) 0 n n (omega arith)

@@ -36,7 +36,8 @@ same_occupant_decided o d = elim (on_decided o (λ u. u ≡ d) (λ u. cases_eq u
   | inr fails ↦ inr (λ e. fails (d, e, refl))
 ]
 
-path_decided : (Step : ℕ → ℕ → Type 0) → ((p q : ℕ) → Decided (Step p q)) → (Ends : ℕ → Type 0) → ((q : ℕ) → Decided (Ends q)) → (p : ℕ) (rest : List ℕ) → Decided ((q : ℕ) × IsPath Step p rest q × Ends q)
+path_decided : (Step : ℕ → ℕ → Type 0) → ((p q : ℕ) → Decided (Step p q)) → (Ends : ℕ → Type 0) → ((q : ℕ) → Decided (Ends q))
+    → (p : ℕ) (rest : List ℕ) → Decided ((q : ℕ) × IsPath Step p rest q × Ends q)
 path_decided Step step_decided Ends ends_decided p [] = elim (ends_decided p) [
   | inl h ↦ inl (p, refl, h)
   | inr fails ↦ inr (λ c. fails (rw c.1 c.2))
@@ -73,7 +74,8 @@ module _ (s : State) (ok : IsState s) (t : ℕ) (Ends : ℕ → Type 0) where
   chain_all_below (p ∷ rest) q c = (effective_mask_below s ok t p c.0, walk_all_below p rest q c.1)
 
   pub least_chain_exists : ((q : ℕ) → Decided (Ends q)) → (chain : List ℕ) → EndsWell chain → (least : List ℕ) × IsLeastSuch EndsWell least
-  least_chain_exists ends_decided chain h = least_exists s.processors EndsWell (chain_decided ends_decided) (λ other h'. chain_all_below other h'.0 h'.1) chain h
+  least_chain_exists ends_decided chain h =
+      least_exists s.processors EndsWell (chain_decided ends_decided) (λ other h'. chain_all_below other h'.0 h'.1) chain h
 
   pub least_chain_is_simple : (chain : List ℕ) → IsLeastSuch EndsWell chain → IsSimple chain
   least_chain_is_simple [] least = absurd least.itself.1
@@ -86,7 +88,8 @@ module _ (s : State) (ok : IsState s) (t : ℕ) (Ends : ℕ → Type 0) where
       ])
 
   pub least_chain_fits : (chain : List ℕ) → IsLeastSuch EndsWell chain → length chain ≤ 64
-  least_chain_fits chain least = let n = length-simple s.processors chain (least_chain_is_simple chain least) (chain_all_below chain least.itself.0 least.itself.1) in let m = ok.processors in omega arith
+  least_chain_fits chain least = let n = length-simple s.processors chain (least_chain_is_simple chain least)
+      (chain_all_below chain least.itself.0 least.itself.1) in let m = ok.processors in omega arith
 
 -- ---- back chains to p at whose end w can enter
 module _ (s : State) (ok : IsState s) (p w : ℕ) where
@@ -111,8 +114,10 @@ module _ (s : State) (ok : IsState s) (p w : ℕ) where
   back_chain_all_below below [] q c = absurd c
   back_chain_all_below below (first ∷ rest) q c = (rw c.0 below, back_walk_all_below p rest q c.1)
 
-  pub least_back_chain_exists : p < s.processors → (chain : List ℕ) → EntersBy s p w chain → (least : List ℕ) × IsLeastSuch (EntersBy s p w) least
-  least_back_chain_exists below chain h = least_exists s.processors (EntersBy s p w) back_chain_decided (λ other h'. back_chain_all_below below other h'.0 h'.1) chain h
+  pub least_back_chain_exists : p < s.processors → (chain : List ℕ) → EntersBy s p w chain
+      → (least : List ℕ) × IsLeastSuch (EntersBy s p w) least
+  least_back_chain_exists below chain h =
+      least_exists s.processors (EntersBy s p w) back_chain_decided (λ other h'. back_chain_all_below below other h'.0 h'.1) chain h
 
   pub least_back_chain_is_simple : (chain : List ℕ) → IsLeastSuch (EntersBy s p w) chain → IsSimple chain
   least_back_chain_is_simple [] least = absurd least.itself.1
@@ -125,7 +130,8 @@ module _ (s : State) (ok : IsState s) (p w : ℕ) where
       ]))
 
   pub least_back_chain_fits : p < s.processors → (chain : List ℕ) → IsLeastSuch (EntersBy s p w) chain → length chain ≤ 64
-  least_back_chain_fits below chain least = let n = length-simple s.processors chain (least_back_chain_is_simple chain least) (back_chain_all_below below chain least.itself.0 least.itself.1) in let m = ok.processors in omega arith
+  least_back_chain_fits below chain least = let n = length-simple s.processors chain (least_back_chain_is_simple chain least)
+      (back_chain_all_below below chain least.itself.0 least.itself.1) in let m = ok.processors in omega arith
 
 -- ---- the three properties for which a least chain is chosen
 pub least_chain_to_idle : LeastChainToIdle

@@ -8,7 +8,8 @@ abbrev pub FirstBelow : (ℕ → Type 0) → (ℕ → ℕ → Type 0) → ℕ �
 FirstBelow P Before n = ((x : ℕ) × (x < n) × P x × ((y : ℕ) → y < n → P y → Before x y)) ⊎ ((y : ℕ) → y < n → P y → ⊥)
 
 module _ (P : ℕ → Type 0) (decided : (x : ℕ) → Decided (P x)) where
-  module _ (Before : ℕ → ℕ → Type 0) (total : (x y : ℕ) → Before x y ⊎ Before y x) (transitive : (x y z : ℕ) → Before x y → Before y z → Before x z) where
+  module _ (Before : ℕ → ℕ → Type 0) (total : (x y : ℕ) → Before x y ⊎ Before y x) (transitive : (x y z : ℕ) → Before x y → Before y z
+      → Before x z) where
     before_itself : (x : ℕ) → Before x x
     before_itself x = elim (total x x) [ inl h ↦ h | inr h ↦ h ]
 
@@ -26,9 +27,16 @@ module _ (P : ℕ → Type 0) (decided : (x : ℕ) → Decided (P x)) where
         go : FirstBelow P Before n → Decided (P n) → FirstBelow P Before (suc n)
         go (inl found) (inl here) = elim (total found.0 n) [
           | inl stays ↦ inl (found.0, (let lt = found.1 in omega arith), found.2, upto n (Before found.0) found.3 (λ h. stays))
-          | inr new ↦ inl (n, omega arith, here, upto n (Before n) (λ y lt h. transitive n found.0 y new (found.3 y lt h)) (λ h. before_itself n))
+          | inr new ↦ inl (
+            n,
+            omega arith,
+            here,
+            upto n (Before n) (λ y lt h. transitive n found.0 y new (found.3 y lt h))
+                (λ h. before_itself n),
+          )
         ]
-        go (inl found) (inr fails) = inl (found.0, (let lt = found.1 in omega arith), found.2, upto n (Before found.0) found.3 (λ h. absurd (fails h)))
+        go (inl found) (inr fails) =
+            inl (found.0, (let lt = found.1 in omega arith), found.2, upto n (Before found.0) found.3 (λ h. absurd (fails h)))
         go (inr none) (inl here) = inl (n, omega arith, here, upto n (Before n) (λ y lt h. absurd (none y lt h)) (λ h. before_itself n))
         go (inr none) (inr fails) = inr (upto n (λ y. ⊥) none fails)
 

@@ -48,7 +48,8 @@ module _ (s : State) (ok : IsState s) (certificates : HasCertificates s) where
       urgent : priority_of s task ≤ bound
       there : IsTrue (has (set_of task) p)
 
-    inside_by_task : (p t : ℕ) → (IsWaiting s t × (priority_of s t ≤ bound) × IsTrue (has (set_of t) p)) ⊎ (IsWaiting s t × (priority_of s t ≤ bound) × IsTrue (has (set_of t) p) → ⊥)
+    inside_by_task : (p t : ℕ) → (IsWaiting s t × (priority_of s t ≤ bound) × IsTrue (has (set_of t) p))
+        ⊎ (IsWaiting s t × (priority_of s t ≤ bound) × IsTrue (has (set_of t) p) → ⊥)
     inside_by_task p t = elim (waiting_decided s t) [
       | inl waits ↦ elim (cases_lt bound (priority_of s t)) [
         | inl late ↦ inr (λ h. let le = h.1 in omega arith)
@@ -61,10 +62,12 @@ module _ (s : State) (ok : IsState s) (certificates : HasCertificates s) where
     ]
 
     inside_decided : (p : ℕ) → IsInside p ⊎ (IsInside p → ⊥)
-    inside_decided p = elim (search_below (λ t. IsWaiting s t × (priority_of s t ≤ bound) × IsTrue (has (set_of t) p)) (task_count s) (λ t lt. inside_by_task p t)) [
-      | inl found ↦ inl record { task = found.0; waits = found.2.0; urgent = found.2.1; there = found.2.2 }
-      | inr none ↦ inr (λ inside. none inside.task (ready_number s ok inside.task inside.waits.ready) (inside.waits, inside.urgent, inside.there))
-    ]
+    inside_decided p = elim (search_below (λ t. IsWaiting s t × (priority_of s t ≤ bound) × IsTrue (has (set_of t) p)) (task_count s)
+        (λ t lt. inside_by_task p t)) [
+          | inl found ↦ inl record { task = found.0; waits = found.2.0; urgent = found.2.1; there = found.2.2 }
+          | inr none ↦ inr (λ inside. none inside.task (ready_number s ok inside.task inside.waits.ready)
+              (inside.waits, inside.urgent, inside.there))
+        ]
 
     -- inside, each processor has a task that is as urgent as the bound, and whose mask stays inside
     record HasOccupant (p : ℕ) : Type 0 where
@@ -90,7 +93,13 @@ module _ (s : State) (ok : IsState s) (certificates : HasCertificates s) where
         | inl linked ↦ linked
         | inr not_linked ↦
             let waits : IsWaiting s t = record { ready = subset t in_B; not_linked = not_linked } in
-            absurd (outside record { task = t; waits = waits; urgent = urgent; there = (certified_by t waits).within (place t) (placed.allowed t in_B) })
+            absurd (outside record {
+              task = t;
+              waits = waits;
+              urgent = urgent;
+              there = (certified_by t waits).within (place t)
+                  (placed.allowed t in_B);
+            })
       ]
 
       -- a linked task for each task of B: the occupant of its place inside, itself outside
@@ -127,19 +136,25 @@ module _ (s : State) (ok : IsState s) (certificates : HasCertificates s) where
       partners_differ : (t u : ℕ) → B t ≡ true → B u ≡ true → (a b : ℕ) → IsPartner t a → IsPartner u b → a ≡ b → t ≡ u
       partners_differ t u in_B in_B' a b p q e = go p.which q.which
         where
-          go : (IsInside (place t) × (task_on s (place t) ≡ Some a)) ⊎ ((IsInside (place t) → ⊥) × (a ≡ t)) → (IsInside (place u) × (task_on s (place u) ≡ Some b)) ⊎ ((IsInside (place u) → ⊥) × (b ≡ u)) → t ≡ u
+          go : (IsInside (place t) × (task_on s (place t) ≡ Some a)) ⊎ ((IsInside (place t) → ⊥) × (a ≡ t))
+              → (IsInside (place u) × (task_on s (place u) ≡ Some b)) ⊎ ((IsInside (place u) → ⊥) × (b ≡ u)) → t ≡ u
           go (inl x) (inl y) = placed.apart t u in_B in_B' (ok.once (place t) (place u) b (rw e at x.1) y.1)
           go (inl x) (inr y) = absurd (y.0 (put_inside t u x.0 (x.1 ∙ ap (λ (n : ℕ). Some n) (e ∙ y.1)) in_B'))
           go (inr x) (inl y) = absurd (x.0 (put_inside u t y.0 (y.1 ∙ ap (λ (n : ℕ). Some n) (sym e ∙ x.1)) in_B))
           go (inr x) (inr y) = sym x.1 ∙ e ∙ y.1
 
-      partners : IsInjection (λ t. B t && nat_le (priority_of s t) bound) (task_count s) (λ t. is_linked s t && nat_le (priority_of s t) bound) (task_count s) partner
+      partners : IsInjection (λ t. B t && nat_le (priority_of s t) bound) (task_count s)
+          (λ t. is_linked s t && nat_le (priority_of s t) bound) (task_count s) partner
       partners = record {
-        below = λ t lt h. let u = is_partner t (and_parts _ _ h).0 (leb-true _ _ (and_parts _ _ h).1) in linked_number s (place_in (partner t) s.on) (partner t) ok (task_on-linked s (partner t) u.linked);
-        passes = λ t lt h. let u = is_partner t (and_parts _ _ h).0 (leb-true _ _ (and_parts _ _ h).1) in and_from _ _ u.linked (le-leb _ _ u.urgent);
+        below = λ t lt h. let u = is_partner t (and_parts _ _ h).0 (leb-true _ _ (and_parts _ _ h).1) in
+            linked_number s (place_in (partner t) s.on) (partner t) ok (task_on-linked s (partner t) u.linked);
+        passes = λ t lt h. let u = is_partner t (and_parts _ _ h).0 (leb-true _ _ (and_parts _ _ h).1) in
+            and_from _ _ u.linked (le-leb _ _ u.urgent);
         apart = λ t u lt lu h k. partners_differ t u (and_parts _ _ h).0 (and_parts _ _ k).0 (partner t) (partner u)
-            (is_partner t (and_parts _ _ h).0 (leb-true _ _ (and_parts _ _ h).1)) (is_partner u (and_parts _ _ k).0 (leb-true _ _ (and_parts _ _ k).1));
+            (is_partner t (and_parts _ _ h).0 (leb-true _ _ (and_parts _ _ h).1))
+            (is_partner u (and_parts _ _ k).0 (leb-true _ _ (and_parts _ _ k).1));
       }
 
 pub linked_keeps_up : HoldsWhereCertified LinkedKeepsUp
-linked_keeps_up s ok certificates B subset placeable bound = count_below-injection _ _ _ _ _ (partners s ok certificates bound B subset placeable.0 placeable.1)
+linked_keeps_up s ok certificates B subset placeable bound =
+    count_below-injection _ _ _ _ _ (partners s ok certificates bound B subset placeable.0 placeable.1)

@@ -1,5 +1,6 @@
 -- What stays when a processor becomes idle.
-use Rattle.std.proofs.Common.{◌≡◌, ◌≢◌, ℕ, zero, suc, List, [], ◌∷◌, get_or, set, Option, Some, None, refl, sym, ◌∙◌, inl, inr, length-set, get_or-set_other}
+use Rattle.std.proofs.Common.{◌≡◌, ◌≢◌, ℕ, zero, suc, List, [], ◌∷◌, get_or, set, Option, Some, None, refl, sym, ◌∙◌, inl, inr, length-set}
+use Rattle.std.proofs.Common.{get_or-set_other}
 use Rattle.std.proofs.lemmas.Bool.{cases_eq}
 use Rattle.strong_apa.specs.State.{State, IsState, IsWaiting, task_on, state_with_idle}
 use Rattle.strong_apa.proofs.Linked.{not_linked-from_on}
@@ -25,7 +26,8 @@ task_on-state_with_idle s p q t e = elim (cases_eq q p) [
 pub IsWaiting-state_with_idle : (s : State) → IsState s → (p t : ℕ) → task_on s p ≡ Some t → IsWaiting (state_with_idle s p) t
 IsWaiting-state_with_idle s ok p t e = record {
   ready = ok.linked_ready p t e;
-  not_linked = not_linked-from_on (state_with_idle s p) t (λ q f. let before = task_on-state_with_idle s p q t f in before.1 (ok.once q p t before.0 e));
+  not_linked = not_linked-from_on (state_with_idle s p) t
+      (λ q f. let before = task_on-state_with_idle s p q t f in before.1 (ok.once q p t before.0 e));
 }
 
 pub IsState-state_with_idle : (s : State) → IsState s → (p : ℕ) → IsState (state_with_idle s p)

@@ -34,7 +34,10 @@ no_improving_chain s certified t chain improving = elim improving.better [
     certificate = (certified t improving.waits).1
 
     occupant : (q : ℕ) → IsChainOf s t chain q → (u : ℕ) × (task_on s q ≡ Some u) × (priority_of s u < priority_of s t)
-    occupant q c = let o = certificate.occupied q (chain_inside s set (IsCertificate-closed s t set certificate) t certificate.within chain q c) in (o.0, o.1, o.2)
+    occupant q c = let o = certificate.occupied q
+        (chain_inside s set (IsCertificate-closed s t set certificate) t certificate.within chain q c) in (o.0, o.1, o.2)
 
-pub passing_has_no_improving_chain : (set : SetData) → IsTaskSet set → (history : List Entry) → IsPassing set history → HasNoImprovingChainThroughout set history
-passing_has_no_improving_chain set valid_set history passing n within = no_improving_chain (state_at set history n) (passing_is_certified set valid_set history passing n within).1
+pub passing_has_no_improving_chain : (set : SetData) → IsTaskSet set → (history : List Entry) → IsPassing set history
+    → HasNoImprovingChainThroughout set history
+passing_has_no_improving_chain set valid_set history passing n within =
+    no_improving_chain (state_at set history n) (passing_is_certified set valid_set history passing n within).1

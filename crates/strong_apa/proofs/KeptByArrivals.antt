@@ -24,7 +24,8 @@ others_have s certificates t v h other =
     let old = certificates v record { ready = sym (get_or-set_other s.ready t v true false other) ∙ h.ready; not_linked = h.not_linked } in
     (old.0, record { within = old.1.within; occupied = old.1.occupied })
 
-module _ (s : State) (ok : IsState s) (certificates : HasCertificates s) (t : ℕ) (number : t < task_count s) (absent : is_ready s t ≡ false) where
+module _ (s : State) (ok : IsState s) (certificates : HasCertificates s) (t : ℕ) (number : t < task_count s)
+    (absent : is_ready s t ≡ false) where
   kept_by_placed : (chain : List ℕ) → PlacedPasses s t chain → HasCertificates (state_after_shift (state_with_ready s t) t chain)
   kept_by_placed chain passes =
       let end = passes.ends in
@@ -46,9 +47,11 @@ module _ (s : State) (ok : IsState s) (certificates : HasCertificates s) (t : �
     kept_by_displaced : HasCertificates (state_after_shift (state_with_ready s t) t chain)
     kept_by_displaced =
         let end = passes.ends in
-        kept_by_displacing (state_with_ready s t) (IsState-state_with_ready s ok t number) t (IsWaiting-state_with_ready s ok t number absent)
+        kept_by_displacing (state_with_ready s t) (IsState-state_with_ready s ok t number) t
+        (IsWaiting-state_with_ready s ok t number absent)
         chain end.0 (IsChainOf-state_with_ready s t chain end.0 end.1) passes.simple (others_have s certificates t)
-        reach displacing_closed passes.mask (λ p inside. let occupant = passes.full p inside in (occupant.0, occupant.1)) out end.2 least_urgent_out passes.out_less_urgent
+        reach displacing_closed passes.mask (λ p inside. let occupant = passes.full p inside in (occupant.0, occupant.1))
+        out end.2 least_urgent_out passes.out_less_urgent
 
     -- the set certifies the displaced task, which waits then
     displaced_justification : WaitsBehind (state_after_shift (state_with_ready s t) t chain) out reach
@@ -56,7 +59,8 @@ module _ (s : State) (ok : IsState s) (certificates : HasCertificates s) (t : �
         let end = passes.ends in
         certified_out (state_with_ready s t) (IsState-state_with_ready s ok t number) t (IsWaiting-state_with_ready s ok t number absent)
         chain end.0 (IsChainOf-state_with_ready s t chain end.0 end.1) passes.simple
-        reach displacing_closed passes.mask (λ p inside. let occupant = passes.full p inside in (occupant.0, occupant.1)) out end.2 least_urgent_out passes.out_less_urgent
+        reach displacing_closed passes.mask (λ p inside. let occupant = passes.full p inside in (occupant.0, occupant.1))
+        out end.2 least_urgent_out passes.out_less_urgent
 
   -- t waits behind the set
   waits_justification : (reach : ℕ) → IsCertificate s t reach → WaitsBehind (state_with_ready s t) t reach
@@ -67,7 +71,11 @@ module _ (s : State) (ok : IsState s) (certificates : HasCertificates s) (t : �
 
   kept_by_waits : (reach : ℕ) → IsCertificate s t reach → HasCertificates (state_with_ready s t)
   kept_by_waits reach passes v h = elim (cases_eq v t) [
-    | inl same ↦ (reach, subst (λ (z : ℕ). IsCertificate (state_with_ready s t) z reach) (sym same) (waits_justification reach passes).certified)
+    | inl same ↦ (
+      reach,
+      subst (λ (z : ℕ). IsCertificate (state_with_ready s t) z reach) (sym same)
+          (waits_justification reach passes).certified,
+    )
     | inr other ↦ others_have s certificates t v h other
   ]
 

@@ -6,7 +6,8 @@ use Rattle.std.proofs.lemmas.Bool.{true≢false, and_parts, and_from, or_cases, 
 use Rattle.affinity_mask.specs.ProcSet.{has, with_member, without_member, Within}
 use Rattle.affinity_mask.proofs.Sets.{has-intersection, has-with_member, has-without_member}
 use Rattle.strong_apa.specs.declared.reply.Gone.{Gone}
-use Rattle.strong_apa.specs.State.{State, IsState, is_ready, mask_of, effective_mask, task_on, state_with_mask, state_with_online, state_with_offline}
+use Rattle.strong_apa.specs.State.{State, IsState, is_ready, mask_of, effective_mask, task_on, state_with_mask, state_with_online}
+use Rattle.strong_apa.specs.State.{state_with_offline}
 use Rattle.strong_apa.specs.History.{state_after_gone}
 use Rattle.strong_apa.proofs.Changes.{IsState-state_with_online, effective_mask-other, occupant_is_other}
 use Rattle.strong_apa.proofs.Masks.{effective_mask_online}
@@ -16,15 +17,21 @@ use Rattle.strong_apa.specs.Passing.{GonePasses}
 use Rattle.strong_apa.proofs.KeptByFilling.{kept_by_filling, filling_justified}
 
 -- the mask of an absent task changes
-pub kept_by_mask : (s : State) → IsState s → HasCertificates s → (t mask : ℕ) → is_ready s t ≡ false → HasCertificates (state_with_mask s t mask)
+pub kept_by_mask : (s : State) → IsState s → HasCertificates s → (t mask : ℕ) → is_ready s t ≡ false
+    → HasCertificates (state_with_mask s t mask)
 kept_by_mask s ok certificates t mask absent v h =
     let old = certificates v record { ready = h.ready; not_linked = h.not_linked } in (
       old.0,
       record {
         within = same_mask v old.0 (λ same. true≢false (sym h.ready ∙ ap (is_ready s) same ∙ absent)) old.1.within;
         occupied = λ q inside.
-            let occupant = old.1.occupied q inside in
-            (occupant.0, occupant.1, occupant.2, same_mask occupant.0 old.0 (occupant_is_other s t mask ok absent q occupant.0 occupant.1) occupant.3);
+            let occupant = old.1.occupied q inside in (
+              occupant.0,
+              occupant.1,
+              occupant.2,
+              same_mask occupant.0 old.0 (occupant_is_other s t mask ok absent q occupant.0 occupant.1)
+                  occupant.3,
+            );
       },
     )
   where
@@ -51,7 +58,8 @@ kept_by_fewer s online fewer certificates v h =
 
 -- a processor goes off line
 pub kept_by_offline : (s : State) → HasCertificates s → (p : ℕ) → HasCertificates (state_with_offline s p)
-kept_by_offline s certificates p = kept_by_fewer s (without_member s.online p) (λ q inside. (and_parts (has s.online q) (not (nat_eq q p)) (sym (has-without_member s.online p q) ∙ inside)).0) certificates
+kept_by_offline s certificates p = kept_by_fewer s (without_member s.online p)
+    (λ q inside. (and_parts (has s.online q) (not (nat_eq q p)) (sym (has-without_member s.online p q) ∙ inside)).0) certificates
 
 -- ---- a processor comes on line
 -- where it does not count, nothing has changed
@@ -60,7 +68,8 @@ kept_without_new s certificates p = kept_by_fewer s (without_member (with_member
   where
     fewer : Within (without_member (with_member s.online p) p) s.online
     fewer q inside =
-        let parts = and_parts (has (with_member s.online p) q) (not (nat_eq q p)) (sym (has-without_member (with_member s.online p) p q) ∙ inside) in
+        let parts = and_parts (has (with_member s.online p) q) (not (nat_eq q p)) (sym (has-without_member (with_member s.online p) p q)
+        ∙ inside) in
         elim (or_cases (has s.online q) (nat_eq q p) (sym (has-with_member s.online p q) ∙ parts.0)) [
           | inl there ↦ there
           | inr same ↦ absurd (true≢false (sym same ∙ not-true (nat_eq q p) parts.1))
@@ -74,9 +83,12 @@ nobody_off s ok p off = of_occupant (task_on s p) refl
     of_occupant None e = e
     of_occupant (Some u) e = absurd (true≢false (sym (effective_mask_online s u p (ok.allowed p u e)) ∙ off))
 
-module _ (s : State) (ok : IsState s) (p : ℕ) (number : p < s.processors) (off : has s.online p ≡ false) (parts : Gone) (passes : GonePasses (state_with_online s p) p parts) where
+module _ (s : State) (ok : IsState s) (p : ℕ) (number : p < s.processors) (off : has s.online p ≡ false) (parts : Gone)
+    (passes : GonePasses (state_with_online s p) p parts) where
   pub kept_by_online : HasCertificates s → HasCertificates (state_after_gone (state_with_online s p) parts)
-  kept_by_online certificates = kept_by_filling (state_with_online s p) (IsState-state_with_online s p ok number) p (nobody_off s ok p off) (kept_without_new s certificates p) parts passes
+  kept_by_online certificates = kept_by_filling (state_with_online s p) (IsState-state_with_online s p ok number) p (nobody_off s ok p off)
+      (kept_without_new s certificates p) parts passes
 
   pub online_justified : LeavesNobody (state_after_gone (state_with_online s p) parts) parts.entered parts.back
-  online_justified = filling_justified (state_with_online s p) (IsState-state_with_online s p ok number) p (nobody_off s ok p off) parts passes
+  online_justified =
+      filling_justified (state_with_online s p) (IsState-state_with_online s p ok number) p (nobody_off s ok p off) parts passes

@@ -1,10 +1,12 @@
 -- What certificates become when a task becomes absent: those of the others stay, but for the processor that it leaves.
-use Rattle.std.proofs.Common.{◌≡◌, ◌≢◌, ℕ, ◌<◌, true, false, not, length, nat_eq, Some, sym, ap, ◌∙◌, get_or-set_same, get_or-set_other, eq-eqb}
+use Rattle.std.proofs.Common.{◌≡◌, ◌≢◌, ℕ, ◌<◌, true, false, not, length, nat_eq, Some, sym, ap, ◌∙◌, get_or-set_same, get_or-set_other}
+use Rattle.std.proofs.Common.{eq-eqb}
 use Rattle.std.proofs.lemmas.Bool.{true≢false, and_parts, and_from, not-true}
 use Rattle.affinity_mask.specs.ProcSet.{has, without_member, Within}
 use Rattle.affinity_mask.proofs.Sets.{has-without_member}
 use Rattle.strong_apa.specs.declared.reply.Gone.{Gone}
-use Rattle.strong_apa.specs.State.{State, IsState, IsWaiting, is_ready, task_count, task_on, effective_mask, state_with_absent, state_with_offline, state_after_leaving}
+use Rattle.strong_apa.specs.State.{State, IsState, IsWaiting, is_ready, task_count, task_on, effective_mask, state_with_absent}
+use Rattle.strong_apa.specs.State.{state_with_offline, state_after_leaving}
 use Rattle.strong_apa.specs.History.{state_after_gone}
 use Rattle.strong_apa.proofs.Changes.{effective_mask-offline}
 use Rattle.strong_apa.proofs.Leaving.{task_on-stays, task_on-left, IsState-state_after_leaving}
@@ -45,9 +47,11 @@ module _ (s : State) (ok : IsState s) (certificates : HasCertificates s) (t : �
     stays : (p u : ℕ) → p ≢ place → task_on s p ≡ Some u → task_on left p ≡ Some u
     stays p u elsewhere on = task_on-stays s t p u on (λ same. elsewhere (ok.once p place t (on ∙ ap (λ (n : ℕ). Some n) same) linked))
 
-    within_without : (u X : ℕ) → Within (effective_mask s u) X → Within (effective_mask (state_with_offline left place) u) (without_member X place)
+    within_without : (u X : ℕ) → Within (effective_mask s u) X
+        → Within (effective_mask (state_with_offline left place) u) (without_member X place)
     within_without u X within q allowed =
-        let parts = and_parts (has (effective_mask left u) q) (not (nat_eq q place)) (sym (effective_mask-offline left place u q) ∙ allowed) in
+        let parts = and_parts (has (effective_mask left u) q) (not (nat_eq q place))
+        (sym (effective_mask-offline left place u q) ∙ allowed) in
         has-without_member X place q ∙ and_from (has X q) (not (nat_eq q place)) (within q parts.0) parts.1
 
     -- where the processor does not count, each has the certificate that it had, without the processor
@@ -70,7 +74,9 @@ module _ (s : State) (ok : IsState s) (certificates : HasCertificates s) (t : �
 
     -- who comes in at its processor
     pub kept_by_gone : (gone : Gone) → GonePasses left place gone → HasCertificates (state_after_gone left gone)
-    kept_by_gone gone passes = kept_by_filling left (IsState-state_after_leaving s ok t) place (task_on-left s t place linked) kept_without gone passes
+    kept_by_gone gone passes =
+        kept_by_filling left (IsState-state_after_leaving s ok t) place (task_on-left s t place linked) kept_without gone passes
 
     pub gone_justified : (gone : Gone) → GonePasses left place gone → LeavesNobody (state_after_gone left gone) gone.entered gone.back
-    gone_justified gone passes = filling_justified left (IsState-state_after_leaving s ok t) place (task_on-left s t place linked) gone passes
+    gone_justified gone passes =
+        filling_justified left (IsState-state_after_leaving s ok t) place (task_on-left s t place linked) gone passes

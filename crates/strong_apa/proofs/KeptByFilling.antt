@@ -2,9 +2,11 @@
 -- state in which the processor does not count. Afterwards each has one again, by whatever chain somebody comes in. Where a
 -- task may run on no processor of the set, into which no shift leads, the part of its certificate outside that set is one
 -- still. Where it may, and a more urgent task comes in, the certificates of both and the processor, taken together, are one.
-use Rattle.std.proofs.Common.{◌≡◌, ◌≢◌, ℕ, ◌+◌, ◌%◌, ◌<◌, min, false, not, ◌&&◌, List, reverse, bit_or, bit_and, bit_xor, nat_eq, Option, Some, None, refl, sym, ap, ◌∙◌, subst, inl, inr, ◌⊎◌, IsTrue, arith, le_antisymm, eq-eqb, eqb-true}
+use Rattle.std.proofs.Common.{◌≡◌, ◌≢◌, ℕ, ◌+◌, ◌%◌, ◌<◌, min, false, not, ◌&&◌, List, reverse, bit_or, bit_and, bit_xor, nat_eq, Option}
+use Rattle.std.proofs.Common.{Some, None, refl, sym, ap, ◌∙◌, subst, inl, inr, ◌⊎◌, IsTrue, arith, le_antisymm, eq-eqb, eqb-true}
 use Rattle.std.specs.Int.{bit_at}
-use Rattle.std.proofs.lemmas.Bool.{cases_eq, cases_lt, cases_Bool, true≢false, and_parts, and_from, and_right, or_left, or_right, or_cases, not-true, not_from_false}
+use Rattle.std.proofs.lemmas.Bool.{cases_eq, cases_lt, cases_Bool, true≢false, and_parts, and_from, and_right, or_left, or_right, or_cases}
+use Rattle.std.proofs.lemmas.Bool.{not-true, not_from_false}
 use Rattle.std.proofs.lemmas.Option.{same_Some}
 use Rattle.std.proofs.lemmas.Nat.Bits.{bit_at_xor, bit_at_and, bit_at-lt}
 use Rattle.affinity_mask.specs.ProcSet.{has, with_member, Within}
@@ -41,7 +43,8 @@ odd_of x y p q = elim (cases_lt x 1) [
 
 pub has-difference : (X Y q : ℕ) → has (difference X Y) q ≡ (has X q && not (has Y q))
 unfolding has
-has-difference X Y q = rw (bit_at_xor X (bit_and X Y) q, bit_at_and X Y q) (odd_of (bit_at X q) (bit_at Y q) (bit_at-lt X q) (bit_at-lt Y q))
+has-difference X Y q =
+    rw (bit_at_xor X (bit_and X Y) q, bit_at_and X Y q) (odd_of (bit_at X q) (bit_at Y q) (bit_at-lt X q) (bit_at-lt Y q))
 
 -- p has become idle in s, and where it does not count, each waiting task has a certificate
 module _ (s : State) (ok : IsState s) (p : ℕ) (idle : task_on s p ≡ None) (certificates : HasCertificates (state_with_offline s p)) where
@@ -72,7 +75,8 @@ module _ (s : State) (ok : IsState s) (p : ℕ) (idle : task_on s p ≡ None) (c
     outside_differs q outside same = outside (subst (λ (r : ℕ). IsTrue (has back r)) (sym same) back_first)
 
     -- the part of a certificate outside the set, of a task that may not run in it
-    certificate_less_back : (v X : ℕ) → IsCertificate without v X → ((q : ℕ) → IsTrue (has back q) → CanEnterAt s v q → ⊥) → IsCertificate s v (difference X back)
+    certificate_less_back : (v X : ℕ) → IsCertificate without v X → ((q : ℕ) → IsTrue (has back q) → CanEnterAt s v q → ⊥)
+        → IsCertificate s v (difference X back)
     certificate_less_back v X certificate cannot_enter = record {
       within = λ q allowed.
           let outside : IsTrue (has back q) → ⊥ = λ in_back. cannot_enter q in_back allowed in
@@ -84,16 +88,18 @@ module _ (s : State) (ok : IsState s) (p : ℕ) (idle : task_on s p ≡ None) (c
             occupant.1,
             occupant.2,
             λ r allowed.
-                let outside : IsTrue (has back r) → ⊥ = λ in_back. true≢false (sym (back_next q r in_back (occupant.0, occupant.1, allowed)) ∙ not-true (has back q) parts.1) in
+                let outside : IsTrue (has back r) → ⊥ = λ in_back. true≢false (sym (back_next q r in_back (occupant.0, occupant.1, allowed))
+                ∙ not-true (has back q) parts.1) in
                 still_in r (occupant.3 r (effective_mask-left s p occupant.0 r allowed (outside_differs r outside))) outside,
           );
     }
       where
         still_in : (q : ℕ) → IsTrue (has X q) → (IsTrue (has back q) → ⊥) → IsTrue (has (difference X back) q)
-        still_in q inside outside = has-difference X back q ∙ and_from (has X q) (not (has back q)) inside (not_from_false (has back q) (elim (cases_Bool (has back q)) [
-          | inl h ↦ absurd (outside h)
-          | inr h ↦ h
-        ]))
+        still_in q inside outside = has-difference X back q
+            ∙ and_from (has X q) (not (has back q)) inside (not_from_false (has back q) (elim (cases_Bool (has back q)) [
+              | inl h ↦ absurd (outside h)
+              | inr h ↦ h
+            ]))
 
     kept_by_nobody : IsNobodyInto s back → HasCertificates s
     kept_by_nobody nobody_enters v h =
@@ -101,12 +107,16 @@ module _ (s : State) (ok : IsState s) (p : ℕ) (idle : task_on s p ≡ None) (c
         (difference old.0 back, certificate_less_back v old.0 old.1 (λ q in_back allowed. nobody_enters v q h in_back allowed))
 
     -- w enters, and is shifted along a chain to p
-    module _ (w : ℕ) (entering : IsMostUrgentInto s back w) (chain : List ℕ) (is_chain : IsChainOf s w chain p) (simple : IsSimple chain) where
+    module _ (w : ℕ) (entering : IsMostUrgentInto s back w) (chain : List ℕ) (is_chain : IsChainOf s w chain p)
+        (simple : IsSimple chain) where
       -- a less urgent task
-      certificate_with : (v X Y : ℕ) → IsCertificate without v X → IsCertificate without w Y → IsMoreUrgent s w v → IsCertificate (state_after_shift s w chain) v (bit_or (with_member X p) (with_member Y p))
+      certificate_with : (v X Y : ℕ) → IsCertificate without v X → IsCertificate without w Y → IsMoreUrgent s w v
+          → IsCertificate (state_after_shift s w chain) v (bit_or (with_member X p) (with_member Y p))
       certificate_with v X Y of_v of_w urgent =
-          certificate_joined s ok w entering.waits chain p is_chain simple (with_member Y p) closed (within_with w Y of_w.within) v (with_member X p) (within_with v X of_v.within) alone
-          (full_then s ok w entering.waits chain p is_chain simple (with_member Y p) closed (within_with w Y of_w.within) v occupied urgent (λ y u inside on _. more_urgent y u inside on))
+          certificate_joined s ok w entering.waits chain p is_chain simple (with_member Y p) closed (within_with w Y of_w.within) v
+          (with_member X p) (within_with v X of_v.within) alone
+          (full_then s ok w entering.waits chain p is_chain simple (with_member Y p) closed (within_with w Y of_w.within) v occupied urgent
+          (λ y u inside on _. more_urgent y u inside on))
         where
           closed : IsClosed s (with_member Y p)
           closed q u inside on = elim (from_with Y q inside) [
@@ -117,7 +127,8 @@ module _ (s : State) (ok : IsState s) (p : ℕ) (idle : task_on s p ≡ None) (c
           -- a processor of X alone is not p
           alone : (q : ℕ) → IsTrue (has (with_member X p) q) → has (with_member Y p) q ≡ false → IsHeldAgainst s v (with_member X p) q
           alone q inside outside = elim (from_with X q inside) [
-            | inl there ↦ (let occupant = of_v.occupied q there in (occupant.0, occupant.1, occupant.2, within_with occupant.0 X occupant.3))
+            | inl there ↦ (let occupant = of_v.occupied q there in
+                (occupant.0, occupant.1, occupant.2, within_with occupant.0 X occupant.3))
             | inr same ↦ absurd (true≢false (sym (in_with Y q (λ other. absurd (other same))) ∙ outside))
           ]
 
@@ -131,14 +142,16 @@ module _ (s : State) (ok : IsState s) (p : ℕ) (idle : task_on s p ≡ None) (c
           more_urgent y u inside on = elim (from_with Y y inside) [
             | inl there ↦ (
                 let occupant = of_w.occupied y there in
-                let lt : IsMoreUrgent s u w = subst (λ (z : ℕ). IsMoreUrgent s z w) (same_Some occupant.0 u (sym occupant.1 ∙ on)) occupant.2 in
+                let lt : IsMoreUrgent s u w = subst (λ (z : ℕ). IsMoreUrgent s z w) (same_Some occupant.0 u (sym occupant.1 ∙ on))
+                occupant.2 in
                 omega arith
                 )
             | inr same ↦ absurd (let nobody : task_on s y ≡ None = ap (task_on s) same ∙ idle in cc)
           ]
 
       -- a more urgent task, which cannot enter
-      certificate_apart : (v X : ℕ) → IsCertificate without v X → ((q : ℕ) → IsTrue (has back q) → CanEnterAt s v q → ⊥) → IsCertificate (state_after_shift s w chain) v (difference X back)
+      certificate_apart : (v X : ℕ) → IsCertificate without v X → ((q : ℕ) → IsTrue (has back q) → CanEnterAt s v q → ⊥)
+          → IsCertificate (state_after_shift s w chain) v (difference X back)
       certificate_apart v X certificate cannot_enter =
           certificate_past s ok w entering.waits chain p is_chain simple v (difference X back)
           (certificate_less_back v X certificate cannot_enter)
@@ -152,34 +165,43 @@ module _ (s : State) (ok : IsState s) (p : ℕ) (idle : task_on s p ≡ None) (c
                 let of_v = certificate_without v waits in
                 let of_w = certificate_without w entering.waits in
                 elim (cases_lt (priority_of s w) (priority_of s v)) [
-                  | inl urgent ↦ (bit_or (with_member of_v.0 p) (with_member of_w.0 p), certificate_with v of_v.0 of_w.0 of_v.1 of_w.1 urgent)
+                  | inl urgent ↦ (
+                    bit_or (with_member of_v.0 p) (with_member of_w.0 p),
+                    certificate_with v of_v.0 of_w.0 of_v.1 of_w.1 urgent,
+                  )
                   | inr as_late ↦ (
                     difference of_v.0 back,
                     certificate_apart v of_v.0 of_v.1 (λ q in_back allowed.
                         let first = entering.most_urgent v q waits in_back allowed in
-                        before.0 (ok.distinct v w (ready_number s ok v waits.ready) (ready_number s ok w entering.waits.ready) (le_antisymm as_late first))),
+                        before.0 (ok.distinct v w (ready_number s ok v waits.ready) (ready_number s ok w entering.waits.ready)
+                        (le_antisymm as_late first))),
                   )
                 ]
             | inr out ↦ absurd (let nobody = idle in cc)
           ]
 
-    kept_by_entry : (entered : Option ℕ) (chain : List ℕ) → EnteringPasses s p entered chain back → HasCertificates (state_after_entering s entered chain)
+    kept_by_entry : (entered : Option ℕ) (chain : List ℕ) → EnteringPasses s p entered chain back
+        → HasCertificates (state_after_entering s entered chain)
     kept_by_entry None chain enters = kept_by_nobody enters.0
-    kept_by_entry (Some w) chain enters = let end = enters.1 in kept_by_entering w enters.0 (reverse chain) (IsChainOf-reverse s p w chain end.0 end.1 end.2) (IsSimple-reverse chain enters.2)
+    kept_by_entry (Some w) chain enters = let end = enters.1 in kept_by_entering w enters.0 (reverse chain)
+        (IsChainOf-reverse s p w chain end.0 end.1 end.2) (IsSimple-reverse chain enters.2)
 
   pub kept_by_filling : (gone : Gone) → GonePasses s p gone → HasCertificates (state_after_gone s gone)
   kept_by_filling gone passes = kept_by_entry gone.back passes.has_place passes.closed gone.entered gone.chain passes.enters
 
 -- who still waits and may run on a processor of the set is less urgent than the one that came in
-entry_justified : (s : State) → IsState s → (p : ℕ) → task_on s p ≡ None → (back : ℕ) (entered : Option ℕ) (chain : List ℕ) → EnteringPasses s p entered chain back → LeavesNobody (state_after_entering s entered chain) entered back
+entry_justified : (s : State) → IsState s → (p : ℕ) → task_on s p ≡ None → (back : ℕ) (entered : Option ℕ) (chain : List ℕ)
+    → EnteringPasses s p entered chain back → LeavesNobody (state_after_entering s entered chain) entered back
 entry_justified s ok p idle back None chain enters = enters.0
 entry_justified s ok p idle back (Some w) chain enters = λ v q h urgent in_back allowed.
     let end = enters.1 in
-    let before = waited s ok w enters.0.waits (reverse chain) p (IsChainOf-reverse s p w chain end.0 end.1 end.2) (IsSimple-reverse chain enters.2) v h in
+    let before = waited s ok w enters.0.waits (reverse chain) p (IsChainOf-reverse s p w chain end.0 end.1 end.2)
+    (IsSimple-reverse chain enters.2) v h in
     elim before.1 [
       | inl waits ↦ (let late = enters.0.most_urgent v q waits in_back allowed in absurd (omega arith))
       | inr out ↦ absurd (let nobody = idle in cc)
     ]
 
-pub filling_justified : (s : State) → IsState s → (p : ℕ) → task_on s p ≡ None → (gone : Gone) → GonePasses s p gone → LeavesNobody (state_after_gone s gone) gone.entered gone.back
+pub filling_justified : (s : State) → IsState s → (p : ℕ) → task_on s p ≡ None → (gone : Gone) → GonePasses s p gone
+    → LeavesNobody (state_after_gone s gone) gone.entered gone.back
 filling_justified s ok p idle gone passes = entry_justified s ok p idle gone.back gone.entered gone.chain passes.enters

@@ -1,6 +1,7 @@
 -- A waiting task is shifted along a simple chain of it. Where the chain ends on an idle processor, or on one whose task
 -- then waits behind a full set, each waiting task has a certificate again.
-use Rattle.std.proofs.Common.{◌≡◌, ◌≢◌, ℕ, ◌<◌, ◌≤◌, true, false, List, bit_or, Some, None, sym, ap, ◌∙◌, subst, inl, inr, ◌⊎◌, IsTrue, arith, le_antisymm}
+use Rattle.std.proofs.Common.{◌≡◌, ◌≢◌, ℕ, ◌<◌, ◌≤◌, true, false, List, bit_or, Some, None, sym, ap, ◌∙◌, subst, inl, inr, ◌⊎◌, IsTrue}
+use Rattle.std.proofs.Common.{arith, le_antisymm}
 use Rattle.std.proofs.lemmas.Bool.{cases_Bool, cases_lt, true≢false, or_left, or_right, or_cases}
 use Rattle.std.proofs.lemmas.Option.{same_Some}
 use Rattle.std.proofs.lemmas.List.FromFn.{get_or-map-range_with_len}
@@ -16,7 +17,8 @@ use Rattle.strong_apa.proofs.Simple.{Avoids-none}
 use Rattle.strong_apa.specs.Held.{IsHeldAgainst}
 use Rattle.strong_apa.specs.Certified.{HasCertificates}
 use Rattle.strong_apa.specs.Justification.{WaitsBehind}
-use Rattle.strong_apa.proofs.Closed.{IsClosed, IsCertificate-closed, chain_inside, chain_past, chain_within, chain_fills, chain_puts_out, occupant_within, still_somewhere}
+use Rattle.strong_apa.proofs.Closed.{IsClosed, IsCertificate-closed, chain_inside, chain_past, chain_within, chain_fills, chain_puts_out}
+use Rattle.strong_apa.proofs.Closed.{occupant_within, still_somewhere}
 
 -- each processor of the set is held against v
 abbrev pub IsFullAbove : State → ℕ → ℕ → Type 0
@@ -32,7 +34,8 @@ within_first X R Y within p h = has-or R Y p ∙ or_left (has R p) (has Y p) (wi
 within_second : (X R Y : ℕ) → Within X Y → Within X (bit_or R Y)
 within_second X R Y within p h = has-or R Y p ∙ or_right (has R p) (has Y p) (within p h)
 
-module _ (s : State) (ok : IsState s) (t : ℕ) (waits : IsWaiting s t) (chain : List ℕ) (q : ℕ) (is_chain : IsChainOf s t chain q) (simple : IsSimple chain) where
+module _ (s : State) (ok : IsState s) (t : ℕ) (waits : IsWaiting s t) (chain : List ℕ) (q : ℕ) (is_chain : IsChainOf s t chain q)
+    (simple : IsSimple chain) where
   -- whoever comes to a processor is on it then
   occupant_comes : (p u : ℕ) → occupant_after_shift s (Some t) chain p ≡ Some u → task_on (state_after_shift s t chain) p ≡ Some u
   occupant_comes p u e =
@@ -40,7 +43,8 @@ module _ (s : State) (ok : IsState s) (t : ℕ) (waits : IsWaiting s t) (chain :
       get_or-map-range_with_len (occupant_after_shift s (Some t) chain) 0 s.processors p p None below (omega arith) ∙ e
 
   -- t and each linked task are linked then, but for the one on which the chain ends
-  pub linked_or_out : (u : ℕ) → (t ≡ u) ⊎ (is_linked s u ≡ true) → (is_linked (state_after_shift s t chain) u ≡ true) ⊎ (task_on s q ≡ Some u)
+  pub linked_or_out : (u : ℕ) → (t ≡ u) ⊎ (is_linked s u ≡ true) → (is_linked (state_after_shift s t chain) u ≡ true)
+      ⊎ (task_on s q ≡ Some u)
   linked_or_out u before = elim (still_somewhere s (λ y. ⊥) (Some t) chain u (Avoids-none chain simple) (elim before [
     | inl it ↦ inl (ap (λ (n : ℕ). Some n) it)
     | inr linked ↦ inr (place_in u s.on, (λ none. none), task_on-linked s u linked)
@@ -70,43 +74,62 @@ module _ (s : State) (ok : IsState s) (t : ℕ) (waits : IsWaiting s t) (chain :
   certificate_past v X certificate past = record {
     within = certificate.within;
     occupied = λ p inside.
-        let occupant = certificate.occupied p inside in
-        (occupant.0, occupant_comes p occupant.0 (chain_past s X (IsCertificate-closed s v X certificate) (Some t) t chain q is_chain past p inside ∙ occupant.1), occupant.2, occupant.3);
+        let occupant = certificate.occupied p inside in (
+          occupant.0,
+          occupant_comes p occupant.0
+              (chain_past s X (IsCertificate-closed s v X certificate) (Some t) t chain q is_chain past p inside ∙ occupant.1),
+          occupant.2,
+          occupant.3,
+        );
   }
 
   -- ---- a closed set that has the mask of t, and with it the chain
   module _ (R : ℕ) (closed : IsClosed s R) (first : Within (effective_mask s t) R) where
     -- it is full then, where t and all who stay are more urgent than v
-    pub full_then : (v : ℕ) → ((p : ℕ) → IsTrue (has R p) → (task_on s p ≢ None) ⊎ (p ≡ q)) → IsMoreUrgent s t v → ((y u : ℕ) → IsTrue (has R y) → task_on s y ≡ Some u → task_on s q ≢ Some u → IsMoreUrgent s u v) → IsFullAbove (state_after_shift s t chain) v R
+    pub full_then : (v : ℕ) → ((p : ℕ) → IsTrue (has R p) → (task_on s p ≢ None) ⊎ (p ≡ q)) → IsMoreUrgent s t v
+        → ((y u : ℕ) → IsTrue (has R y) → task_on s y ≡ Some u → task_on s q ≢ Some u → IsMoreUrgent s u v)
+        → IsFullAbove (state_after_shift s t chain) v R
     full_then v occupied urgent urgent_others p inside =
         let occupant = chain_fills s t chain q is_chain p (occupied p inside) in
         let u = occupant.0 in
-        let stays : (IsMoreUrgent s u v) × Within (effective_mask s u) R = elim (occupant_within s R closed t first chain q is_chain p u inside occupant.1) [
+        let stays : (IsMoreUrgent s u v) × Within (effective_mask s u)
+        R = elim (occupant_within s R closed t first chain q is_chain p u inside occupant.1) [
           | inl it ↦ (subst (λ (z : ℕ). IsMoreUrgent s z v) it urgent, subst (λ (z : ℕ). Within (effective_mask s z) R) it first)
           | inr there ↦ (
-            urgent_others there.0 u there.1 there.2 (λ end. chain_puts_out s ok.once t chain q is_chain simple u (λ same. not_on s q t waits.not_linked (end ∙ ap (λ (n : ℕ). Some n) (sym same))) end p occupant.1),
+            urgent_others there.0 u there.1 there.2
+                (λ end. chain_puts_out s ok.once t chain q is_chain simple u
+                (λ same. not_on s q t waits.not_linked (end ∙ ap (λ (n : ℕ). Some n) (sym same))) end p occupant.1),
             closed there.0 u there.1 there.2,
           )
         ] in
         (u, occupant_comes p u occupant.1, stays.0, stays.1)
 
     -- with it another set certifies v, where it has the mask of v, and certified v before wherever it stands alone
-    pub certificate_joined : (v X : ℕ) → Within (effective_mask s v) X → ((p : ℕ) → IsTrue (has X p) → has R p ≡ false → IsHeldAgainst s v X p)
+    pub certificate_joined : (v X : ℕ) → Within (effective_mask s v) X
+        → ((p : ℕ) → IsTrue (has X p) → has R p ≡ false → IsHeldAgainst s v X p)
         → IsFullAbove (state_after_shift s t chain) v R → IsCertificate (state_after_shift s t chain) v (bit_or X R)
     certificate_joined v X within alone full = record {
       within = within_first (effective_mask s v) X R within;
       occupied = λ p inside. elim (cases_Bool (has R p)) [
-        | inl in_R ↦ (let occupant = full p in_R in (occupant.0, occupant.1, occupant.2, within_second (effective_mask s occupant.0) X R occupant.3))
+        | inl in_R ↦ (let occupant = full p in_R in
+            (occupant.0, occupant.1, occupant.2, within_second (effective_mask s occupant.0) X R occupant.3))
         | inr outside ↦
-            let in_X : IsTrue (has X p) = elim (or_cases (has X p) (has R p) (sym (has-or X R p) ∙ inside)) [ inl h ↦ h | inr h ↦ absurd (true≢false (sym h ∙ outside)) ] in
-            let occupant = alone p in_X outside in
-            (occupant.0, occupant_comes p occupant.0 (chain_within s R closed t first chain q is_chain p outside ∙ occupant.1), occupant.2, within_first (effective_mask s occupant.0) X R occupant.3)
+            let in_X : IsTrue (has X p) = elim (or_cases (has X p) (has R p) (sym (has-or X R p) ∙ inside))
+            [ inl h ↦ h | inr h ↦ absurd (true≢false (sym h ∙ outside)) ] in
+            let occupant = alone p in_X outside in (
+              occupant.0,
+              occupant_comes p occupant.0 (chain_within s R closed t first chain q is_chain p outside ∙ occupant.1),
+              occupant.2,
+              within_first (effective_mask s occupant.0) X R occupant.3,
+            )
       ];
     }
 
   -- ---- the chain ends on the least urgent task of a closed set that is all occupied, and t is more urgent than that
-  module _ (R : ℕ) (closed : IsClosed s R) (first : Within (effective_mask s t) R) (occupied : (p : ℕ) → IsTrue (has R p) → (u : ℕ) × (task_on s p ≡ Some u))
-      (d : ℕ) (end : task_on s q ≡ Some d) (least_urgent : (p u : ℕ) → IsTrue (has R p) → task_on s p ≡ Some u → priority_of s u ≤ priority_of s d) (urgent : IsMoreUrgent s t d) where
+  module _ (R : ℕ) (closed : IsClosed s R) (first : Within (effective_mask s t) R) (occupied : (p : ℕ) → IsTrue (has R p)
+      → (u : ℕ) × (task_on s p ≡ Some u))
+      (d : ℕ) (end : task_on s q ≡ Some d) (least_urgent : (p u : ℕ) → IsTrue (has R p) → task_on s p ≡ Some u
+      → priority_of s u ≤ priority_of s d) (urgent : IsMoreUrgent s t d) where
     full_above_it : IsFullAbove (state_after_shift s t chain) d R
     full_above_it =
         full_then R closed first d (λ p inside. inl (λ nobody. let on = (occupied p inside).1 in cc)) urgent
@@ -114,7 +137,8 @@ module _ (s : State) (ok : IsState s) (t : ℕ) (waits : IsWaiting s t) (chain :
         let late = least_urgent y u inside on in
         elim (cases_lt (priority_of s u) (priority_of s d)) [
           | inl more_urgent ↦ more_urgent
-          | inr as_late ↦ absurd (stays (end ∙ ap (λ (n : ℕ). Some n) (ok.distinct d u (linked_number s q d ok end) (linked_number s y u ok on) (le_antisymm as_late late))))
+          | inr as_late ↦ absurd (stays (end ∙ ap (λ (n : ℕ). Some n)
+              (ok.distinct d u (linked_number s q d ok end) (linked_number s y u ok on) (le_antisymm as_late late))))
         ])
 
     -- then the set certifies that task, which waits
@@ -123,7 +147,9 @@ module _ (s : State) (ok : IsState s) (t : ℕ) (waits : IsWaiting s t) (chain :
       waits = record {
         ready = ok.linked_ready q d end;
         not_linked = not_linked-from_on (state_after_shift s t chain) d (λ p on.
-            chain_puts_out s ok.once t chain q is_chain simple d (λ same. not_on s q t waits.not_linked (end ∙ ap (λ (n : ℕ). Some n) (sym same))) end p (task_on-state_after_shift s t chain p d on));
+            chain_puts_out s ok.once t chain q is_chain simple d
+            (λ same. not_on s q t waits.not_linked (end ∙ ap (λ (n : ℕ). Some n) (sym same))) end p
+            (task_on-state_after_shift s t chain p d on));
       };
       certified = record {
         within = closed q d (chain_inside s R closed t first chain q is_chain) end;
@@ -142,7 +168,8 @@ module _ (s : State) (ok : IsState s) (t : ℕ) (waits : IsWaiting s t) (chain :
   -- ---- where the others had certificates
   module _ (others : OthersHaveCertificates s t) where
     -- it is enough that whoever had a certificate in which the chain ends has another one then, and so the displaced task
-    kept_by_shift : ((v X : ℕ) → IsCertificate s v X → IsTrue (has X q) → (set : ℕ) × IsCertificate (state_after_shift s t chain) v set) → ((v : ℕ) → task_on s q ≡ Some v → (set : ℕ) × IsCertificate (state_after_shift s t chain) v set)
+    kept_by_shift : ((v X : ℕ) → IsCertificate s v X → IsTrue (has X q) → (set : ℕ) × IsCertificate (state_after_shift s t chain) v set)
+        → ((v : ℕ) → task_on s q ≡ Some v → (set : ℕ) × IsCertificate (state_after_shift s t chain) v set)
         → HasCertificates (state_after_shift s t chain)
     kept_by_shift met put_out v h =
         let before = waited v h in
@@ -163,9 +190,20 @@ module _ (s : State) (ok : IsState s) (t : ℕ) (waits : IsWaiting s t) (chain :
         (λ v out. absurd (cc))
 
     -- the chain displaces the least urgent task of such a set
-    module _ (R : ℕ) (closed : IsClosed s R) (first : Within (effective_mask s t) R) (occupied : (p : ℕ) → IsTrue (has R p) → (u : ℕ) × (task_on s p ≡ Some u))
-        (d : ℕ) (end : task_on s q ≡ Some d) (least_urgent : (p u : ℕ) → IsTrue (has R p) → task_on s p ≡ Some u → priority_of s u ≤ priority_of s d) (urgent : IsMoreUrgent s t d) where
+    module _ (R : ℕ) (closed : IsClosed s R) (first : Within (effective_mask s t) R) (occupied : (p : ℕ) → IsTrue (has R p)
+        → (u : ℕ) × (task_on s p ≡ Some u))
+        (d : ℕ) (end : task_on s q ≡ Some d) (least_urgent : (p u : ℕ) → IsTrue (has R p) → task_on s p ≡ Some u
+        → priority_of s u ≤ priority_of s d) (urgent : IsMoreUrgent s t d) where
       pub kept_by_displacing : HasCertificates (state_after_shift s t chain)
       kept_by_displacing = kept_by_shift
-          (λ v X certificate ends. (bit_or X R, certificate_joined R closed first v X certificate.within (λ p inside _. certificate.occupied p inside) (above_such R closed first occupied d end least_urgent urgent v X certificate ends)))
-          (λ v out. (R, subst (λ (z : ℕ). IsCertificate (state_after_shift s t chain) z R) (same_Some d v (sym end ∙ out)) (certified_out R closed first occupied d end least_urgent urgent).certified))
+          (λ v X certificate ends. (
+            bit_or X R,
+            certificate_joined R closed first v X certificate.within
+                (λ p inside _. certificate.occupied p inside)
+                (above_such R closed first occupied d end least_urgent urgent v X certificate ends),
+          ))
+          (λ v out. (
+            R,
+            subst (λ (z : ℕ). IsCertificate (state_after_shift s t chain) z R) (same_Some d v (sym end ∙ out))
+                (certified_out R closed first occupied d end least_urgent urgent).certified,
+          ))

@@ -36,13 +36,16 @@ Decided P = P ⊎ (P → ⊥)
 -- among the lists of n numbers below m that have the property, the lexicographically least one, or there is none
 abbrev LeastOfLength : ℕ → ℕ → (List ℕ → Type 0) → Type 0
 LeastOfLength m n Has =
-    ((xs : List ℕ) × (length xs ≡ n) × Has xs × ((ys : List ℕ) → length ys ≡ n → AllBelow m ys → Has ys → (xs ≡ ys) ⊎ IsLexicographicallyLess xs ys))
+    ((xs : List ℕ) × (length xs ≡ n) × Has xs
+    × ((ys : List ℕ) → length ys ≡ n → AllBelow m ys → Has ys → (xs ≡ ys) ⊎ IsLexicographicallyLess xs ys))
     ⊎ ((ys : List ℕ) → length ys ≡ n → AllBelow m ys → Has ys → ⊥)
 
 -- the same of the lists of n + 1 numbers whose first number is below k
 abbrev LeastWithHead : ℕ → ℕ → ℕ → (List ℕ → Type 0) → Type 0
 LeastWithHead m n k Has =
-    ((x : ℕ) × (xs : List ℕ) × (x < k) × (length xs ≡ n) × Has (x ∷ xs) × ((y : ℕ) (ys : List ℕ) → y < k → length ys ≡ n → AllBelow m ys → Has (y ∷ ys) → (x ∷ xs ≡ y ∷ ys) ⊎ IsLexicographicallyLess (x ∷ xs) (y ∷ ys)))
+    ((x : ℕ) × (xs : List ℕ) × (x < k) × (length xs ≡ n) × Has (x ∷ xs)
+    × ((y : ℕ) (ys : List ℕ) → y < k → length ys ≡ n → AllBelow m ys → Has (y ∷ ys)
+    → (x ∷ xs ≡ y ∷ ys) ⊎ IsLexicographicallyLess (x ∷ xs) (y ∷ ys)))
     ⊎ ((y : ℕ) (ys : List ℕ) → y < k → length ys ≡ n → AllBelow m ys → Has (y ∷ ys) → ⊥)
 
 least_with_head : (m n : ℕ) (Has : List ℕ → Type 0) → ((x : ℕ) → LeastOfLength m n (λ xs. Has (x ∷ xs))) → (k : ℕ) → LeastWithHead m n k Has
@@ -89,7 +92,8 @@ least_of_length m zero Has decided = elim (decided []) [
     empty_of : (ys : List ℕ) → length ys ≡ 0 → [] ≡ ys
     empty_of [] n = refl
     empty_of (y ∷ ys) n = absurd (omega arith)
-least_of_length m (suc n) Has decided = go (least_with_head m n Has (λ x. least_of_length m n (λ xs. Has (x ∷ xs)) (λ xs. decided (x ∷ xs))) m)
+least_of_length m (suc n) Has decided =
+    go (least_with_head m n Has (λ x. least_of_length m n (λ xs. Has (x ∷ xs)) (λ xs. decided (x ∷ xs))) m)
   where
     go : LeastWithHead m n m Has → LeastOfLength m (suc n) Has
     go (inl found) = inl (
@@ -99,7 +103,10 @@ least_of_length m (suc n) Has decided = go (least_with_head m n Has (λ x. least
       (λ ys n' all h. split ys n' all h found.5),
     )
       where
-        split : (ys : List ℕ) → length ys ≡ suc n → AllBelow m ys → Has ys → ((y : ℕ) (rest : List ℕ) → y < m → length rest ≡ n → AllBelow m rest → Has (y ∷ rest) → (found.0 ∷ found.1 ≡ y ∷ rest) ⊎ IsLexicographicallyLess (found.0 ∷ found.1) (y ∷ rest)) → (found.0 ∷ found.1 ≡ ys) ⊎ IsLexicographicallyLess (found.0 ∷ found.1) ys
+        split : (ys : List ℕ) → length ys ≡ suc n → AllBelow m ys → Has ys
+            → ((y : ℕ) (rest : List ℕ) → y < m → length rest ≡ n → AllBelow m rest → Has (y ∷ rest)
+            → (found.0 ∷ found.1 ≡ y ∷ rest) ⊎ IsLexicographicallyLess (found.0 ∷ found.1) (y ∷ rest))
+            → (found.0 ∷ found.1 ≡ ys) ⊎ IsLexicographicallyLess (found.0 ∷ found.1) ys
         split [] n' all h least = absurd (omega arith)
         split (y ∷ rest) n' all h least = least y rest all.0 (omega arith) all.1 h
     go (inr none) = inr split
@@ -112,7 +119,8 @@ least_of_length m (suc n) Has decided = go (least_with_head m n Has (λ x. least
 abbrev LeastBelow : ℕ → (List ℕ → Type 0) → Type 0
 LeastBelow m Has = (xs : List ℕ) × Has xs × ((ys : List ℕ) → AllBelow m ys → Has ys → (xs ≡ ys) ⊎ IsLess xs ys)
 
-least_up_to : (m n : ℕ) (Has : List ℕ → Type 0) → ((xs : List ℕ) → Decided (Has xs)) → LeastBelow m Has ⊎ ((ys : List ℕ) → length ys ≤ n → AllBelow m ys → Has ys → ⊥)
+least_up_to : (m n : ℕ) (Has : List ℕ → Type 0) → ((xs : List ℕ) → Decided (Has xs))
+    → LeastBelow m Has ⊎ ((ys : List ℕ) → length ys ≤ n → AllBelow m ys → Has ys → ⊥)
 least_up_to m zero Has decided = elim (least_of_length m 0 Has decided) [
   | inl found ↦ inl (
     found.0,
@@ -146,7 +154,8 @@ least_up_to m (suc n) Has decided = elim (least_up_to m n Has decided) [
 ]
 
 -- where some list has a property that only lists of numbers below m have, and that is decided, a least list has it
-pub least_exists : (m : ℕ) (Has : List ℕ → Type 0) → ((xs : List ℕ) → Decided (Has xs)) → ((xs : List ℕ) → Has xs → AllBelow m xs) → (xs : List ℕ) → Has xs → (least : List ℕ) × IsLeastSuch Has least
+pub least_exists : (m : ℕ) (Has : List ℕ → Type 0) → ((xs : List ℕ) → Decided (Has xs)) → ((xs : List ℕ) → Has xs → AllBelow m xs)
+    → (xs : List ℕ) → Has xs → (least : List ℕ) × IsLeastSuch Has least
 least_exists m Has decided below xs h = elim (least_up_to m (length xs) Has decided) [
   | inl found ↦ (found.0, record { itself = found.1; least = λ other has_other. found.2 other (below other has_other) has_other })
   | inr none ↦ absurd (none xs (omega arith) (below xs h) h)

@@ -1,9 +1,11 @@
 -- What stays when a task becomes absent, and when a linked task leaves.
-use Rattle.std.proofs.Common.{◌≡◌, ◌≢◌, ℕ, zero, suc, false, List, [], ◌∷◌, get_or, map, Option, Some, None, refl, sym, ap, ◌∙◌, inl, inr, length-set, get_or-set_other, set, arith, eq-eqb, ne_eqb}
+use Rattle.std.proofs.Common.{◌≡◌, ◌≢◌, ℕ, zero, suc, false, List, [], ◌∷◌, get_or, map, Option, Some, None, refl, sym, ap, ◌∙◌, inl, inr}
+use Rattle.std.proofs.Common.{length-set, get_or-set_other, set, arith, eq-eqb, ne_eqb}
 use Rattle.std.proofs.lemmas.Bool.{cases_eq}
 use Rattle.std.proofs.lemmas.List.{length-map}
 use Rattle.std.proofs.lemmas.Option.{same_Some}
-use Rattle.strong_apa.specs.State.{State, IsState, IsWaiting, task_on, occupant_but, state_with_absent, state_with_idle, state_after_leaving}
+use Rattle.strong_apa.specs.State.{State, IsState, IsWaiting, task_on, occupant_but, state_with_absent, state_with_idle}
+use Rattle.strong_apa.specs.State.{state_after_leaving}
 use Rattle.strong_apa.proofs.Linked.{not_on}
 
 -- ---- a waiting task leaves
@@ -62,7 +64,8 @@ IsState-state_after_leaving s ok t = record {
   distinct = ok.distinct;
   allowed = λ p u e. ok.allowed p u (task_on-state_after_leaving s t p u e).0;
   once = λ p q u e f. ok.once p q u (task_on-state_after_leaving s t p u e).0 (task_on-state_after_leaving s t q u f).0;
-  linked_ready = λ p u e. let before = task_on-state_after_leaving s t p u e in get_or-set_other s.ready t u false false before.1 ∙ ok.linked_ready p u before.0;
+  linked_ready = λ p u e. let before = task_on-state_after_leaving s t p u e in get_or-set_other s.ready t u false false before.1
+      ∙ ok.linked_ready p u before.0;
 }
 
 -- ---- a linked task is unlinked and made absent
@@ -80,10 +83,16 @@ all_stay [] t nowhere = refl
 all_stay (occupant ∷ on) t nowhere = rw (← other_stays t occupant (nowhere 0), ← all_stay on t (λ q. nowhere (suc q))) refl
 
 -- where t is on p alone, to empty p is to take t away
-emptied : (on : List (Option ℕ)) (t p : ℕ) → get_or on p None ≡ Some t → ((q : ℕ) → get_or on q None ≡ Some t → q ≡ p) → set on p None ≡ map (occupant_but t) on
+emptied : (on : List (Option ℕ)) (t p : ℕ) → get_or on p None ≡ Some t → ((q : ℕ) → get_or on q None ≡ Some t → q ≡ p)
+    → set on p None ≡ map (occupant_but t) on
 emptied [] t p here alone = cc
-emptied (occupant ∷ on) t zero here alone = rw (here, eq-eqb t t refl, ← all_stay on t (λ q there. (let e = alone (suc q) there in absurd (omega arith)))) refl
-emptied (occupant ∷ on) t (suc p) here alone = rw (← other_stays t occupant (λ there. (let e = alone 0 there in absurd (omega arith))), ← emptied on t p here (λ q there. (let e = alone (suc q) there in omega arith))) refl
+emptied (occupant ∷ on) t zero here alone =
+    rw (here, eq-eqb t t refl, ← all_stay on t (λ q there. (let e = alone (suc q) there in absurd (omega arith)))) refl
+emptied (occupant ∷ on) t (suc p) here alone = rw (
+  ← other_stays t occupant (λ there. (let e = alone 0 there in absurd (omega arith))),
+  ← emptied on t p here (λ q there. (let e = alone (suc q) there in omega arith)),
+) refl
 
-pub left_state : (s mid new : State) → IsState s → (t p : ℕ) → task_on s p ≡ Some t → mid ≡ state_with_idle s p → new ≡ state_with_absent mid t → new ≡ state_after_leaving s t
+pub left_state : (s mid new : State) → IsState s → (t p : ℕ) → task_on s p ≡ Some t → mid ≡ state_with_idle s p
+    → new ≡ state_with_absent mid t → new ≡ state_after_leaving s t
 left_state s mid new ok t p on idle absent = absent ∙ rw (idle, emptied s.on t p on (λ q there. ok.once q p t there on)) refl

@@ -1,5 +1,6 @@
 -- Who is where: the test, the place and the table of occupants agree.
-use Rattle.std.proofs.Common.{◌≡◌, ◌≢◌, ℕ, zero, suc, ◌<◌, Bool, true, false, List, [], ◌∷◌, get_or, Option, Some, None, refl, sym, ap, ◌∙◌, inl, inr, eq-eqb, eqb-true, cond, ◌↔◌}
+use Rattle.std.proofs.Common.{◌≡◌, ◌≢◌, ℕ, zero, suc, ◌<◌, Bool, true, false, List, [], ◌∷◌, get_or, Option, Some, None, refl, sym, ap, ◌∙◌}
+use Rattle.std.proofs.Common.{inl, inr, eq-eqb, eqb-true, cond, ◌↔◌}
 use Rattle.std.specs.Prelude.{IsNone, IfSome, IfNone}
 use Rattle.std.specs.List.{list_any}
 use Rattle.std.proofs.lemmas.Bool.{or_left, or_right, cases_lt, cases_Bool, true≢false, false≢true}
@@ -27,7 +28,8 @@ at_from_any : (on : List (Option ℕ)) (t : ℕ) → list_any (is_task t) on ≡
 at_from_any [] t h = absurd (false≢true h)
 at_from_any (occupant ∷ rest) t h = go (is_task t occupant) refl (at_from_any rest t)
   where
-    go : (b : Bool) → is_task t occupant ≡ b → (list_any (is_task t) rest ≡ true → get_or rest (place_in t rest) None ≡ Some t) → get_or (occupant ∷ rest) (cond (is_task t occupant) 0 (suc (place_in t rest))) None ≡ Some t
+    go : (b : Bool) → is_task t occupant ≡ b → (list_any (is_task t) rest ≡ true → get_or rest (place_in t rest) None ≡ Some t)
+        → get_or (occupant ∷ rest) (cond (is_task t occupant) 0 (suc (place_in t rest))) None ≡ Some t
     go true e later = rw e (is_task-true t occupant e)
     go false e later = rw e (later (rw e at h))
 
@@ -72,6 +74,7 @@ linked_from_not_waiting s t ready not_waiting = elim (cases_Bool (is_linked s t)
 ]
 
 -- what a place says of a task: it is linked there, and nowhere where there is no place
-pub none_from_place : (s : State) (t : ℕ) (place : Option ℕ) → IfSome place (λ p. task_on s p ≡ Some t) → IfNone place ((p : ℕ) → task_on s p ≡ Some t → ⊥) → IsNone place ↔ (is_linked s t ≡ false)
+pub none_from_place : (s : State) (t : ℕ) (place : Option ℕ) → IfSome place (λ p. task_on s p ≡ Some t)
+    → IfNone place ((p : ℕ) → task_on s p ≡ Some t → ⊥) → IsNone place ↔ (is_linked s t ≡ false)
 none_from_place s t None there nowhere = (λ _. not_linked-from_on s t nowhere, λ _. refl)
 none_from_place s t (Some p) there nowhere = (λ h. absurd (true≢false h), λ not_linked. absurd (not_on s p t not_linked there))

@@ -1,6 +1,7 @@
 -- A set with k tasks has a k-th most urgent one; and where it keeps up with another set, it is as urgent rank by rank.
 use Rattle.std.proofs.Common.{◌≡◌, ◌≢◌, ℕ, zero, suc, ◌<◌, ◌≤◌, Bool, true, ◌&&◌, sym, ap, ◌∙◌, inl, inr, ◌⊎◌, arith, nat_le, nat_lt}
-use Rattle.std.proofs.lemmas.Bool.{cases_Bool, cases_lt, cases_eq, true≢false, and_from, and_left, and_right, le-leb, lt-leb, lt-ltb, le-ltb}
+use Rattle.std.proofs.lemmas.Bool.{cases_Bool, cases_lt, cases_eq, true≢false, and_from, and_left, and_right, le-leb, lt-leb, lt-ltb}
+use Rattle.std.proofs.lemmas.Bool.{le-ltb}
 use Rattle.strong_apa.specs.State.{State, IsState, is_linked, priority_of, task_count}
 use Rattle.strong_apa.specs.Placement.{TaskTest}
 use Rattle.strong_apa.specs.Ranks.{IsRanked}
@@ -13,18 +14,21 @@ use Rattle.strong_apa.proofs.Best.{latest, count_within-latest}
 abbrev before : State → TaskTest → ℕ → ℕ
 before s A bound = count_below (λ t. A t && nat_lt (priority_of s t) bound) (task_count s)
 
-within_before : (s : State) (A : TaskTest) (bound : ℕ) → count_below (λ t. A t && nat_le (priority_of s t) bound) (task_count s) ≡ before s A (suc bound)
-within_before s A bound = count_below-agree _ _ (task_count s) (λ t lt. ap (λ (b : Bool). A t && b) (elim (cases_lt bound (priority_of s t)) [
-  | inl later ↦ lt-leb _ _ later ∙ sym (le-ltb _ _ (omega arith))
-  | inr le ↦ le-leb _ _ le ∙ sym (lt-ltb _ _ (omega arith))
-]))
+within_before : (s : State) (A : TaskTest) (bound : ℕ) → count_below (λ t. A t && nat_le (priority_of s t) bound) (task_count s)
+    ≡ before s A (suc bound)
+within_before s A bound =
+    count_below-agree _ _ (task_count s) (λ t lt. ap (λ (b : Bool). A t && b) (elim (cases_lt bound (priority_of s t)) [
+      | inl later ↦ lt-leb _ _ later ∙ sym (le-ltb _ _ (omega arith))
+      | inr le ↦ le-leb _ _ le ∙ sym (lt-ltb _ _ (omega arith))
+    ]))
 
 none_before : (s : State) (A : TaskTest) (n : ℕ) → count_below (λ t. A t && nat_lt (priority_of s t) 0) n ≡ 0
 none_before s A zero = count_below-zero _
 none_before s A (suc n) = count_below-same _ n (and_right (A n) _ (le-ltb _ _ (omega arith))) ∙ none_before s A n
 
 -- the k-th most urgent task of a set, where the set has k tasks that are more urgent than the bound
-pub ranked : (s : State) → IsState s → (A : TaskTest) (k : ℕ) → 1 ≤ k → (bound : ℕ) → k ≤ before s A bound → (t : ℕ) × IsRanked s A k t × (priority_of s t < bound)
+pub ranked : (s : State) → IsState s → (A : TaskTest) (k : ℕ) → 1 ≤ k → (bound : ℕ) → k ≤ before s A bound
+    → (t : ℕ) × IsRanked s A k t × (priority_of s t < bound)
 ranked s ok A k some zero enough = absurd (let none = none_before s A (task_count s) in omega arith)
 ranked s ok A k some (suc bound) enough = elim (cases_lt (before s A bound) k) [
   | inr earlier ↦ let found = ranked s ok A k some bound earlier in (found.0, found.1, (let lt = found.2 in omega arith))
@@ -33,7 +37,8 @@ ranked s ok A k some (suc bound) enough = elim (cases_lt (before s A bound) k) [
       found.0,
       record {
         member = found.2.0;
-        rank = (let more = one_more found.0 found.1 found.2.0 found.2.1 in let same = within_before s A bound in rw (found.2.1) (omega arith));
+        rank =
+            (let more = one_more found.0 found.1 found.2.0 found.2.1 in let same = within_before s A bound in rw (found.2.1) (omega arith));
       },
       (let e = found.2.1 in omega arith),
     )
@@ -64,7 +69,8 @@ ranked s ok A k some (suc bound) enough = elim (cases_lt (before s A bound) k) [
     ])
 
     one_more : (t : ℕ) → t < task_count s → A t ≡ true → priority_of s t ≡ bound → before s A (suc bound) ≡ suc (before s A bound)
-    one_more t lt in_A here = count_below-one_more _ _ t (task_count s) lt (and_from _ _ in_A (lt-ltb _ _ (omega arith))) (and_right (A t) _ (le-ltb _ _ (omega arith)))
+    one_more t lt in_A here = count_below-one_more _ _ t (task_count s) lt (and_from _ _ in_A (lt-ltb _ _ (omega arith)))
+        (and_right (A t) _ (le-ltb _ _ (omega arith)))
         (λ u below ne. ap (λ (b : Bool). A u && b) (same_answer u (λ e. ne (ok.distinct u t below lt (e ∙ sym here)))))
 
 pub linked_is_as_urgent : HoldsWhereCertified LinkedIsAsUrgent

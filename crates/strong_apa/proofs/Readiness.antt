@@ -1,5 +1,6 @@
 -- What stays when a task becomes ready.
-use Rattle.std.proofs.Common.{◌≡◌, ◌≢◌, ℕ, ◌<◌, Bool, true, false, List, length, set, Some, sym, ap, ◌∙◌, inl, inr, length-set, get_or-set_same, get_or-set_other}
+use Rattle.std.proofs.Common.{◌≡◌, ◌≢◌, ℕ, ◌<◌, Bool, true, false, List, length, set, Some, sym, ap, ◌∙◌, inl, inr, length-set}
+use Rattle.std.proofs.Common.{get_or-set_same, get_or-set_other}
 use Rattle.std.proofs.lemmas.Bool.{cases_eq, true≢false}
 use Rattle.std.proofs.lemmas.List.{set-get_or}
 use Rattle.strong_apa.specs.State.{State, IsState, IsWaiting, task_count, task_on, is_ready, is_linked, state_with_ready}
@@ -7,7 +8,8 @@ use Rattle.strong_apa.proofs.Linked.{not_linked-from_on}
 
 -- a ready task becomes ready: nothing changes
 pub ready_already : (s : State) (t : ℕ) → is_ready s t ≡ true → state_with_ready s t ≡ s
-ready_already s t ready = ap (λ (flags : List Bool). record s { ready = flags }) (ap (set s.ready t) (sym ready) ∙ set-get_or s.ready t false)
+ready_already s t ready =
+    ap (λ (flags : List Bool). record s { ready = flags }) (ap (set s.ready t) (sym ready) ∙ set-get_or s.ready t false)
 
 module _ (s : State) (ok : IsState s) (t : ℕ) (number : t < task_count s) where
   in_column : t < length s.ready

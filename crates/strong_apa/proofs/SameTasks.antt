@@ -10,7 +10,8 @@ use Rattle.strong_apa.specs.declared.reply.Gone.{Gone}
 use Rattle.strong_apa.specs.declared.reply.Reply.{Reply}
 use Rattle.strong_apa.specs.declared.reply.Reply.TheVariants.{Placed, Displaced, Freed, Remasked, Off, On}
 use Rattle.strong_apa.specs.declared.reply.Entry.{Entry}
-use Rattle.strong_apa.specs.State.{State, HasSameTasks, task_count, state_with_mask, state_with_online, state_with_offline, state_after_leaving}
+use Rattle.strong_apa.specs.State.{State, HasSameTasks, task_count, state_with_mask, state_with_online, state_with_offline}
+use Rattle.strong_apa.specs.State.{state_after_leaving}
 use Rattle.strong_apa.specs.History.{state_after, effect_of, state_after_came, state_after_entering, state_after_left}
 use Rattle.strong_apa.specs.Laws.{ReplyKeepsTasks, ReplyKeepsMasks}
 use Rattle.strong_apa.specs.Step.{SchedulerStep}
@@ -18,7 +19,8 @@ use Rattle.strong_apa.proofs.Steps.{reply_gives_new_state, same_tasks-left}
 
 -- ---- what stays for ever
 pub same_tasks-then : (s mid new : State) → HasSameTasks s mid → HasSameTasks mid new → HasSameTasks s new
-same_tasks-then s mid new first later = record { processors = later.processors ∙ first.processors; priorities = later.priorities ∙ first.priorities }
+same_tasks-then s mid new first later =
+    record { processors = later.processors ∙ first.processors; priorities = later.priorities ∙ first.priorities }
 
 pub same_tasks-came : (s : State) (t : ℕ) (came : Came) → HasSameTasks s (state_after_came s t came)
 same_tasks-came s t (came.Placed chain) = record { processors = refl; priorities = refl }
@@ -29,18 +31,24 @@ pub same_tasks-gone : (s : State) (entered : Option ℕ) (chain : List ℕ) → 
 same_tasks-gone s None chain = record { processors = refl; priorities = refl }
 same_tasks-gone s (Some w) chain = record { processors = refl; priorities = refl }
 
-pub same_tasks-remasked : (s : State) (t mask : ℕ) (gone : Option Gone) (c : Came) → HasSameTasks s (state_after_came (state_with_mask (state_after_left s t gone) t mask) t c)
+pub same_tasks-remasked : (s : State) (t mask : ℕ) (gone : Option Gone) (c : Came)
+    → HasSameTasks s (state_after_came (state_with_mask (state_after_left s t gone) t mask) t c)
 same_tasks-remasked s t mask gone c =
     let left = same_tasks-left s t gone in
-    same_tasks-then s (state_with_mask (state_after_left s t gone) t mask) (state_after_came (state_with_mask (state_after_left s t gone) t mask) t c) (record { processors = left.processors; priorities = left.priorities })
+    same_tasks-then s (state_with_mask (state_after_left s t gone) t mask)
+    (state_after_came (state_with_mask (state_after_left s t gone) t mask) t c)
+    (record { processors = left.processors; priorities = left.priorities })
     (same_tasks-came (state_with_mask (state_after_left s t gone) t mask) t c)
 
-pub same_tasks-moved : (s : State) (p t : ℕ) (c : Came) → HasSameTasks s (state_after_came (state_with_offline (state_after_leaving s t) p) t c)
+pub same_tasks-moved : (s : State) (p t : ℕ) (c : Came)
+    → HasSameTasks s (state_after_came (state_with_offline (state_after_leaving s t) p) t c)
 same_tasks-moved s p t c =
-    same_tasks-then s (state_with_offline (state_after_leaving s t) p) (state_after_came (state_with_offline (state_after_leaving s t) p) t c) (record { processors = refl; priorities = refl })
+    same_tasks-then s (state_with_offline (state_after_leaving s t) p)
+    (state_after_came (state_with_offline (state_after_leaving s t) p) t c) (record { processors = refl; priorities = refl })
     (same_tasks-came (state_with_offline (state_after_leaving s t) p) t c)
 
-pub same_tasks-online : (s : State) (p : ℕ) (entered : Option ℕ) (chain : List ℕ) → HasSameTasks s (state_after_entering (state_with_online s p) entered chain)
+pub same_tasks-online : (s : State) (p : ℕ) (entered : Option ℕ) (chain : List ℕ)
+    → HasSameTasks s (state_after_entering (state_with_online s p) entered chain)
 same_tasks-online s p None chain = record { processors = refl; priorities = refl }
 same_tasks-online s p (Some w) chain = record { processors = refl; priorities = refl }
 

@@ -1,5 +1,6 @@
 -- Lists in which no processor stands twice.
-use Rattle.std.proofs.Common.{◌≡◌, ◌≢◌, ℕ, zero, suc, ◌-◌, ◌<◌, ◌≤◌, true, List, [], ◌∷◌, ◌++◌, length, get_or, take, drop, reverse, sym, ◌∙◌, inl, inr, ◌⊎◌, arith, eqb, eqb-true}
+use Rattle.std.proofs.Common.{◌≡◌, ◌≢◌, ℕ, zero, suc, ◌-◌, ◌<◌, ◌≤◌, true, List, [], ◌∷◌, ◌++◌, length, get_or, take, drop, reverse, sym}
+use Rattle.std.proofs.Common.{◌∙◌, inl, inr, ◌⊎◌, arith, eqb, eqb-true}
 use Rattle.std.specs.List.{list_any}
 use Rattle.std.proofs.lemmas.Bool.{or_cases, false≢true}
 use Rattle.std.proofs.lemmas.Bool.Decides.{Decides-eqb}
@@ -20,7 +21,8 @@ IsSimple-tail x rest simple = λ i j d lt fits. simple (suc i) (suc j) d (omega 
 pub IsSimple-head : (x : ℕ) (rest : List ℕ) → IsSimple (x ∷ rest) → (i : ℕ) → i < length rest → get_or rest i 0 ≢ x
 IsSimple-head x rest simple i fits e = simple 0 (suc i) 0 (omega arith) (omega arith) (sym e)
 
-pub Avoids-from : (V : ℕ → Type 0) (chain : List ℕ) → IsSimple chain → ((i : ℕ) → i < length chain → V (get_or chain i 0) → ⊥) → Avoids V chain
+pub Avoids-from : (V : ℕ → Type 0) (chain : List ℕ) → IsSimple chain → ((i : ℕ) → i < length chain → V (get_or chain i 0) → ⊥)
+    → Avoids V chain
 Avoids-from V [] simple out = tt
 Avoids-from V (x ∷ rest) simple out = (
   out 0 (omega arith),
@@ -75,4 +77,5 @@ any_below m (x ∷ xs) q below h = elim (or_cases (eqb q x) (list_any (eqb q) xs
 
 -- a list of numbers below m that has none twice has at most m
 pub length-simple : (m : ℕ) (xs : List ℕ) → IsSimple xs → AllBelow m xs → length xs ≤ m
-length-simple m xs simple below = length-le_from_distinct_below xs m (IsDistinct-from_AllPairs Decides-eqb xs simple) (λ q h. any_below m xs q below h)
+length-simple m xs simple below =
+    length-le_from_distinct_below xs m (IsDistinct-from_AllPairs Decides-eqb xs simple) (λ q h. any_below m xs q below h)

@@ -7,7 +7,8 @@ use Rattle.strong_apa.specs.declared.reply.Came.TheVariants.{Placed, Displaced, 
 use Rattle.strong_apa.specs.declared.reply.Gone.{Gone}
 use Rattle.strong_apa.specs.declared.reply.Reply.{Reply}
 use Rattle.strong_apa.specs.Reply.{reply_of_came, reply_of_gone}
-use Rattle.strong_apa.specs.State.{State, IsState, IsWaiting, IsIdle, HasSameTasks, is_ready, task_on, task_count, state_with_ready, state_with_mask, state_with_online, state_with_offline, state_after_leaving}
+use Rattle.strong_apa.specs.State.{State, IsState, IsWaiting, IsIdle, HasSameTasks, is_ready, task_on, task_count, state_with_ready}
+use Rattle.strong_apa.specs.State.{state_with_mask, state_with_online, state_with_offline, state_after_leaving}
 use Rattle.strong_apa.specs.Chain.{IsChainOf, IsSimple, IsLeastSuch, EntersBy, state_after_shift}
 use Rattle.strong_apa.specs.Step.{Comes, ArriveStep, Fills, DepartStep, EnterStep, LeaveStep, AffinityStep, OfflineStep, OnlineStep}
 use Rattle.strong_apa.specs.History.{state_after_reply, state_after_came, state_after_gone, state_after_left, state_after_entering}
@@ -28,7 +29,8 @@ effect_of_came s t (Placed chain) = refl
 effect_of_came s t (Displaced chain out reach) = refl
 effect_of_came s t (Waits reach) = refl
 
-pub effect_of_gone : (s : State) (t : ℕ) (gone : Gone) → state_after_reply s (Depart t) (reply_of_gone gone) ≡ state_after_gone (state_after_leaving s t) gone
+pub effect_of_gone : (s : State) (t : ℕ) (gone : Gone) → state_after_reply s (Depart t) (reply_of_gone gone)
+    ≡ state_after_gone (state_after_leaving s t) gone
 effect_of_gone s t gone = refl
 
 pub comes_effect : (s : State) (t : ℕ) (came : Came) (new : State) → Comes s t came new → new ≡ state_after_came s t came
@@ -36,7 +38,8 @@ comes_effect s t (Placed chain) new comes = comes.shifted
 comes_effect s t (Displaced chain out reach) new comes = comes.shifted
 comes_effect s t (Waits reach) new comes = comes.waits
 
-enter_effect : (s : State) (p : ℕ) (entered : Option ℕ) (chain : List ℕ) (back : ℕ) (new : State) → EnterStep s p entered chain back new → new ≡ state_after_entering s entered chain
+enter_effect : (s : State) (p : ℕ) (entered : Option ℕ) (chain : List ℕ) (back : ℕ) (new : State) → EnterStep s p entered chain back new
+    → new ≡ state_after_entering s entered chain
 enter_effect s p None chain back new step = step.2
 enter_effect s p (Some w) chain back new step = step.2
 
@@ -45,22 +48,26 @@ fills_effect s p gone new fills = enter_effect s p gone.entered gone.chain gone.
 
 arrive_effect : (s : State) (t : ℕ) (reply : Reply) (new : State) → ArriveStep s t reply new → new ≡ state_after_reply s (Arrive t) reply
 arrive_effect s t reply new (inl again) = again.same ∙ sym (ap (state_after_reply s (Arrive t)) again.answer)
-arrive_effect s t reply new (inr arrives) = comes_effect s t arrives.came new arrives.comes ∙ sym (ap (state_after_reply s (Arrive t)) arrives.answer ∙ effect_of_came s t arrives.came)
+arrive_effect s t reply new (inr arrives) = comes_effect s t arrives.came new arrives.comes
+    ∙ sym (ap (state_after_reply s (Arrive t)) arrives.answer ∙ effect_of_came s t arrives.came)
 
 depart_effect : (s : State) (t : ℕ) (reply : Reply) (new : State) → DepartStep s t reply new → new ≡ state_after_reply s (Depart t) reply
 depart_effect s t reply new (inl again) = again.same ∙ sym (ap (state_after_reply s (Depart t)) again.answer)
 depart_effect s t reply new (inr (inl waiting)) = waiting.left ∙ sym (ap (state_after_reply s (Depart t)) waiting.answer)
-depart_effect s t reply new (inr (inr linked)) = fills_effect (state_after_leaving s t) linked.place linked.gone new linked.fills ∙ sym (ap (state_after_reply s (Depart t)) linked.answer)
+depart_effect s t reply new (inr (inr linked)) = fills_effect (state_after_leaving s t) linked.place linked.gone new linked.fills
+    ∙ sym (ap (state_after_reply s (Depart t)) linked.answer)
 
 pub leave_effect : (s : State) (t : ℕ) (gone : Option Gone) (new : State) → LeaveStep s t gone new → new ≡ state_after_left s t gone
 leave_effect s t None new step = step.1
 leave_effect s t (Some gone) new step = fills_effect (state_after_leaving s t) step.0 gone new step.2
 
-affinity_effect : (s : State) (t mask : ℕ) (reply : Reply) (new : State) → AffinityStep s t mask reply new → new ≡ state_after_reply s (Affinity t mask) reply
+affinity_effect : (s : State) (t mask : ℕ) (reply : Reply) (new : State) → AffinityStep s t mask reply new
+    → new ≡ state_after_reply s (Affinity t mask) reply
 affinity_effect s t mask reply new (inl absent) = absent.masked ∙ sym (ap (state_after_reply s (Affinity t mask)) absent.answer)
 affinity_effect s t mask reply new (inr remasks) =
     comes_effect (state_with_mask remasks.between t mask) t remasks.came new remasks.comes
-    ∙ ap (λ (x : State). state_after_came (state_with_mask x t mask) t remasks.came) (leave_effect s t remasks.gone remasks.between remasks.leaves)
+    ∙ ap (λ (x : State). state_after_came (state_with_mask x t mask) t remasks.came)
+    (leave_effect s t remasks.gone remasks.between remasks.leaves)
     ∙ sym (ap (state_after_reply s (Affinity t mask)) remasks.answer)
 
 offline_effect : (s : State) (p : ℕ) (reply : Reply) (new : State) → OfflineStep s p reply new → new ≡ state_after_reply s (Offline p) reply
@@ -73,7 +80,8 @@ offline_effect s p reply new (inr (inr occupied)) =
 
 online_effect : (s : State) (p : ℕ) (reply : Reply) (new : State) → OnlineStep s p reply new → new ≡ state_after_reply s (Online p) reply
 online_effect s p reply new (inl again) = again.same ∙ sym (ap (state_after_reply s (Online p)) again.answer)
-online_effect s p reply new (inr fills) = fills_effect (state_with_online s p) p fills.parts new fills.fills ∙ sym (ap (state_after_reply s (Online p)) fills.answer)
+online_effect s p reply new (inr fills) =
+    fills_effect (state_with_online s p) p fills.parts new fills.fills ∙ sym (ap (state_after_reply s (Online p)) fills.answer)
 
 pub reply_gives_new_state : ReplyGivesNewState
 reply_gives_new_state s (Arrive t) reply new step = arrive_effect s t reply new step.1
@@ -85,37 +93,49 @@ reply_gives_new_state s (Online p) reply new step = online_effect s p reply new 
 
 -- ---- a step leads to a state
 -- a chain of a task stays one when the task becomes ready
-pub IsChainOf-state_with_ready : (s : State) (t : ℕ) (chain : List ℕ) (q : ℕ) → IsChainOf s t chain q → IsChainOf (state_with_ready s t) t chain q
+pub IsChainOf-state_with_ready : (s : State) (t : ℕ) (chain : List ℕ) (q : ℕ) → IsChainOf s t chain q
+    → IsChainOf (state_with_ready s t) t chain q
 IsChainOf-state_with_ready s t [] q c = c
 IsChainOf-state_with_ready s t (p ∷ rest) q c = c
 
 -- an absent task that is shifted along a simple chain of it
-pub IsState-arrived : (s : State) → IsState s → (t : ℕ) (chain : List ℕ) (q : ℕ) → t < task_count s → is_ready s t ≡ false → IsChainOf s t chain q → IsSimple chain → IsState (state_after_shift (state_with_ready s t) t chain)
+pub IsState-arrived : (s : State) → IsState s → (t : ℕ) (chain : List ℕ) (q : ℕ) → t < task_count s → is_ready s t ≡ false
+    → IsChainOf s t chain q → IsSimple chain → IsState (state_after_shift (state_with_ready s t) t chain)
 IsState-arrived s ok t chain q number absent is_chain simple =
-    IsState-state_after_shift (state_with_ready s t) (IsState-state_with_ready s ok t number) t chain q (IsWaiting-state_with_ready s ok t number absent) (IsChainOf-state_with_ready s t chain q is_chain) simple
+    IsState-state_after_shift (state_with_ready s t) (IsState-state_with_ready s ok t number) t chain q
+    (IsWaiting-state_with_ready s ok t number absent) (IsChainOf-state_with_ready s t chain q is_chain) simple
 
 -- a waiting task that comes in along the least back chain
-pub IsState-entered : (s : State) → IsState s → (p w : ℕ) (chain : List ℕ) → IsWaiting s w → IsLeastSuch (EntersBy s p w) chain → IsState (state_after_shift s w (reverse chain))
+pub IsState-entered : (s : State) → IsState s → (p w : ℕ) (chain : List ℕ) → IsWaiting s w → IsLeastSuch (EntersBy s p w) chain
+    → IsState (state_after_shift s w (reverse chain))
 IsState-entered s ok p w chain waits least =
-    IsState-state_after_shift s ok w (reverse chain) p waits (IsChainOf-reverse s p w chain least.itself.0 least.itself.1 least.itself.2) (IsSimple-reverse chain (least_back_chain_is_simple s ok p w chain least))
+    IsState-state_after_shift s ok w (reverse chain) p waits (IsChainOf-reverse s p w chain least.itself.0 least.itself.1 least.itself.2)
+    (IsSimple-reverse chain (least_back_chain_is_simple s ok p w chain least))
 
-pub comes_keeps : (s : State) (t : ℕ) (came : Came) (new : State) → IsState s → t < task_count s → is_ready s t ≡ false → Comes s t came new → IsState new
-comes_keeps s t (Placed chain) new ok number absent comes = rw comes.shifted (IsState-arrived s ok t chain comes.least.itself.0 number absent comes.least.itself.1 (least_chain_is_simple s ok t (IsIdle s) chain comes.least))
-comes_keeps s t (Displaced chain out reach) new ok number absent comes = rw comes.shifted (IsState-arrived s ok t chain comes.least.itself.0 number absent comes.least.itself.1 (least_chain_is_simple s ok t (λ q. task_on s q ≡ Some out) chain comes.least))
+pub comes_keeps : (s : State) (t : ℕ) (came : Came) (new : State) → IsState s → t < task_count s → is_ready s t ≡ false → Comes s t came new
+    → IsState new
+comes_keeps s t (Placed chain) new ok number absent comes = rw comes.shifted
+    (IsState-arrived s ok t chain comes.least.itself.0 number absent comes.least.itself.1
+    (least_chain_is_simple s ok t (IsIdle s) chain comes.least))
+comes_keeps s t (Displaced chain out reach) new ok number absent comes = rw comes.shifted
+    (IsState-arrived s ok t chain comes.least.itself.0 number absent comes.least.itself.1
+    (least_chain_is_simple s ok t (λ q. task_on s q ≡ Some out) chain comes.least))
 comes_keeps s t (Waits reach) new ok number absent comes = rw comes.waits (IsState-state_with_ready s ok t number)
 
 arrive_keeps : (s : State) (t : ℕ) (reply : Reply) (new : State) → IsState s → t < task_count s → ArriveStep s t reply new → IsState new
 arrive_keeps s t reply new ok number (inl again) = rw again.same ok
 arrive_keeps s t reply new ok number (inr arrives) = comes_keeps s t arrives.came new ok number arrives.absent arrives.comes
 
-enter_keeps : (s : State) (p : ℕ) (entered : Option ℕ) (chain : List ℕ) (back : ℕ) (new : State) → IsState s → EnterStep s p entered chain back new → IsState new
+enter_keeps : (s : State) (p : ℕ) (entered : Option ℕ) (chain : List ℕ) (back : ℕ) (new : State) → IsState s
+    → EnterStep s p entered chain back new → IsState new
 enter_keeps s p None chain back new ok step = rw step.2 ok
 enter_keeps s p (Some w) chain back new ok step = rw step.2 (IsState-entered s ok p w chain step.0.waits step.1)
 
 depart_keeps : (s : State) (t : ℕ) (reply : Reply) (new : State) → IsState s → DepartStep s t reply new → IsState new
 depart_keeps s t reply new ok (inl again) = rw again.same ok
 depart_keeps s t reply new ok (inr (inl waiting)) = rw waiting.left (IsState-state_with_absent s ok t waiting.waits)
-depart_keeps s t reply new ok (inr (inr linked)) = enter_keeps (state_after_leaving s t) linked.place linked.gone.entered linked.gone.chain linked.gone.back new (IsState-state_after_leaving s ok t) linked.fills.enters
+depart_keeps s t reply new ok (inr (inr linked)) = enter_keeps (state_after_leaving s t) linked.place linked.gone.entered linked.gone.chain
+    linked.gone.back new (IsState-state_after_leaving s ok t) linked.fills.enters
 
 -- ---- a ready task leaves and comes back
 -- no task, no priority and no processor comes or goes when a task leaves
@@ -128,7 +148,8 @@ same_tasks-left s t (Some gone) = entering gone.entered
     entering (Some w) = record { processors = refl; priorities = refl }
 
 -- the task that left is absent
-pub absent_after_left : (s : State) → IsState s → (t : ℕ) (gone : Option Gone) → t < task_count s → is_ready (state_after_left s t gone) t ≡ false
+pub absent_after_left : (s : State) → IsState s → (t : ℕ) (gone : Option Gone) → t < task_count s → is_ready (state_after_left s t gone) t
+    ≡ false
 absent_after_left s ok t None number = get_or-set_same s.ready t false false (rw ok.ready_count number)
 absent_after_left s ok t (Some gone) number = entering gone.entered
   where
@@ -138,7 +159,8 @@ absent_after_left s ok t (Some gone) number = entering gone.entered
 
 pub leave_keeps : (s : State) (t : ℕ) (gone : Option Gone) (new : State) → IsState s → LeaveStep s t gone new → IsState new
 leave_keeps s t None new ok step = rw step.1 (IsState-state_with_absent s ok t step.0)
-leave_keeps s t (Some gone) new ok step = enter_keeps (state_after_leaving s t) step.0 gone.entered gone.chain gone.back new (IsState-state_after_leaving s ok t) step.2.enters
+leave_keeps s t (Some gone) new ok step =
+    enter_keeps (state_after_leaving s t) step.0 gone.entered gone.chain gone.back new (IsState-state_after_leaving s ok t) step.2.enters
 
 -- what is known where t has left, and its mask is to change
 pub record HasLeft (s : State) (t mask : ℕ) (between : State) : Type 0 where
@@ -147,7 +169,8 @@ pub record HasLeft (s : State) (t mask : ℕ) (between : State) : Type 0 where
   pub lawful : IsMask between.processors mask
   pub state : IsState between
 
-pub has_left : (s : State) → IsState s → (t mask : ℕ) (gone : Option Gone) (between : State) → t < task_count s → IsMask s.processors mask → LeaveStep s t gone between → HasLeft s t mask between
+pub has_left : (s : State) → IsState s → (t mask : ℕ) (gone : Option Gone) (between : State) → t < task_count s → IsMask s.processors mask
+    → LeaveStep s t gone between → HasLeft s t mask between
 has_left s ok t mask gone between number lawful leaves =
     let effect = leave_effect s t gone between leaves in
     let same = same_tasks-left s t gone in
@@ -161,18 +184,23 @@ has_left s ok t mask gone between number lawful leaves =
 pub IsState-remasked : (s : State) (t mask : ℕ) (between : State) → HasLeft s t mask between → IsState (state_with_mask between t mask)
 IsState-remasked s t mask between left = IsState-state_with_mask between t mask left.state left.number left.lawful left.absent
 
-affinity_keeps : (s : State) (t mask : ℕ) (reply : Reply) (new : State) → IsState s → t < task_count s → IsMask s.processors mask → AffinityStep s t mask reply new → IsState new
-affinity_keeps s t mask reply new ok number lawful (inl absent) = rw absent.masked (IsState-state_with_mask s t mask ok number lawful absent.absent)
+affinity_keeps : (s : State) (t mask : ℕ) (reply : Reply) (new : State) → IsState s → t < task_count s → IsMask s.processors mask
+    → AffinityStep s t mask reply new → IsState new
+affinity_keeps s t mask reply new ok number lawful (inl absent) =
+    rw absent.masked (IsState-state_with_mask s t mask ok number lawful absent.absent)
 affinity_keeps s t mask reply new ok number lawful (inr remasks) =
     let left = has_left s ok t mask remasks.gone remasks.between number lawful remasks.leaves in
-    comes_keeps (state_with_mask remasks.between t mask) t remasks.came new (IsState-remasked s t mask remasks.between left) left.number left.absent remasks.comes
+    comes_keeps (state_with_mask remasks.between t mask) t remasks.came new (IsState-remasked s t mask remasks.between left)
+    left.number left.absent remasks.comes
 
 -- ---- processors
 -- the state in which the task of a processor that is off line comes back
 pub IsState-moved : (s : State) → IsState s → (p t : ℕ) → task_on s p ≡ Some t → IsState (state_with_offline (state_after_leaving s t) p)
-IsState-moved s ok p t on = IsState-state_with_offline (state_after_leaving s t) p (IsState-state_after_leaving s ok t) (task_on-left s t p on)
+IsState-moved s ok p t on =
+    IsState-state_with_offline (state_after_leaving s t) p (IsState-state_after_leaving s ok t) (task_on-left s t p on)
 
-pub absent_moved : (s : State) → IsState s → (p t : ℕ) → task_on s p ≡ Some t → is_ready (state_with_offline (state_after_leaving s t) p) t ≡ false
+pub absent_moved : (s : State) → IsState s → (p t : ℕ) → task_on s p ≡ Some t → is_ready (state_with_offline (state_after_leaving s t) p) t
+    ≡ false
 absent_moved s ok p t on = get_or-set_same s.ready t false false (rw ok.ready_count (linked_number s p t ok on))
 
 offline_keeps : (s : State) (p : ℕ) (reply : Reply) (new : State) → IsState s → OfflineStep s p reply new → IsState new
@@ -180,11 +208,13 @@ offline_keeps s p reply new ok (inl again) = rw again.same ok
 offline_keeps s p reply new ok (inr (inl idle)) = rw idle.off (IsState-state_with_offline s p ok idle.idle.1)
 offline_keeps s p reply new ok (inr (inr occupied)) =
     let t = occupied.moved.task in
-    comes_keeps (state_with_offline (state_after_leaving s t) p) t occupied.moved.came new (IsState-moved s ok p t occupied.occupied) (linked_number s p t ok occupied.occupied) (absent_moved s ok p t occupied.occupied) occupied.comes
+    comes_keeps (state_with_offline (state_after_leaving s t) p) t occupied.moved.came new (IsState-moved s ok p t occupied.occupied)
+    (linked_number s p t ok occupied.occupied) (absent_moved s ok p t occupied.occupied) occupied.comes
 
 online_keeps : (s : State) (p : ℕ) (reply : Reply) (new : State) → IsState s → p < s.processors → OnlineStep s p reply new → IsState new
 online_keeps s p reply new ok number (inl again) = rw again.same ok
-online_keeps s p reply new ok number (inr fills) = enter_keeps (state_with_online s p) p fills.parts.entered fills.parts.chain fills.parts.back new (IsState-state_with_online s p ok number) fills.fills.enters
+online_keeps s p reply new ok number (inr fills) = enter_keeps (state_with_online s p)
+    p fills.parts.entered fills.parts.chain fills.parts.back new (IsState-state_with_online s p ok number) fills.fills.enters
 
 pub step_keeps_state : StepKeepsState
 step_keeps_state s (Arrive t) reply new ok step = arrive_keeps s t reply new ok step.0 step.1

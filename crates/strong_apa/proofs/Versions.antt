@@ -7,7 +7,8 @@ use Rattle.task_set.specs.declared.event.Event.TheVariants.{Arrive, Depart, Tick
 use Rattle.strong_apa.specs.declared.reply.Came.{Came}
 use Rattle.strong_apa.specs.declared.reply.Came.TheVariants as came
 use Rattle.strong_apa.specs.declared.reply.Reply.{Reply}
-use Rattle.strong_apa.specs.declared.reply.Reply.TheVariants.{Placed, Displaced, Waits, Freed, Left, Ticked, AlreadyReady, NotReady, Masked, Remasked, AlreadyOff, AlreadyOn, Off, On}
+use Rattle.strong_apa.specs.declared.reply.Reply.TheVariants.{Placed, Displaced, Waits, Freed, Left, Ticked, AlreadyReady, NotReady, Masked}
+use Rattle.strong_apa.specs.declared.reply.Reply.TheVariants.{Remasked, AlreadyOff, AlreadyOn, Off, On}
 use Rattle.strong_apa.specs.declared.reply.Entry.{Entry}
 use Rattle.strong_apa.specs.Reply.{reply_of_came, IsReplyOfVersion}
 use Rattle.strong_apa.specs.State.{State}
@@ -46,7 +47,8 @@ depart_version version s t reply new (inl again) = subst (IsReplyOfVersion versi
 depart_version version s t reply new (inr (inl waiting)) = subst (IsReplyOfVersion version) (sym waiting.answer) tt
 depart_version version s t reply new (inr (inr linked)) = subst (IsReplyOfVersion version) (sym linked.answer) tt
 
-pub step_has_version : (version : ℕ) (s : State) (event : Event) (reply : Reply) (new : State) → IsOfVersion version event → SchedulerStep s event reply new → IsReplyOfVersion version reply
+pub step_has_version : (version : ℕ) (s : State) (event : Event) (reply : Reply) (new : State) → IsOfVersion version event
+    → SchedulerStep s event reply new → IsReplyOfVersion version reply
 step_has_version version s (Arrive t) reply new of step = arrive_version version s t reply new step.1
 step_has_version version s (Depart t) reply new of step = depart_version version s t reply new step.1
 step_has_version version s (Tick units) reply new of step = subst (IsReplyOfVersion version) (sym step.0) tt
@@ -59,9 +61,12 @@ abbrev pub IsEntryOfVersion : ℕ → Entry → Type 0
 IsEntryOfVersion version entry = IsOfVersion version entry.event × IsReplyOfVersion version entry.reply
 
 -- a legal history of events of a version has entries of that version
-pub legal_has_version : (version : ℕ) (s : State) (history : List Entry) → IsLegalFrom s history → All (λ (entry : Entry). IsOfVersion version entry.event) history → All (IsEntryOfVersion version) history
+pub legal_has_version : (version : ℕ) (s : State) (history : List Entry) → IsLegalFrom s history
+    → All (λ (entry : Entry). IsOfVersion version entry.event) history → All (IsEntryOfVersion version) history
 legal_has_version version s [] legal of = All-nil (IsEntryOfVersion version)
 legal_has_version version s (first ∷ rest) legal of =
     let here = All-head (λ (entry : Entry). IsOfVersion version entry.event) first rest of in
-    All-cons (IsEntryOfVersion version) first rest (here, step_has_version version s first.event first.reply (effect_of s first) here legal.0)
-    (legal_has_version version (effect_of s first) rest legal.1 (All-tail (λ (entry : Entry). IsOfVersion version entry.event) first rest of))
+    All-cons (IsEntryOfVersion version) first rest
+    (here, step_has_version version s first.event first.reply (effect_of s first) here legal.0)
+    (legal_has_version version (effect_of s first) rest legal.1
+    (All-tail (λ (entry : Entry). IsOfVersion version entry.event) first rest of))

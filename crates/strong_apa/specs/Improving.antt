@@ -12,4 +12,5 @@ HasNoImprovingChain s = (t : ℕ) (chain : List ℕ) → IsImproving s t chain �
 
 -- after every entry no task has an improving chain
 abbrev pub HasNoImprovingChainThroughout : SetData → List Entry → Type 0
-HasNoImprovingChainThroughout set history = (n : ℕ) → n ≤ length history → HasNoImprovingChain (state_at set history n)
+HasNoImprovingChainThroughout set history =
+    (n : ℕ) → n ≤ length history → HasNoImprovingChain (state_at set history n)

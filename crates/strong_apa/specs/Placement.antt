@@ -1,7 +1,8 @@
--- Placements, and the best set. A set of tasks is placeable where its tasks can be assigned to processors of their
--- effective masks, no two to one; of two sets the better one has the most urgent task that is in just one of them; the
--- best subset of the ready tasks is placeable, and no placeable subset is better. A set of tasks is given as a test,
--- and a placement as the function from tasks to processors.
+-- Placements, and the best set. A set of tasks is placeable where its tasks can be assigned to
+-- processors of their effective masks, no two to one; of two sets the better one has the most
+-- urgent task that is in just one of them; the best subset of the ready tasks is placeable, and no
+-- placeable subset is better. A set of tasks is given as a test, and a placement as the function
+-- from tasks to processors.
 use Rattle.std.specs.Prelude.{◌≡◌, ◌≢◌, ℕ, ◌≤◌, Bool, true, false, IsTrue}
 use Rattle.affinity_mask.specs.ProcSet.{has}
 use Rattle.strong_apa.specs.State.{State, effective_mask, priority_of}
@@ -10,7 +11,8 @@ use Rattle.strong_apa.specs.State.{State, effective_mask, priority_of}
 abbrev pub TaskTest : Type 0
 TaskTest = ℕ → Bool
 
--- a placement of a set: each task has a processor of its effective mask, and no two tasks have the same
+-- a placement of a set: each task has a processor of its effective mask, and no two tasks have the
+-- same
 pub record IsPlacement (s : State) (tasks : TaskTest) (place : ℕ → ℕ) : Type 0 where
   pub allowed : (t : ℕ) → tasks t ≡ true → IsTrue (has (effective_mask s t) (place t))
   pub apart : (t u : ℕ) → tasks t ≡ true → tasks u ≡ true → place t ≡ place u → t ≡ u
@@ -34,4 +36,5 @@ IsSubset A R = (t : ℕ) → A t ≡ true → R t ≡ true
 pub record IsBest (s : State) (R best : TaskTest) : Type 0 where
   pub subset : IsSubset best R
   pub placeable : IsPlaceable s best
-  pub none_better : (other : TaskTest) → IsSubset other R → IsPlaceable s other → IsBetter s other best → ⊥
+  pub none_better : (other : TaskTest) → IsSubset other R → IsPlaceable s other
+      → IsBetter s other best → ⊥

@@ -1,6 +1,7 @@
--- Sets of tasks compared rank by rank. The tasks of a set that are as urgent as a bound, or more, are those whose
--- priority number is at most the bound; a set keeps up with another where at no bound the other has more of them; the
--- k-th most urgent task of a set is the one up to whose priority the set has k tasks, itself among them.
+-- Sets of tasks compared rank by rank. The tasks of a set that are as urgent as a bound, or more,
+-- are those whose priority number is at most the bound; a set keeps up with another where at no
+-- bound the other has more of them; the k-th most urgent task of a set is the one up to whose
+-- priority the set has k tasks, itself among them.
 use Rattle.std.specs.Prelude.{◌≡◌, ℕ, ◌≤◌, true, ◌&&◌, List, length, nat_le}
 use Rattle.affinity_mask.specs.ProcSet.{passing_below}
 use Rattle.strong_apa.specs.State.{State, task_count, priority_of}
@@ -23,7 +24,8 @@ pub record IsRanked (s : State) (tasks : TaskTest) (k t : ℕ) : Type 0 where
   pub member : tasks t ≡ true
   pub rank : length (tasks_within s tasks (priority_of s t)) ≡ k
 
--- A is as urgent as B rank by rank: for each k up to the size of B there is a k-th most urgent task of each, and that
--- of A is at least as urgent
+-- A is as urgent as B rank by rank: for each k up to the size of B there is a k-th most urgent task
+-- of each, and that of A is at least as urgent
 abbrev pub IsAsUrgent : State → TaskTest → TaskTest → Type 0
-IsAsUrgent s A B = (k : ℕ) → 1 ≤ k → k ≤ length (tasks_of s B) → (t : ℕ) × (u : ℕ) × IsRanked s A k t × IsRanked s B k u × (priority_of s t ≤ priority_of s u)
+IsAsUrgent s A B = (k : ℕ) → 1 ≤ k → k ≤ length (tasks_of s B)
+    → (t : ℕ) × (u : ℕ) × IsRanked s A k t × IsRanked s B k u × (priority_of s t ≤ priority_of s u)

@@ -1,12 +1,16 @@
--- What a reply is made of: the result of an arrival, or who came in at a processor that became idle; and what it carries,
--- whatever it means: its chains, its sets of processors, and the tasks that it names.
+-- What a reply is made of: the result of an arrival, or who came in at a processor that became
+-- idle; and what it carries, whatever it means: its chains, its sets of processors, and the tasks
+-- that it names.
 use Rattle.std.specs.Prelude.{◌≡◌, ℕ, List, [], ◌∷◌, ◌++◌, Option, Some, None}
 use Rattle.std.specs.List.{cons_option}
 use Rattle.strong_apa.specs.declared.reply.Came.{Came}
 use Rattle.strong_apa.specs.declared.reply.Came.TheVariants as came
 use Rattle.strong_apa.specs.declared.reply.Gone.{Gone}
 use Rattle.strong_apa.specs.declared.reply.Reply.{Reply}
-use Rattle.strong_apa.specs.declared.reply.Reply.TheVariants.{Placed, Displaced, Waits, Freed, Left, Ticked, AlreadyReady, NotReady, Masked, Remasked, AlreadyOff, AlreadyOn, Off, On}
+use Rattle.strong_apa.specs.declared.reply.Reply.TheVariants.{Placed, Displaced, Waits, Freed, Left}
+use Rattle.strong_apa.specs.declared.reply.Reply.TheVariants.{Ticked, AlreadyReady, NotReady}
+use Rattle.strong_apa.specs.declared.reply.Reply.TheVariants.{Masked, Remasked, AlreadyOff}
+use Rattle.strong_apa.specs.declared.reply.Reply.TheVariants.{AlreadyOn, Off, On}
 
 -- the reply that says the result of an arrival
 abbrev pub reply_of_came : Came → Reply
@@ -107,7 +111,8 @@ tasks_named (Off (Some moved)) = moved.task ∷ came_tasks moved.came
 tasks_named (On parts) = cons_option parts.entered []
 tasks_named _ = []
 
--- the version of the formats has such a reply: the first one has those to arrivals, departures and ticks alone
+-- the version of the formats has such a reply: the first one has those to arrivals, departures and
+-- ticks alone
 abbrev pub IsReplyOfVersion : ℕ → Reply → Type 0
 IsReplyOfVersion version Masked = version ≡ 2
 IsReplyOfVersion version (Remasked _ came) = version ≡ 2

@@ -1,12 +1,16 @@
--- The state of a scheduler. A state is what is known of each task (its priority and its mask), which processors are on
--- line, which tasks are ready, and which task is linked to which processor. What is known of a task is listed by the
--- number of the task, and the links by the number of the processor.
-use Rattle.std.specs.Prelude.{◌≡◌, ℕ, ◌<◌, ◌≤◌, Bool, true, false, List, length, get_or, replicate, set, map, IsTrue, Option, Some, None, ◌==◌, if◌then◌else◌}
+-- The state of a scheduler. A state is what is known of each task (its priority and its mask),
+-- which processors are on line, which tasks are ready, and which task is linked to which processor.
+-- What is known of a task is listed by the number of the task, and the links by the number of the
+-- processor.
+use Rattle.std.specs.Prelude.{◌≡◌, ℕ, ◌<◌, ◌≤◌, Bool, true, false, List, length, get_or, replicate}
+use Rattle.std.specs.Prelude.{set, map, IsTrue, Option, Some, None, ◌==◌, if◌then◌else◌}
 use Rattle.std.specs.List.{list_any}
-use Rattle.affinity_mask.specs.ProcSet.{has, empty, all_below, intersection, with_member, without_member, Within}
+use Rattle.affinity_mask.specs.ProcSet.{has, empty, all_below, intersection, with_member}
+use Rattle.affinity_mask.specs.ProcSet.{without_member, Within}
 use Rattle.task_set.specs.TaskSet.{SetData, IsMask, priorities, masks}
 
--- masks and `online` are sets of processors; `on` has the task linked to each processor, if there is one
+-- masks and `online` are sets of processors; `on` has the task linked to each processor, if there
+-- is one
 pub record State : Type 0 where
   pub processors : ℕ
   pub priorities : List ℕ
@@ -61,8 +65,8 @@ pub record IsWaiting (s : State) (t : ℕ) : Type 0 where
 abbrev pub IsMoreUrgent : State → ℕ → ℕ → Type 0
 IsMoreUrgent s a b = priority_of s a < priority_of s b
 
--- what holds of every state: the links are a placement of ready tasks that respects the effective masks, so that only
--- processors on line are occupied, and priorities differ
+-- what holds of every state: the links are a placement of ready tasks that respects the effective
+-- masks, so that only processors on line are occupied, and priorities differ
 pub record IsState (s : State) : Type 0 where
   pub processors : s.processors ≤ 64
   pub count : task_count s ≤ 1024
@@ -71,12 +75,14 @@ pub record IsState (s : State) : Type 0 where
   pub on_count : length s.on ≡ s.processors
   pub online : Within s.online (all_below s.processors)
   pub masks : (t : ℕ) → t < task_count s → IsMask s.processors (mask_of s t)
-  pub distinct : (t u : ℕ) → t < task_count s → u < task_count s → priority_of s t ≡ priority_of s u → t ≡ u
+  pub distinct : (t u : ℕ) → t < task_count s → u < task_count s → priority_of s t ≡ priority_of s u
+      → t ≡ u
   pub allowed : (p t : ℕ) → task_on s p ≡ Some t → IsTrue (has (effective_mask s t) p)
   pub once : (p q t : ℕ) → task_on s p ≡ Some t → task_on s q ≡ Some t → p ≡ q
   pub linked_ready : (p t : ℕ) → task_on s p ≡ Some t → is_ready s t ≡ true
 
--- the state of a set of tasks before anything has happened: every task is absent, and every processor on line and idle
+-- the state of a set of tasks before anything has happened: every task is absent, and every
+-- processor on line and idle
 abbrev pub start_of : SetData → State
 start_of set = record {
   processors = set.processors;
@@ -87,12 +93,14 @@ start_of set = record {
   on = replicate set.processors None;
 }
 
--- two states have the same processors, and the same tasks with the same priorities: so it stays for ever
+-- two states have the same processors, and the same tasks with the same priorities: so it stays for
+-- ever
 pub record HasSameTasks (old new : State) : Type 0 where
   pub processors : new.processors ≡ old.processors
   pub priorities : new.priorities ≡ old.priorities
 
--- two states have the same masks, and the same processors on line: so it stays while no event changes either
+-- two states have the same masks, and the same processors on line: so it stays while no event
+-- changes either
 pub record HasSameMasks (old new : State) : Type 0 where
   pub masks : new.masks ≡ old.masks
   pub online : new.online ≡ old.online

@@ -11,6 +11,7 @@ IsTaskSet-push s task valid can = record {
   processors = valid.processors;
   count = let room : length s.tasks < 1024 = can.room in omega (arith, length-append s.tasks (task ∷ []));
   names = All-push (λ t. IsName t.name) s.tasks task valid.names can.name;
-  differ = all_pairs_push Differ s.tasks task valid.differ (λ k d lt. record { names = can.new_name k d lt; priorities = can.new_priority k d lt });
+  differ = all_pairs_push Differ s.tasks task valid.differ
+      (λ k d lt. record { names = can.new_name k d lt; priorities = can.new_priority k d lt });
   masks = All-push (λ t. IsMask s.processors t.mask) s.tasks task valid.masks can.mask;
 }

@@ -16,7 +16,8 @@ StopIsLast-front (Run units) front rest h = tt
 -- a front of an obeyable list is obeyable
 pub IsObeyableFrom-front : (held : Option ℕ) (front rest : List Order) → IsObeyableFrom held (front ++ rest) → IsObeyableFrom held front
 IsObeyableFrom-front held [] rest h = tt
-IsObeyableFrom-front held (order ∷ front) rest h = (h.0, StopIsLast-front order front rest h.1, IsObeyableFrom-front (held_after held order) front rest h.2)
+IsObeyableFrom-front held (order ∷ front) rest h =
+    (h.0, StopIsLast-front order front rest h.1, IsObeyableFrom-front (held_after held order) front rest h.2)
 
 StopIsLast-alone : (order : Order) → StopIsLast order []
 StopIsLast-alone Stop = refl
@@ -31,7 +32,8 @@ StopIsLast-other (Release task) rest other = tt
 StopIsLast-other (Run units) rest other = tt
 
 -- an obeyable list without Stop is obeyable with one order more that may come
-pub IsObeyableFrom-push : (held : Option ℕ) (orders : List Order) (next : Order) → IsObeyableFrom held orders → All (λ order. order ≢ Stop) orders → MayCome (fold held_after held orders) next → IsObeyableFrom held (orders ++ next ∷ [])
+pub IsObeyableFrom-push : (held : Option ℕ) (orders : List Order) (next : Order) → IsObeyableFrom held orders
+    → All (λ order. order ≢ Stop) orders → MayCome (fold held_after held orders) next → IsObeyableFrom held (orders ++ next ∷ [])
 IsObeyableFrom-push held [] next h others may = (may, StopIsLast-alone next, tt)
 IsObeyableFrom-push held (order ∷ rest) next h others may = (
   h.0,
@@ -40,7 +42,8 @@ IsObeyableFrom-push held (order ∷ rest) next h others may = (
 )
 
 -- an order that follows others in an obeyable list may come after them
-pub MayCome-next : (held : Option ℕ) (orders : List Order) (next : Order) → IsObeyableFrom held (orders ++ next ∷ []) → MayCome (fold held_after held orders) next
+pub MayCome-next : (held : Option ℕ) (orders : List Order) (next : Order) → IsObeyableFrom held (orders ++ next ∷ [])
+    → MayCome (fold held_after held orders) next
 MayCome-next held [] next h = h.0
 MayCome-next held (order ∷ rest) next h = MayCome-next (held_after held order) rest next h.2
 
@@ -49,7 +52,8 @@ more_empty [] more h = h
 more_empty (order ∷ rest) more h = absurd (cc h)
 
 -- nothing follows Stop
-pub nothing_after_stop : (held : Option ℕ) (orders more : List Order) → IsObeyableFrom held (orders ++ more) → has_stop orders ≡ true → more ≡ []
+pub nothing_after_stop : (held : Option ℕ) (orders more : List Order) → IsObeyableFrom held (orders ++ more) → has_stop orders ≡ true
+    → more ≡ []
 nothing_after_stop held [] more h stops = absurd (true≢false (sym stops))
 nothing_after_stop held (Stop ∷ rest) more h stops = more_empty rest more h.1
 nothing_after_stop held (Take task number ∷ rest) more h stops = nothing_after_stop (Some task) rest more h.2 stops

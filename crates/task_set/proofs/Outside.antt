@@ -29,7 +29,8 @@ outside_by X m first outside is_first is_outside r none least = by r none least
     is : (q : ℕ) → has outside q ≡ (has X q && not (nat_lt q m))
     is q = is_outside q ∙ ap (λ b. has X q && not b) (is_first q)
 
-    by : (r : Option ℕ) → IsNone r ↔ (outside ≡ empty) → IfSome r (IsLeastMember outside) → MatchOption r ((p : ℕ) → IsTrue (has X p) → p < m) (IsLeastOutside m X)
+    by : (r : Option ℕ) → IsNone r ↔ (outside ≡ empty) → IfSome r (IsLeastMember outside)
+        → MatchOption r ((p : ℕ) → IsTrue (has X p) → p < m) (IsLeastOutside m X)
     by None none least = λ p member. inside_is (has X p) p m (sym (is p) ∙ ap (λ Y. has Y p) (none.0 refl) ∙ has-zero p) member
     by (Some p) none least =
         let parts = both_ways (has X p) p m (sym (is p) ∙ least.0) in

@@ -1,5 +1,6 @@
 -- The priorities of a set, kept as a list beside its tasks, in which a priority is looked up.
-use Rattle.std.proofs.Common.{◌≡◌, ◌≢◌, ℕ, ◌+◌, Bool, false, cond, List, [], ◌∷◌, ◌++◌, map, ◌||◌, refl, sym, ap, ◌∙◌, if◌then◌else◌, None, Some, eq-eqb, eqb-true}
+use Rattle.std.proofs.Common.{◌≡◌, ◌≢◌, ℕ, ◌+◌, Bool, false, cond, List, [], ◌∷◌, ◌++◌, map, ◌||◌, refl, sym, ap, ◌∙◌, if◌then◌else◌, None}
+use Rattle.std.proofs.Common.{Some, eq-eqb, eqb-true}
 use Rattle.std.specs.Prelude.{position, nat_eq}
 use Rattle.std.specs.List.{position_from, list_any}
 use Rattle.std.proofs.lemmas.Bool.{true≢false, false_from_ne_true}
@@ -12,7 +13,8 @@ use Rattle.task_set.proofs.Lists.{position-None, position-Some}
 use Rattle.task_set.specs.Refusal.{IsNewPriority, IsPriorityOf}
 use Rattle.task_set.specs.TaskSet.{TaskData, SetData, with_task, priorities}
 
-position_from-map : {X A : Type 0} (p : A → Bool) (g : X → A) (n : ℕ) (xs : List X) → position_from p n (map g xs) ≡ position_from (λ x. p (g x)) n xs
+position_from-map : {X A : Type 0} (p : A → Bool) (g : X → A) (n : ℕ) (xs : List X)
+    → position_from p n (map g xs) ≡ position_from (λ x. p (g x)) n xs
 position_from-map p g n [] = refl
 position_from-map p g n (x ∷ xs) = ap (cond (p (g x)) (Some n)) (position_from-map p g (n + 1) xs)
 
@@ -33,7 +35,8 @@ module _ (s : SetData) (keys : List ℕ) (priority : ℕ) (kept : keys ≡ prior
   priority_absent e =
       All-weaker (λ t. has_priority priority t ≡ false) (λ t. t.priority ≢ priority)
       (λ t fails same. true≢false (sym (eq-eqb _ _ (sym same)) ∙ fails)) s.tasks
-      (position-None (has_priority priority) s.tasks (sym (position-map (nat_eq priority) (λ t. t.priority) s.tasks) ∙ sym (ap (position (nat_eq priority)) kept) ∙ e))
+      (position-None (has_priority priority) s.tasks (sym (position-map (nat_eq priority) (λ t. t.priority) s.tasks)
+      ∙ sym (ap (position (nat_eq priority)) kept) ∙ e))
 
   pub priority_found : (t : ℕ) → position (nat_eq priority) keys ≡ Some t → IsPriorityOf s t priority
   priority_found t e =

@@ -44,15 +44,19 @@ module _ (s : SetData) (task : TaskData) where
   same-SameName : (t : ℕ) (other : TaskFault) → IsTaskSet s → IsRefusal s task (SameName t) → IsRefusal s task other → SameName t ≡ other
   same-SameName t BadName valid h k = absurd (k h.0)
   same-SameName t Many valid h k = let room : length s.tasks < 1024 = h.1 in absurd (omega (arith, k.1))
-  same-SameName t (SameName u) valid h k = ap SameName (same_place (λ (x : TaskData). x.name) s.tasks t u task.name task (λ i j d lt within. (valid.differ i j d lt within).names) h.2 k.2)
+  same-SameName t (SameName u) valid h k = ap SameName
+      (same_place (λ (x : TaskData). x.name) s.tasks t u task.name task (λ i j d lt within. (valid.differ i j d lt within).names) h.2 k.2)
   same-SameName t OutOfMemory valid h k = absurd k
   same-SameName t _ valid h k = absurd (name_not_new s task t k.2 h.2)
 
-  same-SamePriority : (t : ℕ) (other : TaskFault) → IsTaskSet s → IsRefusal s task (SamePriority t) → IsRefusal s task other → SamePriority t ≡ other
+  same-SamePriority : (t : ℕ) (other : TaskFault) → IsTaskSet s → IsRefusal s task (SamePriority t) → IsRefusal s task other
+      → SamePriority t ≡ other
   same-SamePriority t BadName valid h k = absurd (k h.0)
   same-SamePriority t Many valid h k = let room : length s.tasks < 1024 = h.1 in absurd (omega (arith, k.1))
   same-SamePriority t (SameName u) valid h k = absurd (name_not_new s task u h.2 k.2)
-  same-SamePriority t (SamePriority u) valid h k = ap SamePriority (same_place (λ (x : TaskData). x.priority) s.tasks t u task.priority task (λ i j d lt within. (valid.differ i j d lt within).priorities) h.3 k.3)
+  same-SamePriority t (SamePriority u) valid h k = ap SamePriority
+      (same_place (λ (x : TaskData). x.priority) s.tasks t u task.priority task
+      (λ i j d lt within. (valid.differ i j d lt within).priorities) h.3 k.3)
   same-SamePriority t OutOfMemory valid h k = absurd k
   same-SamePriority t _ valid h k = absurd (priority_not_new s task t k.3 h.3)
 
@@ -71,7 +75,8 @@ module _ (s : SetData) (task : TaskData) where
   same-OutsideMask p (SameName u) h k = absurd (name_not_new s task u h.2 k.2)
   same-OutsideMask p (SamePriority u) h k = absurd (priority_not_new s task u h.3 k.3)
   same-OutsideMask p EmptyMask h k = absurd (empty_not_outside s.processors task.mask p k.4 h.4)
-  same-OutsideMask p (OutsideMask q) h k = ap OutsideMask (le_antisymm (h.4.least q k.4.member k.4.outside) (k.4.least p h.4.member h.4.outside))
+  same-OutsideMask p (OutsideMask q) h k =
+      ap OutsideMask (le_antisymm (h.4.least q k.4.member k.4.outside) (k.4.least p h.4.member h.4.outside))
   same-OutsideMask p OutOfMemory h k = absurd k
 
   -- a task has one refusal at most

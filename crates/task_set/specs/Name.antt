@@ -14,4 +14,5 @@ continues_name byte = is_ascii_alphanumeric byte || (byte == 95) || (byte == 46)
 -- a name is a first byte and others, at most 32 in all
 abbrev pub IsName : List ℕ → Type 0
 IsName [] = ⊥
-IsName (first ∷ others) = (length (first ∷ others) ≤ 32) × IsTrue (begins_name first) × All (λ byte. IsTrue (continues_name byte)) others
+IsName (first ∷ others) = (length (first ∷ others) ≤ 32) × IsTrue (begins_name first)
+    × All (λ byte. IsTrue (continues_name byte)) others

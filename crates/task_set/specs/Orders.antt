@@ -1,7 +1,9 @@
--- Lists of orders to one processor. A processor holds one task or nobody, and nobody at
--- first; it takes a task only while it holds nobody, runs and releases only the task that it holds, and stops only
--- while it holds nobody, with its last order. A stint is what it does with a task from a take to the next release.
-use Rattle.std.specs.Prelude.{◌≡◌, ℕ, ◌<◌, Bool, true, false, Option, None, Some, List, [], ◌∷◌, ◌++◌, map, fold, option_to_list}
+-- Lists of orders to one processor. A processor holds one task or nobody, and nobody at first; it
+-- takes a task only while it holds nobody, runs and releases only the task that it holds, and stops
+-- only while it holds nobody, with its last order. A stint is what it does with a task from a take
+-- to the next release.
+use Rattle.std.specs.Prelude.{◌≡◌, ℕ, ◌<◌, Bool, true, false, Option, None, Some, List, [], ◌∷◌}
+use Rattle.std.specs.Prelude.{◌++◌, map, fold, option_to_list}
 use Rattle.task_set.specs.declared.order.Order.{Order}
 use Rattle.task_set.specs.declared.order.Order.TheVariants.{Release, Take, Run, Stop}
 
@@ -33,7 +35,8 @@ held_after held Stop = held
 -- from left to right each order may come, where this task is held at first, or nobody
 abbrev pub IsObeyableFrom : Option ℕ → List Order → Type 0
 IsObeyableFrom held [] = Unit {0}
-IsObeyableFrom held (order ∷ rest) = MayCome held order × StopIsLast order rest × IsObeyableFrom (held_after held order) rest
+IsObeyableFrom held (order ∷ rest) =
+    MayCome held order × StopIsLast order rest × IsObeyableFrom (held_after held order) rest
 
 -- a list of orders that one processor can obey
 abbrev pub IsObeyable : List Order → Type 0
@@ -65,7 +68,8 @@ TakesBelow n (Take task number) = number < n
 TakesBelow n (Run units) = Unit {0}
 TakesBelow n Stop = Unit {0}
 
--- a stint: a task is taken for the stint with this number on this processor, run for each of these units, and released
+-- a stint: a task is taken for the stint with this number on this processor, run for each of these
+-- units, and released
 pub record Stint : Type 0 where
   pub task : ℕ
   pub number : ℕ
@@ -78,7 +82,8 @@ stint_orders stint = Take stint.task stint.number ∷ map Run stint.units ++ Rel
 
 -- the stint that is under way on p after an order: a Take begins it, and a Run adds its units
 abbrev pub stint_after : ℕ → Option Stint → Order → Option Stint
-stint_after p under_way (Take task number) = Some (record { task = task; number = number; processor = p; units = [] })
+stint_after p under_way (Take task number) =
+    Some (record { task = task; number = number; processor = p; units = [] })
 stint_after p under_way (Release task) = None
 stint_after p None (Run units) = None
 stint_after p (Some stint) (Run units) = Some (record stint { units = stint.units ++ units ∷ [] })
@@ -94,9 +99,11 @@ stint_ended under_way Stop = []
 -- the stints on p that these orders end, where this one is under way at first, or none
 abbrev pub stints_from : ℕ → Option Stint → List Order → List Stint
 stints_from p under_way [] = []
-stints_from p under_way (order ∷ rest) = stint_ended under_way order ++ stints_from p (stint_after p under_way order) rest
+stints_from p under_way (order ∷ rest) =
+    stint_ended under_way order ++ stints_from p (stint_after p under_way order) rest
 
--- the stints of a list of orders to p: one for each Take that a Release follows, with the units of the Runs between
+-- the stints of a list of orders to p: one for each Take that a Release follows, with the units of
+-- the Runs between
 abbrev pub stints_in : ℕ → List Order → List Stint
 stints_in p orders = stints_from p None orders
 

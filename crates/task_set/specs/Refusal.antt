@@ -5,7 +5,9 @@ use Rattle.affinity_mask.specs.ProcSet.{has, empty}
 use Rattle.task_set.specs.Name.{IsName}
 use Rattle.task_set.specs.TaskSet.{TaskData, SetData, with_task, IsMask, names, priorities}
 use Rattle.task_set.specs.declared.fault.TaskFault.{TaskFault}
-use Rattle.task_set.specs.declared.fault.TaskFault.TheVariants.{BadName, Many, SameName, SamePriority, EmptyMask, OutsideMask, OutOfMemory}
+use Rattle.task_set.specs.declared.fault.TaskFault.TheVariants.{BadName, Many, SameName}
+use Rattle.task_set.specs.declared.fault.TaskFault.TheVariants.{SamePriority, EmptyMask}
+use Rattle.task_set.specs.declared.fault.TaskFault.TheVariants.{OutsideMask, OutOfMemory}
 
 -- the task that is to be added
 abbrev pub new_task : List ℕ → ℕ → ℕ → TaskData
@@ -45,7 +47,8 @@ pub record CanAdd (s : SetData) (task : TaskData) : Type 0 where
   pub new_priority : IsNewPriority s task.priority
   pub mask : IsMask s.processors task.mask
 
--- the task was added to the old set: it could be, its number is the next one, and it stands last in the new set
+-- the task was added to the old set: it could be, its number is the next one, and it stands last in
+-- the new set
 pub record AddsTask (old new : SetData) (task : TaskData) (t : ℕ) : Type 0 where
   pub allowed : CanAdd old task
   pub number : t ≡ length old.tasks
@@ -56,7 +59,10 @@ abbrev pub IsRefusal : SetData → TaskData → TaskFault → Type 0
 IsRefusal s task BadName = ¬ IsName task.name
 IsRefusal s task Many = IsName task.name × (length s.tasks ≡ 1024)
 IsRefusal s task (SameName t) = IsName task.name × HasRoom s × IsNameOf s t task.name
-IsRefusal s task (SamePriority t) = IsName task.name × HasRoom s × IsNewName s task.name × IsPriorityOf s t task.priority
-IsRefusal s task EmptyMask = IsName task.name × HasRoom s × IsNewName s task.name × IsNewPriority s task.priority × (task.mask ≡ empty)
-IsRefusal s task (OutsideMask p) = IsName task.name × HasRoom s × IsNewName s task.name × IsNewPriority s task.priority × IsLeastOutside s.processors task.mask p
+IsRefusal s task (SamePriority t) =
+    IsName task.name × HasRoom s × IsNewName s task.name × IsPriorityOf s t task.priority
+IsRefusal s task EmptyMask = IsName task.name × HasRoom s × IsNewName s task.name
+    × IsNewPriority s task.priority × (task.mask ≡ empty)
+IsRefusal s task (OutsideMask p) = IsName task.name × HasRoom s × IsNewName s task.name
+    × IsNewPriority s task.priority × IsLeastOutside s.processors task.mask p
 IsRefusal s task OutOfMemory = ⊥

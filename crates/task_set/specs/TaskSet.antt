@@ -1,7 +1,9 @@
--- Sets of tasks. A task is a name, a priority and an affinity mask; its number is its place
--- in the list; of two tasks the one with the lower priority number is more urgent, and no two tasks have one name or
--- one priority; each mask has a processor, and only processors that there are; there are at most 1,024 tasks.
-use Rattle.std.specs.Prelude.{◌≢◌, ℕ, ◌<◌, ◌≤◌, List, [], ◌∷◌, ◌++◌, length, map, IsTrue, AllPairs, All}
+-- Sets of tasks. A task is a name, a priority and an affinity mask; its number is its place in the
+-- list; of two tasks the one with the lower priority number is more urgent, and no two tasks have
+-- one name or one priority; each mask has a processor, and only processors that there are; there
+-- are at most 1,024 tasks.
+use Rattle.std.specs.Prelude.{◌≢◌, ℕ, ◌<◌, ◌≤◌, List, [], ◌∷◌, ◌++◌, length, map, IsTrue, AllPairs}
+use Rattle.std.specs.Prelude.{All}
 use Rattle.affinity_mask.specs.ProcSet.{has, empty}
 use Rattle.task_set.specs.Name.{IsName}
 
@@ -17,8 +19,8 @@ pub record SetData : Type 0 where
   pub tasks : List TaskData
 
 -- of two priorities the lower number is more urgent
-abbrev pub IsMoreUrgent : ℕ → ℕ → Type 0
-IsMoreUrgent a b = a < b
+abbrev pub IsMoreUrgentPriority : ℕ → ℕ → Type 0
+IsMoreUrgentPriority a b = a < b
 
 -- the set with one task more, which stands last
 abbrev pub with_task : SetData → TaskData → SetData

@@ -1,5 +1,6 @@
 -- What an arrival does, by what the searches found.
-use Rattle.std.proofs.Common.{◌≡◌, ℕ, ◌<◌, ◌≤◌, false, List, Option, Some, None, refl, sym, ◌∙◌, subst, inl, inr, IsTrue, IsSome, IsNone, arith, le_antisymm}
+use Rattle.std.proofs.Common.{◌≡◌, ℕ, ◌<◌, ◌≤◌, false, List, Option, Some, None, refl, sym, ◌∙◌, subst, inl, inr, IsTrue, IsSome, IsNone}
+use Rattle.std.proofs.Common.{arith, le_antisymm}
 use Rattle.std.proofs.lemmas.Bool.{cases_lt, true≢false}
 use Rattle.affinity_mask.specs.ProcSet.{has}
 use Rattle.strong_apa.specs.State.{State, IsState, IsMoreUrgent, task_on, task_count, is_ready, priority_of}
@@ -33,20 +34,25 @@ module _ (s : State) (ok : IsState s) (t : ℕ) where
     chain_to_least_urgent d least = let path = (reached least.there.0).0 least.there.1 in (path.0, (least.there.0, path.1, least.there.2))
 
     -- where the least urgent one of them is not less urgent than t, all are more urgent
-    pub more_urgent_reach : t < task_count s → is_ready s t ≡ false → IsOccupied s reach → (d : ℕ) → IsLeastUrgentOn s reach d → (IsMoreUrgent s t d → ⊥) → (p : ℕ) → IsTrue (has reach p) → (u : ℕ) × (task_on s p ≡ Some u) × IsMoreUrgent s u t
+    pub more_urgent_reach : t < task_count s → is_ready s t ≡ false → IsOccupied s reach → (d : ℕ) → IsLeastUrgentOn s reach d
+        → (IsMoreUrgent s t d → ⊥) → (p : ℕ) → IsTrue (has reach p) → (u : ℕ) × (task_on s p ≡ Some u) × IsMoreUrgent s u t
     more_urgent_reach number absent occupied d least not_less p inside =
         let u = (occupied p inside).0 in
         let on = (occupied p inside).1 in
         let below = least.least_urgent p u inside on in
-        let le : priority_of s d ≤ priority_of s t = elim (cases_lt (priority_of s t) (priority_of s d)) [ inl lt ↦ absurd (not_less lt) | inr ge ↦ ge ] in (
+        let le : priority_of s d ≤ priority_of s t = elim (cases_lt (priority_of s t) (priority_of s d))
+        [ inl lt ↦ absurd (not_less lt) | inr ge ↦ ge ] in (
           u,
           on,
           elim (cases_lt (priority_of s u) (priority_of s t)) [
             | inl lt ↦ lt
-            | inr ge ↦ absurd (true≢false (sym (ok.linked_ready p u on) ∙ subst (λ (v : ℕ). is_ready s v ≡ false) (sym (ok.distinct u t (linked_number s p u ok on) number (le_antisymm (omega arith) ge))) absent))
+            | inr ge ↦ absurd (true≢false (sym (ok.linked_ready p u on)
+                ∙ subst (λ (v : ℕ). is_ready s v ≡ false)
+                (sym (ok.distinct u t (linked_number s p u ok on) number (le_antisymm (omega arith) ge))) absent))
           ],
         )
 
     -- where nobody is reached, nothing is
-    pub nobody_reached : IsOccupied s reach → IsNobodyOn s reach → (p : ℕ) → IsTrue (has reach p) → (u : ℕ) × (task_on s p ≡ Some u) × IsMoreUrgent s u t
+    pub nobody_reached : IsOccupied s reach → IsNobodyOn s reach → (p : ℕ) → IsTrue (has reach p) → (u : ℕ) × (task_on s p ≡ Some u)
+        × IsMoreUrgent s u t
     nobody_reached occupied nobody p inside = absurd (nobody p (occupied p inside).0 inside (occupied p inside).1)

@@ -11,7 +11,8 @@ use Rattle.task_set.specs.declared.order.Order.{Order}
 use Rattle.task_set.specs.declared.order.Order.TheVariants.{Release, Take, Run, Stop}
 
 -- a task is taken on processor 0 and runs a million units
-one_long_run : context_after_run (context_after_take (fresh_context 0) 0) 0 1000000 ≡ record { task = 0; units = 1000000; stints = 1; moves = 0; last = Some 0; trail = 64000000 }
+one_long_run : context_after_run (context_after_take (fresh_context 0) 0) 0 1000000
+    ≡ record { task = 0; units = 1000000; stints = 1; moves = 0; last = Some 0; trail = 64000000 }
 one_long_run = refl
 
 -- a stint on a processor
@@ -19,12 +20,14 @@ stint : ℕ → ℕ → ℕ → List ℕ → Stint
 stint task number processor units = record { task = task; number = number; processor = processor; units = units }
 
 -- a task is taken twice on processor 0, and runs 1 and 2 units
-back_on_the_same_processor : carried_context 0 (stint 0 0 0 (1 ∷ []) ∷ stint 0 1 0 (2 ∷ []) ∷ []) ≡ record { task = 0; units = 3; stints = 2; moves = 0; last = Some 0; trail = 1476348704584616896 }
+back_on_the_same_processor : carried_context 0 (stint 0 0 0 (1 ∷ []) ∷ stint 0 1 0 (2 ∷ []) ∷ [])
+    ≡ record { task = 0; units = 3; stints = 2; moves = 0; last = Some 0; trail = 1476348704584616896 }
 unfolding stint
 back_on_the_same_processor = refl
 
 -- a task runs 5 units on processor 0 and then 2 on processor 1; the later stint stands first in the list
-carried_to_another_processor : carried_context 0 (stint 0 1 1 (2 ∷ []) ∷ stint 1 0 1 (9 ∷ []) ∷ stint 0 0 0 (5 ∷ []) ∷ []) ≡ record { task = 0; units = 7; stints = 2; moves = 1; last = Some 1; trail = 7381743522923083969 }
+carried_to_another_processor : carried_context 0 (stint 0 1 1 (2 ∷ []) ∷ stint 1 0 1 (9 ∷ []) ∷ stint 0 0 0 (5 ∷ []) ∷ [])
+    ≡ record { task = 0; units = 7; stints = 2; moves = 1; last = Some 1; trail = 7381743522923083969 }
 unfolding stint
 carried_to_another_processor = refl
 

@@ -22,12 +22,14 @@ module _ {O : Type 0} {Holds : Type 0} {Then Else : O → Type 0} where
   choice decided then else = record { some = choice_some decided then else; one = choice_one then else }
 
 module _ {A O : Type 0} {Says : A → Type 0} {Then : A → O → Type 0} {Else : O → Type 0} where
-  reading_some : ((value : A) × Says value) ⊎ ((value : A) → Says value → ⊥) → ((value : A) → Says value → IsDecided (Then value)) → IsDecided Else
+  reading_some : ((value : A) × Says value) ⊎ ((value : A) → Says value → ⊥) → ((value : A) → Says value → IsDecided (Then value))
+      → IsDecided Else
       → (outcome : O) × IsReading Says Then Else outcome
   reading_some (inl said) then else = let found = then said.0 said.1 in (found.some.0, inl (said.0, said.1, found.some.1))
   reading_some (inr none) then else = (else.some.0, inr (none, else.some.1))
 
-  reading_one : ((value other : A) → Says value → Says other → value ≡ other) → ((value : A) → Says value → IsDecided (Then value)) → IsDecided Else
+  reading_one : ((value other : A) → Says value → Says other → value ≡ other) → ((value : A) → Says value → IsDecided (Then value))
+      → IsDecided Else
       → (outcome other : O) → IsReading Says Then Else outcome → IsReading Says Then Else other → outcome ≡ other
   reading_one same then else outcome other (inl is) (inl also) =
       let found = then also.0 also.1 in
@@ -46,7 +48,8 @@ module _ {A F O : Type 0} {Says : A → Type 0} {HasFault : F → Type 0} {Then 
   judging_some (inl said) then else = let found = then said.0 said.1 in (found.some.0, inl (said.0, said.1, found.some.1))
   judging_some (inr bad) then else = let found = else bad.0 bad.1 in (found.some.0, inr (bad.0, bad.1, found.some.1))
 
-  judging_one : ((value other : A) → Says value → Says other → value ≡ other) → ((fault other : F) → HasFault fault → HasFault other → fault ≡ other)
+  judging_one : ((value other : A) → Says value → Says other → value ≡ other)
+      → ((fault other : F) → HasFault fault → HasFault other → fault ≡ other)
       → ((value : A) (fault : F) → Says value → HasFault fault → ⊥) → ((value : A) → Says value → IsDecided (Then value))
       → ((fault : F) → HasFault fault → IsDecided (Else fault))
       → (outcome other : O) → IsJudging Says HasFault Then Else outcome → IsJudging Says HasFault Then Else other → outcome ≡ other
@@ -67,7 +70,8 @@ module _ {A F O : Type 0} {Says : A → Type 0} {HasFault : F → Type 0} {Then 
       record { some = judging_some decided then else; one = judging_one same alike never then else }
 
 module _ {F O : Type 0} {Holds : Type 0} {HasFault : F → Type 0} {Then : O → Type 0} {Else : F → O → Type 0} where
-  allowing_some : Holds ⊎ ((fault : F) × HasFault fault) → (Holds → IsDecided Then) → ((fault : F) → HasFault fault → IsDecided (Else fault))
+  allowing_some : Holds ⊎ ((fault : F) × HasFault fault) → (Holds → IsDecided Then)
+      → ((fault : F) → HasFault fault → IsDecided (Else fault))
       → (outcome : O) × IsAllowing Holds HasFault Then Else outcome
   allowing_some (inl holds) then else = let found = then holds in (found.some.0, inl (holds, found.some.1))
   allowing_some (inr bad) then else = let found = else bad.0 bad.1 in (found.some.0, inr (bad.0, bad.1, found.some.1))

@@ -35,14 +35,16 @@ module _ {A B : Type 0} {Says : List ℕ → A → Type 0} (make : A → B) (exa
   pub exact-one : IsExact (One make Says)
   exact-one = record { once = one_once; decided = one_decided }
 
-module _ {A B C : Type 0} {Says : List ℕ → A → Type 0} {More : Fields → B → Type 0} (make : A → B → C) (exact : IsExact Says) (more : IsExact More) where
+module _ {A B C : Type 0} {Says : List ℕ → A → Type 0} {More : Fields → B → Type 0} (make : A → B → C) (exact : IsExact Says)
+    (more : IsExact More) where
   first_once : (fields : Fields) (one other : C) → First make Says More fields one → First make Says More fields other → one ≡ other
   first_once fields one other (field, rest, a, b, e, is, says, made) (field', rest', a', b', e', is', says', made') =
       let firsts = exact.once field a a' is (subst (λ (f : List ℕ). Says f a') (head_same (sym e' ∙ e)) is') in
       let seconds = more.once rest b b' says (subst (λ (r : Fields). More r b') (tail_same (sym e' ∙ e)) says') in
       made ∙ rw (firsts, seconds) (sym made')
 
-  first_decided : (fields : Fields) → ((value : C) × First make Says More fields value) ⊎ ((value : C) → First make Says More fields value → ⊥)
+  first_decided : (fields : Fields) → ((value : C) × First make Says More fields value)
+      ⊎ ((value : C) → First make Says More fields value → ⊥)
   first_decided [] = inr (λ value says. let e = says.4 in cc)
   first_decided (field ∷ rest) = elim (exact.decided field) [
     | inr none ↦ inr (λ value says. none says.2 (subst (λ (f : List ℕ). Says f says.2) (sym (head_same says.4)) says.5))

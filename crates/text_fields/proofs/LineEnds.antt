@@ -1,5 +1,6 @@
 -- The first line feed of some bytes cuts them.
-use Rattle.std.proofs.Common.{◌≡◌, ℕ, zero, suc, ◌<◌, Option, Some, None, MatchOption, List, [], ◌∷◌, ◌++◌, length, take, drop, get_or, Contains, refl, sym, ap, ◌∙◌, arith, eq-eqb, eqb-true, add-one}
+use Rattle.std.proofs.Common.{◌≡◌, ℕ, zero, suc, ◌<◌, Option, Some, None, MatchOption, List, [], ◌∷◌, ◌++◌, length, take, drop, get_or}
+use Rattle.std.proofs.Common.{Contains, refl, sym, ap, ◌∙◌, arith, eq-eqb, eqb-true, add-one}
 use Rattle.std.proofs.lemmas.List.{get_or-take, length-take-le}
 use Rattle.memchr.specs.Find.{IsFirstByte, is_byte}
 use Rattle.text_fields.specs.LineEnd.{IsLineEnd}

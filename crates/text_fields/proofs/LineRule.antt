@@ -25,7 +25,8 @@ module _ {P V K : Type 0} (longest : ℕ) (has_comments : Bool) (kind_of : LineK
   abbrev Comes : P → List ℕ → Outcome P K → Type 0
   Comes = IsLineOutcome longest has_comments kind_of Says
 
-  line_once : (p : P) (line : List ℕ) (outcome other : Outcome P K) → IsValid p → Comes p line outcome → Comes p line other → outcome ≡ other
+  line_once : (p : P) (line : List ℕ) (outcome other : Outcome P K) → IsValid p → Comes p line outcome → Comes p line other
+      → outcome ≡ other
   line_once p line outcome other valid (inl one) (inl two) = one.1 ∙ sym two.1
   line_once p line outcome other valid (inl one) (inr (inl two)) = absurd (one.0 two.0)
   line_once p line outcome other valid (inl one) (inr (inr (inl two))) = absurd (one.0 two.0.0)
@@ -41,7 +42,8 @@ module _ {P V K : Type 0} (longest : ℕ) (has_comments : Bool) (kind_of : LineK
   line_once p line outcome other valid (inr (inr (inr one))) (inl two) = absurd (two.0 one.0.0)
   line_once p line outcome other valid (inr (inr (inr one))) (inr (inl two)) = absurd (omega (arith, two.1, one.0.1))
   line_once p line outcome other valid (inr (inr (inr one))) (inr (inr (inl two))) = absurd (true≢false (sym two.1 ∙ one.1))
-  line_once p line outcome other valid (inr (inr (inr one))) (inr (inr (inr two))) = machine.one_outcome p (fields_of line) outcome other valid one.2 two.2
+  line_once p line outcome other valid (inr (inr (inr one))) (inr (inr (inr two))) =
+      machine.one_outcome p (fields_of line) outcome other valid one.2 two.2
 
   line_comes : (p : P) (line : List ℕ) → IsValid p → (outcome : Outcome P K) × Comes p line outcome
   line_comes p line valid = elim (all_decided IsPlain plain_decided line) [

@@ -1,5 +1,6 @@
 -- Lines that are read one after another.
-use Rattle.std.proofs.Common.{◌≡◌, ◌≢◌, ℕ, ◌<◌, List, [], ◌∷◌, ◌++◌, length, false, refl, ap, inl, inr, arith, rules, length-append, Contains}
+use Rattle.std.proofs.Common.{◌≡◌, ◌≢◌, ℕ, ◌<◌, List, [], ◌∷◌, ◌++◌, length, false, refl, ap, inl, inr, arith, rules, length-append}
+use Rattle.std.proofs.Common.{Contains}
 use Rattle.std.proofs.lemmas.List.Elements.{Contains-append_right}
 use Rattle.std.proofs.lemmas.Bool.{cases_Bool}
 use Rattle.text_fields.specs.Lines.{is_line_feed, lines_of}

@@ -1,7 +1,10 @@
 -- What a machine makes of a text: one answer, and always one; the first line with a fault decides.
-use Rattle.std.proofs.Common.{◌≡◌, ℕ, ◌+◌, ◌≤◌, ◌⊎◌, List, [], ◌∷◌, ◌++◌, length, refl, sym, ap, ◌∙◌, subst, inl, inr, arith, append-nil, Result, Ok, Err, IfOk, IfErr, MatchResult}
-use Rattle.text_fields.specs.Machine.{Outcome, Leads, Fails, Answer, IsText, Refuses, answer_at_end, IsAnswer, IsMachine, Leading, IsFaultOfLine, IsFaultOfEnd}
-use Rattle.text_fields.specs.Laws.{IsTextOf, IsRefused, HasOneValue, HasOneFault, NeverBoth, AlwaysOne, BeforeIsFine, FirstFaultDecides, RefusedAlike, EndsValid}
+use Rattle.std.proofs.Common.{◌≡◌, ℕ, ◌+◌, ◌≤◌, ◌⊎◌, List, [], ◌∷◌, ◌++◌, length, refl, sym, ap, ◌∙◌, subst, inl, inr, arith, append-nil}
+use Rattle.std.proofs.Common.{Result, Ok, Err, IfOk, IfErr, MatchResult}
+use Rattle.text_fields.specs.Machine.{Outcome, Leads, Fails, Answer, IsText, Refuses, answer_at_end, IsAnswer, IsMachine, Leading}
+use Rattle.text_fields.specs.Machine.{IsFaultOfLine, IsFaultOfEnd}
+use Rattle.text_fields.specs.Laws.{IsTextOf, IsRefused, HasOneValue, HasOneFault, NeverBoth, AlwaysOne, BeforeIsFine, FirstFaultDecides}
+use Rattle.text_fields.specs.Laws.{RefusedAlike, EndsValid}
 
 module _ {P L V K : Type 0} {begins : P} {IsValid : P → Type 0} {Comes : P → L → Outcome P K → Type 0}
     {Ends : P → Outcome V K → Type 0} (machine : IsMachine begins IsValid Comes Ends) (cut : List ℕ → List L) where
@@ -34,7 +37,8 @@ module _ {P L V K : Type 0} {begins : P} {IsValid : P → Type 0} {Comes : P →
   same_value : (one two : V) → ◌≡◌ {A = Answer V K} (IsText one) (IsText two) → one ≡ two
   same_value one two e = cc
 
-  same_fault : (line number : ℕ) (one two : K) → ◌≡◌ {A = Answer V K} (Refuses line one) (Refuses number two) → (line ≡ number) × (one ≡ two)
+  same_fault : (line number : ℕ) (one two : K) → ◌≡◌ {A = Answer V K} (Refuses line one) (Refuses number two)
+      → (line ≡ number) × (one ≡ two)
   same_fault line number one two e = (cc, cc)
 
   text_not_refused : {A : Type 0} (value : V) (line : ℕ) (kind : K) → ◌≡◌ {A = Answer V K} (IsText value) (Refuses line kind) → A
@@ -74,7 +78,8 @@ module _ {P L V K : Type 0} {begins : P} {IsValid : P → Type 0} {Comes : P →
   always_one bytes = by (answered 1 begins (cut bytes) machine.starts)
     where
       by : IsAnswered 1 begins (cut bytes)
-          → ((value : V) × IsTextOf cut begins Comes Ends bytes value) ⊎ ((line : ℕ) × (kind : K) × IsRefused cut begins Comes Ends bytes line kind)
+          → ((value : V) × IsTextOf cut begins Comes Ends bytes value)
+          ⊎ ((line : ℕ) × (kind : K) × IsRefused cut begins Comes Ends bytes line kind)
       by (IsText value, is) = inl (value, is)
       by (Refuses line kind, is) = inr (line, kind, is)
 
@@ -83,9 +88,11 @@ module _ {P L V K : Type 0} {begins : P} {IsValid : P → Type 0} {Comes : P →
   leads_at_end number value (Leads other) e = ap Leads (same_value value other e)
   leads_at_end number value (Fails kind) e = text_not_refused value number kind e
 
-  valid_at_end : (number : ℕ) (expected : P) (lines : List L) (value : V) → IsValid expected → IsAnswer Comes Ends number expected lines (IsText value)
+  valid_at_end : (number : ℕ) (expected : P) (lines : List L) (value : V) → IsValid expected
+      → IsAnswer Comes Ends number expected lines (IsText value)
       → (last : P) × IsValid last × Ends last (Leads value)
-  valid_at_end number expected [] value valid (last, ends, e) = (expected, valid, subst (Ends expected) (sym (leads_at_end number value last e)) ends)
+  valid_at_end number expected [] value valid (last, ends, e) =
+      (expected, valid, subst (Ends expected) (sym (leads_at_end number value last e)) ends)
   valid_at_end number expected (line ∷ rest) value valid (inl (kind, fault, e)) = text_not_refused value number kind e
   valid_at_end number expected (line ∷ rest) value valid (inr (next, leads, later)) =
       valid_at_end (number + 1) next rest value (machine.keeps expected line next valid leads) later
@@ -95,7 +102,8 @@ module _ {P L V K : Type 0} {begins : P} {IsValid : P → Type 0} {Comes : P →
 
   -- ---- the first line with a fault
   -- the fault of the end of no more lines
-  fault_at_end : (number line : ℕ) (kind : K) (last : Outcome V K) → Refuses line kind ≡ answer_at_end number last → (line ≡ number) × (last ≡ Fails kind)
+  fault_at_end : (number line : ℕ) (kind : K) (last : Outcome V K) → Refuses line kind ≡ answer_at_end number last
+      → (line ≡ number) × (last ≡ Fails kind)
   fault_at_end number line kind (Leads value) e = text_not_refused value line kind (sym e)
   fault_at_end number line kind (Fails other) e = let same = same_fault line number kind other e in (same.0, ap Fails (sym same.1))
 
@@ -120,7 +128,17 @@ module _ {P L V K : Type 0} {begins : P} {IsValid : P → Type 0} {Comes : P →
       inr (expected, omega (arith, same.0), refl, subst (Ends expected) same.1 ends)
   found number expected (first ∷ rest) line kind (inl (other, fault, e)) =
       let same = same_fault line number kind other e in
-      inl ([], first, rest, expected, refl, omega (arith, same.0), refl, subst (λ (k : K). Comes expected first (Fails k)) (sym same.1) fault)
+      inl (
+        [],
+        first,
+        rest,
+        expected,
+        refl,
+        omega (arith, same.0),
+        refl,
+        subst (λ (k : K). Comes expected first (Fails k)) (sym same.1)
+            fault,
+      )
   found number expected (first ∷ rest) line kind (inr (next, leads, later)) =
       found_later number expected next first rest line kind leads (found (number + 1) next rest line kind later)
 
@@ -143,7 +161,8 @@ module _ {P L V K : Type 0} {begins : P} {IsValid : P → Type 0} {Comes : P →
 
   -- lines without fault, and then one with a fault, whatever follows
   refused_after : (number : ℕ) (p q : P) (before : List L) (text : L) (after : List L) (kind : K)
-      → Leading Comes p before q → Comes q text (Fails kind) → IsAnswer Comes Ends number p (before ++ text ∷ after) (Refuses (number + length before) kind)
+      → Leading Comes p before q → Comes q text (Fails kind)
+      → IsAnswer Comes Ends number p (before ++ text ∷ after) (Refuses (number + length before) kind)
   refused_after number p q [] text after kind same fault =
       inl (kind, subst (λ (from : P). Comes from text (Fails kind)) (sym same) fault, ap (λ (n : ℕ). Refuses n kind) (omega arith))
   refused_after number p q (first ∷ before) text after kind (next, leads, expects) fault =
@@ -161,14 +180,17 @@ module _ {P L V K : Type 0} {begins : P} {IsValid : P → Type 0} {Comes : P →
 
   -- ---- whatever follows
   -- some lines are not refused before the first of them
-  not_before : (number : ℕ) (p : P) (lines : List L) (line : ℕ) (kind : K) → IsAnswer Comes Ends number p lines (Refuses line kind) → number ≤ line
+  not_before : (number : ℕ) (p : P) (lines : List L) (line : ℕ) (kind : K) → IsAnswer Comes Ends number p lines (Refuses line kind)
+      → number ≤ line
   not_before number p [] line kind (last, ends, e) = let same = fault_at_end number line kind last e in omega (arith, same.0)
-  not_before number p (first ∷ rest) line kind (inl (other, fault, e)) = let same = same_fault line number kind other e in omega (arith, same.0)
+  not_before number p (first ∷ rest) line kind (inl (other, fault, e)) =
+      let same = same_fault line number kind other e in omega (arith, same.0)
   not_before number p (first ∷ rest) line kind (inr (next, leads, later)) =
       let after = not_before (number + 1) next rest line kind later in omega (arith, after)
 
   alike : (number line : ℕ) (p : P) (before after more : List L) (text : L) (kind : K) → line ≡ number + length before
-      → IsAnswer Comes Ends number p (before ++ text ∷ after) (Refuses line kind) → IsAnswer Comes Ends number p (before ++ text ∷ more) (Refuses line kind)
+      → IsAnswer Comes Ends number p (before ++ text ∷ after) (Refuses line kind)
+      → IsAnswer Comes Ends number p (before ++ text ∷ more) (Refuses line kind)
   alike number line p [] after more text kind place (inl fault) = inl fault
   alike number line p [] after more text kind place (inr (next, leads, later)) =
       let from = not_before (number + 1) next after line kind later in absurd (omega (arith, from, place))
@@ -218,7 +240,8 @@ module _ {P L V K : Type 0} {begins : P} {IsValid : P → Type 0} {Comes : P →
   module _ {F : Type 0} (IsOutOfMemory : K → Type 0) (number_of : F → ℕ) (kind_of : F → K) (bytes : List ℕ) where
     pub answers_value : (result : Result V F) → IfOk result (IsTextOf cut begins Comes Ends bytes)
         → IfErr result (λ fault. IsOutOfMemory (kind_of fault) ⊎ IsRefused cut begins Comes Ends bytes (number_of fault) (kind_of fault))
-        → (value : V) → IsTextOf cut begins Comes Ends bytes value → MatchResult result (λ found. found ≡ value) (λ fault. IsOutOfMemory (kind_of fault))
+        → (value : V) → IsTextOf cut begins Comes Ends bytes value
+        → MatchResult result (λ found. found ≡ value) (λ fault. IsOutOfMemory (kind_of fault))
     answers_value (Ok found) read refused value text = one_value bytes found value read text
     answers_value (Err fault) read (inl memory) value text = memory
     answers_value (Err fault) read (inr why) value text = absurd (never_both bytes value (number_of fault) (kind_of fault) text why)

@@ -1,7 +1,8 @@
 -- The first words of events in both texts.
 use Rattle.std.specs.Prelude.{◌≢◌, ℕ, List, codes}
 use Rattle.text_fields.specs.declared.word.EventWord.{EventWord}
-use Rattle.text_fields.specs.declared.word.EventWord.TheVariants.{Arrive, Depart, Tick, Affinity, Offline, Online}
+use Rattle.text_fields.specs.declared.word.EventWord.TheVariants.{Arrive, Depart, Tick, Affinity}
+use Rattle.text_fields.specs.declared.word.EventWord.TheVariants.{Offline, Online}
 
 -- the bytes of a word
 abbrev pub word_text : EventWord → List ℕ

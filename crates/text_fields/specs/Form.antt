@@ -1,4 +1,5 @@
--- Forms of fields: what some fields say, by what each of them says. A form that is made of exact ones is exact.
+-- Forms of fields: what some fields say, by what each of them says. A form that is made of exact
+-- ones is exact.
 use Rattle.std.specs.Prelude.{◌≡◌, ℕ, ◌⊎◌, List, [], ◌∷◌}
 
 abbrev pub Fields : Type 0
@@ -19,9 +20,11 @@ One {A} make Says fields value =
     (field : List ℕ) × (a : A) × (fields ≡ field ∷ []) × Says field a × (value ≡ make a)
 
 -- one field, and those after it, of which this is made
-abbrev pub First : {A B C : Type 0} → (A → B → C) → (List ℕ → A → Type 0) → (Fields → B → Type 0) → Fields → C → Type 0
+abbrev pub First : {A B C : Type 0} → (A → B → C) → (List ℕ → A → Type 0) → (Fields → B → Type 0)
+    → Fields → C → Type 0
 First {A} {B} make Says More fields value =
-    (field : List ℕ) × (rest : Fields) × (a : A) × (b : B) × (fields ≡ field ∷ rest) × Says field a × More rest b
+    (field : List ℕ) × (rest : Fields) × (a : A) × (b : B) × (fields ≡ field ∷ rest) × Says field a
+    × More rest b
     × (value ≡ make a b)
 
 -- where something holds
@@ -33,9 +36,11 @@ abbrev pub Begins : List ℕ → Fields → Type 0
 Begins word fields = (rest : Fields) × (fields ≡ word ∷ rest)
 
 -- after this word they say it so, and after another one otherwise
-abbrev pub Row : {A : Type 0} → List ℕ → (Fields → A → Type 0) → (Fields → A → Type 0) → Fields → A → Type 0
+abbrev pub Row : {A : Type 0} → List ℕ → (Fields → A → Type 0) → (Fields → A → Type 0) → Fields → A
+    → Type 0
 Row word Here Else fields value =
-    ((rest : Fields) × (fields ≡ word ∷ rest) × Here rest value) ⊎ ((Begins word fields → ⊥) × Else fields value)
+    ((rest : Fields) × (fields ≡ word ∷ rest) × Here rest value)
+    ⊎ ((Begins word fields → ⊥) × Else fields value)
 
 -- there is no further row
 abbrev pub NoRow : {A : Type 0} → Fields → A → Type 0

@@ -1,6 +1,8 @@
--- Laws of the texts of a machine, whatever it reads. A text is cut into lines, and the machine makes an answer of these.
+-- Laws of the texts of a machine, whatever it reads. A text is cut into lines, and the machine
+-- makes an answer of these.
 use Rattle.std.specs.Prelude.{◌≡◌, ℕ, ◌+◌, ◌⊎◌, List, ◌∷◌, ◌++◌, length}
-use Rattle.text_fields.specs.Machine.{Outcome, Leads, IsText, Refuses, IsAnswer, IsFaultOfLine, IsFaultOfEnd}
+use Rattle.text_fields.specs.Machine.{Outcome, Leads, IsText, Refuses, IsAnswer, IsFaultOfLine}
+use Rattle.text_fields.specs.Machine.{IsFaultOfEnd}
 
 module _ {P L V K : Type 0} (cut : List ℕ → List L) (begins : P)
     (Comes : P → L → Outcome P K → Type 0) (Ends : P → Outcome V K → Type 0) where
@@ -14,7 +16,8 @@ module _ {P L V K : Type 0} (cut : List ℕ → List L) (begins : P)
 
   -- a text is that of at most one value
   abbrev pub HasOneValue : Type 0
-  HasOneValue = (bytes : List ℕ) (value other : V) → IsTextOf bytes value → IsTextOf bytes other → value ≡ other
+  HasOneValue = (bytes : List ℕ) (value other : V) → IsTextOf bytes value → IsTextOf bytes other
+      → value ≡ other
 
   -- a text is refused with at most one line and one kind
   abbrev pub HasOneFault : Type 0
@@ -25,7 +28,8 @@ module _ {P L V K : Type 0} (cut : List ℕ → List L) (begins : P)
   -- no text is both that of a value and refused
   abbrev pub NeverBoth : Type 0
   NeverBoth =
-      (bytes : List ℕ) (value : V) (line : ℕ) (kind : K) → IsTextOf bytes value → IsRefused bytes line kind → ⊥
+      (bytes : List ℕ) (value : V) (line : ℕ) (kind : K) → IsTextOf bytes value
+      → IsRefused bytes line kind → ⊥
 
   -- each text is that of a value, or is refused
   abbrev pub AlwaysOne : Type 0
@@ -33,11 +37,13 @@ module _ {P L V K : Type 0} (cut : List ℕ → List L) (begins : P)
       (bytes : List ℕ)
       → ((value : V) × IsTextOf bytes value) ⊎ ((line : ℕ) × (kind : K) × IsRefused bytes line kind)
 
-  -- a refused text has a first faulty line with lines without fault before it, or else its end has the fault
+  -- a refused text has a first faulty line with lines without fault before it, or else its end has
+  -- the fault
   abbrev pub BeforeIsFine : Type 0
   BeforeIsFine =
       (bytes : List ℕ) (number : ℕ) (kind : K) → IsRefused bytes number kind
-      → IsFaultOfLine begins Comes (cut bytes) number kind ⊎ IsFaultOfEnd begins Comes Ends (cut bytes) number kind
+      → IsFaultOfLine begins Comes (cut bytes) number kind
+      ⊎ IsFaultOfEnd begins Comes Ends (cut bytes) number kind
 
   -- a text is refused at its first faulty line
   abbrev pub FirstFaultDecides : Type 0

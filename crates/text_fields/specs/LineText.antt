@@ -1,5 +1,5 @@
--- Lines as both texts write them: a line ends with a line feed, its fields are separated by one space, and numbers and
--- processor lists are canonical.
+-- Lines as both texts write them: a line ends with a line feed, its fields are separated by one
+-- space, and numbers and processor lists are canonical.
 use Rattle.std.specs.Prelude.{ℕ, ◌<◌, ◌^◌, List, [], ◌∷◌, ◌++◌, codes, All}
 use Rattle.affinity_mask.specs.Number.{canonical_number}
 use Rattle.affinity_mask.specs.ListText.{canonical_list}

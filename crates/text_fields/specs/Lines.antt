@@ -1,14 +1,16 @@
--- Lines and fields. A text is cut into lines at its line feeds, and what follows the last line feed is a line only where
--- it has bytes; a line is cut into fields by blanks, which are spaces and tabs; a line is skipped where it has no field,
--- or is a comment.
-use Rattle.std.specs.Prelude.{ℕ, ◌≤◌, ◌⊎◌, ◌≡◌, Bool, true, false, not, ◌==◌, ◌||◌, ◌&&◌, List, [], ◌∷◌, length, filter, All, if◌then◌else◌}
+-- Lines and fields. A text is cut into lines at its line feeds, and what follows the last line feed
+-- is a line only where it has bytes; a line is cut into fields by blanks, which are spaces and
+-- tabs; a line is skipped where it has no field, or is a comment.
+use Rattle.std.specs.Prelude.{ℕ, ◌≤◌, ◌⊎◌, ◌≡◌, Bool, true, false, not, ◌==◌, ◌||◌, ◌&&◌, List, []}
+use Rattle.std.specs.Prelude.{◌∷◌, length, filter, All, if◌then◌else◌}
 use Rattle.std.specs.List.{slice_split, onto_first}
 
 -- the byte is a line feed
 abbrev pub is_line_feed : ℕ → Bool
 is_line_feed byte = byte == 10
 
--- the lines of a text: a line feed ends a line, and what no line feed ends is a line where it has bytes
+-- the lines of a text: a line feed ends a line, and what no line feed ends is a line where it has
+-- bytes
 abbrev pub lines_of : List ℕ → List (List ℕ)
 lines_of [] = []
 lines_of (byte ∷ rest) =
@@ -27,7 +29,8 @@ is_nothing (byte ∷ rest) = false
 abbrev pub fields_of : List ℕ → List (List ℕ)
 fields_of line = filter (λ piece. not (is_nothing piece)) (slice_split is_blank line)
 
--- whether the fields are those of a skipped line: there is none, or '#' begins a comment and the first begins with it
+-- whether the fields are those of a skipped line: there is none, or '#' begins a comment and the
+-- first begins with it
 abbrev pub is_skipped_line : Bool → List (List ℕ) → Bool
 is_skipped_line has_comments [] = true
 is_skipped_line has_comments ([] ∷ more) = false

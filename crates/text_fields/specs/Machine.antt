@@ -1,5 +1,6 @@
--- What a machine makes of lines, one after another. What is expected is its progress. A line leads on to another progress
--- or has a fault, the first line that has one decides, and after the last line the progress says a value or has a fault.
+-- What a machine makes of lines, one after another. What is expected is its progress. A line leads
+-- on to another progress or has a fault, the first line that has one decides, and after the last
+-- line the progress says a value or has a fault.
 use Rattle.std.specs.Prelude.{◌≡◌, ℕ, ◌+◌, ◌⊎◌, List, [], ◌∷◌, ◌++◌, length}
 use Rattle.std.specs.List.{FoldsTo}
 
@@ -19,13 +20,15 @@ answer_at_end number (Leads value) = IsText value
 answer_at_end number (Fails kind) = Refuses number kind
 
 -- the answer to some lines, of which the first has this number
-abbrev pub IsAnswer : {P L V K : Type 0} → (P → L → Outcome P K → Type 0) → (P → Outcome V K → Type 0)
+abbrev pub IsAnswer : {P L V K : Type 0} → (P → L → Outcome P K → Type 0)
+    → (P → Outcome V K → Type 0)
     → ℕ → P → List L → Answer V K → Type 0
 IsAnswer {P} {L} {V} {K} Comes Ends number expected [] answer =
     (last : Outcome V K) × Ends expected last × (answer ≡ answer_at_end number last)
 IsAnswer {P} {L} {V} {K} Comes Ends number expected (line ∷ rest) answer =
     ((kind : K) × Comes expected line (Fails kind) × (answer ≡ Refuses number kind))
-    ⊎ ((next : P) × Comes expected line (Leads next) × IsAnswer Comes Ends (number + 1) next rest answer)
+    ⊎ ((next : P) × Comes expected line (Leads next)
+    × IsAnswer Comes Ends (number + 1) next rest answer)
 
 -- what makes a machine: a line comes to one outcome, which is valid again, and so does the end
 pub record IsMachine {P L V K : Type 0} (begins : P) (IsValid : P → Type 0)
@@ -35,7 +38,8 @@ pub record IsMachine {P L V K : Type 0} (begins : P) (IsValid : P → Type 0)
   pub one_outcome : (p : P) (line : L) (outcome other : Outcome P K)
       → IsValid p → Comes p line outcome → Comes p line other → outcome ≡ other
   pub some_outcome : (p : P) (line : L) → IsValid p → (outcome : Outcome P K) × Comes p line outcome
-  pub one_end : (p : P) (last other : Outcome V K) → IsValid p → Ends p last → Ends p other → last ≡ other
+  pub one_end : (p : P) (last other : Outcome V K) → IsValid p → Ends p last → Ends p other
+      → last ≡ other
   pub some_end : (p : P) → IsValid p → (last : Outcome V K) × Ends p last
 
 -- some lines without fault lead from one progress to another

@@ -4,7 +4,8 @@ use Rattle.order_queues.specs.Ends.{EyeData}
 use Rattle.event_history.specs.Boards.{BoardData, PassData, AreFrom, Grown}
 
 -- a pass of the board
-pub board_at : (board : BoardData) (n : ℕ) (l : List PassData) (i : ℕ) (d : PassData) → AreFrom board n l → i < length l → (get_or l i d).board ≡ board.id
+pub board_at : (board : BoardData) (n : ℕ) (l : List PassData) (i : ℕ) (d : PassData) → AreFrom board n l → i < length l
+    → (get_or l i d).board ≡ board.id
 board_at board n [] i d from low = absurd (omega arith)
 board_at board n (p ∷ ps) zero d from low = from.0
 board_at board n (p ∷ ps) (suc i) d from low = board_at board (n + 1) ps i d from.3 (omega arith)
@@ -14,7 +15,8 @@ abbrev pub Used : PassData → PassData → Type 0
 Used old new = Grown old new × (new.eyes ≡ old.eyes)
 
 -- passes that were used are the passes of the board
-pub still_from : (board : BoardData) (n : ℕ) (l m : List PassData) → length m ≡ length l → ((i : ℕ) (d : PassData) → i < length l → Used (get_or l i d) (get_or m i d)) → AreFrom board n l → AreFrom board n m
+pub still_from : (board : BoardData) (n : ℕ) (l m : List PassData) → length m ≡ length l
+    → ((i : ℕ) (d : PassData) → i < length l → Used (get_or l i d) (get_or m i d)) → AreFrom board n l → AreFrom board n m
 still_from board n [] [] same used from = tt
 still_from board n [] (q ∷ qs) same used from = absurd (omega (arith, same))
 still_from board n (p ∷ ps) [] same used from = absurd (omega (arith, same))

@@ -12,11 +12,16 @@ abbrev IsOpen : Order → Type 0
 IsOpen order = order ≢ Stop
 
 -- an order that may come can be sent
-pub may_follow : (sent : List Order) (held : Option ℕ) (x : Order) → IsObeyable sent → task_held sent ≡ held → All (λ order. order ≢ Stop) sent → MayCome held x → IsObeyable (sent ++ x ∷ [])
-may_follow sent held x obeyable holds others may = IsObeyableFrom-push None sent x obeyable others (subst (λ h. MayCome h x) (sym holds) may)
+pub may_follow : (sent : List Order) (held : Option ℕ) (x : Order) → IsObeyable sent → task_held sent ≡ held
+    → All (λ order. order ≢ Stop) sent → MayCome held x → IsObeyable (sent ++ x ∷ [])
+may_follow sent held x obeyable holds others may =
+    IsObeyableFrom-push None sent x obeyable others (subst (λ h. MayCome h x) (sym holds) may)
 
 -- what a feed knows after one order more
-pub fed : (n tasks : ℕ) (sent new : List Order) (x : Order) (held after : Option ℕ) (stops : Bool) → tasks ≡ n → new ≡ sent ++ x ∷ [] → IsObeyable (sent ++ x ∷ []) → task_held sent ≡ held → All (λ order. order ≢ Stop) sent → after ≡ held_after held x → (stops ≡ false → x ≢ Stop) → (tasks ≡ n) × IsObeyable new × (task_held new ≡ after) × (stops ≡ false → All (λ order. order ≢ Stop) new)
+pub fed : (n tasks : ℕ) (sent new : List Order) (x : Order) (held after : Option ℕ) (stops : Bool) → tasks ≡ n → new ≡ sent ++ x ∷ []
+    → IsObeyable (sent ++ x ∷ []) → task_held sent ≡ held → All (λ order. order ≢ Stop) sent → after ≡ held_after held x
+    → (stops ≡ false → x ≢ Stop) → (tasks ≡ n) × IsObeyable new × (task_held new ≡ after)
+    × (stops ≡ false → All (λ order. order ≢ Stop) new)
 fed n tasks sent new x held after stops made grown obeys holds others is stop = (
   made,
   subst IsObeyable (sym grown) obeys,

@@ -4,7 +4,7 @@ ghost use Rattle.std.specs.Prelude.{◌≡◌, ◌∷◌, [], length, map};
 ghost use Rattle.task_set.specs.Event.{IsOfSystem};
 ghost use Rattle.strong_apa.specs.State.{task_count};
 ghost use Rattle.order_queues.specs.Ends.{new_sender};
-ghost use Rattle.event_history.specs.Boards.{AreAll, AreFor, Grown};
+ghost use Rattle.event_history.specs.Boards.{AreAllPasses, AreFor, Grown};
 
 use crate::same::same;
 use crate::two_processors::{list_of_one, list_of_two, two_queues, two_tasks};
@@ -27,7 +27,7 @@ struct Bench {
     second: Pass,
     queues: Vec<Queue>,
     ghost tasks: { (length board.set.tasks ≡ 2) × (board.set.processors ≡ 2) },
-    ghost passes: { AreAll board (first ∷ second ∷ []) },
+    ghost passes: { AreAllPasses board (first ∷ second ∷ []) },
     ghost lanes: { queues.items ≡ board.queues },
 }
 
@@ -43,7 +43,7 @@ fn board_of_two(
     requires one_each { length queues.now ≡ set.now.processors }
     requires tasks { AreFor set.now queues.now }
     ensures board { (result.0.set ≡ set.now) × (result.0.queues ≡ queues.now) }
-    ensures passes { AreAll result.0 (result.1 ∷ result.2 ∷ []) }
+    ensures passes { AreAllPasses result.0 (result.1 ∷ result.2 ∷ []) }
 {
     let Ok((board, mut passes)) = Board::new(alloc, set, senders, queues, 2) else {
         panic!(rt; "out of memory")
@@ -56,7 +56,7 @@ fn board_of_two(
 
 /// The core of a board of two processors, when its two passes come back.
 fn core_of(rt: &impl Abort, alloc: Global, board: Board, first: Pass, second: Pass) -> Core
-    requires { AreAll board (first ∷ second ∷ []) }
+    requires { AreAllPasses board (first ∷ second ∷ []) }
 {
     let passes = list_of_two(rt, alloc, first, second);
     let Ok((core, senders)) = board.close(passes) else {
@@ -473,9 +473,9 @@ fn post_shares<R: Threads + Wait + Sync>(
     passes: &mut Vec<Pass>,
     told: &Mutex<Vec<Told>>,
 )
-    requires passes { AreAll board.now passes.old.items }
+    requires passes { AreAllPasses board.now passes.old.items }
     requires tasks { (length board.now.set.tasks ≡ 8) × (board.now.set.processors ≡ 1) }
-    ensures { AreAll board.now passes.new.items }
+    ensures { AreAllPasses board.now passes.new.items }
 {
     thread::for_each_mut(
         rt,
@@ -546,7 +546,7 @@ fn one_queue(rt: &impl Abort, alloc: Global) -> (Vec<Queue>, Vec<Sender>, Receiv
 /// A board of eight callers over this set, with their passes.
 fn callers_over(rt: &impl Abort, alloc: Global, set: &TaskSet) -> (Board, Vec<Pass>)
     requires { (length set.now.tasks ≡ 8) × (set.now.processors ≡ 1) }
-    ensures passes { AreAll result.0 result.1.items }
+    ensures passes { AreAllPasses result.0 result.1.items }
     ensures tasks { (length result.0.set.tasks ≡ 8) × (result.0.set.processors ≡ 1) }
 {
     let (queues, senders, _receiver) = one_queue(rt, alloc);
@@ -558,7 +558,7 @@ fn callers_over(rt: &impl Abort, alloc: Global, set: &TaskSet) -> (Board, Vec<Pa
 
 /// A board of eight callers over eight tasks, with their passes.
 fn eight_callers(rt: &impl Abort, alloc: Global) -> (Board, Vec<Pass>)
-    ensures passes { AreAll result.0 result.1.items }
+    ensures passes { AreAllPasses result.0 result.1.items }
     ensures tasks { (length result.0.set.tasks ≡ 8) × (result.0.set.processors ≡ 1) }
 {
     let set = eight_tasks(rt, alloc);
@@ -573,7 +573,7 @@ fn all_told(rt: &impl Abort, core: &Core, told: &[Told]) {
 
 /// All receipts stand in the history of the board's core.
 fn check_told(rt: &impl Abort, board: Board, passes: Vec<Pass>, told: Mutex<Vec<Told>>)
-    requires { AreAll board passes.items }
+    requires { AreAllPasses board passes.items }
 {
     let Ok((core, _senders)) = board.close(passes) else {
         assert!(rt; false);

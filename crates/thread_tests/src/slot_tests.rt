@@ -1,7 +1,7 @@
 //! A hand-over by calls, and hand-overs between threads.
 ghost use Rattle.std.specs.Prelude.{◌≡◌, ℕ, ◌<◌, ◌≤◌, None, All, IfOk, length, slice_index_or};
 ghost use Rattle.std.specs.Thread.{IsSync};
-ghost use Rattle.context_slots.specs.Hands.{HandData, AreAll};
+ghost use Rattle.context_slots.specs.Hands.{HandData, AreAllHands};
 
 use crate::same::same;
 use crate::two_processors::{
@@ -19,7 +19,7 @@ use task_set::{Context, TaskSet};
 /// Slots for a set, and all their hands, which are free.
 fn new_slots(alloc: Global, set: &TaskSet) -> Result<(Slots, Vec<Hand>), OutOfMemory>
     ensures slots { IfOk result (λ made. made.0.set ≡ set.now) }
-    ensures hands { IfOk result (λ made. AreAll made.0 made.1.items) }
+    ensures hands { IfOk result (λ made. AreAllHands made.0 made.1.items) }
 {
     Slots::new(alloc, set)
 }
@@ -204,9 +204,9 @@ fn all_go_round<R: Threads + Wait + Sync>(
     slots: &Slots,
     hands: Vec<Hand>,
 ) -> Result<Vec<Hand>, AllocError>
-    requires hands { AreAll slots.now hands.items }
+    requires hands { AreAllHands slots.now hands.items }
     requires tasks { 64 ≤ length slots.now.set.tasks }
-    ensures { IfOk result (λ back. AreAll slots.now back.items) }
+    ensures { IfOk result (λ back. AreAllHands slots.now back.items) }
 {
     each_goes_round(rt, slots, hands)
 }

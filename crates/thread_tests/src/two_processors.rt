@@ -1,7 +1,7 @@
 //! Two tasks on two processors, with the queues and the hands of these, and their contexts.
 ghost use Rattle.std.specs.Prelude.{◌≡◌, ◌∷◌, [], None, length, map};
 ghost use Rattle.order_queues.specs.Ends.{new_receiver, new_sender};
-ghost use Rattle.context_slots.specs.Hands.{AreAll, new_hand};
+ghost use Rattle.context_slots.specs.Hands.{AreAllHands, new_hand};
 
 use crate::same::same;
 use affinity_mask::ProcSet;
@@ -104,7 +104,7 @@ pub(crate) fn contexts(
     slots: Slots,
     hands: Vec<Hand>,
 ) -> Vec<Context>
-    requires { AreAll slots hands.items }
+    requires { AreAllHands slots hands.items }
 {
     match slots.close(alloc, hands) {
         Ok(contexts) => contexts,

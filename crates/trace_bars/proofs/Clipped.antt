@@ -20,7 +20,8 @@ clipped_order part one other order = omega (arith, order)
 pub clipped_within : (part : Part) (moment : ℕ) → part.from ≤ part.to → clipped part moment ≤ part.to
 clipped_within part moment order = omega (arith, order)
 
-pub cut_within : (tasks threads : ℕ) (passages : List Passage) (part : Part) → ArePassages tasks threads passages → (i x : ℕ) → 0 < i → i < length passages
+pub cut_within : (tasks threads : ℕ) (passages : List Passage) (part : Part) → ArePassages tasks threads passages → (i x : ℕ) → 0 < i
+    → i < length passages
     → part.from ≤ part.to → clipped part (moment_at passages (i - 1)) ≤ x → x < clipped part (moment_at passages i) → IsCut passages x i
 cut_within tasks threads passages part are i x some below order from before =
     cut_at tasks threads passages are i x some below

@@ -1,5 +1,6 @@
 -- The tracks of a layer turn one after another.
-use Rattle.std.proofs.Common.{◌≡◌, ℕ, ◌+◌, ◌<◌, ◌≤◌, inl, inr, List, [], ◌++◌, length, set, get_or, Option, None, Some, refl, sym, ◌∙◌, subst, arith, get_or-set_same, get_or-set_other, append-nil, length-set}
+use Rattle.std.proofs.Common.{◌≡◌, ℕ, ◌+◌, ◌<◌, ◌≤◌, inl, inr, List, [], ◌++◌, length, set, get_or, Option, None, Some, refl, sym, ◌∙◌}
+use Rattle.std.proofs.Common.{subst, arith, get_or-set_same, get_or-set_other, append-nil, length-set}
 use Rattle.std.specs.Prelude.{replicate}
 use Rattle.std.specs.List.{All}
 use Rattle.std.proofs.lemmas.Bool.{cases_eq}
@@ -13,7 +14,8 @@ use Rattle.trace_bars.specs.declared.track.Track.{Track}
 use Rattle.trace_bars.proofs.Tracked.{bars_more, drawn_more, drawn_until, goes_on, none_some, track_more, turned}
 
 -- the tracks of the first so many threads have gone on to the next moment, and the others are at this one
-pub record IsMidway (Shown : ℕ → ℕ → Option Mark → Type 0) (first last now next done : ℕ) (tracks : List Track) (bars : List Bar) : Type 0 where
+pub record IsMidway (Shown : ℕ → ℕ → Option Mark → Type 0) (first last now next done : ℕ) (tracks : List Track)
+    (bars : List Bar) : Type 0 where
   pub each : All (IsBar Shown first last) bars
   pub behind : (t : ℕ) → t < done → t < length tracks → IsTrackAt Shown first next t bars (get_or tracks t no_track)
   pub ahead : (t : ℕ) → done ≤ t → t < length tracks → IsTrackAt Shown first now t bars (get_or tracks t no_track)
@@ -40,7 +42,8 @@ module _ (Shown : ℕ → ℕ → Option Mark → Type 0) (first last : ℕ) whe
     tracked = λ t within. midway.behind t (omega (arith, within, all)) within;
   }
 
-  pub midway_on : (now next done : ℕ) (mark : Option Mark) (tracks new : List Track) (bars more : List Bar) → done < length tracks → now < next → next ≤ last
+  pub midway_on : (now next done : ℕ) (mark : Option Mark) (tracks new : List Track) (bars more : List Bar) → done < length tracks
+      → now < next → next ≤ last
       → ((x : ℕ) → now ≤ x → x < next → Shown done x mark) → Turns done now mark tracks bars new more
       → IsMidway Shown first last now next done tracks bars → IsMidway Shown first last now next (done + 1) new more
   midway_on now next done mark tracks new bars more below some within shown (inl (same, tracks_same, bars_same)) midway =
@@ -69,7 +72,8 @@ module _ (Shown : ℕ → ℕ → Option Mark → Type 0) (first last : ℕ) whe
       (record {
         each =
             bars_more Shown first last now done bars track (omega (arith, some, within))
-            (λ what is. inr (record { other = mark; shown = shown now (omega arith) some; differs = λ e. differs (e ∙ sym is) })) at midway.each;
+            (λ what is. inr (record { other = mark; shown = shown now (omega arith) some; differs = λ e. differs (e ∙ sym is) }))
+            at midway.each;
         behind = λ t before there. elim (cases_eq t done) [
           | inl here ↦
               subst (λ (u : ℕ). IsTrackAt Shown first next u put (get_or list u no_track)) (sym here)
@@ -90,7 +94,8 @@ module _ (Shown : ℕ → ℕ → Option Mark → Type 0) (first last : ℕ) whe
       }))
 
   -- ---- the end
-  pub ending_none : (tracks : List Track) (bars : List Bar) → IsLayerAt Shown first last last tracks bars → IsEnding Shown first last 0 tracks bars
+  pub ending_none : (tracks : List Track) (bars : List Bar) → IsLayerAt Shown first last last tracks bars
+      → IsEnding Shown first last 0 tracks bars
   ending_none tracks bars layer = record {
     each = layer.each;
     behind = λ t x below within from before. absurd (omega (arith, below));
@@ -109,7 +114,8 @@ module _ (Shown : ℕ → ℕ → Option Mark → Type 0) (first last : ℕ) whe
   nothing_ends t bars None since x is drawn = subst (λ (list : List Bar). IsDrawn Shown list t x) (append-nil bars) drawn
   nothing_ends t bars (Some mark) since x is drawn = absurd (none_some mark is)
 
-  pub ending_on : (done : ℕ) (tracks new : List Track) (bars more : List Bar) → done < length tracks → Turns done last None tracks bars new more
+  pub ending_on : (done : ℕ) (tracks new : List Track) (bars more : List Bar) → done < length tracks
+      → Turns done last None tracks bars new more
       → IsEnding Shown first last done tracks bars → IsEnding Shown first last (done + 1) new more
   ending_on done tracks new bars more below (inl (same, tracks_same, bars_same)) ending =
       subst (λ (list : List Track). IsEnding Shown first last (done + 1) list more) (sym tracks_same)

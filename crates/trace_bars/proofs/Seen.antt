@@ -10,7 +10,7 @@ use Rattle.strong_apa.proofs.Linked.{is_linked-from_on}
 use Rattle.trace_passages.specs.declared.passage.Passage.{Passage}
 use Rattle.trace_passages.specs.declared.turn.Turn.{Turn}
 use Rattle.trace_losses.specs.Book.{nothing_seen}
-use Rattle.trace_losses.specs.Passages.{IsCut, ready_after, turns_of, seen_of}
+use Rattle.trace_losses.specs.Passages.{IsCut, ready_after_passages, turns_of, seen_of}
 use Rattle.trace_losses.specs.Runs.{IsArmed, holds, is_some_of, runs}
 use Rattle.trace_losses.specs.Walk as walk
 use Rattle.trace_losses.specs.Walk.{IsPlaced, IsSeenBy, held_at_end}
@@ -34,7 +34,7 @@ same_seen one other ready best runs =
     ∙ ap (made other.ready other.best) runs
 
 module _ (task_set : SetData) (passages : List Passage) (threads i : ℕ) (links : State) (processors : List (Option ℕ)) (sights : List Sight)
-    (all : length task_set.tasks ≤ threads) (placed : IsPlaced task_set (ready_after (reverse (take i passages))) links)
+    (all : length task_set.tasks ≤ threads) (placed : IsPlaced task_set (ready_after_passages (reverse (take i passages))) links)
     (follows : FollowsTo task_set (reverse (take i passages)) links)
     (armed : IsArmed (held_at_end passages) (turns_of (drop i passages)) processors) (count : length processors ≡ threads)
     (by : AreSightsBy links processors threads sights) (long : length sights ≡ threads) where
@@ -68,7 +68,8 @@ module _ (task_set : SetData) (passages : List Passage) (threads i : ℕ) (links
       n = i;
       cut = cut;
       between =
-          seen_between task_set passages threads i links processors (map seen_by sights) all placed armed count (record { each = seen_each })
+          seen_between task_set passages threads i links processors (map seen_by sights) all placed armed count
+          (record { each = seen_each })
           (length-map sights seen_by ∙ long);
     };
   }

@@ -1,5 +1,6 @@
 -- A track goes on, or a bar of it ends.
-use Rattle.std.proofs.Common.{◌≡◌, ℕ, ◌-◌, ◌<◌, ◌≤◌, ◌⊎◌, inl, inr, Bool, List, [], ◌++◌, Option, None, Some, refl, sym, ap, ◌∙◌, subst, arith, append-nil}
+use Rattle.std.proofs.Common.{◌≡◌, ℕ, ◌-◌, ◌<◌, ◌≤◌, ◌⊎◌, inl, inr, Bool, List, [], ◌++◌, Option, None, Some, refl, sym, ap, ◌∙◌, subst}
+use Rattle.std.proofs.Common.{arith, append-nil}
 use Rattle.std.specs.Prelude.{◌≢◌, if◌then◌else◌}
 use Rattle.std.specs.List.{All, Contains}
 use Rattle.std.proofs.lemmas.Bool.{cases_lt, lt-ltb, le-ltb}
@@ -37,7 +38,8 @@ has_ended now t x bars None since what is from before = absurd (none_some what i
 has_ended now t x bars (Some mark) since what is from before = record {
   bar = the_bar t mark since now;
   is =
-      subst (λ (bar : Option Bar). Contains (bars ++ listed bar) (the_bar t mark since now)) (sym (bar_is t mark since now (omega (arith, from, before))))
+      subst (λ (bar : Option Bar). Contains (bars ++ listed bar) (the_bar t mark since now))
+      (sym (bar_is t mark since now (omega (arith, from, before))))
       (Contains-push bars (the_bar t mark since now));
   thread = refl;
   same = one_some mark what is;

@@ -12,9 +12,11 @@ use Rattle.trace_bars.specs.declared.sight.Sight.{Sight}
 abbrev pub seen_by : Sight → Seen
 seen_by sight = record { ready = sight.ready; best = is_some sight.linked; runs = is_some sight.on }
 
--- in the row of a thread: it ran; it was in the best set and ran nowhere; or it was ready and neither
+-- in the row of a thread: it ran; it was in the best set and ran nowhere; or it was ready and
+-- neither
 abbrev pub row_mark : Seen → Option Mark
-row_mark seen = if seen.runs then Some Ran else if seen.best then Some Lost else if seen.ready then Some Waits else None
+row_mark seen = if seen.runs then Some Ran else if seen.best then Some Lost else if seen.ready
+    then Some Waits else None
 
 -- in the lanes the processor, in a row what became of it
 abbrev pub mark_of : Kind → Sight → Option Mark

@@ -15,8 +15,8 @@ use Rattle.trace_bars.specs.declared.mark.Kind.TheVariants.{Trace, Strong, Rows}
 abbrev pub trace_of : SetData → ℕ → List Passage → Recording
 trace_of set threads passages = record { tasks = set; threads = threads; passages = passages }
 
--- the bars of a part: of the lanes of the trace who runs on which processor, of those of strong scheduling whom it links to which one,
--- and of the rows what became of each thread
+-- the bars of a part: of the lanes of the trace who runs on which processor, of those of strong
+-- scheduling whom it links to which one, and of the rows what became of each thread
 pub record AreBarsOf (trace : Recording) (part : Part) (bars : Bars) : Type 0 where
   pub of_trace : AreBars (Shows trace Trace) trace.threads part.from part.to bars.trace.items
   pub of_strong : AreBars (Shows trace Strong) trace.threads part.from part.to bars.strong.items
@@ -29,7 +29,8 @@ clipped part moment = max part.from (min part.to moment)
 
 -- a layer of the moments of a part up to now
 abbrev pub IsLayer : Recording → Kind → Part → ℕ → Layer → Type 0
-IsLayer trace kind part now layer = IsLayerAt (Shows trace kind) part.from part.to now layer.tracks.items layer.bars.items
+IsLayer trace kind part now layer =
+    IsLayerAt (Shows trace kind) part.from part.to now layer.tracks.items layer.bars.items
 
 pub record AreLayersAt (trace : Recording) (part : Part) (now : ℕ) (layers : Layers) : Type 0 where
   pub of_trace : IsLayer trace Trace part now layers.trace

@@ -1,6 +1,7 @@
--- What is seen at a moment of a trace: who runs where, and whom the strong scheduler links where, which follows the readiness of the
--- tasks that the passages say.
-use Rattle.std.specs.Prelude.{◌≡◌, ℕ, ◌<◌, false, List, [], ◌∷◌, length, map, take, drop, reverse, get_or, Option, None, Some, IfSome, IsNone, ◌↔◌}
+-- What is seen at a moment of a trace: who runs where, and whom the strong scheduler links where,
+-- which follows the readiness of the tasks that the passages say.
+use Rattle.std.specs.Prelude.{◌≡◌, ℕ, ◌<◌, false, List, [], ◌∷◌, length, map, take, drop, reverse}
+use Rattle.std.specs.Prelude.{get_or, Option, None, Some, IfSome, IsNone, ◌↔◌}
 use Rattle.task_set.specs.TaskSet.{SetData}
 use Rattle.strong_apa.specs.State.{State, start_of, task_on, is_ready, is_linked}
 use Rattle.strong_apa.specs.Step.{SchedulerStep}
@@ -31,10 +32,12 @@ pub record Enters (s : State) (passage : Passage) (new : State) : Type 0 where
   pub first : FollowsMention s passage.first between
   pub second : FollowsMention between passage.second new
 
--- the links after some passages, which are listed from the last one to the first; at first all tasks are absent
+-- the links after some passages, which are listed from the last one to the first; at first all
+-- tasks are absent
 abbrev pub FollowsTo : SetData → List Passage → State → Type 0
 FollowsTo set [] s = s ≡ start_of set
-FollowsTo set (passage ∷ earlier) s = (before : State) × FollowsTo set earlier before × Enters before passage s
+FollowsTo set (passage ∷ earlier) s =
+    (before : State) × FollowsTo set earlier before × Enters before passage s
 
 -- ---- a thread
 -- nothing holds of a thread that there is not
@@ -51,14 +54,16 @@ pub record IsLinked (links : State) (t : ℕ) (linked : Option ℕ) : Type 0 whe
   pub nowhere : IsNone linked ↔ (is_linked links t ≡ false)
 
 -- this is so of the thread by the links, and by who runs where between passages
-pub record IsSight (links : State) (earlier after : List Passage) (t : ℕ) (sight : Sight) : Type 0 where
+pub record IsSight (links : State) (earlier after : List Passage) (t : ℕ)
+    (sight : Sight) : Type 0 where
   pub ready : sight.ready ≡ is_ready links t
   pub linked : IsLinked links t sight.linked
   pub on : (p : ℕ) → is_some_of sight.on p ≡ runs_between (turns_of earlier) (turns_of after) t p
 
 -- ---- a moment
--- this is seen at the moment x of each thread: n passages have come, the strong scheduler has followed them to these links, and the
--- others say with them who runs. So it is also what is seen where losses are counted.
+-- this is seen at the moment x of each thread: n passages have come, the strong scheduler has
+-- followed them to these links, and the others say with them who runs. So it is also what is seen
+-- where losses are counted.
 pub record IsSightsAt (trace : Recording) (x : ℕ) (sights : List Sight) : Type 0 where
   pub n : ℕ
   pub cut : IsCut trace.passages x n
@@ -66,7 +71,8 @@ pub record IsSightsAt (trace : Recording) (x : ℕ) (sights : List Sight) : Type
   pub follows : FollowsTo trace.tasks (reverse (take n trace.passages)) links
   pub count : length sights ≡ trace.threads
   pub each : (t : ℕ) → t < trace.threads
-      → IsSight links (reverse (take n trace.passages)) (drop n trace.passages) t (sight_of sights t)
+      → IsSight links (reverse (take n trace.passages)) (drop n trace.passages) t
+      (sight_of sights t)
   pub seen : IsSeenAt trace.tasks trace.threads trace.passages x (map seen_by sights)
 
 -- ---- Private: contracts of this crate's own functions

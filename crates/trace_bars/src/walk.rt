@@ -7,7 +7,7 @@ ghost use Rattle.strong_apa.specs.State.{HasSameTasks, task_count, start_of};
 ghost use Rattle.trace_passages.specs.Passages.{IsMentionOf};
 ghost use Rattle.trace_passages.specs.Turns.{AreThreads};
 ghost use Rattle.trace_passages.specs.declared.passage.Passage.{Passage};
-ghost use Rattle.trace_losses.specs.Passages.{ready_by, ready_after};
+ghost use Rattle.trace_losses.specs.Passages.{ready_by, ready_after_passages};
 ghost use Rattle.trace_losses.specs.Runs.{restored_by};
 ghost use Rattle.trace_losses.specs.Walk.{AllInUse, IsPlaced, event_of};
 ghost use Rattle.trace_bars.specs.Sights.{AreSightsBy, IsSightBy, Enters, FollowsMention};
@@ -57,8 +57,8 @@ impl Walk {
         requires threads { ForSome passage.turn (AreThreads (vec_len self.old.runners.processors)) }
         requires within { ForSome former.stopped (λ t. t < vec_len self.old.runners.processors) }
         ensures placed { (set : SetData) (earlier : List Passage)
-            → IsPlaced set (ready_after earlier) self.old.core.links
-            → IsPlaced set (ready_after (passage ∷ earlier)) self.new.core.links }
+            → IsPlaced set (ready_after_passages earlier) self.old.core.links
+            → IsPlaced set (ready_after_passages (passage ∷ earlier)) self.new.core.links }
         ensures enters { Enters self.old.core.links passage self.new.core.links }
         ensures used { AllInUse self.new.core }
         ensures restored { self.new.runners.processors.items
@@ -139,8 +139,8 @@ fn enter(core: &mut LiveCore, passage: Passage)
     requires first { IsMentionOf (task_count core.old.links) passage.first }
     requires second { IsMentionOf (task_count core.old.links) passage.second }
     ensures placed { (set : SetData) (earlier : List Passage)
-        → IsPlaced set (ready_after earlier) core.old.links
-        → IsPlaced set (ready_after (passage ∷ earlier)) core.new.links }
+        → IsPlaced set (ready_after_passages earlier) core.old.links
+        → IsPlaced set (ready_after_passages (passage ∷ earlier)) core.new.links }
     ensures enters { Enters core.old.links passage core.new.links }
     ensures used { AllInUse core.new }
 {

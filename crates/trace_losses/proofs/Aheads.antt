@@ -1,5 +1,6 @@
 -- What is known from a moment on goes back over changes and over moments.
-use Rattle.std.proofs.Common.{◌≡◌, ℕ, ◌+◌, ◌-◌, ◌<◌, ◌≤◌, ◌==◌, Bool, true, false, List, [], ◌∷◌, length, get_or, set, replicate, drop, Option, None, Some, refl, sym, ap, ◌∙◌, subst, inl, inr, arith, eq-eqb, ne_eqb, length-set}
+use Rattle.std.proofs.Common.{◌≡◌, ℕ, ◌+◌, ◌-◌, ◌<◌, ◌≤◌, ◌==◌, Bool, true, false, List, [], ◌∷◌, length, get_or, set, replicate, drop}
+use Rattle.std.proofs.Common.{Option, None, Some, refl, sym, ap, ◌∙◌, subst, inl, inr, arith, eq-eqb, ne_eqb, length-set}
 use Rattle.std.specs.Prelude.{slice_get, not, ◌&&◌, if◌then◌else◌}
 use Rattle.std.specs.Bool.{MatchBool}
 use Rattle.std.specs.Option.{is_some}
@@ -139,13 +140,16 @@ module _ (tasks threads : ℕ) (passages : List Passage) (are : ArePassages task
         first = omega (arith, from, span);
         last = ahead.last;
         count =
-            count_moved (RunsAt passages t) start start (end - moment_at passages i + units) (end - start) (before + units) (before + units) refl
+            count_moved (RunsAt passages t) start start (end - moment_at passages i + units) (end - start) (before + units) (before + units)
+            refl
             (omega (arith, from, span)) refl
             (count_with (RunsAt passages t) units start (end - moment_at passages i) before
             (λ x at_least below.
             runs_there passages i t x on o
-            (cut_at tasks threads passages are i x (some_before (omega (arith, at_least, below))) within at_least (omega (arith, below, span))) armed is e)
-            (count_moved (RunsAt passages t) (moment_at passages i) (start + units) (end - moment_at passages i) (end - moment_at passages i) before before
+            (cut_at tasks threads passages are i x (some_before (omega (arith, at_least, below))) within at_least
+            (omega (arith, below, span))) armed is e)
+            (count_moved (RunsAt passages t) (moment_at passages i) (start + units) (end - moment_at passages i)
+            (end - moment_at passages i) before before
             (sym span) refl refl ahead.count));
       }
   one_ahead t end before o is ahead false e =
@@ -160,8 +164,10 @@ module _ (tasks threads : ℕ) (passages : List Passage) (are : ArePassages task
             (count_without (RunsAt passages t) units start (end - moment_at passages i) before
             (λ x at_least below.
             rests_there passages i t x on o
-            (cut_at tasks threads passages are i x (some_before (omega (arith, at_least, below))) within at_least (omega (arith, below, span))) armed is e)
-            (count_moved (RunsAt passages t) (moment_at passages i) (start + units) (end - moment_at passages i) (end - moment_at passages i) before before
+            (cut_at tasks threads passages are i x (some_before (omega (arith, at_least, below))) within at_least
+            (omega (arith, below, span))) armed is e)
+            (count_moved (RunsAt passages t) (moment_at passages i) (start + units) (end - moment_at passages i)
+            (end - moment_at passages i) before before
             (sym span) refl refl ahead.count));
       }
 

@@ -33,7 +33,8 @@ each_pushed {X} Is xs last before there =
     subst (λ (n : ℕ). Is n y) here (subst (λ (z : X). Is (length xs) z) at.1 there)))
 
 -- equal elements
-pub in_replicate : {X : Type 0} (units : ℕ) (same : X) (k : ℕ) (y : X) → slice_get (replicate units same) k ≡ Some y → (k < units) × (same ≡ y)
+pub in_replicate : {X : Type 0} (units : ℕ) (same : X) (k : ℕ) (y : X) → slice_get (replicate units same) k ≡ Some y
+    → (k < units) × (same ≡ y)
 in_replicate units same k y is =
     let within = slice_get_within (replicate units same) k y is in
     let long = length-replicate units same in

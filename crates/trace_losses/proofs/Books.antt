@@ -1,5 +1,6 @@
 -- A book goes on by equal moments.
-use Rattle.std.proofs.Common.{◌≡◌, ℕ, zero, suc, ◌+◌, ◌<◌, List, [], ◌∷◌, ◌++◌, length, get_or, Option, Some, refl, sym, ap, ◌∙◌, subst, inl, inr, arith, length-append}
+use Rattle.std.proofs.Common.{◌≡◌, ℕ, zero, suc, ◌+◌, ◌<◌, List, [], ◌∷◌, ◌++◌, length, get_or, Option, Some, refl, sym, ap, ◌∙◌, subst}
+use Rattle.std.proofs.Common.{inl, inr, arith, length-append}
 use Rattle.std.specs.Prelude.{replicate, slice_get}
 use Rattle.std.proofs.Math.Seq.{get_or-append_seam}
 use Rattle.std.proofs.lemmas.Bool.{cases_lt}
@@ -49,7 +50,8 @@ task_more t units moments seen =
     map-append (λ (at : List Seen). get_or at t nothing_seen) moments (replicate units seen)
     ∙ ap (λ (rest : List Seen). of_task t moments ++ rest) (map_same t units seen)
 
-module _ (old new : List Tally) (seen : List Seen) (units done : ℕ) (passed : IsPassed old new seen units done) (all : done ≡ length old) where
+module _ (old new : List Tally) (seen : List Seen) (units done : ℕ) (passed : IsPassed old new seen units done)
+    (all : done ≡ length old) where
   -- each tally is one of before, after these moments
   came : (t : ℕ) (tally : Tally) → slice_get new t ≡ Some tally
       → (before : Tally) × (slice_get old t ≡ Some before) × (tally_after before units (get_or seen t nothing_seen) ≡ tally)

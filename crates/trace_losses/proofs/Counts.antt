@@ -90,7 +90,8 @@ module _ (Is : ℕ → Type 0) where
       count_moved first first (0 + units) units (0 + units) units refl (omega arith) (omega arith) (count_with units first 0 0 each refl)
 
   pub count_none : (first units : ℕ) → ((x : ℕ) → first ≤ x → x < first + units → Is x → ⊥) → IsCount Is first units 0
-  count_none first units none = count_moved first first (0 + units) units 0 0 refl (omega arith) refl (count_without units first 0 0 none refl)
+  count_none first units none =
+      count_moved first first (0 + units) units 0 0 refl (omega arith) refl (count_without units first 0 0 none refl)
 
 -- moments are of one kind where they are of another one
 pub count_alike : (Is Other : ℕ → Type 0) (moments first count : ℕ) → ((x : ℕ) → first ≤ x → x < first + moments → Is x → Other x)

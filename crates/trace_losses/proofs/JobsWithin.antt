@@ -1,11 +1,13 @@
 -- Each job of passages is of a task of theirs and within their span.
-use Rattle.std.proofs.Common.{◌≡◌, ℕ, suc, ◌-◌, ◌<◌, ◌≤◌, Bool, true, false, nat_lt, List, [], ◌∷◌, length, Option, None, Some, refl, sym, subst, arith}
+use Rattle.std.proofs.Common.{◌≡◌, ℕ, suc, ◌-◌, ◌<◌, ◌≤◌, Bool, true, false, nat_lt, List, [], ◌∷◌, length, Option, None, Some, refl, sym}
+use Rattle.std.proofs.Common.{subst, arith}
 use Rattle.std.specs.Bool.{MatchBool}
 use Rattle.std.specs.Prelude.{All, if◌then◌else◌, slice_get}
 use Rattle.std.proofs.lemmas.Bool.{ltb-true}
 use Rattle.std.proofs.lemmas.List.Elements.{All-nil, All-cons, All-head, All-tail}
 use Rattle.std.proofs.lemmas.Option.{slice_get_within}
-use Rattle.trace_losses.specs.Jobs.{RunsAt, Change, AreJobs, AreJobsOf, BeginsJob, IsStretch, IsJobWithin, changes_of, end_by, is_departure, with_change}
+use Rattle.trace_losses.specs.Jobs.{RunsAt, Change, AreJobs, AreJobsOf, BeginsJob, IsStretch, IsJobWithin, changes_of, end_by, is_departure}
+use Rattle.trace_losses.specs.Jobs.{with_change}
 use Rattle.trace_passages.specs.Passages.{ArePassages, IsMentionOf, IsPassageOf, span_of}
 use Rattle.trace_losses.specs.declared.job.TraceJob.{TraceJob}
 use Rattle.trace_passages.specs.declared.passage.Passage.{Passage}
@@ -99,5 +101,6 @@ module _ (tasks : ℕ) (passages : List Passage) where
       (λ k passage there.
       (let bound = slice_get_within passages k passage there in
       let same = moment_is passages k passage there in
-      let order = moments_in_order tasks threads passages are k (length passages - 1) passage (omega (arith, bound)) (omega (arith, bound)) in
+      let order = moments_in_order tasks threads passages are k (length passages - 1) passage (omega (arith, bound))
+      (omega (arith, bound)) in
       record { of = are.each k passage there; moment = omega (arith, same, order) }))) is

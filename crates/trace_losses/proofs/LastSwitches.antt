@@ -69,7 +69,8 @@ module _ (passages : List Passage) (n : ℕ) where
 
   module _ (passage : Passage) (there : slice_get passages n ≡ Some passage) where
     -- the passage is no switch of the processor, and the last one stays
-    stays : (p : ℕ) (found : Option (Option ℕ)) → is_switch_of p passage.turn ≡ false → IsLast passages n p found → IsLast passages (n + 1) p found
+    stays : (p : ℕ) (found : Option (Option ℕ)) → is_switch_of p passage.turn ≡ false → IsLast passages n p found
+        → IsLast passages (n + 1) p found
     stays p None apart is = λ l other below at. elim (cases_eq l n) [
       | inl same ↦
           ap (λ (one : Passage). is_switch_of p one.turn) (same_Some other passage (sym at ∙ ap (slice_get passages) same ∙ there)) ∙ apart
@@ -84,7 +85,8 @@ module _ (passages : List Passage) (n : ℕ) where
       is = is.is;
       last = λ l other after below at. elim (cases_eq l n) [
         | inl same ↦
-            ap (λ (one : Passage). is_switch_of p one.turn) (same_Some other passage (sym at ∙ ap (slice_get passages) same ∙ there)) ∙ apart
+            ap (λ (one : Passage). is_switch_of p one.turn) (same_Some other passage (sym at ∙ ap (slice_get passages) same ∙ there))
+            ∙ apart
         | inr differs ↦ is.last l other after (omega (arith, below, differs)) at
       ];
     }
@@ -139,7 +141,8 @@ module _ (passages : List Passage) (n : ℕ) where
           there = there;
           is = is;
           last = last_is;
-          differs = λ same. two_truths (option_eq nat_eq came from) (ap (λ (a : Option ℕ). option_eq nat_eq a from) same ∙ equal_thread from) e;
+          differs = λ same. two_truths (option_eq nat_eq came from) (ap (λ (a : Option ℕ). option_eq nat_eq a from) same
+              ∙ equal_thread from) e;
         }
 
         by_last : (found : Option (Option ℕ)) → IsLast passages n p found
@@ -167,7 +170,8 @@ module _ (passages : List Passage) (n : ℕ) where
           count_all (IsJump passages) (0 + n) 1
           (λ x from below. (let place : n ≡ x = omega (arith, from, below) in subst (IsJump passages) place is))
       one_more false e =
-          let none : IsJump passages n → ⊥ = subst (λ (b : Bool). MatchBool b (IsJump passages n) (IsJump passages n → ⊥)) (sym e) next_jump in
+          let none : IsJump passages n → ⊥ = subst (λ (b : Bool). MatchBool b (IsJump passages n) (IsJump passages n → ⊥)) (sym e)
+          next_jump in
           count_none (IsJump passages) (0 + n) 1
           (λ x from below is. (let place : x ≡ n = omega (arith, from, below) in none (subst (IsJump passages) place is)))
 

@@ -97,10 +97,12 @@ module _ (counts numbers : List ℕ) (tasks : ℕ)
 
 module _ (numbers : List ℕ) (moments : List (List Seen))
     (distinct : (t u : ℕ) → t < length numbers → u < length numbers → slice_index numbers t ≡ slice_index numbers u → t ≡ u) where
-  one_rival : (stretch : Stretch) (one other : Option ℕ) → IsRival numbers moments stretch one → IsRival numbers moments stretch other → one ≡ other
+  one_rival : (stretch : Stretch) (one other : Option ℕ) → IsRival numbers moments stretch one → IsRival numbers moments stretch other
+      → one ≡ other
   one_rival stretch one other is also =
       let same : is.counts ≡ also.counts =
-      one_list is.counts also.counts (λ t. count_by is_rival (of_task t (during stretch moments))) (is.tasks ∙ sym also.tasks) is.counted also.counted in
+      one_list is.counts also.counts (λ t. count_by is_rival (of_task t (during stretch moments))) (is.tasks ∙ sym also.tasks)
+      is.counted also.counted in
       one_most also.counts numbers (length numbers) distinct one other
       (subst (λ (counts : List ℕ). IsMostOf counts numbers (length numbers) one) same is.most) also.most
 
@@ -112,7 +114,8 @@ module _ (numbers : List ℕ) (moments : List (List Seen))
       let over = one_count (IsOver (losses seen)) 0 (length (losses seen)) one.over other.over is.over also.over in
       let longest = one_longest (losses seen) one.longest other.longest is.longest also.longest in
       let rival =
-      one_rival other.longest one.rival other.rival (subst (λ (s : Stretch). IsRival numbers moments s one.rival) longest is.rival) also.rival in
+      one_rival other.longest one.rival other.rival (subst (λ (s : Stretch). IsRival numbers moments s one.rival) longest is.rival)
+      also.rival in
       ap (λ (a : ℕ). made a one.served one.lost one.over one.longest one.rival) (is.ready ∙ sym also.ready)
       ∙ ap (λ (b : ℕ). made other.ready b one.lost one.over one.longest one.rival) (is.served ∙ sym also.served)
       ∙ ap (λ (c : ℕ). made other.ready other.served c one.over one.longest one.rival) (is.lost ∙ sym also.lost)

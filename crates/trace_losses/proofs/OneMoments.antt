@@ -1,5 +1,6 @@
 -- Of passages one list of moments is seen.
-use Rattle.std.proofs.Common.{◌≡◌, ℕ, ◌<◌, Bool, true, false, List, [], take, drop, length, get_or, Some, refl, sym, ap, ◌∙◌, subst, inl, inr, arith, IsTrue}
+use Rattle.std.proofs.Common.{◌≡◌, ℕ, ◌<◌, Bool, true, false, List, [], take, drop, length, get_or, Some, refl, sym, ap, ◌∙◌, subst, inl}
+use Rattle.std.proofs.Common.{inr, arith, IsTrue}
 use Rattle.std.specs.Prelude.{◌↔◌, reverse, slice_get}
 use Rattle.std.proofs.lemmas.Bool.{cases_lt, false≢true}
 use Rattle.std.proofs.lemmas.List.{ext_get_or}
@@ -8,7 +9,7 @@ use Rattle.task_set.specs.TaskSet.{SetData}
 use Rattle.strong_apa.proofs.BestOnce.{best_is_unique}
 use Rattle.strong_apa.specs.State.{start_of, task_count}
 use Rattle.trace_losses.specs.Book.{nothing_seen}
-use Rattle.trace_losses.specs.Passages.{AreMoments, IsSeenAt, IsSeenBetween, ready_after, best_of, seen_of}
+use Rattle.trace_losses.specs.Passages.{AreMoments, IsSeenAt, IsSeenBetween, ready_after_passages, best_of, seen_of}
 use Rattle.trace_losses.specs.declared.seen.Seen.{Seen}
 use Rattle.trace_passages.specs.declared.passage.Passage.{Passage}
 use Rattle.trace_losses.proofs.RunsMoment.{one_cut}
@@ -32,7 +33,7 @@ nothing : List Seen
 nothing = []
 
 module _ (task_set : SetData) (threads : ℕ) (passages : List Passage)
-    (within : (n t : ℕ) → ready_after (reverse (take n passages)) t ≡ true → t < task_count (start_of task_set)) where
+    (within : (n t : ℕ) → ready_after_passages (reverse (take n passages)) t ≡ true → t < task_count (start_of task_set)) where
   one_between : (n : ℕ) (one other : List Seen) → IsSeenBetween task_set threads (reverse (take n passages)) (drop n passages) one
       → IsSeenBetween task_set threads (reverse (take n passages)) (drop n passages) other → one ≡ other
   one_between n one other first second =
@@ -42,10 +43,12 @@ module _ (task_set : SetData) (threads : ℕ) (passages : List Passage)
       (let here : t < threads = omega (arith, long, below) in
       same_seen (seen_of one t) (seen_of other t)
       (first.ready t here ∙ sym (second.ready t here))
-      (best_is_unique (start_of task_set) (ready_after (reverse (take n passages))) (best_of one) (best_of other) (within n) first.best second.best t)
+      (best_is_unique (start_of task_set) (ready_after_passages (reverse (take n passages))) (best_of one) (best_of other) (within n)
+      first.best second.best t)
       (same_test (seen_of one t).runs (seen_of other t).runs _ (first.runs t here) (second.runs t here))))
 
-  one_at : (x : ℕ) (one other : List Seen) → IsSeenAt task_set threads passages x one → IsSeenAt task_set threads passages x other → one ≡ other
+  one_at : (x : ℕ) (one other : List Seen) → IsSeenAt task_set threads passages x one → IsSeenAt task_set threads passages x other
+      → one ≡ other
   one_at x one other first second =
       let same : second.n ≡ first.n = one_cut passages x second.n first.n second.cut first.cut in
       one_between first.n one other first.between

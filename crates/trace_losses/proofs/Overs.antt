@@ -13,7 +13,8 @@ module _ (lost : List Bool) (count : ℕ) (current : IsCurrent lost count) where
   -- a stretch with a moment of it has no other moments
   within_it : (first many x : ℕ) → IsLostFrom lost first many → first ≤ x → x < first + many → length lost ≤ x + count → many ≤ count
   within_it first many x each from below there =
-      let last = slice_get_within lost (first + many - 1) true (each (first + many - 1) (omega (arith, from, below)) (omega (arith, from, below))) in
+      let last = slice_get_within lost (first + many - 1) true
+      (each (first + many - 1) (omega (arith, from, below)) (omega (arith, from, below))) in
       elim (cases_lt (first + count) (length lost)) [
         | inr later ↦ omega (arith, later, last)
         | inl earlier ↦ (
@@ -42,7 +43,8 @@ module _ (lost : List Bool) (count : ℕ) (current : IsCurrent lost count) where
   pub over_whole : (ended : ℕ) → IsCount (IsOver lost) 0 (length lost - count) ended → AreOver lost (ended + over count)
   over_whole ended is =
       let within = current.within in
-      count_moved (IsOver lost) 0 0 (count + (length lost - count)) (length lost) (ended + over count) (ended + over count) refl (omega (arith, within))
+      count_moved (IsOver lost) 0 0 (count + (length lost - count)) (length lost) (ended + over count) (ended + over count) refl
+      (omega (arith, within))
       refl (count_append (IsOver lost) (length lost - count) 0 count ended (over count) is (by_long (nat_lt 50 count) refl))
 
 -- ---- moments follow
@@ -93,7 +95,8 @@ module _ (lost : List Bool) (units count : ℕ) (some : 0 < units) (current : Is
   none_follows : (x : ℕ) → length lost ≤ x → IsOver (lost ++ replicate units false) x → ⊥
   none_follows x from is =
       let there = is.each x is.from is.to in
-      two_answers (slice_get (lost ++ replicate units false) x) there (at_after lost units false x from (lost_within lost units false x there))
+      two_answers (slice_get (lost ++ replicate units false) x) there
+      (at_after lost units false x from (lost_within lost units false x there))
 
   pub over_kept : (ended : ℕ) → IsCount (IsOver lost) 0 (length lost - count) ended
       → IsCount (IsOver (lost ++ replicate units false)) 0 (length (lost ++ replicate units false) - 0) (ended + over count)
@@ -103,6 +106,7 @@ module _ (lost : List Bool) (units count : ℕ) (some : 0 < units) (current : Is
       let before : IsCount (IsOver all) 0 (length lost) (ended + over count) =
       count_alike (IsOver lost) (IsOver all) (length lost) 0 (ended + over count)
       (λ x from below. over_before lost units false x) (λ x from below. back_kept x) (over_whole lost count current ended is) in
-      count_moved (IsOver all) 0 0 (units + length lost) (length all - 0) (ended + over count + 0) (ended + over count) refl (omega (arith, long)) (omega arith)
+      count_moved (IsOver all) 0 0 (units + length lost) (length all - 0) (ended + over count + 0) (ended + over count) refl
+      (omega (arith, long)) (omega arith)
       (count_append (IsOver all) (length lost) 0 units (ended + over count) 0 before
       (count_none (IsOver all) (0 + length lost) units (λ x from below. none_follows x (omega (arith, from)))))

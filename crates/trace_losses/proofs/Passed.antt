@@ -1,5 +1,6 @@
 -- Passages that have come, and those that come later.
-use Rattle.std.proofs.Common.{◌≡◌, ℕ, ◌+◌, ◌-◌, ◌<◌, ◌≤◌, List, [], ◌∷◌, ◌++◌, length, take, drop, get_or, Option, Some, None, refl, sym, ap, ◌∙◌, arith, append-nil}
+use Rattle.std.proofs.Common.{◌≡◌, ℕ, ◌+◌, ◌-◌, ◌<◌, ◌≤◌, List, [], ◌∷◌, ◌++◌, length, take, drop, get_or, Option, Some, None, refl, sym}
+use Rattle.std.proofs.Common.{ap, ◌∙◌, arith, append-nil}
 use Rattle.std.specs.Prelude.{reverse, slice_get}
 use Rattle.std.proofs.lemmas.List.{take_more, reverse-append, take-append-drop, get_or-map}
 use Rattle.std.proofs.lemmas.Option.{slice_get-get_or, slice_get_within, get_or_from_slice_get}
@@ -48,12 +49,14 @@ abbrev pub no_passage : Passage
 no_passage = record { moment = 0; turn = None; first = None; second = None }
 
 -- ---- moments
-pub moment_is : (passages : List Passage) (k : ℕ) (passage : Passage) → slice_get passages k ≡ Some passage → moment_at passages k ≡ passage.moment
+pub moment_is : (passages : List Passage) (k : ℕ) (passage : Passage) → slice_get passages k ≡ Some passage
+    → moment_at passages k ≡ passage.moment
 moment_is passages k passage is =
     get_or-map (λ (x : Passage). x.moment) passages k passage 0 (slice_get_within passages k passage is)
     ∙ ap {B = ℕ} (λ (x : Passage). x.moment) (get_or_from_slice_get passages k passage passage is)
 
-pub moments_in_order : (tasks threads : ℕ) (passages : List Passage) → ArePassages tasks threads passages → (k l : ℕ) (d : Passage) → k ≤ l → l < length passages
+pub moments_in_order : (tasks threads : ℕ) (passages : List Passage) → ArePassages tasks threads passages → (k l : ℕ) (d : Passage) → k ≤ l
+    → l < length passages
     → moment_at passages k ≤ moment_at passages l
 moments_in_order tasks threads passages are k l d le below =
     let one = slice_get-get_or passages k d (omega arith) in
@@ -79,7 +82,8 @@ cut_at tasks threads passages are i x some below from before = record {
 }
 
 -- each passage is at a moment that the next one is not before
-pub next_is_later : (tasks threads : ℕ) (passages : List Passage) → ArePassages tasks threads passages → (i : ℕ) → 0 < i → i < length passages
+pub next_is_later : (tasks threads : ℕ) (passages : List Passage) → ArePassages tasks threads passages → (i : ℕ) → 0 < i
+    → i < length passages
     → (get_or passages (i - 1) no_passage).moment ≤ (get_or passages i no_passage).moment
 next_is_later tasks threads passages are i some below =
     are.in_order (i - 1) i (get_or passages (i - 1) no_passage) (get_or passages i no_passage) (omega arith)

@@ -1,5 +1,6 @@
 -- The links after the mentions of passages.
-use Rattle.std.proofs.Common.{◌≡◌, ℕ, ◌<◌, ◌==◌, Bool, true, false, List, [], length, get_or, set, Option, Some, None, refl, sym, ap, ◌∙◌, subst, inl, inr, arith, eq-eqb, ne_eqb, get_or-set_same, get_or-set_other}
+use Rattle.std.proofs.Common.{◌≡◌, ℕ, ◌<◌, ◌==◌, Bool, true, false, List, [], length, get_or, set, Option, Some, None, refl, sym, ap, ◌∙◌}
+use Rattle.std.proofs.Common.{subst, inl, inr, arith, eq-eqb, ne_eqb, get_or-set_same, get_or-set_other}
 use Rattle.std.specs.Prelude.{if◌then◌else◌}
 use Rattle.std.proofs.lemmas.Bool.{cases_eq, true≢false}
 use Rattle.std.proofs.lemmas.List.{set-get_or}
@@ -17,12 +18,12 @@ use Rattle.strong_apa.proofs.Start.{IsState-start, none_ready}
 use Rattle.strong_apa.proofs.Steps.{reply_gives_new_state, comes_effect, fills_effect}
 use Rattle.strong_apa.specs.CertificateLaws.{LinkedIsBest}
 use Rattle.strong_apa.proofs.Best.{linked_is_best}
-use Rattle.trace_losses.specs.Passages.{ready_by, ready_after}
+use Rattle.trace_losses.specs.Passages.{ready_by, ready_after_passages}
 use Rattle.trace_losses.specs.Walk.{IsPlaced}
 use Rattle.trace_passages.specs.declared.passage.Readiness.{Readiness}
 
 -- ---- at first
-pub placed_at_first : (task_set : SetData) → IsTaskSet task_set → IsPlaced task_set (ready_after []) (start_of task_set)
+pub placed_at_first : (task_set : SetData) → IsTaskSet task_set → IsPlaced task_set (ready_after_passages []) (start_of task_set)
 placed_at_first task_set ok =
     let valid = IsState-start task_set ok in
     record {
@@ -52,7 +53,8 @@ flag_kept s new t flag has is =
 
 arrived : (s : State) (t : ℕ) (reply : Reply) (new : State) → ArriveStep s t reply new → new.ready ≡ set s.ready t true
 arrived s t reply new (inl again) = flag_kept s new t true again.ready again.same
-arrived s t reply new (inr arrives) = ap (λ (x : State). x.ready) (comes_effect s t arrives.came new arrives.comes) ∙ came_ready s t arrives.came
+arrived s t reply new (inr arrives) =
+    ap (λ (x : State). x.ready) (comes_effect s t arrives.came new arrives.comes) ∙ came_ready s t arrives.came
 
 departed : (s : State) (t : ℕ) (reply : Reply) (new : State) → DepartStep s t reply new → new.ready ≡ set s.ready t false
 departed s t reply new (inl again) = flag_kept s new t false again.absent again.same
@@ -88,7 +90,8 @@ module _ (task_set : SetData) (before : TaskTest) (old new : State) (placed : Is
   }
 
 pub placed_by : (mention : Readiness) (task_set : SetData) (before : TaskTest) (old : State) (reply : Reply) (new : State) (is_in : Bool)
-    → mention.is_in ≡ is_in → SchedulerStep old (if is_in then Arrive mention.task else Depart mention.task) reply new → IsState new → LinkedIsBest new
+    → mention.is_in ≡ is_in → SchedulerStep old (if is_in then Arrive mention.task else Depart mention.task) reply new → IsState new
+    → LinkedIsBest new
     → IsPlaced task_set before old → IsPlaced task_set (λ t. ready_by (Some mention) t (before t)) new
 placed_by mention task_set before old reply new true is step valid best placed =
     let t : ℕ = mention.task in
@@ -97,7 +100,8 @@ placed_by mention task_set before old reply new true is step valid best placed =
     subst (λ (flag : Bool). IsPlaced task_set (λ u. if t == u then flag else before u) new) (sym is)
     (then_placed task_set before old new placed t true (omega (arith, count, number)) (arrived old t reply new step.1)
     (same_tasks-step old (Arrive t) reply new step)
-    (subst (HasSameMasks old) (sym (reply_gives_new_state old (Arrive t) reply new step)) (reply_keeps_masks old (Arrive t) reply tt)) valid best)
+    (subst (HasSameMasks old) (sym (reply_gives_new_state old (Arrive t) reply new step)) (reply_keeps_masks old (Arrive t) reply tt))
+    valid best)
 placed_by mention task_set before old reply new false is step valid best placed =
     let t : ℕ = mention.task in
     let count = placed.valid.ready_count in
@@ -105,4 +109,5 @@ placed_by mention task_set before old reply new false is step valid best placed 
     subst (λ (flag : Bool). IsPlaced task_set (λ u. if t == u then flag else before u) new) (sym is)
     (then_placed task_set before old new placed t false (omega (arith, count, number)) (departed old t reply new step.1)
     (same_tasks-step old (Depart t) reply new step)
-    (subst (HasSameMasks old) (sym (reply_gives_new_state old (Depart t) reply new step)) (reply_keeps_masks old (Depart t) reply tt)) valid best)
+    (subst (HasSameMasks old) (sym (reply_gives_new_state old (Depart t) reply new step)) (reply_keeps_masks old (Depart t) reply tt))
+    valid best)

@@ -1,11 +1,12 @@
 -- A step back over a line, and on over it again.
-use Rattle.std.proofs.Common.{◌≡◌, ℕ, ◌+◌, ◌<◌, ◌≤◌, ◌⊎◌, ◌==◌, Bool, true, false, List, length, get_or, set, Option, None, Some, refl, sym, ap, ◌∙◌, subst, inl, inr, arith, eq-eqb, ne_eqb, length-set}
+use Rattle.std.proofs.Common.{◌≡◌, ℕ, ◌+◌, ◌<◌, ◌≤◌, ◌⊎◌, ◌==◌, Bool, true, false, List, length, get_or, set, Option, None, Some, refl, sym}
+use Rattle.std.proofs.Common.{ap, ◌∙◌, subst, inl, inr, arith, eq-eqb, ne_eqb, length-set}
 use Rattle.std.specs.Prelude.{slice_get, replicate, if◌then◌else◌}
 use Rattle.std.specs.Option.{ForSome}
 use Rattle.std.proofs.lemmas.Bool.{cases_eq, cases_lt, eqb-true, false≢true}
 use Rattle.std.proofs.lemmas.List.{get_or-set_same, get_or-set_other, get_or_past, get_or-replicate, length-replicate, ext_get_or}
 use Rattle.std.proofs.lemmas.Option.{slice_get-get_or, get_or_from_slice_get}
-use Rattle.trace_losses.specs.Runs.{AreApart, IsArmed, IsHolder, IsStopped, is_some_of, put_at, restored, runs, stopped}
+use Rattle.trace_losses.specs.Runs.{RunApart, IsArmed, IsHolder, IsStopped, is_some_of, put_at, restored, runs, stopped}
 use Rattle.trace_losses.specs.Walk.{IsFormer, StepsBack, place_of}
 use Rattle.trace_losses.specs.declared.former.Former.{Former}
 use Rattle.trace_passages.specs.Turns.{AreThreads}
@@ -79,7 +80,7 @@ one_thread : (thread : Option ℕ) (t u : ℕ) → is_some_of thread t ≡ true 
 one_thread None t u one other = absurd (false≢true one)
 one_thread (Some m) t u one other = sym (eqb-true m t one) ∙ eqb-true m u other
 
-pub apart_back : (turn : Turn) (old new : List (Option ℕ)) → StepsBack turn old new → AreApart old → AreApart new
+pub apart_back : (turn : Turn) (old new : List (Option ℕ)) → StepsBack turn old new → RunApart old → RunApart new
 apart_back (Woken task) old new made apart t u p one other =
     let was : (v : ℕ) → is_some_of (get_or new v None) p ≡ true → is_some_of (get_or old v None) p ≡ true = λ v is.
     (let long : length new ≡ length old = back_length (Woken task) old new made in
@@ -111,7 +112,7 @@ apart_back (Switch q from to) old new steps apart t u p one other =
     ]
 
 -- nobody is anywhere
-pub apart_none : (on : List (Option ℕ)) (n : ℕ) → on ≡ replicate n None → AreApart on
+pub apart_none : (on : List (Option ℕ)) (n : ℕ) → on ≡ replicate n None → RunApart on
 apart_none on n none t u p one other =
     let within = on_within on t p one in
     let long : length on ≡ n = ap length none ∙ length-replicate n None in
@@ -132,7 +133,7 @@ holder_there on q done (Some u) t holds is =
     sym (some_true (get_or on u None) q holds.1) ∙ ap (λ (n : ℕ). get_or on n None) (eqb-true u t is)
 
 -- who was not on it stays where it is
-holder_not : (on : List (Option ℕ)) (q : ℕ) (holder : Option ℕ) (t : ℕ) → AreApart on → IsHolder on q (length on) holder → t < length on
+holder_not : (on : List (Option ℕ)) (q : ℕ) (holder : Option ℕ) (t : ℕ) → RunApart on → IsHolder on q (length on) holder → t < length on
     → is_some_of holder t ≡ false → is_some_of (get_or on t None) q ≡ false
 holder_not on q None t apart holds below is = holds t below
 holder_not on q (Some u) t apart holds below is = other (is_some_of (get_or on t None) q) refl
@@ -156,7 +157,7 @@ rests o q false true no_from no_to none = absurd (false≢true (sym no_to))
 rests o q false false no_from no_to none = ap (λ (b : Bool). if b then None else o) none
 
 pub restored_back : (turn : Turn) (old new : List (Option ℕ)) (former : Former) → StepsBack turn old new → IsFormer turn old former
-    → AreApart old → AreThreads (length old) turn → restored turn former new ≡ old
+    → RunApart old → AreThreads (length old) turn → restored turn former new ≡ old
 restored_back (Woken task) old new former made was apart within =
     let long : length new ≡ length old = back_length (Woken task) old new made in
     let all : length (set new task former.from) ≡ length old = length-set new task former.from ∙ long in
@@ -196,7 +197,8 @@ restored_back (Switch q from to) old new former steps was apart within =
     (if is_some_of from t then Some q else (if is_some_of to t then None else stopped o q))
     (λ is. was.1 ∙ place_there old from t is) (λ is. was.2 ∙ place_there old to t is)
     (λ is. holder_there old q (length old) holder t was.0 is)
-    (λ no_from no_to none. rests o q (is_some_of from t) (is_some_of to t) no_from no_to (holder_not old q holder t apart was.0 here none))))
+    (λ no_from no_to none. rests o q (is_some_of from t) (is_some_of to t) no_from no_to
+    (holder_not old q holder t apart was.0 here none))))
 
 -- ---- one list
 same_place : (one other : Option ℕ) → ((p : ℕ) → is_some_of one p ≡ is_some_of other p) → one ≡ other

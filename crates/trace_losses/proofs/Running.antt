@@ -1,5 +1,6 @@
 -- Who runs before a switch, by who runs after it.
-use Rattle.std.proofs.Common.{◌≡◌, ℕ, ◌<◌, ◌==◌, Bool, true, false, List, ◌∷◌, length, get_or, set, Option, None, Some, refl, sym, ap, ◌∙◌, subst, inl, inr, arith, eq-eqb, ne_eqb, length-set}
+use Rattle.std.proofs.Common.{◌≡◌, ℕ, ◌<◌, ◌==◌, Bool, true, false, List, ◌∷◌, length, get_or, set, Option, None, Some, refl, sym, ap, ◌∙◌}
+use Rattle.std.proofs.Common.{subst, inl, inr, arith, eq-eqb, ne_eqb, length-set}
 use Rattle.std.specs.Prelude.{slice_get, ◌&&◌, ◌||◌, if◌then◌else◌}
 use Rattle.std.proofs.lemmas.Bool.{cases_eq, eqb-true}
 use Rattle.std.proofs.lemmas.List.{get_or-set_same, get_or-set_other}
@@ -71,7 +72,8 @@ pub switch_armed : (base : ℕ → ℕ → Bool) (after : List Turn) (old middle
     → IsArmed base after old → IsArmed base (Switch q from to ∷ after) new
 switch_armed base after old middle new q from to stops made armed t on p is =
     let between : List (Option ℕ) = put_at middle to None in
-    let there : slice_get (put_at between from (Some q)) t ≡ Some on = subst (λ (all : List (Option ℕ)). slice_get all t ≡ Some on) made is in
+    let there : slice_get (put_at between from (Some q)) t ≡ Some on = subst (λ (all : List (Option ℕ)). slice_get all t ≡ Some on)
+    made is in
     let within = slice_get_within (put_at between from (Some q)) t on there in
     let long = put_length between from (Some q) in
     let long_between : length between ≡ length middle = put_length middle to None in

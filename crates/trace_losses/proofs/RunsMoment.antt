@@ -1,5 +1,6 @@
 -- Who runs at a moment, by who runs before the passages that come later.
-use Rattle.std.proofs.Common.{◌≡◌, ℕ, ◌<◌, true, false, List, take, drop, get_or, Option, Some, sym, ap, ◌∙◌, subst, inl, inr, arith, IsTrue}
+use Rattle.std.proofs.Common.{◌≡◌, ℕ, ◌<◌, true, false, List, take, drop, get_or, Option, Some, sym, ap, ◌∙◌, subst, inl, inr, arith}
+use Rattle.std.proofs.Common.{IsTrue}
 use Rattle.std.specs.Prelude.{◌↔◌, reverse, slice_get}
 use Rattle.std.specs.Option.{is_some}
 use Rattle.std.proofs.lemmas.Bool.{cases_lt, false≢true}
@@ -46,4 +47,5 @@ module _ (passages : List Passage) (i t x : ℕ) (on : List (Option ℕ)) (o : O
       false≢true
       (sym e
       ∙ between_is.1
-      (subst (λ (n : ℕ). RunsBetween (reverse (take n passages)) (drop n passages) t) (one_cut passages x runs.n i runs.cut cut) runs.between))
+      (subst (λ (n : ℕ). RunsBetween (reverse (take n passages)) (drop n passages) t) (one_cut passages x runs.n i runs.cut cut)
+      runs.between))

@@ -1,5 +1,6 @@
 -- What is seen between passages, and at the moments from one to the next.
-use Rattle.std.proofs.Common.{◌≡◌, ℕ, ◌+◌, ◌-◌, ◌<◌, ◌≤◌, Bool, false, List, ◌∷◌, ◌++◌, length, [], take, drop, get_or, Option, None, refl, sym, ap, ◌∙◌, subst, inl, inr, arith, IsTrue, length-append}
+use Rattle.std.proofs.Common.{◌≡◌, ℕ, ◌+◌, ◌-◌, ◌<◌, ◌≤◌, Bool, false, List, ◌∷◌, ◌++◌, length, [], take, drop, get_or, Option, None, refl}
+use Rattle.std.proofs.Common.{sym, ap, ◌∙◌, subst, inl, inr, arith, IsTrue, length-append}
 use Rattle.std.specs.Prelude.{◌↔◌, replicate, reverse}
 use Rattle.std.specs.Option.{is_some}
 use Rattle.std.proofs.lemmas.Bool.{cases_lt}
@@ -15,7 +16,8 @@ use Rattle.trace_passages.specs.Passages.{ArePassages, moment_at}
 use Rattle.trace_passages.specs.declared.passage.Passage.{Passage}
 use Rattle.trace_passages.specs.declared.turn.Turn.{Turn}
 use Rattle.trace_losses.specs.Book.{nothing_seen}
-use Rattle.trace_losses.specs.Passages.{AreMoments, IsSeenBetween, IsSeenAt, AreSeen, RunsBetween, ready_after, turns_of, seen_of, best_of}
+use Rattle.trace_losses.specs.Passages.{AreMoments, IsSeenBetween, IsSeenAt, AreSeen, RunsBetween, ready_after_passages, turns_of, seen_of}
+use Rattle.trace_losses.specs.Passages.{best_of}
 use Rattle.trace_losses.specs.Runs.{IsArmed, holds, runs, runs_between}
 use Rattle.trace_losses.specs.Walk.{IsPlaced, IsSeenBy, held_at_end}
 use Rattle.trace_losses.specs.declared.seen.Seen.{Seen}
@@ -26,11 +28,13 @@ use Rattle.trace_losses.proofs.Passed.{cut_at, turns_of_all}
 -- no task beyond the set is linked
 pub none_linked : (s : State) → IsState s → (t : ℕ) → length s.priorities ≤ t → is_linked s t ≡ false
 none_linked s ok t beyond =
-    not_linked-from_on s t (λ p there. (let number = ready_number s ok t (ok.linked_ready p t there) in absurd (omega (arith, number, beyond))))
+    not_linked-from_on s t (λ p there. (let number = ready_number s ok t (ok.linked_ready p t there) in
+    absurd (omega (arith, number, beyond))))
 
 -- of no thread beyond the set anything is seen but whether it runs
 pub none_seen : (s : State) → IsState s → (t : ℕ) → length s.priorities ≤ t → (runs : Bool)
-    → ◌≡◌ {A = Seen} (record { ready = false; best = false; runs = runs }) (record { ready = is_ready s t; best = is_linked s t; runs = runs })
+    → ◌≡◌ {A = Seen} (record { ready = false; best = false; runs = runs })
+    (record { ready = is_ready s t; best = is_linked s t; runs = runs })
 none_seen s ok t beyond runs =
     let made : Bool → Bool → Seen = λ (a b : Bool). record { ready = a; best = b; runs = runs } in
     let count = ok.ready_count in
@@ -38,11 +42,12 @@ none_seen s ok t beyond runs =
     ap (λ (a : Bool). made a false) (sym absent) ∙ ap (made (is_ready s t)) (sym (none_linked s ok t beyond))
 
 -- the links are of the tasks of the set
-pub count_of : (task_set : SetData) (is_in : TaskTest) (links : State) → IsPlaced task_set is_in links → length links.priorities ≡ length task_set.tasks
+pub count_of : (task_set : SetData) (is_in : TaskTest) (links : State) → IsPlaced task_set is_in links
+    → length links.priorities ≡ length task_set.tasks
 count_of task_set is_in links placed = ap length placed.tasks.priorities ∙ length-map task_set.tasks (λ (task : TaskData). task.priority)
 
 module _ (task_set : SetData) (passages : List Passage) (threads i : ℕ) (links : State) (processors : List (Option ℕ)) (seen : List Seen)
-    (all : length task_set.tasks ≤ threads) (placed : IsPlaced task_set (ready_after (reverse (take i passages))) links)
+    (all : length task_set.tasks ≤ threads) (placed : IsPlaced task_set (ready_after_passages (reverse (take i passages))) links)
     (armed : IsArmed (held_at_end passages) (turns_of (drop i passages)) processors) (count : length processors ≡ threads)
     (by : IsSeenBy links processors threads seen) (long : length seen ≡ threads) where
   -- who is seen to be in the best set is linked
@@ -50,7 +55,7 @@ module _ (task_set : SetData) (passages : List Passage) (threads i : ℕ) (links
   best_is t = elim (cases_lt t threads) [
     | inl below ↦ sym (ap (λ (at : Seen). at.best) (by.each t below))
     | inr beyond ↦ (
-        let tasks = count_of task_set (ready_after (reverse (take i passages))) links placed in
+        let tasks = count_of task_set (ready_after_passages (reverse (take i passages))) links placed in
         let nothing : seen_of seen t ≡ nothing_seen = get_or_past seen t nothing_seen (omega (arith, long, beyond)) in
         none_linked links placed.valid t (omega (arith, tasks, all, beyond)) ∙ sym (ap (λ (at : Seen). at.best) nothing))
   ]
@@ -70,7 +75,8 @@ module _ (task_set : SetData) (passages : List Passage) (threads i : ℕ) (links
     count = long;
     ready = λ t below. ap (λ (at : Seen). at.ready) (by.each t below) ∙ placed.ready t;
     best =
-        IsBest-same (start_of task_set) links placed.tasks placed.masks (is_ready links) (ready_after (reverse (take i passages))) (is_linked links)
+        IsBest-same (start_of task_set) links placed.tasks placed.masks (is_ready links) (ready_after_passages (reverse (take i passages)))
+        (is_linked links)
         (best_of seen) placed.ready best_is placed.best;
     runs = runs_seen;
   }
@@ -110,6 +116,7 @@ moments_on task_set threads passages i units moments seen are some below between
             cut =
                 cut_at (length task_set.tasks) threads passages are i x some below (omega (arith, place, long))
                 (omega (arith, place, long, within, span));
-            between = subst (λ (here : List Seen). IsSeenBetween task_set threads (reverse (take i passages)) (drop i passages) here) found.1 between;
+            between = subst (λ (here : List Seen). IsSeenBetween task_set threads (reverse (take i passages)) (drop i passages) here)
+                found.1 between;
           }));
     }

@@ -1,5 +1,6 @@
 -- Lost moments and their stretches, where some equal moments follow.
-use Rattle.std.proofs.Common.{◌≡◌, ℕ, ◌+◌, ◌-◌, ◌<◌, ◌≤◌, ◌⊎◌, Bool, true, false, nat_lt, List, ◌++◌, length, get_or, Option, Some, refl, sym, ap, ◌∙◌, inl, inr, arith, length-append}
+use Rattle.std.proofs.Common.{◌≡◌, ℕ, ◌+◌, ◌-◌, ◌<◌, ◌≤◌, ◌⊎◌, Bool, true, false, nat_lt, List, ◌++◌, length, get_or, Option, Some, refl}
+use Rattle.std.proofs.Common.{sym, ap, ◌∙◌, inl, inr, arith, length-append}
 use Rattle.std.specs.Prelude.{replicate, slice_get, if◌then◌else◌}
 use Rattle.std.proofs.lemmas.Bool.{cases_lt, ltb-true, ltb-false}
 use Rattle.std.proofs.lemmas.List.{length-replicate, get_or-replicate, get_or_append_left, get_or-append-add}
@@ -55,7 +56,8 @@ module _ (lost : List Bool) (units count : ℕ) (current : IsCurrent lost count)
       let long = all_length lost units true in
       let within = current.within in
       elim (cases_lt x (length lost)) [
-        | inl before ↦ at_before lost units true x before ∙ current.each x (omega (arith, long, from, within)) (omega (arith, before, within))
+        | inl before ↦ at_before lost units true x before ∙ current.each x (omega (arith, long, from, within))
+            (omega (arith, before, within))
         | inr after ↦ at_after lost units true x after (omega (arith, long, below, within))
       ]
 
@@ -125,7 +127,8 @@ module _ (lost : List Bool) (units count : ℕ) (current : IsCurrent lost count)
     by_longer false e =
         let above = ltb-false stretch.count (count + units) e in
         record {
-          each = λ x from under. (let there = longest.each x from under in at_before lost units true x (slice_get_within lost x true there) ∙ there);
+          each = λ x from under. (let there = longest.each x from under in at_before lost units true x (slice_get_within lost x true there)
+              ∙ there);
           longest = λ first many some each. elim (stretch_cases first many some each) [
             | inl before ↦ longest.longest first many some before
             | inr (few, later, whole) ↦ elim (cases_lt many stretch.count) [
@@ -165,10 +168,12 @@ module _ (lost : List Bool) (units : ℕ) (some : 0 < units) where
   ]
 
   module _ (stretch : Stretch) (longest : IsLongest lost stretch) (n : ℕ) where
-    by_none : (b : Bool) → nat_lt stretch.count 0 ≡ b → IsLongest kept_list (if b then record { first = n + units - 0; count = 0 } else stretch)
+    by_none : (b : Bool) → nat_lt stretch.count 0 ≡ b
+        → IsLongest kept_list (if b then record { first = n + units - 0; count = 0 } else stretch)
     by_none true e = let below = ltb-true stretch.count 0 e in absurd (omega (arith, below))
     by_none false e = record {
-      each = λ x from under. (let there = longest.each x from under in at_before lost units false x (slice_get_within lost x true there) ∙ there);
+      each = λ x from under. (let there = longest.each x from under in at_before lost units false x (slice_get_within lost x true there)
+          ∙ there);
       longest = λ first many some each. longest.longest first many some (only_before first many each);
       none = longest.none;
     }

@@ -1,9 +1,10 @@
 -- A tally goes on by equal moments.
-use Rattle.std.proofs.Common.{◌≡◌, ℕ, zero, suc, ◌+◌, ◌-◌, ◌<◌, ◌≤◌, Bool, true, false, nat_lt, List, [], ◌∷◌, ◌++◌, length, refl, sym, ap, ◌∙◌, subst, arith, length-append}
+use Rattle.std.proofs.Common.{◌≡◌, ℕ, zero, suc, ◌+◌, ◌-◌, ◌<◌, ◌≤◌, Bool, true, false, nat_lt, List, [], ◌∷◌, ◌++◌, length, refl, sym, ap}
+use Rattle.std.proofs.Common.{◌∙◌, subst, arith, length-append}
 use Rattle.std.specs.Prelude.{replicate, map, count_by, cond, if◌then◌else◌}
 use Rattle.std.proofs.lemmas.List.{length-replicate, map-append}
 use Rattle.std.proofs.lemmas.List.Sums.{sum_by-append}
-use Rattle.trace_losses.specs.Moments.{is_ready, is_served, is_lost, losses, IsCount, IsCurrent, IsLongest, IsOver, IsTally}
+use Rattle.trace_losses.specs.Moments.{is_ready_then, is_served, is_lost, losses, IsCount, IsCurrent, IsLongest, IsOver, IsTally}
 use Rattle.trace_losses.specs.Tally.{IsWithin, more, over, current_after, ended_after, longer, tally_after}
 use Rattle.trace_losses.specs.declared.seen.Seen.{Seen}
 use Rattle.trace_losses.specs.declared.tally.Stretch.{Stretch}
@@ -75,14 +76,15 @@ pub tally_more : (moments : List Seen) (tally : Tally) (units : ℕ) (seen : See
     → IsTally (moments ++ replicate units seen) (tally_after tally units seen)
 tally_more moments tally units seen some is =
     let counted : tally.moments ≡ length (losses moments) = is.count ∙ sym (length_losses moments) in
-    let both = stretched (is_lost seen) (losses moments) units tally.current tally.ended tally.moments tally.longest some counted is.current is.ended is.longest in
+    let both = stretched (is_lost seen) (losses moments) units tally.current tally.ended tally.moments tally.longest some counted is.current
+    is.ended is.longest in
     let same = sym (losses_more moments units seen) in
     let after : Tally = tally_after tally units seen in
     record {
       count =
           ap (λ (n : ℕ). n + units) is.count ∙ ap (λ (n : ℕ). length moments + n) (sym (length-replicate units seen))
           ∙ sym (length-append moments (replicate units seen));
-      ready = count_more is_ready moments units tally.ready seen is.ready;
+      ready = count_more is_ready_then moments units tally.ready seen is.ready;
       served = count_more is_served moments units tally.served seen is.served;
       lost = count_more is_lost moments units tally.lost seen is.lost;
       current = subst (λ (lost : List Bool). IsCurrent lost after.current) same both.current;
@@ -110,7 +112,7 @@ ended_within false ended count moments units is = by (nat_lt 50 count)
 
 pub within_more : (tally : Tally) (units : ℕ) (seen : Seen) → IsWithin tally → IsWithin (tally_after tally units seen)
 within_more tally units seen is = record {
-  ready = count_within (is_ready seen) tally.ready tally.moments units is.ready;
+  ready = count_within (is_ready_then seen) tally.ready tally.moments units is.ready;
   served = count_within (is_served seen) tally.served tally.moments units is.served;
   lost = count_within (is_lost seen) tally.lost tally.moments units is.lost;
   current = current_within (is_lost seen) tally.current tally.moments units is.current;
@@ -118,7 +120,8 @@ within_more tally units seen is = record {
 }
 
 -- the numbers of a tally after so many moments more, one by one
-pub tally_is : (tally : Tally) (units : ℕ) (seen : Seen) (is_served_now is_lost_now : Bool) (ready served lost current ended : ℕ) (longest : Stretch)
+pub tally_is : (tally : Tally) (units : ℕ) (seen : Seen) (is_served_now is_lost_now : Bool) (ready served lost current ended : ℕ)
+    (longest : Stretch)
     → is_served_now ≡ is_served seen → is_lost_now ≡ is_lost seen
     → ready ≡ more seen.ready tally.ready units → served ≡ more is_served_now tally.served units
     → lost ≡ more is_lost_now tally.lost units → current ≡ current_after is_lost_now tally.current units

@@ -1,5 +1,6 @@
 -- The trail of passages grows by a step back.
-use Rattle.std.proofs.Common.{◌≡◌, ℕ, ◌+◌, ◌-◌, ◌<◌, List, [], ◌∷◌, ◌++◌, length, drop, get_or, Option, Some, refl, sym, ap, ◌∙◌, subst, arith}
+use Rattle.std.proofs.Common.{◌≡◌, ℕ, ◌+◌, ◌-◌, ◌<◌, List, [], ◌∷◌, ◌++◌, length, drop, get_or, Option, Some, refl, sym, ap, ◌∙◌, subst}
+use Rattle.std.proofs.Common.{arith}
 use Rattle.std.specs.Prelude.{slice_get}
 use Rattle.std.specs.Option.{ForSome}
 use Rattle.std.proofs.lemmas.Option.{get_or_from_slice_get}
@@ -27,7 +28,8 @@ module _ (passages : List Passage) (threads i : ℕ) (old new : List (Option ℕ
         let there : IsArmed (held_at_end passages) (turns_of (drop (length passages - 1 - i) passages)) new =
         subst (λ (k : ℕ). IsArmed (held_at_end passages) (turns_of (drop k passages)) new) here armed_new in
         let same : processors ≡ new =
-        one_armed (held_at_end passages) (turns_of (drop (length passages - 1 - i) passages)) processors new (long ∙ sym count) armed there in
+        one_armed (held_at_end passages) (turns_of (drop (length passages - 1 - i) passages)) processors new (long ∙ sym count)
+        armed there in
         let is_old : restored_by (get_or passages (length passages - 1 - i) no_passage).turn former processors ≡ old =
         ap (restored_by (get_or passages (length passages - 1 - i) no_passage).turn former) same ∙ again in
         subst (IsArmed (held_at_end passages) (turns_of (drop (length passages - 1 - i + 1) passages))) (sym is_old)

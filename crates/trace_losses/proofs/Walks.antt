@@ -1,5 +1,6 @@
 -- A walk goes on over a passage.
-use Rattle.std.proofs.Common.{◌≡◌, ℕ, ◌+◌, ◌-◌, ◌<◌, ◌≤◌, Bool, List, [], ◌∷◌, length, take, drop, get_or, Option, Some, None, refl, sym, ap, ◌∙◌, subst, arith}
+use Rattle.std.proofs.Common.{◌≡◌, ℕ, ◌+◌, ◌-◌, ◌<◌, ◌≤◌, Bool, List, [], ◌∷◌, length, take, drop, get_or, Option, Some, None, refl, sym}
+use Rattle.std.proofs.Common.{ap, ◌∙◌, subst, arith}
 use Rattle.std.specs.Prelude.{reverse, slice_get}
 use Rattle.std.specs.Option.{ForSome}
 use Rattle.std.proofs.lemmas.Option.{slice_get-get_or}
@@ -9,7 +10,7 @@ use Rattle.strong_apa.specs.State.{start_of, task_count}
 use Rattle.trace_passages.specs.Passages.{ArePassages, IsMentionOf}
 use Rattle.trace_passages.specs.Turns.{AreThreads}
 use Rattle.trace_passages.specs.declared.passage.Passage.{Passage}
-use Rattle.trace_losses.specs.Passages.{ready_after, turns_of}
+use Rattle.trace_losses.specs.Passages.{ready_after_passages, turns_of}
 use Rattle.trace_losses.specs.Runs.{IsArmed, restored_by}
 use Rattle.trace_losses.specs.Walk.{AllInUse, IsPlaced, IsTrail, IsWalkAt, Restores, held_at_end}
 use Rattle.trace_losses.specs.declared.former.Former.{Former}
@@ -21,7 +22,8 @@ use Rattle.trace_losses.proofs.SeenMoments.{count_of}
 abbrev pub no_former : Former
 no_former = record { stopped = None; from = None; to = None }
 
-module _ (task_set : SetData) (passages : List Passage) (threads i : ℕ) (core : LiveData) (on first : List (Option ℕ)) (formers : List Former)
+module _ (task_set : SetData) (passages : List Passage) (threads i : ℕ) (core : LiveData) (on first : List (Option ℕ))
+    (formers : List Former)
     (are : ArePassages (length task_set.tasks) threads passages) (trail : IsTrail passages threads first formers)
     (at : IsWalkAt task_set passages threads (i - 1) core on) (some : 0 < i) (below : i < length passages) where
   abbrev passage : Passage
@@ -44,7 +46,7 @@ module _ (task_set : SetData) (passages : List Passage) (threads i : ℕ) (core 
       (subst (λ (k : ℕ). slice_get passages k ≡ Some passage) (sym place) passage_is))
 
   tasks_are : length core.links.priorities ≡ length task_set.tasks
-  tasks_are = count_of task_set (ready_after (reverse (take (i - 1) passages))) core.links at.placed
+  tasks_are = count_of task_set (ready_after_passages (reverse (take (i - 1) passages))) core.links at.placed
 
   pub first_within : IsMentionOf (task_count core.links) passage.first
   first_within x is = let count = tasks_are in let here = (are.each (i - 1) passage passage_is).first x is in omega (arith, count, here)
@@ -59,13 +61,13 @@ module _ (task_set : SetData) (passages : List Passage) (threads i : ℕ) (core 
   stopped_within n same = subst (λ (m : ℕ). ForSome former.stopped (λ t. t < m)) (sym same) restores.within
 
   pub walk_on : (next : LiveData) (new : List (Option ℕ)) → AllInUse next
-      → ((earlier : List Passage) → IsPlaced task_set (ready_after earlier) core.links
-      → IsPlaced task_set (ready_after (passage ∷ earlier)) next.links)
+      → ((earlier : List Passage) → IsPlaced task_set (ready_after_passages earlier) core.links
+      → IsPlaced task_set (ready_after_passages (passage ∷ earlier)) next.links)
       → new ≡ restored_by passage.turn former on → length new ≡ length on → IsWalkAt task_set passages threads i next new
   walk_on next new used placed moved same = record {
     used = used;
     placed =
-        subst (λ (earlier : List Passage). IsPlaced task_set (ready_after earlier) next.links) (before_next passages i some below)
+        subst (λ (earlier : List Passage). IsPlaced task_set (ready_after_passages earlier) next.links) (before_next passages i some below)
         (placed (reverse (take (i - 1) passages)) at.placed);
     armed =
         (let place : i - 1 + 1 ≡ i = omega (arith, some) in
@@ -76,12 +78,13 @@ module _ (task_set : SetData) (passages : List Passage) (threads i : ℕ) (core 
   }
 
 -- before the first passage
-pub walk_first : (task_set : SetData) (passages : List Passage) (threads : ℕ) (first on : List (Option ℕ)) (formers : List Former) (core : LiveData)
+pub walk_first : (task_set : SetData) (passages : List Passage) (threads : ℕ) (first on : List (Option ℕ)) (formers : List Former)
+    (core : LiveData)
     → IsTaskSet task_set → IsTrail passages threads first formers → core.links ≡ start_of task_set → AllInUse core → on ≡ first
     → IsWalkAt task_set passages threads 0 core on
 walk_first task_set passages threads first on formers core ok trail links used same = record {
   used = used;
-  placed = subst (IsPlaced task_set (ready_after [])) (sym links) (placed_at_first task_set ok);
+  placed = subst (IsPlaced task_set (ready_after_passages [])) (sym links) (placed_at_first task_set ok);
   armed = subst (IsArmed (held_at_end passages) (turns_of passages)) (sym same) trail.armed;
   count = ap length same ∙ trail.count;
 }

@@ -1,9 +1,11 @@
 -- A watch goes on by equal moments.
-use Rattle.std.proofs.Common.{◌≡◌, ℕ, ◌+◌, ◌-◌, ◌<◌, ◌≤◌, List, [], ◌++◌, length, get_or, take, drop, Option, Some, sym, ap, ◌∙◌, subst, inl, inr, arith, append-nil}
+use Rattle.std.proofs.Common.{◌≡◌, ℕ, ◌+◌, ◌-◌, ◌<◌, ◌≤◌, List, [], ◌++◌, length, get_or, take, drop, Option, Some, sym, ap, ◌∙◌, subst}
+use Rattle.std.proofs.Common.{inl, inr, arith, append-nil}
 use Rattle.std.specs.Prelude.{replicate, slice_get, min, count_by}
 use Rattle.std.proofs.Math.Seq.{take-append-add, drop-append-add}
 use Rattle.std.proofs.lemmas.Bool.{cases_lt}
-use Rattle.std.proofs.lemmas.List.{length-drop, take-append-le, drop-append-le, take-replicate, drop-replicate, take_all, drop_all, length-replicate, get_or-replicate}
+use Rattle.std.proofs.lemmas.List.{length-drop, take-append-le, drop-append-le, take-replicate, drop-replicate, take_all, drop_all}
+use Rattle.std.proofs.lemmas.List.{length-replicate, get_or-replicate}
 use Rattle.std.proofs.lemmas.Option.{slice_get-get_or, slice_get_within}
 use Rattle.trace_losses.specs.Book.{nothing_seen, of_task}
 use Rattle.trace_losses.specs.Tally.{more}
@@ -18,7 +20,8 @@ module _ {A : Type 0} (moments : List A) (units : ℕ) (seen : A) where
   same_many : (one other : ℕ) → one ≡ other → replicate one seen ≡ replicate other seen
   same_many one other e = ap (λ (n : ℕ). replicate n seen) e
 
-  dropped : (first : ℕ) → drop first (moments ++ replicate units seen) ≡ drop first moments ++ replicate (units - (first - length moments)) seen
+  dropped : (first : ℕ) → drop first (moments ++ replicate units seen) ≡ drop first moments
+      ++ replicate (units - (first - length moments)) seen
   dropped first = elim (cases_lt (length moments) first) [
     | inr before ↦
         drop-append-le first moments (replicate units seen) before
@@ -40,7 +43,8 @@ module _ {A : Type 0} (moments : List A) (units : ℕ) (seen : A) where
         take_all count (replicate units seen) (omega (arith, long, all)) ∙ same_many units (min count units) (omega (arith, all)))
   ]
 
-  taken : (count : ℕ) → take count (moments ++ replicate units seen) ≡ take count moments ++ replicate (min (count - length moments) units) seen
+  taken : (count : ℕ) → take count (moments ++ replicate units seen) ≡ take count moments ++ replicate (min (count - length moments) units)
+      seen
   taken count = elim (cases_lt (length moments) count) [
     | inr within ↦ (
         let none : 0 ≡ min (count - length moments) units = omega (arith, within) in
@@ -124,4 +128,5 @@ none_during stretch =
 
 pub watch_none : (stretch : Stretch) (counts : List ℕ) (tasks : ℕ) → counts ≡ replicate tasks 0 → IsWatch stretch [] counts
 watch_none stretch counts tasks none t count is =
-    none_counted counts tasks none t count is ∙ sym (ap (λ (moments : List (List Seen)). count_by is_rival (of_task t moments)) (none_during stretch))
+    none_counted counts tasks none t count is
+    ∙ sym (ap (λ (moments : List (List Seen)). count_by is_rival (of_task t moments)) (none_during stretch))

@@ -10,7 +10,9 @@ use Rattle.trace_losses.specs.declared.seen.Seen.{Seen}
 abbrev pub is_loss : List Seen → Bool
 is_loss seen = list_any is_lost seen
 
--- each count is the number of moments at which some task is lost and the thread runs without being in the best set
+-- each count is the number of moments at which some task is lost and the thread runs without being
+-- in the best set
 abbrev pub IsBeside : List (List Seen) → List ℕ → Type 0
 IsBeside moments counts =
-    (t : ℕ) (count : ℕ) → slice_get counts t ≡ Some count → count ≡ count_by is_rival (of_task t (filter is_loss moments))
+    (t : ℕ) (count : ℕ) → slice_get counts t ≡ Some count
+    → count ≡ count_by is_rival (of_task t (filter is_loss moments))

@@ -1,5 +1,6 @@
 -- The tallies of all tasks.
-use Rattle.std.specs.Prelude.{◌≡◌, ℕ, ◌+◌, ◌<◌, ◌≤◌, ◌^◌, false, List, length, map, get_or, slice_get, Some}
+use Rattle.std.specs.Prelude.{◌≡◌, ℕ, ◌+◌, ◌<◌, ◌≤◌, ◌^◌, false, List, length, map, get_or}
+use Rattle.std.specs.Prelude.{slice_get, Some}
 use Rattle.trace_losses.specs.Moments.{IsTally}
 use Rattle.trace_losses.specs.Tally.{IsWithin, tally_after}
 use Rattle.trace_losses.specs.declared.seen.Seen.{Seen}
@@ -15,11 +16,13 @@ of_task t moments = map (λ (seen : List Seen). get_or seen t nothing_seen) mome
 
 -- each tally is that of its task at these moments
 abbrev pub IsBook : List (List Seen) → List Tally → Type 0
-IsBook moments tallies = (t : ℕ) (tally : Tally) → slice_get tallies t ≡ Some tally → IsTally (of_task t moments) tally
+IsBook moments tallies =
+    (t : ℕ) (tally : Tally) → slice_get tallies t ≡ Some tally → IsTally (of_task t moments) tally
 
 -- each tally is of so many moments, and no number of it is greater
 abbrev pub AreKept : ℕ → List Tally → Type 0
-AreKept moments tallies = (t : ℕ) (tally : Tally) → slice_get tallies t ≡ Some tally → IsWithin tally × (tally.moments ≡ moments)
+AreKept moments tallies = (t : ℕ) (tally : Tally) → slice_get tallies t ≡ Some tally
+    → IsWithin tally × (tally.moments ≡ moments)
 
 -- no number of a tally is greater than that of its moments
 abbrev pub AreWithin : List Tally → Type 0
@@ -27,7 +30,8 @@ AreWithin tallies = (t : ℕ) (tally : Tally) → slice_get tallies t ≡ Some t
 
 -- each tally has room for so many moments more
 abbrev pub AreReady : List Tally → ℕ → Type 0
-AreReady tallies units = (t : ℕ) (tally : Tally) → slice_get tallies t ≡ Some tally → IsWithin tally × (tally.moments + units < 2 ^ 64)
+AreReady tallies units = (t : ℕ) (tally : Tally) → slice_get tallies t ≡ Some tally
+    → IsWithin tally × (tally.moments + units < 2 ^ 64)
 
 -- each of the first so many tallies went on by these moments, and the others are as they were
 pub record IsPassed (old new : List Tally) (seen : List Seen) (units done : ℕ) : Type 0 where

@@ -1,6 +1,7 @@
--- Jumps. A processor goes on from the thread that its last switch went to. Where a switch is from another one, the trace has not all of
--- the switches between the two.
-use Rattle.std.specs.Prelude.{◌≡◌, ℕ, ◌<◌, Bool, false, not, ◌==◌, nat_eq, cond, List, length, slice_get, Option, None, Some}
+-- Jumps. A processor goes on from the thread that its last switch went to. Where a switch is from
+-- another one, the trace has not all of the switches between the two.
+use Rattle.std.specs.Prelude.{◌≡◌, ℕ, ◌<◌, Bool, false, not, ◌==◌, nat_eq, cond, List, length}
+use Rattle.std.specs.Prelude.{slice_get, Option, None, Some}
 use Rattle.std.specs.Option.{option_eq}
 use Rattle.trace_losses.specs.Moments.{IsCount}
 use Rattle.trace_passages.specs.declared.passage.Passage.{Passage}
@@ -17,7 +18,8 @@ abbrev pub is_switch_of : ℕ → Option Turn → Bool
 is_switch_of p None = false
 is_switch_of p (Some turn) = is_switch p turn
 
--- the last switch of the processor among the first n passages is the k-th one, and it goes to this thread, or to one that is not listed
+-- the last switch of the processor among the first n passages is the k-th one, and it goes to this
+-- thread, or to one that is not listed
 pub record IsLastSwitch (passages : List Passage) (n p : ℕ) (to : Option ℕ) : Type 0 where
   pub k : ℕ
   pub from : Option ℕ
@@ -25,9 +27,11 @@ pub record IsLastSwitch (passages : List Passage) (n p : ℕ) (to : Option ℕ) 
   pub before : k < n
   pub there : slice_get passages k ≡ Some passage
   pub is : passage.turn ≡ Some (Switch p from to)
-  pub last : (l : ℕ) (other : Passage) → k < l → l < n → slice_get passages l ≡ Some other → is_switch_of p other.turn ≡ false
+  pub last : (l : ℕ) (other : Passage) → k < l → l < n → slice_get passages l ≡ Some other
+      → is_switch_of p other.turn ≡ false
 
--- the n-th passage is a switch of a processor from another thread than the one that the last switch of this processor before it went to
+-- the n-th passage is a switch of a processor from another thread than the one that the last switch
+-- of this processor before it went to
 pub record IsJump (passages : List Passage) (n : ℕ) : Type 0 where
   pub processor : ℕ
   pub from : Option ℕ
@@ -47,7 +51,8 @@ AreJumps passages jumps = IsCount (IsJump passages) 0 (length passages) jumps
 -- this is said of the last switch of the processor among the first n passages, if there is one
 abbrev pub IsLast : List Passage → ℕ → ℕ → Option (Option ℕ) → Type 0
 IsLast passages n p None =
-    (l : ℕ) (other : Passage) → l < n → slice_get passages l ≡ Some other → is_switch_of p other.turn ≡ false
+    (l : ℕ) (other : Passage) → l < n → slice_get passages l ≡ Some other
+    → is_switch_of p other.turn ≡ false
 IsLast passages n p (Some to) = IsLastSwitch passages n p to
 
 -- the same of each processor

@@ -1,6 +1,8 @@
--- Moments. What holds of a task is said of each moment, one after another; of these it is counted how many there are of a kind, which
--- stretch of lost moments is the longest, and how many stand in stretches over 50.
-use Rattle.std.specs.Prelude.{◌≡◌, ℕ, ◌+◌, ◌-◌, ◌<◌, ◌≤◌, ◌⊎◌, zero, suc, Bool, true, false, not, ◌&&◌, List, length, map, count_by, slice_get, Some}
+-- Moments. What holds of a task is said of each moment, one after another; of these it is counted
+-- how many there are of a kind, which stretch of lost moments is the longest, and how many stand in
+-- stretches over 50.
+use Rattle.std.specs.Prelude.{◌≡◌, ℕ, ◌+◌, ◌-◌, ◌<◌, ◌≤◌, ◌⊎◌, zero, suc, Bool, true, false, not}
+use Rattle.std.specs.Prelude.{◌&&◌, List, length, map, count_by, slice_get, Some}
 use Rattle.trace_losses.specs.declared.seen.Seen.{Seen}
 use Rattle.trace_losses.specs.declared.tally.Stretch.{Stretch}
 use Rattle.trace_losses.specs.declared.tally.Tally.{Tally}
@@ -13,8 +15,8 @@ IsCount Is first (suc moments) count =
     ⊎ ((Is first → ⊥) × IsCount Is (first + 1) moments count)
 
 -- the task is ready
-abbrev pub is_ready : Seen → Bool
-is_ready seen = seen.ready
+abbrev pub is_ready_then : Seen → Bool
+is_ready_then seen = seen.ready
 
 -- it is ready and runs
 abbrev pub is_served : Seen → Bool
@@ -38,8 +40,8 @@ pub record IsCurrent (lost : List Bool) (count : ℕ) : Type 0 where
   pub each : IsLostFrom lost (length lost - count) count
   pub before : (x : ℕ) → x + 1 + count ≡ length lost → slice_get lost x ≡ Some false
 
--- the moments of the stretch are lost, and any other lost moments that follow each other are fewer, or as many and no earlier; where
--- none is lost, it is that of no moment from the moment 0 on
+-- the moments of the stretch are lost, and any other lost moments that follow each other are fewer,
+-- or as many and no earlier; where none is lost, it is that of no moment from the moment 0 on
 pub record IsLongest (lost : List Bool) (stretch : Stretch) : Type 0 where
   pub each : IsLostFrom lost stretch.first stretch.count
   pub longest : (first count : ℕ) → 0 < count → IsLostFrom lost first count
@@ -59,12 +61,14 @@ pub record IsOver (lost : List Bool) (x : ℕ) : Type 0 where
 abbrev pub AreOver : List Bool → ℕ → Type 0
 AreOver lost over = IsCount (IsOver lost) 0 (length lost) over
 
--- the numbers are those of these moments; those of the stretch up to the last one are not yet counted among the ones over
+-- the numbers are those of these moments; those of the stretch up to the last one are not yet
+-- counted among the ones over
 pub record IsTally (moments : List Seen) (tally : Tally) : Type 0 where
   pub count : tally.moments ≡ length moments
-  pub ready : tally.ready ≡ count_by is_ready moments
+  pub ready : tally.ready ≡ count_by is_ready_then moments
   pub served : tally.served ≡ count_by is_served moments
   pub lost : tally.lost ≡ count_by is_lost moments
   pub current : IsCurrent (losses moments) tally.current
-  pub ended : IsCount (IsOver (losses moments)) 0 (length (losses moments) - tally.current) tally.ended
+  pub ended : IsCount (IsOver (losses moments)) 0 (length (losses moments) - tally.current)
+      tally.ended
   pub longest : IsLongest (losses moments) tally.longest

@@ -3,7 +3,7 @@ use Rattle.std.specs.Prelude.{ℕ, ◌+◌, ◌-◌, ◌≤◌, Bool, nat_lt, if
 use Rattle.trace_losses.specs.declared.seen.Seen.{Seen}
 use Rattle.trace_losses.specs.declared.tally.Stretch.{Stretch}
 use Rattle.trace_losses.specs.declared.tally.Tally.{Tally}
-use Rattle.trace_losses.specs.Moments.{is_ready, is_served, is_lost}
+use Rattle.trace_losses.specs.Moments.{is_ready_then, is_served, is_lost}
 
 -- no number is greater than that of the moments
 pub record IsWithin (tally : Tally) : Type 0 where
@@ -39,10 +39,11 @@ tally_after tally units seen =
     let current = current_after (is_lost seen) tally.current units in
     record {
       moments = tally.moments + units;
-      ready = more (is_ready seen) tally.ready units;
+      ready = more (is_ready_then seen) tally.ready units;
       served = more (is_served seen) tally.served units;
       lost = more (is_lost seen) tally.lost units;
       current = current;
       ended = ended_after (is_lost seen) tally.ended tally.current;
-      longest = longer tally.longest (record { first = tally.moments + units - current; count = current });
+      longest = longer tally.longest
+          (record { first = tally.moments + units - current; count = current });
     }

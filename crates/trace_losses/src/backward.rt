@@ -1,7 +1,7 @@
 //! Who runs between the passages of a trace: back over them once, and a trail to go on over them again.
 ghost use Rattle.std.specs.Prelude.{◌≡◌, ℕ, ◌≤◌, ◌<◌, ◌^◌, List, ◌∷◌, length, reverse, vec_len, IfOk};
 ghost use Rattle.trace_losses.specs.Passages.{turns_of};
-ghost use Rattle.trace_losses.specs.Runs.{IsHeld, IsArmed, AreApart};
+ghost use Rattle.trace_losses.specs.Runs.{IsWhereabouts, IsArmed, RunApart};
 ghost use Rattle.trace_losses.specs.Walk.{AreFormers, AreTurns, IsTrail, held_at_end};
 
 use crate::former::Former;
@@ -17,11 +17,7 @@ pub struct Trail {
 }
 
 /// The trail of passages.
-pub fn trail_of(
-    alloc: Global,
-    threads: u32,
-    passages: &[Passage],
-) -> Result<Trail, AllocError>
+pub fn trail_of(alloc: Global, threads: u32, passages: &[Passage]) -> Result<Trail, AllocError>
     requires { AreTurns threads passages.now }
     ensures { IfOk result (λ trail.
         IsTrail passages.now threads trail.first.processors.items trail.formers.items) }
@@ -39,8 +35,8 @@ pub(crate) fn held_after(
 ) -> Result<Runners, AllocError>
     requires { AreTurns threads passages.now }
     ensures held { IfOk result (λ runners.
-        IsHeld (turns_of (reverse passages.now)) runners.processors.items) }
-    ensures apart { IfOk result (λ runners. AreApart runners.processors.items) }
+        IsWhereabouts (turns_of (reverse passages.now)) runners.processors.items) }
+    ensures apart { IfOk result (λ runners. RunApart runners.processors.items) }
     ensures threads { IfOk result (λ runners. vec_len runners.processors ≡ threads) }
 {
     let mut runners = Runners::new(alloc, threads)?;
@@ -57,8 +53,8 @@ fn go_back(
     passages: &[Passage],
 ) -> Result<Vec<Former>, AllocError>
     requires passages { AreTurns (vec_len runners.old.processors) passages.now }
-    requires held { IsHeld (turns_of (reverse passages.now)) runners.old.processors.items }
-    requires apart { AreApart runners.old.processors.items }
+    requires held { IsWhereabouts (turns_of (reverse passages.now)) runners.old.processors.items }
+    requires apart { RunApart runners.old.processors.items }
     requires few { vec_len runners.old.processors ≤ 2 ^ 32 }
     ensures { IfOk result (λ formers. IsTrail passages.now (vec_len runners.old.processors)
         runners.new.processors.items formers.items) }

@@ -14,7 +14,7 @@ use crate::loss::span_of;
 use crate::seen::Seen;
 use crate::tally::Tally;
 use crate::walk::Walk;
-use crate::watch::{Watch, pass_all};
+use crate::watch::{StretchWatch, pass_all};
 use affinity_mask::OutOfMemory;
 use std::alloc::{AllocError, Global};
 use task_set::TaskSet;
@@ -110,7 +110,7 @@ pub(crate) fn watches_of(
     trail: &Trail,
     passages: &[Passage],
     tallies: &[Tally],
-) -> Result<Vec<Watch>, OutOfMemory>
+) -> Result<Vec<StretchWatch>, OutOfMemory>
     requires passages { ArePassages (length set.now.tasks) threads passages.now }
     requires trail { IsTrail passages.now threads trail.now.first.processors.items
         trail.now.formers.items }
@@ -135,14 +135,14 @@ pub(crate) fn watches_of(
 }
 
 /// The watches of the longest stretches, of no moment.
-fn new_watches(alloc: Global, tallies: &[Tally]) -> Result<Vec<Watch>, AllocError>
+fn new_watches(alloc: Global, tallies: &[Tally]) -> Result<Vec<StretchWatch>, AllocError>
     ensures watches { IfOk result (λ watches. AreWatches (length tallies.now) [] watches.items) }
     ensures stretches { IfOk result (λ watches.
         stretches_of watches.items ≡ longest_of tallies.now) }
 {
     let mut watches = Vec::new(alloc);
     for tally in tallies {
-        watches.push(Watch::new(alloc, tally.longest, tallies.len())?)?;
+        watches.push(StretchWatch::new(alloc, tally.longest, tallies.len())?)?;
     }
     Ok(watches)
 }
@@ -152,7 +152,7 @@ fn watch_all(
     set: &TaskSet,
     threads: u32,
     walk: &mut Walk,
-    watches: &mut Vec<Watch>,
+    watches: &mut Vec<StretchWatch>,
     passages: &[Passage],
     formers: &[Former],
 )

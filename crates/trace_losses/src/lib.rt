@@ -30,4 +30,4 @@ pub use loss::{Loss, Losses, losses_of};
 pub use runners::Runners;
 pub use seen::Seen;
 pub use tally::{Stretch, Tally};
-pub use watch::{Watch, most};
+pub use watch::{StretchWatch, most};

@@ -14,7 +14,7 @@ use crate::backward::trail_of;
 use crate::count::{counts_of, watches_of};
 use crate::jumps::jumps_of;
 use crate::tally::{Stretch, Tally};
-use crate::watch::{Watch, most};
+use crate::watch::{StretchWatch, most};
 use affinity_mask::OutOfMemory;
 use std::alloc::{AllocError, Global};
 use task_set::TaskSet;
@@ -100,7 +100,7 @@ fn priorities_of(alloc: Global, set: &TaskSet) -> Result<Vec<u32>, AllocError>
 fn losses_by(
     alloc: Global,
     tallies: &[Tally],
-    watches: &[Watch],
+    watches: &[StretchWatch],
     priorities: &[u32],
 ) -> Result<Vec<Loss>, AllocError>
     requires tasks { length tallies.now ≡ length priorities.now }
@@ -119,7 +119,7 @@ fn losses_by(
 }
 
 /// What a task lost, by its tally, and by the watch of its longest stretch.
-fn loss_of(tally: Tally, watch: &Watch, priorities: &[u32]) -> Loss
+fn loss_of(tally: Tally, watch: &StretchWatch, priorities: &[u32]) -> Loss
     requires within { IsWithin tally }
     requires stretch { watch.now.stretch ≡ tally.longest }
     requires tasks { vec_len watch.now.counts ≡ length priorities.now }

@@ -3,7 +3,7 @@ ghost use Rattle.std.specs.Prelude.{◌≡◌, ℕ, ◌<◌, ◌≤◌, ◌^◌,
 ghost use Rattle.std.specs.Option.{ForSome};
 ghost use Rattle.trace_losses.specs.Passages.{turns_of};
 ghost use Rattle.trace_passages.specs.Turns.{AreThreads};
-ghost use Rattle.trace_losses.specs.Runs.{IsArmed, AreApart, IsHeld, IsHolder, IsStopped, nobody_runs, put_at, is_some_of, restored, restored_by};
+ghost use Rattle.trace_losses.specs.Runs.{IsArmed, RunApart, IsWhereabouts, IsHolder, IsStopped, nobody_runs, put_at, is_some_of, restored, restored_by};
 ghost use Rattle.trace_losses.specs.Walk.{IsFormer, StepsBack, place_of};
 ghost use Rattle.trace_passages.specs.declared.passage.Passage.{Passage};
 ghost use Rattle.trace_passages.specs.declared.turn.Turn.{Turn};
@@ -22,8 +22,8 @@ impl Runners {
     /// Nobody runs.
     pub fn new(alloc: Global, threads: usize) -> Result<Runners, AllocError>
         ensures armed { IfOk result (λ runners. IsArmed nobody_runs [] runners.processors.items) }
-        ensures held { IfOk result (λ runners. IsHeld [] runners.processors.items) }
-        ensures apart { IfOk result (λ runners. AreApart runners.processors.items) }
+        ensures held { IfOk result (λ runners. IsWhereabouts [] runners.processors.items) }
+        ensures apart { IfOk result (λ runners. RunApart runners.processors.items) }
         ensures threads { IfOk result (λ runners. vec_len runners.processors ≡ threads) }
     {
         let mut processors = Vec::new(alloc);
@@ -38,7 +38,7 @@ impl Runners {
         requires { AreThreads (vec_len self.old.processors) turn }
         ensures armed { (base : ℕ → ℕ → Bool) (after : List Turn) → IsArmed base after self.old.processors.items
             → IsArmed base (turn ∷ after) self.new.processors.items }
-        ensures apart { AreApart self.old.processors.items → AreApart self.new.processors.items }
+        ensures apart { RunApart self.old.processors.items → RunApart self.new.processors.items }
         ensures back { StepsBack turn self.old.processors.items self.new.processors.items }
         ensures threads { vec_len self.new.processors ≡ vec_len self.old.processors }
     {
@@ -61,9 +61,9 @@ impl Runners {
     /// Goes on over a line: who is where after it, by who was where before it.
     pub fn after(&mut self, turn: Turn)
         requires { AreThreads (vec_len self.old.processors) turn }
-        ensures held { (earlier : List Turn) → IsHeld earlier self.old.processors.items
-            → IsHeld (turn ∷ earlier) self.new.processors.items }
-        ensures apart { AreApart self.old.processors.items → AreApart self.new.processors.items }
+        ensures held { (earlier : List Turn) → IsWhereabouts earlier self.old.processors.items
+            → IsWhereabouts (turn ∷ earlier) self.new.processors.items }
+        ensures apart { RunApart self.old.processors.items → RunApart self.new.processors.items }
         ensures threads { vec_len self.new.processors ≡ vec_len self.old.processors }
     {
         self.before(turn.turned())
@@ -73,9 +73,9 @@ impl Runners {
     pub(crate) fn pass(&mut self, passage: Passage)
         requires { ForSome passage.turn (AreThreads (vec_len self.old.processors)) }
         ensures held { (earlier : List Passage)
-            → IsHeld (turns_of earlier) self.old.processors.items
-            → IsHeld (turns_of (passage ∷ earlier)) self.new.processors.items }
-        ensures apart { AreApart self.old.processors.items → AreApart self.new.processors.items }
+            → IsWhereabouts (turns_of earlier) self.old.processors.items
+            → IsWhereabouts (turns_of (passage ∷ earlier)) self.new.processors.items }
+        ensures apart { RunApart self.old.processors.items → RunApart self.new.processors.items }
         ensures threads { vec_len self.new.processors ≡ vec_len self.old.processors }
     {
         if let Some(turn) = passage.turn {
@@ -103,9 +103,9 @@ impl Runners {
         ensures armed { (base : ℕ → ℕ → Bool) (after : List Passage)
             → IsArmed base (turns_of after) self.old.processors.items
             → IsArmed base (turns_of (passage ∷ after)) self.new.processors.items }
-        ensures apart { AreApart self.old.processors.items → AreApart self.new.processors.items }
+        ensures apart { RunApart self.old.processors.items → RunApart self.new.processors.items }
         ensures within { ForSome result.stopped (λ t. t < vec_len self.old.processors) }
-        ensures restored { AreApart self.old.processors.items
+        ensures restored { RunApart self.old.processors.items
             → restored_by passage.turn result self.new.processors.items ≡ self.old.processors.items }
         ensures threads { vec_len self.new.processors ≡ vec_len self.old.processors }
     {

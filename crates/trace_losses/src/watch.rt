@@ -1,6 +1,6 @@
 //! Who ran in a stretch of moments without being in the best set.
 ghost use Rattle.std.specs.Prelude.{◌≡◌, ℕ, ◌+◌, ◌<◌, ◌≤◌, ◌^◌, List, [], ◌++◌, length, replicate, slice_get, vec_len, IfOk, IsTrue};
-ghost use Rattle.trace_losses.specs.Watch.{IsWatch, AreAtMost, CanPass, CanPassOne, WatchPasses, WatchesPass, AreMore, IsLess, IsMostOf, overlap};
+ghost use Rattle.trace_losses.specs.Watch.{IsWatch, AreAtMost, CanPass, CanPassOne, WatchPasses, WatchesPass, AreMore, IsLesserTask, IsMostOf, overlap};
 ghost use Rattle.trace_losses.specs.declared.seen.Seen.{Seen};
 
 use crate::seen::Seen;
@@ -9,15 +9,15 @@ use std::alloc::{AllocError, Global};
 
 /// Of each task, at how many moments of a stretch it ran and was not in the best set, and how many moments there were.
 #[derive(Drop)]
-pub struct Watch {
+pub struct StretchWatch {
     pub stretch: Stretch,
     pub moments: u64,
     pub counts: Vec<u64>,
 }
 
-impl Watch {
+impl StretchWatch {
     /// The watch of no moment, of so many tasks.
-    pub fn new(alloc: Global, stretch: Stretch, tasks: usize) -> Result<Watch, AllocError>
+    pub fn new(alloc: Global, stretch: Stretch, tasks: usize) -> Result<StretchWatch, AllocError>
         ensures watch { IfOk result (λ watch. IsWatch stretch [] watch.counts.items) }
         ensures kept { IfOk result (λ watch. AreAtMost 0 watch.counts.items) }
         ensures moments { IfOk result (λ watch. watch.moments ≡ 0) }
@@ -28,7 +28,7 @@ impl Watch {
         for task in 0..tasks {
             counts.push(0)?;
         }
-        Ok(Watch {
+        Ok(StretchWatch {
             stretch,
             moments: 0,
             counts,
@@ -63,7 +63,7 @@ impl Watch {
 }
 
 /// Each watch goes on by so many equal moments.
-pub(crate) fn pass_all(watches: &mut Vec<Watch>, units: u64, seen: &[Seen])
+pub(crate) fn pass_all(watches: &mut Vec<StretchWatch>, units: u64, seen: &[Seen])
     requires { CanPass units seen.now watches.old.items }
     ensures { WatchesPass units seen.now watches.old.items watches.new.items (length watches.old.items) }
 {
@@ -105,8 +105,8 @@ fn is_before(counts: &[u64], priorities: &[u32], t: usize, u: usize) -> bool
     requires each { length priorities.now ≡ length counts.now }
     requires below { t < length counts.now }
     requires other { u < length counts.now }
-    ensures before { IsTrue result → IsLess counts.now priorities.now t u }
-    ensures after { (IsTrue result → ⊥) → IsLess counts.now priorities.now u t }
+    ensures before { IsTrue result → IsLesserTask counts.now priorities.now t u }
+    ensures after { (IsTrue result → ⊥) → IsLesserTask counts.now priorities.now u t }
 {
     counts[t] < counts[u] || counts[t] == counts[u] && priorities[t] < priorities[u]
 }

@@ -1,6 +1,8 @@
--- Passages. A passage is what a used line of a trace says: at its moment a processor goes from one thread to another, or a task wakes up,
--- and then up to two tasks become ready or absent. The first of the threads are the tasks, by their numbers.
-use Rattle.std.specs.Prelude.{◌≡◌, ℕ, ◌-◌, ◌<◌, ◌≤◌, List, length, map, get_or, slice_get, Option, Some}
+-- Passages. A passage is what a used line of a trace says: at its moment a processor goes from one
+-- thread to another, or a task wakes up, and then up to two tasks become ready or absent. The first
+-- of the threads are the tasks, by their numbers.
+use Rattle.std.specs.Prelude.{◌≡◌, ℕ, ◌-◌, ◌<◌, ◌≤◌, List, length, map, get_or, slice_get, Option}
+use Rattle.std.specs.Prelude.{Some}
 use Rattle.std.specs.Option.{ForSome}
 use Rattle.trace_passages.specs.Turns.{AreThreads}
 use Rattle.trace_passages.specs.declared.passage.Passage.{Passage}
@@ -16,12 +18,15 @@ pub record IsPassageOf (tasks threads : ℕ) (passage : Passage) : Type 0 where
   pub first : IsMentionOf tasks passage.first
   pub second : IsMentionOf tasks passage.second
 
--- the passages are of so many tasks and threads, the first one is at moment 0, and no moment is before an earlier one
+-- the passages are of so many tasks and threads, the first one is at moment 0, and no moment is
+-- before an earlier one
 pub record ArePassages (tasks threads : ℕ) (passages : List Passage) : Type 0 where
   pub all : tasks ≤ threads
-  pub each : (k : ℕ) (passage : Passage) → slice_get passages k ≡ Some passage → IsPassageOf tasks threads passage
+  pub each : (k : ℕ) (passage : Passage) → slice_get passages k ≡ Some passage
+      → IsPassageOf tasks threads passage
   pub begin : (passage : Passage) → slice_get passages 0 ≡ Some passage → passage.moment ≡ 0
-  pub in_order : (k l : ℕ) (one other : Passage) → k ≤ l → slice_get passages k ≡ Some one → slice_get passages l ≡ Some other
+  pub in_order : (k l : ℕ) (one other : Passage) → k ≤ l → slice_get passages k ≡ Some one
+      → slice_get passages l ≡ Some other
       → one.moment ≤ other.moment
 
 -- the moment of a passage; 0 where there is none

@@ -22,7 +22,9 @@ use Rattle.trace_reader.specs.declared.posted.Posted.{Posted}
 use Rattle.trace_reader.specs.declared.fault.InputKind.{InputKind}
 use Rattle.trace_reader.specs.InputText.{IsProcessorNumber, IsEventFields, end_line}
 use Rattle.trace_reader.specs.Progress.{Progress, HeaderExpected, ProcessorsExpected, Listed, Ended, Expects}
-use Rattle.trace_reader.specs.LineOutcome.{itself, NamedTask, IsNamedTask, NamedEvent, Arrive, Depart, Tick, Affinity, Offline, Online, NamedLine, named_line, IsNamedEvent, IsNamedLine, IsForTask, HasOutside, LineOutcome, IsAdded, IsTaskOutcome, IsPlaced, IsKnownTask, IsLookedUp, IsEventOutcome, IsFieldsOutcome}
+use Rattle.trace_reader.specs.LineOutcome.{itself, NamedTask, IsNamedTask, NamedEvent, Arrive, Depart, Tick, Affinity, Offline, Online}
+use Rattle.trace_reader.specs.LineOutcome.{NamedLine, named_line, IsNamedEvent, IsNamedLine, IsForTask, HasOutside, LineOutcome, IsAdded}
+use Rattle.trace_reader.specs.LineOutcome.{IsTaskOutcome, IsPlaced, IsKnownTask, IsLookedUp, IsEventOutcome, IsFieldsOutcome}
 use Rattle.trace_reader.specs.Reading.{IsExpected}
 use Rattle.trace_reader.proofs.AboutSet.{about_decided}
 use Rattle.trace_reader.proofs.Rows.{IsNamed, of_rows}
@@ -56,11 +58,13 @@ worded word least most = exact-same to from (exact-row word (exact-one same_numb
     IsWorded : Fields → ℕ → Type 0
     IsWorded = Row word (One same_number (IsNumberWithin least most)) NoRow
 
-    to : (fields : Fields) (n : ℕ) → IsWorded fields n → (number : List ℕ) × (fields ≡ word ∷ number ∷ []) × IsNumberWithin least most number n
+    to : (fields : Fields) (n : ℕ) → IsWorded fields n → (number : List ℕ) × (fields ≡ word ∷ number ∷ [])
+        × IsNumberWithin least most number n
     to fields n (inl (rest, e, (text, k, e', is, made))) = (text, cc, subst (IsNumberWithin least most text) (sym made) is)
     to fields n (inr (_, none)) = absurd none
 
-    from : (fields : Fields) (n : ℕ) → (number : List ℕ) × (fields ≡ word ∷ number ∷ []) × IsNumberWithin least most number n → IsWorded fields n
+    from : (fields : Fields) (n : ℕ) → (number : List ℕ) × (fields ≡ word ∷ number ∷ []) × IsNumberWithin least most number n
+        → IsWorded fields n
     from fields n (text, e, is) = rw e (inl (text ∷ [], refl, (text, n, refl, is, refl)))
 
 abbrev with_priority : ℕ → List ℕ → ℕ × List ℕ
@@ -78,7 +82,20 @@ named_tasks = exact-same to from
     IsRow = Row (codes "task") (First named_task AnyField (First with_priority (IsNumberWithin 0 4294967295) (One itself AnyField))) NoRow
 
     to : (fields : Fields) (task : NamedTask) → IsRow fields task → IsNamedTask fields task
-    to fields task (inl (rest, e, (f, r, name, both, e1, any1, (number, r2, priority, list, e2, is, (g, same, e3, any3, made3), made2), made1))) =
+    to fields task (inl (
+      rest,
+      e,
+      (
+        f,
+        r,
+        name,
+        both,
+        e1,
+        any1,
+        (number, r2, priority, list, e2, is, (g, same, e3, any3, made3), made2),
+        made1,
+      ),
+    )) =
         rw (made1, made2) (record { number = number; each_field = cc; value = is })
     to fields task (inr (_, none)) = absurd none
 

@@ -1,15 +1,15 @@
 -- The states of the generator follow one another, and what is drawn is below its bound.
 use Rattle.std.proofs.Common.{◌≡◌, ℕ, ◌+◌, ◌*◌, ◌-◌, ◌<◌, min, refl, add-one, arith}
 use Rattle.std.proofs.Math.Nat.{mod-lt}
-use Rattle.trace_reader.specs.Generator.{generator_step, state_after, drawn}
+use Rattle.trace_reader.specs.Generator.{generator_step, generator_after, drawn}
 use Rattle.trace_reader.specs.Generated.{first_processor, last_processor}
 
-pub state_after_more : (number k : ℕ) → state_after number (k + 1) ≡ generator_step (state_after number k)
-unfolding state_after
+pub state_after_more : (number k : ℕ) → generator_after number (k + 1) ≡ generator_step (generator_after number k)
+unfolding generator_after
 state_after_more number k = rw add-one refl
 
-pub state_at_start : (number : ℕ) → state_after number 0 ≡ number
-unfolding state_after
+pub state_at_start : (number : ℕ) → generator_after number 0 ≡ number
+unfolding generator_after
 state_at_start number = refl
 
 pub drawn_below : (number k bound : ℕ) → 0 < bound → drawn number k bound < bound

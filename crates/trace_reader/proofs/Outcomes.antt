@@ -13,7 +13,8 @@ use Rattle.trace_reader.specs.declared.posted.Posted.{Posted}
 use Rattle.trace_reader.specs.declared.fault.InputKind.{InputKind}
 use Rattle.trace_reader.specs.InputText.{IsTaskLine, IsOnStream, IsEventFields, IsEventLine, end_line}
 use Rattle.trace_reader.specs.Progress.{Progress, Listed}
-use Rattle.trace_reader.specs.LineOutcome.{NamedEvent, Arrive, Depart, Tick, Affinity, Offline, Online, NamedLine, named_line, IsForTask, LineOutcome, IsTaskOutcome, IsPlaced, IsLookedUp, IsEventOutcome, IsFieldsOutcome}
+use Rattle.trace_reader.specs.LineOutcome.{NamedEvent, Arrive, Depart, Tick, Affinity, Offline, Online, NamedLine, named_line, IsForTask}
+use Rattle.trace_reader.specs.LineOutcome.{LineOutcome, IsTaskOutcome, IsPlaced, IsLookedUp, IsEventOutcome, IsFieldsOutcome}
 use Rattle.trace_reader.proofs.Rows.{IsNamed, to_rows, of_rows}
 
 pub leads_same : (one other : Progress) → ◌≡◌ {A = LineOutcome} (Leads one) (Leads other) → one ≡ other
@@ -67,14 +68,28 @@ module _ (version : ℕ) (set : SetData) (events : List Posted) (fields : Fields
       parts : (event : NamedEvent) → IsNamed version set.processors rest event
           → IsLookedUp set (IsPlaced version set events posted.stream) event outcome → IsEventOutcome version set events fields outcome
       parts event says looked =
-          inl (named_line posted.stream event, (text, rest, posted.stream, event, e, is, to_rows version set.processors rest event says, refl), looked)
+          inl (
+            named_line posted.stream event,
+            (
+              text,
+              rest,
+              posted.stream,
+              event,
+              e,
+              is,
+              to_rows version set.processors rest event says,
+              refl,
+            ),
+            looked,
+          )
 
       by : (e : Event) → IsEventFields set rest e → IsOfVersion version e → IsPlaced version set events posted.stream e outcome
           → IsEventOutcome version set events fields outcome
       by (event.Arrive t) (name, e, is) second next = parts (Arrive name) e (inl (t, is, next))
       by (event.Depart t) (name, e, is) second next = parts (Depart name) e (inl (t, is, next))
       by (event.Tick n) says second next = parts (Tick n) says next
-      by (event.Affinity t mask) (name, list, e, is, is_list) second next = parts (Affinity name list) (second, e) (inl (mask, is_list, inl (t, is, next)))
+      by (event.Affinity t mask) (name, list, e, is, is_list) second next =
+          parts (Affinity name list) (second, e) (inl (mask, is_list, inl (t, is, next)))
       by (event.Offline p) says second next = parts (Offline p) (second, says) next
       by (event.Online p) says second next = parts (Online p) (second, says) next
 
@@ -87,7 +102,8 @@ module _ (version : ℕ) (set : SetData) (events : List Posted) (fields : Fields
       (subst (λ (l : NamedLine). IsLookedUp set (IsPlaced version set events l.stream) l.event (Leads next)) made looked)
     where
       IsFound : Type 0
-      IsFound = (posted : Posted) × IsEventLine version set fields posted × IsPlaced version set events posted.stream posted.event (Leads next)
+      IsFound =
+          (posted : Posted) × IsEventLine version set fields posted × IsPlaced version set events posted.stream posted.event (Leads next)
 
       on : IsOnStream fields stream rest
       on = (text, e, is)
@@ -100,7 +116,8 @@ module _ (version : ℕ) (set : SetData) (events : List Posted) (fields : Fields
       by (Arrive name) e (inl (t, is, more)) = found (event.Arrive t) (name, e, is) tt more
       by (Depart name) e (inl (t, is, more)) = found (event.Depart t) (name, e, is) tt more
       by (Tick n) says more = found (event.Tick n) says tt more
-      by (Affinity name list) (second, e) (inl (mask, is_list, inl (t, is, more))) = found (event.Affinity t mask) (name, list, e, is, is_list) second more
+      by (Affinity name list) (second, e) (inl (mask, is_list, inl (t, is, more))) =
+          found (event.Affinity t mask) (name, list, e, is, is_list) second more
       by (Offline p) (second, says) more = found (event.Offline p) says second more
       by (Online p) (second, says) more = found (event.Online p) says second more
       by (Arrive name) e (inr (none, bad)) = leads_not_fails next _ bad

@@ -15,7 +15,8 @@ slice_get_seam [] x = refl
 slice_get_seam (y ∷ xs) x = slice_get_seam xs x
 
 -- an element of a list with one more is one of before, or the last
-pub before_or_last : {X : Type 0} (xs : List X) (x : X) (k : ℕ) (y : X) → slice_get (xs ++ x ∷ []) k ≡ Some y → (slice_get xs k ≡ Some y) ⊎ ((k ≡ length xs) × (y ≡ x))
+pub before_or_last : {X : Type 0} (xs : List X) (x : X) (k : ℕ) (y : X) → slice_get (xs ++ x ∷ []) k ≡ Some y
+    → (slice_get xs k ≡ Some y) ⊎ ((k ≡ length xs) × (y ≡ x))
 before_or_last [] x zero y found = inr (refl, sym (same_Some x y found))
 before_or_last [] x (suc k) y found = cc
 before_or_last (z ∷ xs) x zero y found = inl found

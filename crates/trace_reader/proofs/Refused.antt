@@ -20,7 +20,8 @@ use Rattle.trace_reader.specs.declared.fault.InputKind.{InputKind}
 use Rattle.trace_reader.specs.declared.fault.InputKind.TheVariants.{BadMask, UnknownTask}
 use Rattle.trace_reader.specs.InputText.{IsTaskForm, IsOnStream}
 use Rattle.trace_reader.specs.InputFault.{kind_of_refusal}
-use Rattle.trace_reader.specs.LineOutcome.{NamedEvent, named_line, IsNamedEvent, LineOutcome, IsMaskOutcome, IsTaskOutcome, IsPlaced, IsLookedUp, IsEventOutcome}
+use Rattle.trace_reader.specs.LineOutcome.{NamedEvent, named_line, IsNamedEvent, LineOutcome, IsMaskOutcome, IsTaskOutcome, IsPlaced}
+use Rattle.trace_reader.specs.LineOutcome.{IsLookedUp, IsEventOutcome}
 use Rattle.trace_reader.specs.LineOutcome as named
 use Rattle.trace_reader.specs.Reading.{IsFaultOf, IsNothing, IsPairForm, IsPairFault, IsChangeFault, IsEventFault}
 use Rattle.trace_reader.proofs.Rows.{IsNamed, to_rows, of_rows}
@@ -28,8 +29,10 @@ use Rattle.trace_reader.proofs.Rows.{IsNamed, to_rows, of_rows}
 -- the line of a task, by its parts
 pub task_in : {version : ℕ} {set : SetData} {fields : Fields} {name list : List ℕ} {priority : ℕ} {outcome : LineOutcome}
     → IsTaskForm fields name priority list
-    → IsMaskOutcome version set (record { name = name; priority = priority; list = list }) outcome → IsTaskOutcome version set fields outcome
-task_in {name = name} {list = list} {priority = priority} form says = inl (record { name = name; priority = priority; list = list }, form, says)
+    → IsMaskOutcome version set (record { name = name; priority = priority; list = list }) outcome
+    → IsTaskOutcome version set fields outcome
+task_in {name = name} {list = list} {priority = priority} form says =
+    inl (record { name = name; priority = priority; list = list }, form, says)
 
 -- a task that is not added
 pub task_refused : {version : ℕ} {set : SetData} {fields : Fields} {name given list : List ℕ} {priority mask : ℕ} (fault : TaskFault)
@@ -52,7 +55,8 @@ no_word_no_pair version m word value none (inr (inl (is, units))) = none Tick is
 no_word_no_pair version m word value none (inr (inr (second, (inl is, p)))) = none Offline is
 no_word_no_pair version m word value none (inr (inr (second, (inr is, p)))) = none Online is
 
-pair_form : (version m : ℕ) (word value : List ℕ) (event : NamedEvent) → IsNamed version m (word ∷ value ∷ []) event → IsPairForm version m word value
+pair_form : (version m : ℕ) (word value : List ℕ) (event : NamedEvent) → IsNamed version m (word ∷ value ∷ []) event
+    → IsPairForm version m word value
 pair_form version m word value (named.Arrive name) e = inl (inl (head_same e))
 pair_form version m word value (named.Depart name) e = inl (inr (head_same e))
 pair_form version m word value (named.Tick n) (text, e, is) = let same : value ≡ text = cc in inr (inl (head_same e, (n, rw same is)))
@@ -66,7 +70,10 @@ pair_form version m word value (named.Online p) (second, (text, e, is)) =
 pub pair_refused : (version : ℕ) (set : SetData) (word value : List ℕ) (kind : InputKind)
     → IsPairFault version set word value kind → IsChangeFault version set (word ∷ value ∷ []) kind
 pair_refused version set word value kind (inl (is_kind, none)) =
-    inr (λ event says. none (pair_form version set.processors word value event (of_rows version set.processors _ event says)), ap Fails is_kind)
+    inr (
+      λ event says. none (pair_form version set.processors word value event (of_rows version set.processors _ event says)),
+      ap Fails is_kind,
+    )
 pair_refused version set word value kind (inr (is_kind, is_word, new)) = by is_word
   where
     pair : List ℕ → Fields
@@ -85,7 +92,8 @@ module _ (set : SetData) (name list : List ℕ) where
   IsAffinityFault kind = IsChangeFault 2 set (codes "affinity" ∷ name ∷ list ∷ []) kind
 
   affinity : (outcome : LineOutcome) → IsLookedUp set IsNothing (named.Affinity name list) outcome
-      → (event : NamedEvent) × IsNamedEvent 2 set.processors (codes "affinity" ∷ name ∷ list ∷ []) event × IsLookedUp set IsNothing event outcome
+      → (event : NamedEvent) × IsNamedEvent 2 set.processors (codes "affinity" ∷ name ∷ list ∷ []) event
+      × IsLookedUp set IsNothing event outcome
   affinity outcome looked = (named.Affinity name list, to_rows 2 set.processors _ (named.Affinity name list) (refl, refl), looked)
 
   -- a new mask whose list has a fault
@@ -110,7 +118,8 @@ change_refused version set fields stream rest kind (text, e, is) (inr (none, is_
     )
 
 -- what is looked up in vain, whatever would come of an event
-in_vain : (set : SetData) (Then : Event → LineOutcome → Type 0) (event : NamedEvent) (outcome : LineOutcome) → IsLookedUp set IsNothing event outcome
+in_vain : (set : SetData) (Then : Event → LineOutcome → Type 0) (event : NamedEvent) (outcome : LineOutcome)
+    → IsLookedUp set IsNothing event outcome
     → IsLookedUp set Then event outcome
 in_vain set Then (named.Arrive name) outcome (inl (t, is, none)) = absurd none
 in_vain set Then (named.Arrive name) outcome (inr fault) = inr fault

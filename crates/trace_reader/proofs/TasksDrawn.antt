@@ -39,11 +39,14 @@ names_differ k i less few same =
 
 -- ---- what holds of all tasks so far
 -- the task at a place before the count
-task_at : (number m : ℕ) (tasks : List TaskData) → AreGeneratedTasks number m tasks → (k : ℕ) (d : TaskData) → k < length tasks → IsGeneratedTask number m k (get_or tasks k d)
+task_at : (number m : ℕ) (tasks : List TaskData) → AreGeneratedTasks number m tasks → (k : ℕ) (d : TaskData) → k < length tasks
+    → IsGeneratedTask number m k (get_or tasks k d)
 task_at number m tasks each k d within = each k (get_or tasks k d) (slice_get-get_or tasks k d within)
 
 -- ---- masks
-mask_is_mask : (number m i mask : ℕ) → 0 < m → ((p : ℕ) → (IsTrue (has mask p) → (first_processor number m i ≤ p) × (p ≤ last_processor number m i)) × ((first_processor number m i ≤ p) × (p ≤ last_processor number m i) → IsTrue (has mask p))) → IsMask m mask
+mask_is_mask : (number m i mask : ℕ) → 0 < m
+    → ((p : ℕ) → (IsTrue (has mask p) → (first_processor number m i ≤ p) × (p ≤ last_processor number m i))
+    × ((first_processor number m i ≤ p) × (p ≤ last_processor number m i) → IsTrue (has mask p))) → IsMask m mask
 mask_is_mask number m i mask some members = record {
   some = λ none.
       let first = first_processor number m i in
@@ -53,7 +56,8 @@ mask_is_mask number m i mask some members = record {
 }
 
 -- ---- the next task
-pub can_add_next : (number m i urgency mask state : ℕ) (set : SetData) → 0 < m → i < 1024 → HasDrawnTasks number m i state set → (next : ℕ) → DrawsTask number m i next urgency mask → CanAdd set (new_task (task_name i) urgency mask)
+pub can_add_next : (number m i urgency mask state : ℕ) (set : SetData) → 0 < m → i < 1024 → HasDrawnTasks number m i state set → (next : ℕ)
+    → DrawsTask number m i next urgency mask → CanAdd set (new_task (task_name i) urgency mask)
 can_add_next number m i urgency mask state set some few begun next draws = record {
   name = task_name_is_name i few;
   room = omega (arith, begun.count);
@@ -68,7 +72,8 @@ can_add_next number m i urgency mask state set some few begun next draws = recor
   mask = rw begun.processors (mask_is_mask number m i mask some draws.members);
 }
 
-pub next_is_drawn : (number m i urgency mask state : ℕ) (set : SetData) → HasDrawnTasks number m i state set → (next : ℕ) → DrawsTask number m i next urgency mask → HasDrawnTasks number m (i + 1) next (with_task set (new_task (task_name i) urgency mask))
+pub next_is_drawn : (number m i urgency mask state : ℕ) (set : SetData) → HasDrawnTasks number m i state set → (next : ℕ)
+    → DrawsTask number m i next urgency mask → HasDrawnTasks number m (i + 1) next (with_task set (new_task (task_name i) urgency mask))
 next_is_drawn number m i urgency mask state set begun next draws = record {
   processors = begun.processors;
   count = omega (arith, begun.count, length-append set.tasks (new_task (task_name i) urgency mask ∷ []));

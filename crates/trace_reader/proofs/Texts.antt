@@ -49,8 +49,11 @@ line_leads : (p q next : Progress) (line : List ℕ) (rest : List (List ℕ)) �
     → FoldsTo Says next (said_by rest) q → IsClean line × FoldsTo Says p (said_by (line ∷ rest)) q
 line_leads p q next line rest (inl bad) more = leads_not_fails next _ bad.1
 line_leads p q next line rest (inr (inl long)) more = leads_not_fails next _ long.2
-line_leads p q next line rest (inr (inr (inl (clean, skipped, e)))) more =
-    (clean, rw (said_by-skipped line rest skipped) (subst (λ (from : Progress). FoldsTo Says from (said_by rest) q) (same_next next p e) more))
+line_leads p q next line rest (inr (inr (inl (clean, skipped, e)))) more = (
+  clean,
+  rw (said_by-skipped line rest skipped)
+      (subst (λ (from : Progress). FoldsTo Says from (said_by rest) q) (same_next next p e) more),
+)
 line_leads p q next line rest (inr (inr (inr (clean, kept, says)))) more = (clean, rw (said_by-kept line rest kept) (next, says, more))
 
 clean_steps : (p q : Progress) (lines : List (List ℕ)) → Leading Comes p lines q → All IsClean lines × FoldsTo Says p (said_by lines) q
@@ -84,7 +87,8 @@ end_fault (ProcessorsExpected same) kind e = (λ version set events f. cc, same_
 end_fault (Listed same listed posted) kind e = (λ version set events f. cc, same_kind {P = InputData} kind NoEnd e)
 end_fault (Ended same listed posted) kind e = leads_not_fails {P = InputData} _ kind (sym e)
 
-unended : (p : Progress) → ((version : ℕ) (set : SetData) (events : List Posted) → p ≢ Ended version set events) → IsEndOutcome p (Fails NoEnd)
+unended : (p : Progress) → ((version : ℕ) (set : SetData) (events : List Posted) → p ≢ Ended version set events)
+    → IsEndOutcome p (Fails NoEnd)
 unended HeaderExpected none = refl
 unended (ProcessorsExpected version) none = refl
 unended (Listed version set events) none = refl
@@ -121,7 +125,8 @@ text_is_read bytes version set events text =
     (Leads (record { version = version; set = set; events = events }))
     (steps_lead HeaderExpected (Ended version set events) (lines_of bytes) text.clean steps) refl
 
-pub fault_is_refused : (bytes : List ℕ) (number : ℕ) (kind : InputKind) → IsRefused lines_of HeaderExpected Comes IsEndOutcome bytes number kind
+pub fault_is_refused : (bytes : List ℕ) (number : ℕ) (kind : InputKind)
+    → IsRefused lines_of HeaderExpected Comes IsEndOutcome bytes number kind
     → IsInputRefused bytes number kind
 fault_is_refused bytes number kind refused =
     by (laws.before_is_fine text_machine lines_of bytes number kind refused)
@@ -166,11 +171,13 @@ refused_is_fault bytes number kind (inl first) =
       expected = first.expected;
       order = first.order;
       place = first.place;
-      expects = steps_lead HeaderExpected first.expected first.before first.clean (expects_steps (said_by first.before) first.expected first.expects);
+      expects = steps_lead HeaderExpected first.expected first.before first.clean
+          (expects_steps (said_by first.before) first.expected first.expects);
       fault = first.fault;
     }
 refused_is_fault bytes number kind (inr (last, is_kind)) =
-    let leads = steps_lead HeaderExpected last.expected (lines_of bytes) last.clean (expects_steps (said_by (lines_of bytes)) last.expected last.expects) in
+    let leads = steps_lead HeaderExpected last.expected (lines_of bytes) last.clean
+    (expects_steps (said_by (lines_of bytes)) last.expected last.expects) in
     let at_end = laws.leads_to_end text_machine lines_of HeaderExpected last.expected (lines_of bytes)
     (Fails NoEnd) leads (unended last.expected last.unended) in
     let place : 1 + length (lines_of bytes) ≡ number = (let e = last.place in omega arith) in
@@ -179,7 +186,8 @@ refused_is_fault bytes number kind (inr (last, is_kind)) =
 
 -- ---- the laws
 pub same_data : (version another : ℕ) (set other : SetData) (events others : List Posted)
-    → ◌≡◌ {A = InputData} (record { version = version; set = set; events = events }) (record { version = another; set = other; events = others })
+    → ◌≡◌ {A = InputData} (record { version = version; set = set; events = events })
+    (record { version = another; set = other; events = others })
     → (version ≡ another) × (set ≡ other) × (events ≡ others)
 same_data version another set other events others e =
     (ap (λ (input : InputData). input.version) e, ap (λ (input : InputData). input.set) e, ap (λ (input : InputData). input.events) e)

@@ -1,6 +1,7 @@
 -- Why a text is not an input. The first line that has a fault decides, and in it the first of the
 -- kinds in their order; which fault a line can have follows from what the lines before it said.
-use Rattle.std.specs.Prelude.{◌≡◌, ◌≢◌, ℕ, ◌+◌, ◌⊎◌, List, ◌∷◌, ◌++◌, length, true, All, Option, Some, None}
+use Rattle.std.specs.Prelude.{◌≡◌, ◌≢◌, ℕ, ◌+◌, ◌⊎◌, List, ◌∷◌, ◌++◌, length, true, All, Option}
+use Rattle.std.specs.Prelude.{Some, None}
 use Rattle.task_set.specs.TaskSet.{SetData}
 use Rattle.task_set.specs.declared.fault.TaskFault.{TaskFault}
 use Rattle.task_set.specs.declared.fault.TaskFault.TheVariants as task
@@ -8,7 +9,12 @@ use Rattle.trace_reader.specs.declared.posted.Posted.{Posted}
 use Rattle.text_fields.specs.declared.kind.LineKind.{LineKind}
 use Rattle.text_fields.specs.declared.kind.LineKind.TheVariants as line_kind
 use Rattle.trace_reader.specs.declared.fault.InputKind.{InputKind}
-use Rattle.trace_reader.specs.declared.fault.InputKind.TheVariants.{BadByte, LongLine, BadHeader, BadProcessors, BadTask, BadMask, TaskRefused, BadEvent, UnknownTask, ManyEvents, AfterEnd, NoEnd, OutsideAffinity, OutOfMemory}
+use Rattle.trace_reader.specs.declared.fault.InputKind.TheVariants.{BadByte, LongLine, BadHeader}
+use Rattle.trace_reader.specs.declared.fault.InputKind.TheVariants.{BadProcessors, BadTask, BadMask}
+use Rattle.trace_reader.specs.declared.fault.InputKind.TheVariants.{TaskRefused, BadEvent}
+use Rattle.trace_reader.specs.declared.fault.InputKind.TheVariants.{UnknownTask, ManyEvents}
+use Rattle.trace_reader.specs.declared.fault.InputKind.TheVariants.{AfterEnd, NoEnd}
+use Rattle.trace_reader.specs.declared.fault.InputKind.TheVariants.{OutsideAffinity, OutOfMemory}
 use Rattle.text_fields.specs.Lines.{lines_of}
 use Rattle.text_fields.specs.LineRule.{IsLineOutcome}
 use Rattle.text_fields.specs.Machine.{Fails}
@@ -26,9 +32,11 @@ input_kind line_kind.OutOfMemory = OutOfMemory
 abbrev pub IsFieldsFault : Progress → List (List ℕ) → InputKind → Type 0
 IsFieldsFault expected fields kind = IsFieldsOutcome expected fields (Fails kind)
 
--- the first fault of a line, by what is expected: a byte that is not plain, too many bytes, or else one of its fields
+-- the first fault of a line, by what is expected: a byte that is not plain, too many bytes, or else
+-- one of its fields
 abbrev pub IsLineFault : Progress → List ℕ → InputKind → Type 0
-IsLineFault expected line kind = IsLineOutcome 4096 true input_kind IsFieldsOutcome expected line (Fails kind)
+IsLineFault expected line kind =
+    IsLineOutcome 4096 true input_kind IsFieldsOutcome expected line (Fails kind)
 
 -- this line of the bytes has a fault, and none before it has one
 pub record IsFirstFault (bytes : List ℕ) (number : ℕ) (kind : InputKind) : Type 0 where
@@ -47,7 +55,8 @@ pub record IsEndless (bytes : List ℕ) (number : ℕ) : Type 0 where
   pub expected : Progress
   pub clean : All IsClean (lines_of bytes)
   pub expects : Expects (said_by (lines_of bytes)) expected
-  pub unended : (version : ℕ) (set : SetData) (events : List Posted) → expected ≢ Ended version set events
+  pub unended : (version : ℕ) (set : SetData) (events : List Posted)
+      → expected ≢ Ended version set events
   pub place : number ≡ length (lines_of bytes) + 1
 
 -- the bytes are refused with this line and kind, whichever version their header says

@@ -1,6 +1,6 @@
--- What the fields of a line come to, by what is expected: something else is expected then, or the line has a fault, the
--- first of its kinds in their order. Tasks and events stand first as a line names them: a task by the bytes of its name, and
--- a mask by those of its list.
+-- What the fields of a line come to, by what is expected: something else is expected then, or the
+-- line has a fault, the first of its kinds in their order. Tasks and events stand first as a line
+-- names them: a task by the bytes of its name, and a mask by those of its list.
 use Rattle.std.specs.Prelude.{◌≡◌, ℕ, ◌<◌, List, [], ◌∷◌, ◌++◌, length, codes}
 use Rattle.affinity_mask.specs.ListText.{IsListText}
 use Rattle.affinity_mask.specs.ListFault.{IsListFault}
@@ -15,8 +15,13 @@ use Rattle.text_fields.specs.Machine.{Outcome, Leads, Fails}
 use Rattle.text_fields.specs.Form.{Fields, AnyField, One, First, When, Row, NoRow}
 use Rattle.trace_reader.specs.declared.posted.Posted.{Posted}
 use Rattle.trace_reader.specs.declared.fault.InputKind.{InputKind}
-use Rattle.trace_reader.specs.declared.fault.InputKind.TheVariants.{BadHeader, BadProcessors, BadTask, BadMask, TaskRefused, BadEvent, UnknownTask, ManyEvents, AfterEnd, OutsideAffinity}
-use Rattle.trace_reader.specs.InputText.{IsHeader, IsProcessorsLine, IsTaskForm, IsProcessorNumber, end_line}
+use Rattle.trace_reader.specs.declared.fault.InputKind.TheVariants.{BadHeader, BadProcessors}
+use Rattle.trace_reader.specs.declared.fault.InputKind.TheVariants.{BadTask, BadMask, TaskRefused}
+use Rattle.trace_reader.specs.declared.fault.InputKind.TheVariants.{BadEvent, UnknownTask}
+use Rattle.trace_reader.specs.declared.fault.InputKind.TheVariants.{ManyEvents, AfterEnd}
+use Rattle.trace_reader.specs.declared.fault.InputKind.TheVariants.{OutsideAffinity}
+use Rattle.trace_reader.specs.InputText.{IsHeader, IsProcessorsLine, IsTaskForm, IsProcessorNumber}
+use Rattle.trace_reader.specs.InputText.{end_line}
 use Rattle.trace_reader.specs.Progress.{Progress, HeaderExpected, ProcessorsExpected, Listed, Ended}
 
 -- ---- the lines
@@ -84,17 +89,20 @@ LineOutcome = Outcome Progress InputKind
 abbrev pub IsAdded : ℕ → SetData → NamedTask → ℕ → LineOutcome → Type 0
 IsAdded version set task mask =
     let next = new_task task.name task.priority mask in
-    IsAllowing (CanAdd set next) (IsRefusal set next) (IsOnly (Leads (Listed version (with_task set next) [])))
+    IsAllowing (CanAdd set next) (IsRefusal set next)
+    (IsOnly (Leads (Listed version (with_task set next) [])))
     (λ fault. IsOnly (Fails (TaskRefused fault)))
 
 -- the list of a task is a mask, or has a fault
 abbrev pub IsMaskOutcome : ℕ → SetData → NamedTask → LineOutcome → Type 0
 IsMaskOutcome version set task =
-    IsJudging (IsListText task.list) (IsListFault task.list) (IsAdded version set task) (λ fault. IsOnly (Fails (BadMask fault)))
+    IsJudging (IsListText task.list) (IsListFault task.list) (IsAdded version set task)
+    (λ fault. IsOnly (Fails (BadMask fault)))
 
 -- the line of a task
 abbrev pub IsTaskOutcome : ℕ → SetData → Fields → LineOutcome → Type 0
-IsTaskOutcome version set fields = IsReading (IsNamedTask fields) (IsMaskOutcome version set) (IsOnly (Fails BadTask))
+IsTaskOutcome version set fields =
+    IsReading (IsNamedTask fields) (IsMaskOutcome version set) (IsOnly (Fails BadTask))
 
 -- there is room for the event, and its mask is of the processors
 abbrev pub IsPlaced : ℕ → SetData → List Posted → ℕ → Event → LineOutcome → Type 0
@@ -115,7 +123,8 @@ IsLookedUp set Then (Arrive name) = IsKnownTask set name (λ t. Then (event.Arri
 IsLookedUp set Then (Depart name) = IsKnownTask set name (λ t. Then (event.Depart t))
 IsLookedUp set Then (Tick units) = Then (event.Tick units)
 IsLookedUp set Then (Affinity name list) =
-    IsJudging (IsListText list) (IsListFault list) (λ mask. IsKnownTask set name (λ t. Then (event.Affinity t mask)))
+    IsJudging (IsListText list) (IsListFault list)
+    (λ mask. IsKnownTask set name (λ t. Then (event.Affinity t mask)))
     (λ fault. IsOnly (Fails (BadMask fault)))
 IsLookedUp set Then (Offline p) = Then (event.Offline p)
 IsLookedUp set Then (Online p) = Then (event.Online p)
@@ -124,17 +133,21 @@ IsLookedUp set Then (Online p) = Then (event.Online p)
 abbrev pub IsEventOutcome : ℕ → SetData → List Posted → Fields → LineOutcome → Type 0
 IsEventOutcome version set events fields =
     IsReading (IsNamedLine version set.processors fields)
-    (λ line. IsLookedUp set (IsPlaced version set events line.stream) line.event) (IsOnly (Fails BadEvent))
+    (λ line. IsLookedUp set (IsPlaced version set events line.stream) line.event)
+    (IsOnly (Fails BadEvent))
 
 -- what the fields of a line come to, by what is expected
 abbrev pub IsFieldsOutcome : Progress → Fields → LineOutcome → Type 0
 IsFieldsOutcome HeaderExpected fields =
-    IsReading (λ version. IsHeader version fields) (λ version. IsOnly (Leads (ProcessorsExpected version)))
+    IsReading (λ version. IsHeader version fields)
+    (λ version. IsOnly (Leads (ProcessorsExpected version)))
     (IsOnly (Fails BadHeader))
 IsFieldsOutcome (ProcessorsExpected version) fields =
     IsReading (λ m. IsProcessorsLine m fields)
-    (λ m. IsOnly (Leads (Listed version (record { processors = m; tasks = [] }) []))) (IsOnly (Fails BadProcessors))
+    (λ m. IsOnly (Leads (Listed version (record { processors = m; tasks = [] }) [])))
+    (IsOnly (Fails BadProcessors))
 IsFieldsOutcome (Listed version set events) fields =
     IsChoice (fields ≡ end_line) (IsOnly (Leads (Ended version set events)))
-    (IsChoice (IsForTask events fields) (IsTaskOutcome version set fields) (IsEventOutcome version set events fields))
+    (IsChoice (IsForTask events fields) (IsTaskOutcome version set fields)
+    (IsEventOutcome version set events fields))
 IsFieldsOutcome (Ended version set events) fields = IsOnly (Fails AfterEnd)

@@ -1,5 +1,5 @@
--- The lines of an input text. Each is clean, which is that its bytes are plain and at most 4,096, and a line whose first field
--- begins with '#' is a comment.
+-- The lines of an input text. Each is clean, which is that its bytes are plain and at most 4,096,
+-- and a line whose first field begins with '#' is a comment.
 use Rattle.std.specs.Prelude.{ℕ, Bool, true, not, List, map, filter}
 use Rattle.text_fields.specs.Lines.{fields_of, is_skipped_line, IsCleanLine}
 

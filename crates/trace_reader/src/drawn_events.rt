@@ -2,7 +2,7 @@
 ghost use Rattle.std.specs.Prelude.{◌≡◌, ℕ, ◌*◌, ◌<◌, ◌≤◌, [], ◌∷◌, ◌++◌, List, IfOk, length};
 ghost use Rattle.task_set.specs.declared.event.Event.{Event};
 ghost use Rattle.trace_reader.specs.Generated.{draws_before, event_of_task};
-ghost use Rattle.trace_reader.specs.Generator.{state_after};
+ghost use Rattle.trace_reader.specs.Generator.{generator_after};
 ghost use Rattle.trace_reader.specs.Drawing.{IsReadyTable, DrawsEvent, AreDrawnEvents};
 
 use crate::generator::Generator;
@@ -26,7 +26,7 @@ pub fn draw_events(
 ) -> Result<Vec<Posted>, OutOfMemory>
     requires tasks { (1 ≤ tasks) × (tasks ≤ 1024) }
     requires count { count ≤ 20000 }
-    ensures { (number : ℕ) → generator.old.state ≡ state_after number (3 * tasks)
+    ensures { (number : ℕ) → generator.old.state ≡ generator_after number (3 * tasks)
         → IfOk result (λ posted. AreDrawnEvents number tasks count posted.items) }
 {
     let mut ready = vec![in alloc; false; tasks as usize]?;
@@ -43,7 +43,7 @@ fn draw_event(generator: &mut Generator, ready: &mut [bool], tasks: u32) -> Even
     requires tasks { 0 < tasks }
     requires table { length ready.old ≡ tasks }
     ensures { (number : ℕ) (earlier : List Event)
-        → generator.old.state ≡ state_after number (draws_before tasks earlier)
+        → generator.old.state ≡ generator_after number (draws_before tasks earlier)
         → IsReadyTable tasks earlier ready.old
         → DrawsEvent number tasks generator.new.state earlier result ready.new }
 {

@@ -4,7 +4,7 @@ ghost use Rattle.affinity_mask.specs.ProcSet.{has};
 ghost use Rattle.task_set.specs.TaskSet.{with_task};
 ghost use Rattle.task_set.specs.Refusal.{CanAdd, new_task};
 ghost use Rattle.trace_reader.specs.Generated.{task_name};
-ghost use Rattle.trace_reader.specs.Generator.{state_after};
+ghost use Rattle.trace_reader.specs.Generator.{generator_after};
 ghost use Rattle.trace_reader.specs.Drawing.{DrawsTask, HasDrawnTasks};
 
 use crate::generator::Generator;
@@ -48,7 +48,7 @@ pub fn draw_tasks(
 fn draw_task(generator: &mut Generator, processors: u8, i: u32) -> Drawn
     requires processors { (1 ≤ processors) × (processors ≤ 64) }
     requires tasks { i < 1024 }
-    ensures { (number : ℕ) → generator.old.state ≡ state_after number (3 * i)
+    ensures { (number : ℕ) → generator.old.state ≡ generator_after number (3 * i)
         → DrawsTask number processors i generator.new.state result.priority result.mask }
 {
     let priority = PRIORITY_STEP * i + generator.draw(PRIORITY_STEP);

@@ -1,6 +1,6 @@
 //! The generator of numbers.
 ghost use Rattle.std.specs.Prelude.{◌≡◌, ℕ, ◌<◌};
-ghost use Rattle.trace_reader.specs.Generator.{generator_step, drawn_at, state_after};
+ghost use Rattle.trace_reader.specs.Generator.{generator_step, drawn_at, generator_after};
 ghost use Rattle.trace_reader.specs.Drawing.{IsDraw};
 
 /// The factor of a step, as in Knuth's MMIX.
@@ -23,7 +23,7 @@ impl Generator {
     pub fn draw(&mut self, bound: u32) -> u32
         requires { 0 < bound }
         ensures below { result < bound }
-        ensures draws { (number k : ℕ) → self.old.state ≡ state_after number k
+        ensures draws { (number k : ℕ) → self.old.state ≡ generator_after number k
             → IsDraw number k bound self.new.state result }
     {
         self.step();

@@ -1,5 +1,6 @@
 -- There are as many linked tasks as occupied processors, and what holds of the tasks that are linked in one state alone.
-use Rattle.std.proofs.Common.{◌≡◌, ℕ, ◌<◌, ◌≤◌, true, false, Option, Some, None, refl, sym, ap, ◌∙◌, inl, inr, ◌⊎◌, arith, le_antisymm, length}
+use Rattle.std.proofs.Common.{◌≡◌, ℕ, ◌<◌, ◌≤◌, true, false, Option, Some, None, refl, sym, ap, ◌∙◌, inl, inr, ◌⊎◌, arith, le_antisymm}
+use Rattle.std.proofs.Common.{length}
 use Rattle.std.specs.Prelude.{is_some, unwrap_or, MatchOption, IfSome}
 use Rattle.std.specs.Option.{ForSome}
 use Rattle.std.proofs.lemmas.Bool.{cases_Bool, true≢false}
@@ -27,7 +28,8 @@ module _ (s : State) (ok : IsState s) (occupied : ℕ) (is_occupied : (p : ℕ) 
 
   no_more_tasks : linked_count s ≤ length (members occupied)
   no_more_tasks = count_below-injection (is_linked s) (task_count s) (has occupied) 64 (λ t. place_in t s.on) record {
-    below = λ t lt linked. let place = occupied_number s (place_in t s.on) t ok (task_on-linked s t linked) in let few = ok.processors in omega arith;
+    below = λ t lt linked. let place = occupied_number s (place_in t s.on) t ok (task_on-linked s t linked) in let few = ok.processors in
+        omega arith;
     passes = λ t lt linked. is_occupied (place_in t s.on) ∙ ap (λ (o : Option ℕ). is_some o) (task_on-linked s t linked);
     apart = λ t u lt lu ht hu e. same_Some t u (sym (task_on-linked s t ht) ∙ ap (task_on s) e ∙ task_on-linked s u hu);
   }
@@ -48,7 +50,8 @@ abbrev pub IsFoundOnly : State → State → ℕ → Option ℕ → Type 0
 IsFoundOnly one other n found = IsFound (IsOnlyOn one other) (λ d t. priority_of one d ≤ priority_of one t) n found
 
 -- over all processors
-pub found_only : (one other : State) → IsState one → (n : ℕ) → one.processors ≤ n → (found : Option ℕ) → IsFoundOnly one other n found → MatchOption found (IsNobodyOnlyIn one other) (IsFirstOnlyIn one other)
+pub found_only : (one other : State) → IsState one → (n : ℕ) → one.processors ≤ n → (found : Option ℕ) → IsFoundOnly one other n found
+    → MatchOption found (IsNobodyOnlyIn one other) (IsFirstOnlyIn one other)
 found_only one other ok n all None nobody = λ t linked not_linked.
     let p = place_in t one.on in
     let below = occupied_number one p t ok (task_on-linked one t linked) in
@@ -65,7 +68,8 @@ found_only one other ok n all (Some d) first = record {
 -- ---- the most urgent one of both sides
 module _ (weak strong : State) where
   -- a task that is linked in just one of the two
-  sides : (u : ℕ) → IsInJustOne weak strong u → ((is_linked weak u ≡ true) × (is_linked strong u ≡ false)) ⊎ ((is_linked strong u ≡ true) × (is_linked weak u ≡ false))
+  sides : (u : ℕ) → IsInJustOne weak strong u → ((is_linked weak u ≡ true) × (is_linked strong u ≡ false))
+      ⊎ ((is_linked strong u ≡ true) × (is_linked weak u ≡ false))
   sides u apart = elim (cases_Bool (is_linked weak u)) [
     | inl in_weak ↦ elim (cases_Bool (is_linked strong u)) [
       | inl in_strong ↦ absurd (apart (in_weak ∙ sym in_strong))
@@ -85,7 +89,8 @@ module _ (weak strong : State) where
 
   module _ (priorities : (u : ℕ) → priority_of strong u ≡ priority_of weak u) where
     -- the weak state has nobody alone
-    pub first_of_strong : (found : Option ℕ) → MatchOption found (IsNobodyOnlyIn strong weak) (IsFirstOnlyIn strong weak) → IsNobodyOnlyIn weak strong → IsFirstApart weak strong found
+    pub first_of_strong : (found : Option ℕ) → MatchOption found (IsNobodyOnlyIn strong weak) (IsFirstOnlyIn strong weak)
+        → IsNobodyOnlyIn weak strong → IsFirstApart weak strong found
     first_of_strong None nobody none = λ u. elim (cases_Bool (is_linked weak u)) [
       | inl in_weak ↦ elim (cases_Bool (is_linked strong u)) [
         | inl in_strong ↦ in_weak ∙ sym in_strong
@@ -105,8 +110,10 @@ module _ (weak strong : State) where
     )
 
     -- the weak state has t alone, and r is the more urgent one of t and who was found in the strong one
-    pub first_of_both : (found : Option ℕ) (t r : ℕ) → MatchOption found (IsNobodyOnlyIn strong weak) (IsFirstOnlyIn strong weak) → IsFirstOnlyIn weak strong t
-        → (r ≡ t) ⊎ (found ≡ Some r) → priority_of strong r ≤ priority_of strong t → IfSome found (λ u. priority_of strong r ≤ priority_of strong u) → IsFirstApart weak strong (Some r)
+    pub first_of_both : (found : Option ℕ) (t r : ℕ) → MatchOption found (IsNobodyOnlyIn strong weak) (IsFirstOnlyIn strong weak)
+        → IsFirstOnlyIn weak strong t
+        → (r ≡ t) ⊎ (found ≡ Some r) → priority_of strong r ≤ priority_of strong t
+        → IfSome found (λ u. priority_of strong r ≤ priority_of strong u) → IsFirstApart weak strong (Some r)
     first_of_both found t r strongly weakly either first first_of_found = (
       apart found strongly either,
       λ u apart_u. elim (sides u apart_u) [
@@ -115,22 +122,28 @@ module _ (weak strong : State) where
       ],
     )
       where
-        apart : (found : Option ℕ) → MatchOption found (IsNobodyOnlyIn strong weak) (IsFirstOnlyIn strong weak) → (r ≡ t) ⊎ (found ≡ Some r) → IsInJustOne weak strong r
+        apart : (found : Option ℕ) → MatchOption found (IsNobodyOnlyIn strong weak) (IsFirstOnlyIn strong weak) → (r ≡ t) ⊎ (found ≡ Some r)
+            → IsInJustOne weak strong r
         apart found strongly (inl it) = rw it (only_weak t weakly.linked weakly.not_linked)
         apart None strongly (inr is) = cc
         apart (Some d) strongly (inr is) = rw (← same_Some d r is) (only_strong d strongly.linked strongly.not_linked)
 
-        of_found : (found : Option ℕ) → MatchOption found (IsNobodyOnlyIn strong weak) (IsFirstOnlyIn strong weak) → IfSome found (λ u. priority_of strong r ≤ priority_of strong u) → (u : ℕ) → is_linked strong u ≡ true → is_linked weak u ≡ false → priority_of strong r ≤ priority_of strong u
+        of_found : (found : Option ℕ) → MatchOption found (IsNobodyOnlyIn strong weak) (IsFirstOnlyIn strong weak)
+            → IfSome found (λ u. priority_of strong r ≤ priority_of strong u) → (u : ℕ) → is_linked strong u ≡ true
+            → is_linked weak u ≡ false → priority_of strong r ≤ priority_of strong u
         of_found None nobody first_of_found u there not_there = absurd (nobody u there not_there)
         of_found (Some d) strongly first_of_found u there not_there = let le = strongly.first u there not_there in omega arith
 
 -- whoever was found alone in a state is a task of it
-pub only_number : (one other : State) → IsState one → (found : Option ℕ) → MatchOption found (IsNobodyOnlyIn one other) (IsFirstOnlyIn one other) → ForSome found (λ t. t < task_count one)
+pub only_number : (one other : State) → IsState one → (found : Option ℕ)
+    → MatchOption found (IsNobodyOnlyIn one other) (IsFirstOnlyIn one other) → ForSome found (λ t. t < task_count one)
 only_number one other ok None nobody = λ u e. cc
-only_number one other ok (Some d) first = λ u e. rw (← same_Some d u e) (linked_number one (place_in d one.on) d ok (task_on-linked one d first.linked))
+only_number one other ok (Some d) first = λ u e. rw (← same_Some d u e)
+    (linked_number one (place_in d one.on) d ok (task_on-linked one d first.linked))
 
 -- whoever is linked in just one of two states over the same tasks is a task of them
-pub apart_number : (weak strong : State) → IsState weak → IsState strong → task_count weak ≡ task_count strong → (found : Option ℕ) → IsFirstApart weak strong found → ForSome found (λ t. t < task_count strong)
+pub apart_number : (weak strong : State) → IsState weak → IsState strong → task_count weak ≡ task_count strong → (found : Option ℕ)
+    → IsFirstApart weak strong found → ForSome found (λ t. t < task_count strong)
 apart_number weak strong ok_weak ok_strong same None none = λ u e. cc
 apart_number weak strong ok_weak ok_strong same (Some d) first = λ u e. rw (← same_Some d u e) (elim (sides weak strong d first.0) [
   | inl weakly ↦ rw (← same) (linked_number weak (place_in d weak.on) d ok_weak (task_on-linked weak d weakly.0))

@@ -15,12 +15,14 @@ use Rattle.weak_apa.specs.Step.{without_links}
 use Rattle.weak_apa.specs.Compared.{Compares, IsNoBetter, IsFirstApart, linked_count}
 use Rattle.weak_apa.specs.declared.comparison.Comparison.{Comparison}
 
-module _ (weak strong : State) (ok_weak : IsState weak) (ok_strong : IsState strong) (alike : without_links weak ≡ without_links strong) where
+module _ (weak strong : State) (ok_weak : IsState weak) (ok_strong : IsState strong)
+    (alike : without_links weak ≡ without_links strong) where
   mask_alike : (t : ℕ) → effective_mask weak t ≡ effective_mask strong t
   mask_alike t = ap (λ (s : State). effective_mask s t) alike
 
   weak_is_ready : IsSubset (is_linked weak) (is_ready strong)
-  weak_is_ready t linked = sym (ap (λ (s : State). is_ready s t) alike) ∙ ok_weak.linked_ready (place_in t weak.on) t (task_on-linked weak t linked)
+  weak_is_ready t linked =
+      sym (ap (λ (s : State). is_ready s t) alike) ∙ ok_weak.linked_ready (place_in t weak.on) t (task_on-linked weak t linked)
 
   weak_is_placeable : IsPlaceable strong (is_linked weak)
   weak_is_placeable = (

@@ -33,12 +33,14 @@ module _ (s : State) (ok : IsState s) (x p : ℕ) (waits : IsWaiting s x) (there
 
   pub on_place : task_on after p ≡ Some x
   on_place =
-      get_or-map-range_with_len (occupant_after_shift s (Some x) (p ∷ [])) 0 s.processors p p None (effective_mask_below s ok x p there) (omega arith)
+      get_or-map-range_with_len (occupant_after_shift s (Some x) (p ∷ [])) 0 s.processors p p None (effective_mask_below s ok x p there)
+      (omega arith)
       ∙ occupant-first s (Some x) p []
 
   pub elsewhere : (q u : ℕ) → q ≢ p → task_on s q ≡ Some u → task_on after q ≡ Some u
   elsewhere q u ne on =
-      get_or-map-range_with_len (occupant_after_shift s (Some x) (p ∷ [])) 0 s.processors q q None (occupied_number s q u ok on) (omega arith)
+      get_or-map-range_with_len (occupant_after_shift s (Some x) (p ∷ [])) 0 s.processors q q None (occupied_number s q u ok on)
+      (omega arith)
       ∙ occupant-later s (Some x) p [] q ne ∙ on
 
   -- who waits then is not x, and waited before or was on p
@@ -73,7 +75,8 @@ module _ (s : State) (ok : IsState s) (x p : ℕ) (waits : IsWaiting s x) (there
         nowhere q e =
             let came = task_on-state_after_shift s x (p ∷ []) q out e in
             elim (cases_eq q p) [
-              | inl same ↦ not_on s p x waits.not_linked (on ∙ ap (λ (n : ℕ). Some n) (sym (same_Some x out (sym (occupant-first s (Some x) p []) ∙ rw same at came))))
+              | inl same ↦ not_on s p x waits.not_linked
+                  (on ∙ ap (λ (n : ℕ). Some n) (sym (same_Some x out (sym (occupant-first s (Some x) p []) ∙ rw same at came))))
               | inr ne ↦ ne (ok.once q p out (sym (occupant-later s (Some x) p [] q ne) ∙ came) on)
             ]
 

@@ -5,7 +5,8 @@ use Rattle.std.proofs.lemmas.Option.{same_Some}
 use Rattle.affinity_mask.specs.ProcSet.{has}
 use Rattle.task_set.specs.TaskSet.{IsMask}
 use Rattle.task_set.specs.declared.event.Event.TheVariants.{Arrive, Depart, Tick, Affinity, Offline, Online}
-use Rattle.strong_apa.specs.State.{State, IsState, IsWaiting, task_count, is_ready, priority_of, effective_mask, state_with_ready, state_with_mask, state_with_online, state_with_offline, state_after_leaving}
+use Rattle.strong_apa.specs.State.{State, IsState, IsWaiting, task_count, is_ready, priority_of, effective_mask, state_with_ready}
+use Rattle.strong_apa.specs.State.{state_with_mask, state_with_online, state_with_offline, state_after_leaving}
 use Rattle.strong_apa.specs.Chain.{state_after_shift}
 use Rattle.strong_apa.specs.Step.{IsOccupied, IsLeastUrgentOn}
 use Rattle.strong_apa.proofs.Changes.{IsState-state_with_mask, IsState-state_with_online, IsState-state_with_offline}
@@ -17,7 +18,8 @@ use Rattle.strong_apa.proofs.Steps.{HasLeft, IsState-remasked, IsState-moved, ab
 use Rattle.strong_apa.proofs.Unique.{ready_number}
 use Rattle.weak_apa.specs.StepLaws.{WeakStepIsUnique, WeakStepKeepsState}
 use Rattle.weak_apa.specs.Stable.{IsKeptOut}
-use Rattle.weak_apa.specs.Step.{TakesProcessor, FindsIdle, WeaklyDisplaces, IsTurn, IsPlacedInTurns, WeaklyComes, WeaklyFills, WeaklyLeaves, WeaklyArrives, WeaklyDeparts, WeaklyMasks, WeaklyGoesOff, WeaklyComesOn}
+use Rattle.weak_apa.specs.Step.{TakesProcessor, FindsIdle, WeaklyDisplaces, IsTurn, IsPlacedInTurns, WeaklyComes, WeaklyFills, WeaklyLeaves}
+use Rattle.weak_apa.specs.Step.{WeaklyArrives, WeaklyDeparts, WeaklyMasks, WeaklyGoesOff, WeaklyComesOn}
 use Rattle.weak_apa.proofs.Followed.{leaves_known, leaves_ready}
 use Rattle.strong_apa.proofs.KeptByChanges.{nobody_off}
 use Rattle.weak_apa.proofs.Leaving.{absent_then}
@@ -72,7 +74,8 @@ module _ (s : State) (ok : IsState s) (x : ℕ) where
 
   module _ (waits : IsWaiting s x) where
     goes_keeps : (p : ℕ) (new : State) → IsTrue (has (effective_mask s x) p) → TakesProcessor s x p new → IsState new
-    goes_keeps p new there goes = subst IsState (sym goes) (IsState-state_after_shift s ok x (p ∷ []) p waits (there, refl) (one_is_simple p))
+    goes_keeps p new there goes =
+        subst IsState (sym goes) (IsState-state_after_shift s ok x (p ∷ []) p waits (there, refl) (one_is_simple p))
 
     last_keeps : (new : State) → IsTurn s x None new → IsState new
     last_keeps new (inl finds) = goes_keeps finds.place new finds.there finds.goes
@@ -88,10 +91,12 @@ module _ (s : State) (ok : IsState s) (x : ℕ) where
 
     out_waits : (out : ℕ) (new : State) → WeaklyDisplaces s x out new → IsWaiting new out
     out_waits out new displaces =
-        subst (λ (after : State). IsWaiting after out) (sym displaces.goes) (displaced_waits s ok x displaces.place waits (place_inside out new displaces) out displaces.on)
+        subst (λ (after : State). IsWaiting after out) (sym displaces.goes)
+        (displaced_waits s ok x displaces.place waits (place_inside out new displaces) out displaces.on)
 
 -- ---- turns
-placed_once : (displaced other : List ℕ) (s : State) → IsState s → (x : ℕ) → IsWaiting s x → (new next : State) → IsPlacedInTurns s x displaced new → IsPlacedInTurns s x other next → new ≡ next
+placed_once : (displaced other : List ℕ) (s : State) → IsState s → (x : ℕ) → IsWaiting s x → (new next : State)
+    → IsPlacedInTurns s x displaced new → IsPlacedInTurns s x other next → new ≡ next
 placed_once [] [] s ok x waits new next one two = last_once s ok x new next one two
 placed_once [] (out ∷ rest) s ok x waits new next one two = absurd (last_displaces_none s ok x out new two.0 one two.1)
 placed_once (out ∷ rest) [] s ok x waits new next one two = absurd (last_displaces_none s ok x out next one.0 two one.1)
@@ -103,16 +108,20 @@ placed_once (out ∷ rest) (out' ∷ rest') s ok x waits new next one two =
     placed_once rest rest' one.0 (displaces_keeps s ok x waits out one.0 one.1) out (out_waits s ok x waits out one.0 one.1) new next one.2
     (subst (λ (after : State). IsPlacedInTurns after out rest' next) between placed)
 
-placed_keeps : (displaced : List ℕ) (s : State) → IsState s → (x : ℕ) → IsWaiting s x → (new : State) → IsPlacedInTurns s x displaced new → IsState new
+placed_keeps : (displaced : List ℕ) (s : State) → IsState s → (x : ℕ) → IsWaiting s x → (new : State) → IsPlacedInTurns s x displaced new
+    → IsState new
 placed_keeps [] s ok x waits new one = last_keeps s ok x waits new one
-placed_keeps (out ∷ rest) s ok x waits new one = placed_keeps rest one.0 (displaces_keeps s ok x waits out one.0 one.1) out (out_waits s ok x waits out one.0 one.1) new one.2
+placed_keeps (out ∷ rest) s ok x waits new one =
+    placed_keeps rest one.0 (displaces_keeps s ok x waits out one.0 one.1) out (out_waits s ok x waits out one.0 one.1) new one.2
 
 module _ (s : State) (ok : IsState s) (t : ℕ) (number : t < task_count s) (absent : is_ready s t ≡ false) where
   comes_once : (new next : State) → WeaklyComes s t new → WeaklyComes s t next → new ≡ next
-  comes_once new next one two = placed_once one.0 two.0 (state_with_ready s t) (IsState-state_with_ready s ok t number) t (IsWaiting-state_with_ready s ok t number absent) new next one.1 two.1
+  comes_once new next one two = placed_once one.0 two.0 (state_with_ready s t) (IsState-state_with_ready s ok t number) t
+      (IsWaiting-state_with_ready s ok t number absent) new next one.1 two.1
 
   comes_keeps : (new : State) → WeaklyComes s t new → IsState new
-  comes_keeps new one = placed_keeps one.0 (state_with_ready s t) (IsState-state_with_ready s ok t number) t (IsWaiting-state_with_ready s ok t number absent) new one.1
+  comes_keeps new one = placed_keeps one.0 (state_with_ready s t) (IsState-state_with_ready s ok t number) t
+      (IsWaiting-state_with_ready s ok t number absent) new one.1
 
 -- ---- a processor that became idle, and a task that leaves
 fills_once : (s : State) → IsState s → (p : ℕ) (new next : State) → WeaklyFills s p new → WeaklyFills s p next → new ≡ next
@@ -120,7 +129,8 @@ fills_once s ok p new next (inl one) (inl two) = one.1 ∙ sym two.1
 fills_once s ok p new next (inl one) (inr two) = absurd (one.0 two.0 two.1.waits two.1.enters)
 fills_once s ok p new next (inr one) (inl two) = absurd (two.0 one.0 one.1.waits one.1.enters)
 fills_once s ok p new next (inr one) (inr two) =
-    let same : one.0 ≡ two.0 = ok.distinct one.0 two.0 (ready_number s ok one.0 one.1.waits.ready) (ready_number s ok two.0 two.1.waits.ready)
+    let same : one.0 ≡ two.0 = ok.distinct one.0 two.0 (ready_number s ok one.0 one.1.waits.ready)
+    (ready_number s ok two.0 two.1.waits.ready)
     (le_antisymm (one.1.most_urgent two.0 two.1.waits two.1.enters) (two.1.most_urgent one.0 one.1.waits one.1.enters)) in
     one.2 ∙ ap (λ (w : ℕ). state_after_shift s w (p ∷ [])) same ∙ sym two.2
 
@@ -140,7 +150,8 @@ leaves_keeps : (s : State) → IsState s → (t : ℕ) (new : State) → WeaklyL
 leaves_keeps s ok t new (inl one) = subst IsState (sym one.1) (IsState-state_with_absent s ok t one.0)
 leaves_keeps s ok t new (inr one) = fills_keeps (state_after_leaving s t) (IsState-state_after_leaving s ok t) one.place new one.fills
 
-has_left : (s : State) → IsState s → (t mask : ℕ) (between : State) → t < task_count s → IsMask s.processors mask → WeaklyLeaves s t between → HasLeft s t mask between
+has_left : (s : State) → IsState s → (t mask : ℕ) (between : State) → t < task_count s → IsMask s.processors mask → WeaklyLeaves s t between
+    → HasLeft s t mask between
 has_left s ok t mask between number lawful leaves =
     let known = leaves_known s t between leaves in
     record {
@@ -172,14 +183,19 @@ module _ (s : State) (ok : IsState s) where
   departs_keeps t new (inl one) = subst IsState (sym one.1) ok
   departs_keeps t new (inr one) = leaves_keeps s ok t new one
 
-  masks_once : (t mask : ℕ) → t < task_count s → IsMask s.processors mask → (new next : State) → WeaklyMasks s t mask new → WeaklyMasks s t mask next → new ≡ next
+  masks_once : (t mask : ℕ) → t < task_count s → IsMask s.processors mask → (new next : State) → WeaklyMasks s t mask new
+      → WeaklyMasks s t mask next → new ≡ next
   masks_once t mask number lawful new next (inl one) (inl two) = one.1 ∙ sym two.1
-  masks_once t mask number lawful new next (inl one) (inr two) = absurd (true≢false (sym (leaves_ready s ok t two.between two.leaves) ∙ one.0))
-  masks_once t mask number lawful new next (inr one) (inl two) = absurd (true≢false (sym (leaves_ready s ok t one.between one.leaves) ∙ two.0))
+  masks_once t mask number lawful new next (inl one) (inr two) =
+      absurd (true≢false (sym (leaves_ready s ok t two.between two.leaves) ∙ one.0))
+  masks_once t mask number lawful new next (inr one) (inl two) =
+      absurd (true≢false (sym (leaves_ready s ok t one.between one.leaves) ∙ two.0))
   masks_once t mask number lawful new next (inr one) (inr two) =
       let left = has_left s ok t mask one.between number lawful one.leaves in
-      comes_once (state_with_mask one.between t mask) (IsState-remasked s t mask one.between left) t left.number left.absent new next one.comes
-      (subst (λ (b : State). WeaklyComes (state_with_mask b t mask) t next) (leaves_once s ok t two.between one.between two.leaves one.leaves) two.comes)
+      comes_once (state_with_mask one.between t mask) (IsState-remasked s t mask one.between left)
+      t left.number left.absent new next one.comes
+      (subst (λ (b : State). WeaklyComes (state_with_mask b t mask) t next)
+      (leaves_once s ok t two.between one.between two.leaves one.leaves) two.comes)
 
   masks_keeps : (t mask : ℕ) → t < task_count s → IsMask s.processors mask → (new : State) → WeaklyMasks s t mask new → IsState new
   masks_keeps t mask number lawful new (inl one) = subst IsState (sym one.1) (IsState-state_with_mask s t mask ok number lawful one.0)
@@ -198,20 +214,23 @@ module _ (s : State) (ok : IsState s) where
   goes_off_once p new next (inr (inr one)) (inr (inl two)) = absurd (let nobody = two.0.1 in let on = one.on in cc)
   goes_off_once p new next (inr (inr one)) (inr (inr two)) =
       let same : two.task ≡ one.task = same_Some two.task one.task (sym two.on ∙ one.on) in
-      comes_once (state_with_offline (state_after_leaving s one.task) p) (IsState-moved s ok p one.task one.on) one.task (linked_number s p one.task ok one.on) (absent_moved s ok p one.task one.on) new next one.comes
+      comes_once (state_with_offline (state_after_leaving s one.task) p) (IsState-moved s ok p one.task one.on) one.task
+      (linked_number s p one.task ok one.on) (absent_moved s ok p one.task one.on) new next one.comes
       (subst (λ (t : ℕ). WeaklyComes (state_with_offline (state_after_leaving s t) p) t next) same two.comes)
 
   goes_off_keeps : (p : ℕ) (new : State) → WeaklyGoesOff s p new → IsState new
   goes_off_keeps p new (inl one) = subst IsState (sym one.1) ok
   goes_off_keeps p new (inr (inl one)) = subst IsState (sym one.1) (IsState-state_with_offline s p ok one.0.1)
   goes_off_keeps p new (inr (inr one)) =
-      comes_keeps (state_with_offline (state_after_leaving s one.task) p) (IsState-moved s ok p one.task one.on) one.task (linked_number s p one.task ok one.on) (absent_moved s ok p one.task one.on) new one.comes
+      comes_keeps (state_with_offline (state_after_leaving s one.task) p) (IsState-moved s ok p one.task one.on) one.task
+      (linked_number s p one.task ok one.on) (absent_moved s ok p one.task one.on) new one.comes
 
   comes_on_once : (p : ℕ) → p < s.processors → (new next : State) → WeaklyComesOn s p new → WeaklyComesOn s p next → new ≡ next
   comes_on_once p number new next (inl one) (inl two) = one.1 ∙ sym two.1
   comes_on_once p number new next (inl one) (inr two) = absurd (true≢false (sym one.0 ∙ two.0))
   comes_on_once p number new next (inr one) (inl two) = absurd (true≢false (sym two.0 ∙ one.0))
-  comes_on_once p number new next (inr one) (inr two) = fills_once (state_with_online s p) (IsState-state_with_online s p ok number) p new next one.1 two.1
+  comes_on_once p number new next (inr one) (inr two) =
+      fills_once (state_with_online s p) (IsState-state_with_online s p ok number) p new next one.1 two.1
 
   comes_on_keeps : (p : ℕ) → p < s.processors → (new : State) → WeaklyComesOn s p new → IsState new
   comes_on_keeps p number new (inl one) = subst IsState (sym one.1) ok

@@ -18,4 +18,5 @@ IsNobodyOnlyIn one other = (t : ℕ) → is_linked one t ≡ true → is_linked 
 pub record IsFirstOnlyIn (one other : State) (d : ℕ) : Type 0 where
   pub linked : is_linked one d ≡ true
   pub not_linked : is_linked other d ≡ false
-  pub first : (t : ℕ) → is_linked one t ≡ true → is_linked other t ≡ false → priority_of one d ≤ priority_of one t
+  pub first : (t : ℕ) → is_linked one t ≡ true → is_linked other t ≡ false
+      → priority_of one d ≤ priority_of one t

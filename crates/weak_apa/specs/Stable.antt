@@ -1,8 +1,9 @@
--- The invariant of the weak scheduler. A task looks at the processors of its own effective mask alone, so all that can be
--- asked of a waiting task is that each of these has a more urgent one.
+-- The invariant of the weak scheduler. A task looks at the processors of its own effective mask
+-- alone, so all that can be asked of a waiting task is that each of these has a more urgent one.
 use Rattle.std.specs.Prelude.{◌≡◌, ◌≢◌, ℕ, ◌<◌, IsTrue, Some}
 use Rattle.affinity_mask.specs.ProcSet.{has}
-use Rattle.strong_apa.specs.State.{State, task_count, effective_mask, task_on, IsWaiting, IsMoreUrgent}
+use Rattle.strong_apa.specs.State.{State, task_count, effective_mask, task_on, IsWaiting}
+use Rattle.strong_apa.specs.State.{IsMoreUrgent}
 
 -- the occupant of p is more urgent than w
 abbrev pub RunsMoreUrgent : State → ℕ → ℕ → Type 0
@@ -22,7 +23,8 @@ IsStableBut s x = (w : ℕ) → IsWaiting s w → w ≢ x → IsKeptOut s w
 
 -- the same, but for the processor q, which has become idle
 abbrev pub IsStableBeside : State → ℕ → Type 0
-IsStableBeside s q = (w p : ℕ) → IsWaiting s w → IsTrue (has (effective_mask s w) p) → p ≢ q → RunsMoreUrgent s p w
+IsStableBeside s q =
+    (w p : ℕ) → IsWaiting s w → IsTrue (has (effective_mask s w) p) → p ≢ q → RunsMoreUrgent s p w
 
 -- x is to be placed: it waits, and each other waiting task is kept out
 pub record IsToBePlaced (s : State) (x : ℕ) : Type 0 where

@@ -6,4 +6,5 @@ use Rattle.sched_core.specs.CoreData.{CoreData}
 
 -- a core of a set that was given no event
 abbrev pub new_core : SetData → CoreData
-new_core set = record { start = start_of set; history = []; links = start_of set; closed = false; spare = 0 }
+new_core set =
+    record { start = start_of set; history = []; links = start_of set; closed = false; spare = 0 }

@@ -1,14 +1,21 @@
--- What the weak scheduler does at an event. An arriving task goes on the least idle processor of its own effective mask;
--- where there is none it takes the processor of the least urgent task there, where that one is less urgent, and whom it
--- displaces is placed in turn; else it waits. No running task moves aside for another. When a task leaves a processor, the
--- most urgent waiting task that may run there goes on it. A ready task whose mask changes leaves, and arrives again with
--- the new mask; so does the task of a processor that goes off line; a processor that comes on line has become idle.
-use Rattle.std.specs.Prelude.{◌≡◌, ℕ, ◌<◌, ◌≤◌, ◌⊎◌, true, false, List, [], ◌∷◌, IsTrue, Option, Some, None}
+-- What the weak scheduler does at an event. An arriving task goes on the least idle processor of
+-- its own effective mask; where there is none it takes the processor of the least urgent task
+-- there, where that one is less urgent, and whom it displaces is placed in turn; else it waits. No
+-- running task moves aside for another. When a task leaves a processor, the most urgent waiting
+-- task that may run there goes on it. A ready task whose mask changes leaves, and arrives again
+-- with the new mask; so does the task of a processor that goes off line; a processor that comes on
+-- line has become idle.
+use Rattle.std.specs.Prelude.{◌≡◌, ℕ, ◌<◌, ◌≤◌, ◌⊎◌, true, false, List, [], ◌∷◌, IsTrue, Option}
+use Rattle.std.specs.Prelude.{Some, None}
 use Rattle.affinity_mask.specs.ProcSet.{has}
 use Rattle.task_set.specs.TaskSet.{IsMask}
 use Rattle.task_set.specs.declared.event.Event.{Event}
-use Rattle.task_set.specs.declared.event.Event.TheVariants.{Arrive, Depart, Tick, Affinity, Offline, Online}
-use Rattle.strong_apa.specs.State.{State, task_on, task_count, is_ready, priority_of, effective_mask, IsIdle, IsWaiting, IsMoreUrgent, state_with_ready, state_with_absent, state_with_mask, state_with_online, state_with_offline, state_after_leaving}
+use Rattle.task_set.specs.declared.event.Event.TheVariants.{Arrive, Depart, Tick, Affinity, Offline}
+use Rattle.task_set.specs.declared.event.Event.TheVariants.{Online}
+use Rattle.strong_apa.specs.State.{State, task_on, task_count, is_ready, priority_of}
+use Rattle.strong_apa.specs.State.{effective_mask, IsIdle, IsWaiting, IsMoreUrgent}
+use Rattle.strong_apa.specs.State.{state_with_ready, state_with_absent, state_with_mask}
+use Rattle.strong_apa.specs.State.{state_with_online, state_with_offline, state_after_leaving}
 use Rattle.strong_apa.specs.Chain.{CanEnterAt, Shifted}
 use Rattle.strong_apa.specs.Step.{IsOccupied, IsLeastUrgentOn}
 use Rattle.weak_apa.specs.Stable.{IsKeptOut}
@@ -25,8 +32,8 @@ pub record FindsIdle (s : State) (x : ℕ) (new : State) : Type 0 where
   pub least : (p : ℕ) → IsTrue (has (effective_mask s x) p) → IsIdle s p → place ≤ p
   pub goes : TakesProcessor s x place new
 
--- x finds no idle processor in its effective mask, and takes the processor of the least urgent task there, which is less
--- urgent
+-- x finds no idle processor in its effective mask, and takes the processor of the least urgent task
+-- there, which is less urgent
 pub record WeaklyDisplaces (s : State) (x out : ℕ) (new : State) : Type 0 where
   pub occupied : IsOccupied s (effective_mask s x)
   pub out_there : IsLeastUrgentOn s (effective_mask s x) out
@@ -39,16 +46,18 @@ pub record WeaklyDisplaces (s : State) (x out : ℕ) (new : State) : Type 0 wher
 abbrev pub KeepsWaiting : State → ℕ → State → Type 0
 KeepsWaiting s x new = IsKeptOut s x × (new ≡ s)
 
--- one turn of x, which waits: it displaces a task; or it finds an idle processor, or waits, and displaces none
+-- one turn of x, which waits: it displaces a task; or it finds an idle processor, or waits, and
+-- displaces none
 abbrev pub IsTurn : State → ℕ → Option ℕ → State → Type 0
 IsTurn s x None new = FindsIdle s x new ⊎ KeepsWaiting s x new
 IsTurn s x (Some out) new = WeaklyDisplaces s x out new
 
--- x is placed in turns: it displaces the first task of the list, which has the next turn, and so on; the last one
--- displaces none
+-- x is placed in turns: it displaces the first task of the list, which has the next turn, and so
+-- on; the last one displaces none
 abbrev pub IsPlacedInTurns : State → ℕ → List ℕ → State → Type 0
 IsPlacedInTurns s x [] new = IsTurn s x None new
-IsPlacedInTurns s x (out ∷ rest) new = (between : State) × IsTurn s x (Some out) between × IsPlacedInTurns between out rest new
+IsPlacedInTurns s x (out ∷ rest) new =
+    (between : State) × IsTurn s x (Some out) between × IsPlacedInTurns between out rest new
 
 -- t, which is absent, becomes ready, and is placed in turns
 abbrev pub WeaklyComes : State → ℕ → State → Type 0
@@ -64,9 +73,11 @@ pub record IsMostUrgentAt (s : State) (p w : ℕ) : Type 0 where
 abbrev pub IsNobodyAt : State → ℕ → Type 0
 IsNobodyAt s p = (w : ℕ) → IsWaiting s w → CanEnterAt s w p → ⊥
 
--- p has become idle in the state s: the most urgent waiting task that may run on p goes on it, or there is none
+-- p has become idle in the state s: the most urgent waiting task that may run on p goes on it, or
+-- there is none
 abbrev pub WeaklyFills : State → ℕ → State → Type 0
-WeaklyFills s p new = (IsNobodyAt s p × (new ≡ s)) ⊎ ((w : ℕ) × IsMostUrgentAt s p w × TakesProcessor s w p new)
+WeaklyFills s p new =
+    (IsNobodyAt s p × (new ≡ s)) ⊎ ((w : ℕ) × IsMostUrgentAt s p w × TakesProcessor s w p new)
 
 -- t, which is linked, leaves its processor, which another one may fill
 pub record LeavesProcessor (s : State) (t : ℕ) (new : State) : Type 0 where
@@ -80,7 +91,8 @@ WeaklyLeaves s t new = (IsWaiting s t × (new ≡ state_with_absent s t)) ⊎ Le
 
 -- t arrives: it was ready, and nothing changes, or it was absent, and comes
 abbrev pub WeaklyArrives : State → ℕ → State → Type 0
-WeaklyArrives s t new = ((is_ready s t ≡ true) × (new ≡ s)) ⊎ ((is_ready s t ≡ false) × WeaklyComes s t new)
+WeaklyArrives s t new =
+    ((is_ready s t ≡ true) × (new ≡ s)) ⊎ ((is_ready s t ≡ false) × WeaklyComes s t new)
 
 -- t departs: it was absent, and nothing changes, or it leaves
 abbrev pub WeaklyDeparts : State → ℕ → State → Type 0
@@ -94,9 +106,11 @@ pub record WeaklyRemasks (s : State) (t mask : ℕ) (new : State) : Type 0 where
 
 -- the mask of t changes
 abbrev pub WeaklyMasks : State → ℕ → ℕ → State → Type 0
-WeaklyMasks s t mask new = ((is_ready s t ≡ false) × (new ≡ state_with_mask s t mask)) ⊎ WeaklyRemasks s t mask new
+WeaklyMasks s t mask new =
+    ((is_ready s t ≡ false) × (new ≡ state_with_mask s t mask)) ⊎ WeaklyRemasks s t mask new
 
--- p was occupied: its task leaves, p goes off line while the task is absent, and the task comes back
+-- p was occupied: its task leaves, p goes off line while the task is absent, and the task comes
+-- back
 pub record WeaklyMoves (s : State) (p : ℕ) (new : State) : Type 0 where
   pub task : ℕ
   pub on : task_on s p ≡ Some task
@@ -104,22 +118,26 @@ pub record WeaklyMoves (s : State) (p : ℕ) (new : State) : Type 0 where
 
 -- p goes off line: it was off line, and nothing changes, or it was idle, or occupied
 abbrev pub WeaklyGoesOff : State → ℕ → State → Type 0
-WeaklyGoesOff s p new = ((has s.online p ≡ false) × (new ≡ s)) ⊎ ((IsIdle s p × (new ≡ state_with_offline s p)) ⊎ WeaklyMoves s p new)
+WeaklyGoesOff s p new = ((has s.online p ≡ false) × (new ≡ s))
+    ⊎ ((IsIdle s p × (new ≡ state_with_offline s p)) ⊎ WeaklyMoves s p new)
 
 -- p comes on line: it was on line, and nothing changes, or it was off line, and is filled
 abbrev pub WeaklyComesOn : State → ℕ → State → Type 0
-WeaklyComesOn s p new = ((has s.online p ≡ true) × (new ≡ s)) ⊎ ((has s.online p ≡ false) × WeaklyFills (state_with_online s p) p new)
+WeaklyComesOn s p new = ((has s.online p ≡ true) × (new ≡ s))
+    ⊎ ((has s.online p ≡ false) × WeaklyFills (state_with_online s p) p new)
 
 -- the weak scheduler's step at an event of one of the tasks or processors; a tick changes nothing
 abbrev pub WeakStep : State → Event → State → Type 0
 WeakStep s (Arrive t) new = (t < task_count s) × WeaklyArrives s t new
 WeakStep s (Depart t) new = (t < task_count s) × WeaklyDeparts s t new
 WeakStep s (Tick units) new = new ≡ s
-WeakStep s (Affinity t mask) new = (t < task_count s) × IsMask s.processors mask × WeaklyMasks s t mask new
+WeakStep s (Affinity t mask) new =
+    (t < task_count s) × IsMask s.processors mask × WeaklyMasks s t mask new
 WeakStep s (Offline p) new = (p < s.processors) × WeaklyGoesOff s p new
 WeakStep s (Online p) new = (p < s.processors) × WeaklyComesOn s p new
 
--- the event itself, before anybody is placed: who is ready, the mask of a task, which processors are on line
+-- the event itself, before anybody is placed: who is ready, the mask of a task, which processors
+-- are on line
 abbrev pub state_with_event : State → Event → State
 state_with_event s (Arrive t) = state_with_ready s t
 state_with_event s (Depart t) = state_with_absent s t

@@ -1,5 +1,5 @@
--- What holds of every step of the weak scheduler, whatever program takes it. Each law is proved as the contract of a function of
--- `laws`.
+-- What holds of every step of the weak scheduler, whatever program takes it. Each law is proved as
+-- the contract of a function of `laws`.
 use Rattle.std.specs.Prelude.{◌≡◌}
 use Rattle.task_set.specs.declared.event.Event.{Event}
 use Rattle.strong_apa.specs.State.{State, IsState}
@@ -7,8 +7,10 @@ use Rattle.weak_apa.specs.Step.{WeakStep}
 
 -- one state and one event have at most one new state
 abbrev pub WeakStepIsUnique : Type 0
-WeakStepIsUnique = (s : State) (event : Event) (new next : State) → IsState s → WeakStep s event new → WeakStep s event next → new ≡ next
+WeakStepIsUnique = (s : State) (event : Event) (new next : State) → IsState s → WeakStep s event new
+    → WeakStep s event next → new ≡ next
 
 -- a step leads from a state to a state
 abbrev pub WeakStepKeepsState : Type 0
-WeakStepKeepsState = (s : State) (event : Event) (new : State) → IsState s → WeakStep s event new → IsState new
+WeakStepKeepsState =
+    (s : State) (event : Event) (new : State) → IsState s → WeakStep s event new → IsState new

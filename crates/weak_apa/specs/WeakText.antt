@@ -1,6 +1,7 @@
--- The text of a comparison: a header, the number of events, a line for each event, and the end. The line of an event has
--- the numbers of tasks that the weak and the strong scheduler have linked after it, and the name of the most urgent task
--- that just one of them has linked, or `-` where there is none.
+-- The text of a comparison: a header, the number of events, a line for each event, and the end. The
+-- line of an event has the numbers of tasks that the weak and the strong scheduler have linked
+-- after it, and the name of the most urgent task that just one of them has linked, or `-` where
+-- there is none.
 use Rattle.std.specs.Prelude.{◌≡◌, ℕ, List, ◌++◌, codes, length, map, Option, Some, None}
 use Rattle.std.specs.List.{flat_map}
 use Rattle.affinity_mask.specs.Number.{canonical_number}
@@ -18,7 +19,9 @@ name_or_dash set (Some t) = name_of set t
 
 -- the line of an event
 unfoldable pub comparison_line : SetData → Comparison → List ℕ
-comparison_line set found = line (canonical_number found.weak ++ codes " " ++ canonical_number found.strong ++ codes " " ++ name_or_dash set found.first)
+comparison_line set found = line
+    (canonical_number found.weak ++ codes " " ++ canonical_number found.strong ++ codes " "
+    ++ name_or_dash set found.first)
 
 -- the lines before those of the events
 abbrev pub weak_heading : ℕ → List ℕ
@@ -26,7 +29,8 @@ weak_heading count = line (codes "weak 1") ++ line (codes "entries " ++ canonica
 
 -- the whole text
 abbrev pub weak_text : SetData → List Comparison → List ℕ
-weak_text set found = weak_heading (length found) ++ flat_map (comparison_line set) found ++ line (codes "end")
+weak_text set found =
+    weak_heading (length found) ++ flat_map (comparison_line set) found ++ line (codes "end")
 
 -- the text of the comparison of these events
 pub record IsWeakTextOf (set : SetData) (events : List Posted) (text : List ℕ) : Type 0 where

@@ -10,7 +10,7 @@ pub struct Case {
     /// What it shows.
     pub name: String,
     /// What is done, one after another.
-    pub stages: Vec<Stage>,
+    pub stages: Vec<CaseStage>,
     /// How each source gives bytes.
     pub takes: Pieces,
     /// How each sink takes bytes.
@@ -33,7 +33,7 @@ pub struct Case {
 
 /// What is done with a text.
 #[derive(Drop)]
-pub struct Stage {
+pub struct CaseStage {
     /// As the case says it.
     pub words: String,
     pub deed: Deed,
@@ -72,7 +72,7 @@ impl Pieces {
 
 impl Case {
     /// It has no text, and its streams do not fail.
-    pub fn new(alloc: Global, name: String, stages: Vec<Stage>) -> Case {
+    pub fn new(alloc: Global, name: String, stages: Vec<CaseStage>) -> Case {
         Case {
             name,
             stages,

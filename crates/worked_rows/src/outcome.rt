@@ -1,5 +1,5 @@
 //! What comes of a case.
-use crate::case::{Case, Deed, Stage};
+use crate::case::{Case, CaseStage, Deed};
 use crate::gate::{CaseGate, Place};
 use crate::put::{write_answer, write_put};
 use crate::streams::{is_in_order, spread};
@@ -117,7 +117,7 @@ impl<'a> Progress<'a> {
         rt: &R,
         alloc: Global,
         case: &Case,
-        stage: &Stage,
+        stage: &CaseStage,
     ) -> Result<bool, AllocError> {
         match &stage.deed {
             Deed::Call(words) => {

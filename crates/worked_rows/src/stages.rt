@@ -1,12 +1,12 @@
 //! The stages of a case.
-use crate::case::{Deed, Stage};
+use crate::case::{CaseStage, Deed};
 use crate::fault::LineFault;
 use crate::holds::read_place;
 use crate::reading::read_number;
 use std::alloc::{AllocError, Global};
 
 /// The stages of a case, which stand between bars.
-pub fn read_stages(alloc: Global, text: &str) -> Result<Vec<Stage>, LineFault> {
+pub fn read_stages(alloc: Global, text: &str) -> Result<Vec<CaseStage>, LineFault> {
     let mut stages = Vec::new(alloc);
     for words in text.split(" | ") {
         stages.push(read_stage(alloc, words)?)?;
@@ -14,10 +14,10 @@ pub fn read_stages(alloc: Global, text: &str) -> Result<Vec<Stage>, LineFault> {
     Ok(stages)
 }
 
-fn read_stage(alloc: Global, words: &str) -> Result<Stage, LineFault> {
+fn read_stage(alloc: Global, words: &str) -> Result<CaseStage, LineFault> {
     let deed = read_deed(alloc, words)?;
     let words = String::from_str(alloc, words)?;
-    Ok(Stage { words, deed })
+    Ok(CaseStage { words, deed })
 }
 
 /// Words in parentheses are no call.

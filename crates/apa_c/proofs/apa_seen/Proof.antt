@@ -8,7 +8,8 @@ use mir.Val.{vint, vptr}
 use contract.Monad.{fact}
 use contract.Running.{tables}
 use prog.Wp.{WpFn}
-use types.Kit.{‵, raw, ◌⊛◌, some, later, prop, ◌$◌, ◌∵◌, !, qed, done, move, keep, drop, use1, use3, split, join, fsplit, fjoin, fpack, pick, await, regoal, suffices, group}
+use types.Kit.{‵, raw, ◌⊛◌, some, later, prop, ◌$◌, ◌∵◌, !, qed, done, move, keep, drop, use1, use3, split, join, fsplit, fjoin, fpack}
+use types.Kit.{pick, await, regoal, suffices, group}
 use types.Tokens.{lft_new, lft_end}
 use types.Run.{enter, of_opd, addr, stop, no_more, and_then, returns}
 use types.ByLocal.{alloc_all, pass_all, free_all, look_at, get, through, sets, lands_as}
@@ -45,31 +46,57 @@ stayed = (stay_dropped _ yes, (stay_dropped _ yes, (stay_dropped _ yes, tt)))
 pub apa_seen_spec : {M : Type 1} → statement M
 apa_seen_spec 𝓤 𝓛 𝓜 𝓡 wired =
     let c = f.clauses 𝓛 𝓜.mem 𝓡.returns in let W = walk_of 𝓛 f.ended stayed c in let 𝓣 = tables 𝓤 𝓛.H 𝓜 𝓡 𝓡.env in
-    proved 𝓛 f.ended stayed c 𝓜 𝓡 (Goes-dropped 𝓛 0 (plain (λ _. RawPtr)) yes (λ κs x w. refl), (Goes-dropped 𝓛 0 (plain (λ _. u32)) yes (λ κs x w. refl), (Goes-dropped 𝓛 0 (plain (λ _. u32)) yes (λ κs x w. refl), tt)))
+    proved 𝓛 f.ended stayed c 𝓜 𝓡 (
+      Goes-dropped 𝓛 0 (plain (λ _. RawPtr)) yes (λ κs x w. refl),
+      (Goes-dropped 𝓛 0 (plain (λ _. u32)) yes (λ κs x w. refl), (Goes-dropped 𝓛 0 (plain (λ _. u32)) yes (λ κs x w. refl), tt)),
+    )
     f.Key.name code.function (code.unfolded 𝓤 𝓛.H 𝓜 𝓡 wired)
-    (λ κs. (rawptr_vals, (uint_vals w32, (uint_vals w32, tt)))) (λ κs. (rawptr_Tells, (uint_Tells w32, (uint_Tells w32, tt)))) (λ κs qs bounds a value are.
+    (λ κs. (rawptr_vals, (uint_vals w32, (uint_vals w32, tt)))) (λ κs. (rawptr_Tells, (uint_Tells w32, (uint_Tells w32, tt))))
+    (λ κs qs bounds a value are.
     let task = a.1.0 in let task-fits = are.1.0.1 in
     let place = a.1.1.0 in let place-fits = are.1.1.0.1 in
-    let y : Ptr → W.Ghost = λ at. ((κs, qs, bounds, (at, (task, (place, tt))), (rawptr_vals at, (uint_vals w32 task, (uint_vals w32 place, tt)))), value) in
+    let y : Ptr → W.Ghost = λ at. (
+      (
+        κs,
+        qs,
+        bounds,
+        (at, (task, (place, tt))),
+        (rawptr_vals at, (uint_vals w32 task, (uint_vals w32 place, tt))),
+      ),
+      value,
+    ) in
     qed 𝓛 (raw (on_entry 𝓛 f.signature κs qs a (y a.0).0.4) ∷ ‵ (apa_at a.0 value) ∷ []) ∵ drop ! $
     in_a_block ! a.0 (λ p. apa_at p value) (id⊢ 𝓤 _) (λ b o e.
     regoal ! (λ p. prop (WpFn 𝓤 𝓛.H 𝓣.C 𝓣.Λ code.function (rawptr_vals p ++ (vint w32 task ∷ vint w32 place ∷ [])) (W.post (y p)))) e refl $
-    enter ! _ _ _ _ _ $ alloc_all ! (λ l. pass_all ! refl ((tt, tt), ((tt, record { fits = task-fits }), ((tt, record { fits = place-fits }), tt))) $
+    enter ! _ _ _ _ _ $ alloc_all ! (λ l. pass_all ! refl
+    ((tt, tt), ((tt, record { fits = task-fits }), ((tt, record { fits = place-fits }), tt))) $
     lft_new ! tt (λ α. let κ : List ℕ = α ∷ [] in move ! (1 ∷ []) $
-    use1 𝓛 (later (some (λ (γ : ℕ). ‵ ((MutRef (named 0) κ R).own_val (record { ref_ptr = (b, o); ghost_name = γ; now = value }) (vptr b o ∷ [])) ⊛ ‵ (flent κ (Body (mem R) b o γ)))))
+    use1 𝓛 (later (some (λ (γ : ℕ). ‵ ((MutRef (named 0) κ R).own_val (record { ref_ptr = (b, o); ghost_name = γ; now = value })
+    (vptr b o ∷ [])) ⊛ ‵ (flent κ (Body (mem R) b o γ)))))
     (lends_ref 𝓛 R (named 0) κ value b o) $ await ! tt $ pick ! (λ γ. split ! $
     -- [the loan; what the lender keeps; the token]
     sets ! (of_opd ! (get ! refl)) refl (tt, tt) $
     sets ! (addr ! (through ! refl (stop !))) refl (tt, tt) $
     let G = triple_of 𝓛 g.signature (g.spec 𝓛 𝓜.mem 𝓡.returns) in
     let lent : MutBor Apa = record { ref_ptr = (b, o); ghost_name = γ; now = value } in
-    let z : G.Ghost = (((κ, tt), (full_share, tt), tt, (lent, (task, (place, tt))), (vptr b o ∷ [], (vint w32 task ∷ [], (vint w32 place ∷ [], tt)))), tt) in
-    nothing ! $ owned ! u32 _ (uint_Makes 𝓛 w32) place _ (refl, place-fits) $ fjoin ! $ owned ! u32 _ (uint_Makes 𝓛 w32) task _ (refl, task-fits) $ fjoin ! $ move ! (1 ∷ 0 ∷ []) $ fjoin ! $
+    let z : G.Ghost = (
+      (
+        (κ, tt),
+        (full_share, tt),
+        tt,
+        (lent, (task, (place, tt))),
+        (vptr b o ∷ [], (vint w32 task ∷ [], (vint w32 place ∷ [], tt))),
+      ),
+      tt,
+    ) in
+    nothing ! $ owned ! u32 _ (uint_Makes 𝓛 w32) place _ (refl, place-fits) $ fjoin ! $ owned ! u32 _ (uint_Makes 𝓛 w32) task _
+    (refl, task-fits) $ fjoin ! $ move ! (1 ∷ 0 ∷ []) $ fjoin ! $
     nothing ! $ move ! (3 ∷ 0 ∷ []) $ join ! $ join ! $ nothing ! $ move ! (1 ∷ 0 ∷ []) $ join ! $ use1 𝓛 (raw (G.pre z)) (id⊢ 𝓤 _) $
     calls_at ! (framed 𝓤 𝓛.H 𝓜 (tables 𝓤 𝓛.H 𝓜 𝓡 𝓡.env)) G (met 𝓤 𝓛 𝓜 𝓡 (code.calls-apa_c::table::seen 𝓡.env wired)) z
     (and_then ! (get ! refl) (and_then ! (get ! refl) (and_then ! (get ! refl) (no_more !)))) (λ v.
     use1 𝓛 (later (some (λ (r : ℕ). ((‵ (flft κ full_share) ⊛ ‵ ftrue) ⊛ ‵ (u32.own_val r (v ∷ []))) ⊛
-    some (λ (ws : Apa × (Unit {0} × (Unit {0} × Unit {0}))). ‵ (lasts g.ended z.0.0 z.0.3 ws) ⊛ raw (fact 𝓤 (Seen value task place r ws.0)))))) (id⊢ 𝓤 _) $
+    some (λ (ws : Apa × (Unit {0} × (Unit {0} × Unit {0}))). ‵ (lasts g.ended z.0.0 z.0.3 ws) ⊛ raw
+    (fact 𝓤 (Seen value task place r ws.0)))))) (id⊢ 𝓤 _) $
     await ! tt $ pick ! (λ r. split ! $ split ! $ split ! $ lft_end ! tt $ move ! (2 ∷ []) $
     peeks ! u32 (Is u32) (shows 𝓛 u32) r (v ∷ []) (λ is. lands_as ! refl refl ((uint_Lawful 𝓛 w32).typed r _ is).0 $
     -- [the result; α is over; nothing; the rest; what the lender keeps]

@@ -3,7 +3,7 @@ ghost use Rattle.std.specs.Prelude.{◌≡◌, ◌++◌, ◌∷◌, [], true, le
 ghost use mathlib.Core.List.{IsPrefix};
 ghost use Rattle.left_right.specs.Sides.{view};
 ghost use Rattle.schedule_board.specs.Pictures.{IsPictureOf};
-ghost use Rattle.schedule_board.specs.Views.{Fits};
+ghost use Rattle.schedule_board.specs.Views.{HasSeenPrefix};
 ghost use Rattle.schedule_board.specs.Boards.{board_at, seen, told, looks};
 
 use super::Observer;
@@ -38,7 +38,7 @@ fn look<R: Wait>(place: Place, rt: &R) -> (Place, Shown)
     ensures seen { ((view result.0.place).seen ≡ result.1.reached)
         × ((view result.0.place).bound ≡ true)
         × ((view result.0.place).processors ≡ result.1.picture.occupants.processors) }
-    ensures kept { Fits result.1 (view place.place) }
+    ensures kept { HasSeenPrefix result.1 (view place.place) }
     ensures looks { (view result.0.place).looks
         ≡ (view place.place).looks ++ length result.1.reached.log ∷ [] }
 {

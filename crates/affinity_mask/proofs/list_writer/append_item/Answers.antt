@@ -9,7 +9,9 @@ returns-clause-written c =
     on_ok_weaker c.append_run.result
     (λ e. e ∙ item_appended c.args.is_first c.args.low c.args.high c.args.into.now.items c.if-not-is_first.into.items
     (elim c.if-not-is_first.branch [
-      | then-not-is_first+in_ok-push w ↦ rw w.if-not-is_first.true (ap (λ (v : Vec ℕ Global). v.items) w.into-is ∙ w.in_ok-push.ensures.items)
-      | else-not-is_first w ↦ rw w.if-not-is_first.false (ap (λ (v : Vec ℕ Global). v.items) w.into-is ∙ sym (append-nil c.args.into.now.items))
+      | then-not-is_first+in_ok-push w ↦ rw w.if-not-is_first.true
+          (ap (λ (v : Vec ℕ Global). v.items) w.into-is ∙ w.in_ok-push.ensures.items)
+      | else-not-is_first w ↦ rw w.if-not-is_first.false
+          (ap (λ (v : Vec ℕ Global). v.items) w.into-is ∙ sym (append-nil c.args.into.now.items))
     ]))
     c.append_run.ensures.written

@@ -15,7 +15,16 @@ pub returns-then-value-gt63 : goal.returns-then-value-gt63
 returns-then-value-gt63 c =
     let i = c.loop-digit.digit-index in
     let number = c.args.number.now in
-    omega (arith, c.if-value-gt63.true, value-more number i c.loop-digit.value c.requires.1 c.loop-digit-test.true c.loop-digit.invariant.0, digits_value-take-le 10 number (i + 1) (omega arith))
+    omega (
+      arith,
+      c.if-value-gt63.true,
+      value-more number i c.loop-digit.value c.requires.1 c.loop-digit-test.true c.loop-digit.invariant.0,
+      digits_value-take-le 10 number (i + 1) (omega arith),
+    )
 
 pub loop-digit-preserved : goal.loop-digit-preserved
-loop-digit-preserved c = (value-more c.args.number.now c.loop-digit.digit-index c.loop-digit.value c.requires.1 c.loop-digit-test.true c.loop-digit.invariant.0, c.if-value-gt63.false)
+loop-digit-preserved c = (
+  value-more c.args.number.now c.loop-digit.digit-index c.loop-digit.value c.requires.1 c.loop-digit-test.true
+      c.loop-digit.invariant.0,
+  c.if-value-gt63.false,
+)

@@ -10,9 +10,11 @@ use Rattle.commands.specs.Check.{RefusesCheck}
 use Rattle.commands.specs.NestedRun.{RefusesNested}
 use Rattle.commands.specs.Status.{BeforePut}
 use Rattle.command_line.specs.declared.words.Command.{Command}
-use Rattle.command_line.specs.declared.words.Command.TheVariants.{Run, Check, Weak, Nested, Jobs, WeakJobs, RunJobs, Watch, Import, ImportJobs, Draw, Chrome, Lost, Make, Large}
+use Rattle.command_line.specs.declared.words.Command.TheVariants.{Run, Check, Weak, Nested, Jobs, WeakJobs, RunJobs, Watch, Import}
+use Rattle.command_line.specs.declared.words.Command.TheVariants.{ImportJobs, Draw, Chrome, Lost, Make, Large}
 use Rattle.command_line.specs.Command.{IsCommand, Reads, Refuses, ReadsRefused}
-use Rattle.command_line.proofs.CommandBytes.{one_command, read_is_expected, never_too_long, too_long_said, within_said, takes_said, left_out}
+use Rattle.command_line.proofs.CommandBytes.{one_command, read_is_expected, never_too_long, too_long_said, within_said, takes_said}
+use Rattle.command_line.proofs.CommandBytes.{left_out}
 use Rattle.command_line.proofs.call.run.Goals as goal
 
 -- a failure is no answer
@@ -104,18 +106,22 @@ is_refusal Lost read told refused = input_refusal _ told refused
 is_refusal (Make sizes) read told refused = absurd refused
 is_refusal (Large sizes) read told refused = absurd refused
 
-refusal_told : (command : Command) (read : List ℕ) (told : Status) → Refuses command read told ⊎ (told ≡ status.OutOfMemory) → IsRefusal told
+refusal_told : (command : Command) (read : List ℕ) (told : Status) → Refuses command read told ⊎ (told ≡ status.OutOfMemory)
+    → IsRefusal told
 refusal_told command read told (inl refused) = is_refusal command read told refused
 refusal_told command read told (inr memory) = rw memory tt
 
 -- a status of another kind is none of a text that is refused: where `other` is such a one, this is ⊥
-refusal_is : (command : Command) (read : List ℕ) (told other : Status) → Refuses command read told ⊎ (told ≡ status.OutOfMemory) → told ≡ other → IsRefusal other
+refusal_is : (command : Command) (read : List ℕ) (told other : Status) → Refuses command read told ⊎ (told ≡ status.OutOfMemory)
+    → told ≡ other → IsRefusal other
 refusal_is command read told other refused is = subst IsRefusal is (refusal_told command read told refused)
 
 -- the text that was read is refused, unless memory is out
-refused_said : (words : List (List ℕ)) (command : Command) (old new : Option (List ℕ)) (read seen : List ℕ) (told : Status) → IsCommand words command → Reads command old new read → seen ≡ read
+refused_said : (words : List (List ℕ)) (command : Command) (old new : Option (List ℕ)) (read seen : List ℕ) (told : Status)
+    → IsCommand words command → Reads command old new read → seen ≡ read
     → Refuses command seen told ⊎ (told ≡ status.OutOfMemory) → (told ≡ status.OutOfMemory → ⊥) → ReadsRefused words old new told
-refused_said words command old new read seen told spoken reads same (inl refused) some = record { command = command; spoken = spoken; read = read; reads = reads; refused = rw same at refused }
+refused_said words command old new read seen told spoken reads same (inl refused) some =
+    record { command = command; spoken = spoken; read = read; reads = reads; refused = rw same at refused }
 refused_said words command old new read seen told spoken reads same (inr memory) some = absurd (some memory)
 
 -- what stands as it was before bytes are put does so at each status
@@ -156,31 +162,40 @@ returns-in-Err-ReadFault g c = record {
   done = λ is. absurd (alike status.ReadFault status.Done is tt);
   usage = (λ is. absurd (alike status.ReadFault status.Usage is tt), λ none. absurd (none c.in-Some.command c.in-Some.ensures));
   unread = λ is. absurd (alike status.ReadFault status.Usage is tt);
-  nothing_to_read = λ command spoken nothing. c.in-Err-ReadFault.ensures.untouched (rw (one_command _ c.in-Some.command command c.in-Some.ensures spoken) nothing);
+  nothing_to_read = λ command spoken nothing. c.in-Err-ReadFault.ensures.untouched
+      (rw (one_command _ c.in-Some.command command c.in-Some.ensures spoken) nothing);
   read_fault = λ is. c.in-Err-ReadFault.ensures.read_fault (ap Err c.in-Err-ReadFault.field-0-is);
   too_long = λ most is. absurd (alike status.ReadFault (status.TooLong most) is tt);
-  within = λ command spoken short. within_said _ c.in-Some.command command _ _ c.in-Some.ensures spoken (left_out (read_fault_is_not_long _ c.in-Err-ReadFault.field-0-is) c.in-Err-ReadFault.ensures.within);
+  within = λ command spoken short. within_said _ c.in-Some.command command _ _ c.in-Some.ensures spoken
+      (left_out (read_fault_is_not_long _ c.in-Err-ReadFault.field-0-is) c.in-Err-ReadFault.ensures.within);
   input = λ line kind is. absurd (alike status.ReadFault (status.Input line kind) is tt);
   version = λ is. absurd (alike status.ReadFault status.Version is tt);
   crossing = λ one other is. absurd (alike status.ReadFault (status.Crossing one other) is tt);
   invalid = λ line defect is. absurd (alike status.ReadFault (status.Invalid line defect) is tt);
   write_fault = λ is. absurd (alike status.ReadFault status.WriteFault is tt);
   takes = λ command spoken. takes_said _ c.in-Some.command command _ _ c.in-Some.ensures spoken c.in-Err-ReadFault.ensures.takes;
-  complete = λ command read spoken to_read accepted calm loud. absurd (calm (c.in-Err-ReadFault.ensures.read_fault (ap Err c.in-Err-ReadFault.field-0-is)));
-  refuses = λ command read expected spoken to_read why calm. absurd (calm (c.in-Err-ReadFault.ensures.read_fault (ap Err c.in-Err-ReadFault.field-0-is)));
+  complete = λ command read spoken to_read accepted calm loud. absurd
+      (calm (c.in-Err-ReadFault.ensures.read_fault (ap Err c.in-Err-ReadFault.field-0-is)));
+  refuses = λ command read expected spoken to_read why calm. absurd
+      (calm (c.in-Err-ReadFault.ensures.read_fault (ap Err c.in-Err-ReadFault.field-0-is)));
   unput = refl;
 }
 
 pub returns-in-Err-TooLong : goal.returns-in-Err-TooLong
 returns-in-Err-TooLong g c = record {
   done = λ is. absurd (alike (status.TooLong c.limit_of.result) status.Done is tt);
-  usage = (λ is. absurd (alike (status.TooLong c.limit_of.result) status.Usage is tt), λ none. absurd (none c.in-Some.command c.in-Some.ensures));
+  usage = (
+    λ is. absurd (alike (status.TooLong c.limit_of.result) status.Usage is tt),
+    λ none. absurd (none c.in-Some.command c.in-Some.ensures),
+  );
   unread = λ is. absurd (alike (status.TooLong c.limit_of.result) status.Usage is tt);
-  nothing_to_read = λ command spoken nothing. c.in-Err-TooLong.ensures.untouched (rw (one_command _ c.in-Some.command command c.in-Some.ensures spoken) nothing);
+  nothing_to_read = λ command spoken nothing. c.in-Err-TooLong.ensures.untouched
+      (rw (one_command _ c.in-Some.command command c.in-Some.ensures spoken) nothing);
   read_fault = λ is. absurd (alike (status.TooLong c.limit_of.result) status.ReadFault is tt);
   too_long = λ most same command spoken.
       let found : c.limit_of.result ≡ most = most_said _ _ same in
-      too_long_said _ c.in-Some.command command _ _ most c.in-Some.ensures spoken (sym found ∙ c.limit_of.ensures) (c.in-Err-TooLong.ensures.too_long (ap Err c.in-Err-TooLong.field-0-is));
+      too_long_said _ c.in-Some.command command _ _ most c.in-Some.ensures spoken (sym found ∙ c.limit_of.ensures)
+      (c.in-Err-TooLong.ensures.too_long (ap Err c.in-Err-TooLong.field-0-is));
   within = λ command spoken short. absurd (short _ refl);
   input = λ line kind is. absurd (alike (status.TooLong c.limit_of.result) (status.Input line kind) is tt);
   version = λ is. absurd (alike (status.TooLong c.limit_of.result) status.Version is tt);
@@ -190,11 +205,15 @@ returns-in-Err-TooLong g c = record {
   takes = λ command spoken. takes_said _ c.in-Some.command command _ _ c.in-Some.ensures spoken c.in-Err-TooLong.ensures.takes;
   complete = λ command read spoken to_read accepted calm loud.
       let which : c.in-Some.command ≡ command = one_command _ c.in-Some.command command c.in-Some.ensures spoken in
-      let never : ⊥ = never_too_long command _ _ read to_read (λ nothing. never_ok c.in-Err-TooLong.field-0 (c.in-Err-TooLong.ensures.nothing (rw which nothing))) (rw which at (c.in-Err-TooLong.ensures.too_long (ap Err c.in-Err-TooLong.field-0-is))) in
+      let never : ⊥ = never_too_long command _ _ read to_read
+      (λ nothing. never_ok c.in-Err-TooLong.field-0 (c.in-Err-TooLong.ensures.nothing (rw which nothing)))
+      (rw which at (c.in-Err-TooLong.ensures.too_long (ap Err c.in-Err-TooLong.field-0-is))) in
       absurd never;
   refuses = λ command read expected spoken to_read why calm.
       let which : c.in-Some.command ≡ command = one_command _ c.in-Some.command command c.in-Some.ensures spoken in
-      let never : ⊥ = never_too_long command _ _ read to_read (λ nothing. never_ok c.in-Err-TooLong.field-0 (c.in-Err-TooLong.ensures.nothing (rw which nothing))) (rw which at (c.in-Err-TooLong.ensures.too_long (ap Err c.in-Err-TooLong.field-0-is))) in
+      let never : ⊥ = never_too_long command _ _ read to_read
+      (λ nothing. never_ok c.in-Err-TooLong.field-0 (c.in-Err-TooLong.ensures.nothing (rw which nothing)))
+      (rw which at (c.in-Err-TooLong.ensures.too_long (ap Err c.in-Err-TooLong.field-0-is))) in
       absurd never;
   unput = refl;
 }
@@ -204,10 +223,12 @@ returns-in-Err-OutOfMemory g c = record {
   done = λ is. absurd (alike status.OutOfMemory status.Done is tt);
   usage = (λ is. absurd (alike status.OutOfMemory status.Usage is tt), λ none. absurd (none c.in-Some.command c.in-Some.ensures));
   unread = λ is. absurd (alike status.OutOfMemory status.Usage is tt);
-  nothing_to_read = λ command spoken nothing. c.in-Err-OutOfMemory.ensures.untouched (rw (one_command _ c.in-Some.command command c.in-Some.ensures spoken) nothing);
+  nothing_to_read = λ command spoken nothing. c.in-Err-OutOfMemory.ensures.untouched
+      (rw (one_command _ c.in-Some.command command c.in-Some.ensures spoken) nothing);
   read_fault = λ is. absurd (alike status.OutOfMemory status.ReadFault is tt);
   too_long = λ most is. absurd (alike status.OutOfMemory (status.TooLong most) is tt);
-  within = λ command spoken short. within_said _ c.in-Some.command command _ _ c.in-Some.ensures spoken (left_out (memory_is_not_long _ c.in-Err-OutOfMemory.field-0-is) c.in-Err-OutOfMemory.ensures.within);
+  within = λ command spoken short. within_said _ c.in-Some.command command _ _ c.in-Some.ensures spoken
+      (left_out (memory_is_not_long _ c.in-Err-OutOfMemory.field-0-is) c.in-Err-OutOfMemory.ensures.within);
   input = λ line kind is. absurd (alike status.OutOfMemory (status.Input line kind) is tt);
   version = λ is. absurd (alike status.OutOfMemory status.Version is tt);
   crossing = λ one other is. absurd (alike status.OutOfMemory (status.Crossing one other) is tt);
@@ -222,16 +243,25 @@ returns-in-Err-OutOfMemory g c = record {
 pub returns-in-Err : goal.returns-in-Err
 returns-in-Err g c = record {
   done = λ is. absurd (refusal_is c.in-Some.command _ _ status.Done c.in-Err.ensures.refused is);
-  usage = (λ is. absurd (refusal_is c.in-Some.command _ _ status.Usage c.in-Err.ensures.refused is), λ none. absurd (none c.in-Some.command c.in-Some.ensures));
+  usage = (
+    λ is. absurd (refusal_is c.in-Some.command _ _ status.Usage c.in-Err.ensures.refused is),
+    λ none. absurd (none c.in-Some.command c.in-Some.ensures),
+  );
   unread = λ is. absurd (refusal_is c.in-Some.command _ _ status.Usage c.in-Err.ensures.refused is);
-  nothing_to_read = λ command spoken nothing. c.in-Ok.ensures.untouched (rw (one_command _ c.in-Some.command command c.in-Some.ensures spoken) nothing);
+  nothing_to_read = λ command spoken nothing. c.in-Ok.ensures.untouched
+      (rw (one_command _ c.in-Some.command command c.in-Some.ensures spoken) nothing);
   read_fault = λ is. absurd (refusal_is c.in-Some.command _ _ status.ReadFault c.in-Err.ensures.refused is);
   too_long = λ most is. absurd (refusal_is c.in-Some.command _ _ (status.TooLong most) c.in-Err.ensures.refused is);
-  within = λ command spoken short. within_said _ c.in-Some.command command _ _ c.in-Some.ensures spoken (left_out (ok_is_not_long _) c.in-Ok.ensures.within);
-  input = λ line kind is. refused_said _ c.in-Some.command _ _ _ _ _ c.in-Some.ensures c.in-Ok.ensures.reads c.deref.ensures.value c.in-Err.ensures.refused (λ memory. alike (status.Input line kind) status.OutOfMemory (sym is ∙ memory) tt);
-  version = λ is. refused_said _ c.in-Some.command _ _ _ _ _ c.in-Some.ensures c.in-Ok.ensures.reads c.deref.ensures.value c.in-Err.ensures.refused (λ memory. alike status.Version status.OutOfMemory (sym is ∙ memory) tt);
-  crossing = λ one other is. refused_said _ c.in-Some.command _ _ _ _ _ c.in-Some.ensures c.in-Ok.ensures.reads c.deref.ensures.value c.in-Err.ensures.refused (λ memory. alike (status.Crossing one other) status.OutOfMemory (sym is ∙ memory) tt);
-  invalid = λ line defect is. refused_said _ c.in-Some.command _ _ _ _ _ c.in-Some.ensures c.in-Ok.ensures.reads c.deref.ensures.value c.in-Err.ensures.refused (λ memory. alike (status.Invalid line defect) status.OutOfMemory (sym is ∙ memory) tt);
+  within = λ command spoken short. within_said _ c.in-Some.command command _ _ c.in-Some.ensures spoken
+      (left_out (ok_is_not_long _) c.in-Ok.ensures.within);
+  input = λ line kind is. refused_said _ c.in-Some.command _ _ _ _ _ c.in-Some.ensures c.in-Ok.ensures.reads c.deref.ensures.value
+      c.in-Err.ensures.refused (λ memory. alike (status.Input line kind) status.OutOfMemory (sym is ∙ memory) tt);
+  version = λ is. refused_said _ c.in-Some.command _ _ _ _ _ c.in-Some.ensures c.in-Ok.ensures.reads c.deref.ensures.value
+      c.in-Err.ensures.refused (λ memory. alike status.Version status.OutOfMemory (sym is ∙ memory) tt);
+  crossing = λ one other is. refused_said _ c.in-Some.command _ _ _ _ _ c.in-Some.ensures c.in-Ok.ensures.reads c.deref.ensures.value
+      c.in-Err.ensures.refused (λ memory. alike (status.Crossing one other) status.OutOfMemory (sym is ∙ memory) tt);
+  invalid = λ line defect is. refused_said _ c.in-Some.command _ _ _ _ _ c.in-Some.ensures c.in-Ok.ensures.reads c.deref.ensures.value
+      c.in-Err.ensures.refused (λ memory. alike (status.Invalid line defect) status.OutOfMemory (sym is ∙ memory) tt);
   write_fault = λ is. absurd (refusal_is c.in-Some.command _ _ status.WriteFault c.in-Err.ensures.refused is);
   takes = λ command spoken. takes_said _ c.in-Some.command command _ _ c.in-Some.ensures spoken c.in-Ok.ensures.takes;
   complete = λ command read spoken to_read accepted calm loud.
@@ -249,13 +279,15 @@ pub returns-clause-done : goal.returns-clause-done
 returns-clause-done g c = λ is. absurd (alike status.WriteFault status.Done is tt)
 
 pub returns-clause-usage : goal.returns-clause-usage
-returns-clause-usage g c = (λ is. absurd (alike status.WriteFault status.Usage is tt), λ none. absurd (none c.in-Some.command c.in-Some.ensures))
+returns-clause-usage g c =
+    (λ is. absurd (alike status.WriteFault status.Usage is tt), λ none. absurd (none c.in-Some.command c.in-Some.ensures))
 
 pub returns-clause-unread : goal.returns-clause-unread
 returns-clause-unread g c = λ is. absurd (alike status.WriteFault status.Usage is tt)
 
 pub returns-clause-nothing_to_read : goal.returns-clause-nothing_to_read
-returns-clause-nothing_to_read g c = λ command spoken nothing. c.in-Ok.ensures.untouched (rw (one_command _ c.in-Some.command command c.in-Some.ensures spoken) nothing)
+returns-clause-nothing_to_read g c = λ command spoken nothing. c.in-Ok.ensures.untouched
+    (rw (one_command _ c.in-Some.command command c.in-Some.ensures spoken) nothing)
 
 pub returns-clause-read_fault : goal.returns-clause-read_fault
 returns-clause-read_fault g c = λ is. absurd (alike status.WriteFault status.ReadFault is tt)
@@ -279,13 +311,15 @@ pub returns-clause-unput : goal.returns-clause-unput
 returns-clause-unput g c = tt
 
 pub returns-in-Ok-put_all-clause-usage : goal.returns-in-Ok-put_all-clause-usage
-returns-in-Ok-put_all-clause-usage g c = (λ is. absurd (alike status.Done status.Usage is tt), λ none. absurd (none c.in-Some.command c.in-Some.ensures))
+returns-in-Ok-put_all-clause-usage g c =
+    (λ is. absurd (alike status.Done status.Usage is tt), λ none. absurd (none c.in-Some.command c.in-Some.ensures))
 
 pub returns-in-Ok-put_all-clause-unread : goal.returns-in-Ok-put_all-clause-unread
 returns-in-Ok-put_all-clause-unread g c = λ is. absurd (alike status.Done status.Usage is tt)
 
 pub returns-in-Ok-put_all-clause-nothing_to_read : goal.returns-in-Ok-put_all-clause-nothing_to_read
-returns-in-Ok-put_all-clause-nothing_to_read g c = λ command spoken nothing. c.in-Ok.ensures.untouched (rw (one_command _ c.in-Some.command command c.in-Some.ensures spoken) nothing)
+returns-in-Ok-put_all-clause-nothing_to_read g c = λ command spoken nothing. c.in-Ok.ensures.untouched
+    (rw (one_command _ c.in-Some.command command c.in-Some.ensures spoken) nothing)
 
 pub returns-in-Ok-put_all-clause-read_fault : goal.returns-in-Ok-put_all-clause-read_fault
 returns-in-Ok-put_all-clause-read_fault g c = λ is. absurd (alike status.Done status.ReadFault is tt)
@@ -315,7 +349,8 @@ pub returns-in-Ok-put_all-clause-unput : goal.returns-in-Ok-put_all-clause-unput
 returns-in-Ok-put_all-clause-unput g c = tt
 
 pub returns-clause-within : goal.returns-clause-within
-returns-clause-within g c = λ command spoken short. within_said _ c.in-Some.command command _ _ c.in-Some.ensures spoken (left_out (ok_is_not_long _) c.in-Ok.ensures.within)
+returns-clause-within g c = λ command spoken short. within_said _ c.in-Some.command command _ _ c.in-Some.ensures spoken
+    (left_out (ok_is_not_long _) c.in-Ok.ensures.within)
 
 pub returns-clause-takes : goal.returns-clause-takes
 returns-clause-takes g c = λ command spoken. takes_said _ c.in-Some.command command _ _ c.in-Some.ensures spoken c.in-Ok.ensures.takes
@@ -328,10 +363,12 @@ returns-clause-refuses g c = λ command read expected spoken to_read why calm.
     absurd never
 
 pub returns-in-Ok-put_all-clause-within : goal.returns-in-Ok-put_all-clause-within
-returns-in-Ok-put_all-clause-within g c = λ command spoken short. within_said _ c.in-Some.command command _ _ c.in-Some.ensures spoken (left_out (ok_is_not_long _) c.in-Ok.ensures.within)
+returns-in-Ok-put_all-clause-within g c = λ command spoken short. within_said _ c.in-Some.command command _ _ c.in-Some.ensures spoken
+    (left_out (ok_is_not_long _) c.in-Ok.ensures.within)
 
 pub returns-in-Ok-put_all-clause-takes : goal.returns-in-Ok-put_all-clause-takes
-returns-in-Ok-put_all-clause-takes g c = λ command spoken. takes_said _ c.in-Some.command command _ _ c.in-Some.ensures spoken c.in-Ok.ensures.takes
+returns-in-Ok-put_all-clause-takes g c = λ command spoken. takes_said _ c.in-Some.command command _ _ c.in-Some.ensures spoken
+    c.in-Ok.ensures.takes
 
 pub returns-in-Ok-put_all-clause-refuses : goal.returns-in-Ok-put_all-clause-refuses
 returns-in-Ok-put_all-clause-refuses g c = λ command read expected spoken to_read why calm.

@@ -20,6 +20,7 @@ returns g c =
     let contexts = c.in_ok-made.made.contexts.items in
     let replayed = rw (c.set.ensures.value, c.events.ensures.value) at c.in_ok-made.ensures.core in
     IfOk-weaker c.write_summary.result (λ text. text.items ≡ summary_text sizes history contexts) (λ text. IsLargeOf sizes text.items)
-    (λ text says. is_large_of sizes input.set input.events history contexts text.items c.set.ensures.valid.valid c.requires replayed.merge replayed.over.legal
+    (λ text says. is_large_of sizes input.set input.events history contexts text.items c.set.ensures.valid.valid c.requires replayed.merge
+    replayed.over.legal
     (rw c.set.ensures.value at c.in_ok-made.ensures.contexts) says)
     (rw (c.history.ensures.value, c.deref.ensures.value) at c.write_summary.ensures)

@@ -5,4 +5,5 @@ use Rattle.command_line.specs.Shown.{reading_of}
 use Rattle.command_line.proofs.observers.write_lines.Given as goal
 
 abbrev pub invariant-loop-i : goal.invariant-loop-i
-invariant-loop-i l = l.text.items ≡ l.initial.text.items ++ flat_map observer_line (enumerate_from 0 (map reading_of (take l.i l.sightings)))
+invariant-loop-i l =
+    l.text.items ≡ l.initial.text.items ++ flat_map observer_line (enumerate_from 0 (map reading_of (take l.i l.sightings)))

@@ -7,5 +7,6 @@ use Rattle.command_line.proofs.observers.write_observers.Goals as goal
 pub returns : goal.returns
 returns c =
     let count = length-map c.args.sightings.now reading_of in
-    observers_written (map reading_of c.args.sightings.now) _ _ _ _ _ _ c.in_ok-extend_from_slice.ensures.items (rw count c.in_ok-write_number.ensures)
+    observers_written (map reading_of c.args.sightings.now) _ _ _ _ _ _ c.in_ok-extend_from_slice.ensures.items
+    (rw count c.in_ok-write_number.ensures)
     c.in_ok-push.ensures.items c.in_ok-write_lines.ensures c.in_ok-extend_from_slice-2.ensures.items

@@ -19,7 +19,8 @@ text_of_watch-requires-clause-legal g c =
     rw c.history.ensures.value replayed.over.legal
 
 pub text_of_watch-requires-clause-contexts : goal.text_of_watch-requires-clause-contexts
-text_of_watch-requires-clause-contexts g c = rw (c.deref.ensures.value, c.history.ensures.value) (rw c.set.ensures.value at c.in_ok-made.ensures.contexts)
+text_of_watch-requires-clause-contexts g c =
+    rw (c.deref.ensures.value, c.history.ensures.value) (rw c.set.ensures.value at c.in_ok-made.ensures.contexts)
 
 pub returns-clause-text : goal.returns-clause-text
 returns-clause-text g c =
@@ -28,7 +29,8 @@ returns-clause-text g c =
     let replayed = rw (c.set.ensures.value, c.events.ensures.value) at c.in_ok-made.ensures.core in
     let readings = map reading_of made.sightings.items in
     let schedule = schedule_text input.version input.set made.core.history made.contexts.items in
-    IfOk-weaker c.text_of_watch.result (λ text. text.items ≡ schedule ++ observers_text readings) (λ text. IsTextOfWatch c.args.observers input.version input.set input.events text.items)
+    IfOk-weaker c.text_of_watch.result (λ text. text.items ≡ schedule ++ observers_text readings)
+    (λ text. IsTextOfWatch c.args.observers input.version input.set input.events text.items)
     (λ text says. record {
       schedule = schedule;
       replayed = record {
@@ -41,7 +43,8 @@ returns-clause-text g c =
       };
       readings = readings;
       each_observer = length-map made.sightings.items reading_of ∙ c.in_ok-made.ensures.each_observer;
-      each_reading = readings_seen input.set made.core.history c.set.ensures.valid.valid replayed.over.legal made.sightings.items (rw c.set.ensures.value at c.in_ok-made.ensures.sightings);
+      each_reading = readings_seen input.set made.core.history c.set.ensures.valid.valid replayed.over.legal made.sightings.items
+          (rw c.set.ensures.value at c.in_ok-made.ensures.sightings);
       text = says;
     })
     (rw (c.deref.ensures.value, c.deref-2.ensures.value, c.history.ensures.value) at c.text_of_watch.ensures.text)

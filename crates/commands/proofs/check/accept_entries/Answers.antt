@@ -6,21 +6,25 @@ use Rattle.commands.proofs.check.accept_entries.Goals as goal
 pub loop-entry-init : goal.loop-entry-init
 loop-entry-init c = record {
   followed = c.requires;
-  line = let count : c.len.result ≡ length c.args.schedule.now.set.tasks = rw c.set.ensures.value at c.len.ensures.value in let same = c.from-line.ensures in omega arith;
+  line = let count : c.len.result ≡ length c.args.schedule.now.set.tasks = rw c.set.ensures.value at c.len.ensures.value in
+      let same = c.from-line.ensures in omega arith;
 }
 
 pub accept-requires : goal.accept-requires
 accept-requires c =
     entry_known c.args.schedule.now c.loop-entry.entry-index c.entry-item.result c.loop-entry.checker c.entries-entry-items.ensures.valid
-    (entry_read c.args.schedule.now c.entries-entry-items.result.now c.loop-entry.entry-index c.entry-item.result c.entries-entry-items.ensures.value c.loop-entry-test.true c.entry-item.is) c.loop-entry.invariant.followed
+    (entry_read c.args.schedule.now c.entries-entry-items.result.now c.loop-entry.entry-index c.entry-item.result
+    c.entries-entry-items.ensures.value c.loop-entry-test.true c.entry-item.is) c.loop-entry.invariant.followed
 
 pub returns-in-Err-clause-refused : goal.returns-in-Err-clause-refused
 returns-in-Err-clause-refused c = (
   _,
   _,
   refl,
-  bad_entry c.args.schedule.now c.loop-entry.entry-index c.loop-entry.line c.number.result c.in-Err.defect c.entry-item.result c.loop-entry.checker
-      (entry_read c.args.schedule.now c.entries-entry-items.result.now c.loop-entry.entry-index c.entry-item.result c.entries-entry-items.ensures.value c.loop-entry-test.true c.entry-item.is)
+  bad_entry c.args.schedule.now c.loop-entry.entry-index c.loop-entry.line c.number.result c.in-Err.defect c.entry-item.result
+      c.loop-entry.checker
+      (entry_read c.args.schedule.now c.entries-entry-items.result.now c.loop-entry.entry-index c.entry-item.result
+      c.entries-entry-items.ensures.value c.loop-entry-test.true c.entry-item.is)
       c.loop-entry.invariant.followed c.in-Err.ensures.defect c.loop-entry.invariant.line c.number.ensures,
 )
 
@@ -30,18 +34,22 @@ overflow_add-line-in-Ok c =
     let tasks = c.len.ensures.bound in
     let count : c.len.result ≡ length c.args.schedule.now.set.tasks = rw c.set.ensures.value at c.len.ensures.value in
     let line = c.loop-entry.invariant.line in
-    let fits : c.loop-entry.entry-index < length c.args.schedule.now.entries = rw c.entries-entry-items.ensures.value at c.loop-entry-test.true in
+    let fits : c.loop-entry.entry-index < length c.args.schedule.now.entries = rw c.entries-entry-items.ensures.value at
+    c.loop-entry-test.true in
     omega arith
 
 pub loop-entry-preserved : goal.loop-entry-preserved
 loop-entry-preserved c = record {
   followed = followed_more c.args.schedule.now c.loop-entry.entry-index c.entry-item.result c.loop-entry.checker c.accept.new.self
-      (entry_read c.args.schedule.now c.entries-entry-items.result.now c.loop-entry.entry-index c.entry-item.result c.entries-entry-items.ensures.value c.loop-entry-test.true c.entry-item.is)
+      (entry_read c.args.schedule.now c.entries-entry-items.result.now c.loop-entry.entry-index c.entry-item.result
+      c.entries-entry-items.ensures.value c.loop-entry-test.true c.entry-item.is)
       c.loop-entry.invariant.followed c.in-Ok.ensures.accepted c.in-Ok.ensures.links c.in-Ok.ensures.contexts;
   line = let line = c.loop-entry.invariant.line in omega arith;
 }
 
 pub returns-clause-followed : goal.returns-clause-followed
 returns-clause-followed c =
-    let all : c.loop-entry.entry-index ≡ length c.args.schedule.now.entries = le_antisymm (rw c.entries-entry-items.ensures.value at c.loop-entry.auto.entry-index-end) (rw c.entries-entry-items.ensures.value at c.loop-entry-test.false) in
+    let all : c.loop-entry.entry-index ≡ length c.args.schedule.now.entries = le_antisymm
+    (rw c.entries-entry-items.ensures.value at c.loop-entry.auto.entry-index-end)
+    (rw c.entries-entry-items.ensures.value at c.loop-entry-test.false) in
     subst (λ (n : ℕ). HasFollowed c.args.schedule.now n c.loop-entry.checker) all c.loop-entry.invariant.followed

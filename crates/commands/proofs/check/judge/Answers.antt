@@ -4,4 +4,5 @@ use Rattle.commands.proofs.check.judge.Goals as goal
 
 pub judge_by-requires : goal.judge_by-requires
 judge_by-requires c =
-    followed_start c.args.schedule.now c.in_ok-checker.checker (c.in_ok-checker.ensures.links ∙ rw c.set.ensures.value refl) (c.in_ok-checker.ensures.contexts ∙ rw c.set.ensures.value refl)
+    followed_start c.args.schedule.now c.in_ok-checker.checker (c.in_ok-checker.ensures.links ∙ rw c.set.ensures.value refl)
+    (c.in_ok-checker.ensures.contexts ∙ rw c.set.ensures.value refl)

@@ -7,10 +7,12 @@ use Rattle.commands.proofs.chrome.chrome_trace.Goals as goal
 pub returns-in_err-schedule : goal.returns-in_err-schedule
 returns-in_err-schedule c =
     let p = err_from_is_err_and c.from_residual.result c.from_residual.ensures.1 in
-    rw (p.1, p.2) (answers_text_fault c.args.bytes.now c.in_err-schedule.field-0.0 c.in_err-schedule.ensures.accepts c.in_err-schedule.ensures.refused c.in_err-schedule.ensures.refuses)
+    rw (p.1, p.2) (answers_text_fault c.args.bytes.now c.in_err-schedule.field-0.0 c.in_err-schedule.ensures.accepts
+    c.in_err-schedule.ensures.refused c.in_err-schedule.ensures.refuses)
 
 pub returns : goal.returns
 returns c =
     let ok = subst IsSchedule c.schedule.view_is c.schedule.invariant in
-    answers_traced c.args.bytes.now c.in_ok-schedule.schedule ok c.in_ok-schedule.ensures.schedule c.in_ok-schedule.ensures.accepts c.args.start c.judged_trace.result
+    answers_traced c.args.bytes.now c.in_ok-schedule.schedule ok c.in_ok-schedule.ensures.schedule c.in_ok-schedule.ensures.accepts
+    c.args.start c.judged_trace.result
     c.in_ok-schedule.ensures.refuses c.judged_trace.ensures.traced c.judged_trace.ensures.refused

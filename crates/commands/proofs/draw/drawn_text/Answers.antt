@@ -7,10 +7,12 @@ use Rattle.commands.proofs.draw.drawn_text.Goals as goal
 pub returns-in_err-schedule : goal.returns-in_err-schedule
 returns-in_err-schedule c =
     let p = err_from_is_err_and c.from_residual.result c.from_residual.ensures.1 in
-    rw (p.1, p.2) (answers_text_fault c.args.bytes.now c.in_err-schedule.field-0.0 c.in_err-schedule.ensures.accepts c.in_err-schedule.ensures.refused c.in_err-schedule.ensures.refuses)
+    rw (p.1, p.2) (answers_text_fault c.args.bytes.now c.in_err-schedule.field-0.0 c.in_err-schedule.ensures.accepts
+    c.in_err-schedule.ensures.refused c.in_err-schedule.ensures.refuses)
 
 pub returns : goal.returns
 returns c =
     let ok = subst IsSchedule c.schedule.view_is c.schedule.invariant in
-    answers_drawn c.args.bytes.now c.in_ok-schedule.schedule ok c.in_ok-schedule.ensures.schedule c.in_ok-schedule.ensures.accepts c.args.axis c.args.window c.judged_picture.result
+    answers_drawn c.args.bytes.now c.in_ok-schedule.schedule ok c.in_ok-schedule.ensures.schedule c.in_ok-schedule.ensures.accepts
+    c.args.axis c.args.window c.judged_picture.result
     c.in_ok-schedule.ensures.refuses c.judged_picture.ensures.drawn c.judged_picture.ensures.refused

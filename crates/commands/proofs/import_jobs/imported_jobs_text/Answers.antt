@@ -12,7 +12,8 @@ returns-in-Err c =
     let bytes = c.args.bytes.now in
     rw c.status_of.ensures
     (answers_trace bytes _
-    (answers_fault (IsTaskTraceRefused bytes) {Makes = IsImportedJobsOf bytes} (IsTaskTraceText bytes) c.in-Err.fault c.in-Err.ensures.accepts
+    (answers_fault (IsTaskTraceRefused bytes) {Makes = IsImportedJobsOf bytes} (IsTaskTraceText bytes)
+    c.in-Err.fault c.in-Err.ensures.accepts
     c.in-Err.ensures.refused c.in-Err.ensures.refuses))
 
 pub found_in-requires : goal.found_in-requires
@@ -39,6 +40,7 @@ returns-in_err-text c =
 
 pub returns : goal.returns
 returns c =
-    answers_jobs c.args.bytes.now c.in-Ok.trace c.in-Ok.ensures.trace c.in-Ok.ensures.accepts c.in-Ok.ensures.refuses c.in_ok-found.found.jobs.items
+    answers_jobs c.args.bytes.now c.in-Ok.trace c.in-Ok.ensures.trace c.in-Ok.ensures.accepts c.in-Ok.ensures.refuses
+    c.in_ok-found.found.jobs.items
     c.in_ok-found.ensures.jobs (subst IsHorizon c.in_ok-found.ensures.span c.in_default.ensures.0) c.in_default.ensures.1 c.in_ok-text.text
     c.in-Ok.ensures.passages c.in_ok-text.ensures

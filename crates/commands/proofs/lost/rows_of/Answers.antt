@@ -9,7 +9,8 @@ use Rattle.commands.proofs.lost.rows_of.Goals as goal
 
 pub told_row-requires : goal.told_row-requires
 told_row-requires c =
-    All-get_or (λ (loss : Loss). IfSome loss.rival (λ t. t < 2 ^ 32)) c.args.losses.now c.loop-t.t no_loss c.loop-t-test.true c.requires.rivals
+    All-get_or (λ (loss : Loss). IfSome loss.rival (λ t. t < 2 ^ 32)) c.args.losses.now c.loop-t.t no_loss c.loop-t-test.true
+    c.requires.rivals
 
 pub loop-t-preserved : goal.loop-t-preserved
 loop-t-preserved c =

@@ -5,7 +5,8 @@ use Rattle.commands.proofs.weak.weak_text.Goals as goal
 pub returns-in_err-input : goal.returns-in_err-input
 returns-in_err-input c =
     let p = err_from_is_err_and c.from_residual.result c.from_residual.ensures.1 in
-    rw (p.1, p.2) (answers_fault c.args.bytes.now c.in_err-input.field-0.0 c.in_err-input.ensures.accepts c.in_err-input.ensures.refused c.in_err-input.ensures.refuses)
+    rw (p.1, p.2) (answers_fault c.args.bytes.now c.in_err-input.field-0.0 c.in_err-input.ensures.accepts c.in_err-input.ensures.refused
+    c.in_err-input.ensures.refuses)
 
 pub returns-in_err-text : goal.returns-in_err-text
 returns-in_err-text c =

@@ -4,7 +4,8 @@ use Rattle.commands.proofs.JobsRefusals.{answers_fault}
 use Rattle.commands.proofs.weak_jobs.weak_jobs_text.Goals as goal
 
 pub returns-in-Err : goal.returns-in-Err
-returns-in-Err c = rw c.status_of.ensures (answers_fault c.args.bytes.now c.in-Err.fault c.in-Err.ensures.accepts c.in-Err.ensures.refused c.in-Err.ensures.refuses)
+returns-in-Err c = rw c.status_of.ensures (answers_fault c.args.bytes.now c.in-Err.fault c.in-Err.ensures.accepts c.in-Err.ensures.refused
+    c.in-Err.ensures.refuses)
 
 pub returns-in_err-text : goal.returns-in_err-text
 returns-in_err-text c =

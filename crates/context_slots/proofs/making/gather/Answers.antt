@@ -3,7 +3,8 @@ use Rattle.task_set.specs.Sum.{total}
 use Rattle.context_slots.specs.Hands.{HandData}
 use Rattle.context_slots.specs.HandSteps.{SeatState}
 use Rattle.context_slots.proofs.Keeps.{joins_lem}
-use Rattle.context_slots.proofs.Gathering.{popped_rest, popped_ended, popped_length, joined_ended, joined_free, is_free, popped_below, own_below}
+use Rattle.context_slots.proofs.Gathering.{popped_rest, popped_ended, popped_length, joined_ended, joined_free, is_free, popped_below}
+use Rattle.context_slots.proofs.Gathering.{own_below}
 use Rattle.context_slots.proofs.making.gather.Goals as goal
 
 pub join_seat-requires : goal.join_seat-requires
@@ -30,6 +31,15 @@ loop-hand-preserved c =
       number = i.number ∙ sym (ap (λ (x : SeatState). x.0.number) now);
       parts = omega (arith, parts, len, i.parts, c.into_hand_seat-hand_seat.ensures.whole.parts);
       some_part = omega (arith, parts, i.some_part);
-      own = λ n most rest. i.own n most (popped_below n _ _ c.in-Some.hand items rest (own_below n hand_seat c.in-Some.hand c.into_hand_seat-hand_seat.ensures.data (omega (arith, r.1.2, len, i.parts, i.some_part, most)) c.into_hand_seat-hand_seat.ensures.whole));
-      ended = λ h. omega (arith, i.ended h, joined_ended h c.loop-hand.all.seat.me _ hand_seat now, ap (λ (d : HandData). total h d.ended) c.into_hand_seat-hand_seat.ensures.data, popped_ended h _ _ c.in-Some.hand items);
+      own = λ n most rest. i.own n most (popped_below n _ _ c.in-Some.hand items rest
+          (own_below n hand_seat c.in-Some.hand c.into_hand_seat-hand_seat.ensures.data
+          (omega (arith, r.1.2, len, i.parts, i.some_part, most)) c.into_hand_seat-hand_seat.ensures.whole));
+      ended = λ h. omega (
+        arith,
+        i.ended h,
+        joined_ended h c.loop-hand.all.seat.me _ hand_seat now,
+        ap (λ (d : HandData). total h d.ended)
+            c.into_hand_seat-hand_seat.ensures.data,
+        popped_ended h _ _ c.in-Some.hand items,
+      );
     }

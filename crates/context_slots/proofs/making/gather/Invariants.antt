@@ -14,8 +14,10 @@ invariant-loop-hand l = record {
   number : l.all.number ≡ l.all.seat.me.0.number;
   parts : l.all.seat.me.0.parts + length l.hands.items ≡ 1 + length l.initial.hands.items;
   some_part : 0 < l.all.seat.me.0.parts;
-  own : (n : ℕ) → length l.initial.hands.items ≤ n → All (λ stint. stint.processor < n) (all_ended l.hands.items) → All (λ stint. stint.processor < n) (all_ended l.initial.hands.items);
-  ended : (h : Stint → ℕ) → total h l.all.seat.me.0.ended + total h (all_ended l.hands.items) ≡ total h l.initial.all.seat.me.0.ended + total h (all_ended l.initial.hands.items);
+  own : (n : ℕ) → length l.initial.hands.items ≤ n → All (λ stint. stint.processor < n) (all_ended l.hands.items)
+      → All (λ stint. stint.processor < n) (all_ended l.initial.hands.items);
+  ended : (h : Stint → ℕ) → total h l.all.seat.me.0.ended + total h (all_ended l.hands.items) ≡ total h l.initial.all.seat.me.0.ended
+      + total h (all_ended l.initial.hands.items);
 }
 
 abbrev pub decreases-loop-hand : goal.decreases-loop-hand

@@ -12,7 +12,8 @@ loop-t-preserved c =
     record {
       words = omega (arith, i.words, c.push_reserved.ensures.len);
       slots = omega (arith, i.slots, c.push_reserved-in-loop-t.ensures.len);
-      room = (omega (arith, i.room.0, c.push_reserved.ensures.capacity), omega (arith, i.room.1, c.push_reserved-in-loop-t.ensures.capacity));
+      room =
+          (omega (arith, i.room.0, c.push_reserved.ensures.capacity), omega (arith, i.room.1, c.push_reserved-in-loop-t.ensures.capacity));
       zero_words = λ k. ap (λ (l : List ℕ). get_or l k 0) c.push_reserved.ensures.items ∙ zero_snoc c.loop-t.words.items k i.zero_words;
       at_home = home_snoc c.loop-t.slots.items c.push_reserved-in-loop-t.new.self.items c.loop-t.t (omega (arith, i.slots))
           (c.push_reserved-in-loop-t.ensures.items ∙ ap (λ (x : Context). c.loop-t.slots.items ++ Some x ∷ []) c.fresh.ensures) i.at_home;
@@ -22,5 +23,7 @@ pub new-requires : goal.new-requires
 new-requires c =
     let i = c.loop-t.invariant in
     let same : c.deref.result.now ≡ c.loop-t.words.items = search rules in
-    subst (λ (ws : List ℕ). HandOverRule c.of.result.value.processors (opening ws c.loop-t.slots.items (dealing c.of.result.value.processors 1))) (sym same)
-    (opens_lem c.of.result.value.processors c.loop-t.t c.loop-t.words.items c.loop-t.slots.items (omega (arith, i.words)) (omega (arith, i.slots)) i.zero_words i.at_home)
+    subst (λ (ws : List ℕ). HandOverRule c.of.result.value.processors
+    (opening ws c.loop-t.slots.items (dealing c.of.result.value.processors 1))) (sym same)
+    (opens_lem c.of.result.value.processors c.loop-t.t c.loop-t.words.items c.loop-t.slots.items (omega (arith, i.words))
+    (omega (arith, i.slots)) i.zero_words i.at_home)

@@ -14,7 +14,8 @@ not_true true never = absurd (never refl)
 not_true false never = refl
 
 -- a core that refused an event has no entry more, for the reason that it said
-no_entry : (old : CoreData) (caller : ℕ) (event : Event) (fault : CoreFault) (new : CoreData) → IsCore old → AppliedOrRefused old caller event (Err fault) new → IsNoEntry old new fault
+no_entry : (old : CoreData) (caller : ℕ) (event : Event) (fault : CoreFault) (new : CoreData) → IsCore old
+    → AppliedOrRefused old caller event (Err fault) new → IsNoEntry old new fault
 no_entry old caller event Closed new valid answer = (answer.refused, answer.closed.0 refl)
 no_entry old caller event Full new valid answer = (answer.refused, answer.full.0 refl)
 no_entry old caller event OutOfMemory new valid answer =
@@ -27,7 +28,8 @@ no_entry old caller event OutOfMemory new valid answer =
 pub returns-in_err-apply-clause-refused : goal.returns-in_err-apply-clause-refused
 returns-in_err-apply-clause-refused g c =
     let p = err_from_is_err_and c.from_residual.result c.from_residual.ensures.1 in
-    rw (p.1, p.2) (no_entry c.args.core.now c.args.caller c.args.event c.in_err-apply.field-0.0 c.apply.new.self c.history-place.ensures.valid c.in_err-apply.ensures.answer)
+    rw (p.1, p.2) (no_entry c.args.core.now c.args.caller c.args.event c.in_err-apply.field-0.0 c.apply.new.self
+    c.history-place.ensures.valid c.in_err-apply.ensures.answer)
 
 pub returns-clause-entered : goal.returns-clause-entered
 returns-clause-entered g c =
@@ -35,13 +37,15 @@ returns-clause-entered g c =
     let answer = c.in_ok-apply.ensures.answer in
     let applied = answer.applied in
     let still : old.closed ≡ false = not_true old.closed (λ is. absurd (cc (answer.closed.1 is))) in
-    let read = read_last old.history c.history.result.now (entry_of c.args.caller c.args.event applied.reply) c.index-history-place.result (length c.history-place.result.now)
+    let read = read_last old.history c.history.result.now (entry_of c.args.caller c.args.event applied.reply) c.index-history-place.result
+    (length c.history-place.result.now)
     (c.history.ensures.value ∙ applied.history) (sym (ap length c.history-place.ensures.value)) c.index-history-place.is in
     let place : length c.history-place.result.now ≡ length old.history = ap length c.history-place.ensures.value in
     let many = ap length applied.history ∙ length-append old.history (entry_of c.args.caller c.args.event applied.reply ∷ []) in
     record {
       receipt = record { place = length c.history-place.result.now; reply = c.index-history-place.result.reply };
-      is = c.of.ensures ∙ ap (λ (e : Entry). g.T.Taken.of_receipt (record { place = length c.history-place.result.now; reply = e.reply })) (sym c.index-history-place.is);
+      is = c.of.ensures ∙ ap (λ (e : Entry). g.T.Taken.of_receipt (record { place = length c.history-place.result.now; reply = e.reply }))
+          (sym c.index-history-place.is);
       holds = record {
         at_place = place;
         fits = omega (arith, place, many, c.history.ensures.valid.fits);

@@ -18,10 +18,13 @@ compare_exchange-won-requires g c =
 
 pub exchange-requires : goal.exchange-requires
 exchange-requires g c =
-    let w = won g.J.Over.setting c.compare_exchange-won.result c.load-found.result c.load-found.new.seat.me c.compare_exchange-won.new.seat.me c.if-won-found.false c.compare_exchange-won.ensures.2 in
+    let w = won g.J.Over.setting c.compare_exchange-won.result c.load-found.result c.load-found.new.seat.me
+    c.compare_exchange-won.new.seat.me c.if-won-found.false c.compare_exchange-won.ensures.2 in
     let e = ap (λ (m : TurnSeat). m.1) w.1 in (search rules, (Some w.0, e ∙ ap (λ l. (0, Some w.0) ∷ rest l) (sym e)))
 
 pub returns-clause-turn : goal.returns-clause-turn
 returns-clause-turn g c =
-    let w = won g.J.Over.setting c.compare_exchange-won.result c.load-found.result c.load-found.new.seat.me c.compare_exchange-won.new.seat.me c.if-won-found.false c.compare_exchange-won.ensures.2 in
-    begun g.J.Over.setting c.args.state.now.seat.me c.load-found.new.seat.me c.compare_exchange-won.new.seat.me c.exchange.new.seat.me c.load-found.result _ _ c.requires.free.0 c.load-found.ensures.2 w c.exchange.ensures.2 c.exchange.ensures.3 c.unwrap.ensures
+    let w = won g.J.Over.setting c.compare_exchange-won.result c.load-found.result c.load-found.new.seat.me
+    c.compare_exchange-won.new.seat.me c.if-won-found.false c.compare_exchange-won.ensures.2 in
+    begun g.J.Over.setting c.args.state.now.seat.me c.load-found.new.seat.me c.compare_exchange-won.new.seat.me c.exchange.new.seat.me
+    c.load-found.result _ _ c.requires.free.0 c.load-found.ensures.2 w c.exchange.ensures.2 c.exchange.ensures.3 c.unwrap.ensures

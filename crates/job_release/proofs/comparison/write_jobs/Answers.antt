@@ -6,6 +6,7 @@ use Rattle.job_release.proofs.comparison.write_jobs.Goals as goal
 pub loop-t-preserved : goal.loop-t-preserved
 loop-t-preserved g c = record {
   end = c.loop-t.invariant.end;
-  written = pieces_more (rows_of_task c.args.input.now (g.W.JobScheduler.seen c.args.weak.now.scheduler).states (g.S.JobScheduler.seen c.args.strong.now.scheduler).states) c.loop-t.t c.args.text.now.items _ _ _
+  written = pieces_more (rows_of_task c.args.input.now (g.W.JobScheduler.seen c.args.weak.now.scheduler).states
+      (g.S.JobScheduler.seen c.args.strong.now.scheduler).states) c.loop-t.t c.args.text.now.items _ _ _
       c.loop-t.invariant.written c.in_ok-write_rows.ensures refl;
 }

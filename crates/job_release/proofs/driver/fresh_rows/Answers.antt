@@ -17,7 +17,8 @@ loop-t-preserved c =
     record {
       end = c.loop-t.invariant.end;
       fresh = (let P : List JobRow → Type 0 = λ rows. AreFresh c.args.input.now.jobs (c.loop-t.t + 1) rows in
-          subst P (sym c.in_ok-push.ensures.items) (fresh_more c.args.input.now.jobs c.loop-t.t c.loop-t.rows.items c.in_ok-row.row c.loop-t.invariant.fresh fresh));
+          subst P (sym c.in_ok-push.ensures.items)
+          (fresh_more c.args.input.now.jobs c.loop-t.t c.loop-t.rows.items c.in_ok-row.row c.loop-t.invariant.fresh fresh));
     }
 
 pub returns : goal.returns

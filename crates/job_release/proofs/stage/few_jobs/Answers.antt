@@ -17,10 +17,19 @@ returns-then-total-count-gt-MAX_JOBS-clause-found c =
 
 pub returns-clause-found : goal.returns-clause-found
 returns-clause-found c =
-    let times : jobs_of_times c.args.input.now.horizon c.args.times ≡ periodic_jobs c.args.input.now.horizon c.in-Some.task = ap (jobs_of_times c.args.input.now.horizon) c.in-Some.is in
+    let times : jobs_of_times c.args.input.now.horizon c.args.times ≡ periodic_jobs c.args.input.now.horizon c.in-Some.task = ap
+    (jobs_of_times c.args.input.now.horizon) c.in-Some.is in
     let count = length-jobs_of_times c.args.input.now.horizon c.args.times c.in-Some.task c.in-Some.is in
-    let read : c.in_ok-jobs.field-0.items ≡ periodic_jobs c.args.input.now.horizon c.in-Some.task = rw c.horizon-2.ensures.value at c.in_ok-jobs.ensures in
+    let read : c.in_ok-jobs.field-0.items ≡ periodic_jobs c.args.input.now.horizon c.in-Some.task = rw c.horizon-2.ensures.value at
+    c.in_ok-jobs.ensures in
     let made : c.in_ok-jobs.field-0.items ≡ jobs_of_times c.args.input.now.horizon c.args.times = read ∙ sym times in (
       made,
-      (let long = ap length made in omega (arith, long, count, c.total-total.ensures.value, rw c.horizon.ensures.value at c.count.ensures, c.if-total-count-gt-MAX_JOBS.false)),
+      (let long = ap length made in omega (
+        arith,
+        long,
+        count,
+        c.total-total.ensures.value,
+        rw c.horizon.ensures.value at c.count.ensures,
+        c.if-total-count-gt-MAX_JOBS.false,
+      )),
     )

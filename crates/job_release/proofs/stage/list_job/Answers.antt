@@ -11,4 +11,5 @@ pub jobs-requires : goal.jobs-requires
 jobs-requires c = (named_task c.args.input.now.set _ c.args.form.now.name.now (rw c.set.ensures.value at c.in-Some.ensures)).0
 
 pub add_job-requires-clause-task : goal.add_job-requires-clause-task
-add_job-requires-clause-task c = (named_task c.args.input.now.set _ c.args.form.now.name.now (rw c.set.ensures.value at c.in-Some.ensures)).0
+add_job-requires-clause-task c =
+    (named_task c.args.input.now.set _ c.args.form.now.name.now (rw c.set.ensures.value at c.in-Some.ensures)).0

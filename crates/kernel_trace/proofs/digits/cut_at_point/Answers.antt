@@ -7,7 +7,8 @@ use Rattle.kernel_trace.proofs.Positions.{position_some, position_none}
 use Rattle.kernel_trace.proofs.digits.cut_at_point.Goals as goal
 
 pub returns-in-Some-clause-seconds : goal.returns-in-Some-clause-seconds
-returns-in-Some-clause-seconds c = ap (λ (n : ℕ). take n c.args.text.now) (position_some is_point c.args.text.now c.in-Some.point c.in-Some.ensures).0
+returns-in-Some-clause-seconds c =
+    ap (λ (n : ℕ). take n c.args.text.now) (position_some is_point c.args.text.now c.in-Some.point c.in-Some.ensures).0
 
 pub returns-in-Some-clause-fraction : goal.returns-in-Some-clause-fraction
 returns-in-Some-clause-fraction c =

@@ -4,7 +4,8 @@ use Rattle.kernel_trace.specs.TraceLine.{is_keyed, is_priority, id_after}
 use Rattle.kernel_trace.specs.declared.change.Change.{Change}
 use Rattle.kernel_trace.specs.declared.change.Change.TheVariants.{Wakeup}
 use Rattle.kernel_trace.proofs.event.read_woken.Goals as goal
-use Rattle.kernel_trace.proofs.event.read_woken.Goals.{else-is_keyed-via-then-is_keyed+then-is_priority+else-is_keyed-2, else-is_keyed-via-then-is_keyed+else-is_priority, else-is_keyed-via-else-is_keyed}
+use Rattle.kernel_trace.proofs.event.read_woken.Goals.{else-is_keyed-via-then-is_keyed+then-is_priority+else-is_keyed-2}
+use Rattle.kernel_trace.proofs.event.read_woken.Goals.{else-is_keyed-via-then-is_keyed+else-is_priority, else-is_keyed-via-else-is_keyed}
 
 -- three tests, one after another
 chosen : (a b d : Bool) (x : Option Change) → a ≡ true → b ≡ true → d ≡ true → (if a && b && d then x else None) ≡ x

@@ -25,7 +25,8 @@ loop-digit-preserved c =
     let digits = c.behind-digits.result.now in
     let i = c.loop-digit.digit-index in
     let all = keyed_digits c.args.key.now c.args.field.now c.behind-digits.result.now c.requires.keyed c.behind-digits.ensures in
-    capped_step (number_value (take i digits)) c.loop-digit.number (get_or digits i 0 - 48) c.min-number.result _ c.args.most c.loop-digit.invariant
+    capped_step (number_value (take i digits)) c.loop-digit.number (get_or digits i 0 - 48)
+    c.min-number.result _ c.args.most c.loop-digit.invariant
     (value-more digits i (number_value (take i digits)) all c.loop-digit-test.true refl) c.min-number.ensures
 
 pub returns : goal.returns

@@ -13,11 +13,13 @@ use Rattle.kernel_trace.proofs.read.read_trace.Goals as goal
 
 -- what is read is that of what is said of the whole text
 pub returns-clause-input : goal.returns-clause-input
-returns-clause-input c = subst (λ (look : SurveyData). IfOk c.run.result (IsTextBy look c.args.bytes.now)) c.in-Ok.ensures c.run.ensures.input
+returns-clause-input c =
+    subst (λ (look : SurveyData). IfOk c.run.result (IsTextBy look c.args.bytes.now)) c.in-Ok.ensures c.run.ensures.input
 
 pub returns-clause-refused : goal.returns-clause-refused
 returns-clause-refused c =
-    subst (λ (look : SurveyData). IfErr c.run.result (λ (fault : TraceFault). IsOutOfMemory fault.kind ⊎ IsRefusedBy look c.args.bytes.now fault.line fault.kind))
+    subst (λ (look : SurveyData). IfErr c.run.result
+    (λ (fault : TraceFault). IsOutOfMemory fault.kind ⊎ IsRefusedBy look c.args.bytes.now fault.line fault.kind))
     c.in-Ok.ensures c.run.ensures.refused
 
 pub returns-clause-import : goal.returns-clause-import

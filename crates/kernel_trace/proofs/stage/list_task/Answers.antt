@@ -5,4 +5,8 @@ use Rattle.kernel_trace.proofs.stage.list_task.Goals as goal
 
 pub returns-in_default-clause-refused : goal.returns-in_default-clause-refused
 returns-in_default-clause-refused c =
-    inr (inl (c.in_ok-mask.mask, c.in_ok-mask.ensures.read, inr (BadName, (λ named. c.in_default.ensures.cases.0 (name_is_text _ named)), refl)))
+    inr (inl (
+      c.in_ok-mask.mask,
+      c.in_ok-mask.ensures.read,
+      inr (BadName, (λ named. c.in_default.ensures.cases.0 (name_is_text _ named)), refl),
+    ))

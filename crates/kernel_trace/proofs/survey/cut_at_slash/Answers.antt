@@ -7,7 +7,8 @@ use Rattle.kernel_trace.proofs.Positions.{position_some, position_none}
 use Rattle.kernel_trace.proofs.survey.cut_at_slash.Goals as goal
 
 pub returns-in-Some-clause-before : goal.returns-in-Some-clause-before
-returns-in-Some-clause-before c = ap (λ (n : ℕ). take n c.args.text.now) (position_some is_slash c.args.text.now c.in-Some.slash c.in-Some.ensures).0
+returns-in-Some-clause-before c =
+    ap (λ (n : ℕ). take n c.args.text.now) (position_some is_slash c.args.text.now c.in-Some.slash c.in-Some.ensures).0
 
 pub returns-in-Some-clause-behind : goal.returns-in-Some-clause-behind
 returns-in-Some-clause-behind c =

@@ -13,11 +13,13 @@ use Rattle.kernel_trace.proofs.task_trace.read_task_trace.Goals as goal
 
 -- what is read is that of what is said of the whole text
 pub returns-clause-trace : goal.returns-clause-trace
-returns-clause-trace c = subst (λ (look : SurveyData). IfOk c.run.result (IsTaskTextBy look c.args.bytes.now)) c.in-Ok.ensures c.run.ensures.trace
+returns-clause-trace c =
+    subst (λ (look : SurveyData). IfOk c.run.result (IsTaskTextBy look c.args.bytes.now)) c.in-Ok.ensures c.run.ensures.trace
 
 pub returns-clause-refused : goal.returns-clause-refused
 returns-clause-refused c =
-    subst (λ (look : SurveyData). IfErr c.run.result (λ (fault : TraceFault). IsOutOfMemory fault.kind ⊎ IsTaskRefusedBy look c.args.bytes.now fault.line fault.kind))
+    subst (λ (look : SurveyData). IfErr c.run.result
+    (λ (fault : TraceFault). IsOutOfMemory fault.kind ⊎ IsTaskRefusedBy look c.args.bytes.now fault.line fault.kind))
     c.in-Ok.ensures c.run.ensures.refused
 
 pub returns-clause-passages : goal.returns-clause-passages
@@ -27,10 +29,12 @@ returns-clause-passages c =
 
 pub returns-clause-accepts : goal.returns-clause-accepts
 returns-clause-accepts c =
-    answers_value (following_machine (survey_of (lines_of c.args.bytes.now))) lines_of IsOutOfMemory (λ fault. fault.line) (λ fault. fault.kind)
+    answers_value (following_machine (survey_of (lines_of c.args.bytes.now))) lines_of IsOutOfMemory (λ fault. fault.line)
+    (λ fault. fault.kind)
     c.args.bytes.now c.run.result (returns-clause-trace c) (returns-clause-refused c)
 
 pub returns-clause-refuses : goal.returns-clause-refuses
 returns-clause-refuses c =
-    answers_fault (following_machine (survey_of (lines_of c.args.bytes.now))) lines_of IsOutOfMemory (λ fault. fault.line) (λ fault. fault.kind)
+    answers_fault (following_machine (survey_of (lines_of c.args.bytes.now))) lines_of IsOutOfMemory (λ fault. fault.line)
+    (λ fault. fault.kind)
     c.args.bytes.now c.run.result (returns-clause-trace c) (returns-clause-refused c)

@@ -26,7 +26,8 @@ loop-rest-preserved c =
       answers = λ answer later. c.loop-rest.invariant.answers answer
           (lawful.led_on (following_machine (look_of c.args.look)) lines_of
           c.loop-rest.line _ _ _ _ _ answer (first_of_lines c.loop-rest.rest.now _ _ some c.first_line.ensures) c.in-Ok.ensures.read later);
-      valid = (let machine = following_machine (look_of c.args.look) in machine.keeps (following_of c.loop-rest.stage) _ _ c.loop-rest.invariant.valid c.in-Ok.ensures.read);
+      valid = (let machine = following_machine (look_of c.args.look) in machine.keeps (following_of c.loop-rest.stage)
+          _ _ c.loop-rest.invariant.valid c.in-Ok.ensures.read);
       bound = omega (arith, bound, shorter);
     }
 

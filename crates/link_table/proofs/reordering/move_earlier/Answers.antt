@@ -18,9 +18,11 @@ loop-r-preserved c =
       within = omega (arith, i.within, c.swap_with_next.auto.order);
       sorted = rw c.swap_with_next.ensures.order (IsNonDecreasingBut-earlier order (r - 1) next sorted);
       urgent = rw c.swap_with_next.ensures.order (IsMostUrgentFrom-earlier order (r - 1) next urgent less);
-      moved = Reordered-trans c.args.order.now c.args.ranks.now c.args.sets.now order c.loop-r.ranks c.loop-r.sets then.order then.ranks then.sets i.moved c.swap_with_next.ensures.moved;
+      moved = Reordered-trans c.args.order.now c.args.ranks.now c.args.sets.now order c.loop-r.ranks c.loop-r.sets then.order then.ranks
+          then.sets i.moved c.swap_with_next.ensures.moved;
     }
 
 pub returns-else-order-r-clause-sorted : goal.returns-else-order-r-clause-sorted
 returns-else-order-r-clause-sorted c =
-    IsNonDecreasingBy-found c.loop-r.order c.loop-r.r c.loop-r.invariant.sorted c.loop-r.invariant.urgent c.loop-r-test.true c.loop-r.invariant.within c.if-order-r.false
+    IsNonDecreasingBy-found c.loop-r.order c.loop-r.r c.loop-r.invariant.sorted c.loop-r.invariant.urgent c.loop-r-test.true
+    c.loop-r.invariant.within c.if-order-r.false

@@ -9,8 +9,10 @@ loop-r-preserved c =
     record {
       within = omega (arith, c.loop-r-test.true, c.swap_with_next.auto.order);
       sorted = rw c.swap_with_next.ensures.order (IsNonDecreasingBut-later c.loop-r.order c.loop-r.r c.loop-r-test.true i.sorted);
-      moved = Reordered-trans c.args.order.now c.args.ranks.now c.args.sets.now c.loop-r.order c.loop-r.ranks c.loop-r.sets then.order then.ranks then.sets i.moved c.swap_with_next.ensures.moved;
+      moved = Reordered-trans c.args.order.now c.args.ranks.now c.args.sets.now c.loop-r.order c.loop-r.ranks c.loop-r.sets then.order
+          then.ranks then.sets i.moved c.swap_with_next.ensures.moved;
     }
 
 pub returns-else-order-r-clause-urgent : goal.returns-else-order-r-clause-urgent
-returns-else-order-r-clause-urgent c = IsMostUrgentFrom-next c.loop-r.order c.loop-r.r c.loop-r-test.true c.loop-r.invariant.sorted c.if-order-r.false
+returns-else-order-r-clause-urgent c =
+    IsMostUrgentFrom-next c.loop-r.order c.loop-r.r c.loop-r-test.true c.loop-r.invariant.sorted c.if-order-r.false

@@ -1,11 +1,11 @@
 use Rattle.std.proofs.Common.{ℕ, ◌≤◌, ◌-◌}
-use Rattle.link_table.specs.SetTree.{IsLevel}
+use Rattle.link_table.specs.SetTree.{IsTreeLevel}
 use Rattle.link_table.proofs.set_tree.width_for.Given as goal
 
 abbrev pub invariant-loop-width : goal.invariant-loop-width
 invariant-loop-width l = record {
-  level : IsLevel l.width;
-  least : (other : ℕ) → IsLevel other → l.least ≤ other → l.width ≤ other;
+  level : IsTreeLevel l.width;
+  least : (other : ℕ) → IsTreeLevel other → l.least ≤ other → l.width ≤ other;
   bound : l.width ≤ 2048;
 }
 

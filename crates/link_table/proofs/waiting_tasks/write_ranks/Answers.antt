@@ -11,5 +11,8 @@ loop-r-preserved c =
     let r = c.loop-r.r in
     let fits = c.loop-r-test.true in
     let e : Ranked = get_or order r (record { priority = 0; task = 0 }) in
-    let room : e.task < length c.args.ranks.now = All-get_or (λ (entry : Ranked). entry.task < length c.args.ranks.now) order r (record { priority = 0; task = 0 }) fits c.requires.numbers in
-    ranks_more order c.requires.apart c.loop-r.ranks r e.task fits (λ d. ap (λ (x : Ranked). x.task) (get_or_default order r (record { priority = 0; task = 0 }) d fits)) (omega (arith, room, c.loop-r.auto.ranks)) c.loop-r.invariant
+    let room : e.task < length c.args.ranks.now = All-get_or (λ (entry : Ranked). entry.task < length c.args.ranks.now) order r
+    (record { priority = 0; task = 0 }) fits c.requires.numbers in
+    ranks_more order c.requires.apart c.loop-r.ranks r e.task fits
+    (λ d. ap (λ (x : Ranked). x.task) (get_or_default order r (record { priority = 0; task = 0 }) d fits))
+    (omega (arith, room, c.loop-r.auto.ranks)) c.loop-r.invariant

@@ -6,7 +6,9 @@ pub loop-p-init : goal.loop-p-init
 loop-p-init c = copied_first c.args.links.now c.args.occupants.now c.requires
 
 pub loop-p-preserved : goal.loop-p-preserved
-loop-p-preserved c = copied_more c.args.links.now c.loop-p.p c.loop-p.occupants c.on.result (let n = c.processors-p-end.ensures.value in let m = c.loop-p-test.true in omega arith) c.on.ensures.value c.loop-p.invariant
+loop-p-preserved c = copied_more c.args.links.now c.loop-p.p c.loop-p.occupants c.on.result
+    (let n = c.processors-p-end.ensures.value in let m = c.loop-p-test.true in omega arith) c.on.ensures.value c.loop-p.invariant
 
 pub returns : goal.returns
-returns c = copied_whole c.args.links.now c.processors-p-end.ensures.valid c.loop-p.p c.loop-p.occupants (let n = c.processors-p-end.ensures.value in let m = c.loop-p-test.false in omega arith) c.loop-p.invariant
+returns c = copied_whole c.args.links.now c.processors-p-end.ensures.valid c.loop-p.p c.loop-p.occupants
+    (let n = c.processors-p-end.ensures.value in let m = c.loop-p-test.false in omega arith) c.loop-p.invariant

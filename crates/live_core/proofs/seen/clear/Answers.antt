@@ -22,5 +22,6 @@ loop-p-preserved c = elim c.if-is_some.branch [
 pub returns : goal.returns
 returns c = record {
   same = c.loop-p.invariant.same;
-  nobody = cleared_whole c.args.table.now c.loop-p.table c.processors-valid.ensures.valid c.loop-p.p (let n = c.processors-p-end.ensures.value in let m = c.loop-p-test.false in omega arith) c.loop-p.invariant;
+  nobody = cleared_whole c.args.table.now c.loop-p.table c.processors-valid.ensures.valid c.loop-p.p
+      (let n = c.processors-p-end.ensures.value in let m = c.loop-p-test.false in omega arith) c.loop-p.invariant;
 }

@@ -17,7 +17,9 @@ loop-p-preserved c =
     let p = c.loop-p.p in
     elim c.match-on.branch [
       | in-Some+then-is_none w ↦ subst (λ (found : Option ℕ). IsFirstBelow s table (p + 1) found) (sym w.found-is)
-          (first_more s table p w.in-Some.t c.loop-p.found w.first_of.result (sym c.on.ensures.value ∙ w.in-Some.is) (w.of.ensures.none.0 w.if-is_none.ensures) w.first_of.ensures.which w.first_of.ensures.urgent w.first_of.ensures.before c.loop-p.invariant)
+          (first_more s table p w.in-Some.t c.loop-p.found w.first_of.result (sym c.on.ensures.value ∙ w.in-Some.is)
+          (w.of.ensures.none.0 w.if-is_none.ensures) w.first_of.ensures.which w.first_of.ensures.urgent w.first_of.ensures.before
+          c.loop-p.invariant)
       | in-Some+else-is_none w ↦ subst (λ (found : Option ℕ). IsFirstBelow s table (p + 1) found) (sym w.found-is)
           (first_same s table p c.loop-p.found
           (λ u on lost.
@@ -25,17 +27,21 @@ loop-p-preserved c =
           true≢false (sym w.if-is_none.ensures ∙ w.of.ensures.none.1 (subst (λ (v : ℕ). is_linked table v ≡ false) same lost.nowhere)))
           c.loop-p.invariant)
       | in_default w ↦ subst (λ (found : Option ℕ). IsFirstBelow s table (p + 1) found) (sym w.found-is)
-          (first_same s table p c.loop-p.found (λ u on lost. let h : ◌≡◌ {A = Option ℕ} None (Some u) = sym w.in_default.is ∙ c.on.ensures.value ∙ on in cc) c.loop-p.invariant)
+          (first_same s table p c.loop-p.found (λ u on lost. let h : ◌≡◌ {A = Option ℕ} None (Some u) = sym w.in_default.is
+          ∙ c.on.ensures.value ∙ on in cc) c.loop-p.invariant)
     ]
 
 pub returns : goal.returns
-returns c = first_whole c.args.links.now c.args.table.now c.processors-p-end.ensures.valid c.loop-p.p (let n = c.processors-p-end.ensures.value in let m = c.loop-p-test.false in omega arith) c.loop-p.found c.loop-p.invariant
+returns c = first_whole c.args.links.now c.args.table.now c.processors-p-end.ensures.valid c.loop-p.p
+    (let n = c.processors-p-end.ensures.value in let m = c.loop-p-test.false in omega arith) c.loop-p.found c.loop-p.invariant
 
 pub of-requires : goal.of-requires
-of-requires c = rw (ap task_count c.requires) (linked_number c.args.links.now c.loop-p.p c.in-Some.t c.in-Some.ensures.valid (sym c.in-Some.ensures.value))
+of-requires c = rw (ap task_count c.requires)
+    (linked_number c.args.links.now c.loop-p.p c.in-Some.t c.in-Some.ensures.valid (sym c.in-Some.ensures.value))
 
 pub first_of-requires-clause-number : goal.first_of-requires-clause-number
-first_of-requires-clause-number c = linked_number c.args.links.now c.loop-p.p c.in-Some.t c.in-Some.ensures.valid (sym c.in-Some.ensures.value)
+first_of-requires-clause-number c =
+    linked_number c.args.links.now c.loop-p.p c.in-Some.t c.in-Some.ensures.valid (sym c.in-Some.ensures.value)
 
 pub first_of-requires-clause-found : goal.first_of-requires-clause-found
 first_of-requires-clause-found c = λ u e.

@@ -10,5 +10,6 @@ abbrev pub invariant-loop-done : goal.invariant-loop-done
 invariant-loop-done g l = record {
   pass : IsPassOf l.lane l.pass;
   done : l.done ≤ length l.orders;
-  sent : view l.pass ≡ end_view (view l.initial.pass).pushes (view l.initial.pass).pops ((view l.initial.pass).sent ++ take l.done l.orders) (view l.initial.pass).received (view l.initial.pass).tasks;
+  sent : view l.pass ≡ end_view (view l.initial.pass).pushes (view l.initial.pass).pops ((view l.initial.pass).sent ++ take l.done l.orders)
+      (view l.initial.pass).received (view l.initial.pass).tasks;
 }

@@ -8,7 +8,8 @@ use Rattle.order_queues.proofs.QueueSteps.{one_end_keeps, whole_after_stop}
 use Rattle.order_queues.proofs.steps.settle.Goals as goal
 
 pub absorb-requires-clause-rule : goal.absorb-requires-clause-rule
-absorb-requires-clause-rule c = one_end_keeps _ _ _ _ (ap (λ (v : EndView). v.pushes) c.args.sender.role) (ap (λ (v : EndView). v.pops) c.args.receiver.role)
+absorb-requires-clause-rule c =
+    one_end_keeps _ _ _ _ (ap (λ (v : EndView). v.pushes) c.args.sender.role) (ap (λ (v : EndView). v.pops) c.args.receiver.role)
 
 pub returns-clause-begins : goal.returns-clause-begins
 returns-clause-begins c =

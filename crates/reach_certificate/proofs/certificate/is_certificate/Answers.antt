@@ -9,7 +9,8 @@ use Rattle.reach_certificate.proofs.ChainPlaces.{all_fit_no_misfit}
 use Rattle.reach_certificate.proofs.Fitting.{waits_fits, waits_passes}
 use Rattle.reach_certificate.proofs.certificate.is_certificate.Goals as goal
 
-certified : (s : State) → IsState s → (w x : ℕ) (found : Option ℕ) (answer : Bool) → is_some found ≡ not answer → MatchOption found (AllFit (AgainstFits s w x) processor_count) (IsFirstMisfit (AgainstFits s w x) processor_count)
+certified : (s : State) → IsState s → (w x : ℕ) (found : Option ℕ) (answer : Bool) → is_some found ≡ not answer
+    → MatchOption found (AllFit (AgainstFits s w x) processor_count) (IsFirstMisfit (AgainstFits s w x) processor_count)
     → Within x (all_below processor_count) → IsTrue answer ↔ IsCertificate s w x
 certified s ok w x None answer says fits small = (
   (λ certifies. waits_passes s ok w x fits small),
@@ -21,4 +22,5 @@ certified s ok w x (Some q) answer says misfit small = (
 )
 
 pub returns : goal.returns
-returns c = certified c.args.links.now c.len.ensures.valid c.args.w c.args.x c.first_misfit.result c.is_none.result c.is_none.ensures c.first_misfit.ensures.test c.first_misfit.ensures.processors
+returns c = certified c.args.links.now c.len.ensures.valid c.args.w c.args.x c.first_misfit.result c.is_none.result c.is_none.ensures
+    c.first_misfit.ensures.test c.first_misfit.ensures.processors

@@ -5,10 +5,12 @@ use Rattle.reach_certificate.proofs.Online.{off_again}
 use Rattle.reach_certificate.proofs.change.follow_online.Goals as goal
 
 pub set_online-requires-clause-nobody : goal.set_online-requires-clause-nobody
-set_online-requires-clause-nobody c = nobody_off c.args.links.now c.is_online.ensures.valid c.args.p (sym c.is_online.ensures.value ∙ c.if-is_online.false)
+set_online-requires-clause-nobody c =
+    nobody_off c.args.links.now c.is_online.ensures.valid c.args.p (sym c.is_online.ensures.value ∙ c.if-is_online.false)
 
 pub set_online-requires-in-Some-clause-nobody : goal.set_online-requires-in-Some-clause-nobody
-set_online-requires-in-Some-clause-nobody c = rw c.set_online.ensures.online (nobody_off c.args.links.now c.is_online.ensures.valid c.args.p (sym c.is_online.ensures.value ∙ c.if-is_online.false))
+set_online-requires-in-Some-clause-nobody c = rw c.set_online.ensures.online
+    (nobody_off c.args.links.now c.is_online.ensures.valid c.args.p (sym c.is_online.ensures.value ∙ c.if-is_online.false))
 
 pub returns-in-Some-clause-refused : goal.returns-in-Some-clause-refused
 returns-in-Some-clause-refused c =

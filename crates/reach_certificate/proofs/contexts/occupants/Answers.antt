@@ -5,7 +5,8 @@ use Rattle.reach_certificate.proofs.contexts.occupants.Goals as goal
 pub loop-p-preserved : goal.loop-p-preserved
 loop-p-preserved c =
     let count = c.on.ensures.valid.on_count in
-    c.in_ok-push.ensures.items ∙ rw (c.loop-p.invariant, c.on.ensures.value) (sym (take_more c.args.links.now.on c.loop-p.p None (omega arith)))
+    c.in_ok-push.ensures.items ∙ rw (c.loop-p.invariant, c.on.ensures.value)
+    (sym (take_more c.args.links.now.on c.loop-p.p None (omega arith)))
 
 pub returns : goal.returns
 returns c =

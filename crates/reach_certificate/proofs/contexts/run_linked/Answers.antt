@@ -15,4 +15,5 @@ loop-p-preserved c =
     (rw (← c.on.ensures.value) c.run_occupant.ensures)
 
 pub returns : goal.returns
-returns c = runs_whole c.args.links.now c.loop-p.p c.args.units (let v = c.processors-p-end.ensures.value in omega arith) c.args.contexts.now c.loop-p.contexts c.loop-p.invariant
+returns c = runs_whole c.args.links.now c.loop-p.p c.args.units (let v = c.processors-p-end.ensures.value in omega arith)
+    c.args.contexts.now c.loop-p.contexts c.loop-p.invariant

@@ -4,7 +4,8 @@ use Rattle.reach_certificate.proofs.Entering.{entering_waits, entering_number, e
 use Rattle.reach_certificate.proofs.parts.let_in.Goals as goal
 
 pub shift-requires-clause-number : goal.shift-requires-clause-number
-shift-requires-clause-number c = entering_number c.args.links.now c.args.p c.args.gone.now c.in-Some.w c.requires.passes c.in-Some.is c.processors.ensures.valid
+shift-requires-clause-number c =
+    entering_number c.args.links.now c.args.p c.args.gone.now c.in-Some.w c.requires.passes c.in-Some.is c.processors.ensures.valid
 
 pub shift-requires-clause-waits : goal.shift-requires-clause-waits
 shift-requires-clause-waits c = entering_waits c.args.links.now c.args.p c.args.gone.now c.in-Some.w c.requires.passes c.in-Some.is
@@ -15,7 +16,8 @@ shift-requires-clause-chain c =
     (entering_chain c.args.links.now c.args.p c.args.gone.now c.in-Some.w c.requires.passes c.in-Some.is)
 
 pub shift-requires-clause-simple : goal.shift-requires-clause-simple
-shift-requires-clause-simple c = subst IsSimple (sym c.reversed.ensures) (entering_simple c.args.links.now c.args.p c.args.gone.now c.in-Some.w c.requires.passes c.in-Some.is)
+shift-requires-clause-simple c = subst IsSimple (sym c.reversed.ensures)
+    (entering_simple c.args.links.now c.args.p c.args.gone.now c.in-Some.w c.requires.passes c.in-Some.is)
 
 pub returns-in-Some : goal.returns-in-Some
 returns-in-Some c =

@@ -17,4 +17,5 @@ pub returns-then-done-clause-seen : goal.returns-then-done-clause-seen
 returns-then-done-clause-seen g c = saw_more _ _ _ _ c.loop.invariant.mine c.flush-done.ensures.seen
 
 pub returns-then-done-clause-turn : goal.returns-then-done-clause-turn
-returns-then-done-clause-turn g c = turn_further c.args.pass.now c.loop.pass c.flush-done.new.pass (length c.flush-done.new.pass.seen) c.loop.invariant.grown c.flush-done.ensures.turn
+returns-then-done-clause-turn g c = turn_further c.args.pass.now c.loop.pass c.flush-done.new.pass (length c.flush-done.new.pass.seen)
+    c.loop.invariant.grown c.flush-done.ensures.turn

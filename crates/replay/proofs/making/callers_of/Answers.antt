@@ -13,7 +13,8 @@ loop-posted-preserved c =
       least = omega (arith, i.least, more.0);
       most = more.1;
       above = All-more (λ (p : Posted). p.stream < c.with_stream-callers.result) events c.loop-posted.posted-index _ c.loop-posted-test.true
-          (All-weaker (λ (p : Posted). p.stream < c.loop-posted.callers) (λ (p : Posted). p.stream < c.with_stream-callers.result) (λ p low. omega (arith, low, more.0)) (take c.loop-posted.posted-index events) i.above)
+          (All-weaker (λ (p : Posted). p.stream < c.loop-posted.callers) (λ (p : Posted). p.stream < c.with_stream-callers.result)
+          (λ p low. omega (arith, low, more.0)) (take c.loop-posted.posted-index events) i.above)
           (subst (λ (p : Posted). p.stream < c.with_stream-callers.result) c.posted-item.is c.with_stream-callers.ensures.above);
       fewest = λ n some all. c.with_stream-callers.ensures.least n (i.fewest n some all)
           (subst (λ (p : Posted). p.stream < n) (sym c.posted-item.is)
@@ -24,7 +25,8 @@ pub returns-clause-above : goal.returns-clause-above
 returns-clause-above c =
     let events : List Posted = c.args.events.now in
     let at_end : c.loop-posted.posted-index ≡ length events = omega arith in
-    subst (All (λ (p : Posted). p.stream < c.loop-posted.callers)) (ap (λ n. take n events) at_end ∙ take-length events) c.loop-posted.invariant.above
+    subst (All (λ (p : Posted). p.stream < c.loop-posted.callers)) (ap (λ n. take n events) at_end ∙ take-length events)
+    c.loop-posted.invariant.above
 
 pub returns-clause-least : goal.returns-clause-least
 returns-clause-least c = c.loop-posted.invariant.fewest

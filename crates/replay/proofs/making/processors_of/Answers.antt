@@ -26,13 +26,15 @@ loop-hand-init c =
 pub new-processor-requires-clause-hand : goal.new-processor-requires-clause-hand
 new-processor-requires-clause-hand c =
     let P = IsNewHandAt c.args.slots.now in
-    let last = AllFrom-last P 0 c.pop.new.self.items c.in-Some.hand (subst (AllFrom P 0) c.in-Some.ensures.items c.loop-hand.invariant.hands) in
+    let last = AllFrom-last P 0 c.pop.new.self.items c.in-Some.hand
+    (subst (AllFrom P 0) c.in-Some.ensures.items c.loop-hand.invariant.hands) in
     (ap (λ (h : HandData). h.holds) last.1, ap (λ (h : HandData). h.ended) last.1)
 
 pub new-processor-requires-clause-receiver : goal.new-processor-requires-clause-receiver
 new-processor-requires-clause-receiver c =
     let P = IsNewReceiverAt c.args.queues.now in
-    (AllFrom-last P 0 c.pop-in-Some.new.self.items c.in-Some-pop.receiver (subst (AllFrom P 0) c.in-Some-pop.ensures.items c.loop-hand.invariant.receivers)).1.received
+    (AllFrom-last P 0 c.pop-in-Some.new.self.items c.in-Some-pop.receiver
+    (subst (AllFrom P 0) c.in-Some-pop.ensures.items c.loop-hand.invariant.receivers)).1.received
 
 pub loop-hand-preserved : goal.loop-hand-preserved
 loop-hand-preserved c =
@@ -44,9 +46,17 @@ loop-hand-preserved c =
     let hand : HandData = c.in-Some.hand in
     let receiver : ReceiverData = c.in-Some-pop.receiver in
     let hands = AllFrom-last (IsNewHandAt slots) 0 left hand (subst (AllFrom (IsNewHandAt slots) 0) c.in-Some.ensures.items i.hands) in
-    let receivers = AllFrom-last (IsNewReceiverAt queues) 0 others receiver (subst (AllFrom (IsNewReceiverAt queues) 0) c.in-Some-pop.ensures.items i.receivers) in
-    let fewer : length c.loop-hand.hands.items ≡ length left + 1 = omega (arith, ap length c.in-Some.ensures.items, length-append left (hand ∷ [])) in
-    let same : length others ≡ length left = omega (arith, i.same, fewer, ap length c.in-Some-pop.ensures.items, length-append others (receiver ∷ [])) in
+    let receivers = AllFrom-last (IsNewReceiverAt queues) 0 others receiver
+    (subst (AllFrom (IsNewReceiverAt queues) 0) c.in-Some-pop.ensures.items i.receivers) in
+    let fewer : length c.loop-hand.hands.items ≡ length left
+    + 1 = omega (arith, ap length c.in-Some.ensures.items, length-append left (hand ∷ [])) in
+    let same : length others ≡ length left = omega (
+      arith,
+      i.same,
+      fewer,
+      ap length c.in-Some-pop.ensures.items,
+      length-append others (receiver ∷ []),
+    ) in
     let place : 0 + length others ≡ length left = omega arith in
     let zero : 0 + length left ≡ length left = omega arith in
     let idle : IsIdleAt queues slots (length left) (record { hand = hand; pending = None; receiver = receiver }) = record {
@@ -64,6 +74,7 @@ loop-hand-preserved c =
       hands = hands.0;
       receivers = receivers.0;
       room = omega (arith, i.room, c.in_default-insert.ensures.capacity);
-      idle = AllFrom-insert (IsIdleAt queues slots) (length left) (length c.loop-hand.hands.items) c.new-processor.result c.loop-hand.processors.items c.insert.new.self.items c.in_default-insert.ensures.items fewer
+      idle = AllFrom-insert (IsIdleAt queues slots) (length left) (length c.loop-hand.hands.items)
+          c.new-processor.result c.loop-hand.processors.items c.insert.new.self.items c.in_default-insert.ensures.items fewer
           (subst (λ (p : ProcessorData). IsIdleAt queues slots (length left) p) (sym c.new-processor.ensures.parts) idle) i.idle;
     }

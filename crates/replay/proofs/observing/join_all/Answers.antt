@@ -16,12 +16,23 @@ loop-watcher-preserved g c =
     let left = c.pop.new.self.items in
     let back = c.join-back.result in
     record {
-      count = omega (arith, i.count, ap length c.in-Some.ensures.items, length-append left (c.in-Some.watcher ∷ []), ap length c.push_reserved.ensures.items, length-append c.loop-watcher.observed.items (back ∷ []));
+      count = omega (
+        arith,
+        i.count,
+        ap length c.in-Some.ensures.items,
+        length-append left (c.in-Some.watcher ∷ []),
+        ap length c.push_reserved.ensures.items,
+        length-append c.loop-watcher.observed.items (back ∷ []),
+      );
       room = omega (arith, i.room, c.push_reserved.ensures.capacity);
       each = λ of all.
           let both = i.each of all in
-          let popped = All-pop (IsWatcherOf of) c.loop-watcher.watchers.items left (Some c.in-Some.watcher) c.in-Some.ensures.items both.0 in
-          (popped.0, subst (All (IsObservedOf of)) (sym c.push_reserved.ensures.items) (All-push (IsObservedOf of) c.loop-watcher.observed.items back both.1 (c.join-back.ensures of popped.1)));
+          let popped = All-pop (IsWatcherOf of) c.loop-watcher.watchers.items left (Some c.in-Some.watcher)
+          c.in-Some.ensures.items both.0 in (
+            popped.0,
+            subst (All (IsObservedOf of)) (sym c.push_reserved.ensures.items)
+                (All-push (IsObservedOf of) c.loop-watcher.observed.items back both.1 (c.join-back.ensures of popped.1)),
+          );
     }
 
 pub returns-clause-each : goal.returns-clause-each

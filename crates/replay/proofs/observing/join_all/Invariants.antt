@@ -8,7 +8,8 @@ abbrev pub invariant-loop-watcher : goal.invariant-loop-watcher
 invariant-loop-watcher g l = record {
   count : length l.watchers.items + length l.observed.items ≡ length l.initial.watchers.items;
   room : length l.initial.watchers.items ≤ vec_capacity l.observed;
-  each : (of : PictureBoardData) → All (IsWatcherOf of) l.initial.watchers.items → All (IsWatcherOf of) l.watchers.items × All (IsObservedOf of) l.observed.items;
+  each : (of : PictureBoardData) → All (IsWatcherOf of) l.initial.watchers.items → All (IsWatcherOf of) l.watchers.items
+      × All (IsObservedOf of) l.observed.items;
 }
 
 abbrev pub decreases-loop-watcher : goal.decreases-loop-watcher

@@ -18,13 +18,22 @@ loop-observer-preserved g c =
     let left = c.pop.new.self.items in
     let watcher = c.start-watcher.result in
     record {
-      count = omega (arith, i.count, ap length c.in-Some.ensures.items, length-append left (c.in-Some.observer ∷ []), ap length c.push_reserved.ensures.items, length-append c.loop-observer.watchers.items (watcher ∷ []));
+      count = omega (
+        arith,
+        i.count,
+        ap length c.in-Some.ensures.items,
+        length-append left (c.in-Some.observer ∷ []),
+        ap length c.push_reserved.ensures.items,
+        length-append c.loop-observer.watchers.items (watcher ∷ []),
+      );
       room = omega (arith, i.room, c.push_reserved.ensures.capacity);
       each = λ of all.
           let both = i.each of all in
-          let popped = All-pop (λ (o : Observer). board_at o ≡ of) c.loop-observer.observers.items left (Some c.in-Some.observer) c.in-Some.ensures.items both.0 in (
+          let popped = All-pop (λ (o : Observer). board_at o ≡ of) c.loop-observer.observers.items left (Some c.in-Some.observer)
+          c.in-Some.ensures.items both.0 in (
             popped.0,
-            subst (All (IsWatcherOf of)) (sym c.push_reserved.ensures.items) (All-push (IsWatcherOf of) c.loop-observer.watchers.items watcher both.1
+            subst (All (IsWatcherOf of)) (sym c.push_reserved.ensures.items)
+                (All-push (IsWatcherOf of) c.loop-observer.watchers.items watcher both.1
                 (subst (λ (b : PictureBoardData). IsWatcherOf b watcher) popped.1 c.start-watcher.ensures)),
           );
     }

@@ -9,7 +9,8 @@ abbrev pub invariant-loop-observer : goal.invariant-loop-observer
 invariant-loop-observer g l = record {
   count : length l.observers.items + length l.watchers.items ≡ length l.initial.observers.items;
   room : length l.initial.observers.items ≤ vec_capacity l.watchers;
-  each : (of : PictureBoardData) → All (λ (o : Observer). board_at o ≡ of) l.initial.observers.items → All (λ (o : Observer). board_at o ≡ of) l.observers.items × All (IsWatcherOf of) l.watchers.items;
+  each : (of : PictureBoardData) → All (λ (o : Observer). board_at o ≡ of) l.initial.observers.items
+      → All (λ (o : Observer). board_at o ≡ of) l.observers.items × All (IsWatcherOf of) l.watchers.items;
 }
 
 abbrev pub decreases-loop-observer : goal.decreases-loop-observer

@@ -23,7 +23,9 @@ returns-clause-streamed g c =
     let new : PassData = c.close_core.new.pass in
     let last = AllFrom-last P 0 left c.in-Some.last (subst (AllFrom P 0) c.in-Some.ensures.items c.requires.streamed) in
     subst (AllFrom P 0) (sym c.in_default-push.ensures.items) (AllFrom-push P 0 left new last.0
-    (streamed_stays c.args.shared.now.board.now c.args.shared.now.events.now c.args.whole (0 + length left) c.in-Some.last new last.1 c.close_core.ensures.grown c.close_core.ensures.mine c.close_core.ensures.eyes))
+    (streamed_stays c.args.shared.now.board.now c.args.shared.now.events.now c.args.whole (0 + length left)
+    c.in-Some.last new last.1 c.close_core.ensures.grown c.close_core.ensures.mine c.close_core.ensures.eyes))
 
 pub returns-clause-closed : goal.returns-clause-closed
-returns-clause-closed g c = subst SomeSawClose (sym c.in_default-push.ensures.items) (saw_last c.pop.new.self.items c.close_core.new.pass c.close_core.ensures.closed)
+returns-clause-closed g c = subst SomeSawClose (sym c.in_default-push.ensures.items)
+    (saw_last c.pop.new.self.items c.close_core.new.pass c.close_core.ensures.closed)

@@ -32,5 +32,6 @@ returns-in-Ok-clause-core c =
         closed = saw_closed c.in-Ok.core.history c.in-Ok.core.closed c.args.done.passes.items is.told done.closed;
       };
       merge = merged c.args.board c.args.events.now c.args.done.passes.items c.in-Ok.core c.requires.events done.callers
-          (subst (λ (whole : Bool). AllFrom (IsStreamedAt c.args.board c.args.events.now whole) 0 c.args.done.passes.items) c.in-Ok.ensures.whole done.streamed) is;
+          (subst (λ (whole : Bool). AllFrom (IsStreamedAt c.args.board c.args.events.now whole) 0 c.args.done.passes.items)
+          c.in-Ok.ensures.whole done.streamed) is;
     }

@@ -15,17 +15,20 @@ publish_new-requires-clause-published g c = c.post_event.ensures.seen (published
 
 pub returns-in-Ok-clause-callers : goal.returns-in-Ok-clause-callers
 returns-in-Ok-clause-callers g c =
-    count_grown c.args.shared.now.board.now.queues c.post_event.new.passes.items c.publish_new.new.passes.items c.publish_new.ensures.grown ∙ c.post_event.ensures.callers
+    count_grown c.args.shared.now.board.now.queues c.post_event.new.passes.items c.publish_new.new.passes.items c.publish_new.ensures.grown
+    ∙ c.post_event.ensures.callers
 
 pub returns-in-Err-clause-callers : goal.returns-in-Err-clause-callers
 returns-in-Err-clause-callers g c =
-    count_grown c.args.shared.now.board.now.queues c.post_event.new.passes.items c.publish_new.new.passes.items c.publish_new.ensures.grown ∙ c.post_event.ensures.callers
+    count_grown c.args.shared.now.board.now.queues c.post_event.new.passes.items c.publish_new.new.passes.items c.publish_new.ensures.grown
+    ∙ c.post_event.ensures.callers
 
 pub returns-in-Ok-clause-posted : goal.returns-in-Ok-clause-posted
 returns-in-Ok-clause-posted g c = λ done streamed.
     let board = c.args.shared.now.board.now in
     let mid : List PassData = c.post_event.new.passes.items in
-    streamed_grown board (done ++ c.args.posted ∷ []) true 0 mid c.publish_new.new.passes.items c.publish_new.ensures.grown (c.in_ok-owing.ensures.posted done streamed)
+    streamed_grown board (done ++ c.args.posted ∷ []) true 0 mid c.publish_new.new.passes.items c.publish_new.ensures.grown
+    (c.in_ok-owing.ensures.posted done streamed)
 
 pub returns-in-Err-clause-posted : goal.returns-in-Err-clause-posted
 returns-in-Err-clause-posted g c = λ done streamed.
@@ -33,4 +36,5 @@ returns-in-Err-clause-posted g c = λ done streamed.
     let mid : List PassData = c.post_event.new.passes.items in
     let new : List PassData = c.publish_new.new.passes.items in
     not_whole board (done ++ c.args.posted ∷ []) (done ++ c.args.posted ∷ []) true 0 new
-    (streamed_grown board (done ++ c.args.posted ∷ []) true 0 mid new c.publish_new.ensures.grown (c.in_ok-owing.ensures.posted done streamed))
+    (streamed_grown board (done ++ c.args.posted ∷ []) true 0 mid new c.publish_new.ensures.grown
+    (c.in_ok-owing.ensures.posted done streamed))

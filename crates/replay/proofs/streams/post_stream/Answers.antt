@@ -17,6 +17,8 @@ returns g c =
     let all : take c.loop-posted.posted-index events ≡ events = ap (λ n. take n events) at_end ∙ take-length events in
     record {
       own = pass_stays board stream c.loop-posted.pass c.flush.new.pass i.own c.flush.ensures.grown c.flush.ensures.eyes;
-      posted = λ whole. posted_events_stay c.loop-posted.pass c.flush.new.pass (events_of_stream stream events) c.flush.ensures.grown c.flush.ensures.mine
-          (subst (λ (es : List Posted). AreEventsAt c.loop-posted.pass.seen c.loop-posted.pass.mine (events_of_stream stream es)) all i.events);
+      posted = λ whole. posted_events_stay c.loop-posted.pass c.flush.new.pass (events_of_stream stream events)
+          c.flush.ensures.grown c.flush.ensures.mine
+          (subst (λ (es : List Posted). AreEventsAt c.loop-posted.pass.seen c.loop-posted.pass.mine (events_of_stream stream es))
+          all i.events);
     }

@@ -11,7 +11,9 @@ invariant-loop-pass g l = record {
   passes : AllFrom (IsPassAt l.shared.board.now) 0 l.passes.items;
   unused : All IsUnused l.passes.items;
   room : l.shared.board.now.callers ≤ vec_capacity l.streams;
-  each : AllFrom (λ n stream. MatchResult stream (λ h. (h.promise.board.now ≡ l.shared.board.now) × (h.promise.events.now ≡ l.shared.events.now) × (h.promise.caller ≡ n)) (λ back. IsStreamedAt l.shared.board.now l.shared.events.now back.1 n back.0)) (length l.passes.items) l.streams.items;
+  each : AllFrom (λ n stream. MatchResult stream
+      (λ h. (h.promise.board.now ≡ l.shared.board.now) × (h.promise.events.now ≡ l.shared.events.now) × (h.promise.caller ≡ n))
+      (λ back. IsStreamedAt l.shared.board.now l.shared.events.now back.1 n back.0)) (length l.passes.items) l.streams.items;
 }
 
 abbrev pub decreases-loop-pass : goal.decreases-loop-pass

@@ -12,7 +12,8 @@ tell_one-sighting-requires g c =
     let observed : Observed = c.index_mut.result.now in
     let of = board_of c.loop-i.publisher in
     subst (λ (b : PictureBoardData). IsObservedOf b observed) (sym (ap board_of c.loop-i.invariant.publisher))
-    (subst (IsObservedOf (board_of c.args.publisher.now)) (sym c.index_mut.ensures.value) (c.loop-i.invariant.observed c.loop-i.i observed (omega arith)))
+    (subst (IsObservedOf (board_of c.args.publisher.now)) (sym c.index_mut.ensures.value)
+    (c.loop-i.invariant.observed c.loop-i.i observed (omega arith)))
 
 pub loop-i-preserved : goal.loop-i-preserved
 loop-i-preserved g c =
@@ -28,7 +29,8 @@ loop-i-preserved g c =
       count = omega (arith, i.count, ap length c.push_reserved.ensures.items, length-append c.loop-i.sightings.items (sighting ∷ []));
       same = length-set items c.loop-i.i new ∙ i.same;
       room = omega (arith, i.room, c.push_reserved.ensures.capacity);
-      observed = All-set (IsObservedOf (board_of old)) items c.loop-i.i new (subst (λ (b : PictureBoardData). IsObservedOf b new) (ap board_of i.publisher) told.observed) i.observed;
+      observed = All-set (IsObservedOf (board_of old)) items c.loop-i.i new
+          (subst (λ (b : PictureBoardData). IsObservedOf b new) (ap board_of i.publisher) told.observed) i.observed;
       each = subst (All P) (sym c.push_reserved.ensures.items) (All-push P c.loop-i.sightings.items sighting i.each
           (subst (λ (b : PictureBoardData). IsToldOf b.processors (published old) sighting) (ap board_of i.publisher)
           (subst (λ (l : List Entry). IsToldOf (board_of c.loop-i.publisher).processors l sighting) (ap published i.publisher) told.told)));

@@ -18,6 +18,7 @@ returns-clause-told g c =
     record {
       all = seen new;
       begins = subst (λ (l : List Entry). IsPrefix l (seen new)) c.tell.ensures.told c.read-told.ensures.told;
-      told = subst (λ (b : PictureBoardData). IsPictureOf b.processors (seen new) c.read-told.result) (c.tell.ensures.same.0 ∙ c.requires.board) c.read-told.ensures.picture;
+      told = subst (λ (b : PictureBoardData). IsPictureOf b.processors (seen new) c.read-told.result)
+          (c.tell.ensures.same.0 ∙ c.requires.board) c.read-told.ensures.picture;
       reads = reads_further _ _ _ _ _ _ c.requires.reads c.tell.ensures.same.1 c.read-told.ensures.later;
     }

@@ -7,7 +7,8 @@ use Rattle.replay.proofs.watched_threads.in_threads.Goals as goal
 pub tell_joined-requires : goal.tell_joined-requires
 tell_joined-requires g c =
     let joined = c.in_ok-joined.joined in
-    let h : AreJoined c.args.shared.now (board_of c.args.watching.publisher) (length c.args.watching.observers.items) joined = search rules in
+    let h : AreJoined c.args.shared.now (board_of c.args.watching.publisher) (length c.args.watching.observers.items)
+    joined = search rules in
     record {
       joined = record {
         threads = h.threads;
@@ -25,4 +26,5 @@ returns g c =
     let shared = c.args.shared.now in
     let h : AreJoined shared (board_of c.args.watching.publisher) (length c.args.watching.observers.items) joined = search rules in
     subst (λ (n : ℕ). AreTold shared (board_of c.args.watching.publisher).processors n c.tell_joined.result) h.each_observer
-    (subst (λ (of : PictureBoardData). AreTold shared of.processors (length joined.observed.items) c.tell_joined.result) h.on_board c.tell_joined.ensures)
+    (subst (λ (of : PictureBoardData). AreTold shared of.processors (length joined.observed.items) c.tell_joined.result)
+    h.on_board c.tell_joined.ensures)

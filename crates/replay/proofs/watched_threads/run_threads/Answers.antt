@@ -8,7 +8,8 @@ use Rattle.replay.proofs.Passing.{begin_streamed, count_grown, own_passes, saw_g
 use Rattle.replay.proofs.watched_threads.run_threads.Goals as goal
 
 pub post_all-whole-requires-clause-passes : goal.post_all-whole-requires-clause-passes
-post_all-whole-requires-clause-passes g c = begin_streamed c.args.shared.now.board.now 0 c.args.passes.items c.requires.run.all.1 c.requires.run.unused
+post_all-whole-requires-clause-passes g c =
+    begin_streamed c.args.shared.now.board.now 0 c.args.passes.items c.requires.run.all.1 c.requires.run.unused
 
 pub post_all-whole-requires-clause-published : goal.post_all-whole-requires-clause-published
 post_all-whole-requires-clause-published g c =
@@ -17,15 +18,19 @@ post_all-whole-requires-clause-published g c =
 
 pub close_by_first-requires-clause-passes : goal.close_by_first-requires-clause-passes
 close_by_first-requires-clause-passes g c =
-    own_passes c.args.shared.now.board.now c.args.shared.now.events.now c.post_all-whole.result 0 c.post_all-whole.new.passes.items c.post_all-whole.ensures.streamed
+    own_passes c.args.shared.now.board.now c.args.shared.now.events.now c.post_all-whole.result 0 c.post_all-whole.new.passes.items
+    c.post_all-whole.ensures.streamed
 
 pub close_by_first-requires-clause-seated : goal.close_by_first-requires-clause-seated
 close_by_first-requires-clause-seated g c =
-    crew_seated c.args.shared.now.queues.now c.args.shared.now.slots.now _ 0 c.start_all-workers.result.0.items c.start_all-workers.result.1.items c.start_all-workers.ensures.crew
+    crew_seated c.args.shared.now.queues.now c.args.shared.now.slots.now _ 0 c.start_all-workers.result.0.items
+    c.start_all-workers.result.1.items c.start_all-workers.ensures.crew
 
 pub join_all-processors-requires-clause-crew : goal.join_all-processors-requires-clause-crew
 join_all-processors-requires-clause-crew g c =
-    crew_done c.args.shared.now.queues.now c.args.shared.now.slots.now _ 0 c.start_all-workers.result.0.items c.start_all-workers.result.1.items c.close_by_first.new.left.items c.start_all-workers.ensures.crew c.close_by_first.ensures.same c.close_by_first.ensures.done
+    crew_done c.args.shared.now.queues.now c.args.shared.now.slots.now _ 0 c.start_all-workers.result.0.items
+    c.start_all-workers.result.1.items c.close_by_first.new.left.items c.start_all-workers.ensures.crew c.close_by_first.ensures.same
+    c.close_by_first.ensures.done
 
 pub returns : goal.returns
 returns g c =
@@ -35,7 +40,8 @@ returns g c =
     let new : List PassData = c.close_by_first.new.passes.items in
     let posted = c.post_all-whole.ensures in
     let closed = c.close_by_first.ensures in
-    let boards = All-weaker (IsNewObserver of) (λ (o : Observer). board_at o ≡ of) (λ o made. made.board) c.args.watching.observers.items c.requires.watch.seers in
+    let boards = All-weaker (IsNewObserver of) (λ (o : Observer). board_at o ≡ of) (λ o made. made.board)
+    c.args.watching.observers.items c.requires.watch.seers in
     record {
       threads = record {
         callers = count_grown board.queues mid new closed.grown ∙ posted.callers ∙ c.requires.run.all.0;

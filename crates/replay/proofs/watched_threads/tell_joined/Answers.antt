@@ -6,7 +6,8 @@ use Rattle.replay.proofs.watched_threads.tell_joined.Goals as goal
 pub tell_whole-requires-clause-passes : goal.tell_whole-requires-clause-passes
 tell_whole-requires-clause-passes g c =
     let threaded = c.args.joined.threaded in
-    own_passes c.args.shared.now.board.now c.args.shared.now.events.now threaded.whole 0 threaded.passes.items c.requires.joined.threads.streamed
+    own_passes c.args.shared.now.board.now c.args.shared.now.events.now threaded.whole 0 threaded.passes.items
+    c.requires.joined.threads.streamed
 
 pub returns-in-Ok : goal.returns-in-Ok
 returns-in-Ok g c =
@@ -41,7 +42,8 @@ returns-in-Err g c =
     record {
       threads = record {
         callers = count_grown board.queues old new grown ∙ joined.threads.callers;
-        streamed = not_whole board events events left.whole 0 new (streamed_grown board events left.whole 0 old new grown joined.threads.streamed);
+        streamed =
+            not_whole board events events left.whole 0 new (streamed_grown board events left.whole 0 old new grown joined.threads.streamed);
         closed = some_saw new (close_grown board.queues old new grown joined.first_closed);
         one_each = joined.threads.one_each;
         stopped = joined.threads.stopped;

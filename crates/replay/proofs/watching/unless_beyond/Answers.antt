@@ -12,5 +12,6 @@ returns-then-none_beyond-clause-sightings c =
     let yes : c.none_beyond.result ≡ true = search rules in
     let same : c.deref.result.now ≡ all = search rules in
     let few = few_of (length c.history.result.now) history all (ap length c.history.ensures.value)
-    (subst (λ (l : List Sighting). All (λ (s : Sighting). s.told.count ≤ length c.history.result.now) l) same (c.none_beyond.ensures.0 yes)) in
+    (subst (λ (l : List Sighting). All (λ (s : Sighting). s.told.count ≤ length c.history.result.now) l) same
+    (c.none_beyond.ensures.0 yes)) in
     sightings_of set set.processors history history all refl refl c.requires.told few

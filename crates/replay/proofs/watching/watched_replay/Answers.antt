@@ -11,7 +11,8 @@ unless_beyond-requires g c =
     let core = c.in-Ok.replayed.core in
     let m : ℕ = (board_of c.args.watching.publisher).processors in
     let were = c.in_ok-told.ensures.told c.in-Ok.ensures.whole in
-    let whole : were.entries ≡ core.history = published_is_history were.entries core.history core.closed done.threaded.passes.items were.all_seen c.in_ok-told.ensures.first_closed c.in-Ok.ensures.told in
+    let whole : were.entries ≡ core.history = published_is_history were.entries core.history core.closed done.threaded.passes.items
+    were.all_seen c.in_ok-told.ensures.first_closed c.in-Ok.ensures.told in
     record {
       told = subst (λ (n : ℕ). All (IsToldOf n core.history) done.sightings.items) c.requires.processors
           (subst (λ (l : List Entry). All (IsToldOf m l) done.sightings.items) whole were.told);

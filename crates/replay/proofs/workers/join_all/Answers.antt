@@ -11,5 +11,7 @@ loop-processor-preserved g c =
       count = omega (arith, i.count, last.0, ap length c.in_default-insert.ensures.items);
       crew = c.end_last.ensures.crew;
       room = omega (arith, i.room, c.in_default-insert.ensures.capacity);
-      each = AllFrom-insert (HasStoppedAt c.args.shared.now.queues.now c.args.shared.now.slots.now) (length c.end_last.new.workers.items) (length c.loop-processor.workers.items) c.in-Some.processor c.loop-processor.processors.items c.insert.new.self.items c.in_default-insert.ensures.items last.0 last.1 i.each;
+      each = AllFrom-insert (HasStoppedAt c.args.shared.now.queues.now c.args.shared.now.slots.now) (length c.end_last.new.workers.items)
+          (length c.loop-processor.workers.items) c.in-Some.processor c.loop-processor.processors.items c.insert.new.self.items
+          c.in_default-insert.ensures.items last.0 last.1 i.each;
     }

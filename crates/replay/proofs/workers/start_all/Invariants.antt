@@ -11,7 +11,8 @@ invariant-loop-processor g l = record {
   few : length l.left.items ≤ length l.workers.items;
   idle : AllFrom (IsIdleAt l.shared.queues.now l.shared.slots.now) 0 l.processors.items;
   room : (length l.shared.queues.now ≤ vec_capacity l.workers) × (length l.shared.queues.now ≤ vec_capacity l.left);
-  crew : IsCrew (λ n h. (h.promise.queues.now ≡ l.shared.queues.now) × (h.promise.slots.now ≡ l.shared.slots.now) × (h.promise.number ≡ n)) (IsSeatedAt l.shared.queues.now l.shared.slots.now) (length l.processors.items) l.workers.items l.left.items;
+  crew : IsCrew (λ n h. (h.promise.queues.now ≡ l.shared.queues.now) × (h.promise.slots.now ≡ l.shared.slots.now) × (h.promise.number ≡ n))
+      (IsSeatedAt l.shared.queues.now l.shared.slots.now) (length l.processors.items) l.workers.items l.left.items;
 }
 
 abbrev pub decreases-loop-processor : goal.decreases-loop-processor

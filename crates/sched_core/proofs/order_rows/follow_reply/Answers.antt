@@ -7,7 +7,8 @@ use Rattle.sched_core.proofs.order_rows.follow_reply.Goals as goal
 pub follow_chain-requires : goal.follow_chain-requires
 follow_chain-requires c =
     let reply = c.args.reply.now in
-    rw c.filling_chain.ensures.value (can_follow-first c.args.links.now (filling_chain reply) (coming_chain reply) c.args.rows.now.items c.args.takes.now.items c.requires)
+    rw c.filling_chain.ensures.value (can_follow-first c.args.links.now (filling_chain reply) (coming_chain reply)
+    c.args.rows.now.items c.args.takes.now.items c.requires)
 
 pub follow_chain-requires-2 : goal.follow_chain-requires-2
 follow_chain-requires-2 c =
@@ -17,8 +18,10 @@ follow_chain-requires-2 c =
     let takes = c.args.takes.now.items in
     let now = c.follow_chain.new.rows.items in
     let counted = c.follow_chain.new.takes.items in
-    let changed : RowsChange (filling_chain reply) links old takes now counted = rw c.filling_chain.ensures.value at c.follow_chain.ensures in
-    rw c.coming_chain.ensures.value (can_follow-later links (chain_of reply) (filling_chain reply) old now takes counted c.requires changed (coming_chain reply) refl)
+    let changed : RowsChange (filling_chain reply) links old takes now counted = rw c.filling_chain.ensures.value at
+    c.follow_chain.ensures in
+    rw c.coming_chain.ensures.value (can_follow-later links (chain_of reply) (filling_chain reply) old now takes counted c.requires changed
+    (coming_chain reply) refl)
 
 pub returns : goal.returns
 returns c =
@@ -32,4 +35,5 @@ returns c =
     let after = c.follow_chain-2.new.takes.items in
     let first : RowsChange (filling_chain reply) links old takes now counted = rw c.filling_chain.ensures.value at c.follow_chain.ensures in
     let later : RowsChange (coming_chain reply) links now counted new after = rw c.coming_chain.ensures.value at c.follow_chain-2.ensures in
-    rows_change-then links (chain_of reply) (filling_chain reply) old now takes counted c.requires first (coming_chain reply) new after later
+    rows_change-then links (chain_of reply) (filling_chain reply) old now takes counted c.requires first (coming_chain reply)
+    new after later

@@ -6,4 +6,6 @@ use Rattle.schedule_picture.proofs.around.write_axis.Goals as goal
 pub returns : goal.returns
 returns c =
     on_ok_then _ _ _ _ c.in_ok-write_axis_lines.ensures
-    (keeps_by _ _ _ _ _ c.put.ensures c.deref.ensures (λ untitled name outer. ap (reads untitled (Inside name outer)) c.in_ok-line.ensures.ok ∙ simp (append_assoc, number_value, number_inside, over_inside c.axis_word-word.result.now c.axis_word-word.ensures)))
+    (keeps_by _ _ _ _ _ c.put.ensures c.deref.ensures
+    (λ untitled name outer. ap (reads untitled (Inside name outer)) c.in_ok-line.ensures.ok
+    ∙ simp (append_assoc, number_value, number_inside, over_inside c.axis_word-word.result.now c.axis_word-word.ensures)))

@@ -36,8 +36,12 @@ returns c =
         is_text = is_text;
       };
       well_formed = whole c.args.around.now.before.items
-          (lanes_group places set window (spans_in c.args.tracks.now.absences.items) (spans_in c.args.tracks.now.lanes.items) c.lane_top.result c.args.page.wide)
-          c.args.around.now.between.items (rows_group places window (spans_in c.args.tracks.now.rows.items) c.args.listed.now c.rows_top.result c.args.page.wide) c.args.around.now.after.items _ is_text c.requires.begins
-          (lanes_group_are places set window (spans_in c.args.tracks.now.absences.items) (spans_in c.args.tracks.now.lanes.items) c.lane_top.result c.args.page.wide c.processors-lanes.ensures.valid)
-          c.requires.goes_on (rows_group_are places window (spans_in c.args.tracks.now.rows.items) c.args.listed.now c.rows_top.result c.args.page.wide) c.requires.ends;
+          (lanes_group places set window (spans_in c.args.tracks.now.absences.items) (spans_in c.args.tracks.now.lanes.items)
+          c.lane_top.result c.args.page.wide)
+          c.args.around.now.between.items (rows_group places window (spans_in c.args.tracks.now.rows.items)
+          c.args.listed.now c.rows_top.result c.args.page.wide) c.args.around.now.after.items _ is_text c.requires.begins
+          (lanes_group_are places set window (spans_in c.args.tracks.now.absences.items) (spans_in c.args.tracks.now.lanes.items)
+          c.lane_top.result c.args.page.wide c.processors-lanes.ensures.valid)
+          c.requires.goes_on (rows_group_are places window (spans_in c.args.tracks.now.rows.items)
+          c.args.listed.now c.rows_top.result c.args.page.wide) c.requires.ends;
     }

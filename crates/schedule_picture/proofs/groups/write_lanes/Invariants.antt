@@ -6,4 +6,6 @@ use Rattle.schedule_picture.proofs.groups.write_lanes.Given as goal
 
 abbrev pub invariant-loop-p : goal.invariant-loop-p
 invariant-loop-p l =
-    l.text.items ≡ l.fn.text.items ++ flat_map (λ p. lane_text l.sheet.places.now l.sheet.window l.sheet.set.now p (get_or l.absences p fresh_track).spans (get_or l.lanes p fresh_track).spans) (range_with_len 0 l.p)
+    l.text.items ≡ l.fn.text.items ++ flat_map
+    (λ p. lane_text l.sheet.places.now l.sheet.window l.sheet.set.now p (get_or l.absences p fresh_track).spans
+    (get_or l.lanes p fresh_track).spans) (range_with_len 0 l.p)

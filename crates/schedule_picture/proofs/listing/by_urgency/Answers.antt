@@ -5,5 +5,7 @@ use Rattle.schedule_picture.proofs.listing.by_urgency.Goals as goal
 
 pub returns : goal.returns
 returns c =
-    by_urgency_of c.args.sheet.now.set.now c.len-valid.ensures.valid (λ t. is_seen c.args.sheet.now.places.now c.args.sheet.now.window c.args.waiting (spans_in c.args.rows.now t))
-    c.in_ok-tasks.tasks.items c.sort_by_urgency.new.tasks.items c.in_ok-tasks.ensures c.sort_by_urgency.ensures.moved c.sort_by_urgency.ensures.sorted
+    by_urgency_of c.args.sheet.now.set.now c.len-valid.ensures.valid
+    (λ t. is_seen c.args.sheet.now.places.now c.args.sheet.now.window c.args.waiting (spans_in c.args.rows.now t))
+    c.in_ok-tasks.tasks.items c.sort_by_urgency.new.tasks.items c.in_ok-tasks.ensures c.sort_by_urgency.ensures.moved
+    c.sort_by_urgency.ensures.sorted

@@ -9,7 +9,8 @@ pub returns-in_err-known_task-in-Some-Arrive-clause-refused : goal.returns-in_er
 returns-in_err-known_task-in-Some-Arrive-clause-refused c =
     let p = err_from_is_err_and c.from_residual.result c.from_residual.ensures.1 in
     rw (p.1, p.2) (arrival_fault c.args.version c.args.set.now c.args.word.now c.args.value.now
-    c.in_err-known_task-in-Some-Arrive.field-0.0 (c.in-Some-Arrive.ensures ∙ ap word_text c.in-Some-Arrive.field-0-is) c.in_err-known_task-in-Some-Arrive.ensures.refused)
+    c.in_err-known_task-in-Some-Arrive.field-0.0 (c.in-Some-Arrive.ensures ∙ ap word_text c.in-Some-Arrive.field-0-is)
+    c.in_err-known_task-in-Some-Arrive.ensures.refused)
 
 pub returns-in_err-known_task-in-Some-Depart-clause-refused : goal.returns-in_err-known_task-in-Some-Depart-clause-refused
 returns-in_err-known_task-in-Some-Depart-clause-refused c =

@@ -4,7 +4,8 @@ use Rattle.std.proofs.lemmas.Result.{err_from_is_err_and}
 use Rattle.text_fields.proofs.FieldLists.{texts_four}
 use Rattle.text_fields.proofs.Names.{name_is_text}
 use Rattle.schedule_text.proofs.Tasks.{task_form, not_four, not_begun, list_fault, task_refused}
-use Rattle.schedule_text.proofs.line.add_task.Goals.{then-not-is_word-via-then-not-is_word, then-not-is_word-via-else-not-is_word+then-not-is_field}
+use Rattle.schedule_text.proofs.line.add_task.Goals.{then-not-is_word-via-then-not-is_word}
+use Rattle.schedule_text.proofs.line.add_task.Goals.{then-not-is_word-via-else-not-is_word+then-not-is_field}
 use Rattle.schedule_text.proofs.line.add_task.Goals as goal
 
 pub returns-in_err-mask-clause-refused : goal.returns-in_err-mask-clause-refused

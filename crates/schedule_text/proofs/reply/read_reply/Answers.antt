@@ -3,7 +3,8 @@ use Rattle.std.specs.Prelude.{codes}
 use Rattle.std.proofs.lemmas.Bool.{true≢false}
 use Rattle.std.proofs.lemmas.Result.{err_from_is_err_and}
 use Rattle.schedule_text.proofs.FieldLists.{headed, only_one, more_than_one}
-use Rattle.schedule_text.proofs.ReplyFields.{refused_at, read_at, empty_refused, word_read_at, word_refused_at, freed_read, freed_refused, came_said, came_refused}
+use Rattle.schedule_text.proofs.ReplyFields.{refused_at, read_at, empty_refused, word_read_at, word_refused_at, freed_read, freed_refused}
+use Rattle.schedule_text.proofs.ReplyFields.{came_said, came_refused}
 use Rattle.schedule_text.proofs.reply.read_reply.Goals as goal
 
 pub returns-in_err-read_gone-clause-refused : goal.returns-in_err-read_gone-clause-refused

@@ -10,5 +10,6 @@ returns-then-len-count-clause-too_long g c _ =
 
 pub returns-in_err-extend_from_slice-clause-out_of_memory : goal.returns-in_err-extend_from_slice-clause-out_of_memory
 returns-in_err-extend_from_slice-clause-out_of_memory g c _ =
-    let all = takes_more _ _ _ c.pieces.bytes.items c.take.new.into c.in_ok-count.count c.pieces.invariant.taken c.in_ok-count.ensures.bytes in
+    let all = takes_more _ _ _ c.pieces.bytes.items c.take.new.into c.in_ok-count.count c.pieces.invariant.taken
+    c.in_ok-count.ensures.bytes in
     (all.0, all.1, omega (arith, all.2))

@@ -10,7 +10,8 @@ use Rattle.task_shift.proofs.departure.fill.Goals.{After-unwrap-chain}
 
 pub unwrap-chain-requires : goal.unwrap-chain-requires
 unwrap-chain-requires c =
-    back_chain_found c.args.links.now c.args.p c.back_set-back.result c.in-Some.w c.back_set-back.ensures c.in-Some.ensures.test c.back_chain.result c.back_chain.ensures
+    back_chain_found c.args.links.now c.args.p c.back_set-back.result c.in-Some.w c.back_set-back.ensures c.in-Some.ensures.test
+    c.back_chain.result c.back_chain.ensures
 
 -- the chain found is the least one by which the task comes in
 least : (c : After-unwrap-chain) → IsLeastSuch (EntersBy c.args.links.now c.args.p c.in-Some.w) c.unwrap-chain.result
@@ -18,8 +19,11 @@ least c = rw c.unwrap-chain.ensures at c.back_chain.ensures
 
 pub shift-requires-clause-chain : goal.shift-requires-clause-chain
 shift-requires-clause-chain c =
-    let found = (least (goal.at.shift-requires-clause-chain c).After-unwrap-chain).itself in
-    (c.args.p, rw c.reversed.ensures (IsChainOf-reverse c.args.links.now c.args.p c.in-Some.w c.unwrap-chain.result found.0 found.1 found.2))
+    let found = (least (goal.at.shift-requires-clause-chain c).After-unwrap-chain).itself in (
+      c.args.p,
+      rw c.reversed.ensures (IsChainOf-reverse c.args.links.now c.args.p c.in-Some.w c.unwrap-chain.result found.0 found.1
+          found.2),
+    )
 
 pub shift-requires-clause-simple : goal.shift-requires-clause-simple
 shift-requires-clause-simple c =
@@ -36,7 +40,8 @@ returns-in_default-clause-fills c = record {
 pub returns-clause-fills : goal.returns-clause-fills
 returns-clause-fills c = record {
   reached = c.back_set-back.ensures;
-  enters = (c.in-Some.ensures.test, least (goal.at.returns-clause-fills c).After-unwrap-chain, rw c.reversed.ensures at c.shift.ensures.links);
+  enters =
+      (c.in-Some.ensures.test, least (goal.at.returns-clause-fills c).After-unwrap-chain, rw c.reversed.ensures at c.shift.ensures.links);
 }
 
 pub back_chain-requires-clause-task : goal.back_chain-requires-clause-task

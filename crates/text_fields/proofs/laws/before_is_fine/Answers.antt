@@ -5,4 +5,5 @@ use Rattle.text_fields.proofs.laws.before_is_fine.Goals as goal
 
 pub returns : goal.returns
 returns g c =
-    lawful.before_is_fine (lines_machine g.M.LineMachine.LONGEST_LINE g.M.LineMachine.HAS_COMMENTS g.M.LineMachine.kind_of c.requires) lines_of
+    lawful.before_is_fine (lines_machine g.M.LineMachine.LONGEST_LINE g.M.LineMachine.HAS_COMMENTS g.M.LineMachine.kind_of c.requires)
+    lines_of

@@ -5,4 +5,5 @@ use Rattle.text_fields.proofs.laws.refused_alike.Goals as goal
 
 pub returns : goal.returns
 returns g c =
-    lawful.refused_alike (lines_machine g.M.LineMachine.LONGEST_LINE g.M.LineMachine.HAS_COMMENTS g.M.LineMachine.kind_of c.requires) lines_of
+    lawful.refused_alike (lines_machine g.M.LineMachine.LONGEST_LINE g.M.LineMachine.HAS_COMMENTS g.M.LineMachine.kind_of c.requires)
+    lines_of

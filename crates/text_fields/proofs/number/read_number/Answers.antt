@@ -12,11 +12,13 @@ returns-then-not-is_ascii_digit c =
 
 pub returns-then-value-most : goal.returns-then-value-most
 returns-then-value-most c =
-    too_large c.args.field.now c.loop-byte.byte-index c.loop-byte.value c.args.least c.args.most c.loop-byte-test.true c.loop-byte.invariant.1 (omega arith)
+    too_large c.args.field.now c.loop-byte.byte-index c.loop-byte.value c.args.least c.args.most c.loop-byte-test.true
+    c.loop-byte.invariant.1 (omega arith)
 
 pub returns-then-digit-most : goal.returns-then-digit-most
 returns-then-digit-most c =
-    too_large c.args.field.now c.loop-byte.byte-index c.loop-byte.value c.args.least c.args.most c.loop-byte-test.true c.loop-byte.invariant.1 (omega arith)
+    too_large c.args.field.now c.loop-byte.byte-index c.loop-byte.value c.args.least c.args.most c.loop-byte-test.true
+    c.loop-byte.invariant.1 (omega arith)
 
 pub loop-byte-preserved : goal.loop-byte-preserved
 loop-byte-preserved c =

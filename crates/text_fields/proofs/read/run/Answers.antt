@@ -16,7 +16,8 @@ pub returns-in-Err-clause-refused : goal.returns-in-Err-clause-refused
 returns-in-Err-clause-refused g c = elim c.in-Err.ensures.refused [
   | inl none ↦ inl none
   | inr fault ↦ inr (c.loop-rest.invariant.answers (Refuses c.loop-rest.line c.in-Err.kind)
-      (lawful.refused_at (lines_machine g.M.LineMachine.LONGEST_LINE g.M.LineMachine.HAS_COMMENTS g.M.LineMachine.kind_of c.requires.lawful) lines_of
+      (lawful.refused_at (lines_machine g.M.LineMachine.LONGEST_LINE g.M.LineMachine.HAS_COMMENTS g.M.LineMachine.kind_of c.requires.lawful)
+      lines_of
       c.loop-rest.line _ _ _ _ c.in-Err.kind (first_of_lines c.loop-rest.rest.now _ _ (search rules) c.first_line.ensures) fault))
 ]
 
@@ -39,7 +40,8 @@ pub returns-in-Ok-at_end-clause-read : goal.returns-in-Ok-at_end-clause-read
 returns-in-Ok-at_end-clause-read g c =
     let none : c.loop-rest.rest.now ≡ [] = nil_from_length c.loop-rest.rest.now (search rules) in
     c.loop-rest.invariant.answers (IsText c.in-Ok-at_end.value)
-    (lawful.ended_at (lines_machine g.M.LineMachine.LONGEST_LINE g.M.LineMachine.HAS_COMMENTS g.M.LineMachine.kind_of c.requires.lawful) lines_of
+    (lawful.ended_at (lines_machine g.M.LineMachine.LONGEST_LINE g.M.LineMachine.HAS_COMMENTS g.M.LineMachine.kind_of c.requires.lawful)
+    lines_of
     c.loop-rest.line _ (lines_of c.loop-rest.rest.now) (Leads c.in-Ok-at_end.value) (ap lines_of none) c.in-Ok-at_end.ensures)
 
 pub returns-clause-refused : goal.returns-clause-refused
@@ -48,6 +50,7 @@ returns-clause-refused g c =
     elim c.in-Err-at_end.ensures [
       | inl memory ↦ inl memory
       | inr fault ↦ inr (c.loop-rest.invariant.answers (Refuses c.loop-rest.line c.in-Err-at_end.kind)
-          (lawful.ended_at (lines_machine g.M.LineMachine.LONGEST_LINE g.M.LineMachine.HAS_COMMENTS g.M.LineMachine.kind_of c.requires.lawful) lines_of
+          (lawful.ended_at (lines_machine g.M.LineMachine.LONGEST_LINE g.M.LineMachine.HAS_COMMENTS g.M.LineMachine.kind_of
+          c.requires.lawful) lines_of
           c.loop-rest.line _ (lines_of c.loop-rest.rest.now) (Fails c.in-Err-at_end.kind) (ap lines_of none) fault))
     ]

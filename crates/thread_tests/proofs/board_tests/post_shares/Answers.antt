@@ -1,6 +1,6 @@
 use Rattle.std.proofs.Common.{rules, arith, ◌≡◌, ◌<◌, ◌++◌, ℕ, List, length, get_or, take, drop, sym, ap, ◌∙◌, subst}
 use Rattle.std.proofs.Math.Seq.{take-append_seam}
-use Rattle.event_history.specs.Boards.{PassData, AreAll, AreFrom}
+use Rattle.event_history.specs.Boards.{PassData, AreAllPasses, AreFrom}
 use Rattle.thread_tests.proofs.Crews.{Used, board_at, still_from}
 use Rattle.thread_tests.proofs.board_tests.post_shares.Goals as goal
 
@@ -21,8 +21,11 @@ returns g c =
     let used : (i : ℕ) (d : PassData) → i < length items → Used (get_or items i d) (get_or new i d) = λ i d low.
     let changes = (c.for_each_mut.ensures i d (subst (λ (l : List PassData). i < length l) (sym value) low)).1 in
     let call : Used changes.argument.now changes.after_call.now = changes.call in
-    subst (λ (q : PassData). Used (get_or items i d) q) changes.left (subst (λ (q : PassData). Used q changes.after_call.now) (changes.argument_is ∙ ap (λ (l : List PassData). get_or l i d) value) call) in
+    subst (λ (q : PassData). Used (get_or items i d) q) changes.left
+    (subst (λ (q : PassData). Used q changes.after_call.now) (changes.argument_is ∙ ap (λ (l : List PassData). get_or l i d) value)
+    call) in
     let from : AreFrom board 0 new = still_from board 0 items new long used c.requires.passes.1 in
     let whole : take c.args.passes.now.len (new ++ drop (length new) items) ≡ new =
-    ap (λ (n : ℕ). take n (new ++ drop (length new) items)) (c.args.passes.now.ok.0 ∙ sym long) ∙ take-append_seam new (drop (length new) items) in
+    ap (λ (n : ℕ). take n (new ++ drop (length new) items)) (c.args.passes.now.ok.0 ∙ sym long)
+    ∙ take-append_seam new (drop (length new) items) in
     (ap length whole ∙ long ∙ c.requires.passes.0, subst (AreFrom board 0) (sym whole) from)

@@ -8,4 +8,5 @@ returns-clause-made_for c =
     let queues = c.args.queues.now in
     let queue = c.args.processor.now.receiver.queue in
     let at : slice_get queues c.number.result ≡ Some queue = ap (slice_get queues) c.number.ensures ∙ c.requires.seated.of_queue in
-    ap (λ (q : QueueData). q.tasks) (queue_read queues c.number.result queue c.index-queues-number.result at c.index-queues-number.is) ∙ tasks_at c.args.slots.now.set queues c.number.result queue c.requires.made_for at
+    ap (λ (q : QueueData). q.tasks) (queue_read queues c.number.result queue c.index-queues-number.result at c.index-queues-number.is)
+    ∙ tasks_at c.args.slots.now.set queues c.number.result queue c.requires.made_for at

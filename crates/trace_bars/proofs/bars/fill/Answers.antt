@@ -24,26 +24,37 @@ loop-i-init c =
       tracks = c.requires.tracks;
       layers =
           subst (λ (now : ℕ). AreLayersAt (trace_of c.args.set.now threads c.args.passages.now) c.args.part now c.args.layers.now)
-          (clipped_first c.args.part (moment_at c.args.passages.now 0) (sym (no_moments c.args.set.now threads c.args.passages.now c.requires.passages).all))
+          (clipped_first c.args.part (moment_at c.args.passages.now 0)
+          (sym (no_moments c.args.set.now threads c.args.passages.now c.requires.passages).all))
           c.requires.layers;
     }
 
 pub step-requires-clause-first : goal.step-requires-clause-first
-step-requires-clause-first c = first_within c.args.set.now c.args.passages.now (vec_len c.args.trail.now.first.processors) c.loop-i.i c.loop-i.walk.core c.loop-i.walk.runners.processors.items c.args.trail.now.first.processors.items c.args.trail.now.formers.items c.requires.passages c.requires.trail c.loop-i.invariant.at (omega arith) c.loop-i-test.true
+step-requires-clause-first c = first_within c.args.set.now c.args.passages.now (vec_len c.args.trail.now.first.processors)
+    c.loop-i.i c.loop-i.walk.core c.loop-i.walk.runners.processors.items c.args.trail.now.first.processors.items
+    c.args.trail.now.formers.items c.requires.passages c.requires.trail c.loop-i.invariant.at (omega arith) c.loop-i-test.true
 
 pub step-requires-clause-second : goal.step-requires-clause-second
-step-requires-clause-second c = second_within c.args.set.now c.args.passages.now (vec_len c.args.trail.now.first.processors) c.loop-i.i c.loop-i.walk.core c.loop-i.walk.runners.processors.items c.args.trail.now.first.processors.items c.args.trail.now.formers.items c.requires.passages c.requires.trail c.loop-i.invariant.at (omega arith) c.loop-i-test.true
+step-requires-clause-second c = second_within c.args.set.now c.args.passages.now (vec_len c.args.trail.now.first.processors)
+    c.loop-i.i c.loop-i.walk.core c.loop-i.walk.runners.processors.items c.args.trail.now.first.processors.items
+    c.args.trail.now.formers.items c.requires.passages c.requires.trail c.loop-i.invariant.at (omega arith) c.loop-i-test.true
 
 pub step-requires-clause-threads : goal.step-requires-clause-threads
 step-requires-clause-threads c =
     let count = c.loop-i.invariant.at.count in
-    turn_within c.args.set.now c.args.passages.now (vec_len c.args.trail.now.first.processors) c.loop-i.i c.loop-i.walk.core c.loop-i.walk.runners.processors.items c.args.trail.now.first.processors.items c.args.trail.now.formers.items c.requires.passages c.requires.trail c.loop-i.invariant.at (omega arith) c.loop-i-test.true (vec_len c.loop-i.walk.runners.processors) (omega (arith, count))
+    turn_within c.args.set.now c.args.passages.now (vec_len c.args.trail.now.first.processors)
+    c.loop-i.i c.loop-i.walk.core c.loop-i.walk.runners.processors.items c.args.trail.now.first.processors.items
+    c.args.trail.now.formers.items c.requires.passages c.requires.trail c.loop-i.invariant.at (omega arith) c.loop-i-test.true
+    (vec_len c.loop-i.walk.runners.processors) (omega (arith, count))
 
 pub step-requires-clause-within : goal.step-requires-clause-within
 step-requires-clause-within c =
     let count = c.loop-i.invariant.at.count in
     rw c.as_slice-formers.ensures.value
-    (stopped_within c.args.set.now c.args.passages.now (vec_len c.args.trail.now.first.processors) c.loop-i.i c.loop-i.walk.core c.loop-i.walk.runners.processors.items c.args.trail.now.first.processors.items c.args.trail.now.formers.items c.requires.passages c.requires.trail c.loop-i.invariant.at (omega arith) c.loop-i-test.true (vec_len c.loop-i.walk.runners.processors) (omega (arith, count)))
+    (stopped_within c.args.set.now c.args.passages.now (vec_len c.args.trail.now.first.processors)
+    c.loop-i.i c.loop-i.walk.core c.loop-i.walk.runners.processors.items c.args.trail.now.first.processors.items
+    c.args.trail.now.formers.items c.requires.passages c.requires.trail c.loop-i.invariant.at (omega arith) c.loop-i-test.true
+    (vec_len c.loop-i.walk.runners.processors) (omega (arith, count)))
 
 pub advance-requires : goal.advance-requires
 advance-requires c =
@@ -78,7 +89,8 @@ loop-i-preserved c =
     let on = c.loop-i.walk.runners.processors.items in
     let moved = c.step.ensures.threads in
     let at : IsWalkAt c.args.set.now passages threads i c.step.new.self.core c.step.new.self.runners.processors.items =
-    walk_on c.args.set.now passages threads i c.loop-i.walk.core on c.args.trail.now.first.processors.items c.args.trail.now.formers.items are
+    walk_on c.args.set.now passages threads i c.loop-i.walk.core on c.args.trail.now.first.processors.items c.args.trail.now.formers.items
+    are
     c.requires.trail c.loop-i.invariant.at some below c.step.new.self.core c.step.new.self.runners.processors.items c.step.ensures.used
     (c.step.ensures.placed c.args.set.now) (rw c.as_slice-formers.ensures.value at c.step.ensures.restored) (omega (arith, moved)) in
     let follows : FollowsTo c.args.set.now (reverse (take i passages)) c.step.new.self.core.links =
@@ -94,24 +106,28 @@ loop-i-preserved c =
     c.in_ok-advance.ensures.on (trace_of c.args.set.now threads passages) part
     (subst (λ (n : ℕ). n ≤ part.to) (sym is_next) (clipped_within part (moment_at passages i) c.requires.part))
     (λ sights long by x from before.
-    sights_at c.args.set.now passages threads i c.step.new.self.core.links c.step.new.self.runners.processors.items sights are.all at.placed follows
+    sights_at c.args.set.now passages threads i c.step.new.self.core.links c.step.new.self.runners.processors.items sights are.all at.placed
+    follows
     at.armed at.count
     (subst (λ (n : ℕ). AreSightsBy c.step.new.self.core.links c.step.new.self.runners.processors.items n sights) wide by) (long ∙ wide) x
     (cut_within (length c.args.set.now.tasks) threads passages part are i x some below c.requires.part
     (subst (λ (n : ℕ). n ≤ x) is_now from) (subst (λ (n : ℕ). x < n) is_next before)))
-    (subst (λ (n : ℕ). AreLayersAt (trace_of c.args.set.now threads passages) part n c.loop-i.layers) (sym is_now) c.loop-i.invariant.layers) in
+    (subst (λ (n : ℕ). AreLayersAt (trace_of c.args.set.now threads passages) part n c.loop-i.layers) (sym is_now)
+    c.loop-i.invariant.layers) in
     let same : i ≡ i + 1 - 1 = omega arith in
     record {
       at =
           rw (c.in_ok-advance.ensures.core, c.in_ok-advance.ensures.runners)
-          (subst (λ (n : ℕ). IsWalkAt c.args.set.now passages threads n c.step.new.self.core c.step.new.self.runners.processors.items) same at);
+          (subst (λ (n : ℕ). IsWalkAt c.args.set.now passages threads n c.step.new.self.core c.step.new.self.runners.processors.items)
+          same at);
       follows =
           rw c.in_ok-advance.ensures.core
           (subst (λ (n : ℕ). FollowsTo c.args.set.now (reverse (take n passages)) c.step.new.self.core.links) same follows);
       sights = c.in_ok-advance.ensures.all ∙ wide;
       tracks = subst (λ (n : ℕ). HasTracks n c.advance.new.layers) wide c.in_ok-advance.ensures.tracks;
       layers =
-          subst (λ (n : ℕ). AreLayersAt (trace_of c.args.set.now threads passages) part (clipped part (moment_at passages n)) c.advance.new.layers) same
+          subst (λ (n : ℕ). AreLayersAt (trace_of c.args.set.now threads passages) part (clipped part (moment_at passages n))
+          c.advance.new.layers) same
           (subst (λ (n : ℕ). AreLayersAt (trace_of c.args.set.now threads passages) part n c.advance.new.layers) is_next layers);
     }
 

@@ -1,4 +1,4 @@
-use Rattle.trace_losses.specs.Passages.{ready_by, ready_after}
+use Rattle.trace_losses.specs.Passages.{ready_by, ready_after_passages}
 use Rattle.trace_bars.proofs.walk.enter.Goals as goal
 
 pub returns : goal.returns
@@ -6,6 +6,6 @@ returns c = record {
   used = c.follow-2.ensures.used;
   enters = record { between = c.follow.new.core.links; first = c.follow.ensures.follows; second = c.follow-2.ensures.follows };
   placed = λ task_set earlier placed.
-      c.follow-2.ensures.placed task_set (λ t. ready_by c.args.passage.first t (ready_after earlier t))
-      (c.follow.ensures.placed task_set (ready_after earlier) placed);
+      c.follow-2.ensures.placed task_set (λ t. ready_by c.args.passage.first t (ready_after_passages earlier t))
+      (c.follow.ensures.placed task_set (ready_after_passages earlier) placed);
 }

@@ -27,12 +27,16 @@ returns-in-Some-clause-placed c = λ task_set before placed.
     let new = c.apply.new.self.links in
     let step = subst (λ (event : Event). SchedulerStep old event c.apply.new.self.last new) c.event_of.ensures c.apply.ensures.step in
     subst (λ (mention : Option Readiness). IsPlaced task_set (λ t. ready_by mention t (before t)) new) (sym c.in-Some.is)
-    (placed_by c.in-Some.mention task_set before old c.apply.new.self.last new c.in-Some.mention.is_in refl step c.apply.ensures.valid c.apply.ensures.best
+    (placed_by c.in-Some.mention task_set before old c.apply.new.self.last new c.in-Some.mention.is_in refl step c.apply.ensures.valid
+    c.apply.ensures.best
     placed))
 
 pub returns-in-Some-clause-follows : goal.returns-in-Some-clause-follows
 returns-in-Some-clause-follows c =
     let old = c.args.core.now.links in
     let new = c.apply.new.self.links in
-    subst (λ (mention : Option Readiness). FollowsMention old mention new) (sym c.in-Some.is)
-    (c.apply.new.self.last, subst (λ (event : Event). SchedulerStep old event c.apply.new.self.last new) c.event_of.ensures c.apply.ensures.step)
+    subst (λ (mention : Option Readiness). FollowsMention old mention new) (sym c.in-Some.is) (
+      c.apply.new.self.last,
+      subst (λ (event : Event). SchedulerStep old event c.apply.new.self.last new)
+          c.event_of.ensures c.apply.ensures.step,
+    )

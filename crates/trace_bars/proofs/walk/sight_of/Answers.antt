@@ -8,10 +8,12 @@ returns-else-t-len c =
     let count = c.len.ensures in
     let from = c.if-t-len.false in
     record {
-      ready = ap (λ (seen : Seen). seen.ready) (none_seen c.args.links.now c.processors-valid.ensures.valid c.args.t (omega (arith, count, from)) false);
+      ready = ap (λ (seen : Seen). seen.ready) (none_seen c.args.links.now c.processors-valid.ensures.valid c.args.t
+          (omega (arith, count, from)) false);
       linked = record {
         there = tt;
-        nowhere = (λ none. none_linked c.args.links.now c.processors-valid.ensures.valid c.args.t (omega (arith, count, from)), λ unlinked. refl);
+        nowhere =
+            (λ none. none_linked c.args.links.now c.processors-valid.ensures.valid c.args.t (omega (arith, count, from)), λ unlinked. refl);
       };
       on = refl;
     }

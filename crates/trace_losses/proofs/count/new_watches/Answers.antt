@@ -3,7 +3,7 @@ use Rattle.std.proofs.lemmas.List.{map-append, take_more}
 use Rattle.trace_losses.specs.Watch.{IsWatch, IsWatchOf, AreAtMost, AreWatches, stretches_of, longest_of}
 use Rattle.trace_losses.specs.declared.tally.Stretch.{Stretch}
 use Rattle.trace_losses.specs.declared.tally.Tally.{Tally}
-use Rattle.trace_losses.specs.declared.watch.Watch.{Watch}
+use Rattle.trace_losses.specs.declared.watch.StretchWatch.{StretchWatch}
 use Rattle.trace_losses.proofs.Appended.{each_pushed}
 use Rattle.trace_losses.proofs.WatchLists.{no_tally}
 use Rattle.trace_losses.proofs.count.new_watches.Goals as goal
@@ -13,7 +13,7 @@ loop-tally-preserved c =
     let tallies = c.args.tallies.now in
     let k = c.loop-tally.tally-index in
     let watches = c.loop-tally.watches.items in
-    let one : Watch = c.in_ok-new.field-0 in
+    let one : StretchWatch = c.in_ok-new.field-0 in
     let of_one = c.in_ok-new.ensures in
     let pushed : c.push.new.self.items ≡ watches ++ one ∷ [] = c.in_ok-push.ensures.items in
     let made : IsWatchOf (length tallies) [] one = record {
@@ -22,13 +22,14 @@ loop-tally-preserved c =
       all = of_one.moments;
       width = of_one.tasks;
     } in
-    let stretch : Watch → Stretch = λ (watch : Watch). watch.stretch in
+    let stretch : StretchWatch → Stretch = λ (watch : StretchWatch). watch.stretch in
     let longest : Tally → Stretch = λ (tally : Tally). tally.longest in
     let there : Tally = get_or tallies k no_tally in
     record {
       watches =
           subst (AreWatches (length tallies) []) (sym pushed)
-          (each_pushed (λ (t : ℕ) (watch : Watch). IsWatchOf (length tallies) [] watch) watches one c.loop-tally.invariant.watches made);
+          (each_pushed (λ (t : ℕ) (watch : StretchWatch). IsWatchOf (length tallies) [] watch) watches one c.loop-tally.invariant.watches
+          made);
       stretches =
           ap stretches_of pushed ∙ map-append stretch watches (one ∷ [])
           ∙ ap (λ (list : List Stretch). list ++ one.stretch ∷ []) c.loop-tally.invariant.stretches

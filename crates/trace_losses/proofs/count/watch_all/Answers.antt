@@ -1,4 +1,5 @@
-use Rattle.std.proofs.Common.{◌≡◌, ℕ, ◌+◌, ◌-◌, ◌<◌, ◌≤◌, ◌++◌, List, [], length, get_or, take, drop, vec_len, refl, sym, ap, ◌∙◌, subst, arith}
+use Rattle.std.proofs.Common.{◌≡◌, ℕ, ◌+◌, ◌-◌, ◌<◌, ◌≤◌, ◌++◌, List, [], length, get_or, take, drop, vec_len, refl, sym, ap, ◌∙◌, subst}
+use Rattle.std.proofs.Common.{arith}
 use Rattle.std.specs.Prelude.{replicate, reverse}
 use Rattle.trace_passages.specs.Passages.{moment_at}
 use Rattle.trace_losses.specs.Counts.{AreCountsAt, AreCountsOf, AreWatchesAt}
@@ -25,20 +26,28 @@ loop-i-init c = record {
 }
 
 pub step-requires-clause-first : goal.step-requires-clause-first
-step-requires-clause-first c = first_within c.args.set.now c.args.passages.now c.args.threads c.loop-i.i c.loop-i.walk.core c.loop-i.walk.runners.processors.items c.args.walk.now.runners.processors.items c.args.formers.now c.requires.passages c.requires.trail c.loop-i.invariant.at (omega arith) c.loop-i-test.true
+step-requires-clause-first c = first_within c.args.set.now c.args.passages.now c.args.threads c.loop-i.i c.loop-i.walk.core
+    c.loop-i.walk.runners.processors.items c.args.walk.now.runners.processors.items c.args.formers.now c.requires.passages c.requires.trail
+    c.loop-i.invariant.at (omega arith) c.loop-i-test.true
 
 pub step-requires-clause-second : goal.step-requires-clause-second
-step-requires-clause-second c = second_within c.args.set.now c.args.passages.now c.args.threads c.loop-i.i c.loop-i.walk.core c.loop-i.walk.runners.processors.items c.args.walk.now.runners.processors.items c.args.formers.now c.requires.passages c.requires.trail c.loop-i.invariant.at (omega arith) c.loop-i-test.true
+step-requires-clause-second c = second_within c.args.set.now c.args.passages.now c.args.threads c.loop-i.i c.loop-i.walk.core
+    c.loop-i.walk.runners.processors.items c.args.walk.now.runners.processors.items c.args.formers.now c.requires.passages c.requires.trail
+    c.loop-i.invariant.at (omega arith) c.loop-i-test.true
 
 pub step-requires-clause-threads : goal.step-requires-clause-threads
 step-requires-clause-threads c =
     let count = c.loop-i.invariant.at.count in
-    turn_within c.args.set.now c.args.passages.now c.args.threads c.loop-i.i c.loop-i.walk.core c.loop-i.walk.runners.processors.items c.args.walk.now.runners.processors.items c.args.formers.now c.requires.passages c.requires.trail c.loop-i.invariant.at (omega arith) c.loop-i-test.true (vec_len c.loop-i.walk.runners.processors) (omega (arith, count))
+    turn_within c.args.set.now c.args.passages.now c.args.threads c.loop-i.i c.loop-i.walk.core c.loop-i.walk.runners.processors.items
+    c.args.walk.now.runners.processors.items c.args.formers.now c.requires.passages c.requires.trail c.loop-i.invariant.at (omega arith)
+    c.loop-i-test.true (vec_len c.loop-i.walk.runners.processors) (omega (arith, count))
 
 pub step-requires-clause-within : goal.step-requires-clause-within
 step-requires-clause-within c =
     let count = c.loop-i.invariant.at.count in
-    stopped_within c.args.set.now c.args.passages.now c.args.threads c.loop-i.i c.loop-i.walk.core c.loop-i.walk.runners.processors.items c.args.walk.now.runners.processors.items c.args.formers.now c.requires.passages c.requires.trail c.loop-i.invariant.at (omega arith) c.loop-i-test.true (vec_len c.loop-i.walk.runners.processors) (omega (arith, count))
+    stopped_within c.args.set.now c.args.passages.now c.args.threads c.loop-i.i c.loop-i.walk.core c.loop-i.walk.runners.processors.items
+    c.args.walk.now.runners.processors.items c.args.formers.now c.requires.passages c.requires.trail c.loop-i.invariant.at (omega arith)
+    c.loop-i-test.true (vec_len c.loop-i.walk.runners.processors) (omega (arith, count))
 
 pub step-requires-clause-all : goal.step-requires-clause-all
 step-requires-clause-all c =
@@ -48,7 +57,8 @@ step-requires-clause-all c =
 
 pub overflow_sub-units-in-loop-i : goal.overflow_sub-units-in-loop-i
 overflow_sub-units-in-loop-i c =
-    next_is_later (length c.args.set.now.tasks) c.args.threads c.args.passages.now c.requires.passages c.loop-i.i (omega arith) c.loop-i-test.true
+    next_is_later (length c.args.set.now.tasks) c.args.threads c.args.passages.now c.requires.passages c.loop-i.i (omega arith)
+    c.loop-i-test.true
 
 pub pass_all-requires : goal.pass_all-requires
 pass_all-requires c =
@@ -62,8 +72,10 @@ pass_all-requires c =
     let lent = c.deref.ensures.len in
     let first = moment_there passages (i - 1) (omega arith) in
     let second = moment_there passages i c.loop-i-test.true in
-    let later = next_is_later (length c.args.set.now.tasks) c.args.threads passages c.requires.passages i (omega arith) c.loop-i-test.true in
-    let last = moments_in_order (length c.args.set.now.tasks) c.args.threads passages c.requires.passages i (length passages - 1) no_passage (omega arith)
+    let later = next_is_later (length c.args.set.now.tasks) c.args.threads passages c.requires.passages i (omega arith)
+    c.loop-i-test.true in
+    let last = moments_in_order (length c.args.set.now.tasks) c.args.threads passages c.requires.passages i (length passages - 1) no_passage
+    (omega arith)
     (omega arith) in
     let span = c.span_of-span.ensures in
     can_pass _ _ c.loop-i.watches.items (length c.args.set.now.tasks) watched.moments watched.of (omega (arith, width, before, all, lent))
@@ -80,7 +92,8 @@ loop-i-preserved c =
     let seen = c.step.new.self.seen.items in
     let moved = c.step.ensures.threads in
     let at : IsWalkAt c.args.set.now passages threads i c.step.new.self.core new =
-    walk_on c.args.set.now passages threads i c.loop-i.walk.core on c.args.walk.now.runners.processors.items c.args.formers.now c.requires.passages
+    walk_on c.args.set.now passages threads i c.loop-i.walk.core on c.args.walk.now.runners.processors.items c.args.formers.now
+    c.requires.passages
     c.requires.trail c.loop-i.invariant.at some c.loop-i-test.true c.step.new.self.core new c.step.ensures.used
     (c.step.ensures.placed c.args.set.now) c.step.ensures.restored (omega (arith, moved)) in
     let width = c.step.ensures.all in
@@ -90,7 +103,8 @@ loop-i-preserved c =
     (let wide : vec_len c.step.new.self.seen ≡ threads = width ∙ before in
     subst (λ (n : ℕ). IsSeenBy c.step.new.self.core.links new n seen) wide c.step.ensures.seen) in
     let between =
-    seen_between c.args.set.now passages threads i c.step.new.self.core.links new seen c.requires.passages.all at.placed at.armed at.count by long in
+    seen_between c.args.set.now passages threads i c.step.new.self.core.links new seen c.requires.passages.all at.placed at.armed at.count
+    by long in
     let units = (get_or passages i no_passage).moment - (get_or passages (i - 1) no_passage).moment in
     let first = moment_there passages (i - 1) (omega arith) in
     let second = moment_there passages i c.loop-i-test.true in
@@ -108,8 +122,10 @@ loop-i-preserved c =
           subst (λ (n : ℕ). AreWatchesAt c.args.set.now threads passages (moment_at passages n) c.pass_all.new.watches.items) same
           (record {
             moments = watched.moments ++ replicate units seen;
-            are = moments_on c.args.set.now threads passages i units watched.moments seen c.requires.passages some c.loop-i-test.true between span watched.are;
-            of = all_passed units seen c.loop-i.watches.items c.pass_all.new.watches.items (length c.args.set.now.tasks) watched.moments passes watched.of;
+            are = moments_on c.args.set.now threads passages i units watched.moments seen c.requires.passages some c.loop-i-test.true
+                between span watched.are;
+            of = all_passed units seen c.loop-i.watches.items c.pass_all.new.watches.items (length c.args.set.now.tasks)
+                watched.moments passes watched.of;
           });
       stretches = stretches_stay units seen c.loop-i.watches.items c.pass_all.new.watches.items passes ∙ c.loop-i.invariant.stretches;
     }

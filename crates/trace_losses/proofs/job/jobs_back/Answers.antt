@@ -24,7 +24,8 @@ loop-i-init c =
     let none : drop (length passages - 0) passages ≡ [] = drop_all (length passages - 0) passages (omega arith) in
     let last : length passages - 0 - 1 ≡ length passages - 1 = omega arith in
     record {
-      armed = subst (λ (after : List Passage). IsArmed (held_at_end passages) (turns_of after) c.in_ok-runners.runners.processors.items) (sym none)
+      armed = subst (λ (after : List Passage). IsArmed (held_at_end passages) (turns_of after) c.in_ok-runners.runners.processors.items)
+          (sym none)
           c.in_ok-runners.ensures.held;
       ran = c.in_ok-runners.ensures.threads;
       tasks =
@@ -32,7 +33,8 @@ loop-i-init c =
           ap length c.in_ok-ahead.ensures.units ∙ length-replicate c.args.threads 0 in
           omega (arith, zeros));
       ahead =
-          subst (λ (after : List Passage). AreAhead passages (changes_of after) (moment_at passages (length passages - 0 - 1)) c.in_ok-ahead.ahead.units.items)
+          subst (λ (after : List Passage). AreAhead passages (changes_of after) (moment_at passages (length passages - 0 - 1))
+          c.in_ok-ahead.ahead.units.items)
           (sym none)
           (subst (λ (n : ℕ). AreAhead passages [] (moment_at passages n) c.in_ok-ahead.ahead.units.items) (sym last)
           (ahead_at_end passages c.args.threads c.in_ok-ahead.ahead.units.items c.in_ok-ahead.ensures.units));
@@ -77,7 +79,8 @@ since_last-requires-clause-order c =
     moments_in_order c.requires.0 c.args.threads passages c.requires.1 (k - 1) k no_passage (omega arith) (omega arith)
 
 -- the passage that is read is at the moment from which on all is known, and within the span
-module _ (tasks threads : ℕ) (passages : List Passage) (are : ArePassages tasks threads passages) (i : ℕ) (below : i < length passages) where
+module _ (tasks threads : ℕ) (passages : List Passage) (are : ArePassages tasks threads passages) (i : ℕ)
+    (below : i < length passages) where
   abbrev k : ℕ
   k = length passages - 1 - i
 
@@ -92,10 +95,12 @@ module _ (tasks threads : ℕ) (passages : List Passage) (are : ArePassages task
   here_within : here.moment ≤ span_of passages
   here_within =
       let same = moment_there passages k (omega (arith, below)) in
-      let order = moments_in_order tasks threads passages are k (length passages - 1) no_passage (omega (arith, below)) (omega (arith, below)) in
+      let order = moments_in_order tasks threads passages are k (length passages - 1) no_passage (omega (arith, below))
+      (omega (arith, below)) in
       omega (arith, same, order)
 
-  ahead_here : (units : List ℕ) → AreAhead passages (changes_of (drop (length passages - i) passages)) (moment_at passages (length passages - i - 1)) units
+  ahead_here : (units : List ℕ) → AreAhead passages (changes_of (drop (length passages - i) passages))
+      (moment_at passages (length passages - i - 1)) units
       → AreAhead passages (changes_of (drop (length passages - i) passages)) here.moment units
   ahead_here units ahead =
       subst (λ (m : ℕ). AreAhead passages (changes_of (drop (length passages - i) passages)) m units) moment_here ahead
@@ -107,7 +112,8 @@ pass-requires-clause-room c = λ t count is.
     let later : List Change = changes_of (drop (length passages - i) passages) in
     let passage : Passage = here c.requires.0 c.args.threads passages c.requires.1 i c.loop-i-test.true in
     let within = here_within c.requires.0 c.args.threads passages c.requires.1 i c.loop-i-test.true in
-    let old = ahead_here c.requires.0 c.args.threads passages c.requires.1 i c.loop-i-test.true c.loop-i.ahead.units.items c.loop-i.invariant.ahead in
+    let old = ahead_here c.requires.0 c.args.threads passages c.requires.1 i c.loop-i-test.true c.loop-i.ahead.units.items
+    c.loop-i.invariant.ahead in
     let one = c.in_ok-enter.ensures.ahead passages later within old in
     let two = c.in_ok-enter-2.ensures.ahead passages (with_change passage.moment passage.second later) within one in
     let room =
@@ -151,7 +157,8 @@ loop-i-preserved c =
     let since : c.since_last.result ≡ moment_at passages n - moment_at passages (n - 1) =
     subst (λ (m : ℕ). c.since_last.result ≡ moment_at passages m - moment_at passages (m - 1)) place c.since_last.ensures in
     let longer : AreLonger units c.pass.new.self.units.items on c.since_last.result (length on) =
-    subst (λ (list : List (Option ℕ)). AreLonger units c.pass.new.self.units.items list c.since_last.result (length list)) c.deref.ensures.value
+    subst (λ (list : List (Option ℕ)). AreLonger units c.pass.new.self.units.items list c.since_last.result (length list))
+    c.deref.ensures.value
     c.pass.ensures.units in
     let ran = c.pass_back.ensures.threads in
     let held = c.loop-i.invariant.ran in
@@ -164,9 +171,11 @@ loop-i-preserved c =
       ran = omega (arith, ran, held);
       tasks = omega (arith, long, count, first, second);
       ahead =
-          ahead_passed tasks threads passages c.requires.1 n (omega (arith, below)) (changes_of (drop n passages)) on c.since_last.result armed
+          ahead_passed tasks threads passages c.requires.1 n (omega (arith, below)) (changes_of (drop n passages))
+          on c.since_last.result armed
           (omega (arith, since, order)) units c.pass.new.self.units.items (omega (arith, ran, held, count, first, second)) longer ahead;
       jobs =
-          subst (λ (list : Vec TraceJob Global). AreJobsOf passages (changes_of (drop n passages)) (reverse list.items)) (sym c.pass.ensures.jobs)
+          subst (λ (list : Vec TraceJob Global). AreJobsOf passages (changes_of (drop n passages)) (reverse list.items))
+          (sym c.pass.ensures.jobs)
           (subst (λ (changes : List Change). AreJobsOf passages changes (reverse c.enter-in-loop-i.new.self.jobs.items)) all jobs_two);
     }

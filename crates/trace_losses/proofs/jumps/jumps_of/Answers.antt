@@ -24,13 +24,16 @@ loop-i-preserved c =
     let there = slice_get-get_or passages i no_passage c.loop-i-test.true in
     let is = c.in_ok-is_jump.ensures.jumps in
     record {
-      last = λ p. subst (IsLast passages (i + 1) p) (sym (c.in_ok-is_jump.ensures.last p)) (next_last passages i passage there last c.loop-i.invariant.last p);
+      last = λ p. subst (IsLast passages (i + 1) p) (sym (c.in_ok-is_jump.ensures.last p))
+          (next_last passages i passage there last c.loop-i.invariant.last p);
       jumps = elim c.if-branch.branch [
         | then-branch w ↦
-            jumps_on passages i passage there last c.loop-i.invariant.last true c.loop-i.jumps c.if-branch.jumps (sym w.if-branch.true ∙ is) w.jumps-is
+            jumps_on passages i passage there last c.loop-i.invariant.last true c.loop-i.jumps c.if-branch.jumps (sym w.if-branch.true ∙ is)
+            w.jumps-is
             c.loop-i.invariant.jumps
         | else-branch w ↦
-            jumps_on passages i passage there last c.loop-i.invariant.last false c.loop-i.jumps c.if-branch.jumps (sym w.if-branch.false ∙ is)
+            jumps_on passages i passage there last c.loop-i.invariant.last false c.loop-i.jumps c.if-branch.jumps
+            (sym w.if-branch.false ∙ is)
             (w.jumps-is ∙ omega arith) c.loop-i.invariant.jumps
       ];
     }

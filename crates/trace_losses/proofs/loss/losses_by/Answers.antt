@@ -7,23 +7,26 @@ use Rattle.trace_losses.specs.Watch.{longest_of, stretches_of}
 use Rattle.trace_losses.specs.declared.loss.Loss.{Loss}
 use Rattle.trace_losses.specs.declared.tally.Stretch.{Stretch}
 use Rattle.trace_losses.specs.declared.tally.Tally.{Tally}
-use Rattle.trace_losses.specs.declared.watch.Watch.{Watch}
+use Rattle.trace_losses.specs.declared.watch.StretchWatch.{StretchWatch}
 use Rattle.trace_losses.proofs.Appended.{each_pushed}
 use Rattle.trace_losses.proofs.WatchLists.{no_tally}
 use Rattle.trace_losses.proofs.loss.losses_by.Goals as goal
 
 -- each tally has a watch, of its longest stretch
-same_count : (watches : List Watch) (tallies : List Tally) → stretches_of watches ≡ longest_of tallies → length watches ≡ length tallies
+same_count : (watches : List StretchWatch) (tallies : List Tally) → stretches_of watches ≡ longest_of tallies
+    → length watches ≡ length tallies
 same_count watches tallies same =
-    sym (length-map watches (λ (watch : Watch). watch.stretch)) ∙ ap length same ∙ length-map tallies (λ (tally : Tally). tally.longest)
+    sym (length-map watches (λ (watch : StretchWatch). watch.stretch)) ∙ ap length same
+    ∙ length-map tallies (λ (tally : Tally). tally.longest)
 
-same_stretch : (watches : List Watch) (tallies : List Tally) (t : ℕ) (watch : Watch) → stretches_of watches ≡ longest_of tallies
+same_stretch : (watches : List StretchWatch) (tallies : List Tally) (t : ℕ) (watch : StretchWatch)
+    → stretches_of watches ≡ longest_of tallies
     → t < length watches → watch ≡ get_or watches t watch → watch.stretch ≡ (get_or tallies t no_tally).longest
 same_stretch watches tallies t watch same below is =
     let none : Stretch = record { first = 0; count = 0 } in
     let count = same_count watches tallies same in
-    ap (λ (w : Watch). w.stretch) is
-    ∙ sym (get_or-map (λ (w : Watch). w.stretch) watches t watch none below)
+    ap (λ (w : StretchWatch). w.stretch) is
+    ∙ sym (get_or-map (λ (w : StretchWatch). w.stretch) watches t watch none below)
     ∙ ap (λ (list : List Stretch). get_or list t none) same
     ∙ get_or-map (λ (tally : Tally). tally.longest) tallies t no_tally none (omega (arith, below, count))
 
@@ -48,7 +51,8 @@ pub loss_of-requires-clause-tasks : goal.loss_of-requires-clause-tasks
 loss_of-requires-clause-tasks c =
     let watches = c.args.watches.now in
     let count = same_count watches c.args.tallies.now c.requires.stretches in
-    let is = slice_get_read watches (length watches) c.loop-t.t c.index-watches-t.result refl (omega (arith, count, c.requires.tasks)) c.index-watches-t.is in
+    let is = slice_get_read watches (length watches) c.loop-t.t c.index-watches-t.result refl (omega (arith, count, c.requires.tasks))
+    c.index-watches-t.is in
     (c.requires.watches.1 c.loop-t.t c.index-watches-t.result is).width
 
 pub loop-t-preserved : goal.loop-t-preserved
@@ -59,7 +63,8 @@ loop-t-preserved c =
     let list = c.loop-t.list.items in
     let t = c.loop-t.t in
     let count = same_count watches tallies c.requires.stretches in
-    let is = slice_get_read watches (length watches) t c.index-watches-t.result refl (omega (arith, count, c.requires.tasks)) c.index-watches-t.is in
+    let is = slice_get_read watches (length watches) t c.index-watches-t.result refl (omega (arith, count, c.requires.tasks))
+    c.index-watches-t.is in
     let there = slice_get-get_or tallies t no_tally (omega (arith, c.requires.tasks)) in
     let one : Loss = c.loss_of.result in
     let pushed : c.push.new.self.items ≡ list ++ one ∷ [] = c.in_ok-push.ensures.items in
@@ -67,7 +72,8 @@ loop-t-preserved c =
     record {
       tasks = omega (arith, c.in_ok-push.ensures.len, c.loop-t.invariant.tasks);
       each = λ moments book watched.
-          subst (λ (all : List Loss). (u : ℕ) (loss : Loss) → slice_get all u ≡ Some loss → IsLoss priorities moments u loss) (sym {A = List Loss} pushed)
+          subst (λ (all : List Loss). (u : ℕ) (loss : Loss) → slice_get all u ≡ Some loss → IsLoss priorities moments u loss)
+          (sym {A = List Loss} pushed)
           (each_pushed (λ (u : ℕ) (loss : Loss). IsLoss priorities moments u loss) list one (c.loop-t.invariant.each moments book watched)
           (subst (λ (u : ℕ). IsLoss priorities moments u one) place
           (c.loss_of.ensures moments t (book t (get_or tallies t no_tally) there) (watched t c.index-watches-t.result is))));

@@ -8,7 +8,7 @@ use Rattle.trace_losses.specs.Passages.{AreMoments}
 use Rattle.trace_losses.specs.Watch.{AreWatches}
 use Rattle.trace_losses.specs.declared.seen.Seen.{Seen}
 use Rattle.trace_losses.specs.declared.tally.Tally.{Tally}
-use Rattle.trace_losses.specs.declared.watch.Watch.{Watch}
+use Rattle.trace_losses.specs.declared.watch.StretchWatch.{StretchWatch}
 use Rattle.trace_losses.proofs.OneMoments.{one_moments}
 use Rattle.trace_losses.proofs.ReadyTasks.{ready_within}
 use Rattle.trace_losses.proofs.loss.losses_of.Goals as goal
@@ -35,12 +35,14 @@ returns-clause-losses c =
     subst (λ (n : ℕ). AreWatches n counted.moments c.deref-3.result.now) (sym wide)
     (subst (AreWatches (length tasks) counted.moments) (sym c.deref-3.ensures.value)
     (subst (λ (moments : List (List Seen)). AreWatches (length tasks) moments c.in_ok-watches.watches.items) same watched.of)) in
-    let lost = c.in_ok-losses.ensures counted.moments (subst (IsBook counted.moments) (sym c.deref-2.ensures.value) counted.of.book) watches in
+    let lost = c.in_ok-losses.ensures counted.moments (subst (IsBook counted.moments) (sym c.deref-2.ensures.value) counted.of.book)
+    watches in
     record {
       moments = counted.moments;
       span = c.span_of-span.ensures;
       are = subst (λ (n : ℕ). AreMoments c.args.set.now threads passages n counted.moments) (sym c.span_of-span.ensures) counted.are;
-      losses = subst (λ (list : List ℕ). AreLossesOf list counted.moments c.in_ok-losses.losses.items) (c.deref-4.ensures.value ∙ c.in_ok-priorities.ensures) lost;
+      losses = subst (λ (list : List ℕ). AreLossesOf list counted.moments c.in_ok-losses.losses.items)
+          (c.deref-4.ensures.value ∙ c.in_ok-priorities.ensures) lost;
       count = (let wide = counted.of.beside_width in omega (arith, wide));
       counted = counted.of.beside;
     }

@@ -26,5 +26,6 @@ returns-in-Some-clause-placed c = λ task_set before placed.
     let new = c.apply.new.self.links in
     let step = subst (λ (event : Event). SchedulerStep old event c.apply.new.self.last new) c.event_of.ensures c.apply.ensures.step in
     subst (λ (mention : Option Readiness). IsPlaced task_set (λ t. ready_by mention t (before t)) new) (sym c.in-Some.is)
-    (placed_by c.in-Some.mention task_set before old c.apply.new.self.last new c.in-Some.mention.is_in refl step c.apply.ensures.valid c.apply.ensures.best
+    (placed_by c.in-Some.mention task_set before old c.apply.new.self.last new c.in-Some.mention.is_in refl step c.apply.ensures.valid
+    c.apply.ensures.best
     placed))

@@ -1,5 +1,5 @@
 use Rattle.std.proofs.Common.{◌≡◌, ◌+◌, nat_eq, false, arith, ap, ◌∙◌, ne_eqb}
-use Rattle.trace_reader.specs.Generator.{state_after, drawn}
+use Rattle.trace_reader.specs.Generator.{generator_after, drawn}
 use Rattle.trace_reader.specs.Generated.{draws_before, event_of_task}
 use Rattle.trace_reader.proofs.EventsDrawn.{draws_after}
 use Rattle.trace_reader.proofs.drawn_events.draw_event.Goals as goal
@@ -13,5 +13,5 @@ returns c = λ number earlier at table.
     record {
       event = rw no_tick (c.turn.ensures.event c.args.tasks earlier table ∙ ap (λ t. event_of_task t earlier) of.gives);
       table = c.turn.ensures.table c.args.tasks earlier table;
-      state = of.state ∙ ap (state_after number) (omega (arith, draws_after c.args.tasks earlier c.turn.result));
+      state = of.state ∙ ap (generator_after number) (omega (arith, draws_after c.args.tasks earlier c.turn.result));
     }

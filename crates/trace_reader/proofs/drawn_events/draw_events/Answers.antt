@@ -16,7 +16,8 @@ loop-preserved c =
       rw back (lent ∙ so_far.1),
       λ number at.
           let begun = so_far.2 number at in
-          rw (back, c.push_reserved.ensures.items) (one_more_drawn number c.args.tasks c.loop.counter c.loop.generator.state c.loop.events.items old new
+          rw (back, c.push_reserved.ensures.items)
+          (one_more_drawn number c.args.tasks c.loop.counter c.loop.generator.state c.loop.events.items old new
           c.draw_event-event.new.generator.state c.draw_event-event.result begun
           (c.draw_event-event.ensures number (events_of c.loop.events.items) begun.at (rw value begun.table))),
     )

@@ -14,9 +14,11 @@ loop-i-init c = rw c.in_ok-set.ensures record {
 pub add_task-requires : goal.add_task-requires
 add_task-requires c =
     let number = c.args.generator.now.state in
-    can_add_next number c.args.processors c.loop-i.i _ _ _ c.loop-i.set (omega arith) (omega arith) c.loop-i.invariant _ (c.draw_task-drawn.ensures number c.loop-i.invariant.at)
+    can_add_next number c.args.processors c.loop-i.i _ _ _ c.loop-i.set (omega arith) (omega arith) c.loop-i.invariant _
+    (c.draw_task-drawn.ensures number c.loop-i.invariant.at)
 
 pub loop-i-preserved : goal.loop-i-preserved
 loop-i-preserved c =
     let number = c.args.generator.now.state in
-    rw c.in_ok-add_task.ensures (next_is_drawn number c.args.processors c.loop-i.i _ _ _ c.loop-i.set c.loop-i.invariant _ (c.draw_task-drawn.ensures number c.loop-i.invariant.at))
+    rw c.in_ok-add_task.ensures (next_is_drawn number c.args.processors c.loop-i.i _ _ _ c.loop-i.set c.loop-i.invariant _
+    (c.draw_task-drawn.ensures number c.loop-i.invariant.at))

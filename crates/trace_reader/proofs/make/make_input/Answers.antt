@@ -3,7 +3,8 @@ use Rattle.trace_reader.proofs.EventsDrawn.{drawn_are_posted, drawn_are_of_versi
 use Rattle.trace_reader.proofs.make.make_input.Goals as goal
 
 pub new-requires-clause-events : goal.new-requires-clause-events
-new-requires-clause-events c = drawn_are_posted c.in_ok-set.set c.args.number c.args.tasks c.args.events c.in_ok-posted.posted.items c.in_ok-set.ensures.count (omega arith)
+new-requires-clause-events c = drawn_are_posted c.in_ok-set.set c.args.number c.args.tasks c.args.events c.in_ok-posted.posted.items
+    c.in_ok-set.ensures.count (omega arith)
     (c.in_ok-posted.ensures c.args.number c.in_ok-set.ensures.at)
 
 pub new-requires-clause-of_version : goal.new-requires-clause-of_version

@@ -8,7 +8,8 @@ use Rattle.weak_apa.proofs.arrival.place.Given as goal
 abbrev pub invariant-loop-out : goal.invariant-loop-out
 invariant-loop-out l = record {
   next : IsToBePlaced l.links l.guest;
-  completes : (displaced : List ℕ) (new : State) → IsPlacedInTurns l.links l.guest displaced new → (all : List ℕ) × IsPlacedInTurns l.fn.links l.fn.t all new;
+  completes : (displaced : List ℕ) (new : State) → IsPlacedInTurns l.links l.guest displaced new
+      → (all : List ℕ) × IsPlacedInTurns l.fn.links l.fn.t all new;
 }
 
 abbrev pub decreases-loop-out : goal.decreases-loop-out

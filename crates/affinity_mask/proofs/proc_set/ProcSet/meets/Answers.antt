@@ -6,4 +6,5 @@ use Rattle.affinity_mask.proofs.proc_set.ProcSet.meets.Goals as goal
 pub returns : goal.returns
 returns c =
     subst (λ (b : Bool). IsTrue b ↔ Meets c.args.self.now c.args.other.now) (sym c.is_some.ensures)
-    (meets_at_least c.args.self.now c.args.other.now c.both.result c.both.ensures.contents c.least.result c.least.ensures.none c.least.ensures.least)
+    (meets_at_least c.args.self.now c.args.other.now c.both.result c.both.ensures.contents c.least.result c.least.ensures.none
+    c.least.ensures.least)

@@ -1,6 +1,6 @@
 use Rattle.std.proofs.Common.{◌≡◌, ◌+◌, ◌≤◌, [], vec_len}
 use Rattle.std.specs.Vec.{vec_capacity}
-use Rattle.context_slots.specs.Hands.{AreNewFrom}
+use Rattle.context_slots.specs.Hands.{AreNewHandsFrom}
 use Rattle.context_slots.specs.HandSteps.{dealing}
 use Rattle.context_slots.proofs.slots.Slots.new.Given as goal
 
@@ -11,5 +11,5 @@ invariant-loop-number l = record {
   zero : l.first.number ≡ 0;
   count : vec_len l.hands + 1 ≡ l.number;
   room : l.processors ≤ vec_capacity l.hands;
-  new : AreNewFrom l.table.shared.table_id 1 l.hands.items;
+  new : AreNewHandsFrom l.table.shared.table_id 1 l.hands.items;
 }

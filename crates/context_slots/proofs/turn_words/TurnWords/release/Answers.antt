@@ -31,7 +31,11 @@ invariant_of-hand c =
     let h = c.requires.hand.1 in
     let view = ap (λ (m : SeatState). m.0) c.exchange-empty.ensures.3 in
     let done = c.store.ensures.2 h.0 (ap (λ (v : HandView). v.holds) view ∙ h.1) in
-    record { numbered = c.args.hand.now.numbered ∙ sym (ap (λ (v : HandView). v.number) view) ∙ sym (ap (λ (m : SeatState). m.0.number) done); small = c.args.hand.now.small }
+    record {
+      numbered = c.args.hand.now.numbered ∙ sym (ap (λ (v : HandView). v.number) view)
+          ∙ sym (ap (λ (m : SeatState). m.0.number) done);
+      small = c.args.hand.now.small;
+    }
 
 pub returns-clause-free : goal.returns-clause-free
 returns-clause-free c =
@@ -51,5 +55,8 @@ pub returns-clause-looks : goal.returns-clause-looks
 returns-clause-looks c =
     let h = c.requires.hand.1 in
     let view = ap (λ (m : SeatState). m.0) c.exchange-empty.ensures.3 in
-    let done = c.store.ensures.2 h.0 (ap (λ (v : HandView). v.holds) view ∙ h.1) in
-    (ap (λ (m : SeatState). m.0.looks) done ∙ ap (λ (v : HandView). v.looks) view, ap (λ (m : SeatState). m.0.parts) done ∙ ap (λ (v : HandView). v.parts) view)
+    let done = c.store.ensures.2 h.0 (ap (λ (v : HandView). v.holds) view ∙ h.1) in (
+      ap (λ (m : SeatState). m.0.looks) done ∙ ap (λ (v : HandView). v.looks) view,
+      ap (λ (m : SeatState). m.0.parts) done
+          ∙ ap (λ (v : HandView). v.parts) view,
+    )

@@ -15,5 +15,7 @@ exchange-requires c =
 pub returns-clause-turn : goal.returns-clause-turn
 returns-clause-turn c =
     let w = won _ _ _ _ c.if-found-home.false c.compare_exchange-found.ensures.2 in
-    let done = settled c.args.hand.now.seat.me.0 c.args.task c.args.number _ _ w.0 _ _ _ _ _ w.1 (omega arith) c.if-found-home.false w.2 c.exchange.ensures.2 c.exchange.ensures.3 c.unwrap-context.ensures c.took.ensures c.args.hand.now.numbered in
+    let done = settled c.args.hand.now.seat.me.0 c.args.task c.args.number _ _ w.0 _ _ _ _ _ w.1 (omega arith)
+    c.if-found-home.false w.2 c.exchange.ensures.2 c.exchange.ensures.3 c.unwrap-context.ensures c.took.ensures
+    c.args.hand.now.numbered in
     (refl, refl, done.0, done.1, done.2)

@@ -28,7 +28,8 @@ pub returns-in_err-try_history_from-clause-few : goal.returns-in_err-try_history
 returns-in_err-try_history_from-clause-few g c = c.in_err-try_history_from.ensures.copied.0.few
 
 pub returns-in_err-try_history_from-clause-turn : goal.returns-in_err-try_history_from-clause-turn
-returns-in_err-try_history_from-clause-turn g c = turn_more c.args.pass.now c.loop.pass c.try_history_from.new.pass (length c.try_history_from.new.pass.seen) c.loop.invariant.0 c.in_err-try_history_from.ensures.copied.0.looks
+returns-in_err-try_history_from-clause-turn g c = turn_more c.args.pass.now c.loop.pass c.try_history_from.new.pass
+    (length c.try_history_from.new.pass.seen) c.loop.invariant.0 c.in_err-try_history_from.ensures.copied.0.looks
 
 pub returns-in_err-try_history_from-clause-eyes : goal.returns-in_err-try_history_from-clause-eyes
 returns-in_err-try_history_from-clause-eyes g c = c.try_history_from.ensures.eyes ∙ c.loop.invariant.2
@@ -49,7 +50,8 @@ returns-then-branch-clause-few g c =
 pub returns-then-branch-clause-turn : goal.returns-then-branch-clause-turn
 returns-then-branch-clause-turn g c =
     let copied = rw c.if-branch.true at c.in_ok-try_history_from.ensures.copied in
-    turn_more c.args.pass.now c.loop.pass c.try_history_from.new.pass (length c.try_history_from.new.pass.seen) c.loop.invariant.0 copied.0.looks
+    turn_more c.args.pass.now c.loop.pass c.try_history_from.new.pass (length c.try_history_from.new.pass.seen)
+    c.loop.invariant.0 copied.0.looks
 
 pub returns-then-branch-clause-eyes : goal.returns-then-branch-clause-eyes
 returns-then-branch-clause-eyes g c = c.try_history_from.ensures.eyes ∙ c.loop.invariant.2

@@ -1,7 +1,7 @@
 use Rattle.std.proofs.Common.{◌≡◌, ◌+◌, ◌≤◌, [], length, vec_len, map}
 use Rattle.std.specs.Vec.{vec_capacity}
 use Rattle.order_queues.specs.Ends.{new_eye}
-use Rattle.event_history.specs.Boards.{AreNewFrom}
+use Rattle.event_history.specs.Boards.{AreNewPassesFrom}
 use Rattle.event_history.specs.Gathering.{AreRows}
 use Rattle.event_history.specs.PassStates.{Agrees}
 use Rattle.event_history.specs.Turn.{fresh}
@@ -17,5 +17,5 @@ invariant-loop-caller l = record {
   rows : length l.rows.items + l.caller ≡ l.callers;
   same : AreRows (map new_eye l.queues) l.rows.items;
   room : l.callers ≤ vec_capacity l.passes;
-  made : AreNewFrom l.table.shared.table_id (map new_eye l.queues) 1 l.passes.items;
+  made : AreNewPassesFrom l.table.shared.table_id (map new_eye l.queues) 1 l.passes.items;
 }

@@ -3,8 +3,11 @@ use Rattle.event_history.proofs.Waiting.{grown_more, posted_more, ended_more, re
 use Rattle.event_history.proofs.board.Board.post_as.Goals as goal
 
 pub loop-preserved : goal.loop-preserved
-loop-preserved g c =
-    (waited_more _ _ _ c.in-Err.found c.loop.invariant.0 c.try_post_as.ensures.grown c.in-Err.ensures.busy, c.try_post_as.ensures.eyes ∙ c.loop.invariant.1)
+loop-preserved g c = (
+  waited_more _ _ _ c.in-Err.found c.loop.invariant.0 c.try_post_as.ensures.grown c.in-Err.ensures.busy,
+  c.try_post_as.ensures.eyes
+      ∙ c.loop.invariant.1,
+)
 
 pub returns-in-Ok-Ok-clause-grown : goal.returns-in-Ok-Ok-clause-grown
 returns-in-Ok-Ok-clause-grown g c = grown_more _ _ _ c.loop.invariant.0.grown c.try_post_as.ensures.grown

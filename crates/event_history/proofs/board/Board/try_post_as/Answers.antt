@@ -11,7 +11,8 @@ use Rattle.event_history.proofs.board.Board.try_post_as.Goals as goal
 use Rattle.event_history.proofs.board.Board.try_post_as.Goals.{in-Ok-enter, in-Err-enter}
 
 pub returns-in-Err-clause-grown : goal.returns-in-Err-clause-grown
-returns-in-Err-clause-grown g c = subst (λ (p : PassData). Grown p (pass_data record { state = c.begin.new.state })) c.pass.view_is (search rules)
+returns-in-Err-clause-grown g c =
+    subst (λ (p : PassData). Grown p (pass_data record { state = c.begin.new.state })) c.pass.view_is (search rules)
 
 pub returns-in-Err-clause-busy : goal.returns-in-Err-clause-busy
 returns-in-Err-clause-busy g c =
@@ -23,7 +24,9 @@ pub record_entry-requires-clause-turn : goal.record_entry-requires-clause-turn
 record_entry-requires-clause-turn g c =
     let taken = c.in-Ok-enter.ensures.entered in
     let setting = c.requires.setting ∙ ap (λ (b : BoardData). record { set = b.set; queues = b.queues }) (sym c.self.view_is) in (
-      may_record g.J.Over.setting (setting_of c.self.inside.table.shared.key) c.pass.inside.state.seat.me.0 c.begin.new.state.seat.me c.in-Ok.held c.enter.new.self c.begin.new.state.caller c.args.event taken.receipt setting c.in-Ok.ensures.turn taken.holds c.enter.ensures.senders
+      may_record g.J.Over.setting (setting_of c.self.inside.table.shared.key) c.pass.inside.state.seat.me.0 c.begin.new.state.seat.me
+          c.in-Ok.held c.enter.new.self c.begin.new.state.caller c.args.event taken.receipt setting c.in-Ok.ensures.turn taken.holds
+          c.enter.ensures.senders
           c.begin.ensures.same.2.caller,
       c.begin.ensures.same.2,
     )
@@ -32,7 +35,8 @@ pub leave-requires-clause-turn : goal.leave-requires-clause-turn
 leave-requires-clause-turn g c =
     let made = c.in-Err-enter.ensures.refused.0 in
     let setting = c.requires.setting ∙ ap (λ (b : BoardData). record { set = b.set; queues = b.queues }) (sym c.self.view_is) in (
-      may_leave g.J.Over.setting (setting_of c.self.inside.table.shared.key) c.pass.inside.state.seat.me.0 c.begin.new.state.seat.me c.in-Ok.held c.enter.new.self setting c.in-Ok.ensures.turn made.history (λ closed. made.closed ∙ closed)
+      may_leave g.J.Over.setting (setting_of c.self.inside.table.shared.key) c.pass.inside.state.seat.me.0 c.begin.new.state.seat.me
+          c.in-Ok.held c.enter.new.self setting c.in-Ok.ensures.turn made.history (λ closed. made.closed ∙ closed)
           made.start (ap queues_of c.enter.ensures.senders),
       c.begin.ensures.same.2,
     )

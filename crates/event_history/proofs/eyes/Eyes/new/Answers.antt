@@ -16,7 +16,8 @@ eye-eye-requires c =
     let queues : c.args.queues.now ≡ queues_of senders = sym c.requires ∙ ap queues_of (sym c.loop-i.invariant.senders) in
     let many = mapped_length (λ (s : SenderData). s.queue) senders c.args.queues.now queues in
     let low : c.loop-i.i < length c.args.queues.now = omega (arith, c.loop-i-test.true) in
-    let same : c.index_mut.result.now.queue ≡ c.index-queues-i.result = mapped_at (λ (s : SenderData). s.queue) senders c.args.queues.now c.loop-i.i c.index_mut.result.now c.index-queues-i.result queues
+    let same : c.index_mut.result.now.queue ≡ c.index-queues-i.result = mapped_at (λ (s : SenderData). s.queue)
+    senders c.args.queues.now c.loop-i.i c.index_mut.result.now c.index-queues-i.result queues
     (at_index senders c.loop-i.i c.index_mut.result.now (omega (arith, low, many)) c.index_mut.ensures.value)
     (at_index c.args.queues.now c.loop-i.i c.index-queues-i.result low c.index-queues-i.is) in
     record { queue = same }
@@ -32,7 +33,9 @@ loop-i-preserved c =
     let q : QueueData = c.index-queues-i.result in
     let eye : c.eye-eye.result ≡ new_eye q = c.eye-eye.ensures.eye in
     record {
-      senders = ap (λ (s : SenderData). set senders c.loop-i.i s) c.eye-eye.ensures.same ∙ set_again senders c.loop-i.i first (at_index senders c.loop-i.i first (omega (arith, low, many)) c.index_mut.ensures.value) ∙ i.senders;
+      senders = ap (λ (s : SenderData). set senders c.loop-i.i s) c.eye-eye.ensures.same
+          ∙ set_again senders c.loop-i.i first (at_index senders c.loop-i.i first (omega (arith, low, many)) c.index_mut.ensures.value)
+          ∙ i.senders;
       count = omega (arith, i.count, c.push_reserved.ensures.len);
       room = omega (arith, i.room, c.push_reserved.ensures.capacity);
       row = c.push_reserved.ensures.items

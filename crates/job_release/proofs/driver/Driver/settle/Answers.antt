@@ -10,4 +10,5 @@ returns-clause-settled g c =
     let end = c.loop-t.invariant.end in
     let from = c.loop-t-test.false in
     let auto = c.loop-t.auto.t-end in
-    all_moved (driver_of seen c.args.self.now) (driver_of seen c.loop-t.self) c.loop-t.t (settled moment) (grown moment) (omega arith) (omega arith) c.loop-t.invariant.driving
+    all_moved (driver_of seen c.args.self.now) (driver_of seen c.loop-t.self) c.loop-t.t (settled moment) (grown moment) (omega arith)
+    (omega arith) c.loop-t.invariant.driving

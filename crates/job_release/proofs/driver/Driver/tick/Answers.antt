@@ -22,6 +22,8 @@ returns-clause-grown g c =
     let after = g.S.JobScheduler.seen c.pass.new.self in
     let rows = c.args.self.now.rows in
     let ran = rw (c.links.ensures.value, c.deref_mut.ensures.value) at c.run_rows.ensures in
-    let P : List JobRow → Type 0 = λ rows. IsDriving d (record { scheduler = after; rows = rows; horizon = d.horizon; moment = c.args.next }) (length rows) (grown c.args.next) (grown c.args.next) in
+    let P : List JobRow → Type 0 = λ rows. IsDriving d
+    (record { scheduler = after; rows = rows; horizon = d.horizon; moment = c.args.next }) (length rows) (grown c.args.next)
+    (grown c.args.next) in
     subst P (sym (written_over c.run_rows.new.rows rows.items rows.len ran.count rows.ok.0))
     (ticked d d c.requires.driving c.args.next c.requires.next after c.in_ok-pass.ensures c.run_rows.new.rows ran)

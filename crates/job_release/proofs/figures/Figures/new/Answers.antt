@@ -36,6 +36,8 @@ loop-k-preserved g c =
     let horizon = valid.horizon in
     record {
       end = c.loop-k.invariant.end;
-      counted = figures_more input (g.S.JobScheduler.seen c.args.driven.now.scheduler).states c.args.t c.loop-k.k _ c.new-outcome.result c.loop-k.figures c.with-figures.result
-          (ap (λ (jobs : List Job). (job_at jobs c.loop-k.k).release) c.jobs-jobs.ensures.value) horizon.1 c.new-outcome.ensures c.loop-k.invariant.counted c.with-figures.ensures;
+      counted = figures_more input (g.S.JobScheduler.seen c.args.driven.now.scheduler).states c.args.t c.loop-k.k _ c.new-outcome.result
+          c.loop-k.figures c.with-figures.result
+          (ap (λ (jobs : List Job). (job_at jobs c.loop-k.k).release) c.jobs-jobs.ensures.value)
+          horizon.1 c.new-outcome.ensures c.loop-k.invariant.counted c.with-figures.ensures;
     }

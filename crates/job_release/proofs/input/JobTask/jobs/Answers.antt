@@ -14,5 +14,7 @@ overflow_cast-release c =
 pub loop-k-preserved : goal.loop-k-preserved
 loop-k-preserved c =
     let task = c.args.self.now in
-    let pushed : c.push.new.self.items ≡ c.loop-k.jobs.items ++ periodic_job task c.loop-k.k ∷ [] = rw c.release.ensures at c.in_ok-push.ensures.items in
-    pushed ∙ ap (λ (jobs : List Job). jobs ++ periodic_job task c.loop-k.k ∷ []) c.loop-k.invariant ∙ sym (map-range_with_len_more (periodic_job task) 0 c.loop-k.k c.loop-k.k (omega arith))
+    let pushed : c.push.new.self.items ≡ c.loop-k.jobs.items ++ periodic_job task c.loop-k.k
+    ∷ [] = rw c.release.ensures at c.in_ok-push.ensures.items in
+    pushed ∙ ap (λ (jobs : List Job). jobs ++ periodic_job task c.loop-k.k ∷ []) c.loop-k.invariant
+    ∙ sym (map-range_with_len_more (periodic_job task) 0 c.loop-k.k c.loop-k.k (omega arith))

@@ -12,4 +12,5 @@ pub returns : goal.returns
 returns g c =
     let a = c.self.inside in
     let kept = c.self.invariant in
-    rw (← c.self.view_is) ((rw c.deref.ensures.value at c.moves_in_all.ensures) ∙ moves_of_rows (g.S.JobScheduler.seen a.scheduler).states a.horizon a.rows.items kept.rows)
+    rw (← c.self.view_is) ((rw c.deref.ensures.value at c.moves_in_all.ensures)
+    ∙ moves_of_rows (g.S.JobScheduler.seen a.scheduler).states a.horizon a.rows.items kept.rows)

@@ -13,4 +13,5 @@ returns-else-len-gt-MAX_EVENTS c =
       | then-passed-eq0 w ↦ w.part-is ∙ sym (ap part w.if-passed-eq0.true ∙ part_zero)
       | else-passed-eq0 w ↦ w.part-is ∙ sym (part_some (c.passed-passed.result % 1000000) w.if-passed-eq0.false)
     ] in
-    full_is c.args.self.now.events.items c.len-else-len-gt-MAX_EVENTS.result (passed (course_of c.args.self.now)) c.passed-passed.result c.if-passed-eq0.part count few c.passed-passed.ensures more
+    full_is c.args.self.now.events.items c.len-else-len-gt-MAX_EVENTS.result (passed (course_of c.args.self.now))
+    c.passed-passed.result c.if-passed-eq0.part count few c.passed-passed.ensures more

@@ -14,7 +14,8 @@ use Rattle.kernel_trace.proofs.HeadLines.{head_line, on_ok, on_err}
 use Rattle.kernel_trace.proofs.stage.Stage.after_line.Goals as goal
 
 refused_line : (look : SurveyData) (s : Step) (c : CourseData) (line : List ℕ) (kind : TraceKind) → (s ≡ step.Trace → ⊥)
-    → IsRefusedBy (IsLineOutcome 4096 true trace_kind IsHeadOutcome (progress_at s c) line) kind → IsRefusedBy (IsLine look (progress_at s c) line) kind
+    → IsRefusedBy (IsLineOutcome 4096 true trace_kind IsHeadOutcome (progress_at s c) line) kind
+    → IsRefusedBy (IsLine look (progress_at s c) line) kind
 refused_line look s c line kind head (inl memory) = inl memory
 refused_line look s c line kind head (inr comes) = inr (head_line look s c line (Fails kind) head comes)
 
@@ -24,6 +25,8 @@ returns-in_default c =
     let s = c.args.self.now.step in
     let known = course_of c.args.self.now.course in
     record {
-      read = on_ok c.after_head_line.result (λ comes. head_line look s known c.args.line.now _ c.in_default.not-Trace comes) c.after_head_line.ensures.read;
-      refused = on_err c.after_head_line.result (λ kind comes. refused_line look s known c.args.line.now kind c.in_default.not-Trace comes) c.after_head_line.ensures.refused;
+      read = on_ok c.after_head_line.result (λ comes. head_line look s known c.args.line.now _ c.in_default.not-Trace comes)
+          c.after_head_line.ensures.read;
+      refused = on_err c.after_head_line.result (λ kind comes. refused_line look s known c.args.line.now kind c.in_default.not-Trace comes)
+          c.after_head_line.ensures.refused;
     }

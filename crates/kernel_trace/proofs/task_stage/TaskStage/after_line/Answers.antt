@@ -20,15 +20,19 @@ use Rattle.kernel_trace.proofs.task_stage.TaskStage.after_line.Goals as goal
 abbrev following_at : Step → CourseData → Option ℕ → List Passage → FollowingData
 following_at s c start passages = record { progress = progress_at s c; start = start; passages = passages }
 
-followed_line : (look : SurveyData) (s : Step) (c : CourseData) (start : Option ℕ) (passages : List Passage) (line : List ℕ) (outcome : LineOutcome) → (s ≡ step.Trace → ⊥)
+followed_line : (look : SurveyData) (s : Step) (c : CourseData) (start : Option ℕ) (passages : List Passage) (line : List ℕ)
+    (outcome : LineOutcome) → (s ≡ step.Trace → ⊥)
     → IsLineOutcome 4096 true trace_kind IsHeadOutcome (progress_at s c) line outcome
     → IsFollowed look (following_at s c start passages) line (head_outcome (following_at s c start passages) outcome)
-followed_line look step.Header c start passages line outcome head comes = (outcome, head_line look step.Header c line outcome head comes, refl)
-followed_line look step.Processors c start passages line outcome head comes = (outcome, head_line look step.Processors c line outcome head comes, refl)
+followed_line look step.Header c start passages line outcome head comes =
+    (outcome, head_line look step.Header c line outcome head comes, refl)
+followed_line look step.Processors c start passages line outcome head comes =
+    (outcome, head_line look step.Processors c line outcome head comes, refl)
 followed_line look step.Head c start passages line outcome head comes = (outcome, head_line look step.Head c line outcome head comes, refl)
 followed_line look step.Trace c start passages line outcome head comes = absurd (head refl)
 
-refused_line : (look : SurveyData) (s : Step) (c : CourseData) (start : Option ℕ) (passages : List Passage) (line : List ℕ) (kind : TraceKind) → (s ≡ step.Trace → ⊥)
+refused_line : (look : SurveyData) (s : Step) (c : CourseData) (start : Option ℕ) (passages : List Passage) (line : List ℕ)
+    (kind : TraceKind) → (s ≡ step.Trace → ⊥)
     → IsRefusedBy (IsLineOutcome 4096 true trace_kind IsHeadOutcome (progress_at s c) line) kind
     → IsRefusedAs (IsFollowed look (following_at s c start passages) line) kind
 refused_line look s c start passages line kind head (inl memory) = inl memory
@@ -42,7 +46,8 @@ returns-in_default c =
     let f = following_of c.args.self.now in
     record {
       read = on_ok c.after_head_line.result
-          (λ comes. followed_line look s known f.start f.passages c.args.line.now (Leads (progress_of c.after_head_line.new.self)) c.in_default.not-Trace comes)
+          (λ comes. followed_line look s known f.start f.passages c.args.line.now (Leads (progress_of c.after_head_line.new.self))
+          c.in_default.not-Trace comes)
           c.after_head_line.ensures.read;
       refused = on_err c.after_head_line.result
           (λ kind comes. refused_line look s known f.start f.passages c.args.line.now kind c.in_default.not-Trace comes)

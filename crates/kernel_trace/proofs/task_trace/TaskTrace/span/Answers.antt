@@ -4,7 +4,8 @@ use Rattle.trace_passages.specs.declared.passage.Passage.{Passage}
 use Rattle.kernel_trace.proofs.task_trace.TaskTrace.span.Goals as goal
 
 -- the last passage is the one at the last place
-last_moment : (passages : List Passage) (last : Passage) → slice_get passages (length passages - 1) ≡ Some last → last.moment ≡ span_of passages
+last_moment : (passages : List Passage) (last : Passage) → slice_get passages (length passages - 1) ≡ Some last
+    → last.moment ≡ span_of passages
 last_moment [] last e = cc
 last_moment (one ∷ []) last e = let same : last ≡ one = cc in ap (λ (p : Passage). p.moment) same
 last_moment (one ∷ two ∷ rest) last e =

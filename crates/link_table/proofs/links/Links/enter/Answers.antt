@@ -1,4 +1,5 @@
-use Rattle.std.proofs.Common.{◌≡◌, ℕ, ◌+◌, ◌<◌, ◌≤◌, List, Some, true, false, length, Option, None, set, take, take_all, get_or, ◌++◌, ◌∷◌, [], refl, sym, ap, ◌∙◌, subst, arith}
+use Rattle.std.proofs.Common.{◌≡◌, ℕ, ◌+◌, ◌<◌, ◌≤◌, List, Some, true, false, length, Option, None, set, take, take_all, get_or, ◌++◌, ◌∷◌}
+use Rattle.std.proofs.Common.{[], refl, sym, ap, ◌∙◌, subst, arith}
 use Rattle.std.specs.Option.{ForSome}
 use Rattle.std.proofs.lemmas.List.{take_more}
 use Rattle.std.proofs.lemmas.Option.{get_or_from_slice_get}
@@ -11,7 +12,8 @@ use Rattle.link_table.specs.WaitingTasks.{masks_with}
 use Rattle.link_table.proofs.Awaiting.{AreAwaited-enter}
 use Rattle.link_table.proofs.Feeding.{mask_has-same}
 use Rattle.strong_apa.proofs.Simple.{Avoids-none, Avoids-take}
-use Rattle.strong_apa.proofs.Shifts.{IsState-state_after_shift, chain_below, handed_on, handed_on-end, handed_on-read, handed_on-number, handed_on-apart, place_in_table, table_after, table_after-nothing, table_after-push}
+use Rattle.strong_apa.proofs.Shifts.{IsState-state_after_shift, chain_below, handed_on, handed_on-end, handed_on-read, handed_on-number}
+use Rattle.strong_apa.proofs.Shifts.{handed_on-apart, place_in_table, table_after, table_after-nothing, table_after-push}
 use Rattle.strong_apa.proofs.Readiness.{IsState-state_with_ready, is_ready-state_with_ready}
 use Rattle.strong_apa.proofs.Steps.{IsChainOf-state_with_ready}
 use Rattle.link_table.proofs.links.Links.enter.Goals as goal
@@ -44,20 +46,24 @@ pub replace-guest-requires-clause-processor : goal.replace-guest-requires-clause
 replace-guest-requires-clause-processor c =
     let s = state_with_ready c.args.self.now c.args.t in
     let ok = IsState-state_with_ready c.args.self.now (rw c.self.view_is at c.self.invariant.state) c.args.t c.requires.number in
-    place_in_table s ok c.args.t c.args.chain.now c.requires.chain.0 (chain_then c.args.self.now c.args.t c.args.chain.now c.requires.chain) c.loop-i.i c.at.result _ (omega arith) c.at.ensures.value c.loop-i.invariant.on
+    place_in_table s ok c.args.t c.args.chain.now c.requires.chain.0 (chain_then c.args.self.now c.args.t c.args.chain.now c.requires.chain)
+    c.loop-i.i c.at.result _ (omega arith) c.at.ensures.value c.loop-i.invariant.on
 
 pub replace-guest-requires-clause-number : goal.replace-guest-requires-clause-number
 replace-guest-requires-clause-number c = λ w e.
     let s = state_with_ready c.args.self.now c.args.t in
     let ok = IsState-state_with_ready c.args.self.now (rw c.self.view_is at c.self.invariant.state) c.args.t c.requires.number in
     rw (c.loop-i.invariant.masks, ok.masks_count)
-    (handed_on-number s ok c.args.t c.requires.number (take c.loop-i.i c.args.chain.now) (Avoids-take c.args.chain.now c.loop-i.i c.requires.simple) w (sym c.loop-i.invariant.guest ∙ e))
+    (handed_on-number s ok c.args.t c.requires.number (take c.loop-i.i c.args.chain.now)
+    (Avoids-take c.args.chain.now c.loop-i.i c.requires.simple) w (sym c.loop-i.invariant.guest ∙ e))
 
 pub replace-guest-requires-clause-nowhere : goal.replace-guest-requires-clause-nowhere
 replace-guest-requires-clause-nowhere c = λ w e p on.
     let s = state_with_ready c.args.self.now c.args.t in
     let ok = IsState-state_with_ready c.args.self.now (rw c.self.view_is at c.self.invariant.state) c.args.t c.requires.number in
-    handed_on-apart s ok c.args.t (waits c.args.self.now (rw c.self.view_is at c.self.invariant.state) c.args.t c.requires.number c.requires.not_linked) (take c.loop-i.i c.args.chain.now) (Avoids-take c.args.chain.now c.loop-i.i c.requires.simple) p w (sym c.loop-i.invariant.guest ∙ e)
+    handed_on-apart s ok c.args.t (waits c.args.self.now (rw c.self.view_is at c.self.invariant.state)
+    c.args.t c.requires.number c.requires.not_linked) (take c.loop-i.i c.args.chain.now)
+    (Avoids-take c.args.chain.now c.loop-i.i c.requires.simple) p w (sym c.loop-i.invariant.guest ∙ e)
     (ap (λ (places : List (Option ℕ)). get_or places p None) (sym c.loop-i.invariant.on) ∙ on)
 
 pub loop-i-preserved : goal.loop-i-preserved
@@ -67,10 +73,14 @@ loop-i-preserved c =
     let s = state_with_ready c.args.self.now c.args.t in
     let ok = IsState-state_with_ready c.args.self.now (rw c.self.view_is at c.self.invariant.state) c.args.t c.requires.number in
     let here : get_or chain c.loop-i.i 0 ≡ c.at.result = get_or_from_slice_get chain c.loop-i.i c.at.result 0 c.at.ensures.value in
-    let more : take (c.loop-i.i + 1) chain ≡ take c.loop-i.i chain ++ c.at.result ∷ [] = take_more chain c.loop-i.i 0 (omega arith) ∙ ap (λ (x : ℕ). take c.loop-i.i chain ++ x ∷ []) here in
-    let fits = rw here at (chain_below s ok c.args.t chain c.requires.chain.0 (chain_then c.args.self.now c.args.t chain c.requires.chain) c.loop-i.i (omega arith)) in
+    let more : take (c.loop-i.i + 1) chain ≡ take c.loop-i.i chain ++ c.at.result ∷ [] = take_more chain c.loop-i.i 0 (omega arith)
+    ∙ ap (λ (x : ℕ). take c.loop-i.i chain ++ x ∷ []) here in
+    let fits = rw here at (chain_below s ok c.args.t chain c.requires.chain.0 (chain_then c.args.self.now c.args.t chain c.requires.chain)
+    c.loop-i.i (omega arith)) in
     let simple = rw more at (Avoids-take chain (c.loop-i.i + 1) c.requires.simple) in
-    let pushed : set c.loop-i.self-inside.places.on c.at.result c.loop-i.guest ≡ table_after s c.args.t (take (c.loop-i.i + 1) chain) = rw (more, i.on, i.guest) (table_after-push s c.args.t (take c.loop-i.i chain) c.at.result simple fits) in
+    let pushed : set c.loop-i.self-inside.places.on c.at.result c.loop-i.guest
+    ≡ table_after s c.args.t (take (c.loop-i.i + 1) chain) = rw (more, i.on, i.guest)
+    (table_after-push s c.args.t (take c.loop-i.i chain) c.at.result simple fits) in
     record {
       on = ap (λ (a : Layout). a.on) c.replace-guest.ensures.replaced ∙ pushed;
       guest = rw more (handed_on-read s c.args.t (take c.loop-i.i chain) c.at.result _ _ simple fits i.on c.replace-guest.ensures.out);
@@ -83,7 +93,8 @@ loop-i-preserved c =
     }
 
 -- after the loop the columns are those of the state after the shift
-shifted_columns : (c : After-exchange) → state_after_shift (state_with_ready c.args.self.now c.args.t) c.args.t c.args.chain.now ≡ links_view c.loop-i.self-inside
+shifted_columns : (c : After-exchange) → state_after_shift (state_with_ready c.args.self.now c.args.t) c.args.t c.args.chain.now
+    ≡ links_view c.loop-i.self-inside
 shifted_columns c =
     let i = c.loop-i.invariant in
     let whole = take_all c.loop-i.i c.args.chain.now (omega arith) in
@@ -96,7 +107,8 @@ handed c =
     rw whole at c.loop-i.invariant.guest
 
 -- and that it is one of the tasks
-guest_number : (s : State) → IsState s → (t : ℕ) → t < task_count s → (chain : List ℕ) → IsSimple chain → (n : ℕ) → length chain ≤ n → (guest : Option ℕ) → guest ≡ handed_on s (Some t) (take n chain) → ForSome guest (λ u. u < task_count s)
+guest_number : (s : State) → IsState s → (t : ℕ) → t < task_count s → (chain : List ℕ) → IsSimple chain → (n : ℕ) → length chain ≤ n
+    → (guest : Option ℕ) → guest ≡ handed_on s (Some t) (take n chain) → ForSome guest (λ u. u < task_count s)
 guest_number s ok t number chain simple n whole guest is u e =
     let all = take_all n chain whole in
     handed_on-number s ok t number chain (Avoids-none chain simple) u (sym (rw all at is) ∙ e)
@@ -105,13 +117,16 @@ pub mask_of-mask-requires : goal.mask_of-mask-requires
 mask_of-mask-requires c = λ u e.
     let s = state_with_ready c.args.self.now c.args.t in
     let ok = IsState-state_with_ready c.args.self.now (rw c.self.view_is at c.self.invariant.state) c.args.t c.requires.number in
-    rw (c.loop-i.invariant.masks, ok.masks_count) (guest_number s ok c.args.t c.requires.number c.args.chain.now c.requires.simple c.loop-i.i (omega arith) c.loop-i.guest c.loop-i.invariant.guest u e)
+    rw (c.loop-i.invariant.masks, ok.masks_count)
+    (guest_number s ok c.args.t c.requires.number c.args.chain.now c.requires.simple c.loop-i.i (omega arith)
+    c.loop-i.guest c.loop-i.invariant.guest u e)
 
 pub exchange-requires-clause-out_number : goal.exchange-requires-clause-out_number
 exchange-requires-clause-out_number c =
     let s = state_with_ready c.args.self.now c.args.t in
     let ok = IsState-state_with_ready c.args.self.now (rw c.self.view_is at c.self.invariant.state) c.args.t c.requires.number in
-    rw c.loop-i.invariant.priorities (guest_number s ok c.args.t c.requires.number c.args.chain.now c.requires.simple c.loop-i.i (omega arith) c.loop-i.guest c.loop-i.invariant.guest)
+    rw c.loop-i.invariant.priorities (guest_number s ok c.args.t c.requires.number c.args.chain.now c.requires.simple c.loop-i.i
+    (omega arith) c.loop-i.guest c.loop-i.invariant.guest)
 
 pub invariant_of-self : goal.invariant_of-self
 invariant_of-self c =
@@ -125,15 +140,19 @@ invariant_of-self c =
     let chain = c.args.chain.now in
     let end = c.requires.chain.0 in
     let is_chain = chain_then old t chain c.requires.chain in
-    let mask : (q : ℕ) → has c.mask_of-mask.result q ≡ mask_has (layout_of s) c.loop-i.guest q = λ q. c.mask_of-mask.ensures q ∙ mask_has-same c.loop-i.self-inside.places (layout_of s) i.masks c.loop-i.guest q in
+    let mask : (q : ℕ) → has c.mask_of-mask.result q ≡ mask_has (layout_of s) c.loop-i.guest q = λ q. c.mask_of-mask.ensures q
+    ∙ mask_has-same c.loop-i.self-inside.places (layout_of s) i.masks c.loop-i.guest q in
     rw c.exchange.ensures record {
       state = subst IsState (shifted_columns c) (IsState-state_after_shift s ok t chain end ready is_chain c.requires.simple);
-      waiting = subst (λ (s : State). AreAwaited s (masks_with (set c.loop-i.self-inside.waiting.masks t empty) c.loop-i.guest c.mask_of-mask.result)) (shifted_columns c)
-          (AreAwaited-enter old before t c.requires.number c.requires.not_linked chain end is_chain c.requires.simple c.loop-i.self-inside.waiting.masks i.waiting c.loop-i.guest c.mask_of-mask.result (handed c) mask);
+      waiting = subst (λ (s : State). AreAwaited s
+          (masks_with (set c.loop-i.self-inside.waiting.masks t empty) c.loop-i.guest c.mask_of-mask.result)) (shifted_columns c)
+          (AreAwaited-enter old before t c.requires.number c.requires.not_linked chain end is_chain c.requires.simple
+          c.loop-i.self-inside.waiting.masks i.waiting c.loop-i.guest c.mask_of-mask.result (handed c) mask);
     }
 
 pub returns-clause-out : goal.returns-clause-out
-returns-clause-out c = handed c ∙ handed_on-end (state_with_ready c.args.self.now c.args.t) c.args.t c.args.chain.now c.requires.chain.0 (chain_then c.args.self.now c.args.t c.args.chain.now c.requires.chain)
+returns-clause-out c = handed c ∙ handed_on-end (state_with_ready c.args.self.now c.args.t) c.args.t c.args.chain.now c.requires.chain.0
+    (chain_then c.args.self.now c.args.t c.args.chain.now c.requires.chain)
 
 pub returns-clause-shifted : goal.returns-clause-shifted
 returns-clause-shifted c = rw c.exchange.ensures (sym (shifted_columns c))

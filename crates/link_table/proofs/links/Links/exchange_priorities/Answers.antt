@@ -13,5 +13,6 @@ invariant_of-self c =
     let other = subst (λ (s : State). u < task_count s) (sym c.self.view_is) c.requires.other in
     rw (c.set_priority-2.ensures, c.set_priority.ensures, c.priority-priority.ensures, c.priority-other.ensures) record {
       state = IsState-state_with_exchange s t number u other c.self.invariant.state;
-      waiting = AreAwaited-priorities s (after s t number u other) (after_count s t number u other) c.self.inside.waiting.masks c.self.invariant.waiting;
+      waiting = AreAwaited-priorities s (after s t number u other) (after_count s t number u other)
+          c.self.inside.waiting.masks c.self.invariant.waiting;
     }

@@ -11,22 +11,28 @@ loop-p-init c = record {
 }
 
 pub loop-p-smaller : goal.loop-p-smaller
-loop-p-smaller c = rest_grows c.loop-p.rest c.without-rest.result c.in-Some.p c.without-rest.ensures c.in-Some.ensures.least.0 c.in-Some.ensures.bound
+loop-p-smaller c =
+    rest_grows c.loop-p.rest c.without-rest.result c.in-Some.p c.without-rest.ensures c.in-Some.ensures.least.0 c.in-Some.ensures.bound
 
 pub loop-p-preserved : goal.loop-p-preserved
 loop-p-preserved c =
     let there = c.loop-p.invariant.rest c.in-Some.p c.in-Some.ensures.least.0 in
     record {
-      found = on_more c.args.self.now c.args.set c.loop-p.rest c.without-rest.result c.in-Some.p c.in-Some-on.t c.less_urgent.result (there.1.0, sym c.in-Some-on.ensures.value) c.without-rest.ensures
-          c.less_urgent.ensures.last c.loop-p.found c.less_urgent.ensures.either c.less_urgent.ensures.last_of_found c.loop-p.invariant.found;
-      rest = rest_fewer c.args.self.now c.args.set c.loop-p.rest c.without-rest.result c.in-Some.p c.without-rest.ensures c.loop-p.invariant.rest;
+      found = on_more c.args.self.now c.args.set c.loop-p.rest c.without-rest.result c.in-Some.p c.in-Some-on.t c.less_urgent.result
+          (there.1.0, sym c.in-Some-on.ensures.value) c.without-rest.ensures
+          c.less_urgent.ensures.last c.loop-p.found c.less_urgent.ensures.either c.less_urgent.ensures.last_of_found
+          c.loop-p.invariant.found;
+      rest = rest_fewer c.args.self.now c.args.set c.loop-p.rest c.without-rest.result c.in-Some.p c.without-rest.ensures
+          c.loop-p.invariant.rest;
     }
 
 pub less_urgent-requires-clause-found_number : goal.less_urgent-requires-clause-found_number
-less_urgent-requires-clause-found_number c = on_number c.args.self.now c.processors-valid.ensures.valid c.args.set c.loop-p.rest c.loop-p.found c.loop-p.invariant.found
+less_urgent-requires-clause-found_number c =
+    on_number c.args.self.now c.processors-valid.ensures.valid c.args.set c.loop-p.rest c.loop-p.found c.loop-p.invariant.found
 
 pub returns-clause-test : goal.returns-clause-test
-returns-clause-test c = on_whole c.args.self.now c.args.set c.loop-p.rest c.loop-p.found (c.in_default.ensures.none.0 refl) c.loop-p.invariant.found
+returns-clause-test c =
+    on_whole c.args.self.now c.args.set c.loop-p.rest c.loop-p.found (c.in_default.ensures.none.0 refl) c.loop-p.invariant.found
 
 pub on-requires : goal.on-requires
 on-requires c =
@@ -41,4 +47,5 @@ unreachable-requires c =
     cc
 
 pub less_urgent-requires-clause-number : goal.less_urgent-requires-clause-number
-less_urgent-requires-clause-number c = linked_number c.args.self.now c.in-Some.p c.in-Some-on.t c.processors-valid.ensures.valid (sym c.in-Some-on.ensures.value)
+less_urgent-requires-clause-number c =
+    linked_number c.args.self.now c.in-Some.p c.in-Some-on.t c.processors-valid.ensures.valid (sym c.in-Some-on.ensures.value)

@@ -12,7 +12,8 @@ invariant_of-self c =
     let absent = subst (λ (s : State). is_ready s c.args.t ≡ false) (sym c.self.view_is) c.requires.absent in
     rw (c.write.ensures, c.mask-mask.ensures) record {
       state = IsState-state_with_ready (links_view a) c.self.invariant.state c.args.t number;
-      waiting = AreAwaited-ready (links_view a) c.self.invariant.state a.waiting.masks c.self.invariant.waiting c.args.t number (IsWaiting-state_with_ready (links_view a) c.self.invariant.state c.args.t number absent);
+      waiting = AreAwaited-ready (links_view a) c.self.invariant.state a.waiting.masks c.self.invariant.waiting c.args.t number
+          (IsWaiting-state_with_ready (links_view a) c.self.invariant.state c.args.t number absent);
     }
 
 pub returns-clause-waits : goal.returns-clause-waits

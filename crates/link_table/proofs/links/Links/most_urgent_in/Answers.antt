@@ -10,6 +10,8 @@ use Rattle.link_table.proofs.links.Links.most_urgent_in.Goals as goal
 pub returns-clause-test : goal.returns-clause-test
 returns-clause-test c =
     let s = c.self.inside in
-    let on_line : (p : ℕ) → has c.both.result p ≡ (has c.args.set p && has s.places.online p) = subst (λ (X : ℕ). (p : ℕ) → has c.both.result p ≡ (has c.args.set p && has X p)) c.online.ensures c.both.ensures.contents in
+    let on_line : (p : ℕ) → has c.both.result p ≡ (has c.args.set p && has s.places.online p) = subst (λ (X : ℕ). (p : ℕ)
+    → has c.both.result p ≡ (has c.args.set p && has X p)) c.online.ensures c.both.ensures.contents in
     subst (λ (s : State). MatchOption c.first_for.result (IsNobodyInto s c.args.set) (IsMostUrgentInto s c.args.set)) c.self.view_is
-    (most_urgent_from_first (links_view s) c.self.invariant.state s.waiting refl c.self.invariant.waiting c.args.set c.both.result on_line c.first_for.result c.first_for.ensures)
+    (most_urgent_from_first (links_view s) c.self.invariant.state s.waiting refl c.self.invariant.waiting c.args.set c.both.result on_line
+    c.first_for.result c.first_for.ensures)

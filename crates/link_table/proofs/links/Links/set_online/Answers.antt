@@ -6,7 +6,8 @@ use Rattle.link_table.specs.LinksView.{links_view}
 use Rattle.link_table.proofs.Awaiting.{AreAwaited-online}
 use Rattle.link_table.proofs.links.Links.set_online.Goals as goal
 
-IsState-marked : (s : State) → IsState s → (p : ℕ) (on : Bool) → p < s.processors → task_on s p ≡ None → IsState (record s { online = if on then with_member s.online p else without_member s.online p })
+IsState-marked : (s : State) → IsState s → (p : ℕ) (on : Bool) → p < s.processors → task_on s p ≡ None
+    → IsState (record s { online = if on then with_member s.online p else without_member s.online p })
 IsState-marked s ok p true number nobody = IsState-state_with_online s p ok number
 IsState-marked s ok p false number nobody = IsState-state_with_offline s p ok nobody
 

@@ -19,7 +19,9 @@ invariant_of-self c =
 
 pub returns-clause-waits : goal.returns-clause-waits
 returns-clause-waits c =
-    rw (c.write.ensures, c.replace.ensures.replaced) (IsWaiting-state_with_idle (links_view c.self.inside) c.self.invariant.state c.args.p c.in-Some.t (sym c.replace.ensures.out ∙ c.in-Some.is))
+    rw (c.write.ensures, c.replace.ensures.replaced)
+    (IsWaiting-state_with_idle (links_view c.self.inside) c.self.invariant.state c.args.p c.in-Some.t
+    (sym c.replace.ensures.out ∙ c.in-Some.is))
 
 pub mask-requires : goal.mask-requires
 mask-requires c =
@@ -28,4 +30,5 @@ mask-requires c =
     rw c.replace.ensures.replaced (omega (arith, number, c.self.invariant.state.masks_count))
 
 pub write-requires : goal.write-requires
-write-requires c = linked_number (links_view c.self.inside) c.args.p c.in-Some.t c.self.invariant.state (sym c.replace.ensures.out ∙ c.in-Some.is)
+write-requires c =
+    linked_number (links_view c.self.inside) c.args.p c.in-Some.t c.self.invariant.state (sym c.replace.ensures.out ∙ c.in-Some.is)

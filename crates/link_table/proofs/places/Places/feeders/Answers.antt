@@ -15,10 +15,12 @@ returns-then-has c = λ p.
     let count = c.self.invariant.feeders_count in
     let read = c.index.ensures ∙ get_or_default s.feeders.items c.args.q c.index.result.now empty (omega arith) in
     subst (λ (l : Layout). has c.index.result.now p ≡ runs_on l (occupant_in l p) c.args.q) c.self.view_is
-    (ap (λ (X : ℕ). has X p) read ∙ c.self.invariant.fed c.args.q p below ∙ runs_on-online a (occupant_in a p) c.args.q (sym c.has.ensures ∙ c.if-has.true))
+    (ap (λ (X : ℕ). has X p) read ∙ c.self.invariant.fed c.args.q p below
+    ∙ runs_on-online a (occupant_in a p) c.args.q (sym c.has.ensures ∙ c.if-has.true))
 
 pub returns-else-has : goal.returns-else-has
 returns-else-has c = λ p.
     let a = places_view c.self.inside in
     subst (λ (l : Layout). has c.empty.result p ≡ runs_on l (occupant_in l p) c.args.q) c.self.view_is
-    (ap (λ (X : ℕ). has X p) c.empty.ensures ∙ has-zero p ∙ runs_on-offline a (occupant_in a p) c.args.q (sym c.has.ensures ∙ c.if-has.false))
+    (ap (λ (X : ℕ). has X p) c.empty.ensures ∙ has-zero p
+    ∙ runs_on-offline a (occupant_in a p) c.args.q (sym c.has.ensures ∙ c.if-has.false))

@@ -17,7 +17,8 @@ if_out false true = refl
 if_out false false = refl
 
 -- a set that differs at p alone
-marked_at : (X Y p : ℕ) (on : Bool) → ((q : ℕ) → has Y q ≡ (if q == p then on else has X q)) → Y ≡ (if on then with_member X p else without_member X p)
+marked_at : (X Y p : ℕ) (on : Bool) → ((q : ℕ) → has Y q ≡ (if q == p then on else has X q))
+    → Y ≡ (if on then with_member X p else without_member X p)
 marked_at X Y p true is = same_set Y (with_member X p) (λ q. is q ∙ if_in (nat_eq q p) (has X q) ∙ sym (has-with_member X p q))
 marked_at X Y p false is = same_set Y (without_member X p) (λ q. is q ∙ if_out (nat_eq q p) (has X q) ∙ sym (has-without_member X p q))
 
@@ -38,4 +39,5 @@ invariant_of-self c =
 pub returns : goal.returns
 returns c =
     let s = c.self.inside in
-    rw (marked_at s.online c.marked-self-inside.result c.args.p c.args.on c.marked-self-inside.ensures) (ap (λ (a : Layout). with_online a c.args.p c.args.on) c.self.view_is)
+    rw (marked_at s.online c.marked-self-inside.result c.args.p c.args.on c.marked-self-inside.ensures)
+    (ap (λ (a : Layout). with_online a c.args.p c.args.on) c.self.view_is)

@@ -17,14 +17,16 @@ index-requires c = omega (arith, root_there c.self.inside.width c.self.inside.no
 read : (X : ℕ) (nodes : List ℕ) (k item : ℕ) → k < length nodes → item ≡ get_or nodes k item → Meets X item → Meets X (get_or nodes k empty)
 read X nodes k item fits at m = subst (λ n. Meets X n) (get_or_read nodes k item fits at empty) m
 
-unread : (X : ℕ) (nodes : List ℕ) (k item : ℕ) → k < length nodes → item ≡ get_or nodes k item → Meets X (get_or nodes k empty) → Meets X item
+unread : (X : ℕ) (nodes : List ℕ) (k item : ℕ) → k < length nodes → item ≡ get_or nodes k item → Meets X (get_or nodes k empty)
+    → Meets X item
 unread X nodes k item fits at m = subst (λ n. Meets X n) (sym (get_or_read nodes k item fits at empty)) m
 
 pub loop-k-init : goal.loop-k-init
 loop-k-init c =
     let s = c.self.inside in
     let fits = root_there s.width s.nodes.items c.self.invariant in
-    way_begins s.width s.nodes.items c.self.invariant c.args.other.now (read c.args.other.now s.nodes.items 1 c.index.result.now fits c.index.ensures (c.meets.ensures.0 c.if-not-meets.false))
+    way_begins s.width s.nodes.items c.self.invariant c.args.other.now
+    (read c.args.other.now s.nodes.items 1 c.index.result.now fits c.index.ensures (c.meets.ensures.0 c.if-not-meets.false))
 
 pub returns-then-not-meets : goal.returns-then-not-meets
 returns-then-not-meets c =
@@ -32,12 +34,14 @@ returns-then-not-meets c =
     let fits = root_there s.width s.nodes.items c.self.invariant in
     subst (λ (row : List ℕ). IsMetByNone row c.args.other.now) c.self.view_is
     (none_meets s.width s.nodes.items c.self.invariant c.args.other.now
-    (λ m. true≢false (sym (c.meets.ensures.1 (unread c.args.other.now s.nodes.items 1 c.index.result.now fits c.index.ensures m)) ∙ c.if-not-meets.true)))
+    (λ m. true≢false (sym (c.meets.ensures.1 (unread c.args.other.now s.nodes.items 1 c.index.result.now fits c.index.ensures m))
+    ∙ c.if-not-meets.true)))
 
 pub returns : goal.returns
 returns c =
     let s = c.self.inside in
-    subst (λ (row : List ℕ). IsFirstMeeting row c.args.other.now (c.loop-k.k - s.width)) c.self.view_is (way_ends s.width s.nodes.items c.self.invariant c.args.other.now c.loop-k.k c.loop-k-test.false c.loop-k.invariant)
+    subst (λ (row : List ℕ). IsFirstMeeting row c.args.other.now (c.loop-k.k - s.width)) c.self.view_is
+    (way_ends s.width s.nodes.items c.self.invariant c.args.other.now c.loop-k.k c.loop-k-test.false c.loop-k.invariant)
 
 -- a place below is one of the places
 left_there : (width : ℕ) (nodes : List ℕ) → IsTree width nodes → (k : ℕ) → k < width → k + k < length nodes
@@ -49,7 +53,8 @@ loop-k-preserved-then-meets c =
     let k = c.loop-k.k in
     let fits = left_there s.width s.nodes.items c.self.invariant k c.loop-k-test.true in
     way_left s.width s.nodes.items c.self.invariant c.args.other.now k c.loop-k-test.true
-    (read c.args.other.now s.nodes.items (k + k) c.index-in-loop-k.result.now fits c.index-in-loop-k.ensures (c.meets-in-loop-k.ensures.0 c.if-meets.true)) c.loop-k.invariant
+    (read c.args.other.now s.nodes.items (k + k) c.index-in-loop-k.result.now fits c.index-in-loop-k.ensures
+    (c.meets-in-loop-k.ensures.0 c.if-meets.true)) c.loop-k.invariant
 
 pub loop-k-preserved : goal.loop-k-preserved
 loop-k-preserved c =
@@ -59,4 +64,6 @@ loop-k-preserved c =
     let right : k + k + 1 ≡ k + (k + 1) = omega arith in
     subst (λ (n : ℕ). IsOnTheWay s.width s.nodes.items c.args.other.now n) right
     (way_right s.width s.nodes.items c.self.invariant c.args.other.now k c.loop-k-test.true
-    (λ m. true≢false (sym (c.meets-in-loop-k.ensures.1 (unread c.args.other.now s.nodes.items (k + k) c.index-in-loop-k.result.now fits c.index-in-loop-k.ensures m)) ∙ c.if-meets.false)) c.loop-k.invariant)
+    (λ m. true≢false (sym (c.meets-in-loop-k.ensures.1
+    (unread c.args.other.now s.nodes.items (k + k) c.index-in-loop-k.result.now fits c.index-in-loop-k.ensures m)) ∙ c.if-meets.false))
+    c.loop-k.invariant)

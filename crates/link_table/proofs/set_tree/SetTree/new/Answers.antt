@@ -5,7 +5,8 @@ use Rattle.link_table.proofs.Trees.{IsTree-empty, empty_row}
 use Rattle.link_table.proofs.set_tree.SetTree.new.Goals as goal
 
 pub invariant_of-result : goal.invariant_of-result
-invariant_of-result c = IsTree-empty c.width_for-width.result c.loop-k._k c.loop-k.nodes.items c.width_for-width.ensures.width.level (omega arith) c.loop-k.invariant
+invariant_of-result c = IsTree-empty c.width_for-width.result c.loop-k._k c.loop-k.nodes.items c.width_for-width.ensures.width.level
+    (omega arith) c.loop-k.invariant
 
 pub returns-clause-width : goal.returns-clause-width
 returns-clause-width c =

@@ -7,8 +7,8 @@ use Rattle.strong_apa.proofs.Kept.{step_keeps_certificates}
 use Rattle.strong_apa.proofs.Ranked.{linked_is_as_urgent}
 use Rattle.live_core.specs.Live.{LiveData}
 use Rattle.live_core.specs.LiveView.{live_view}
-use Rattle.live_core.specs.Moves.{Replays}
-use Rattle.live_core.specs.MoveData.{AreMovesFor, LeadsTo}
+use Rattle.live_core.specs.Moves.{MovesLead}
+use Rattle.live_core.specs.MoveData.{AreMovesFor, EventLeadsTo}
 use Rattle.live_core.specs.Needed.{AreNeeded}
 use Rattle.live_core.specs.Slots.{IsEventInUse}
 use Rattle.live_core.proofs.Counted.{needed}
@@ -39,7 +39,8 @@ returns-clause-valid c =
 pub returns-clause-certified : goal.returns-clause-certified
 returns-clause-certified c =
     let reply = c.reply_to-self-inside in
-    step_keeps_certificates c.self.inside.links c.args.event reply.result reply.new.links c.self.invariant.state c.self.invariant.certificates reply.ensures
+    step_keeps_certificates c.self.inside.links c.args.event reply.result reply.new.links c.self.invariant.state
+    c.self.invariant.certificates reply.ensures
 
 pub invariant_of-self : goal.invariant_of-self
 invariant_of-self c =
@@ -56,10 +57,12 @@ invariant_of-self c =
         links = refl;
       };
       few = c.follow.ensures.few;
-      slots = c.self.invariant.slots ∙ sym (same_count c.self.inside.links reply.new.links (same_tasks-step c.self.inside.links c.args.event reply.result reply.new.links reply.ensures));
+      slots = c.self.invariant.slots ∙ sym (same_count c.self.inside.links reply.new.links
+          (same_tasks-step c.self.inside.links c.args.event reply.result reply.new.links reply.ensures));
       free_absent =
           free_absent_after_step (live_view c.self.inside) c.args.event reply.result reply.new.links c.self.invariant.state
-          (subst (λ (d : LiveData). IsEventInUse d c.args.event) (sym c.self.view_is) c.requires.in_use) reply.ensures c.self.invariant.free_absent;
+          (subst (λ (d : LiveData). IsEventInUse d c.args.event) (sym c.self.view_is) c.requires.in_use)
+          reply.ensures c.self.invariant.free_absent;
       tasks =
           same_of c.self.inside.seen.table c.unsettle.new.self.table reply.new.links (ap (λ (d : SeenData). d.table) c.unsettle.ensures)
           (same_then c.self.inside.seen.table c.self.inside.links reply.new.links c.self.invariant.tasks
@@ -78,15 +81,15 @@ returns-clause-moves c =
       step = reply.ensures;
       links = refl;
     } in
-    subst (λ (d : LiveData). Replays d.links.on c.follow.new.self.moves reply.new.links.on) c.self.view_is
-    (subst (λ (on : List (Option ℕ)). Replays on c.follow.new.self.moves reply.new.links.on) c.self.invariant.occupants
-    (subst (λ (on : List (Option ℕ)). Replays c.self.inside.moves.occupants c.follow.new.self.moves on) same c.follow.ensures.moves))
+    subst (λ (d : LiveData). MovesLead d.links.on c.follow.new.self.moves reply.new.links.on) c.self.view_is
+    (subst (λ (on : List (Option ℕ)). MovesLead on c.follow.new.self.moves reply.new.links.on) c.self.invariant.occupants
+    (subst (λ (on : List (Option ℕ)). MovesLead c.self.inside.moves.occupants c.follow.new.self.moves on) same c.follow.ensures.moves))
 
 pub returns-clause-needed : goal.returns-clause-needed
 returns-clause-needed c =
     let reply = c.reply_to-self-inside in
     let on = c.self.inside.links.on in
-    let leads : LeadsTo on c.args.event reply.result reply.new.links.on = record {
+    let leads : EventLeadsTo on c.args.event reply.result reply.new.links.on = record {
       old = c.self.inside.links;
       new = reply.new.links;
       state = c.self.invariant.state;
@@ -102,10 +105,11 @@ returns-clause-needed c =
       step = reply.ensures;
       links = refl;
     } in
-    let exact = subst (λ (o : List (Option ℕ)). AreMovesFor o c.args.event reply.result c.follow.new.self.moves) c.self.invariant.occupants c.follow.ensures.exact in
-    let replays : Replays on c.follow.new.self.moves reply.new.links.on =
-    subst (λ (o : List (Option ℕ)). Replays o c.follow.new.self.moves reply.new.links.on) c.self.invariant.occupants
-    (subst (λ (o : List (Option ℕ)). Replays c.self.inside.moves.occupants c.follow.new.self.moves o) same c.follow.ensures.moves) in
+    let exact = subst (λ (o : List (Option ℕ)). AreMovesFor o c.args.event reply.result c.follow.new.self.moves)
+    c.self.invariant.occupants c.follow.ensures.exact in
+    let replays : MovesLead on c.follow.new.self.moves reply.new.links.on =
+    subst (λ (o : List (Option ℕ)). MovesLead o c.follow.new.self.moves reply.new.links.on) c.self.invariant.occupants
+    (subst (λ (o : List (Option ℕ)). MovesLead c.self.inside.moves.occupants c.follow.new.self.moves o) same c.follow.ensures.moves) in
     subst (λ (d : LiveData). AreNeeded c.args.event reply.result d.links.on reply.new.links.on c.follow.new.self.moves) c.self.view_is
     (needed on c.args.event reply.result reply.new.links.on c.follow.new.self.moves leads exact replays)
 

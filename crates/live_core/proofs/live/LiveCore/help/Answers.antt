@@ -11,4 +11,5 @@ returns-in-Some c = helped c.args.self.now c.lost.new.self c.help_task.new.self 
 
 pub returns-in-None : goal.returns-in-None
 returns-in-None c =
-    rw c.clear.ensures (nobody_helped c.args.self.now c.lost.new.self _ c.in-None.ensures (ap (λ (d : LiveData). record d { moves = [] }) c.self.view_is))
+    rw c.clear.ensures (nobody_helped c.args.self.now c.lost.new.self _ c.in-None.ensures
+    (ap (λ (d : LiveData). record d { moves = [] }) c.self.view_is))

@@ -42,9 +42,17 @@ returns c =
     let a = c.self.inside in
     let now = c.help.new.self in
     let after = c.stand_at.new.self.moves in
-    let new : LiveData = record { links = a.links; last = a.last; moves = after; in_use = a.in_use.items; seen = now.seen; holders = holders_of now } in
+    let new : LiveData = record {
+      links = a.links;
+      last = a.last;
+      moves = after;
+      in_use = a.in_use.items;
+      seen = now.seen;
+      holders = holders_of now;
+    } in
     let lost = subst (λ (d : LiveData). IsLostBy d c.args.t) (sym c.self.view_is) c.requires in
     let table = a.seen in
     let is_table = c.self.invariant.settled (held_is a.seen lost.0 lost.1).0 in
     subst (λ (d : LiveData). (on : List (Option ℕ)) → d.holders ≡ Some on → HelpsTask d on c.args.t new) c.self.view_is
-    (helps_task a.links a.last a.moves.moves a.in_use.items a.seen now c.args.t is_table c.help.result after (rw (ap (λ (m : MoveData). m.moves) c.stand_at.ensures) c.help.ensures.helps) c.help.ensures.settled)
+    (helps_task a.links a.last a.moves.moves a.in_use.items a.seen now c.args.t is_table c.help.result after
+    (rw (ap (λ (m : MoveData). m.moves) c.stand_at.ensures) c.help.ensures.helps) c.help.ensures.settled)

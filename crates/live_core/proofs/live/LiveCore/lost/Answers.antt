@@ -28,8 +28,16 @@ pub returns : goal.returns
 returns c =
     let a = c.self.inside in
     let now = c.settle.new.self in
-    let new : LiveData = record { links = a.links; last = a.last; moves = a.moves.moves; in_use = a.in_use.items; seen = now.seen; holders = holders_of now } in
+    let new : LiveData = record {
+      links = a.links;
+      last = a.last;
+      moves = a.moves.moves;
+      in_use = a.in_use.items;
+      seen = now.seen;
+      holders = holders_of now;
+    } in
     let said = c.settle.ensures in
     let found = c.lost.ensures in
     subst (λ (d : LiveData). FindsLost d c.lost.result new) c.self.view_is
-    (finds a.links a.last a.moves.moves a.in_use.items a.seen now said.table said.seen said.settled said.same said.runs c.lost.result found.first found.apart found.soon (found.just_linked c.self.invariant.certificates))
+    (finds a.links a.last a.moves.moves a.in_use.items a.seen now said.table said.seen said.settled said.same said.runs c.lost.result
+    found.first found.apart found.soon (found.just_linked c.self.invariant.certificates))

@@ -20,10 +20,12 @@ invariant_of-self c =
     record {
       state = c.set_mask.ensures.valid;
       certificates =
-          certified_after_admit s c.set_priority.new.self c.set_mask.new.self t c.args.priority c.args.mask kept.state kept.certificates absent first c.set_priority.ensures.valid second;
+          certified_after_admit s c.set_priority.new.self c.set_mask.new.self t c.args.priority c.args.mask kept.state kept.certificates
+          absent first c.set_priority.ensures.valid second;
       occupants = kept.occupants ∙ sym (ap (λ (x : State). x.on) second ∙ ap (λ (x : State). x.on) first);
       few = kept.few;
-      slots = length-set c.self.inside.in_use.items t true ∙ kept.slots ∙ sym (count_after_admit s c.set_priority.new.self c.set_mask.new.self t c.args.priority c.args.mask first second);
+      slots = length-set c.self.inside.in_use.items t true ∙ kept.slots
+          ∙ sym (count_after_admit s c.set_priority.new.self c.set_mask.new.self t c.args.priority c.args.mask first second);
       free_absent = λ u free.
           ap (λ (x : State). is_ready x u) second
           ∙ ap (λ (x : State). is_ready x u) first
@@ -31,7 +33,8 @@ invariant_of-self c =
       tasks =
           same_of c.set_priority-2.new.self.table c.see.new.self.table c.set_mask.new.self (ap (λ (d : SeenData). d.table) c.see.ensures)
           (same_then c.set_priority-2.new.self.table c.set_priority.new.self c.set_mask.new.self
-          (same_with_priority c.self.inside.seen.table s c.set_priority-2.new.self.table c.set_priority.new.self t c.args.priority kept.tasks (ap (λ (d : SeenData). d.table) c.set_priority-2.ensures) first)
+          (same_with_priority c.self.inside.seen.table s c.set_priority-2.new.self.table c.set_priority.new.self t c.args.priority
+          kept.tasks (ap (λ (d : SeenData). d.table) c.set_priority-2.ensures) first)
           (rw second record { processors = refl; priorities = refl }));
       settled = not_settled c.set_mask.new.self c.see.new.self (ap (λ (d : SeenData). d.is_settled) c.see.ensures);
     }

@@ -22,6 +22,7 @@ invariant_of-self c =
       few = kept.few;
       slots = kept.slots;
       free_absent = kept.free_absent;
-      tasks = same_of c.self.inside.seen.table c.see.new.self.table c.self.inside.links (ap (λ (d : SeenData). d.table) c.see.ensures) kept.tasks;
+      tasks = same_of c.self.inside.seen.table c.see.new.self.table c.self.inside.links (ap (λ (d : SeenData). d.table) c.see.ensures)
+          kept.tasks;
       settled = not_settled c.self.inside.links c.see.new.self (ap (λ (d : SeenData). d.is_settled) c.see.ensures);
     }

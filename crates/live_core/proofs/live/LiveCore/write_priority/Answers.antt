@@ -13,7 +13,8 @@ invariant_of-self c =
     let s = c.self.inside.links in
     let kept = c.self.invariant in
     let changed = c.set_priority.ensures.priority in
-    let absent : is_ready s c.args.t ≡ false = subst (λ (d : LiveData). is_ready d.links c.args.t ≡ false) (sym c.self.view_is) c.requires.absent in
+    let absent : is_ready s c.args.t ≡ false = subst (λ (d : LiveData). is_ready d.links c.args.t ≡ false) (sym c.self.view_is)
+    c.requires.absent in
     record {
       state = c.set_priority.ensures.valid;
       certificates = subst HasCertificates (sym changed) (kept_by_priority s kept.state kept.certificates c.args.t c.args.priority absent);
@@ -21,8 +22,10 @@ invariant_of-self c =
       few = kept.few;
       slots = kept.slots ∙ sym (ap task_count changed ∙ length-set s.priorities c.args.t c.args.priority);
       free_absent = λ u free. ap (λ (x : State). is_ready x u) changed ∙ kept.free_absent u free;
-      tasks = same_with_priority c.self.inside.seen.table s c.set_priority-2.new.self.table c.set_priority.new.self c.args.t c.args.priority kept.tasks (ap (λ (d : SeenData). d.table) c.set_priority-2.ensures) changed;
-      settled = not_settled c.set_priority.new.self c.set_priority-2.new.self (ap (λ (d : SeenData). d.is_settled) c.set_priority-2.ensures);
+      tasks = same_with_priority c.self.inside.seen.table s c.set_priority-2.new.self.table c.set_priority.new.self c.args.t c.args.priority
+          kept.tasks (ap (λ (d : SeenData). d.table) c.set_priority-2.ensures) changed;
+      settled =
+          not_settled c.set_priority.new.self c.set_priority-2.new.self (ap (λ (d : SeenData). d.is_settled) c.set_priority-2.ensures);
     }
 
 pub set_priority-requires-2-clause-free : goal.set_priority-requires-2-clause-free

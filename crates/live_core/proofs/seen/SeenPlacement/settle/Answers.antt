@@ -6,4 +6,5 @@ use Rattle.live_core.proofs.seen.SeenPlacement.settle.Goals as goal
 
 pub returns-then-not-self-clause-runs : goal.returns-then-not-self-clause-runs
 returns-then-not-self-clause-runs c = λ anew.
-    subst (λ (seen : List (Option ℕ)). (q t : ℕ) → (task_on c.settle_anew.new.self.table q ≡ Some t) ↔ RunsOn c.args.links.now seen t q) (sym c.settle_anew.ensures.seen) c.settle_anew.ensures.runs
+    subst (λ (seen : List (Option ℕ)). (q t : ℕ) → (task_on c.settle_anew.new.self.table q ≡ Some t) ↔ RunsOn c.args.links.now seen t q)
+    (sym c.settle_anew.ensures.seen) c.settle_anew.ensures.runs

@@ -14,6 +14,8 @@ overflow_add-count c = let bound : c.loop-t.count ≤ c.loop-t.t = rw c.loop-t.i
 
 pub loop-t-preserved : goal.loop-t-preserved
 loop-t-preserved c = elim c.if-is_held.branch [
-  | then-is_held w ↦ rw w.count-is (held_one_more (linked_of c.args.self.now) _ c.args.x c.loop-t.t c.loop-t.count (mask_in c.args.self.now) refl c.loop-t.invariant (c.is_held.ensures.0 w.if-is_held.true))
-  | else-is_held w ↦ rw w.count-is (held_no_more (linked_of c.args.self.now) _ c.args.x c.loop-t.t c.loop-t.count (mask_in c.args.self.now) refl c.loop-t.invariant (λ here. false≢true (w.if-is_held.ensures.1 here)))
+  | then-is_held w ↦ rw w.count-is (held_one_more (linked_of c.args.self.now) _ c.args.x c.loop-t.t c.loop-t.count (mask_in c.args.self.now)
+      refl c.loop-t.invariant (c.is_held.ensures.0 w.if-is_held.true))
+  | else-is_held w ↦ rw w.count-is (held_no_more (linked_of c.args.self.now) _ c.args.x c.loop-t.t c.loop-t.count (mask_in c.args.self.now)
+      refl c.loop-t.invariant (λ here. false≢true (w.if-is_held.ensures.1 here)))
 ]

@@ -7,4 +7,11 @@ pub split_seat-note-requires : goal.split_seat-note-requires
 split_seat-note-requires c = (search rules, search rules, split_keeps _ _ _ refl refl (omega arith))
 
 pub join_seat-requires : goal.join_seat-requires
-join_seat-requires c = (search rules, search rules, search rules, search rules, join_keeps _ _ _ _ (ap (λ (x : Seated). writer_if x.0.writes) c.args.reader.now.role) (ap (λ (x : Seated). writer_if x.0.writes) c.split_seat-note.ensures.4))
+join_seat-requires c = (
+  search rules,
+  search rules,
+  search rules,
+  search rules,
+  join_keeps _ _ _ _ (ap (λ (x : Seated). writer_if x.0.writes) c.args.reader.now.role)
+      (ap (λ (x : Seated). writer_if x.0.writes) c.split_seat-note.ensures.4),
+)

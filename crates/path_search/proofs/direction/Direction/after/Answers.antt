@@ -13,4 +13,7 @@ effective-requires c = linked_number c.args.links.now c.args.p c.in-Some.u c.on.
 pub returns-in-None-clause-contents : goal.returns-in-None-clause-contents
 returns-in-None-clause-contents c =
     subst (λ (d : Direction). (q : ℕ) → IsTrue (has c.empty.result q) ↔ Steps c.args.links.now d c.args.p q) (sym c.in-Onward.is)
-    (λ q. (λ h. absurd (no_member c.empty.result q c.empty.ensures h), λ step. absurd (CanShift-idle c.args.links.now c.args.p q (sym c.in-None.ensures.value) step)))
+    (λ q. (
+      λ h. absurd (no_member c.empty.result q c.empty.ensures h),
+      λ step. absurd (CanShift-idle c.args.links.now c.args.p q (sym c.in-None.ensures.value) step),
+    ))

@@ -12,7 +12,9 @@ pub obey-requires-clause-below : goal.obey-requires-clause-below
 obey-requires-clause-below c =
     let received = ap (λ (p : ProcessorData). p.receiver.received) c.self.view_is ∙ c.requires.received in
     let tasks = ap (λ (p : ProcessorData). p.receiver.queue.tasks) c.self.view_is ∙ c.requires.tasks in
-    last_below (length c.args.slots.now.set.tasks) (orders_obeyed c.args.self.now.hand) c.args.order (subst (λ (n : ℕ). All (NamesTaskBelow n) (orders_obeyed c.args.self.now.hand ++ c.args.order ∷ [])) tasks (subst (All (NamesTaskBelow c.self.inside.receiver.queue.tasks)) received c.self.invariant.below))
+    last_below (length c.args.slots.now.set.tasks) (orders_obeyed c.args.self.now.hand) c.args.order
+    (subst (λ (n : ℕ). All (NamesTaskBelow n) (orders_obeyed c.args.self.now.hand ++ c.args.order ∷ [])) tasks
+    (subst (All (NamesTaskBelow c.self.inside.receiver.queue.tasks)) received c.self.invariant.below))
 
 pub obey-requires-clause-may : goal.obey-requires-clause-may
 obey-requires-clause-may c =
@@ -21,7 +23,8 @@ obey-requires-clause-may c =
     may_come c.self.inside.hand c.args.order (subst IsObeyable (received ∙ sym hand) c.self.invariant.obeyable)
 
 pub obey-requires-clause-not_stop : goal.obey-requires-clause-not_stop
-obey-requires-clause-not_stop c = not_stop c.args.self.now.receiver.received (orders_obeyed c.args.self.now.hand) c.args.order c.requires.received c.requires.not_stopped
+obey-requires-clause-not_stop c =
+    not_stop c.args.self.now.receiver.received (orders_obeyed c.args.self.now.hand) c.args.order c.requires.received c.requires.not_stopped
 
 pub invariant_of-self : goal.invariant_of-self
 invariant_of-self c =
@@ -49,5 +52,7 @@ returns-in-NotTurn-clause-below c =
     let missed = subst (λ (r : Obeyed). ObeyAnswer c.args.order c.self.inside.hand r c.obey.new.self) c.in-NotTurn.is c.obey.ensures in
     let received = ap (λ (p : ProcessorData). p.receiver.received) c.self.view_is ∙ c.requires.received in
     let tasks = ap (λ (p : ProcessorData). p.receiver.queue.tasks) c.self.view_is ∙ c.requires.tasks in
-    let below = last_below (length c.args.slots.now.set.tasks) (orders_obeyed c.args.self.now.hand) c.args.order (subst (λ (n : ℕ). All (NamesTaskBelow n) (orders_obeyed c.args.self.now.hand ++ c.args.order ∷ [])) tasks (subst (All (NamesTaskBelow c.self.inside.receiver.queue.tasks)) received c.self.invariant.below)) in
+    let below = last_below (length c.args.slots.now.set.tasks) (orders_obeyed c.args.self.now.hand) c.args.order
+    (subst (λ (n : ℕ). All (NamesTaskBelow n) (orders_obeyed c.args.self.now.hand ++ c.args.order ∷ [])) tasks
+    (subst (All (NamesTaskBelow c.self.inside.receiver.queue.tasks)) received c.self.invariant.below)) in
     subst (NamesTaskBelow (length c.args.slots.now.set.tasks)) missed.1 below

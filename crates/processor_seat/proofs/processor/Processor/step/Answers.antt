@@ -13,7 +13,8 @@ pub invariant_of-self-then-is_stop : goal.invariant_of-self-then-is_stop
 invariant_of-self-then-is_stop g c =
     let got = got_order c.self.inside.receiver c.next.new.self c.next.result c.in-Some-next.order c.in-Some-next.is c.next.ensures in
     let stop : c.in-Some-next.order ≡ Stop = c.is_stop.ensures.stop c.if-is_stop.true in
-    let last : c.next.new.self.received ≡ c.self.inside.receiver.received ++ Stop ∷ [] = got.1 ∙ ap (λ (o : Order). c.self.inside.receiver.received ++ o ∷ []) stop in
+    let last : c.next.new.self.received ≡ c.self.inside.receiver.received ++ Stop ∷ [] = got.1
+    ∙ ap (λ (o : Order). c.self.inside.receiver.received ++ o ∷ []) stop in
     record {
       number = c.self.invariant.number;
       stopped = sym (ap has_stop last ∙ stop_at_end c.self.inside.receiver.received);
@@ -26,22 +27,29 @@ pub returns-then-is_stop-clause-in_step : goal.returns-then-is_stop-clause-in_st
 returns-then-is_stop-clause-in_step g c =
     let got = got_order c.self.inside.receiver c.next.new.self c.next.result c.in-Some-next.order c.in-Some-next.is c.next.ensures in
     let stop : c.in-Some-next.order ≡ Stop = c.is_stop.ensures.stop c.if-is_stop.true in
-    let last : c.next.new.self.received ≡ c.self.inside.receiver.received ++ Stop ∷ [] = got.1 ∙ ap (λ (o : Order). c.self.inside.receiver.received ++ o ∷ []) stop in
+    let last : c.next.new.self.received ≡ c.self.inside.receiver.received ++ Stop ∷ [] = got.1
+    ∙ ap (λ (o : Order). c.self.inside.receiver.received ++ o ∷ []) stop in
     let view = c.self.view_is in
-    let without : has_stop c.args.self.now.receiver.received ≡ false = ap (λ (p : ProcessorData). has_stop p.receiver.received) (sym view) ∙ sym c.self.invariant.stopped ∙ c.if-self.false in
+    let without : has_stop c.args.self.now.receiver.received ≡ false = ap (λ (p : ProcessorData). has_stop p.receiver.received) (sym view)
+    ∙ sym c.self.invariant.stopped ∙ c.if-self.false in
     let nothing : c.args.self.now.pending ≡ None = ap (λ (p : ProcessorData). p.pending) (sym view) ∙ c.in-None.is in
-    let all = ap (λ (p : ProcessorData). p.receiver.received) view ∙ plain c.args.self.now c.requires.in_step nothing without ∙ ap (λ (p : ProcessorData). orders_obeyed p.hand) (sym view) in
-    in_step_pending c.self.inside.hand c.self.inside.pending c.next.new.self c.in-None.is (last ∙ ap (λ (l : List Order). l ++ Stop ∷ []) all)
+    let all = ap (λ (p : ProcessorData). p.receiver.received) view ∙ plain c.args.self.now c.requires.in_step nothing without
+    ∙ ap (λ (p : ProcessorData). orders_obeyed p.hand) (sym view) in
+    in_step_pending c.self.inside.hand c.self.inside.pending c.next.new.self c.in-None.is
+    (last ∙ ap (λ (l : List Order). l ++ Stop ∷ []) all)
 
 pub returns-then-is_stop-clause-answer : goal.returns-then-is_stop-clause-answer
 returns-then-is_stop-clause-answer g c =
     let got = got_order c.self.inside.receiver c.next.new.self c.next.result c.in-Some-next.order c.in-Some-next.is c.next.ensures in
     let stop : c.in-Some-next.order ≡ Stop = c.is_stop.ensures.stop c.if-is_stop.true in
-    let last : c.next.new.self.received ≡ c.self.inside.receiver.received ++ Stop ∷ [] = got.1 ∙ ap (λ (o : Order). c.self.inside.receiver.received ++ o ∷ []) stop in
+    let last : c.next.new.self.received ≡ c.self.inside.receiver.received ++ Stop ∷ [] = got.1
+    ∙ ap (λ (o : Order). c.self.inside.receiver.received ++ o ∷ []) stop in
     record {
       hand = ap (λ (p : ProcessorData). p.hand) c.self.view_is;
       received = ap has_stop last ∙ stop_at_end c.self.inside.receiver.received;
-      fetched = inr (subst (λ (p : ProcessorData). Receives p.receiver (Some Stop) c.next.new.self) c.self.view_is (subst (λ (r : Option Order). Receives c.self.inside.receiver r c.next.new.self) (c.in-Some-next.is ∙ ap (λ (o : Order). Some o) stop) c.next.ensures));
+      fetched = inr (subst (λ (p : ProcessorData). Receives p.receiver (Some Stop) c.next.new.self) c.self.view_is
+          (subst (λ (r : Option Order). Receives c.self.inside.receiver r c.next.new.self)
+          (c.in-Some-next.is ∙ ap (λ (o : Order). Some o) stop) c.next.ensures));
     }
 
 pub invariant_of-self-in-Some-next : goal.invariant_of-self-in-Some-next
@@ -50,7 +58,8 @@ invariant_of-self-in-Some-next g c =
     let other : c.in-Some-next.order ≢ Stop = c.is_stop.ensures.other c.if-is_stop.false in
     record {
       number = c.self.invariant.number;
-      stopped = c.self.invariant.stopped ∙ sym (ap has_stop got.1 ∙ no_stop_more c.self.inside.receiver.received c.in-Some-next.order other);
+      stopped =
+          c.self.invariant.stopped ∙ sym (ap has_stop got.1 ∙ no_stop_more c.self.inside.receiver.received c.in-Some-next.order other);
       obeyable = got.2;
       below = got.3;
       ended = c.self.invariant.ended;
@@ -60,7 +69,8 @@ pub attempt-requires-in-Some-next-clause-not_stopped : goal.attempt-requires-in-
 attempt-requires-in-Some-next-clause-not_stopped g c =
     let got = got_order c.self.inside.receiver c.next.new.self c.next.result c.in-Some-next.order c.in-Some-next.is c.next.ensures in
     let other : c.in-Some-next.order ≢ Stop = c.is_stop.ensures.other c.if-is_stop.false in
-    ap has_stop got.1 ∙ no_stop_more c.self.inside.receiver.received c.in-Some-next.order other ∙ sym c.self.invariant.stopped ∙ c.if-self.false
+    ap has_stop got.1 ∙ no_stop_more c.self.inside.receiver.received c.in-Some-next.order other ∙ sym c.self.invariant.stopped
+    ∙ c.if-self.false
 
 pub attempt-requires-clause-not_stopped : goal.attempt-requires-clause-not_stopped
 attempt-requires-clause-not_stopped g c =
@@ -68,7 +78,8 @@ attempt-requires-clause-not_stopped g c =
 
 pub attempt-requires-clause-received : goal.attempt-requires-clause-received
 attempt-requires-clause-received g c =
-    with_pending c.args.self.now c.in-Some.order c.requires.in_step (ap (λ (p : ProcessorData). p.pending) (sym c.self.view_is) ∙ c.in-Some.is)
+    with_pending c.args.self.now c.in-Some.order c.requires.in_step (ap (λ (p : ProcessorData). p.pending) (sym c.self.view_is)
+    ∙ c.in-Some.is)
     (ap (λ (p : ProcessorData). has_stop p.receiver.received) (sym c.self.view_is) ∙ sym c.self.invariant.stopped ∙ c.if-self.false)
 
 pub returns-in-Some-clause-answer : goal.returns-in-Some-clause-answer
@@ -82,9 +93,11 @@ pub attempt-requires-in-Some-next-clause-received : goal.attempt-requires-in-Som
 attempt-requires-in-Some-next-clause-received g c =
     let got = got_order c.self.inside.receiver c.next.new.self c.next.result c.in-Some-next.order c.in-Some-next.is c.next.ensures in
     let view = c.self.view_is in
-    let without : has_stop c.args.self.now.receiver.received ≡ false = ap (λ (p : ProcessorData). has_stop p.receiver.received) (sym view) ∙ sym c.self.invariant.stopped ∙ c.if-self.false in
+    let without : has_stop c.args.self.now.receiver.received ≡ false = ap (λ (p : ProcessorData). has_stop p.receiver.received) (sym view)
+    ∙ sym c.self.invariant.stopped ∙ c.if-self.false in
     let nothing : c.args.self.now.pending ≡ None = ap (λ (p : ProcessorData). p.pending) (sym view) ∙ c.in-None.is in
-    let all = ap (λ (p : ProcessorData). p.receiver.received) view ∙ plain c.args.self.now c.requires.in_step nothing without ∙ ap (λ (p : ProcessorData). orders_obeyed p.hand) (sym view) in
+    let all = ap (λ (p : ProcessorData). p.receiver.received) view ∙ plain c.args.self.now c.requires.in_step nothing without
+    ∙ ap (λ (p : ProcessorData). orders_obeyed p.hand) (sym view) in
     got.1 ∙ ap (λ (l : List Order). l ++ c.in-Some-next.order ∷ []) all
 
 pub returns-after-order-clause-answer : goal.returns-after-order-clause-answer

@@ -10,6 +10,7 @@ loop-i-init c = record {
 
 pub loop-i-preserved : goal.loop-i-preserved
 loop-i-preserved c = record {
-  seen = seen_more c.args.chain.now c.loop-i.i c.at.result c.loop-i.seen c.with-seen.result c.at.ensures.value c.with-seen.ensures c.loop-i.invariant.seen;
+  seen = seen_more c.args.chain.now c.loop-i.i c.at.result c.loop-i.seen c.with-seen.result c.at.ensures.value c.with-seen.ensures
+      c.loop-i.invariant.seen;
   fit = below_more _ _ c.loop-i.invariant.fit (c.fits.ensures.0 c.if-not-fits.false);
 }

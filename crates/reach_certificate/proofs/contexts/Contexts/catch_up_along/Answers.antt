@@ -15,9 +15,13 @@ catch_up_at-requires-clause-processors c = c.loop-p.invariant.count ∙ c.requir
 
 pub loop-p-preserved : goal.loop-p-preserved
 loop-p-preserved c =
-    subst (λ (places : List ℕ). HaveCaughtUp c.args.links.now places c.args.self.now c.catch_up_at.new.self) (sym (take_more c.args.chain.now c.loop-p.p-index 0 c.loop-p-test.true))
-    (caught_up-then c.args.links.now c.processors.ensures.valid (take c.loop-p.p-index c.args.chain.now) (get_or c.args.chain.now c.loop-p.p-index 0 ∷ []) c.args.self.now c.loop-p.self c.catch_up_at.new.self c.requires.processors c.loop-p.invariant c.catch_up_at.ensures)
+    subst (λ (places : List ℕ). HaveCaughtUp c.args.links.now places c.args.self.now c.catch_up_at.new.self)
+    (sym (take_more c.args.chain.now c.loop-p.p-index 0 c.loop-p-test.true))
+    (caught_up-then c.args.links.now c.processors.ensures.valid (take c.loop-p.p-index c.args.chain.now)
+    (get_or c.args.chain.now c.loop-p.p-index 0 ∷ []) c.args.self.now c.loop-p.self c.catch_up_at.new.self c.requires.processors
+    c.loop-p.invariant c.catch_up_at.ensures)
 
 pub returns : goal.returns
 returns c =
-    subst (λ (places : List ℕ). HaveCaughtUp c.args.links.now places c.args.self.now c.loop-p.self) (take_all c.loop-p.p-index c.args.chain.now c.loop-p-test.false) c.loop-p.invariant
+    subst (λ (places : List ℕ). HaveCaughtUp c.args.links.now places c.args.self.now c.loop-p.self)
+    (take_all c.loop-p.p-index c.args.chain.now c.loop-p-test.false) c.loop-p.invariant

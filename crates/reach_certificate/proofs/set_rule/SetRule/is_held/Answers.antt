@@ -6,4 +6,5 @@ pub effective-requires : goal.effective-requires
 effective-requires c = linked_number c.args.links.now c.args.q c.in-Some.u c.occupant.ensures.valid (sym c.in-Some.ensures.value)
 
 pub holds-requires-clause-occupant : goal.holds-requires-clause-occupant
-holds-requires-clause-occupant c = linked_number c.args.links.now c.args.q c.in-Some.u c.occupant.ensures.valid (sym c.in-Some.ensures.value)
+holds-requires-clause-occupant c =
+    linked_number c.args.links.now c.args.q c.in-Some.u c.occupant.ensures.valid (sym c.in-Some.ensures.value)

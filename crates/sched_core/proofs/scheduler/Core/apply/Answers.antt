@@ -9,7 +9,8 @@ pub returns-then-self : goal.returns-then-self
 returns-then-self c =
     let kept = c.history-place.ensures.valid in
     record {
-      answer = answers_closed c.args.self.now c.args.caller c.args.event (sym (ap (λ (core : CoreData). core.closed) c.self.view_is) ∙ c.if-self.true);
+      answer = answers_closed c.args.self.now c.args.caller c.args.event (sym (ap (λ (core : CoreData). core.closed) c.self.view_is)
+          ∙ c.if-self.true);
       certified = kept.certificates;
       unimprovable = core_unimprovable _ kept;
       best = core_best _ kept;

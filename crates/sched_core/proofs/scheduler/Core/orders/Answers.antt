@@ -12,7 +12,8 @@ returns-clause-obeyable c = subst IsObeyable (sym c.row.ensures.value) (core_obe
 pub returns-clause-few : goal.returns-clause-few
 returns-clause-few c =
     let core = c.args.self.now in
-    subst (λ (orders : List Order). length orders ≤ 2 * length core.history + (if core.closed then 2 else 0)) (sym c.row.ensures.value) (core_few core c.args.p c.row.ensures.valid)
+    subst (λ (orders : List Order). length orders ≤ 2 * length core.history + (if core.closed then 2 else 0)) (sym c.row.ensures.value)
+    (core_few core c.args.p c.row.ensures.valid)
 
 pub returns-clause-tasks : goal.returns-clause-tasks
 returns-clause-tasks c =

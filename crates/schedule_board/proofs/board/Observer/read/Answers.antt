@@ -16,5 +16,7 @@ returns-clause-told g c =
       | then-count-self w ↦ absurd w.wait_for_ever.ensures
       | else-count-self w ↦ omega (arith, w.if-count-self, count, c.args.self.now.counted)
     ] in
-    let this : IsPrefix shown.reached.log c.learn.new.self.log = subst (λ (l : List Entry). IsPrefix l c.learn.new.self.log) (ap (λ s. s.log) c.again-both.ensures) c.learn.ensures.2 in
-    subst (λ (l : List Entry). IsPrefix told l) (sym (ap (λ s. s.log) seen)) (prefix_shorter told shown.reached.log c.learn.new.self.log c.learn.ensures.3 this less)
+    let this : IsPrefix shown.reached.log c.learn.new.self.log = subst (λ (l : List Entry). IsPrefix l c.learn.new.self.log)
+    (ap (λ s. s.log) c.again-both.ensures) c.learn.ensures.2 in
+    subst (λ (l : List Entry). IsPrefix told l) (sym (ap (λ s. s.log) seen))
+    (prefix_shorter told shown.reached.log c.learn.new.self.log c.learn.ensures.3 this less)

@@ -15,4 +15,5 @@ loop-entry-preserved c =
     take_more more i entry (omega arith) ∙ ap (λ (e : Entry). take i more ++ e ∷ []) (sym c.entry-item.is) in
     let whole : (log ++ take i more) ++ entry ∷ [] ≡ log ++ take (i + 1) more =
     append_assoc log (take i more) (entry ∷ []) ∙ ap (λ (l : List Entry). log ++ l) (sym one) in
-    subst (λ (l : List Entry). IsPictureOf m l c.follow.new.self) whole (c.follow.ensures.drawn m (log ++ take i more) c.loop-entry.invariant)
+    subst (λ (l : List Entry). IsPictureOf m l c.follow.new.self) whole
+    (c.follow.ensures.drawn m (log ++ take i more) c.loop-entry.invariant)

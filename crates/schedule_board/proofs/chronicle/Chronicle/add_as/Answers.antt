@@ -15,5 +15,7 @@ compare_exchange-found-requires g c =
       search rules,
       search rules,
       search rules,
-      rw (ap (λ w. w.key) h, pen.1, offer.3, ap (λ s. s.log) again, ← c.requires.picked) (adds_moves self.reached.log c.args.more.now (record { caller = 0; event = Tick 0; reply = Ticked }) self.count (sym self.counted)),
+      rw (ap (λ w. w.key) h, pen.1, offer.3, ap (λ s. s.log) again, ← c.requires.picked)
+          (adds_moves self.reached.log c.args.more.now (record { caller = 0; event = Tick 0; reply = Ticked }) self.count
+          (sym self.counted)),
     )

@@ -13,4 +13,5 @@ returns-then-q-p c = λ s shows.
 pub returns : goal.returns
 returns c = λ s shows.
     let over = chain_over s c.loop-q.guest c.args.chain.now c.loop-q.q-index c.args.p (omega arith) in
-    shows.each c.args.p (omega arith) ∙ sym over ∙ c.loop-q.invariant s shows ∙ sym (shifted_in s c.args.t c.args.chain.now c.args.p (let m = shows.processors in omega arith))
+    shows.each c.args.p (omega arith) ∙ sym over ∙ c.loop-q.invariant s shows
+    ∙ sym (shifted_in s c.args.t c.args.chain.now c.args.p (let m = shows.processors in omega arith))

@@ -7,4 +7,5 @@ use Rattle.schedule_board.proofs.occupants.Occupants.after_shift.Given as goal
 -- the rest of the chain decides, once the guest has come to it
 abbrev pub invariant-loop-q : goal.invariant-loop-q
 invariant-loop-q l =
-    (s : State) → ShowsLinks s l.self → occupant_after_shift s l.guest (drop l.q-index l.chain) l.p ≡ occupant_after_shift s (Some l.t) l.chain l.p
+    (s : State) → ShowsLinks s l.self → occupant_after_shift s l.guest (drop l.q-index l.chain) l.p
+    ≡ occupant_after_shift s (Some l.t) l.chain l.p

@@ -7,4 +7,5 @@ pub returns-in-Remasked : goal.returns-in-Remasked
 returns-in-Remasked c = λ s mask shows.
     let t = c.args.t in
     let left = state_after_left s t c.in-Remasked.gone in
-    rw c.in-Remasked.is (c.come.ensures (state_with_mask left t mask) (shows_with_mask left t mask c.vacate.new.self (c.vacate.ensures s shows)))
+    rw c.in-Remasked.is (c.come.ensures (state_with_mask left t mask)
+    (shows_with_mask left t mask c.vacate.new.self (c.vacate.ensures s shows)))

@@ -7,4 +7,5 @@ use Rattle.schedule_board.proofs.occupants.Occupants.shift.Given as goal
 -- the processors so far are as after the shift
 abbrev pub invariant-loop-p : goal.invariant-loop-p
 invariant-loop-p l =
-    (l.self.processors ≡ l.before.processors) × (length l.self.on ≡ length l.before.on) × ((s : State) → ShowsLinks s l.before → (k : ℕ) → k < l.p → get_or l.self.on k None ≡ task_on (state_after_shift s l.t l.chain) k)
+    (l.self.processors ≡ l.before.processors) × (length l.self.on ≡ length l.before.on)
+    × ((s : State) → ShowsLinks s l.before → (k : ℕ) → k < l.p → get_or l.self.on k None ≡ task_on (state_after_shift s l.t l.chain) k)

@@ -6,10 +6,17 @@ use Rattle.task_set.proofs.set.TaskSet.priorities.Goals as goal
 pub loop-t-preserved : goal.loop-t-preserved
 loop-t-preserved c =
     let set = c.args.self.now in
-    let fits : c.loop-t.t < length (priorities set) = omega (arith, c.loop-t-test.true, c.len-t-end.ensures.value, length-map set.tasks (λ (x : TaskData). x.priority)) in
-    ◌∙◌ {A = List ℕ} c.in_ok-push.ensures.items (◌∙◌ {A = List ℕ} (λ k. c.loop-t.invariant k ++ c.priority.ensures k ∷ []) (sym (take_more (priorities set) c.loop-t.t 0 fits)))
+    let fits : c.loop-t.t < length (priorities set) = omega (
+      arith,
+      c.loop-t-test.true,
+      c.len-t-end.ensures.value,
+      length-map set.tasks (λ (x : TaskData). x.priority),
+    ) in
+    ◌∙◌ {A = List ℕ} c.in_ok-push.ensures.items
+    (◌∙◌ {A = List ℕ} (λ k. c.loop-t.invariant k ++ c.priority.ensures k ∷ []) (sym (take_more (priorities set) c.loop-t.t 0 fits)))
 
 pub returns : goal.returns
 returns c =
     let set = c.args.self.now in
-    ◌∙◌ {A = List ℕ} c.loop-t.invariant (take_all c.loop-t.t (priorities set) (omega (arith, c.loop-t-test.false, c.len-t-end.ensures.value, length-map set.tasks (λ (x : TaskData). x.priority))))
+    ◌∙◌ {A = List ℕ} c.loop-t.invariant (take_all c.loop-t.t (priorities set)
+    (omega (arith, c.loop-t-test.false, c.len-t-end.ensures.value, length-map set.tasks (λ (x : TaskData). x.priority))))

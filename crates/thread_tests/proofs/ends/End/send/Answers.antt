@@ -18,5 +18,8 @@ invariant_of-self g c =
     let eye : c.send.new.eye.received_word ≡ c.send.new.self.queue.received_word = search rules in
     let two : c.send.new.self.queue.tasks ≡ 2 = search rules in
     let grown : c.send.new.self.sent ≡ c.self.inside.sender.sent ++ c.args.order ∷ [] = search rules in
-    let after = fed 2 c.send.new.self.queue.tasks c.self.inside.sender.sent c.send.new.self.sent c.args.order c.self.inside.held c.holder_after-self-inside.result c.is_stop-self-inside.result two grown (may_follow c.self.inside.sender.sent c.self.inside.held c.args.order fits.2 fits.3 (fits.4 going) may) fits.3 (fits.4 going) c.holder_after-self-inside.ensures c.is_stop-self-inside.ensures in
+    let after = fed 2 c.send.new.self.queue.tasks c.self.inside.sender.sent c.send.new.self.sent c.args.order c.self.inside.held
+    c.holder_after-self-inside.result c.is_stop-self-inside.result two grown
+    (may_follow c.self.inside.sender.sent c.self.inside.held c.args.order fits.2 fits.3 (fits.4 going) may) fits.3 (fits.4 going)
+    c.holder_after-self-inside.ensures c.is_stop-self-inside.ensures in
     (eye, after.0, after.1, after.2, after.3)

@@ -12,12 +12,14 @@ count_all-requires-clause-room c = λ t count is.
 
 pub returns-clause-beside : goal.returns-clause-beside
 returns-clause-beside c = λ moments is.
-    beside_more moments c.args.self.now.counts.items c.count_all.new.counts.items c.args.units c.units_with_loss-with_loss.result c.args.seen.now
+    beside_more moments c.args.self.now.counts.items c.count_all.new.counts.items c.args.units c.units_with_loss-with_loss.result
+    c.args.seen.now
     c.units_with_loss-with_loss.ensures c.count_all.ensures is
 
 pub returns-clause-kept : goal.returns-clause-kept
 returns-clause-kept c =
     most_more c.args.self.now.counts.items c.count_all.new.counts.items c.args.seen.now c.args.units c.units_with_loss-with_loss.result
     c.args.self.now.moments (length c.args.self.now.counts.items)
-    (some_units c.args.units c.units_with_loss-with_loss.result (is_loss c.args.seen.now) c.units_with_loss-with_loss.ensures) c.count_all.ensures (omega arith)
+    (some_units c.args.units c.units_with_loss-with_loss.result (is_loss c.args.seen.now) c.units_with_loss-with_loss.ensures)
+    c.count_all.ensures (omega arith)
     c.requires.kept

@@ -13,4 +13,5 @@ returns-in-Some-clause-restored c = λ apart.
     let threads : AreThreads (length old) c.in-Some.turn =
     subst (λ (n : ℕ). AreThreads n c.in-Some.turn) count (c.requires.threads c.in-Some.turn c.in-Some.is) in
     ap (λ (turn : Option Turn). restored_by turn c.former-former.result new) c.in-Some.is
-    ∙ restored_back c.in-Some.turn old new c.former-former.result c.before-in-Some.ensures.back c.former-former.ensures.former apart threads)
+    ∙ restored_back c.in-Some.turn old new c.former-former.result c.before-in-Some.ensures.back c.former-former.ensures.former apart
+    threads)

@@ -1,6 +1,6 @@
 use Rattle.std.proofs.Common.{◌≡◌, ◌∙◌, ℕ, ap, arith}
 use Rattle.trace_losses.proofs.WatchLists.{goes_on}
-use Rattle.trace_losses.proofs.watch.Watch.go_on.Goals as goal
+use Rattle.trace_losses.proofs.watch.StretchWatch.go_on.Goals as goal
 
 pub returns : goal.returns
 returns c = record {

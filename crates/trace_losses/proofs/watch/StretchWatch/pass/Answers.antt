@@ -1,7 +1,7 @@
 use Rattle.std.proofs.Common.{◌≡◌, ℕ, subst, arith, length}
 use Rattle.trace_losses.specs.Watch.{AreMore}
 use Rattle.trace_losses.proofs.Watches.{watch_more, most_more}
-use Rattle.trace_losses.proofs.watch.Watch.pass.Goals as goal
+use Rattle.trace_losses.proofs.watch.StretchWatch.pass.Goals as goal
 
 pub returns-clause-watch : goal.returns-clause-watch
 returns-clause-watch c = λ moments place is.
