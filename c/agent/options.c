@@ -46,9 +46,14 @@ static bool read_value(const char *word, const char *value) {
     } else if (!strcmp(word, "--ring")) {
         if (!read_number(word, value, 1 << 28, &number)) return false;
         o->ring = (unsigned)number;
-    } else if (!strcmp(word, "--source") && (!strcmp(value, "bpf") || !strcmp(value, "perf"))) o->perf = value[0] == 'p';
-    else {
-        say("there is no option %s %s; apa-agent --help lists them", word, value);
+    } else if (!strcmp(word, "--source")) {
+        o->perf = !strcmp(value, "perf");
+        if (!o->perf && strcmp(value, "bpf")) {
+            say("--source wants bpf or perf, not `%s`", value);
+            return false;
+        }
+    } else {
+        say("there is no option `%s`; apa-agent --help lists them", word);
         return false;
     }
     return true;

@@ -190,7 +190,8 @@ uninstall() {
         [ -n "$prefix" ] || fail "there is no folder $stage$place"
     fi
     list=$(cat -- "$prefix/share/apa/installed" 2>/dev/null) || fail "nothing that apa install put is in $prefix: $prefix/share/apa/installed is missing"
-    ! printf '%s\n' "$list" | grep -qx 'of dpkg' || fail 'dpkg has put this copy here: apt remove apa removes it'
+    package=$(printf '%s\n' "$list" | sed -n 's/^of dpkg: //p')
+    [ -z "$package" ] || fail "dpkg has put this copy here: apt remove $package removes it"
     printf '%s\n' "$list" | sed -nE 's/^(file|link) [^ ]+ //p' | while read -r file; do rm -f -- "$prefix/$file" || exit; done &&
         rm -f -- "$prefix/share/apa/installed" || fail "cannot remove all of what is in $prefix"
     rm -f -- "$prefix/lib/python3/dist-packages/__pycache__/apa."*.pyc && rmdir -- "$prefix/lib/python3/dist-packages/__pycache__" 2>/dev/null

@@ -142,7 +142,7 @@ pack_tar() {
 
 pack_deb() {
     whole=${name}_${number}_amd64
-    put_tree /usr && lay_out_for_debian && true >"$prefix/share/doc/$name/MANIFEST" && list_tree 'of dpkg' && put_manifest "$name" &&
+    put_tree /usr && lay_out_for_debian && true >"$prefix/share/doc/$name/MANIFEST" && list_tree "of dpkg: $name" && put_manifest "$name" &&
         print_control && set_times && dpkg-deb --root-owner-group -Zgzip -z9 -b "$folder/tree" "$folder/$whole.deb" >/dev/null &&
         mv -f -- "$folder/$whole.deb" "$packed/" || fail "cannot write to $packed"
     tell "apa: $packed/$whole.deb"
