@@ -4,7 +4,7 @@ use Rattle.atomic_table.specs.Seated.{TableId}
 use Rattle.task_set.specs.TaskSet.{SetData}
 use Rattle.order_queues.specs.Ends.{QueueData, ReceiverData, new_receiver}
 use Rattle.context_slots.specs.Hands.{SlotsData, HandData, new_hand, AreNewHandsFrom}
-use Rattle.event_history.specs.Boards.{AreFor, PassData, AreNewHandsFrom as PassesNewFrom}
+use Rattle.event_history.specs.Boards.{AreFor, PassData, AreNewPassesFrom as PassesNewFrom}
 use Rattle.replay.specs.Places.{AllFrom}
 use Rattle.order_queues.specs.Ends.{EyeData}
 use Rattle.replay.specs.Streams.{IsUnused}
