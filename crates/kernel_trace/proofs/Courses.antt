@@ -233,9 +233,9 @@ mention_task ids id is_in =
 pub mentions_tasks : (ids : List ℕ) (change : Change) → AreTasks (length ids) (mentions ids change)
 mentions_tasks ids (Wakeup id) = mention_task ids id true
 mentions_tasks ids (Switch from stays to) =
-    All-append (λ (m : Readiness). m.task < length ids) (option_to_list (mention_of ids from stays))
-    (option_to_list (mention_of ids to true))
-    (mention_task ids from stays) (mention_task ids to true)
+    All-append (λ (m : Readiness). m.task < length ids) (option_to_list (mention_of ids from.id stays))
+    (option_to_list (mention_of ids to.id true))
+    (mention_task ids from.id stays) (mention_task ids to.id true)
 
 -- ---- ticks as they are written
 pub ticks_some : (units : ℕ) → 0 < units % 1000000

@@ -15,6 +15,7 @@ use Rattle.kernel_trace.specs.Reading.{IsCourse, IsSoundSoFar}
 use Rattle.kernel_trace.specs.Survey.{SurveyData, is_gap}
 use Rattle.kernel_trace.specs.TraceLine.{Said, Nothing, LostEvents, Malformed, Happened, said_by}
 use Rattle.kernel_trace.specs.TraceText.{Progress, HeaderExpected, ProcessorsExpected, Listed, Tracing, LineOutcome, IsLine}
+use Rattle.kernel_trace.specs.Unlisted.{with_said, number_read}
 use Rattle.kernel_trace.specs.declared.change.Change.{Change}
 use Rattle.trace_passages.specs.declared.passage.Readiness.{Readiness}
 use Rattle.kernel_trace.specs.declared.change.Standing.{Standing}
@@ -92,14 +93,15 @@ traced next c e is = subst IsFollowing (sym e) is
 used_valid : (b : Bool) (f : FollowingData) (c : CourseData) (time : ℕ) (change : Change) (told : TaskChange) (next : FollowingData)
     → IsCourse c
     → ◌≡◌ {A = FollowingOutcome} (Leads next)
-    (if b then Fails Unseen else marked_outcome f c time told (first_mention c.ids change) (second_mention c.ids change))
+    (if b then Fails Unseen else marked_outcome (record f { unlisted = with_said c.ids f.unlisted change }) c time told
+    (first_mention c.ids change) (second_mention c.ids change))
     → CanFollow next
 used_valid true f c time change told next is e = faulty next Unseen e
 used_valid false f c time change told next is e =
     let first = first_mention c.ids change in
     let second = second_mention c.ids change in
     let after = after_marks c first second in
-    let moved : FollowingData = record f { progress = Tracing after } in
+    let moved : FollowingData = record f { progress = Tracing after; unlisted = with_said c.ids f.unlisted change } in
     traced next after
     (kept_progress moved (start_after f.start (is_some (changing c.standings first) || is_some (changing (marked c.standings first) second))
     time) time told
@@ -133,7 +135,7 @@ said_valid f c Nothing processor next expected is e =
 said_valid f c LostEvents processor next expected is e = faulty next Lost e
 said_valid f c Malformed processor next expected is e = faulty next BadForm e
 said_valid f c (Happened time change) processor next expected is e =
-    told_valid f c time change (task_change c.ids change processor) next is e
+    told_valid f c time change (task_change c.ids (number_read c.ids) change processor) next is e
 
 -- by whether there is a gap before it
 fields_valid : (b : Bool) (f : FollowingData) (c : CourseData) (said : Said) (processor : Option ℕ) (next : FollowingData)

@@ -40,16 +40,16 @@ begins (first ∷ rest) passage e =
     let same : passage_since first.time first ≡ passage = cc in
     sym (ap (λ (p : Passage). p.moment) same) ∙ sub_self (microsecond first.time)
 
-pub passages_in_order : (count : ℕ) (lines : List UsedLine) (passages : List Passage) → passages ≡ passages_since lines
+pub passages_in_order : (tasks threads : ℕ) (lines : List UsedLine) (passages : List Passage) → passages ≡ passages_since lines
     → NeverFall 0 passages
-    → All (IsPassageOf count) passages → ArePassages count count passages
-passages_in_order count lines passages are rise of_set = record {
-  all = omega arith;
+    → tasks ≤ threads → All (IsPassageOf tasks threads) passages → ArePassages tasks threads passages
+passages_in_order tasks threads lines passages are rise most of_set = record {
+  all = most;
   each =
       λ k passage e.
-      let at = All-get_or (IsPassageOf count) passages k passage (slice_get_within passages k passage e) of_set in
-      let of = subst (IsPassageOf count) (get_or_from_slice_get passages k passage passage e) at in
-      of.tasks;
+      let at = All-get_or (IsPassageOf tasks threads) passages k passage (slice_get_within passages k passage e) of_set in
+      let of = subst (IsPassageOf tasks threads) (get_or_from_slice_get passages k passage passage e) at in
+      of.numbers;
   begin = λ passage e. begins lines passage (subst (λ (list : List Passage). slice_get list 0 ≡ Some passage) are e);
   in_order = λ k l one other order e f. rising 0 passages k l one other rise order e f;
 }

@@ -5,6 +5,7 @@ use Rattle.std.specs.Prelude.{All, position, is_some, ◌||◌, option_to_list, 
 use Rattle.std.specs.Option.{ForSome, option_map}
 use Rattle.std.proofs.lemmas.Bool.{ltb-true}
 use Rattle.std.proofs.lemmas.List.Elements.{All-push}
+use Rattle.std.proofs.lemmas.List.Sums.{fold-append}
 use Rattle.text_fields.specs.Machine.{Leads, Fails}
 use Rattle.task_set.specs.TaskSet.{SetData}
 use Rattle.kernel_trace.specs.Course.{CourseData, WindowData, mentions, is_unseen, is_backward, is_in_window}
@@ -13,11 +14,12 @@ use Rattle.kernel_trace.specs.Passage.{task_of, task_change, turn_of, first_ment
 use Rattle.kernel_trace.specs.Passage.{FollowingOutcome, after_marks, start_after, kept_outcome, marked_outcome, used_outcome}
 use Rattle.kernel_trace.specs.Passage.{timed_outcome, told_outcome, said_outcome, span_of}
 use Rattle.kernel_trace.specs.Passages.{UsedLine, turning, used_line, used_told, used_said, turns, from_turn, first_use, passage_since}
-use Rattle.kernel_trace.specs.Passages.{passages_since, all_changes, AllTurn, NeverFall, IsPassageOf}
+use Rattle.kernel_trace.specs.Passages.{passages_since, unlisted_of, all_changes, AllTurn, NeverFall}
 use Rattle.kernel_trace.specs.Reading.{IsCourse}
 use Rattle.kernel_trace.specs.Stamp.{microsecond}
 use Rattle.kernel_trace.specs.TraceLine.{Said as SaidData, Nothing, LostEvents, Malformed, Happened}
 use Rattle.kernel_trace.specs.TraceText.{Tracing}
+use Rattle.kernel_trace.specs.Unlisted.{with_said, number_read}
 use Rattle.kernel_trace.specs.declared.change.Change.{Change}
 use Rattle.kernel_trace.specs.declared.change.Change.TheVariants.{Wakeup, Switch}
 use Rattle.trace_passages.specs.declared.passage.Readiness.{Readiness}
@@ -26,11 +28,10 @@ use Rattle.kernel_trace.specs.declared.fault.TraceKind.TheVariants.{Lost, BadFor
 use Rattle.trace_passages.specs.declared.passage.Passage.{Passage}
 use Rattle.kernel_trace.specs.declared.task_change.TaskChange.{TaskChange}
 use Rattle.kernel_trace.specs.declared.task_change.TaskChange.TheVariants as task
-use Rattle.trace_passages.specs.Turns.{AreThreads}
-use Rattle.trace_passages.specs.declared.turn.Turn.TheVariants as turn
 use Rattle.kernel_trace.proofs.Decided.{not_above, with_times, with_last}
 use Rattle.kernel_trace.proofs.Followed.{same_following, faulty, marks_valid}
 use Rattle.kernel_trace.proofs.Positions.{position_some}
+use Rattle.kernel_trace.proofs.ReadPassages.{IsWokenOf, IsReadOf}
 use Rattle.kernel_trace.proofs.Turns.{Said, Named, IsKnown, mark_said, mark_named, changing_is, change_said, turn_append, change_turns}
 use Rattle.kernel_trace.proofs.Turns.{mentions_are, from_none, from_some, passages_more, changes_append, span_append, fall_append}
 
@@ -45,14 +46,14 @@ task_within ids id k e = (position_some (nat_eq id) ids k (sym e)).1
 
 first_known : (ids : List ℕ) (change : Change) → ForSome (first_mention ids change) (λ (m : Readiness). m.task < length ids)
 first_known ids (Wakeup id) = mention_known (length ids) true (position (nat_eq id) ids) (task_within ids id)
-first_known ids (Switch from stays to) = mention_known (length ids) stays (position (nat_eq from) ids) (task_within ids from)
+first_known ids (Switch from stays to) = mention_known (length ids) stays (position (nat_eq from.id) ids) (task_within ids from.id)
 
 none_known : (count : ℕ) → ForSome {T = Readiness} None (λ (m : Readiness). m.task < count)
 none_known count m e = cc
 
 second_known : (ids : List ℕ) (change : Change) → ForSome (second_mention ids change) (λ (m : Readiness). m.task < length ids)
 second_known ids (Wakeup id) = none_known (length ids)
-second_known ids (Switch from stays to) = mention_known (length ids) true (position (nat_eq to) ids) (task_within ids to)
+second_known ids (Switch from stays to) = mention_known (length ids) true (position (nat_eq to.id) ids) (task_within ids to.id)
 
 changing_known : (count : ℕ) (standings : List Standing) (m : Option Readiness) → ForSome m (λ (m : Readiness). m.task < count)
     → ForSome (changing standings m) (λ (m : Readiness). m.task < count)
@@ -63,30 +64,29 @@ changing_known count standings (Some m) known x e = by _ e
     by true e = cc
     by false e = known x e
 
--- what a line says is of the first so many tasks
+-- a thread that wakes up is one of the first so many tasks
 abbrev IsAboutTasks : ℕ → TaskChange → Type 0
 IsAboutTasks count (task.Wakeup woken) = ForSome woken (λ t. t < count)
-IsAboutTasks count (task.Switch processor from to) = ForSome from (λ t. t < count) × ForSome to (λ t. t < count)
+IsAboutTasks count (task.Switch processor from to) = Unit {0}
 
--- and so is what it says of who runs where
+-- and so it is in what the line says of who runs where
 turn_about : (count : ℕ) (told : TaskChange) (first : Option Readiness) → IsAboutTasks count told
-    → ForSome (turn_of told first) (AreThreads count)
-turn_about count (task.Wakeup None) first about = λ turned is. cc
-turn_about count (task.Wakeup (Some woken)) None about = λ turned is. cc
-turn_about count (task.Wakeup (Some woken)) (Some mention) about =
-    λ turned is. let same : turn.Woken woken ≡ turned = cc in subst (AreThreads count) same (about woken refl)
-turn_about count (task.Switch processor from to) first about =
-    λ turned is. let same : turn.Switch processor from to ≡ turned = cc in subst (AreThreads count) same about
+    → IsWokenOf count (turn_of told first)
+turn_about count (task.Wakeup None) first about = tt
+turn_about count (task.Wakeup (Some woken)) None about = tt
+turn_about count (task.Wakeup (Some woken)) (Some mention) about = about woken refl
+turn_about count (task.Switch processor from to) first about = tt
 
-told_about : (ids : List ℕ) (change : Change) (processor : Option ℕ) (told : TaskChange) → task_change ids change processor ≡ Some told
+told_about : (ids : List ℕ) (number : ℕ → Option ℕ) (change : Change) (processor : Option ℕ) (told : TaskChange)
+    → task_change ids number change processor ≡ Some told
     → IsAboutTasks (length ids) told
-told_about ids (Wakeup id) processor told e =
+told_about ids number (Wakeup id) processor told e =
     let same : task.Wakeup (task_of ids id) ≡ told = cc in
     subst (IsAboutTasks (length ids)) same (task_within ids id)
-told_about ids (Switch from stays to) None told e = cc
-told_about ids (Switch from stays to) (Some processor) told e =
-    let same : task.Switch processor (task_of ids from) (task_of ids to) ≡ told = cc in
-    subst (IsAboutTasks (length ids)) same (task_within ids from, task_within ids to)
+told_about ids number (Switch from stays to) None told e = cc
+told_about ids number (Switch from stays to) (Some processor) told e =
+    let same : task.Switch processor (number from.id) (number to.id) ≡ told = cc in
+    subst (IsAboutTasks (length ids)) same tt
 
 -- ---- what is known beside the used lines and their mentions
 -- the last passage is not after the last line
@@ -114,7 +114,8 @@ pub record Kept (head c : CourseData) (f : FollowingData) (ms : List Readiness) 
   pub turned : AllTurn [] (all_changes f.passages)
   pub rising : NeverFall 0 f.passages
   pub since : IsSince f.start c.last (span_of f.passages)
-  pub of_set : All (IsPassageOf (length c.set.tasks)) f.passages
+  pub of_set : All (IsReadOf (length c.set.tasks)) f.passages
+  pub apart : f.unlisted ≡ unlisted_of head.ids used
 
 -- a line leads on, and what was kept before it stays
 pub record Stepped (head : CourseData) (before : List Passage) (next : FollowingData) (ms : List Readiness)
@@ -141,9 +142,13 @@ module _ (head c : CourseData) (f : FollowingData) (ms : List Readiness) (used :
   abbrev after : CourseData
   after = after_marks c first second
 
+  -- with the threads of the line told apart
+  abbrev known : FollowingData
+  known = record f { unlisted = with_said c.ids f.unlisted change }
+
   -- the line with its changes
   abbrev line : UsedLine
-  line = record { time = time; change = told; first = changing c.standings first; second = changing between second }
+  line = record { time = time; said = change; change = told; first = changing c.standings first; second = changing between second }
 
   -- its changes
   abbrev more : List Readiness
@@ -194,10 +199,17 @@ module _ (head c : CourseData) (f : FollowingData) (ms : List Readiness) (used :
   line_is : line ≡ used_line c.ids ms time change told
   line_is =
       let made : Option Readiness → Option Readiness
-      → UsedLine = λ one two. record { time = time; change = told; first = one; second = two } in
+      → UsedLine = λ one two. record { time = time; said = change; change = told; first = one; second = two } in
       ap (λ (one : Option Readiness). made one (changing between second)) (changing_is c.standings ms first kept.said)
       ∙ ap (made (turning ms first)) (changing_is between (ms ++ option_to_list first) second
       (mark_said c.standings ms first known_first kept.said))
+
+  -- the threads that are told apart with it
+  apart_then : known.unlisted ≡ unlisted_of head.ids (used ++ line ∷ [])
+  apart_then =
+      ap (λ (before : List ℕ). with_said c.ids before change) kept.apart
+      ∙ ap (λ (ids : List ℕ). with_said ids (unlisted_of head.ids used) change) kept.ids
+      ∙ sym (fold-append (λ (so_far : List ℕ) (line : UsedLine). with_said head.ids so_far line.said) [] used (line ∷ []))
 
   -- one passage more
   module _ (start : ℕ) (lines : List UsedLine) (from : from_turn (used ++ line ∷ []) ≡ lines) (begins : first_use lines ≡ Some start)
@@ -207,24 +219,22 @@ module _ (head c : CourseData) (f : FollowingData) (ms : List Readiness) (used :
     passage = passage_since start line
 
     abbrev next : FollowingData
-    next = record { progress = Tracing after; start = Some start; passages = f.passages ++ passage ∷ [] }
+    next = record known { progress = Tracing after; start = Some start; passages = f.passages ++ passage ∷ [] }
 
     changes_then : all_changes f.passages ++ more ≡ all_changes next.passages
     changes_then =
         ap (λ (last : List Readiness). all_changes f.passages ++ last) (sym (append-nil more))
         ∙ sym (changes_append f.passages (passage ∷ []))
 
-    in_time : passage.moment < 9223372036854775808 → IsPassageOf (length c.set.tasks) passage
+    in_time : passage.moment < 9223372036854775808 → IsReadOf (length c.set.tasks) passage
     in_time short =
         let valid = kept.valid in
         record {
-          tasks = record {
-            turn = turn_about (length c.set.tasks) told line.first about;
-            first = subst (λ (n : ℕ). ForSome line.first (λ (m : Readiness). m.task < n)) valid.ids
-                (changing_known (length c.ids) c.standings first (first_known c.ids change));
-            second = subst (λ (n : ℕ). ForSome line.second (λ (m : Readiness). m.task < n)) valid.ids
-                (changing_known (length c.ids) between second (second_known c.ids change));
-          };
+          woken = turn_about (length c.set.tasks) told line.first about;
+          first = subst (λ (n : ℕ). ForSome line.first (λ (m : Readiness). m.task < n)) valid.ids
+              (changing_known (length c.ids) c.standings first (first_known c.ids change));
+          second = subst (λ (n : ℕ). ForSome line.second (λ (m : Readiness). m.task < n)) valid.ids
+              (changing_known (length c.ids) between second (second_known c.ids change));
           moment = short;
         }
 
@@ -244,7 +254,8 @@ module _ (head c : CourseData) (f : FollowingData) (ms : List Readiness) (used :
       since =
           subst (λ (last : Option ℕ). IsSince (Some start) last (span_of next.passages)) (sym now)
           (let whole = span_append f.passages passage in omega (arith, whole, since));
-      of_set = All-push (IsPassageOf (length c.set.tasks)) f.passages passage kept.of_set (in_time short);
+      of_set = All-push (IsReadOf (length c.set.tasks)) f.passages passage kept.of_set (in_time short);
+      apart = apart_then;
     }
 
     passage_steps : (b : Bool) (found : FollowingData) → nat_lt passage.moment 9223372036854775808 ≡ b
@@ -268,7 +279,7 @@ module _ (head c : CourseData) (f : FollowingData) (ms : List Readiness) (used :
   -- there was a change before
   started : (start : ℕ) (lines : List UsedLine) (found : FollowingData) → f.start ≡ Some start → from_turn used ≡ lines
       → ◌≡◌ {A = FollowingOutcome} (Leads found)
-      (kept_outcome (record f { progress = Tracing after }) (Some start) time told line.first line.second)
+      (kept_outcome (record known { progress = Tracing after }) (Some start) time told line.first line.second)
       → Steps found
   started start [] found begins from e =
       let none : ◌≡◌ {A = Option ℕ} (Some start) None = sym begins ∙ kept.start ∙ ap first_use from in cc
@@ -292,7 +303,7 @@ module _ (head c : CourseData) (f : FollowingData) (ms : List Readiness) (used :
 
   starting : (changes : Bool) (found : FollowingData) → f.start ≡ None → turns line ≡ changes
       → ◌≡◌ {A = FollowingOutcome} (Leads found)
-      (kept_outcome (record f { progress = Tracing after }) (start_after None changes time) time told line.first line.second)
+      (kept_outcome (record known { progress = Tracing after }) (start_after None changes time) time told line.first line.second)
       → Steps found
   starting true found begins does e =
       let none = nothing_yet (from_turn used) begins refl in
@@ -305,7 +316,7 @@ module _ (head c : CourseData) (f : FollowingData) (ms : List Readiness) (used :
       passage_steps time (line ∷ []) from refl all (omega (arith, empty)) _ found refl e
   starting false found begins does e =
       let none = nothing_yet (from_turn used) begins refl in
-      let moved : FollowingData = record f { progress = Tracing after } in
+      let moved : FollowingData = record known { progress = Tracing after } in
       let no_more = unturned line.first line.second does in
       let from : from_turn (used ++ line ∷ []) ≡ [] = from_none used line none ∙ ap (λ (b : Bool). if b then line ∷ [] else []) does in
       subst Steps (sym (same_following found moved e))
@@ -327,6 +338,7 @@ module _ (head c : CourseData) (f : FollowingData) (ms : List Readiness) (used :
           rising = kept.rising;
           since = kept.since;
           of_set = kept.of_set;
+          apart = apart_then;
         };
         later = [];
         grows = sym (append-nil f.passages);
@@ -339,19 +351,19 @@ module _ (head c : CourseData) (f : FollowingData) (ms : List Readiness) (used :
 
   line_steps : (found : FollowingData)
       → ◌≡◌ {A = FollowingOutcome} (Leads found)
-      (kept_outcome (record f { progress = Tracing after }) (start_after f.start (turns line) time) time told line.first line.second)
+      (kept_outcome (record known { progress = Tracing after }) (start_after f.start (turns line) time) time told line.first line.second)
       → Steps found
   line_steps found e = by f.start refl e
     where
       by : (begins : Option ℕ) → f.start ≡ begins
           → ◌≡◌ {A = FollowingOutcome} (Leads found)
-          (kept_outcome (record f { progress = Tracing after }) (start_after begins (turns line) time) time told line.first line.second)
+          (kept_outcome (record known { progress = Tracing after }) (start_after begins (turns line) time) time told line.first line.second)
           → Steps found
       by (Some start) begins e = started start (from_turn used) found begins refl e
       by None begins e = starting (turns line) found begins refl e
 
   pub used_steps : (b : Bool) (found : FollowingData)
-      → ◌≡◌ {A = FollowingOutcome} (Leads found) (if b then Fails Unseen else marked_outcome f c time told first second)
+      → ◌≡◌ {A = FollowingOutcome} (Leads found) (if b then Fails Unseen else marked_outcome known c time told first second)
       → Stepped head f.passages found (ms ++ mentions c.ids change) (used ++ used_line c.ids ms time change told ∷ [])
   used_steps true found e = faulty found Unseen e
   used_steps false found e =
@@ -365,8 +377,9 @@ clock_at b c time = if b then record c { last = Some time; used = Some time } el
 -- another progress of what is known
 progressed : (head c d : CourseData) (f g : FollowingData) (ms : List Readiness) (used : List UsedLine) → Kept head c f ms used
     → d.set ≡ c.set → d.ids ≡ c.ids → d.window ≡ c.window → d.standings ≡ c.standings → IsCourse d
-    → IsSince f.start d.last (span_of f.passages) → g.start ≡ f.start → g.passages ≡ f.passages → Kept head d g ms used
-progressed head c d f g ms used kept set ids window standings valid since start passages = record {
+    → IsSince f.start d.last (span_of f.passages) → g.start ≡ f.start → g.passages ≡ f.passages → g.unlisted ≡ f.unlisted
+    → Kept head d g ms used
+progressed head c d f g ms used kept set ids window standings valid since start passages apart = record {
   set = set ∙ kept.set;
   ids = ids ∙ kept.ids;
   window = window ∙ kept.window;
@@ -384,19 +397,21 @@ progressed head c d f g ms used kept set ids window standings valid since start 
       subst (λ (p : List Passage). IsSince g.start d.last (span_of p)) (sym passages)
       (subst (λ (s : Option ℕ). IsSince s d.last (span_of f.passages)) (sym start) since);
   of_set =
-      subst (λ (p : List Passage). All (IsPassageOf (length d.set.tasks)) p) (sym passages)
-      (subst (λ (s : SetData). All (IsPassageOf (length s.tasks)) f.passages) (sym set) kept.of_set);
+      subst (λ (p : List Passage). All (IsReadOf (length d.set.tasks)) p) (sym passages)
+      (subst (λ (s : SetData). All (IsReadOf (length s.tasks)) f.passages) (sym set) kept.of_set);
+  apart = apart ∙ kept.apart;
 }
 
 module _ (head c : CourseData) (f next : FollowingData) (ms : List Readiness) (used : List UsedLine) (kept : Kept head c f ms used) where
   clock_kept : (b : Bool) (g : FollowingData) (time : ℕ) → is_backward c.last time ≡ false → g.start ≡ f.start → g.passages ≡ f.passages
+      → g.unlisted ≡ f.unlisted
       → Kept head (clock_at b c time) g ms used
-  clock_kept true g time forward start passages =
+  clock_kept true g time forward start passages apart =
       progressed head c (clock_at true c time) f g ms used kept refl refl refl refl (with_times c (Some time) (Some time) kept.valid)
-      (since_later f.start c.last (span_of f.passages) time kept.since forward) start passages
-  clock_kept false g time forward start passages =
+      (since_later f.start c.last (span_of f.passages) time kept.since forward) start passages apart
+  clock_kept false g time forward start passages apart =
       progressed head c (clock_at false c time) f g ms used kept refl refl refl refl (with_last c (Some time) kept.valid)
-      (since_later f.start c.last (span_of f.passages) time kept.since forward) start passages
+      (since_later f.start c.last (span_of f.passages) time kept.since forward) start passages apart
 
   -- nothing is kept of a line
   unkept : (d : CourseData) (g : FollowingData) → next ≡ g → g.progress ≡ Tracing d → g.passages ≡ f.passages → Kept head d g ms used
@@ -421,11 +436,11 @@ module _ (head c : CourseData) (f next : FollowingData) (ms : List Readiness) (u
       → Stepped head f.passages next (ms ++ (if b then mentions c.ids change else []))
       (used ++ (if b then used_line c.ids ms time change told ∷ [] else []))
   timed_steps true time change told forward about e =
-      used_steps head (clock_at true c time) f ms used time change told (clock_kept true f time forward refl refl) refl about
+      used_steps head (clock_at true c time) f ms used time change told (clock_kept true f time forward refl refl refl) refl about
       (is_unseen c.standings c.ids change) next e
   timed_steps false time change told forward about e =
       let later : FollowingData = record f { progress = Tracing (clock_at false c time) } in
-      unkept (clock_at false c time) later (same_following next later e) refl refl (clock_kept false later time forward refl refl)
+      unkept (clock_at false c time) later (same_following next later e) refl refl (clock_kept false later time forward refl refl refl)
 
   -- a line with a change, by what it says of tasks
   told_steps : (told : Option TaskChange) (time : ℕ) (change : Change)
@@ -446,7 +461,7 @@ module _ (head c : CourseData) (f next : FollowingData) (ms : List Readiness) (u
   pub said_steps : (said : SaidData) (processor : Option ℕ) → f.progress ≡ Tracing c
       → ◌≡◌ {A = FollowingOutcome} (Leads next) (said_outcome f c said processor)
       → Stepped head f.passages next (ms ++ mentions_said head.ids head.window said)
-      (used ++ used_said head.ids head.window ms said processor)
+      (used ++ used_said head.ids (number_read head.ids) head.window ms said processor)
   said_steps Nothing processor expected e = unkept c f (same_following next f e) expected refl kept
   said_steps LostEvents processor expected e = faulty next Lost e
   said_steps Malformed processor expected e = faulty next BadForm e
@@ -454,8 +469,9 @@ module _ (head c : CourseData) (f next : FollowingData) (ms : List Readiness) (u
       let valid = kept.valid in
       let said : SaidData = Happened time change in
       let P : List ℕ → Option WindowData → Type 0 =
-      λ ids window. Stepped head f.passages next (ms ++ mentions_said ids window said) (used ++ used_said ids window ms said processor) in
-      let about : (some : TaskChange) → task_change c.ids change processor ≡ Some some → IsAboutTasks (length c.set.tasks) some =
-      λ some is. subst (λ (n : ℕ). IsAboutTasks n some) valid.ids (told_about c.ids change processor some is) in
+      λ ids window.
+      Stepped head f.passages next (ms ++ mentions_said ids window said) (used ++ used_said ids (number_read ids) window ms said processor) in
+      let about : (some : TaskChange) → task_change c.ids (number_read c.ids) change processor ≡ Some some → IsAboutTasks (length c.set.tasks) some =
+      λ some is. subst (λ (n : ℕ). IsAboutTasks n some) valid.ids (told_about c.ids (number_read c.ids) change processor some is) in
       subst (λ (window : Option WindowData). P head.ids window) kept.window
-      (subst (λ (ids : List ℕ). P ids c.window) kept.ids (told_steps (task_change c.ids change processor) time change about e))
+      (subst (λ (ids : List ℕ). P ids c.window) kept.ids (told_steps (task_change c.ids (number_read c.ids) change processor) time change about e))

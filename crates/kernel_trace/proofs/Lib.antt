@@ -13,6 +13,8 @@ pub mod Imports
 mod HeadSplit
 mod Turns
 mod InOrder
+mod Settled
+mod ReadPassages
 mod Kept
 pub mod Imported
 pub mod Passed

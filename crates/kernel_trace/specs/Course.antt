@@ -45,7 +45,7 @@ mention_of ids id is_in =
 abbrev pub mentions : List ℕ → Change → List Readiness
 mentions ids (Wakeup id) = option_to_list (mention_of ids id true)
 mentions ids (Switch from stays to) =
-    option_to_list (mention_of ids from stays) ++ option_to_list (mention_of ids to true)
+    option_to_list (mention_of ids from.id stays) ++ option_to_list (mention_of ids to.id true)
 
 -- what a mention says of a task
 abbrev pub standing_after : Bool → Standing

@@ -15,3 +15,5 @@ pub mod SurveyView
 pub mod TraceFault
 pub mod TraceLine
 pub mod TraceText
+pub mod Unlisted
+pub mod UnlistedView

@@ -3,7 +3,7 @@
 -- and no history is kept, so that no list of events is too long. In its place a moment is too late
 -- that is 2^63 microseconds after the first change.
 use Rattle.std.specs.Prelude.{◌≡◌, ℕ, ◌-◌, Bool, true, false, nat_eq, nat_lt, ◌||◌, is_some, List}
-use Rattle.std.specs.Prelude.{[], ◌∷◌, ◌++◌, map, set, position, Option, None, Some, if◌then◌else◌}
+use Rattle.std.specs.Prelude.{[], ◌∷◌, ◌++◌, length, map, set, position, Option, None, Some, if◌then◌else◌}
 use Rattle.task_set.specs.TaskSet.{SetData}
 use Rattle.text_fields.specs.Lines.{lines_of, fields_of}
 use Rattle.text_fields.specs.Machine.{Outcome, Leads, Fails}
@@ -17,6 +17,7 @@ use Rattle.kernel_trace.specs.Course.{agrees, says_ready, is_mentioned, standing
 use Rattle.kernel_trace.specs.Course.{names_task}
 use Rattle.kernel_trace.specs.TraceText.{Progress, HeaderExpected, ProcessorsExpected, Listed}
 use Rattle.kernel_trace.specs.TraceText.{Tracing, LineOutcome, IsLine}
+use Rattle.kernel_trace.specs.Unlisted.{with_said, number_read, settled_passage}
 use Rattle.kernel_trace.specs.declared.change.Change.{Change}
 use Rattle.kernel_trace.specs.declared.change.Change.TheVariants.{Wakeup, Switch}
 use Rattle.trace_passages.specs.declared.passage.Readiness.{Readiness}
@@ -37,13 +38,13 @@ use Rattle.kernel_trace.specs.declared.fault.TraceKind.TheVariants.{Overwritten,
 abbrev pub task_of : List ℕ → ℕ → Option ℕ
 task_of ids id = position (nat_eq id) ids
 
--- what a change says of tasks, with the processor that its line names; a switch says nothing
--- without it
-abbrev pub task_change : List ℕ → Change → Option ℕ → Option TaskChange
-task_change ids (Wakeup id) processor = Some (task.Wakeup (task_of ids id))
-task_change ids (Switch from stays to) None = None
-task_change ids (Switch from stays to) (Some processor) =
-    Some (task.Switch processor (task_of ids from) (task_of ids to))
+-- what a change says of tasks, with the processor that its line names, where threads have these
+-- numbers; a switch says nothing without it
+abbrev pub task_change : List ℕ → (ℕ → Option ℕ) → Change → Option ℕ → Option TaskChange
+task_change ids number (Wakeup id) processor = Some (task.Wakeup (task_of ids id))
+task_change ids number (Switch from stays to) None = None
+task_change ids number (Switch from stays to) (Some processor) =
+    Some (task.Switch processor (number from.id) (number to.id))
 
 -- what a wakeup of a task says of who runs, where it makes the task ready
 abbrev pub woken_by : ℕ → Option Readiness → Option Turn
@@ -60,12 +61,12 @@ turn_of (task.Switch processor from to) first = Some (turn.Switch processor from
 -- the mention of the task that wakes up or leaves
 abbrev pub first_mention : List ℕ → Change → Option Readiness
 first_mention ids (Wakeup id) = mention_of ids id true
-first_mention ids (Switch from stays to) = mention_of ids from stays
+first_mention ids (Switch from stays to) = mention_of ids from.id stays
 
 -- the mention of the task that comes
 abbrev pub second_mention : List ℕ → Change → Option Readiness
 second_mention ids (Wakeup id) = None
-second_mention ids (Switch from stays to) = mention_of ids to true
+second_mention ids (Switch from stays to) = mention_of ids to.id true
 
 -- a mention, where it changes whether its task is ready
 abbrev pub changing : List Standing → Option Readiness → Option Readiness
@@ -79,12 +80,14 @@ marked standings None = standings
 marked standings (Some m) = set standings m.task (standing_after m.is_in)
 
 -- ---- what is known
--- what is expected and known of the trace, the time of the first change, in nanoseconds, and the
--- passages so far
+-- what is expected and known of the trace, the time of the first change, in nanoseconds, the
+-- passages so far, with the numbers that threads have while the text is read, and the threads that
+-- are told apart so far
 pub record FollowingData : Type 0 where
   pub progress : Progress
   pub start : Option ℕ
   pub passages : List Passage
+  pub unlisted : List ℕ
 
 -- a line leads on, or has a fault of a kind
 abbrev pub FollowingOutcome : Type 0
@@ -92,7 +95,8 @@ FollowingOutcome = Outcome FollowingData TraceKind
 
 -- nothing is read yet
 abbrev pub nothing_followed : FollowingData
-nothing_followed = record { progress = HeaderExpected; start = None; passages = [] }
+nothing_followed =
+    record { progress = HeaderExpected; start = None; passages = []; unlisted = [] }
 
 -- after a line at this time
 abbrev pub at_time : CourseData → ℕ → CourseData
@@ -147,12 +151,13 @@ marked_outcome f c time told first second =
     (changing c.standings first)
     (changing (marked c.standings first) second)
 
--- the line is used: no wakeup is missing
+-- the line is used: no wakeup is missing, and its threads may be told apart
 abbrev pub used_outcome : FollowingData → CourseData → ℕ → Change → TaskChange → FollowingOutcome
 used_outcome f c time change told =
     if is_unseen c.standings c.ids change
     then Fails Unseen
-    else marked_outcome f c time told (first_mention c.ids change) (second_mention c.ids change)
+    else marked_outcome (record f { unlisted = with_said c.ids f.unlisted change }) c time told
+    (first_mention c.ids change) (second_mention c.ids change)
 
 -- the line is not less than the one before: it is used where it is in the window
 abbrev pub timed_outcome : FollowingData → CourseData → ℕ → Change → TaskChange → FollowingOutcome
@@ -174,7 +179,7 @@ said_outcome f c Nothing processor = Leads f
 said_outcome f c LostEvents processor = Fails Lost
 said_outcome f c Malformed processor = Fails BadForm
 said_outcome f c (Happened time change) processor =
-    told_outcome f c time change (task_change c.ids change processor)
+    told_outcome f c time change (task_change c.ids (number_read c.ids) change processor)
 
 -- what the fields of a line of the trace come to
 abbrev pub fields_outcome : SurveyData → FollowingData → CourseData → List (List ℕ)
@@ -206,12 +211,14 @@ abbrev pub IsFollowed : SurveyData → FollowingData → List ℕ → FollowingO
 IsFollowed look f line outcome = IsLineAt look f f.progress line outcome
 
 -- what contracts see of a trace: its tasks, the microseconds of the first change by its own clock,
--- its passages, and whether some used line named each task
+-- its passages, whether some used line named each task, and the ids of the threads that are told
+-- apart
 pub record TaskTraceData : Type 0 where
   pub set : SetData
   pub clock : Option ℕ
   pub passages : List Passage
   pub mentioned : List Bool
+  pub unlisted : List ℕ
 
 -- its stored parts
 abbrev pub task_trace_view : Inside → TaskTraceData
@@ -220,6 +227,7 @@ task_trace_view a = record {
   clock = a.clock;
   passages = a.passages.items;
   mentioned = map is_mentioned a.standings.items;
+  unlisted = a.unlisted;
 }
 
 -- the microseconds of a time, where there is one and they are less than 2^63
@@ -227,13 +235,14 @@ abbrev pub clock_of : Option ℕ → Option ℕ
 clock_of None = None
 clock_of (Some time) = clock_at time
 
--- the trace of what is known
+-- the trace of what is known, with the numbers that threads have at the end
 abbrev pub trace_of : FollowingData → CourseData → TaskTraceData
 trace_of f c = record {
   set = c.set;
   clock = clock_of f.start;
-  passages = f.passages;
+  passages = map (settled_passage (length c.set.tasks) f.unlisted) f.passages;
   mentioned = map is_mentioned c.standings;
+  unlisted = f.unlisted;
 }
 
 -- what the end of a trace comes to: it is faultless where some used line named a task

@@ -16,6 +16,7 @@ following_of stage = record {
   progress = progress_of stage.stage;
   start = option_map time_of stage.start;
   passages = stage.passages.items;
+  unlisted = stage.unlisted;
 }
 
 -- what is known makes a head, or is followed by lines of a trace

@@ -51,7 +51,7 @@ ends_view f =
 
 -- a thread that leaves
 abbrev pub left_view : Leaving → LeavingData
-left_view left = record { id = left.id; state = left.state.now }
+left_view left = record { thread = left.thread; state = left.state.now }
 
 -- the fields of an event
 abbrev pub fields_view : EventFields → EventFieldsData

@@ -4,7 +4,7 @@
 -- Whether `sched_waking` is the word of a wakeup is said of the whole text.
 use Rattle.std.specs.Prelude.{ℕ, ◌-◌, Bool, ◌&&◌, ◌||◌, ◌==◌, List, [], ◌∷◌, codes, length, take}
 use Rattle.std.specs.Prelude.{drop, get_or, min, Option, None, Some, fold, if◌then◌else◌}
-use Rattle.std.specs.Prelude.{nat_eq}
+use Rattle.std.specs.Prelude.{nat_eq, nat_lt}
 use Rattle.std.specs.Str.{bytes_eq}
 use Rattle.std.specs.Option.{option_or}
 use Rattle.std.specs.Char.{is_ascii_alphabetic}
@@ -13,6 +13,7 @@ use Rattle.affinity_mask.specs.Number.{number_value}
 use Rattle.kernel_trace.specs.Stamp.{is_number, is_stamp, nanoseconds}
 use Rattle.kernel_trace.specs.declared.change.Change.{Change}
 use Rattle.kernel_trace.specs.declared.change.Change.TheVariants.{Wakeup, Switch}
+use Rattle.kernel_trace.specs.declared.change.Thread.{Thread}
 use Rattle.kernel_trace.specs.declared.event.EventWord.{EventWord}
 use Rattle.kernel_trace.specs.declared.event.EventWord.TheVariants as named
 
@@ -36,6 +37,11 @@ unsigned text = if begins (codes "-") text then after_key (codes "-") text else 
 -- the field is this key and a priority: digits, or a minus and digits
 unfoldable pub is_priority : List ℕ → List ℕ → Bool
 is_priority key field = begins key field && is_number (unsigned (after_key key field))
+
+-- the priority after a key is one of real time: below 100, or below zero, as that of SCHED_DEADLINE
+unfoldable pub is_real_time : List ℕ → List ℕ → Bool
+is_real_time key field =
+    begins (codes "-") (after_key key field) || nat_lt (number_value (after_key key field)) 100
 
 -- the thread id that the digits after a key say; 4,194,305 is nobody's, and stands for all that are
 -- greater
@@ -61,9 +67,9 @@ is_leaving f =
     && is_priority (codes "prev_prio=") f.third
     && is_keyed (codes "prev_pid=") f.fourth
 
--- a thread that leaves: its id, and its state as it stands
+-- a thread that leaves, and its state as it stands
 pub record Leaving : Type 0 where
-  pub id : ℕ
+  pub thread : Thread
   pub state : List ℕ
 
 -- the thread that leaves, where four fields are those of one
@@ -71,7 +77,10 @@ abbrev pub leaving_of : LastFields → Option Leaving
 leaving_of f =
     if is_leaving f
     then Some (record {
-      id = id_after (codes "prev_pid=") f.fourth;
+      thread = record {
+        id = id_after (codes "prev_pid=") f.fourth;
+        is_real_time = is_real_time (codes "prev_prio=") f.third;
+      };
       state = after_key (codes "prev_state=") f.second;
     })
     else None
@@ -109,12 +118,19 @@ is_running state = get_or state 0 0 == 82
 unfoldable pub is_coming : LastFields → Bool
 is_coming f = is_keyed (codes "next_pid=") f.second && is_priority (codes "next_prio=") f.last
 
+-- the thread that comes
+abbrev pub coming_of : LastFields → Thread
+coming_of f = record {
+  id = id_after (codes "next_pid=") f.second;
+  is_real_time = is_real_time (codes "next_prio=") f.last;
+}
+
 -- a switch from one thread to another one
 abbrev pub switch_of : LastFields → Option Leaving → Option Change
 switch_of ends None = None
 switch_of ends (Some left) =
     if has_letter left.state && is_coming ends
-    then Some (Switch left.id (is_running left.state) (id_after (codes "next_pid=") ends.second))
+    then Some (Switch left.thread (is_running left.state) (coming_of ends))
     else None
 
 -- a wakeup of the thread of these fields

@@ -1,5 +1,12 @@
 //! What lines of a trace say of threads and of tasks.
 
+/// A thread of a switch: its id, and whether its priority is one of real time.
+#[derive(Clone, Copy)]
+pub struct Thread {
+    pub id: u32,
+    pub is_real_time: bool,
+}
+
 /// What a line of the scheduler says of threads, which go by their ids. 4,194,305 stands for all greater numbers, and is
 /// nobody's id.
 #[derive(Clone, Copy)]
@@ -8,7 +15,11 @@ pub enum Change {
     Wakeup(u32),
 
     /// A processor goes from one thread, which stays ready or does not, to another one.
-    Switch { from: u32, stays: bool, to: u32 },
+    Switch {
+        from: Thread,
+        stays: bool,
+        to: Thread,
+    },
 }
 
 /// What the last mention of a task says.

@@ -11,6 +11,7 @@ ghost use Rattle.kernel_trace.specs.Survey.{is_gap, begins_whole};
 ghost use Rattle.kernel_trace.specs.SurveyView.{look_of};
 ghost use Rattle.kernel_trace.specs.TraceText.{Tracing, used_outcome, timed_outcome, said_outcome, trace_outcome, input_of};
 ghost use Rattle.kernel_trace.specs.TraceLine.{said_by};
+ghost use Rattle.kernel_trace.specs.Unlisted.{number_read};
 ghost use Rattle.text_fields.specs.Lines.{fields_of};
 ghost use Rattle.text_fields.specs.Machine.{Leads, Fails};
 
@@ -21,6 +22,7 @@ use crate::processor::read_processor;
 use crate::stamp::Stamp;
 use crate::survey::{Survey, is_of_overwriting};
 use crate::task_change::TaskChange;
+use crate::unlisted::MAX_ID;
 use affinity_mask::OutOfMemory;
 use indexmap::IndexSet;
 use task_set::{Event, TaskSet};
@@ -204,8 +206,8 @@ impl<'a> Course<'a> {
                 second: None,
             },
             Change::Switch { from, stays, to } => Mentions {
-                first: self.mention(from, stays),
-                second: self.mention(to, true),
+                first: self.mention(from.id, stays),
+                second: self.mention(to.id, true),
             },
         }
     }
@@ -233,19 +235,31 @@ impl<'a> Course<'a> {
         }
     }
 
-    /// What a change says of tasks; nothing, where it is a switch and its line names no processor.
+    /// The number of a thread while the text is read: that of its task, or its id after the tasks.
+    fn number(&self, id: u32) -> Option<u32>
+        requires { IsCourse (course_of self.now) }
+        ensures { result ≡ number_read (course_of self.now).ids id }
+    {
+        match self.task(id) {
+            Some(task) => Some(task),
+            None if id <= MAX_ID => Some(self.set.len() + id),
+            None => None,
+        }
+    }
+
+    /// What a change says of threads; nothing, where it is a switch and its line names no processor.
     pub fn task_change(&self, waking: bool, change: Change, line: &[u8]) -> Option<TaskChange>
         requires { IsCourse (course_of self.now) }
-        ensures { result ≡ task_change (course_of self.now).ids change
-            (processor_of waking (fields_of line.now)) }
+        ensures { result ≡ task_change (course_of self.now).ids
+            (number_read (course_of self.now).ids) change (processor_of waking (fields_of line.now)) }
     {
         match change {
             Change::Wakeup(id) => Some(TaskChange::Wakeup(self.task(id))),
             Change::Switch { from, to, .. } => match read_processor(waking, line) {
                 Some(processor) => Some(TaskChange::Switch {
                     processor,
-                    from: self.task(from),
-                    to: self.task(to),
+                    from: self.number(from.id),
+                    to: self.number(to.id),
                 }),
                 None => None,
             },

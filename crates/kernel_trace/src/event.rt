@@ -5,12 +5,12 @@ ghost use Rattle.std.specs.Option.{option_map};
 ghost use Rattle.kernel_trace.specs.Reading.{ends_view, left_view, fields_view, event_view, said_view};
 ghost use Rattle.kernel_trace.specs.Stamp.{nanoseconds};
 ghost use Rattle.kernel_trace.specs.StampView.{time_of};
-ghost use Rattle.kernel_trace.specs.TraceLine.{leaving_of, has_letter, is_running, event_fields, event_fields_after, switch_of, wakeup_of, wakeup_by, change_of, is_wakeup_word, bare_word, word_of, is_stamped, before_last, event_at, first_event, event_in, ends_in_lost, tells_of_loss, said_by, is_coming};
+ghost use Rattle.kernel_trace.specs.TraceLine.{leaving_of, has_letter, is_running, event_fields, event_fields_after, switch_of, wakeup_of, wakeup_by, change_of, is_wakeup_word, bare_word, word_of, is_stamped, before_last, event_at, first_event, event_in, ends_in_lost, tells_of_loss, said_by, is_coming, coming_of};
 ghost use Rattle.text_fields.specs.Lines.{fields_of};
 
-use crate::change::Change;
+use crate::change::{Change, Thread};
 use crate::fields::first_field;
-use crate::key::{begins_with, behind, id_of, is_keyed, is_priority, is_text};
+use crate::key::{begins_with, behind, id_of, is_keyed, is_priority, is_real_time, is_text};
 use crate::stamp::Stamp;
 
 /// What a line says.
@@ -56,10 +56,10 @@ pub struct LastFields<'a> {
     pub last: &'a [u8],
 }
 
-/// A thread that leaves: its id, and its state as it stands.
+/// A thread that leaves, and its state as it stands.
 #[derive(Clone, Copy)]
 pub struct Leaving<'a> {
-    pub id: u32,
+    pub thread: Thread,
     pub state: &'a [u8],
 }
 
@@ -289,7 +289,10 @@ fn read_leaving<'a>(fields: &LastFields<'a>) -> Option<Leaving<'a>>
         && is_keyed(fields.fourth, "prev_pid=")
     {
         Some(Leaving {
-            id: id_of(fields.fourth, "prev_pid="),
+            thread: Thread {
+                id: id_of(fields.fourth, "prev_pid="),
+                is_real_time: is_real_time(fields.third, "prev_prio="),
+            },
             state: behind(fields.second, "prev_state="),
         })
     } else {
@@ -307,9 +310,9 @@ fn read_switch(fields: &EventFields) -> Option<Change>
     };
     if has_letter(leaving.state) && has_coming(&fields.ends) {
         Some(Change::Switch {
-            from: leaving.id,
+            from: leaving.thread,
             stays: is_running(leaving.state),
-            to: id_of(fields.ends.second, "next_pid="),
+            to: read_coming(&fields.ends),
         })
     } else {
         None
@@ -342,6 +345,17 @@ fn has_coming(ends: &LastFields) -> bool
     ensures { result ≡ is_coming (ends_view ends.now) }
 {
     is_keyed(ends.second, "next_pid=") && is_priority(ends.last, "next_prio=")
+}
+
+/// The thread that comes, where the last two fields are those of one.
+fn read_coming(ends: &LastFields) -> Thread
+    requires { is_coming (ends_view ends.now) ≡ true }
+    ensures { result ≡ coming_of (ends_view ends.now) }
+{
+    Thread {
+        id: id_of(ends.second, "next_pid="),
+        is_real_time: is_real_time(ends.last, "next_prio="),
+    }
 }
 
 /// A wakeup, by its last fields, of which `success` may be missing.

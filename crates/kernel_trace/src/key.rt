@@ -2,12 +2,15 @@
 ghost use Rattle.std.specs.Prelude.{◌≡◌, ◌≤◌, min, true, false, length, MatchOption};
 ghost use Rattle.std.specs.Str.{bytes_eq};
 ghost use Rattle.affinity_mask.specs.Number.{number_value};
-ghost use Rattle.kernel_trace.specs.TraceLine.{begins, after_key, unsigned, is_keyed, is_priority, id_after};
+ghost use Rattle.kernel_trace.specs.TraceLine.{begins, after_key, unsigned, is_keyed, is_priority, is_real_time, id_after};
 
 use crate::digits::is_number_text;
 
 /// What stands for a number that is greater than each thread id.
 const NO_ID: u64 = 4_194_305;
+
+/// The least priority that is not one of real time.
+const FAIR: u64 = 100;
 
 /// Whether a field is this text.
 pub fn is_text(field: &[u8], text: &str) -> bool
@@ -47,6 +50,15 @@ pub fn is_priority(field: &[u8], key: &str) -> bool
     ensures { result ≡ is_priority key.now field.now }
 {
     begins_with(field, key) && is_number_text(unsigned(behind(field, key)))
+}
+
+#[tactic(auto, unfolding(crate::specs::TraceLine::is_real_time))]
+/// Whether the priority of a field with a key is one of real time: below 100, or below zero, as that of SCHED_DEADLINE.
+pub fn is_real_time(field: &[u8], key: &str) -> bool
+    requires { is_priority key.now field.now ≡ true }
+    ensures { result ≡ is_real_time key.now field.now }
+{
+    begins_with(behind(field, key), "-") || number_of(field, key, FAIR) < FAIR
 }
 
 /// What stands after a minus, where there is one.

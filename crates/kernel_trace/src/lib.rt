@@ -24,6 +24,7 @@ mod survey;
 pub mod task_change;
 mod task_stage;
 pub mod task_trace;
+pub mod unlisted;
 
 pub use fault::{TraceFault, TraceKind};
 pub use loss_text::{LossRow, write_losses};

@@ -1,16 +1,16 @@
-//! What a line of a trace says of tasks.
+//! What a line of a trace says of tasks and other threads.
 ghost use Rattle.std.specs.Prelude.{◌≡◌};
 ghost use Rattle.kernel_trace.specs.Passage.{turn_of};
 
 use trace_passages::{Readiness, Turn};
 
-/// What a line says of tasks. A thread that is no task is left out.
+/// What a line says of threads, by their numbers. Those of the tasks come first; a thread without a number is left out.
 #[derive(Clone, Copy)]
 pub enum TaskChange {
     /// The task becomes ready, where it is not.
     Wakeup(Option<u32>),
 
-    /// A processor goes from one task to another one.
+    /// A processor goes from one thread to another one.
     Switch {
         processor: u32,
         from: Option<u32>,

@@ -9,6 +9,7 @@ ghost use Rattle.kernel_trace.specs.Reading.{course_of, IsCourse, IsOutOfMemory}
 ghost use Rattle.kernel_trace.specs.StampView.{time_of};
 ghost use Rattle.kernel_trace.specs.SurveyView.{look_of};
 ghost use Rattle.kernel_trace.specs.TraceLine.{said_by};
+ghost use Rattle.kernel_trace.specs.Unlisted.{with_said};
 ghost use Rattle.kernel_trace.specs.declared.stage.Step.TheVariants as step;
 ghost use Rattle.text_fields.specs.Lines.{fields_of};
 ghost use Rattle.text_fields.specs.Machine.{Leads, Fails};
@@ -22,6 +23,7 @@ use crate::stamp::Stamp;
 use crate::survey::Survey;
 use crate::task_change::TaskChange;
 use crate::task_trace::TaskTrace;
+use crate::unlisted::Unlisted;
 use affinity_mask::OutOfMemory;
 use std::alloc::Global;
 use trace_passages::Passage;
@@ -37,7 +39,10 @@ pub struct TaskStage<'a> {
     /// When the first change was.
     pub start: Option<Stamp<'a>>,
 
+    /// By the numbers that threads have while the text is read.
     pub passages: Vec<Passage>,
+
+    pub unlisted: Unlisted,
 }
 
 impl<'a> TaskStage<'a> {
@@ -51,6 +56,7 @@ impl<'a> TaskStage<'a> {
             stage,
             start: None,
             passages,
+            unlisted: Unlisted::new(alloc),
         })
     }
 
@@ -161,9 +167,23 @@ impl<'a> TaskStage<'a> {
         if self.stage.course.is_unseen(change, &said) {
             return Err(TraceKind::Unseen);
         }
+        if self.tell_apart(change).is_err() {
+            return Err(TraceKind::OutOfMemory);
+        }
         let first = self.stage.course.mark_changing(said.first);
         let second = self.stage.course.mark_changing(said.second);
         self.keep(stamp, told, Mentions { first, second })
+    }
+
+    /// Tells the threads of a used line apart.
+    fn tell_apart(&mut self, change: Change) -> Result<(), OutOfMemory>
+        ensures apart { OnOk result (following_of self.new ≡ record (following_of self.old) {
+          unlisted = with_said (course_of self.old.stage.course).ids (following_of self.old).unlisted
+              change;
+        }) }
+        ensures stage { self.new.stage ≡ self.old.stage }
+    {
+        self.unlisted.tell_apart(&self.stage.course.ids, change)
     }
 
     /// Keeps a used line with its changes, from the first change on.
@@ -220,16 +240,21 @@ impl<'a> TaskStage<'a> {
         let TaskStage {
             stage,
             start,
-            passages,
+            mut passages,
+            unlisted,
         } = self;
         let Stage { step, course } = stage;
         match step {
-            Step::Trace if course.names_task() => Ok(TaskTrace::new(
-                course.set,
-                clock_of(start),
-                passages,
-                course.standings,
-            )),
+            Step::Trace if course.names_task() => {
+                unlisted.settle(&mut passages, course.set.len());
+                Ok(TaskTrace::new(
+                    course.set,
+                    clock_of(start),
+                    passages,
+                    course.standings,
+                    unlisted,
+                ))
+            }
             Step::Trace => Err(TraceKind::NothingSaid),
             _ => Err(TraceKind::NoEvents),
         }

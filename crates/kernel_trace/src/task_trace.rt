@@ -1,5 +1,5 @@
 //! What a trace says of tasks, and its reader.
-ghost use Rattle.std.specs.Prelude.{◌≡◌, ◌⊎◌, ℕ, false, map, slice_index_or, IfOk, IfErr, MatchResult};
+ghost use Rattle.std.specs.Prelude.{◌≡◌, ◌⊎◌, ◌+◌, ◌<◌, ◌≤◌, ℕ, false, length, map, slice_index, slice_index_or, IfOk, IfErr, MatchResult};
 ghost use Rattle.kernel_trace.specs.Passage.{TaskTraceData, nothing_followed, IsTaskTextBy, IsTaskRefusedBy, IsTaskTraceText, IsTaskTraceRefused};
 ghost use Rattle.kernel_trace.specs.Passages.{IsTaskTrace};
 ghost use Rattle.kernel_trace.specs.PassageView.{following_of};
@@ -12,6 +12,7 @@ use crate::fault::{TraceFault, TraceKind};
 use crate::fields::first_line;
 use crate::survey::{Survey, look_over};
 use crate::task_stage::TaskStage;
+use crate::unlisted::Unlisted;
 use std::alloc::Global;
 use std::marker::Model;
 use task_set::TaskSet;
@@ -29,6 +30,9 @@ pub struct TaskTrace {
 
     /// What the last mention of each task says.
     standings: Vec<Standing>,
+
+    /// The threads that are told apart. Their numbers in the passages come after those of the tasks.
+    unlisted: Unlisted,
 }
 
 impl Model for TaskTrace {
@@ -49,12 +53,14 @@ impl TaskTrace {
         clock: Option<u64>,
         passages: Vec<Passage>,
         standings: Vec<Standing>,
+        unlisted: Unlisted,
     ) -> TaskTrace
         ensures { result ≡ record {
           set = set;
           clock = clock;
           passages = passages.items;
           mentioned = map is_mentioned standings.items;
+          unlisted = unlisted;
         } }
     {
         TaskTrace {
@@ -62,6 +68,7 @@ impl TaskTrace {
             clock,
             passages,
             standings,
+            unlisted,
         }
     }
 
@@ -70,6 +77,30 @@ impl TaskTrace {
         ensures { result.now ≡ self.now.set }
     {
         &self.set
+    }
+
+    /// How many threads are told apart that are no tasks.
+    pub fn unlisted(&self) -> u32
+        ensures value { result ≡ length self.now.unlisted }
+        ensures bound { result ≤ 1024 }
+    {
+        self.unlisted.len()
+    }
+
+    /// The id of one of them, in the order in which the lines name them.
+    pub fn unlisted_id(&self, place: u32) -> u32
+        requires { place < length self.now.unlisted }
+        ensures { result ≡ slice_index self.now.unlisted place }
+    {
+        self.unlisted.id(place)
+    }
+
+    /// How many threads have a number: the tasks, and those told apart.
+    pub fn threads(&self) -> u32
+        ensures value { result ≡ length self.now.set.tasks + length self.now.unlisted }
+        ensures bound { result ≤ 2048 }
+    {
+        self.set.len() + self.unlisted.len()
     }
 
     /// When the first change was: its microseconds by the clock of the trace, where they are less than 2^63.
