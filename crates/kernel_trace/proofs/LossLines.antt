@@ -1,11 +1,13 @@
 -- The lines of losses as they are written.
-use Rattle.std.proofs.Common.{◌≡◌, ℕ, List, [], ◌∷◌, ◌++◌, codes, Option, append_assoc}
+use Rattle.std.proofs.Common.{◌≡◌, ℕ, List, [], ◌∷◌, ◌++◌, codes, Option, refl, append_assoc}
 use Rattle.affinity_mask.specs.Number.{canonical_number}
 use Rattle.task_set.specs.TaskSet.{SetData}
 use Rattle.text_fields.specs.EventText.{name_of}
 use Rattle.kernel_trace.specs.StampText.{stamp_text}
-use Rattle.kernel_trace.specs.LossText.{moment_text, rival_text, row_text, told_text, loss_line, loss_lines, span_text, loss_text}
+use Rattle.kernel_trace.specs.LossText.{moment_text, rival_text, row_text, told_text, loss_line, loss_lines, span_text, thread_line}
+use Rattle.kernel_trace.specs.LossText.{thread_lines, end_text, loss_text}
 use Rattle.kernel_trace.specs.declared.loss_text.LossRow.{LossRow}
+use Rattle.kernel_trace.specs.declared.loss_text.ThreadRow.{ThreadRow}
 
 -- ---- a line
 pieces : (old a b c d e f g h i j k l m n : List ℕ)
@@ -38,20 +40,37 @@ line_written set clock t row t0 t1 t2 t3 e1 e2 e3 = rw (e3, e2, e1) (line_pieces
 span_pieces : (old a b c d e : List ℕ) → old ++ a ++ b ++ c ++ d ++ e ≡ old ++ (a ++ b ++ c ++ (d ++ e))
 span_pieces old a b c d e = simp append_assoc
 
-pub span_written : (clock : Option ℕ) (span : ℕ) (t0 t1 t2 t3 t4 : List ℕ) → t1 ≡ t0 ++ codes "lost 2\nspan " ++ canonical_number span
+pub span_written : (clock : Option ℕ) (span : ℕ) (t0 t1 t2 t3 t4 : List ℕ) → t1 ≡ t0 ++ codes "lost 3\nspan " ++ canonical_number span
     → t2 ≡ t1 ++ codes " at " → t3 ≡ t2 ++ stamp_text clock → t4 ≡ t3 ++ 10 ∷ [] → t4 ≡ t0 ++ span_text clock span
 unfolding span_text
 span_written clock span t0 t1 t2 t3 t4 e1 e2 e3 e4 =
-    rw (e4, e3, e2, e1) (span_pieces t0 (codes "lost 2\nspan ") (canonical_number span) (codes " at ") (stamp_text clock) (10 ∷ []))
+    rw (e4, e3, e2, e1) (span_pieces t0 (codes "lost 3\nspan ") (canonical_number span) (codes " at ") (stamp_text clock) (10 ∷ []))
 
-end_pieces : (a b c d e : List ℕ) → [] ++ a ++ b ++ c ++ d ++ (10 ∷ e) ≡ a ++ b ++ c ++ (d ++ 10 ∷ []) ++ e
-end_pieces a b c d e = simp append_assoc
+thread_pieces : (old a b c d e : List ℕ) → old ++ a ++ b ++ c ++ d ++ e ≡ old ++ (a ++ b ++ c ++ (d ++ e))
+thread_pieces old a b c d e = simp append_assoc
 
-pub text_written : (set : SetData) (clock : Option ℕ) (span : ℕ) (rows : List (Option LossRow)) (jumps : ℕ) (t0 t1 t2 t3 t4 : List ℕ)
+pub thread_written : (row : ThreadRow) (t0 t1 t2 t3 : List ℕ) → t1 ≡ t0 ++ codes "thread " ++ canonical_number row.id
+    → t2 ≡ t1 ++ codes " ran " ++ canonical_number row.ran → t3 ≡ t2 ++ 10 ∷ [] → t3 ≡ t0 ++ thread_line row
+unfolding thread_line
+thread_written row t0 t1 t2 t3 e1 e2 e3 =
+    rw (e3, e2, e1) (thread_pieces t0 (codes "thread ") (canonical_number row.id) (codes " ran ") (canonical_number row.ran) (10 ∷ []))
+
+end_pieces : (old a b c d e f g : List ℕ)
+    → old ++ a ++ b ++ c ++ d ++ e ++ f ++ (10 ∷ g) ≡ old ++ (a ++ (b ++ c) ++ d ++ e ++ (f ++ 10 ∷ []) ++ g)
+end_pieces old a b c d e f g = simp append_assoc
+
+pub end_written : (unlisted : ℕ) (threads : List ThreadRow) (jumps : ℕ) (t0 t1 t2 t3 t4 t5 : List ℕ)
+    → t1 ≡ t0 ++ codes "unlisted " ++ canonical_number unlisted → t2 ≡ t1 ++ 10 ∷ [] → t3 ≡ t2 ++ thread_lines threads
+    → t4 ≡ t3 ++ codes "jumps " ++ canonical_number jumps → t5 ≡ t4 ++ codes "\nend\n" → t5 ≡ t0 ++ end_text unlisted threads jumps
+unfolding end_text
+end_written unlisted threads jumps t0 t1 t2 t3 t4 t5 e1 e2 e3 e4 e5 =
+    rw (e5, e4, e3, e2, e1)
+    (end_pieces t0 (codes "unlisted ") (canonical_number unlisted) (10 ∷ []) (thread_lines threads) (codes "jumps ") (canonical_number jumps)
+    (codes "end\n"))
+
+pub text_written : (set : SetData) (clock : Option ℕ) (span : ℕ) (rows : List (Option LossRow)) (unlisted : ℕ)
+    (threads : List ThreadRow) (jumps : ℕ) (t0 t1 t2 t3 : List ℕ)
     → t0 ≡ []
-    → t1 ≡ t0 ++ span_text clock span → t2 ≡ t1 ++ loss_lines set clock 0 rows → t3 ≡ t2 ++ codes "jumps " ++ canonical_number jumps
-    → t4 ≡ t3 ++ codes "\nend\n" → t4 ≡ loss_text set clock span rows jumps
-unfolding loss_text
-text_written set clock span rows jumps t0 t1 t2 t3 t4 e0 e1 e2 e3 e4 =
-    rw (e4, e3, e2, e1, e0)
-    (end_pieces (span_text clock span) (loss_lines set clock 0 rows) (codes "jumps ") (canonical_number jumps) (codes "end\n"))
+    → t1 ≡ t0 ++ span_text clock span → t2 ≡ t1 ++ loss_lines set clock 0 rows → t3 ≡ t2 ++ end_text unlisted threads jumps
+    → t3 ≡ loss_text set clock span rows unlisted threads jumps
+text_written set clock span rows unlisted threads jumps t0 t1 t2 t3 e0 e1 e2 e3 = rw (e3, e2, e1, e0) refl

@@ -2,8 +2,9 @@
 -- and for each task that the trace mentions at how many moments it was ready, ran, and was lost,
 -- and how many of the lost ones stand in a long stretch; the longest stretch of lost moments with
 -- its first one and the clock then, `-` where there is none; and the task that ran then. A task
--- that no line mentions has `-`. Last stands how many switches are from another task than the one
--- that the switch before it on the same processor went to. Lines end with a line feed, fields are
+-- that no line mentions has `-`. After the tasks stand how many other threads are told apart, and
+-- those of them that ran most while a task was lost. Last stands how many switches are from another
+-- thread than the one that the switch before it on the same processor went to. Lines end with a line feed, fields are
 -- separated by one space, and numbers are canonical.
 use Rattle.std.specs.Prelude.{ℕ, ◌+◌, ◌==◌, List, [], ◌∷◌, ◌++◌, codes, Option, Some, None}
 use Rattle.std.specs.Prelude.{if◌then◌else◌}
@@ -13,6 +14,7 @@ use Rattle.text_fields.specs.EventText.{name_of}
 use Rattle.text_fields.specs.LineText.{line}
 use Rattle.kernel_trace.specs.StampText.{stamp_text, clock_after}
 use Rattle.kernel_trace.specs.declared.loss_text.LossRow.{LossRow}
+use Rattle.kernel_trace.specs.declared.loss_text.ThreadRow.{ThreadRow}
 
 -- the first moment of so many, with its clock, by that of moment 0
 abbrev pub moment_text : Option ℕ → ℕ → ℕ → List ℕ
@@ -51,10 +53,27 @@ loss_lines set clock t (row ∷ rest) = loss_line set clock t row ++ loss_lines 
 -- the header and the span
 unfoldable pub span_text : Option ℕ → ℕ → List ℕ
 span_text clock span =
-    codes "lost 2\nspan " ++ canonical_number span ++ codes " at " ++ line (stamp_text clock)
+    codes "lost 3\nspan " ++ canonical_number span ++ codes " at " ++ line (stamp_text clock)
 
--- after them the tasks, the count of switches and the end
-unfoldable pub loss_text : SetData → Option ℕ → ℕ → List (Option LossRow) → ℕ → List ℕ
-loss_text set clock span rows jumps =
-    span_text clock span ++ loss_lines set clock 0 rows ++ codes "jumps "
+-- the line of a thread
+unfoldable pub thread_line : ThreadRow → List ℕ
+thread_line row =
+    codes "thread " ++ canonical_number row.id ++ codes " ran " ++ line (canonical_number row.ran)
+
+-- the lines of some threads
+abbrev pub thread_lines : List ThreadRow → List ℕ
+thread_lines [] = []
+thread_lines (row ∷ rest) = thread_line row ++ thread_lines rest
+
+-- what stands after the tasks: how many threads are told apart, those that are named, the count of
+-- switches, and the end
+unfoldable pub end_text : ℕ → List ThreadRow → ℕ → List ℕ
+end_text unlisted threads jumps =
+    codes "unlisted " ++ line (canonical_number unlisted) ++ thread_lines threads ++ codes "jumps "
     ++ line (canonical_number jumps) ++ codes "end\n"
+
+-- the whole text
+abbrev pub loss_text : SetData → Option ℕ → ℕ → List (Option LossRow) → ℕ → List ThreadRow → ℕ
+    → List ℕ
+loss_text set clock span rows unlisted threads jumps =
+    span_text clock span ++ loss_lines set clock 0 rows ++ end_text unlisted threads jumps

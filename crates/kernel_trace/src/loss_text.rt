@@ -1,7 +1,7 @@
 //! The text of what a kernel did beside the best set.
 ghost use Rattle.std.specs.Prelude.{◌≡◌, ◌<◌, ◌++◌, length, All, IfOk, OnOk, IfSome};
 ghost use Rattle.affinity_mask.specs.Number.{canonical_number};
-ghost use Rattle.kernel_trace.specs.LossText.{moment_text, rival_text, row_text, told_text, loss_line, loss_lines, span_text, loss_text};
+ghost use Rattle.kernel_trace.specs.LossText.{moment_text, rival_text, row_text, told_text, loss_line, loss_lines, span_text, thread_line, thread_lines, end_text, loss_text};
 
 use crate::stamp_text::{write_stamp, write_stamp_after};
 use affinity_mask::OutOfMemory;
@@ -29,27 +29,46 @@ pub struct LossRow {
     pub rival: Option<u32>,
 }
 
+/// What is told of a thread that is no task: at how many moments it ran while a task was lost.
+#[derive(Clone, Copy)]
+pub struct ThreadRow {
+    pub id: u32,
+    pub ran: u64,
+}
+
+/// What stands after the tasks.
+#[derive(Drop)]
+pub struct LossEnd {
+    /// How many threads are told apart that are no tasks.
+    pub unlisted: u32,
+
+    /// Those of them that are named.
+    pub threads: Vec<ThreadRow>,
+
+    /// How many switches are from another thread than the one that the switch before it on the same processor went to.
+    pub jumps: u64,
+}
+
 /// The text of a row for each task of a set, in their order; a task without one is mentioned nowhere. The clock is that of
-/// moment 0, in microseconds, and the jumps are switches from another task than the one that the switch before it on the same
-/// processor went to. Refused only when out of memory.
+/// moment 0, in microseconds. Refused only when out of memory.
 pub fn write_losses(
     alloc: Global,
     set: &TaskSet,
     clock: Option<u64>,
     span: u64,
     rows: &[Option<LossRow>],
-    jumps: u64,
+    end: &LossEnd,
 ) -> Result<Vec<u8>, OutOfMemory>
     requires tasks { length rows.now ≡ length set.now.tasks }
     requires rivals { All (λ row. IfSome row
         (λ row. IfSome row.rival (λ t. t < length set.now.tasks))) rows.now }
-    ensures { IfOk result (λ text. text.items ≡ loss_text set.now clock span rows.now jumps) }
+    ensures { IfOk result (λ text. text.items ≡ loss_text set.now clock span rows.now
+        end.now.unlisted end.now.threads.items end.now.jumps) }
 {
     let mut text = Vec::new(alloc);
     write_span(&mut text, clock, span)?;
     write_rows(&mut text, set, clock, rows)?;
-    write_count(&mut text, b"jumps ", jumps)?;
-    text.extend_from_slice(b"\nend\n")?;
+    write_end(&mut text, end)?;
     Ok(text)
 }
 
@@ -57,7 +76,7 @@ pub fn write_losses(
 fn write_span(text: &mut Vec<u8>, clock: Option<u64>, span: u64) -> Result<(), OutOfMemory>
     ensures { OnOk result (text.new.items ≡ text.old.items ++ span_text clock span) }
 {
-    write_count(text, b"lost 2\nspan ", span)?;
+    write_count(text, b"lost 3\nspan ", span)?;
     text.extend_from_slice(b" at ")?;
     write_stamp(text, clock)?;
     text.push(b'\n')?;
@@ -138,6 +157,39 @@ fn write_row(
     write_moment(text, clock, row.longest, row.first)?;
     text.extend_from_slice(b" while ")?;
     write_rival(text, set, row.rival)?;
+    Ok(())
+}
+
+/// Appends what stands after the tasks.
+fn write_end(text: &mut Vec<u8>, end: &LossEnd) -> Result<(), OutOfMemory>
+    ensures { OnOk result (text.new.items ≡ text.old.items ++ end_text end.now.unlisted end.now.threads.items
+        end.now.jumps) }
+{
+    write_count(text, b"unlisted ", end.unlisted as u64)?;
+    text.push(b'\n')?;
+    write_threads(text, &end.threads)?;
+    write_count(text, b"jumps ", end.jumps)?;
+    text.extend_from_slice(b"\nend\n")?;
+    Ok(())
+}
+
+/// Appends the lines of threads.
+fn write_threads(text: &mut Vec<u8>, rows: &[ThreadRow]) -> Result<(), OutOfMemory>
+    ensures { OnOk result (text.new.items ≡ text.old.items ++ thread_lines rows.now) }
+{
+    for i in 0..rows.len() {
+        write_thread(text, rows[i])?;
+    }
+    Ok(())
+}
+
+/// Appends the line of a thread.
+fn write_thread(text: &mut Vec<u8>, row: ThreadRow) -> Result<(), OutOfMemory>
+    ensures { OnOk result (text.new.items ≡ text.old.items ++ thread_line row) }
+{
+    write_count(text, b"thread ", row.id as u64)?;
+    write_count(text, b" ran ", row.ran)?;
+    text.push(b'\n')?;
     Ok(())
 }
 

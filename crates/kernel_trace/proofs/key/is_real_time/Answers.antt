@@ -13,4 +13,5 @@ digits key field is plain =
 
 pub number_of-requires-clause-keyed : goal.number_of-requires-clause-keyed
 number_of-requires-clause-keyed c =
-    digits c.args.key.now c.args.field.now c.requires (sym c.begins_with.ensures ∙ c.if-begins_with.false)
+    digits c.args.key.now c.args.field.now c.requires
+    (ap (begins (codes "-")) (sym c.behind.ensures) ∙ sym c.begins_with.ensures ∙ c.if-begins_with.false)

@@ -3,6 +3,5 @@ use Rattle.kernel_trace.proofs.loss_text.write_losses.Goals as goal
 
 pub returns : goal.returns
 returns c =
-    text_written c.args.set.now c.args.clock c.args.span c.args.rows.now c.args.jumps _ _ _ _ _ c.new-text.ensures.items
-    c.in_ok-write_span.ensures
-    c.in_ok-write_rows.ensures c.in_ok-write_count.ensures c.in_ok-extend_from_slice.ensures.items
+    text_written c.args.set.now c.args.clock c.args.span c.args.rows.now c.args.end.now.unlisted c.args.end.now.threads.items
+    c.args.end.now.jumps _ _ _ _ c.new-text.ensures.items c.in_ok-write_span.ensures c.in_ok-write_rows.ensures c.in_ok-write_end.ensures
