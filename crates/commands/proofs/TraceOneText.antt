@@ -1,6 +1,7 @@
 -- Bytes are the text of one trace, and what is written of a trace has one text.
-use Rattle.std.proofs.Common.{◌≡◌, ℕ, List, length, map, sym, ap, ◌∙◌, subst}
+use Rattle.std.proofs.Common.{◌≡◌, ℕ, ◌+◌, List, length, map, drop, sym, ap, ◌∙◌, subst}
 use Rattle.kernel_trace.specs.LossText.{loss_text}
+use Rattle.kernel_trace.specs.declared.loss_text.ThreadRow.{ThreadRow}
 use Rattle.kernel_trace.specs.Passage.{TaskTraceData, IsTaskTraceText}
 use Rattle.kernel_trace.specs.Survey.{survey_of}
 use Rattle.kernel_trace.proofs.Followed.{following_machine}
@@ -13,6 +14,8 @@ use Rattle.trace_losses.proofs.OneJobs.{one_jobs}
 use Rattle.trace_losses.proofs.OneLosses.{losses_are_unique, jumps_are_unique}
 use Rattle.commands.specs.ImportJobs.{IsJobListOf, listed, job_text}
 use Rattle.commands.specs.Lost.{IsLossText, told_rows}
+use Rattle.commands.specs.LostThreads.{AreMost, thread_rows}
+use Rattle.commands.proofs.LostThreads.{one_list}
 use Rattle.commands.specs.TraceLaws.{LostTextIsUnique, ImportedJobsTextIsUnique}
 
 one_trace : (bytes : List ℕ) (trace other : TaskTraceData) → IsTaskTraceText bytes trace → IsTaskTraceText bytes other → trace ≡ other
@@ -26,14 +29,24 @@ lost_text_is_unique read put other one two =
     subst (λ (t : TaskTraceData). IsLossText t other) (one_trace read two.trace trace two.is_text one.is_text) two.is_loss in
     let passages = trace.passages in
     let same =
-    losses_are_unique trace.set (length trace.set.tasks) passages told.units also.units told.losses also.losses told.beside also.beside
+    losses_are_unique trace.set (length trace.set.tasks + length trace.unlisted) passages told.units also.units told.losses also.losses told.beside also.beside
     told.valid
     one.is_trace.in_order told.are also.are in
     let jumps = jumps_are_unique passages told.jumps also.jumps told.are_jumps also.are_jumps in
+    let counts : List ℕ → List ThreadRow = λ beside. thread_rows trace.unlisted (drop (length trace.set.tasks) beside) in
+    let threads : told.threads ≡ also.threads =
+    one_list 10 (counts also.beside) told.threads also.threads
+    (subst (λ (beside : List ℕ). AreMost 10 (counts beside) told.threads) same.2 told.are_most) also.are_most in
+    let count = length trace.unlisted in
     told.text
-    ∙ ap (λ (units : ℕ). loss_text trace.set trace.clock units (told_rows trace.mentioned 0 told.losses) told.jumps) same.0
-    ∙ ap (λ (losses : List Loss). loss_text trace.set trace.clock also.units (told_rows trace.mentioned 0 losses) told.jumps) same.1
-    ∙ ap (loss_text trace.set trace.clock also.units (told_rows trace.mentioned 0 also.losses)) jumps
+    ∙ ap (λ (units : ℕ). loss_text trace.set trace.clock units (told_rows trace.mentioned 0 told.losses) count told.threads told.jumps)
+    same.0
+    ∙ ap (λ (losses : List Loss).
+    loss_text trace.set trace.clock also.units (told_rows trace.mentioned 0 losses) count told.threads told.jumps)
+    same.1
+    ∙ ap (λ (named : List ThreadRow).
+    loss_text trace.set trace.clock also.units (told_rows trace.mentioned 0 also.losses) count named told.jumps) threads
+    ∙ ap (loss_text trace.set trace.clock also.units (told_rows trace.mentioned 0 also.losses) count also.threads) jumps
     ∙ sym also.text
 
 pub imported_jobs_text_is_unique : ImportedJobsTextIsUnique

@@ -40,14 +40,14 @@ pub fn imported_jobs_text(alloc: Global, bytes: &[u8]) -> Result<Vec<u8>, Status
 
 /// The jobs of a trace.
 fn found_in(alloc: Global, trace: &TaskTrace) -> Result<TraceJobs, OutOfMemory>
-    requires { ArePassages (length trace.now.set.tasks) (length trace.now.set.tasks) trace.now.passages }
+    requires { ArePassages (length trace.now.set.tasks)
+        (length trace.now.set.tasks + length trace.now.unlisted) trace.now.passages }
     ensures span { IfOk result (λ found. found.span ≡ moments_of trace.now) }
     ensures jobs { IfOk result (λ found. AreJobsIn trace.now found.jobs.items) }
     ensures within { IfOk result (λ found. All (IsJobWithin (length trace.now.set.tasks)
         (moments_of trace.now)) found.jobs.items) }
 {
-    let threads = trace.set().len();
-    jobs_of(alloc, trace.set(), threads, trace.passages())
+    jobs_of(alloc, trace.set(), trace.threads(), trace.passages())
 }
 
 /// The number of the kind with which these jobs are refused, if an input cannot have them.

@@ -1,13 +1,14 @@
 //! From the bytes of a trace of the Linux scheduler to what its tasks lost.
-ghost use Rattle.std.specs.Prelude.{◌≡◌, ◌<◌, ◌^◌, length, IfOk, IfSome};
+ghost use Rattle.std.specs.Prelude.{◌≡◌, ◌+◌, ◌<◌, ◌^◌, length, IfOk, IfSome};
 ghost use Rattle.trace_passages.specs.Passages.{ArePassages};
 ghost use Rattle.commands.specs.Answers.{Answers};
 ghost use Rattle.commands.specs.Lost.{loss_row, told_row, told_rows, AreNumbered, IsLossText, IsLossOf, AcceptsTaskTrace, RefusesTaskTrace};
 
 use crate::import::status_of;
+use crate::lost_threads::lost_threads;
 use crate::status::Status;
 use affinity_mask::OutOfMemory;
-use kernel_trace::{LossRow, TaskTrace, read_task_trace, write_losses};
+use kernel_trace::{LossEnd, LossRow, TaskTrace, read_task_trace, write_losses};
 use std::alloc::{AllocError, Global};
 use trace_losses::{Loss, losses_of};
 
@@ -26,20 +27,18 @@ pub fn lost_text(alloc: Global, bytes: &[u8]) -> Result<Vec<u8>, Status>
 
 /// The text of what each task of a trace lost.
 fn text_of(alloc: Global, trace: &TaskTrace) -> Result<Vec<u8>, OutOfMemory>
-    requires { ArePassages (length trace.now.set.tasks) (length trace.now.set.tasks) trace.now.passages }
+    requires { ArePassages (length trace.now.set.tasks)
+        (length trace.now.set.tasks + length trace.now.unlisted) trace.now.passages }
     ensures { IfOk result (λ text. IsLossText trace.now text.items) }
 {
-    let threads = trace.set().len();
-    let found = losses_of(alloc, trace.set(), threads, trace.passages())?;
+    let found = losses_of(alloc, trace.set(), trace.threads(), trace.passages())?;
     let rows = rows_of(alloc, trace, &found.losses)?;
-    write_losses(
-        alloc,
-        trace.set(),
-        trace.clock(),
-        found.span,
-        &rows,
-        found.jumps,
-    )
+    let end = LossEnd {
+        unlisted: trace.unlisted(),
+        threads: lost_threads(alloc, trace, &found.beside)?,
+        jumps: found.jumps,
+    };
+    write_losses(alloc, trace.set(), trace.clock(), found.span, &rows, &end)
 }
 
 /// What is told of each task: a row, by what it lost, where the trace mentions it.

@@ -1,5 +1,5 @@
 -- Passages as they are read, and with the numbers that threads have at the end.
-use Rattle.std.proofs.Common.{◌≡◌, ℕ, ◌+◌, ◌-◌, ◌<◌, Bool, true, false, nat_lt, nat_eq, List, length, Option, None, Some, refl, sym, ap}
+use Rattle.std.proofs.Common.{◌≡◌, ℕ, ◌+◌, ◌-◌, ◌<◌, Bool, true, false, nat_lt, nat_eq, List, length, Option, None, Some, refl, sym}
 use Rattle.std.proofs.Common.{subst, arith, ltb-true}
 use Rattle.std.specs.Prelude.{All, map, position, if◌then◌else◌}
 use Rattle.std.specs.Option.{ForSome, option_map, option_and_then}

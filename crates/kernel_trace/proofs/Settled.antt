@@ -1,9 +1,9 @@
 -- The threads that are told apart, and the numbers that threads have at the end, from those that they have while a text is read.
 use Rattle.std.proofs.Common.{◌≡◌, ℕ, suc, ◌+◌, ◌-◌, ◌<◌, ◌≤◌, Bool, true, false, not, ◌&&◌, nat_lt, nat_eq, List, [], ◌∷◌, ◌++◌, length}
-use Rattle.std.proofs.Common.{Option, None, Some, refl, sym, ap, ◌∙◌, subst, arith, inl, inr, ltb-true, length-append}
+use Rattle.std.proofs.Common.{Option, None, Some, refl, sym, ap, ◌∙◌, arith, inl, inr, ltb-true, length-append}
 use Rattle.std.specs.Prelude.{All, map, fold, nat_le, position, if◌then◌else◌}
 use Rattle.std.specs.List.{position_or_len}
-use Rattle.std.specs.Option.{option_map, option_and_then, ForSome}
+use Rattle.std.specs.Option.{option_map, option_and_then}
 use Rattle.std.proofs.lemmas.Bool.{lt-ltb, le-ltb, le-leb, leb-true, ne_eqb, cases_lt, true≢false}
 use Rattle.std.proofs.lemmas.List.{map-append}
 use Rattle.std.proofs.lemmas.List.Elements.{All-nil, All-push, All-head, All-tail}
@@ -11,8 +11,8 @@ use Rattle.text_fields.specs.Lines.{fields_of}
 use Rattle.text_fields.proofs.Words.{and_left, and_right}
 use Rattle.kernel_trace.specs.Course.{WindowData, is_in_window}
 use Rattle.kernel_trace.specs.Import.{mentions_said}
-use Rattle.kernel_trace.specs.Passage.{task_of, task_change, turn_of}
-use Rattle.kernel_trace.specs.Passages.{UsedLine, used_told, used_said, used_lines, turns, from_turn, first_use, unlisted_of, unlisted_in}
+use Rattle.kernel_trace.specs.Passage.{task_change, turn_of}
+use Rattle.kernel_trace.specs.Passages.{UsedLine, used_told, used_said, used_lines, turns, from_turn, first_use, unlisted_of}
 use Rattle.kernel_trace.specs.Passages.{passage_since, passages_since, passages_in}
 use Rattle.kernel_trace.specs.Processor.{processor_of}
 use Rattle.kernel_trace.specs.TraceLine.{Said as SaidData, Nothing, LostEvents, Malformed, Happened, said_by}
@@ -26,7 +26,6 @@ use Rattle.kernel_trace.specs.declared.task_change.TaskChange.TheVariants as tas
 use Rattle.trace_passages.specs.declared.passage.Passage.{Passage}
 use Rattle.trace_passages.specs.declared.passage.Readiness.{Readiness}
 use Rattle.trace_passages.specs.declared.turn.Turn.{Turn}
-use Rattle.trace_passages.specs.declared.turn.Turn.TheVariants as turn
 use Rattle.kernel_trace.proofs.Positions.{position_later, position_some}
 
 -- ---- what holds of those told apart

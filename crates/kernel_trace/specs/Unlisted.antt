@@ -4,7 +4,7 @@
 -- named. Which of them are is known at the end alone: while a text is read, a thread that is no task
 -- has its id after the tasks for a number.
 use Rattle.std.specs.Prelude.{ℕ, ◌+◌, ◌-◌, Bool, not, ◌&&◌, nat_eq, nat_lt, nat_le, List, [], ◌∷◌}
-use Rattle.std.specs.Prelude.{◌++◌, length, map, position, Option, None, Some, if◌then◌else◌}
+use Rattle.std.specs.Prelude.{◌++◌, length, position, Option, None, Some, if◌then◌else◌}
 use Rattle.std.specs.List.{list_any}
 use Rattle.std.specs.Option.{option_map, option_and_then}
 use Rattle.kernel_trace.specs.declared.change.Change.{Change}
