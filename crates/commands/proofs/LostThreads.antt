@@ -131,3 +131,12 @@ pub none_named : (done : ℕ) (rows : List ThreadRow) → done < 10 → NoneRan 
 none_named done rows below none =
     let left : 10 - done ≡ suc (10 - (done + 1)) = omega (arith, below) in
     subst (λ (n : ℕ). AreMost n rows []) (sym left) none
+
+pub all_named : (done : ℕ) (rows : List ThreadRow) → 10 ≤ done → AreMost (10 - done) rows []
+all_named done rows most =
+    let none : 10 - done ≡ 0 = omega (arith, most) in
+    subst (λ (n : ℕ). AreMost n rows []) (sym none) tt
+
+-- what stands for a row where there is none
+abbrev pub no_row : ThreadRow
+no_row = record { id = 0; ran = 0 }

@@ -31,7 +31,9 @@ fn text_of(alloc: Global, trace: &TaskTrace) -> Result<Vec<u8>, OutOfMemory>
         (length trace.now.set.tasks + length trace.now.unlisted) trace.now.passages }
     ensures { IfOk result (λ text. IsLossText trace.now text.items) }
 {
-    let found = losses_of(alloc, trace.set(), trace.threads(), trace.passages())?;
+    let tasks = trace.set().len();
+    let threads = tasks + trace.unlisted();
+    let found = losses_of(alloc, trace.set(), threads, trace.passages())?;
     let rows = rows_of(alloc, trace, &found.losses)?;
     let end = LossEnd {
         unlisted: trace.unlisted(),

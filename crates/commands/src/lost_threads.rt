@@ -42,7 +42,7 @@ fn rows_of(alloc: Global, trace: &TaskTrace, beside: &[u64]) -> Result<Vec<Threa
 
 /// The rows of those that ran most, the first one first.
 fn most_of(alloc: Global, rows: Vec<ThreadRow>) -> Result<Vec<ThreadRow>, AllocError>
-    ensures { IfOk result (λ named. AreMost 10 rows.entry.items named.items) }
+    ensures { IfOk result (λ named. AreMost 10 rows.items named.items) }
 {
     let mut left = rows;
     let mut named = Vec::new(alloc);
