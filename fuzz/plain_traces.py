@@ -12,6 +12,7 @@ from plain_texts import Fault, Text, listed, number
 from texts import MOST_EVENTS, canonical_list
 
 MOST_TRACE_BYTES = 268435456
+MOST_UNLISTED = 1024
 STAMP = re.compile(rb'([0-9]+)\.([0-9]{1,9})')
 WORDS = {b'sched_switch:': 'switch', b'sched_wakeup:': 'wakeup', b'sched_wakeup_new:': 'wakeup'}
 OVERWRITTEN = [b'#', b'entries-in-buffer/entries-written:']
@@ -36,6 +37,12 @@ def keyed(field, key):
     return value(found[1]) if found else None
 
 
+def is_real_time(field):
+    """Whether a field `key=priority` says one below 100, or one with a minus."""
+    digits = field.split(b'=')[1]
+    return digits.startswith(b'-') or value(digits) < 100
+
+
 def fields_of(line):
     return [field for field in re.split(b'[ \t]+', line) if field]
 
@@ -51,9 +58,16 @@ class Trace(Text):
         # When the last line of the scheduler was, and the used lines: time, processor, ids, and the mentions of tasks.
         self.last, self.used = None, []
         self.mentioned = {}
+        # The ids of the threads that are told apart, in the order in which the used lines name them.
+        self.unlisted = []
 
     def task_of(self, thread):
         return self.ids.index(thread) if thread in self.ids else None
+
+    def tell_apart(self, thread):
+        is_one = 0 < thread <= 4194304 and thread not in self.ids and thread not in self.unlisted
+        if is_one and len(self.unlisted) < MOST_UNLISTED:
+            self.unlisted.append(thread)
 
 
 def lines_of(data):
@@ -163,14 +177,14 @@ def event_of(words, fields):
 
 
 def change_of(word, fields):
-    """The threads that a switch or a wakeup names, with whether they are in; None where it has not its form."""
+    """The threads that a switch or a wakeup names, with whether they are in and of real time; None where it has not its form."""
     if word == 'wakeup':
         ends = fields[1:]
         if len(ends) > 3 and ends[-2].startswith(b'success=') and keyed(ends[-2], b'success') is not None:
             ends = ends[:-2] + ends[-1:]
         found = [keyed(field, key) for field, key in zip(ends[-3:], (b'pid', b'prio', b'target_cpu'))]
         is_form = fields and fields[0].startswith(b'comm=') and len(found) == 3 and None not in found
-        return [(found[0], True)] if is_form else None
+        return [(found[0], True, False)] if is_form else None
     if not fields or not fields[0].startswith(b'prev_comm=') or len(fields) < 3:
         return None
     to, level = keyed(fields[-2], b'next_pid'), keyed(fields[-1], b'next_prio')
@@ -180,7 +194,9 @@ def change_of(word, fields):
         if leaves is not None and keyed(fields[at + 1], b'prev_prio') is not None and is_state and fields[at + 3] == b'==>':
             # The first such place counts, whatever its state is.
             state = re.match(rb'prev_state=([A-Za-z])', fields[at + 2])
-            return None if to is None or level is None or not state else [(leaves, state[1] == b'R'), (to, True)]
+            if to is None or level is None or not state:
+                return None
+            return [(leaves, state[1] == b'R', is_real_time(fields[at + 1])), (to, True, is_real_time(fields[-1]))]
     return None
 
 
@@ -214,20 +230,25 @@ def trace_kind(trace, events, fields):
 
 
 def used_kind(trace, events, time, processor, change):
-    mentions = [(trace.task_of(thread), is_in) for thread, is_in in change]
+    mentions = [(trace.task_of(thread), is_in) for thread, is_in, _is_real_time in change]
     ready = dict(trace.mentioned)
     for task, is_in in mentions:
         # A switch has two mentions, and none of them makes a task ready.
         if task is not None and len(mentions) == 2 and ready.get(task) is False:
             return 21
         ready[task] = is_in
+    for thread, _is_in, is_high in change:
+        if is_high:
+            trace.tell_apart(thread)
     changed = []
     for task, is_in in mentions:
         if task is not None:
             if bool(trace.mentioned.get(task)) != is_in:
                 changed.append((task, is_in))
             trace.mentioned[task] = is_in
-    return events.take(time // 1000, processor, [task for task, _is_in in mentions], changed)
+    # A wakeup of a thread that is no task says nothing of who runs.
+    threads = [thread for thread, _is_in, _is_real_time in change]
+    return events.take(time // 1000, processor, [task for task, _is_in in mentions], threads, changed)
 
 
 class Events:
@@ -236,8 +257,10 @@ class Events:
     def __init__(self, is_lost):
         self.is_lost = is_lost
         self.lines, self.first, self.count, self.clock = [], None, 0, None
+        # The same lines by thread ids, for who is no task.
+        self.switches = []
 
-    def take(self, microsecond, processor, tasks, changed):
+    def take(self, microsecond, processor, tasks, threads, changed):
         """Takes a used line, or gives the kind of its fault."""
         if self.first is None and changed:
             self.first = self.clock = microsecond
@@ -247,6 +270,7 @@ class Events:
         if self.is_lost and moment >= 1 << 63:
             return 10
         self.lines.append((moment, processor, tasks, changed))
+        self.switches.append((moment, processor, threads))
         if not self.is_lost:
             passed = -(-(microsecond - self.clock) // 1000000)
             if changed:
@@ -360,14 +384,44 @@ def long_moments(stretch):
     return stretch[0] if stretch[0] > 50 else 0
 
 
-def jumps_of(events):
-    """How many switches of a processor are not from the task that its last switch before went to."""
+def jumps_of(trace, events):
+    """How many switches of a processor are not from the thread that its last switch before went to; those not told apart are one."""
     count, last = 0, {}
-    for _moment, processor, tasks, _changed in events.lines:
+    for _moment, processor, threads in events.switches:
         if processor is not None:
-            count += processor in last and last[processor] != tasks[0]
-            last[processor] = tasks[1]
+            leaves, comes = [thread if thread in trace.ids + trace.unlisted else None for thread in threads]
+            count += processor in last and last[processor] != leaves
+            last[processor] = comes
     return count
+
+
+def runs_unlisted(events, at, thread):
+    """Whether a thread that is no task runs somewhere between the line before `at` and that one: each switch of it says where, and a
+    switch of that processor to or from others says that it is not there."""
+    switches = [(processor, threads) for _moment, processor, threads in events.switches]
+    for of in {processor for processor, _threads in switches if processor is not None}:
+        about = [(here, threads) for here, threads in switches[at:] if here is not None and (here == of or thread in threads)]
+        if about:
+            if about[0][0] == of and about[0][1][0] == thread:
+                return True
+            continue
+        about = [(here, threads) for here, threads in switches if here is not None and (here == of or thread in threads)]
+        if about and about[-1][0] == of and about[-1][1][1] == thread:
+            return True
+    return False
+
+
+def beside_of(trace, events):
+    """Of each thread that is told apart, at how many moments it ran while a task was lost."""
+    found = dict.fromkeys(trace.unlisted, 0)
+    places = {}
+    for at, (moment, _processor, _tasks, _changed) in enumerate(events.lines):
+        places[moment] = at + 1
+    for first, units, _ready, best, running in stretches(trace, events):
+        if best - running:
+            for thread in found:
+                found[thread] += units * runs_unlisted(events, places[first], thread)
+    return found
 
 
 def stamp_at(events, moment):
@@ -384,7 +438,7 @@ def answer_to_lost(data):
         trace, events = read_trace(data, True)
     except Fault as fault:
         return 3, b'', (fault.line, fault.kind)
-    lines = ['lost 2', f'span {events.span()} at {stamp_at(events, 0)}']
+    lines = ['lost 3', f'span {events.span()} at {stamp_at(events, 0)}']
     for task, (ready, ran, lost, (count, first, rivals), over) in enumerate(losses_of(trace, events)):
         name = trace.names[task].decode()
         if task not in trace.mentioned:
@@ -393,7 +447,11 @@ def answer_to_lost(data):
         most = max(rivals, key=lambda t: (rivals[t], trace.tasks[t][0])) if rivals else None
         lines.append(f'{name} ready {ready} ran {ran} lost {lost} over {over} longest {count} at {"-" if first is None else first} '
                      f'{stamp_at(events, first)} while {"nobody" if most is None else trace.names[most].decode()}')
-    return 0, '\n'.join([*lines, f'jumps {jumps_of(events)}', 'end', '']).encode(), None
+    beside = beside_of(trace, events)
+    lines.append(f'unlisted {len(beside)}')
+    most = sorted((thread for thread in beside if beside[thread]), key=lambda thread: (-beside[thread], thread))
+    lines += [f'thread {thread} ran {beside[thread]}' for thread in most[:10]]
+    return 0, '\n'.join([*lines, f'jumps {jumps_of(trace, events)}', 'end', '']).encode(), None
 
 
 # `importjobs`.
