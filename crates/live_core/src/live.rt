@@ -1,5 +1,5 @@
 //! The scheduler without a history.
-ghost use Rattle.std.specs.Prelude.{◌≡◌, ◌≢◌, ◌<◌, ◌≤◌, ℕ, List, Option, Some, None, [], true, false, length, replicate, IsTrue, IfOk, IfErr, OnOk, OnErr};
+ghost use Rattle.std.specs.Prelude.{◌≡◌, ◌≢◌, ◌<◌, ◌≤◌, ◌↔◌, ℕ, List, Option, Some, None, [], true, false, length, replicate, IsTrue, IfOk, IfErr, OnOk, OnErr};
 ghost use Rattle.task_set.specs.TaskSet.{IsMask};
 ghost use Rattle.strong_apa.specs.State.{IsState, start_of, is_ready, task_count, priority_of};
 ghost use Rattle.link_table.specs.Priorities.{IsFreeFor};
@@ -7,7 +7,7 @@ ghost use Rattle.strong_apa.specs.Step.{IsEventFor, SchedulerStep};
 ghost use Rattle.strong_apa.specs.Certified.{HasCertificates};
 ghost use Rattle.strong_apa.specs.Improving.{HasNoImprovingChain};
 ghost use Rattle.strong_apa.specs.CertificateLaws.{LinkedIsBest, LinkedIsLargest, LinkedIsAsUrgent};
-ghost use Rattle.live_core.specs.Lost.{FindsLost, HelpsLost, HelpsTask, HelpsNobody, AreHolders, state_held, data_with_seen};
+ghost use Rattle.live_core.specs.Lost.{FindsLost, HelpsLost, HelpsOne, HelpsTask, HelpsNobody, AreHolders, state_held, data_with_seen};
 ghost use Rattle.live_core.specs.Moves.{MovesLead};
 ghost use Rattle.live_core.specs.Needed.{AreNeeded};
 ghost use Rattle.live_core.specs.Optimal.{IsOptimal};
@@ -248,6 +248,32 @@ impl LiveCore {
         }
     }
 
+    /// Helps this task, if it is lost, and answers whether it is: the moves are as those of `help`, and there are none where it is
+    /// not lost.
+    pub fn help_one(&mut self, t: u32) -> bool
+        requires { t < task_count self.old.links }
+        ensures { HelpsOne self.old t result self.new }
+    {
+        let _first = self.lost();
+        if self.is_lost(t) {
+            self.help_task(t);
+            true
+        } else {
+            self.moves.clear();
+            false
+        }
+    }
+
+    /// Whether a task is linked and holds no processor, where the holders are known.
+    fn is_lost(&self, t: u32) -> bool
+        requires number { t < task_count self.now.links }
+        requires known { (on : List (Option ℕ)) × (self.now.holders ≡ Some on) }
+        ensures { (on : List (Option ℕ)) → self.now.holders ≡ Some on
+            → IsTrue result ↔ IsLost self.now.links (state_held self.now.links on) t }
+    {
+        self.links.of(t).is_some() && self.seen.holds_none(t)
+    }
+
     /// Helps a lost task.
     fn help_task(&mut self, t: u32)
         requires { (on : List (Option ℕ)) × (self.old.holders ≡ Some on)
@@ -280,7 +306,9 @@ impl LiveCore {
     pub fn links(&self) -> &Links
         ensures value { result.now ≡ self.now.links }
         ensures valid { IsState self.now.links }
+        ensures seen { length self.now.seen ≡ task_count self.now.links }
     {
+        let _count = self.seen.len();
         &self.links
     }
 

@@ -144,6 +144,22 @@ impl SeenPlacement {
         most_urgent_lost(links, &self.table)
     }
 
+    /// How many tasks there are.
+    pub(crate) fn len(&self) -> usize
+        ensures value { result ≡ length self.now.seen }
+        ensures tasks { length self.now.seen ≡ task_count self.now.table }
+    {
+        self.seen.len()
+    }
+
+    /// Whether a task holds no processor.
+    pub(crate) fn holds_none(&self, t: u32) -> bool
+        requires { t < task_count self.now.table }
+        ensures { IsTrue result ↔ (is_linked self.now.table t ≡ false) }
+    {
+        self.table.of(t).is_none()
+    }
+
     /// A lost task gets a processor along a shortest chain, which is answered. The task goes on the first processor, and the
     /// holder of each processor on the next one; nobody is linked and seen on the last.
     pub(crate) fn help(&mut self, links: &Links, t: u32, moves: &mut MoveList) -> Chain

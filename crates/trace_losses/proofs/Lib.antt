@@ -4,6 +4,7 @@ pub mod BackOne
 pub mod Besides
 pub mod Books
 pub mod Counts
+pub mod HelpedAt
 pub mod InUse
 pub mod JobsWithin
 pub mod LastSwitches

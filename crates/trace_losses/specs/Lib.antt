@@ -2,6 +2,7 @@ pub mod Ahead
 pub mod Beside
 pub mod Book
 pub mod Counts
+pub mod Help
 pub mod Jobs
 pub mod Jumps
 pub mod Laws
