@@ -1,13 +1,13 @@
 -- Who is lost and what helps, as contracts of the scheduler say it.
 use Rattle.std.proofs.Common.{◌≡◌, ℕ, zero, suc, ◌<◌, Bool, true, false, List, [], ◌∷◌, length, get_or, Option, Some, None, refl, sym, ap}
 use Rattle.std.proofs.Common.{◌∙◌, subst, inl, inr, arith}
-use Rattle.std.specs.Prelude.{MatchOption, IfNone, IsTrue, ◌↔◌, if◌then◌else◌}
+use Rattle.std.specs.Prelude.{MatchOption, IfNone, ◌↔◌, if◌then◌else◌}
 use Rattle.std.proofs.lemmas.Bool.{cases_Bool, false≢true}
 use Rattle.std.proofs.lemmas.Option.{same_Some}
 use Rattle.strong_apa.specs.declared.reply.Reply.{Reply}
 use Rattle.strong_apa.specs.State.{State, HasSameTasks, task_on}
 use Rattle.live_core.specs.Live.{LiveData}
-use Rattle.live_core.specs.Lost.{FindsLost, HelpsLost, HelpsOne, HelpsTask, AreHoldersAfter, settled_data, state_held}
+use Rattle.live_core.specs.Lost.{FindsLost, HelpsLost, HelpsTask, AreHoldersAfter, settled_data, state_held}
 use Rattle.live_core.specs.Seen.{SeenData, IsTable, RunsOn, IsLost, IsNobodyLost, IsMostUrgentLost, AreAllApart, RunsJustLinked, EndsWithin}
 use Rattle.live_core.specs.Seen.{Helps}
 use Rattle.live_core.specs.declared.moves.Move.{Move}
@@ -128,37 +128,9 @@ nobody_helped old mid new f same = record {
   helps = same ∙ ap (λ (x : LiveData). record x { moves = [] }) f.rest;
 }
 
--- whether t is lost, where the holders are known
-abbrev pub TellsLost : LiveData → ℕ → Bool → Type 0
-TellsLost d t answer = (on : List (Option ℕ)) → d.holders ≡ Some on → IsTrue answer ↔ IsLost d.links (state_held d.links on) t
-
--- of a task that is asked for: it is lost by holders that are known then, and is helped, or it is not, and nobody is
-module _ (old mid : LiveData) (found : Option ℕ) (t : ℕ) (f : FindsLost old found mid) where
-  pub holders_known : mid.holders ≡ Some f.on
-  holders_known = ap (λ (x : LiveData). x.holders) f.rest
-
-  told : (answer : Bool) → TellsLost mid t answer → IsTrue answer ↔ IsLost old.links (state_held old.links f.on) t
-  told answer tells =
-      subst (λ (x : LiveData). IsTrue answer ↔ IsLost x.links (state_held x.links f.on) t) f.rest (tells f.on holders_known)
-
-  pub one_helped : (new : LiveData) → TellsLost mid t true → ((on : List (Option ℕ)) → mid.holders ≡ Some on → HelpsTask mid on t new)
-      → HelpsOne old t true new
-  one_helped new tells task =
-      let h = subst (λ (x : LiveData). HelpsTask x f.on t new) f.rest (task f.on holders_known) in
-      record {
-        on = f.on;
-        holders = f.holders;
-        which = told true tells;
-        helps = record { chain = h.chain; on_then = h.on_then; helps = h.helps; rest = h.rest };
-      }
-
-  pub one_not_helped : (new : LiveData) → TellsLost mid t false → new ≡ record mid { moves = [] } → HelpsOne old t false new
-  one_not_helped new tells same = record {
-    on = f.on;
-    holders = f.holders;
-    which = told false tells;
-    helps = same ∙ ap (λ (x : LiveData). record x { moves = [] }) f.rest;
-  }
+-- the holders are known once it is found who is lost
+pub holders_known : (old mid : LiveData) (found : Option ℕ) (f : FindsLost old found mid) → mid.holders ≡ Some f.on
+holders_known old mid found f = ap (λ (x : LiveData). x.holders) f.rest
 
 -- what is found is lost, by holders that are known then
 pub found_is_lost : (old mid : LiveData) (t : ℕ) → FindsLost old (Some t) mid → (on : List (Option ℕ)) × (mid.holders ≡ Some on)

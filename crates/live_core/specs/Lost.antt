@@ -1,7 +1,8 @@
 -- Who of the linked tasks is lost where another scheduler has the tasks, and what helps.
-use Rattle.std.specs.Prelude.{◌≡◌, ℕ, Bool, true, false, List, [], Option, Some, None, ◌↔◌, MatchOption}
-use Rattle.std.specs.Prelude.{IfNone, IsTrue, set}
+use Rattle.std.specs.Prelude.{◌≡◌, ℕ, true, List, [], Option, Some, None, ◌↔◌, MatchOption, IfNone}
+use Rattle.std.specs.Prelude.{set}
 use Rattle.strong_apa.specs.State.{State, task_on}
+use Rattle.strong_apa.specs.Chain.{IsLeastSuch, EndsIdle}
 use Rattle.live_core.specs.Live.{LiveData}
 use Rattle.live_core.specs.Seen.{SeenData, IsTable, RunsOn, IsLost, IsNobodyLost, IsMostUrgentLost}
 use Rattle.live_core.specs.Seen.{AreAllApart, RunsJustLinked, Helps, EndsWithin}
@@ -61,17 +62,19 @@ pub record HelpsLost (old : LiveData) (found : Option ℕ) (new : LiveData) : Ty
   pub finds : FindsLost old found (record old { holders = Some on })
   pub helps : MatchOption found (HelpsNobody old on new) (λ t. HelpsTask old on t new)
 
--- t is helped, or nobody is
-abbrev pub HelpsIf : Bool → LiveData → List (Option ℕ) → ℕ → LiveData → Type 0
-HelpsIf true old on t new = HelpsTask old on t new
-HelpsIf false old on t new = HelpsNobody old on new
+-- t is lost where the processors have these holders, and the chain is the least one of t to a
+-- processor that nobody holds
+abbrev pub IsChainFor : LiveData → List (Option ℕ) → ℕ → List ℕ → Type 0
+IsChainFor d on t chain = IsLost d.links (state_held d.links on) t
+    × IsLeastSuch (EndsIdle (state_held d.links on) t) chain
 
--- t is helped, if it is lost
-pub record HelpsOne (old : LiveData) (t : ℕ) (is_lost : Bool) (new : LiveData) : Type 0 where
+-- the chain that would help t is found, if t is lost, and all else stays
+pub record FindsChain (old : LiveData) (t : ℕ) (found : Option (List ℕ)) (new : LiveData) : Type 0 where
   pub on : List (Option ℕ)
   pub holders : AreHolders old on
-  pub which : IsTrue is_lost ↔ IsLost old.links (state_held old.links on) t
-  pub helps : HelpsIf is_lost old on t new
+  pub rest : new ≡ record old { holders = Some on }
+  pub chain : MatchOption found (IsLost old.links (state_held old.links on) t → ⊥)
+      (IsChainFor old on t)
 
 -- a task is seen on a processor, or nowhere, and all else stays
 abbrev pub data_with_seen : LiveData → ℕ → Option ℕ → LiveData

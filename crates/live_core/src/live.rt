@@ -1,13 +1,13 @@
 //! The scheduler without a history.
 ghost use Rattle.std.specs.Prelude.{◌≡◌, ◌≢◌, ◌<◌, ◌≤◌, ◌↔◌, ℕ, List, Option, Some, None, [], true, false, length, replicate, IsTrue, IfOk, IfErr, OnOk, OnErr};
 ghost use Rattle.task_set.specs.TaskSet.{IsMask};
-ghost use Rattle.strong_apa.specs.State.{IsState, start_of, is_ready, task_count, priority_of};
+ghost use Rattle.strong_apa.specs.State.{IsState, start_of, is_ready, task_count, task_on, priority_of};
 ghost use Rattle.link_table.specs.Priorities.{IsFreeFor};
 ghost use Rattle.strong_apa.specs.Step.{IsEventFor, SchedulerStep};
 ghost use Rattle.strong_apa.specs.Certified.{HasCertificates};
 ghost use Rattle.strong_apa.specs.Improving.{HasNoImprovingChain};
 ghost use Rattle.strong_apa.specs.CertificateLaws.{LinkedIsBest, LinkedIsLargest, LinkedIsAsUrgent};
-ghost use Rattle.live_core.specs.Lost.{FindsLost, HelpsLost, HelpsOne, HelpsTask, HelpsNobody, AreHolders, state_held, data_with_seen};
+ghost use Rattle.live_core.specs.Lost.{FindsLost, FindsChain, HelpsLost, HelpsTask, HelpsNobody, AreHolders, state_held, data_with_seen};
 ghost use Rattle.live_core.specs.Moves.{MovesLead};
 ghost use Rattle.live_core.specs.Needed.{AreNeeded};
 ghost use Rattle.live_core.specs.Optimal.{IsOptimal};
@@ -18,7 +18,7 @@ use crate::moves::{Move, MoveList};
 use crate::seen::SeenPlacement;
 use crate::slots::{SlotFault, first_free, slots_in_use};
 use affinity_mask::{OutOfMemory, ProcSet};
-use link_table::{Links, Reply};
+use link_table::{Chain, Links, Reply};
 use std::alloc::Global;
 use std::marker::Model;
 use task_set::{Event, TaskSet};
@@ -248,20 +248,26 @@ impl LiveCore {
         }
     }
 
-    /// Helps this task, if it is lost, and answers whether it is: the moves are as those of `help`, and there are none where it is
-    /// not lost.
-    pub fn help_one(&mut self, t: u32) -> bool
+    /// The chain that would help this task, if it is lost: the task would go on its first processor, and the holder of each on the
+    /// next one; nobody holds the last. It is the one that `help` takes for the most urgent lost task.
+    pub fn chain_for(&mut self, t: u32) -> Option<Chain>
         requires { t < task_count self.old.links }
-        ensures { HelpsOne self.old t result self.new }
+        ensures { FindsChain self.old t result self.new }
     {
         let _first = self.lost();
         if self.is_lost(t) {
-            self.help_task(t);
-            true
+            Some(self.seen.chain(&self.links, t))
         } else {
-            self.moves.clear();
-            false
+            None
         }
+    }
+
+    /// Who holds a processor, after a call of `lost`, `help` or `chain_for`, and until an event or a call of `see`.
+    pub fn holder(&self, p: u8) -> Option<u32>
+        ensures { (on : List (Option ℕ)) → self.now.holders ≡ Some on
+            → result ≡ task_on (state_held self.now.links on) p }
+    {
+        self.seen.holder(p)
     }
 
     /// Whether a task is linked and holds no processor, where the holders are known.

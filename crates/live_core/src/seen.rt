@@ -144,12 +144,32 @@ impl SeenPlacement {
         most_urgent_lost(links, &self.table)
     }
 
+    /// The least chain of a lost task to a processor that nobody claims.
+    pub(crate) fn chain(&self, links: &Links, t: u32) -> Chain
+        requires table { IsTable links.now self.now.seen self.now.table }
+        requires lost { IsLost links.now self.now.table t }
+        ensures { IsLeastSuch (EndsIdle self.now.table t) result }
+    {
+        chain_of_lost(&self.table, links, &self.seen, t)
+    }
+
     /// How many tasks there are.
     pub(crate) fn len(&self) -> usize
         ensures value { result ≡ length self.now.seen }
         ensures tasks { length self.now.seen ≡ task_count self.now.table }
     {
         self.seen.len()
+    }
+
+    /// Who holds a processor.
+    pub(crate) fn holder(&self, p: u8) -> Option<u32>
+        ensures { result ≡ task_on self.now.table p }
+    {
+        if p < self.table.processors() {
+            self.table.on(p)
+        } else {
+            None
+        }
     }
 
     /// Whether a task holds no processor.

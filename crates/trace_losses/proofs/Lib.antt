@@ -3,8 +3,8 @@ pub mod Appended
 pub mod BackOne
 pub mod Besides
 pub mod Books
+pub mod ChainsAt
 pub mod Counts
-pub mod HelpedAt
 pub mod InUse
 pub mod JobsWithin
 pub mod LastSwitches

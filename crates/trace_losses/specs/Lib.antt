@@ -1,8 +1,8 @@
 pub mod Ahead
 pub mod Beside
 pub mod Book
+pub mod ChainAt
 pub mod Counts
-pub mod Help
 pub mod Jobs
 pub mod Jumps
 pub mod Laws

@@ -1,7 +1,7 @@
 use Rattle.std.proofs.Common.{◌+◌, ◌<◌, length, arith}
-use Rattle.trace_losses.proofs.HelpedAt.{helped_at}
+use Rattle.trace_losses.proofs.ChainsAt.{chain_there}
 use Rattle.trace_losses.proofs.Walks.{walk_first}
-use Rattle.trace_losses.proofs.help.help_at.Goals as goal
+use Rattle.trace_losses.proofs.chains.chain_at.Goals as goal
 
 pub walk_to-requires-clause-walk : goal.walk_to-requires-clause-walk
 walk_to-requires-clause-walk c =
@@ -12,8 +12,7 @@ walk_to-requires-clause-walk c =
 pub returns : goal.returns
 returns c =
     let there = c.walk_to.ensures in
-    let helped = c.in_ok-help.ensures in
+    let told = c.in_ok-steps.ensures in
     let all = c.requires.passages.all in
-    helped_at c.args.set.now c.args.passages.now c.args.threads there.0 c.args.moment c.args.task c.walk_to.new.walk.core helped.0 helped.2
-    c.walk_to.new.walk.runners.processors.items c.in_ok-help.help.is_lost c.in_ok-help.help.moves.items (omega (arith, all)) there.1 there.2
-    helped.1 helped.3 helped.4
+    chain_there c.args.set.now c.args.passages.now c.args.threads there.0 c.args.moment c.args.task c.walk_to.new.walk.core told.0
+    c.walk_to.new.walk.runners.processors.items c.in_ok-steps.steps.items (omega (arith, all)) there.1 there.2 told.1 told.2

@@ -1,10 +1,10 @@
 use Rattle.std.proofs.Common.{◌≡◌, ℕ, ◌+◌, ◌-◌, ◌<◌, ◌≤◌, length, vec_len, sym, subst, arith}
 use Rattle.trace_passages.specs.Passages.{moment_at}
 use Rattle.trace_losses.specs.Walk.{IsWalkAt}
-use Rattle.trace_losses.proofs.HelpedAt.{cut_there, not_last}
+use Rattle.trace_losses.proofs.ChainsAt.{cut_there, not_last}
 use Rattle.trace_losses.proofs.Passed.{moment_there}
 use Rattle.trace_losses.proofs.Walks.{first_within, second_within, turn_within, stopped_within, walk_on}
-use Rattle.trace_losses.proofs.help.walk_to.Goals as goal
+use Rattle.trace_losses.proofs.chains.walk_to.Goals as goal
 
 pub step-requires-clause-first : goal.step-requires-clause-first
 step-requires-clause-first c =

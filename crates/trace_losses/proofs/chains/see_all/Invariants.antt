@@ -1,7 +1,7 @@
 use Rattle.std.proofs.Common.{◌≡◌}
 use Rattle.strong_apa.specs.State.{task_count}
-use Rattle.trace_losses.proofs.HelpedAt.{SeesBelow}
-use Rattle.trace_losses.proofs.help.see_all.Given as goal
+use Rattle.trace_losses.proofs.ChainsAt.{SeesBelow}
+use Rattle.trace_losses.proofs.chains.see_all.Given as goal
 
 abbrev pub invariant-loop-t : goal.invariant-loop-t
 invariant-loop-t l = record {

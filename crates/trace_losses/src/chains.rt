@@ -1,10 +1,10 @@
-//! What would have helped a lost task at a moment.
-ghost use Rattle.std.specs.Prelude.{◌≡◌, ℕ, ◌<◌, ◌≤◌, ◌↔◌, Some, length, vec_len, IfOk, IsTrue};
+//! The chain that was not taken: what would have given a lost task a processor at a moment.
+ghost use Rattle.std.specs.Prelude.{◌≡◌, ℕ, ◌<◌, ◌≤◌, ◌↔◌, List, Option, Some, length, vec_len, IfOk, IsTrue};
 ghost use Rattle.strong_apa.specs.State.{task_count};
 ghost use Rattle.live_core.specs.Live.{LiveData};
-ghost use Rattle.live_core.specs.Lost.{HelpsOne};
+ghost use Rattle.live_core.specs.Lost.{state_held};
 ghost use Rattle.trace_passages.specs.Passages.{ArePassages, span_of};
-ghost use Rattle.trace_losses.specs.Help.{IsHelpAt, SeesAll};
+ghost use Rattle.trace_losses.specs.ChainAt.{IsChainAt, SeesAll, AreStepsFor, steps_of};
 ghost use Rattle.trace_losses.specs.Passages.{IsCut};
 ghost use Rattle.trace_losses.specs.Runs.{is_some_of};
 ghost use Rattle.trace_losses.specs.Walk.{AllInUse, IsTrail, IsWalkAt};
@@ -14,40 +14,41 @@ use crate::former::Former;
 use crate::loss::span_of;
 use crate::walk::Walk;
 use affinity_mask::OutOfMemory;
-use live_core::{LiveCore, Move};
+use link_table::Chain;
+use live_core::LiveCore;
 use std::alloc::{AllocError, Global};
 use task_set::TaskSet;
 use trace_passages::Passage;
 
-/// Whether a task is lost at a moment, and the moves that would have given it a processor then; there are none where it is not lost.
-/// A processor on which no task of the best set runs counts as free.
-#[derive(Drop)]
-pub struct Help {
-    pub is_lost: bool,
-    pub moves: Vec<Move>,
+/// A task of a chain, and the processor that it would go to.
+#[derive(Clone, Copy)]
+pub struct ChainStep {
+    pub task: u32,
+    pub processor: u8,
 }
 
-/// What would have helped a task at a moment of a trace of so many threads. Refused only where memory runs out.
-pub fn help_at(
+/// The chain that would have given a lost task a processor at a moment of a trace of so many threads: the task, and then whoever
+/// would have had to move, each with its new processor; none where the task is not lost. The last processor is one on which no
+/// task of the best set runs. Refused only where memory runs out.
+pub fn chain_at(
     alloc: Global,
     set: &TaskSet,
     threads: u32,
     passages: &[Passage],
     task: u32,
     moment: u64,
-) -> Result<Help, OutOfMemory>
+) -> Result<Vec<ChainStep>, OutOfMemory>
     requires passages { ArePassages (length set.now.tasks) threads passages.now }
     requires number { task < length set.now.tasks }
     requires within { moment < span_of passages.now }
-    ensures { IfOk result (λ help.
-        IsHelpAt set.now passages.now moment task help.is_lost help.moves.items) }
+    ensures { IfOk result (λ steps. IsChainAt set.now passages.now moment task steps.items) }
 {
     let _valid = set.len();
     let trail = trail_of(alloc, threads, passages)?;
     let mut walk = Walk::new(alloc, set, &trail)?;
     walk_to(set, threads, &mut walk, passages, &trail.formers, moment);
-    let help = help_of(alloc, &mut walk, task)?;
-    Ok(help)
+    let steps = steps_for(alloc, &mut walk, task)?;
+    Ok(steps)
 }
 
 /// Goes on to a moment: over each passage that has come then.
@@ -76,20 +77,44 @@ fn walk_to(
     }
 }
 
-/// What helps a task where the walk stands.
-fn help_of(alloc: Global, walk: &mut Walk, task: u32) -> Result<Help, AllocError>
+/// The steps of the chain for a task where the walk stands.
+fn steps_for(alloc: Global, walk: &mut Walk, task: u32) -> Result<Vec<ChainStep>, AllocError>
     requires used { AllInUse walk.old.core }
     requires all { task_count walk.old.core.links ≤ vec_len walk.old.runners.processors }
     requires number { task < task_count walk.old.core.links }
-    ensures { IfOk result (λ help. (seen : LiveData)
+    ensures { IfOk result (λ steps. (seen : LiveData)
         × SeesAll walk.old.core walk.old.runners.processors.items seen
-        × (new : LiveData) × HelpsOne seen task help.is_lost new
-        × (help.moves.items ≡ new.moves)) }
+        × AreStepsFor seen task steps.items) }
 {
     see_all(&mut walk.core, &walk.runners.processors);
-    let is_lost = walk.core.help_one(task);
-    let moves = Vec::from_slice(alloc, walk.core.moves())?;
-    Ok(Help { is_lost, moves })
+    match walk.core.chain_for(task) {
+        Some(chain) => steps_along(alloc, &walk.core, task, &chain),
+        None => Ok(Vec::new(alloc)),
+    }
+}
+
+/// The steps along a chain: the task goes on the first processor, and the holder of each on the next one.
+fn steps_along(
+    alloc: Global,
+    core: &LiveCore,
+    task: u32,
+    chain: &Chain,
+) -> Result<Vec<ChainStep>, AllocError>
+    ensures { (on : List (Option ℕ)) → core.now.holders ≡ Some on → IfOk result (λ steps.
+        steps.items ≡ steps_of (state_held core.now.links on) (Some task) chain.now) }
+{
+    let mut steps = Vec::new(alloc);
+    let mut guest = Some(task);
+    for p in chain.processors() {
+        if let Some(task) = guest {
+            steps.push(ChainStep {
+                task,
+                processor: *p,
+            })?;
+            guest = core.holder(*p);
+        }
+    }
+    Ok(steps)
 }
 
 /// Each task is seen on the processor that it runs on.

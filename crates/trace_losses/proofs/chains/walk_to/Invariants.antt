@@ -1,7 +1,7 @@
 use Rattle.std.proofs.Common.{◌≡◌, ◌<◌, ◌≤◌, ◌-◌, length, vec_len}
 use Rattle.trace_passages.specs.Passages.{moment_at}
 use Rattle.trace_losses.specs.Walk.{IsWalkAt}
-use Rattle.trace_losses.proofs.help.walk_to.Given as goal
+use Rattle.trace_losses.proofs.chains.walk_to.Given as goal
 
 abbrev pub invariant-loop-i : goal.invariant-loop-i
 invariant-loop-i l = record {

@@ -1,20 +1,21 @@
--- What would have helped a task at a moment.
+-- The chain that was not taken at a moment.
 use Rattle.std.proofs.Common.{◌≡◌, ℕ, ◌+◌, ◌-◌, ◌<◌, ◌≤◌, Bool, true, false, List, [], length, take, drop, get_or, set, Option, Some, None, refl, sym}
-use Rattle.std.proofs.Common.{ap, ◌∙◌, subst, inl, inr, arith, IsTrue, length-set}
-use Rattle.std.specs.Prelude.{◌↔◌, reverse}
+use Rattle.std.proofs.Common.{ap, ◌∙◌, ◌++◌, ◌∷◌, subst, inl, inr, arith, IsTrue, length-set, append-nil}
+use Rattle.std.specs.Prelude.{◌↔◌, ◌⊎◌, MatchOption, reverse}
 use Rattle.std.proofs.lemmas.Bool.{cases_eq}
-use Rattle.std.proofs.lemmas.List.{get_or-set_same, get_or-set_other}
+use Rattle.std.proofs.Math.ListN.{drop_of_length-le}
+use Rattle.std.proofs.lemmas.List.{append_assoc, drop_more, get_or-set_same, get_or-set_other}
 use Rattle.std.proofs.lemmas.Option.{slice_get-get_or}
 use Rattle.task_set.specs.TaskSet.{SetData}
-use Rattle.strong_apa.specs.State.{State, task_count}
+use Rattle.strong_apa.specs.State.{State, task_count, task_on}
 use Rattle.live_core.specs.Live.{LiveData}
-use Rattle.live_core.specs.Lost.{HelpsOne, HelpsIf, data_with_seen, settled_data}
+use Rattle.live_core.specs.Lost.{FindsChain, data_with_seen, state_held}
 use Rattle.live_core.specs.Seen.{seen_at}
-use Rattle.live_core.specs.declared.moves.Move.{Move}
 use Rattle.trace_passages.specs.Passages.{ArePassages, moment_at, span_of}
 use Rattle.trace_passages.specs.declared.passage.Passage.{Passage}
 use Rattle.trace_passages.specs.declared.turn.Turn.{Turn}
-use Rattle.trace_losses.specs.Help.{ArePlaces, AreHelpMoves, IsHelpAt, SeesAll}
+use Rattle.trace_losses.specs.ChainAt.{ArePlaces, AreChainSteps, AreNoSteps, AreStepsFor, IsChainAt, SeesAll, steps_of}
+use Rattle.trace_losses.specs.declared.chains.ChainStep.{ChainStep}
 use Rattle.trace_losses.specs.Passages.{IsCut, ready_after_passages, turns_of}
 use Rattle.trace_losses.specs.Runs.{holds, is_some_of, runs, runs_between}
 use Rattle.trace_losses.specs.Walk.{IsWalkAt}
@@ -72,11 +73,40 @@ sees_all old core processors n sees all some = record {
       (sees.holders (omega (arith, some, all)));
 }
 
--- ---- a task is helped
-module _ (task_set : SetData) (passages : List Passage) (threads n x t : ℕ) (core seen new : LiveData) (processors : List (Option ℕ))
-    (is_lost : Bool) (moves : List Move) (all : length task_set.tasks < threads + 1) (cut : IsCut passages x n)
+-- ---- the steps
+pub no_guest : (table : State) (chain : List ℕ) → steps_of table None chain ≡ []
+no_guest table [] = refl
+no_guest table (p ∷ rest) = refl
+
+-- one more step, where the guest is known
+pub step_more : (table : State) (chain : List ℕ) (whole steps new : List ChainStep) (guest next : Option ℕ) (t i : ℕ) → i < length chain
+    → guest ≡ Some t → new ≡ steps ++ record { task = t; processor = get_or chain i 0 } ∷ [] → next ≡ task_on table (get_or chain i 0)
+    → steps ++ steps_of table guest (drop i chain) ≡ whole → new ++ steps_of table next (drop (i + 1) chain) ≡ whole
+step_more table chain whole steps new guest next t i below is made holder before =
+    let one : ChainStep = record { task = t; processor = get_or chain i 0 } in
+    ap (λ (list : List ChainStep). list ++ steps_of table next (drop (i + 1) chain)) made
+    ∙ ap (λ (g : Option ℕ). (steps ++ one ∷ []) ++ steps_of table g (drop (i + 1) chain)) holder
+    ∙ append_assoc steps (one ∷ []) (steps_of table (task_on table (get_or chain i 0)) (drop (i + 1) chain))
+    ∙ ap (λ (rest : List ℕ). steps ++ steps_of table (Some t) rest) (sym (drop_more chain i 0 below))
+    ∙ ap (λ (g : Option ℕ). steps ++ steps_of table g (drop i chain)) (sym is) ∙ before
+
+-- no step follows where there is no guest
+pub no_step_more : (table : State) (chain : List ℕ) (whole steps : List ChainStep) (guest : Option ℕ) (i : ℕ) → guest ≡ None
+    → steps ++ steps_of table guest (drop i chain) ≡ whole → steps ++ steps_of table guest (drop (i + 1) chain) ≡ whole
+no_step_more table chain whole steps guest i none before =
+    ap (λ (g : Option ℕ). steps ++ steps_of table g (drop (i + 1) chain)) none
+    ∙ ap (λ (list : List ChainStep). steps ++ list) (no_guest table (drop (i + 1) chain) ∙ sym (no_guest table (drop i chain)))
+    ∙ ap (λ (g : Option ℕ). steps ++ steps_of table g (drop i chain)) (sym none) ∙ before
+
+pub steps_end : (table : State) (chain : List ℕ) (whole steps : List ChainStep) (guest : Option ℕ) (i : ℕ) → length chain ≤ i
+    → steps ++ steps_of table guest (drop i chain) ≡ whole → steps ≡ whole
+steps_end table chain whole steps guest i end before =
+    sym (append-nil steps) ∙ ap (λ (rest : List ℕ). steps ++ steps_of table guest rest) (sym (drop_of_length-le chain end)) ∙ before
+
+module _ (task_set : SetData) (passages : List Passage) (threads n x t : ℕ) (core seen : LiveData) (processors : List (Option ℕ))
+    (steps : List ChainStep) (all : length task_set.tasks < threads + 1) (cut : IsCut passages x n)
     (at : IsWalkAt task_set passages threads n core processors) (sees : SeesAll core processors seen)
-    (helps : HelpsOne seen t is_lost new) (same : moves ≡ new.moves) where
+    (told : AreStepsFor seen t steps) where
   abbrev earlier : List Passage
   earlier = reverse (take n passages)
 
@@ -101,16 +131,16 @@ module _ (task_set : SetData) (passages : List Passage) (threads n x t : ℕ) (c
   abbrev sight : LiveData
   sight = record core { seen = sees.places; holders = None }
 
-  moved : (on : List (Option ℕ)) (b : Bool) → HelpsIf b sight on t new
-      → AreHelpMoves b core.links t (settled_data core.links sees.places on) moves
-  moved on true task =
-      subst (AreHelpMoves true core.links t (settled_data core.links sees.places on)) (sym same)
-      (task.chain, settled_data core.links new.seen task.on_then, task.helps)
-  moved on false nobody = same ∙ ap (λ (d : LiveData). d.moves) nobody
+  steps_are : (found : Option (List ℕ)) (new : LiveData) (finds : FindsChain sight t found new)
+      → MatchOption found (steps ≡ []) (λ chain. steps ≡ steps_of (state_held sight.links finds.on) (Some t) chain)
+      → AreChainSteps core.links (state_held core.links finds.on) t steps
+      ⊎ AreNoSteps core.links (state_held core.links finds.on) t steps
+  steps_are (Some chain) new finds along = inl (chain, finds.chain.0, finds.chain.1, along)
+  steps_are None new finds none = inr (finds.chain, none)
 
-  pub helped_at : IsHelpAt task_set passages x t is_lost moves
-  helped_at =
-      let one = subst (λ (d : LiveData). HelpsOne d t is_lost new) sees.rest helps in
+  pub chain_there : IsChainAt task_set passages x t steps
+  chain_there =
+      let one : AreStepsFor sight t steps = subst (λ (d : LiveData). AreStepsFor d t steps) sees.rest told in
       record {
         n = n;
         cut = cut;
@@ -118,11 +148,10 @@ module _ (task_set : SetData) (passages : List Passage) (threads n x t : ℕ) (c
         placed = at.placed;
         places = sees.places;
         are = there;
-        on = one.on;
-        table = one.holders.table;
-        which = one.holders.which;
-        lost = one.which;
-        moved = moved one.on is_lost one.helps;
+        on = one.finds.on;
+        table = one.finds.holders.table;
+        which = one.finds.holders.which;
+        along = steps_are one.found one.new one.finds one.along;
       }
 
 -- ---- the walk there
