@@ -9,6 +9,7 @@ pub mod InUse
 pub mod JobsWithin
 pub mod LastSwitches
 pub mod NoMoments
+pub mod OneChains
 pub mod OneJobs
 pub mod OneLosses
 pub mod OneMoments
