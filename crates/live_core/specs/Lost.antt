@@ -69,7 +69,8 @@ IsChainFor d on t chain = IsLost d.links (state_held d.links on) t
     × IsLeastSuch (EndsIdle (state_held d.links on) t) chain
 
 -- the chain that would help t is found, if t is lost, and all else stays
-pub record FindsChain (old : LiveData) (t : ℕ) (found : Option (List ℕ)) (new : LiveData) : Type 0 where
+pub record FindsChain (old : LiveData) (t : ℕ) (found : Option (List ℕ))
+    (new : LiveData) : Type 0 where
   pub on : List (Option ℕ)
   pub holders : AreHolders old on
   pub rest : new ≡ record old { holders = Some on }

@@ -1,5 +1,6 @@
 -- The chain that was not taken at a moment.
-use Rattle.std.proofs.Common.{◌≡◌, ℕ, ◌+◌, ◌-◌, ◌<◌, ◌≤◌, Bool, true, false, List, [], length, take, drop, get_or, set, Option, Some, None, refl, sym}
+use Rattle.std.proofs.Common.{◌≡◌, ℕ, ◌+◌, ◌-◌, ◌<◌, ◌≤◌, Bool, true, false, List, [], length, take, drop, get_or, set, Option, Some, None}
+use Rattle.std.proofs.Common.{refl, sym}
 use Rattle.std.proofs.Common.{ap, ◌∙◌, ◌++◌, ◌∷◌, subst, inl, inr, arith, IsTrue, length-set, append-nil}
 use Rattle.std.specs.Prelude.{◌↔◌, ◌⊎◌, MatchOption, reverse}
 use Rattle.std.proofs.lemmas.Bool.{cases_eq}
@@ -172,7 +173,8 @@ pub first_has_come : (tasks threads : ℕ) (passages : List Passage) → ArePass
 first_has_come tasks threads passages are i x some below before = elim (cases_eq i 1) [
   | inl one ↦
       let begin = are.begin (get_or passages 0 no_passage) (slice_get-get_or passages 0 no_passage (omega (arith, some, below))) in
-      let here : x < (get_or passages 0 no_passage).moment = subst (λ (n : ℕ). x < (get_or passages (n - 1) no_passage).moment) one before in
+      let here : x < (get_or passages 0 no_passage).moment = subst (λ (n : ℕ). x < (get_or passages (n - 1) no_passage).moment)
+      one before in
       absurd (omega (arith, begin, here))
   | inr other ↦ omega (arith, some, other)
 ]

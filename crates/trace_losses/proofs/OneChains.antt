@@ -88,7 +88,8 @@ module _ (task_set : SetData) (R : TaskTest) (within : (t : ℕ) → R t ≡ tru
   runs_too t q runs = record {
     claims = claims_too task_set R within one other earlier after places others first second are also t q runs.claims;
     most_urgent = λ u claims.
-        (let le = runs.most_urgent u (claims_too task_set R within other one earlier after others places second first also are u q claims) in
+        (let le = runs.most_urgent u (claims_too task_set R within other one earlier after others places second first also are u q
+        claims) in
         let this = same_priority task_set R within one other first second t in
         let that = same_priority task_set R within one other first second u in
         omega (arith, le, this, that));
@@ -151,7 +152,8 @@ same_steps task_set threads passages x t steps rest ok passing one other =
     let within : (u : ℕ) → ready_after_passages earlier u ≡ true → u < task_count (start_of task_set) =
     (λ u ready. (let below = ready_within (length task_set.tasks) threads passages passing n u ready in omega (arith, below, count))) in
     let placed = subst (λ (k : ℕ). IsPlaced task_set (ready_after_passages (reverse (take k passages))) other.links) same other.placed in
-    let are = subst (λ (k : ℕ). ArePlaces (reverse (take k passages)) (drop k passages) (length task_set.tasks) other.places) same other.are in
+    let are = subst (λ (k : ℕ). ArePlaces (reverse (take k passages)) (drop k passages) (length task_set.tasks) other.places)
+    same other.are in
     let R = ready_after_passages earlier in
     elim one.along [
       | inl along ↦ elim other.along [

@@ -40,8 +40,8 @@ abbrev pub AreNoSteps : State → State → ℕ → List ChainStep → Type 0
 AreNoSteps links table t steps = (IsLost links table t → ⊥) × (steps ≡ [])
 
 -- the chain that was not taken at the moment x. The links are some placement of the best set of the
--- tasks that are ready then. A processor is held by the most urgent task of that set that runs there
--- and may. A task is lost if it is in the set and holds none
+-- tasks that are ready then. A processor is held by the most urgent task of that set that runs
+-- there and may. A task is lost if it is in the set and holds none
 pub record IsChainAt (set : SetData) (passages : List Passage) (x t : ℕ)
     (steps : List ChainStep) : Type 0 where
   pub n : ℕ

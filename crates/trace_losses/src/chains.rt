@@ -134,13 +134,7 @@ fn place_in_mask(processor: Option<u32>) -> Option<u8>
     ensures { (q : ℕ) → q < 64 → (result ≡ Some q) ↔ IsTrue (is_some_of processor q) }
 {
     match processor {
-        Some(p) => {
-            if p < 64 {
-                Some(p as u8)
-            } else {
-                None
-            }
-        }
+        Some(p) => { if p < 64 { Some(p as u8) } else { None } }
         None => None,
     }
 }

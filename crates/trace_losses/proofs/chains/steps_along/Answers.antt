@@ -22,7 +22,8 @@ loop-p-preserved c =
           let whole = steps_of table (Some c.args.task) c.args.chain.now in
           elim c.match-guest.branch [
             | in-Some+in_ok-push w ↦
-                step_more table items whole c.loop-p.steps.items c.match-guest.steps.items c.loop-p.guest c.match-guest.guest w.in-Some.task i
+                step_more table items whole c.loop-p.steps.items c.match-guest.steps.items c.loop-p.guest c.match-guest.guest w.in-Some.task
+                i
                 c.loop-p-test.true w.in-Some.is (ap (λ (v : Steps). v.items) w.steps-is ∙ w.in_ok-push.ensures.items)
                 (w.guest-is ∙ w.holder-guest.ensures on held) (before.along on held)
             | in_default w ↦

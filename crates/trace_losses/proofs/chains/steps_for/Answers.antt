@@ -17,11 +17,16 @@ returns-in-Some c =
     let finds : FindsChain sight t (Some chain) after =
     subst (λ (found : Option (List ℕ)). FindsChain sight t found after) c.in-Some.is c.chain_for.ensures in
     IfOk-weaker c.steps_along.result (λ steps. steps.items ≡ steps_of (state_held after.links finds.on) (Some t) chain)
-    (λ steps. (seen : LiveData) × SeesAll c.args.walk.now.core c.args.walk.now.runners.processors.items seen × AreStepsFor seen t steps.items)
-    (λ steps along. (sight, sees, record {
-      found = Some chain;
-      new = after;
-      finds = finds;
-      along = along ∙ ap (λ (d : LiveData). steps_of (state_held d.links finds.on) (Some t) chain) finds.rest;
-    }))
+    (λ steps. (seen : LiveData) × SeesAll c.args.walk.now.core c.args.walk.now.runners.processors.items seen
+    × AreStepsFor seen t steps.items)
+    (λ steps along. (
+      sight,
+      sees,
+      record {
+        found = Some chain;
+        new = after;
+        finds = finds;
+        along = along ∙ ap (λ (d : LiveData). steps_of (state_held d.links finds.on) (Some t) chain) finds.rest;
+      },
+    ))
     (c.steps_along.ensures finds.on (ap (λ (d : LiveData). d.holders) finds.rest))

@@ -59,14 +59,14 @@ loop-i-preserved c =
       at = subst (λ (n : ℕ). IsWalkAt c.args.set.now passages c.args.threads n c.step.new.self.core new) place
           (walk_on c.args.set.now passages c.args.threads i c.loop-i.walk.core c.loop-i.walk.runners.processors.items
           c.args.walk.now.runners.processors.items c.args.formers.now c.requires.passages c.requires.trail before.at before.some more
-          c.step.new.self.core new c.step.ensures.used (c.step.ensures.placed c.args.set.now) c.step.ensures.restored (omega (arith, moved)));
+          c.step.new.self.core new c.step.ensures.used (c.step.ensures.placed c.args.set.now) c.step.ensures.restored
+          (omega (arith, moved)));
       seen = omega (arith, width, seen);
     }
 
 pub returns : goal.returns
 returns c =
-    let at = c.loop-i.invariant in
-    (
+    let at = c.loop-i.invariant in (
       c.loop-i.i - 1,
       cut_there (length c.args.set.now.tasks) c.args.threads c.args.passages.now c.requires.passages c.loop-i.i c.args.moment at.some
           at.below at.come c.loop-i-test.false,
