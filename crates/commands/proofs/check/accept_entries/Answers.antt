@@ -4,20 +4,21 @@ use Rattle.commands.proofs.Following.{followed_more, bad_entry, entry_known, ent
 use Rattle.commands.proofs.check.accept_entries.Goals as goal
 
 pub loop-entry-init : goal.loop-entry-init
-loop-entry-init c = record {
-  followed = c.requires;
+loop-entry-init g c = record {
+  followed = c.requires.followed;
+  seen = c.requires.seen;
   line = let count : c.len.result ≡ length c.args.schedule.now.set.tasks = rw c.set.ensures.value at c.len.ensures.value in
       let same = c.from-line.ensures in omega arith;
 }
 
 pub accept-requires : goal.accept-requires
-accept-requires c =
+accept-requires g c =
     entry_known c.args.schedule.now c.loop-entry.entry-index c.entry-item.result c.loop-entry.checker c.entries-entry-items.ensures.valid
     (entry_read c.args.schedule.now c.entries-entry-items.result.now c.loop-entry.entry-index c.entry-item.result
     c.entries-entry-items.ensures.value c.loop-entry-test.true c.entry-item.is) c.loop-entry.invariant.followed
 
 pub returns-in-Err-clause-refused : goal.returns-in-Err-clause-refused
-returns-in-Err-clause-refused c = (
+returns-in-Err-clause-refused g c = (
   _,
   _,
   refl,
@@ -39,7 +40,7 @@ overflow_add-line-in-Ok c =
     omega arith
 
 pub loop-entry-preserved : goal.loop-entry-preserved
-loop-entry-preserved c = record {
+loop-entry-preserved g c = record {
   followed = followed_more c.args.schedule.now c.loop-entry.entry-index c.entry-item.result c.loop-entry.checker c.accept.new.self
       (entry_read c.args.schedule.now c.entries-entry-items.result.now c.loop-entry.entry-index c.entry-item.result
       c.entries-entry-items.ensures.value c.loop-entry-test.true c.entry-item.is)
@@ -48,7 +49,7 @@ loop-entry-preserved c = record {
 }
 
 pub returns-clause-followed : goal.returns-clause-followed
-returns-clause-followed c =
+returns-clause-followed g c =
     let all : c.loop-entry.entry-index ≡ length c.args.schedule.now.entries = le_antisymm
     (rw c.entries-entry-items.ensures.value at c.loop-entry.auto.entry-index-end)
     (rw c.entries-entry-items.ensures.value at c.loop-entry-test.false) in
