@@ -29,6 +29,7 @@ pub(crate) trait Witness {
 }
 
 /// Sees nothing.
+#[derive(Drop)]
 pub(crate) struct Nobody;
 
 impl Witness for Nobody {

@@ -42,7 +42,8 @@ each_more seen count n old new follows sees = record {
       (sees.each x fresh_track (rw follows.all lt));
 }
 
-each_all : (seen : ℕ → ℕ → Option Seen) (count n : ℕ) (old new : List TrackData) → EachTrackFollows seen count n old → EachEnds (n + 1) old new
+each_all : (seen : ℕ → ℕ → Option Seen) (count n : ℕ) (old new : List TrackData) → EachTrackFollows seen count n old
+    → EachEnds (n + 1) old new
     → (x : ℕ) → x < count → AreSpans (seen x) n (get_or new x fresh_track).spans
 each_all seen count n old new follows ends x lt =
     subst (AreSpans (seen x) n) (sym (ends.each x fresh_track (rw follows.all lt)))
@@ -64,7 +65,8 @@ fresh_follow set entries (Ok tracks) fresh = followed_none set entries tracks fr
 fresh_follow set entries (Err refused) fresh = tt
 
 -- where it is not, there are the tracks
-pub tracks_there : {E : Type 0} (set : SetData) (entries : List Entry) (n : ℕ) (tracks : Result Tracks E) (there : Tracks) → tracks ≡ Ok there
+pub tracks_there : {E : Type 0} (set : SetData) (entries : List Entry) (n : ℕ) (tracks : Result Tracks E) (there : Tracks)
+    → tracks ≡ Ok there
     → IfOk tracks (AllTracksFollow set entries n) → AllTracksFollow set entries n there
 tracks_there {E} set entries n tracks there is = subst (λ (result : Result Tracks E). IfOk result (AllTracksFollow set entries n)) is
 
